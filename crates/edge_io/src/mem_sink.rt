@@ -1,0 +1,148 @@
+ghost use Rattle.std.specs.Prelude.{◌≡◌, ◌≤◌, ◌⊎◌, ◌↔◌, IfOk, OnOk, OnErr, IsErr, IsOkUnless};
+ghost use Rattle.edge_io.specs.Calls.{IsNextToFail};
+ghost use Rattle.edge_io.specs.MemSink.{empty_sink, IsTooBig, after_put, after_failed_put};
+ghost use Rattle.edge_io.specs.Sink.{opened};
+
+use crate::calls::Calls;
+use crate::sink::{OpenFault, Sink, SinkFault};
+use faults::Memory;
+use std::alloc::Global;
+use std::marker::Model;
+
+/// A sink in memory with a fixed room, some puts of which are told to fail.
+#[derive(Drop)]
+pub struct MemSink {
+    alloc: Global,
+    bytes: Vec<u8>,
+    name: String,
+    room: u64,
+    calls: Calls,
+}
+
+impl Model for MemSink {
+    ghost use Rattle.std.specs.Prelude.{◌≤◌, vec_len, vec_capacity, string_bytes};
+    ghost use Rattle.edge_io.specs.MemSink.{SinkState};
+
+    ghost Value = { SinkState };
+
+    ghost view = { λ s. record {
+      put = record { bytes = s.bytes.items; name = string_bytes s.name };
+      room = s.room;
+      calls = s.calls;
+    } };
+
+    ghost invariant = { λ s. (vec_len s.bytes ≤ s.room) × (s.room ≤ vec_capacity s.bytes) };
+}
+
+impl MemSink {
+    /// A sink that has room for `room` bytes, all of which are taken here, and the empty name.
+    /// `fail` has the numbers, from 1, of the puts that fail.
+    pub fn new(alloc: Global, room: u64, fail: Vec<u64>) -> Result<MemSink, Memory>
+        ensures { IfOk result (λ sink. sink ≡ empty_sink room fail.items) }
+    {
+        Ok(MemSink {
+            alloc,
+            bytes: Vec::with_capacity(alloc, room as usize)?,
+            name: String::new(alloc),
+            room,
+            calls: Calls::new(fail),
+        })
+    }
+
+    /// The bytes that were put since the last opening.
+    pub fn bytes(&self) -> &[u8]
+        ensures { result.now ≡ self.now.put.bytes }
+    {
+        self.bytes.as_slice()
+    }
+
+    /// The name of the last opening, and the empty name before the first.
+    pub fn name(&self) -> &str
+        ensures { result.now ≡ self.now.put.name }
+    {
+        self.name.as_str()
+    }
+
+    /// How many puts failed.
+    pub fn faults(&self) -> u64
+        ensures { result ≡ self.now.calls.faults }
+    {
+        self.calls.faults()
+    }
+}
+
+impl Sink for MemSink {
+    ghost use Rattle.std.specs.Prelude.{Some};
+
+    ghost put_so_far = { λ s. Some s.put };
+
+    ghost faults = { λ s. s.calls.faults };
+
+    fn open(&mut self, name: &str) -> Result<(), OpenFault>
+        ensures only_memory { IsOkUnless result OpenFault.Memory }
+        ensures ok { OnOk result (self.new ≡ record self.old { put = opened name.now }) }
+        ensures err { OnErr result (self.new ≡ self.old) }
+    {
+        self.name = String::from_str(self.alloc, name)?;
+        self.bytes.clear();
+        Ok(())
+    }
+
+    fn put(&mut self, piece: &[u8]) -> Result<(), SinkFault>
+        ensures failed { IsErr result ↔ (IsNextToFail self.old.calls ⊎ IsTooBig piece.now self.old) }
+        ensures ok { OnOk result (self.new ≡ after_put piece.now self.old) }
+        ensures err { OnErr result (self.new ≡ after_failed_put self.old) }
+        ensures count { self.old.calls.faults ≤ self.new.calls.faults }
+    {
+        let left = self.room - self.bytes.len() as u64;
+        if self.calls.is_next_to_fail() || piece.len() as u64 > left {
+            self.calls.count_fault();
+            return Err(SinkFault::Failed);
+        }
+        self.calls.count_call();
+        self.bytes.extend_from_slice(piece).unwrap();
+        Ok(())
+    }
+}
+
+#[cfg(test)]
+mod tests {
+    use super::*;
+    use std::test::Fail;
+
+    fn has(sink: &MemSink, bytes: &[u8], name: &str) -> bool {
+        sink.bytes() == bytes && sink.name() == name
+    }
+
+    #[test]
+    fn takes_pieces_while_they_fit(rt: HostRuntime) -> Result<(), Fail> {
+        let mut sink = MemSink::new(rt.alloc(), 4, Vec::new(rt.alloc()))?;
+        assert_eq!(rt; sink.put(b"abc"), Ok(()));
+        assert_eq!(rt; sink.put(b"de"), Err(SinkFault::Failed));
+        assert_eq!(rt; sink.put(b"d"), Ok(()));
+        assert_eq!(rt; sink.put(b""), Ok(()));
+        assert_eq!(rt; sink.put(b"e"), Err(SinkFault::Failed));
+        assert!(rt; has(&sink, b"abcd", ""));
+        assert_eq!(rt; sink.faults(), 2);
+        assert_eq!(rt; sink.open("next"), Ok(()));
+        assert!(rt; has(&sink, b"", "next"));
+        assert_eq!(rt; sink.put(b"efgh"), Ok(()));
+        assert!(rt; has(&sink, b"efgh", "next"));
+        Ok(())
+    }
+
+    #[test]
+    fn fails_the_puts_that_are_listed(rt: HostRuntime) -> Result<(), Fail> {
+        let fail = Vec::from_slice(rt.alloc(), &[3, 4])?;
+        let mut sink = MemSink::new(rt.alloc(), 9, fail)?;
+        assert_eq!(rt; sink.put(b"a"), Ok(()));
+        assert_eq!(rt; sink.put(b""), Ok(()));
+        assert_eq!(rt; sink.open("n"), Ok(()));
+        assert_eq!(rt; sink.put(b"b"), Err(SinkFault::Failed));
+        assert_eq!(rt; sink.put(b""), Err(SinkFault::Failed));
+        assert_eq!(rt; sink.put(b"c"), Ok(()));
+        assert!(rt; has(&sink, b"c", "n"));
+        assert_eq!(rt; sink.faults(), 2);
+        Ok(())
+    }
+}

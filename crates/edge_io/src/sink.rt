@@ -1,0 +1,64 @@
+ghost use Rattle.std.specs.Prelude.{◌≡◌, ◌≤◌, ℕ, Option, option_map, OnOk, OnErr, IsErrOf};
+ghost use Rattle.faults.specs.Count.{Rose};
+ghost use Rattle.edge_io.specs.Sink.{opened, with_piece, GrewByPrefix};
+
+use std::alloc::AllocError;
+use thiserror::Error;
+
+/// Why a sink was not opened.
+#[derive(Clone, Copy, Debug, PartialEq, Eq, Error)]
+pub enum OpenFault {
+    /// The file of the name cannot be made.
+    #[error("the sink cannot be opened")]
+    Failed,
+    /// Memory ran out.
+    #[error("out of memory")]
+    Memory,
+}
+
+/// Why a piece was not put whole.
+#[derive(Clone, Copy, Debug, PartialEq, Eq, Error)]
+pub enum SinkFault {
+    /// The sink is full, or a call of the machine failed.
+    #[error("the piece cannot be put")]
+    Failed,
+}
+
+impl From<AllocError> for OpenFault {
+    ghost use Rattle.std.specs.Prelude.{◌≡◌};
+    ghost use Rattle.edge_io.specs.declared.sink.OpenFault.TheVariants.{Memory};
+
+    ghost from_gives = { λ _ fault. fault ≡ Memory };
+
+    fn from(_: AllocError) -> OpenFault {
+        OpenFault::Memory
+    }
+}
+
+/// A place that bytes are put into, piece by piece.
+pub trait Sink {
+    ghost use Rattle.edge_io.specs.Sink.{Put};
+
+    /// The bytes that were put since the last opening, and its name: `None` where that is not told.
+    ghost put_so_far: { Self → Option Put };
+
+    /// How many calls failed. It never falls, and stays at 2^64 - 1 once it is there.
+    ghost faults: { Self → ℕ };
+
+    /// Begins anew under this name. After an error the sink is as before.
+    fn open(&mut self, name: &str) -> Result<(), OpenFault>
+        ensures ok { OnOk result
+            (put_so_far self.new ≡ option_map (λ _. opened name.now) (put_so_far self.old)) }
+        ensures err { OnErr result (put_so_far self.new ≡ put_so_far self.old) }
+        ensures failed { IsErrOf result OpenFault.Failed → Rose (faults self.old) (faults self.new) }
+        ensures count { faults self.old ≤ faults self.new };
+
+    /// Puts the piece after what was put before, and takes no memory. An empty piece is a put as
+    /// well. After an error some prefix of the piece may have been put.
+    fn put(&mut self, piece: &[u8]) -> Result<(), SinkFault>
+        ensures ok { OnOk result
+            (put_so_far self.new ≡ option_map (with_piece piece.now) (put_so_far self.old)) }
+        ensures err { OnErr result (GrewByPrefix piece.now (put_so_far self.old) (put_so_far self.new)) }
+        ensures failed { OnErr result (Rose (faults self.old) (faults self.new)) }
+        ensures count { faults self.old ≤ faults self.new };
+}

@@ -1,0 +1,103 @@
+ghost use Rattle.std.specs.Prelude.{◌≡◌, ◌≤◌, IsErr, IsErrOf};
+ghost use Rattle.edge_io.specs.Calls.{CountsFault};
+
+use crate::sink::{OpenFault, Sink, SinkFault};
+use std::io::{ErrorKind, Write};
+use std::marker::Model;
+use std::{fs, io};
+
+#[derive(Drop)]
+enum Target<F> {
+    Nothing,
+    Output,
+    File(F),
+}
+
+/// A sink over standard output, or over the file that was opened last. It tells nothing of what it
+/// holds; contracts see it as the count of its faults.
+#[derive(Drop)]
+pub struct StreamSink<R: std::rt::Files + Print> {
+    rt: R,
+    target: Target<R::File>,
+    faults: u64,
+}
+
+impl<R: std::rt::Files + Print> Model for StreamSink<R> {
+    ghost use Rattle.std.specs.Prelude.{ℕ};
+
+    ghost Value = { ℕ };
+
+    ghost view = { λ s. s.faults };
+}
+
+impl<R: std::rt::Files + Print> StreamSink<R> {
+    /// A sink over standard output, until a file is opened.
+    pub fn output(rt: R) -> StreamSink<R>
+        ensures { result ≡ 0 }
+    {
+        StreamSink {
+            rt,
+            target: Target::Output,
+            faults: 0,
+        }
+    }
+
+    /// A sink over the file that will be opened. Before that every put fails.
+    pub fn file(rt: R) -> StreamSink<R>
+        ensures { result ≡ 0 }
+    {
+        StreamSink {
+            rt,
+            target: Target::Nothing,
+            faults: 0,
+        }
+    }
+}
+
+fn put_all<R: std::rt::Files + Print>(
+    rt: &R,
+    target: &mut Target<R::File>,
+    piece: &[u8],
+) -> io::Result<()> {
+    match target {
+        Target::Nothing => Err(io::Error::from(ErrorKind::NotConnected)),
+        Target::Output => io::writer(rt).write_all(piece),
+        Target::File(file) => file.write_all(piece),
+    }
+}
+
+impl<R: std::rt::Files + Print> Sink for StreamSink<R> {
+    ghost use Rattle.std.specs.Prelude.{None};
+
+    ghost put_so_far = { λ _. None };
+
+    ghost faults = { λ s. s };
+
+    fn open(&mut self, name: &str) -> Result<(), OpenFault>
+        ensures count { self.old ≤ self.new }
+        ensures faults { CountsFault (IsErrOf result OpenFault.Failed) self.old self.new }
+    {
+        match fs::create(&self.rt, name) {
+            Ok(file) => {
+                self.target = Target::File(file);
+                Ok(())
+            }
+            Err(error) if error.kind() == ErrorKind::OutOfMemory => Err(OpenFault::Memory),
+            Err(_) => {
+                self.faults = self.faults.saturating_add(1);
+                Err(OpenFault::Failed)
+            }
+        }
+    }
+
+    fn put(&mut self, piece: &[u8]) -> Result<(), SinkFault>
+        ensures count { self.old ≤ self.new }
+        ensures faults { CountsFault (IsErr result) self.old self.new }
+    {
+        if put_all(&self.rt, &mut self.target, piece).is_err() {
+            self.faults = self.faults.saturating_add(1);
+            return Err(SinkFault::Failed);
+        }
+        Ok(())
+    }
+}
