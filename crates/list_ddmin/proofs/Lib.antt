@@ -1,0 +1,12 @@
+pub mod Borders
+pub mod Tried
+pub mod Minimal
+pub mod Enough
+pub mod Follows
+pub mod FieldLemmas
+pub mod Left
+pub mod Slices
+pub mod Counts
+pub mod Lengths
+pub mod Positions
+pub mod Rows

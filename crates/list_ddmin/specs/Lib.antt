@@ -1,0 +1,4 @@
+pub mod ListStep
+pub mod Machine
+pub mod Fields
+pub mod Plain

@@ -1,0 +1,71 @@
+//! What holds of the states of the machine, and of the list step, for the proofs of callers.
+
+ghost use Rattle.std.specs.Prelude.{ℕ, List};
+ghost use Rattle.list_ddmin.specs.Machine.{AgreeingMaps, AsksAsKept, BeginsListStep, CountIsWithin, CountOfAll, CountsAllOnlyOfAll, CountsKept, EachYesIsSmaller, EndsOneMinimal, FollowsListStep, GoesByItsSteps, GoesOn, KeepsLength, PartsAreSlices, QuestionsFit, RestFits, StartsWithAll, StopsAtEnd};
+
+/// Answered from any map, the machine asks the questions of the list step in their order, and
+/// ends with its result.
+pub fn follows_list_step()
+    ensures { FollowsListStep }
+{}
+
+/// At a start the machine has the whole list step before it.
+pub fn begins_list_step()
+    ensures { BeginsListStep }
+{}
+
+/// What one answer does: the list step goes one question on, the state stays sound, and fewer
+/// answers are left.
+pub fn goes_on()
+    ensures { GoesOn }
+{}
+
+/// A machine that asks nothing has nothing of the list step before it.
+pub fn stops_at_end()
+    ensures { StopsAtEnd }
+{}
+
+/// The list step over two maps is the same, if they agree on what it asks over the first. So a
+/// map need be known only at the questions.
+pub fn agreeing_maps()
+    ensures { AgreeingMaps }
+{}
+
+/// No one element can go from the end of the list step. Where not all elements may go, this is
+/// said of an end with two elements or more.
+pub fn ends_one_minimal()
+    ensures { EndsOneMinimal }
+{}
+
+/// The procedure is its steps over itself: the bound in its definition is never met.
+pub fn goes_by_its_steps()
+    ensures { GoesByItsSteps }
+{}
+
+/// A part is a slice of the kept elements, and its complement is the kept elements without the
+/// slice. Here the elements are lists, as lines are.
+pub fn parts_are_slices()
+    ensures { PartsAreSlices (List ℕ) }
+{}
+
+/// Each question, and the result, has a flag for each element of the list.
+pub fn questions_fit()
+    ensures list_step { QuestionsFit }
+    ensures rest { RestFits }
+    ensures asked { AsksAsKept }
+    ensures answered { KeepsLength }
+    ensures started { StartsWithAll }
+{}
+
+/// How many elements a keep list keeps. Here the elements are lists, as lines are.
+pub fn counts_kept()
+    ensures elements { CountsKept (List ℕ) }
+    ensures within { CountIsWithin }
+    ensures all { CountOfAll }
+    ensures only_all { CountsAllOnlyOfAll }
+{}
+
+/// What is asked keeps fewer elements than what is kept, so each yes makes the list smaller.
+pub fn each_yes_is_smaller()
+    ensures { EachYesIsSmaller }
+{}

@@ -1,0 +1,27 @@
+//! Delta debugging over a list (ddmin of Zeller and Hildebrandt, 2002) as a machine that is asked
+//! and answered.
+//!
+//! A reducer has a list of elements, as the lines of a file or the children of a node. [`Ddmin`]
+//! says which of them the next candidate keeps, the reducer finds out whether that candidate will
+//! do, and tells the machine. At the end the machine has the elements that stay, and no one of them
+//! can go.
+//!
+//! The contracts of [`Ddmin`] are exact over a state (`specs/Machine.antt`). The laws tie that state
+//! to the procedure as it is published (`specs/ListStep.antt`): each is a function that does
+//! nothing, which a caller calls so that its proof has the law. [`plain_list_step`] is the procedure
+//! itself as a plain recursion, with which a test compares the machine.
+#![tactic(auto)]
+
+mod laws;
+mod machine;
+mod plain;
+#[cfg(test)]
+mod tests;
+
+pub use faults::Memory;
+pub use laws::{
+    agreeing_maps, begins_list_step, counts_kept, each_yes_is_smaller, ends_one_minimal,
+    follows_list_step, goes_by_its_steps, goes_on, parts_are_slices, questions_fit, stops_at_end,
+};
+pub use machine::Ddmin;
+pub use plain::{Outcome, Test, plain_list_step};
