@@ -1,0 +1,4 @@
+pub mod Listed
+pub mod Rule
+pub mod Script
+pub mod Told

@@ -1,0 +1,76 @@
+ghost use Rattle.std.specs.Prelude.{◌≡◌, ◌≤◌, ℕ, List, Option, option_map, IfOk, OnOk, OnErr, IsErrOf};
+ghost use Rattle.faults.specs.Count.{Rose};
+
+use faults::Memory;
+use std::alloc::AllocError;
+use thiserror::Error;
+
+/// What a gate says of a text: yes where it is interesting.
+#[derive(Clone, Copy, Debug, PartialEq, Eq)]
+pub enum Verdict {
+    Yes,
+    No,
+}
+
+/// Why a gate gave no verdict.
+#[derive(Clone, Copy, Debug, PartialEq, Eq, Error)]
+pub enum GateFault {
+    /// The gate itself failed, and counted it.
+    #[error("the gate failed")]
+    Failed,
+    #[error("out of memory")]
+    Memory,
+}
+
+impl From<Memory> for GateFault {
+    ghost use Rattle.script_gate.specs.declared.gate.GateFault.TheVariants.{Memory as OutOfMemory};
+
+    ghost from_gives = { λ _ fault. fault ≡ OutOfMemory };
+
+    fn from(_: Memory) -> GateFault {
+        GateFault::Memory
+    }
+}
+
+impl From<AllocError> for GateFault {
+    ghost use Rattle.script_gate.specs.declared.gate.GateFault.TheVariants.{Memory as OutOfMemory};
+
+    ghost from_gives = { λ _ fault. fault ≡ OutOfMemory };
+
+    fn from(_: AllocError) -> GateFault {
+        GateFault::Memory
+    }
+}
+
+/// What answers yes or no to a text, for one worker.
+pub trait Gate {
+    ghost use Rattle.script_gate.specs.declared.gate.Verdict.{Verdict};
+    ghost use Rattle.script_gate.specs.declared.told.Told.{Told};
+    ghost use Rattle.script_gate.specs.Told.{with_asked, with_opening};
+
+    /// How often it failed. It never falls.
+    ghost faults: { Self → ℕ };
+
+    /// What it was asked and last opened with, where it tells this.
+    ghost told: { Self → Option Told };
+
+    /// Which verdict on a text it may give.
+    ghost may_say: { List ℕ → Verdict → Type 0 };
+
+    /// Readies the gate for the worker with this number: `work` is the work folder, `script` the script's name,
+    /// and `name` that of the file that a candidate is written to. It asks nothing.
+    fn open(&mut self, work: &str, script: &str, name: &str, number: u32) -> Result<(), GateFault>
+        ensures opened { OnOk result
+            (told self.new ≡ option_map (with_opening work.now script.now name.now number) (told self.old)) }
+        ensures refused { OnErr result (told self.new ≡ told self.old) }
+        ensures count { faults self.old ≤ faults self.new }
+        ensures failed { IsErrOf result GateFault.Failed → Rose (faults self.old) (faults self.new) };
+
+    /// Asks once for the verdict on a text. A refused ask isn't told.
+    fn ask(&mut self, text: &[u8]) -> Result<Verdict, GateFault>
+        ensures verdict { IfOk result (λ verdict. may_say text.now verdict) }
+        ensures asked { OnOk result (told self.new ≡ option_map (with_asked text.now) (told self.old)) }
+        ensures refused { OnErr result (told self.new ≡ told self.old) }
+        ensures count { faults self.old ≤ faults self.new }
+        ensures failed { IsErrOf result GateFault.Failed → Rose (faults self.old) (faults self.new) };
+}

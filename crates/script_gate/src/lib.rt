@@ -1,0 +1,17 @@
+//! Gates: what answers yes or no to a text, from a script, a rule or a list.
+#![tactic(auto)]
+
+mod bytes;
+mod gate;
+mod list_gate;
+mod process_gate;
+mod rule_gate;
+mod told;
+
+pub use bytes::{Bytes, TextList};
+pub use faults::Memory;
+pub use gate::{Gate, GateFault, Verdict};
+pub use list_gate::{ListGate, Said};
+pub use process_gate::ProcessGate;
+pub use rule_gate::RuleGate;
+pub use told::{Opening, Told};

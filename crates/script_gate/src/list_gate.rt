@@ -1,0 +1,156 @@
+ghost use Rattle.std.specs.Prelude.{◌≡◌, ◌≤◌, ◌↔◌, Some, IfOk, OnOk, OnErr, IsErrOf, IsOkUnless};
+ghost use Rattle.faults.specs.Count.{Rose};
+ghost use Rattle.script_gate.specs.Listed.{moved_on, next_answer, verdict_of};
+ghost use Rattle.script_gate.specs.Told.{nothing_told, with_asked, with_opening};
+
+use crate::gate::{Gate, GateFault, Verdict};
+use crate::told::Told;
+use std::alloc::Global;
+use std::marker::Model;
+
+/// One answer of a `ListGate`.
+#[derive(Clone, Copy, Debug, PartialEq, Eq)]
+pub enum Said {
+    Yes,
+    No,
+    /// The call fails.
+    Fail,
+}
+
+/// A gate that answers from a list, and each ask after the list's end by one last answer.
+/// It tells what it is asked and opened with.
+#[derive(Drop)]
+pub struct ListGate {
+    alloc: Global,
+    answers: Vec<Said>,
+    given: usize,
+    later: Said,
+    faults: u64,
+    told: Told,
+}
+
+impl Model for ListGate {
+    ghost use Rattle.std.specs.Prelude.{drop};
+    ghost use Rattle.script_gate.specs.Listed.{Listed};
+
+    ghost Value = { Listed };
+
+    ghost view = { λ gate. record {
+      answers = drop gate.given gate.answers.items;
+      later = gate.later;
+      faults = gate.faults;
+      told = gate.told;
+    } };
+}
+
+impl ListGate {
+    pub fn new(alloc: Global, answers: Vec<Said>, later: Said) -> ListGate
+        ensures { result ≡ record { answers = answers.items; later = later; faults = 0; told = nothing_told } }
+    {
+        ListGate {
+            alloc,
+            answers,
+            given: 0,
+            later,
+            faults: 0,
+            told: Told::new(alloc),
+        }
+    }
+
+    /// What it was asked and opened with; failed asks aren't among it.
+    pub fn told(&self) -> &Told
+        ensures { result.now ≡ self.now.told }
+    {
+        &self.told
+    }
+
+    fn next_answer(&self) -> Said
+        ensures { result ≡ next_answer self.now }
+    {
+        self.answers.get(self.given).copied().unwrap_or(self.later)
+    }
+
+    fn move_on(&mut self)
+        ensures { self.new ≡ moved_on self.old }
+    {
+        if self.given < self.answers.len() {
+            self.given += 1;
+        }
+    }
+}
+
+impl Gate for ListGate {
+    ghost faults = { λ gate. gate.faults };
+
+    ghost told = { λ gate. Some gate.told };
+
+    ghost may_say = { λ _ _. Unit {0} };
+
+    fn open(&mut self, work: &str, script: &str, name: &str, number: u32) -> Result<(), GateFault>
+        ensures opened { OnOk result
+            (self.new ≡ record self.old { told = with_opening work.now script.now name.now number self.old.told }) }
+        ensures refused { OnErr result (self.new ≡ self.old) }
+        ensures never_fails { IsOkUnless result GateFault.Memory }
+    {
+        self.told
+            .set_opening(self.alloc, work, script, name, number)?;
+        Ok(())
+    }
+
+    /// Where memory runs out, the answer stays the next one.
+    fn ask(&mut self, text: &[u8]) -> Result<Verdict, GateFault>
+        ensures verdict { IfOk result (λ verdict. verdict_of (next_answer self.old) ≡ Some verdict) }
+        ensures asked { OnOk result
+            (self.new ≡ record (moved_on self.old) { told = with_asked text.now self.old.told }) }
+        ensures fails { IsErrOf result GateFault.Failed ↔ (next_answer self.old ≡ Said.Fail) }
+        ensures moved { IsErrOf result GateFault.Failed
+            → self.new ≡ record (moved_on self.old) { faults = self.new.faults } }
+        ensures failed { IsErrOf result GateFault.Failed → Rose self.old.faults self.new.faults }
+        ensures count { self.old.faults ≤ self.new.faults }
+        ensures memory { IsErrOf result GateFault.Memory → self.new ≡ self.old }
+    {
+        let verdict = match self.next_answer() {
+            Said::Yes => Verdict::Yes,
+            Said::No => Verdict::No,
+            Said::Fail => {
+                self.faults = self.faults.saturating_add(1);
+                self.move_on();
+                return Err(GateFault::Failed);
+            }
+        };
+        self.told.add_ask(self.alloc, text)?;
+        self.move_on();
+        Ok(verdict)
+    }
+}
+
+#[cfg(test)]
+mod tests {
+    use super::*;
+    use std::test::Fail;
+
+    // Through the bounds that a gate of a thread has.
+    fn answer<G: Gate + Send>(gate: &mut G, text: &[u8]) -> Result<Verdict, GateFault> {
+        gate.ask(text)
+    }
+
+    #[test]
+    fn answers_in_order_and_then_by_the_last_answer(rt: HostRuntime) -> Result<(), Fail> {
+        let answers = vec![in rt.alloc(); Said::No, Said::Fail, Said::Yes]?;
+        let mut gate = ListGate::new(rt.alloc(), answers, Said::No);
+        gate.open("work", "test.sh", "input", 1)?;
+        for (text, answered) in [
+            (b"a", Ok(Verdict::No)),
+            (b"b", Err(GateFault::Failed)),
+            (b"c", Ok(Verdict::Yes)),
+            (b"d", Ok(Verdict::No)),
+            (b"e", Ok(Verdict::No)),
+        ] {
+            assert_eq!(rt; answer(&mut gate, text.as_slice()), answered);
+        }
+        let asked = gate.told().asked.as_slice();
+        assert_eq!(rt; asked.len(), 4, "the failed ask isn't told");
+        assert_eq!(rt; asked[1].as_slice(), b"c".as_slice());
+        Ok(())
+    }
+}

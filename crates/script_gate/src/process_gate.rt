@@ -1,0 +1,222 @@
+ghost use Rattle.std.specs.Prelude.{◌≡◌, ◌≢◌, ◌≤◌, ◌↔◌, [], ◌∷◌, Some, pos, IfOk, OnOk, OnErr, IsErrOf};
+ghost use Rattle.std.specs.String.{string_bytes};
+ghost use Rattle.std.specs.Process.{command_args, command_program, exit_code};
+ghost use Rattle.faults.specs.Count.{Rose};
+ghost use Rattle.script_gate.specs.Script.{file_of, folder_of, path_in, script_of};
+
+use crate::gate::{Gate, GateFault, Verdict};
+use faults::Memory;
+use std::alloc::Global;
+use std::io::{ErrorKind, Write};
+use std::marker::Model;
+use std::process::{Command, ExitStatus, Processes, Stdio};
+use std::rt::Files;
+use std::{fs, io};
+
+/// A gate that writes each text to a file and starts a script with the file's path as its only argument.
+/// The verdict is yes where the script ends with status 0, and no where it ends with another status or by a signal.
+///
+/// The script has no standard input and output, and the program's standard error. The file of the last text stays.
+/// A clause sees the gate as its script, its file and how many calls failed.
+#[derive(Drop)]
+pub struct ProcessGate<R: Files + Processes> {
+    rt: R,
+    alloc: Global,
+    script: String,
+    file: String,
+    faults: u64,
+}
+
+impl<R: Files + Processes> Model for ProcessGate<R> {
+    ghost use Rattle.std.specs.String.{string_bytes};
+    ghost use Rattle.script_gate.specs.Script.{Opened};
+
+    ghost Value = { Opened };
+
+    ghost view = { λ gate. record {
+      script = string_bytes gate.script;
+      file = string_bytes gate.file;
+      faults = gate.faults;
+    } };
+}
+
+impl<R: Files + Processes> ProcessGate<R> {
+    /// A gate that wasn't opened; its asks fail.
+    pub fn new(rt: R, alloc: Global) -> ProcessGate<R>
+        ensures { result ≡ record { script = []; file = []; faults = 0 } }
+    {
+        ProcessGate {
+            rt,
+            alloc,
+            script: String::new(alloc),
+            file: String::new(alloc),
+            faults: 0,
+        }
+    }
+}
+
+fn folder_at(alloc: Global, work: &str, number: u32) -> Result<String, Memory>
+    ensures { IfOk result (λ folder. string_bytes folder ≡ folder_of work.now number) }
+{
+    Ok(format!(in alloc; "{work}/{number}")?)
+}
+
+fn file_in(alloc: Global, folder: &str, name: &str) -> Result<String, Memory>
+    ensures { IfOk result (λ file. string_bytes file ≡ path_in folder.now name.now) }
+{
+    Ok(format!(in alloc; "{folder}/{name}")?)
+}
+
+// A name without a slash would be looked up among the system's programs.
+fn script_at(alloc: Global, name: &str) -> Result<String, Memory>
+    ensures { IfOk result (λ script. string_bytes script ≡ script_of name.now) }
+{
+    if name.as_bytes().contains(&b'/') {
+        Ok(String::from_str(alloc, name)?)
+    } else {
+        Ok(format!(in alloc; "./{name}")?)
+    }
+}
+
+fn command_of(alloc: Global, script: &str, file: &str) -> Result<Command, Memory>
+    ensures program { IfOk result (λ command. command_program command ≡ script.now) }
+    ensures args { IfOk result (λ command. command_args command ≡ file.now ∷ []) }
+{
+    let mut command = Command::new(alloc, script)?;
+    command.arg(file)?;
+    command.stdin(Stdio::null());
+    command.stdout(Stdio::null());
+    Ok(command)
+}
+
+fn verdict_of(status: ExitStatus) -> Verdict
+    ensures { (result ≡ Verdict.Yes) ↔ (exit_code status ≡ Some (pos 0)) }
+{
+    if status.success() {
+        Verdict::Yes
+    } else {
+        Verdict::No
+    }
+}
+
+// Writes the text to the file, and runs the command to its end.
+fn judge<R: Files + Processes>(
+    rt: &R,
+    command: &mut Command,
+    file: &str,
+    text: &[u8],
+) -> io::Result<Verdict> {
+    fs::create(rt, file)?.write_all(text)?;
+    Ok(verdict_of(command.status(rt)?))
+}
+
+// The fault that an error stands for: want of memory where the program itself had none, and else a failure,
+// which is counted.
+fn fault_of(faults: &mut u64, error: &io::Error) -> GateFault
+    ensures failed { result ≡ GateFault.Failed → Rose faults.old faults.new }
+    ensures count { faults.old ≤ faults.new }
+    ensures memory { result ≡ GateFault.Memory → faults.new ≡ faults.old }
+{
+    if error.kind() == ErrorKind::OutOfMemory && error.raw_os_error().is_none() {
+        return GateFault::Memory;
+    }
+    *faults = faults.saturating_add(1);
+    GateFault::Failed
+}
+
+impl<R: Files + Processes> Gate for ProcessGate<R> {
+    ghost use Rattle.std.specs.Prelude.{None};
+
+    ghost faults = { λ gate. gate.faults };
+
+    ghost told = { λ _. None };
+
+    ghost may_say = { λ _ _. Unit {0} };
+
+    /// Makes the folder `work/number`, which may stand already. After an error the last opening stays.
+    fn open(&mut self, work: &str, script: &str, name: &str, number: u32) -> Result<(), GateFault>
+        ensures script { OnOk result (self.new.script ≡ script_of script.now) }
+        ensures file { OnOk result (self.new.file ≡ file_of work.now number name.now) }
+        ensures refused { OnErr result ((self.new.script ≡ self.old.script) × (self.new.file ≡ self.old.file)) }
+        ensures failed { IsErrOf result GateFault.Failed → Rose self.old.faults self.new.faults }
+        ensures count { self.old.faults ≤ self.new.faults }
+        ensures uncounted { result ≢ Err GateFault.Failed → self.new.faults ≡ self.old.faults }
+    {
+        let folder = folder_at(self.alloc, work, number)?;
+        let file = file_in(self.alloc, folder.as_str(), name)?;
+        let script = script_at(self.alloc, script)?;
+        if let Err(error) = fs::create_dir_all(&self.rt, folder.as_str()) {
+            return Err(fault_of(&mut self.faults, &error));
+        }
+        self.script = script;
+        self.file = file;
+        Ok(())
+    }
+
+    fn ask(&mut self, text: &[u8]) -> Result<Verdict, GateFault>
+        ensures opening { (self.new.script ≡ self.old.script) × (self.new.file ≡ self.old.file) }
+        ensures failed { IsErrOf result GateFault.Failed → Rose self.old.faults self.new.faults }
+        ensures count { self.old.faults ≤ self.new.faults }
+        ensures uncounted { result ≢ Err GateFault.Failed → self.new.faults ≡ self.old.faults }
+    {
+        let mut command = command_of(self.alloc, self.script.as_str(), self.file.as_str())?;
+        match judge(&self.rt, &mut command, self.file.as_str(), text) {
+            Ok(verdict) => Ok(verdict),
+            Err(error) => Err(fault_of(&mut self.faults, &error)),
+        }
+    }
+}
+
+#[cfg(test)]
+mod tests {
+    use super::*;
+    use std::test::Fail;
+    use std::{env, process};
+
+    // Through the bounds that a gate of a thread has.
+    fn judged<G: Gate + Send>(
+        gate: &mut G,
+        work: &str,
+        script: &str,
+        text: &[u8],
+    ) -> Result<Verdict, GateFault> {
+        gate.open(work, script, "candidate", 7)?;
+        gate.ask(text)
+    }
+
+    // The shell is the script, and each candidate a program for it.
+    #[test]
+    fn judges_by_the_status_of_the_script(rt: HostRuntime) -> Result<(), Fail> {
+        let alloc = rt.alloc();
+        let name = format!(in alloc; "perses-script-gate-{}", process::id(rt.process()))?;
+        let folder = env::temp_dir(&rt)?.join(alloc, name.as_str())?;
+        let work = folder.as_path().as_str();
+        let mut gate = ProcessGate::new(rt.clone()?, alloc);
+        for (script, text, answered) in [
+            ("/bin/sh", "true\n", Ok(Verdict::Yes)),
+            ("/bin/sh", "false\n", Ok(Verdict::No)),
+            ("/bin/sh", "exit 3\n", Ok(Verdict::No)),
+            ("/bin/sh", "kill -9 $$\n", Ok(Verdict::No)),
+            (
+                "/bin/sh",
+                "test $# = 0 && test -s \"$0\"\n",
+                Ok(Verdict::Yes),
+            ),
+            (
+                "/bin/sh",
+                "case \"$0\" in *-$PPID/7/candidate) ;; *) false ;; esac\n",
+                Ok(Verdict::Yes),
+            ),
+            ("/bin/sh", "test -z \"$(cat)\"\n", Ok(Verdict::Yes)),
+            ("/no/such/script", "true\n", Err(GateFault::Failed)),
+            ("no-such-script", "true\n", Err(GateFault::Failed)),
+        ] {
+            let found = judged(&mut gate, work, script, text.as_bytes());
+            assert_eq!(rt; found, answered, "{script} on {text}");
+        }
+        let file = folder.join(alloc, "7/candidate")?;
+        assert_eq!(rt; fs::read_to_string(&rt, file.as_path())?.as_str(), "true\n");
+        fs::remove_dir_all(&rt, folder.as_path())?;
+        Ok(())
+    }
+}

@@ -1,0 +1,157 @@
+ghost use Rattle.std.specs.Prelude.{◌≡◌, None, Some, IsOk, IsOkUnless, IfOk, OnOk, OnErr, option_map, if◌then◌else◌};
+ghost use Rattle.std.specs.Option.{option_copied};
+ghost use Rattle.script_gate.specs.Rule.{occur_all, rule_verdict};
+ghost use Rattle.script_gate.specs.Told.{nothing_told, with_asked, with_opening};
+
+use crate::gate::{Gate, GateFault, Verdict};
+use crate::told::Told;
+use std::alloc::Global;
+use std::marker::Model;
+
+/// A gate that answers by a rule: `R` stands for its eight bytes, and the verdict is yes exactly where
+/// each of them that isn't zero occurs in the text. A clause sees it as what it tells.
+#[derive(Drop)]
+pub struct RuleGate<const R: u64> {
+    alloc: Global,
+    told: Option<Told>,
+}
+
+impl<const R: u64> Model for RuleGate<R> {
+    ghost use Rattle.std.specs.Prelude.{Option};
+    ghost use Rattle.script_gate.specs.declared.told.Told.{Told};
+
+    ghost Value = { Option Told };
+
+    ghost view = { λ gate. gate.told };
+}
+
+impl<const R: u64> RuleGate<R> {
+    /// With `tell` it keeps what it is asked and opened with; without, it never takes memory.
+    pub fn new(alloc: Global, tell: bool) -> RuleGate<R>
+        ensures { result ≡ (if tell then Some nothing_told else None) }
+    {
+        let told = if tell { Some(Told::new(alloc)) } else { None };
+        RuleGate { alloc, told }
+    }
+
+    /// What it was asked and opened with, where it tells.
+    pub fn told(&self) -> Option<&Told>
+        ensures { option_copied result ≡ self.now }
+    {
+        self.told.as_ref()
+    }
+}
+
+fn obeys(rule: u64, text: &[u8]) -> bool
+    ensures { result ≡ occur_all rule text.now }
+{
+    rule.to_le_bytes()
+        .iter()
+        .all(|byte| *byte == 0 || text.contains(byte))
+}
+
+impl<const R: u64> Gate for RuleGate<R> {
+    ghost faults = { λ gate. 0 };
+
+    ghost told = { λ gate. gate };
+
+    ghost may_say = { λ text verdict. verdict ≡ rule_verdict R text };
+
+    fn open(&mut self, work: &str, script: &str, name: &str, number: u32) -> Result<(), GateFault>
+        ensures opened { OnOk result
+            (self.new ≡ option_map (with_opening work.now script.now name.now number) self.old) }
+        ensures refused { OnErr result (self.new ≡ self.old) }
+        ensures never_fails { IsOkUnless result GateFault.Memory }
+        ensures silent { self.old ≡ None → IsOk result }
+    {
+        if let Some(told) = &mut self.told {
+            told.set_opening(self.alloc, work, script, name, number)?;
+        }
+        Ok(())
+    }
+
+    fn ask(&mut self, text: &[u8]) -> Result<Verdict, GateFault>
+        ensures verdict { IfOk result (λ verdict. verdict ≡ rule_verdict R text.now) }
+        ensures asked { OnOk result (self.new ≡ option_map (with_asked text.now) self.old) }
+        ensures refused { OnErr result (self.new ≡ self.old) }
+        ensures never_fails { IsOkUnless result GateFault.Memory }
+        ensures silent { self.old ≡ None → IsOk result }
+    {
+        if let Some(told) = &mut self.told {
+            told.add_ask(self.alloc, text)?;
+        }
+        if obeys(R, text) {
+            Ok(Verdict::Yes)
+        } else {
+            Ok(Verdict::No)
+        }
+    }
+}
+
+#[cfg(test)]
+mod tests {
+    use super::*;
+    use std::test::Fail;
+
+    // Through the bounds that a gate of a thread has.
+    fn says_yes<G: Gate + Send>(mut gate: G, text: &str) -> Result<bool, GateFault>
+    where
+        G: Drop,
+    {
+        Ok(gate.ask(text.as_bytes())? == Verdict::Yes)
+    }
+
+    fn holds<const R: u64>(alloc: Global, text: &str) -> Result<bool, GateFault> {
+        says_yes(RuleGate::<R>::new(alloc, true), text)
+    }
+
+    #[test]
+    fn a_rule_asks_for_its_bytes(rt: HostRuntime) -> Result<(), Fail> {
+        let alloc = rt.alloc();
+        assert!(rt; holds::<0>(alloc, "")?, "0 is always yes");
+        assert!(rt; holds::<0>(alloc, "any")?, "0 is always yes");
+        assert!(rt; !holds::<255>(alloc, "")?, "255 is always no");
+        assert!(rt;
+            !holds::<255>(alloc, "any \u{e9}\u{10ffff}")?,
+            "255 is always no"
+        );
+        assert!(rt; holds::<97>(alloc, "bca")?, "97 is yes where a");
+        assert!(rt; !holds::<97>(alloc, "bcd")?, "97 is yes where a");
+        assert!(rt; holds::<98>(alloc, "bca")?, "98 is yes where b");
+        assert!(rt; !holds::<98>(alloc, "aca")?, "98 is yes where b");
+        assert!(rt;
+            holds::<30769>(alloc, "x = 1;")?,
+            "30769 is yes where 1 and x"
+        );
+        assert!(rt;
+            !holds::<30769>(alloc, "x = 2;")?,
+            "30769 is yes where 1 and x"
+        );
+        assert!(rt;
+            !holds::<30769>(alloc, "y = 1;")?,
+            "30769 is yes where 1 and x"
+        );
+        assert!(rt; holds::<23121>(alloc, "ZQ")?, "23121 is yes where Q and Z");
+        assert!(rt; !holds::<23121>(alloc, "QQ")?, "23121 is yes where Q and Z");
+        Ok(())
+    }
+
+    #[test]
+    fn tells_its_opening_and_its_asks(rt: HostRuntime) -> Result<(), Fail> {
+        let mut gate = RuleGate::<97>::new(rt.alloc(), true);
+        gate.open("work", "test.sh", "input", 3)?;
+        gate.ask(b"a")?;
+        gate.ask(b"b")?;
+        let told = gate.told().ok_or("it tells")?;
+        let opening = told.opening.as_ref().ok_or("it was opened")?;
+        assert_eq!(rt; opening.work.as_slice(), b"work".as_slice());
+        assert_eq!(rt; opening.script.as_slice(), b"test.sh".as_slice());
+        assert_eq!(rt; opening.name.as_slice(), b"input".as_slice());
+        assert_eq!(rt; opening.number, 3);
+        let asked = told.asked.as_slice();
+        assert_eq!(rt; asked.len(), 2);
+        assert_eq!(rt; asked[0].as_slice(), b"a".as_slice());
+        assert_eq!(rt; asked[1].as_slice(), b"b".as_slice());
+        Ok(())
+    }
+}
