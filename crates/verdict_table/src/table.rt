@@ -1,0 +1,231 @@
+ghost use Rattle.std.specs.Prelude.{◌≡◌, ◌+◌, [], ◌∷◌, ◌++◌, ◌==◌, Some, length, nat_eq, position, Contains, IfOk, OnErr, IfSome, IsSome};
+ghost use Rattle.std.specs.List.{IsDistinct};
+ghost use Rattle.std.specs.List.Sorted.{IsPermutation};
+ghost use Rattle.std.specs.Str.{bytes_eq};
+ghost use Rattle.verdict_table.specs.Tabled.{HasOnce, all_numbers, claim_count, claim_in, found_in, numbers_of, other_claims, record_from, text_claimed, texts_of, verdict_found, verdict_in};
+
+use crate::found::Found;
+use crate::record::{Record, Records};
+use faults::Memory;
+use script_gate::{Bytes, Verdict};
+use std::alloc::Global;
+use std::marker::Model;
+
+/// An open claim: a text whose verdict is still to come, under a number of its own.
+#[derive(Drop)]
+pub struct Claim {
+    pub number: u64,
+    pub text: Bytes,
+}
+
+/// A finite map from texts to verdicts: the records in their order, and the open claims.
+/// Each text stands in it at most once.
+#[derive(Drop)]
+pub struct Table {
+    alloc: Global,
+    claims: Vec<Claim>,
+    records: Vec<Record>,
+    filled: Vec<u64>,
+}
+
+impl Model for Table {
+    ghost use Rattle.std.specs.Prelude.{◌+◌, ◌≤◌, length, vec_capacity};
+    ghost use Rattle.verdict_table.specs.Tabled.{IsSound, Tabled};
+
+    ghost Value = { Tabled };
+
+    ghost view = { λ table. record {
+      claims = table.claims.items;
+      records = table.records.items;
+      filled = table.filled.items;
+    } };
+
+    ghost invariant = { λ table. record {
+      sound : IsSound (record {
+        claims = table.claims.items;
+        records = table.records.items;
+        filled = table.filled.items;
+      });
+      record_room : length table.claims.items + length table.records.items ≤ vec_capacity table.records;
+      filled_room : length table.claims.items + length table.records.items ≤ vec_capacity table.filled;
+    } };
+}
+
+fn record_of(records: &[Record], filled: &[u64], text: &[u8]) -> Option<Found>
+    requires { length filled.now ≡ length records.now }
+    ensures { result ≡ record_from 1 text.now records.now filled.now }
+{
+    for (place, record) in records.iter().enumerate() {
+        if text == record.text.as_slice() {
+            return Some(Found::Filled {
+                claim: filled[place],
+                number: place as u64 + 1,
+                verdict: record.verdict,
+            });
+        }
+    }
+    None
+}
+
+fn claim_of(claims: &[Claim], text: &[u8]) -> Option<Found>
+    ensures { result ≡ claim_in text.now claims.now }
+{
+    for claim in claims {
+        if text == claim.text.as_slice() {
+            return Some(Found::Claimed(claim.number));
+        }
+    }
+    None
+}
+
+fn place_of(claims: &[Claim], number: u64) -> Option<usize>
+    ensures { result ≡ position (λ c. c.number == number) claims.now }
+{
+    claims.iter().position(|claim| claim.number == number)
+}
+
+// Takes the claim with this number out.
+fn take_claim(claims: &mut Vec<Claim>, number: u64) -> Claim
+    requires is_open { IsSome (text_claimed number claims.old.items) }
+    requires numbered { IsDistinct nat_eq (numbers_of claims.old.items) }
+    ensures number { result.number ≡ number }
+    ensures text { text_claimed number claims.old.items ≡ Some result.text }
+    ensures others { claims.new.items ≡ other_claims number claims.old.items }
+    ensures moved { IsPermutation claims.old.items (result ∷ claims.new.items) }
+{
+    match place_of(claims, number) {
+        None => unreachable!(),
+        Some(place) => claims.remove(place),
+    }
+}
+
+impl Table {
+    ghost use Rattle.verdict_table.specs.declared.found.Found.TheVariants.{Absent};
+
+    pub fn new(alloc: Global) -> Table
+        ensures { result ≡ record { claims = []; records = []; filled = [] } }
+    {
+        Table {
+            alloc,
+            claims: Vec::new(alloc),
+            records: Vec::new(alloc),
+            filled: Vec::new(alloc),
+        }
+    }
+
+    /// What the table holds for a text. It takes no memory.
+    pub fn find(&self, text: &[u8]) -> Found
+        ensures found { result ≡ found_in self.now text.now }
+        ensures verdict { verdict_found result ≡ verdict_in self.now.records text.now }
+        ensures once { HasOnce self.now }
+    {
+        match record_of(&self.records, &self.filled, text) {
+            Some(found) => found,
+            None => claim_of(&self.claims, text).unwrap_or(Found::Absent),
+        }
+    }
+
+    /// Opens a claim of a text that the table doesn't hold, and answers the claim's number, which no claim had before.
+    /// It reserves the place of the claim's record, so that filling it takes no memory.
+    pub fn claim(&mut self, text: &[u8]) -> Result<u64, Memory>
+        requires absent { found_in self.old text.now ≡ Absent }
+        ensures claimed { IfOk result (λ claim. self.new ≡ record self.old {
+          claims = self.old.claims ++ record { number = claim; text = text.now } ∷ [];
+        }) }
+        ensures opened { IfOk result (λ claim. text_claimed claim self.new.claims ≡ Some text.now) }
+        ensures number { IfOk result (λ claim. claim ≡ claim_count self.old) }
+        ensures fresh { IfOk result (λ claim. ¬ (Contains (all_numbers self.old) claim)) }
+        ensures memory { OnErr result (self.new ≡ self.old) }
+    {
+        let text = Bytes::from_slice(self.alloc, text)?;
+        let open = self.claims.len();
+        self.records.reserve(open + 1)?;
+        self.filled.reserve(open + 1)?;
+        let number = (open + self.records.len()) as u64;
+        self.claims.push(Claim { number, text })?;
+        Ok(number)
+    }
+
+    /// Records the verdict on an open claim's text, and answers the record's number, counted from 1.
+    /// It takes no memory.
+    pub fn fill(&mut self, claim: u64, verdict: Verdict) -> u64
+        requires is_open { IsSome (text_claimed claim self.old.claims) }
+        ensures recorded { IfSome (text_claimed claim self.old.claims) (λ text.
+            self.new.records ≡ self.old.records ++ record { text = text; verdict = verdict } ∷ []) }
+        ensures closed { self.new.claims ≡ other_claims claim self.old.claims }
+        ensures filled { self.new.filled ≡ self.old.filled ++ claim ∷ [] }
+        ensures number { result ≡ length self.new.records }
+    {
+        let Claim { number, text } = take_claim(&mut self.claims, claim);
+        self.records.push(Record { text, verdict }).unwrap();
+        self.filled.push(number).unwrap();
+        self.records.len() as u64
+    }
+
+    /// The records in their order. Open claims are dropped.
+    pub fn into_records(self) -> Records
+        ensures records { result ≡ self.records }
+        ensures once { IsDistinct bytes_eq (texts_of result) }
+    {
+        let Table { records, .. } = self;
+        Records::from_vec(records)
+    }
+}
+
+#[cfg(test)]
+mod tests {
+    use super::*;
+    use std::test::Fail;
+
+    #[test]
+    fn fills_two_claims_in_the_other_order(rt: HostRuntime) -> Result<(), Fail> {
+        let mut table = Table::new(rt.alloc());
+        if table.find(b"one") != Found::Absent {
+            return Err("an empty table holds nothing")?;
+        }
+        let one = table.claim(b"one")?;
+        if table.find(b"two") != Found::Absent {
+            return Err("only one text is claimed")?;
+        }
+        let two = table.claim(b"two")?;
+        assert_eq!(rt; table.find(b"one"), Found::Claimed(one));
+        assert_eq!(rt; table.find(b"two"), Found::Claimed(two));
+
+        assert_eq!(rt; table.fill(two, Verdict::No), 1);
+        assert_eq!(rt; table.find(b"one"), Found::Claimed(one));
+        assert_eq!(rt; table.fill(one, Verdict::Yes), 2);
+        let of_two = Found::Filled {
+            claim: two,
+            number: 1,
+            verdict: Verdict::No,
+        };
+        let of_one = Found::Filled {
+            claim: one,
+            number: 2,
+            verdict: Verdict::Yes,
+        };
+        assert_eq!(rt; table.find(b"two"), of_two);
+        assert_eq!(rt; table.find(b"one"), of_one);
+        assert_eq!(rt; table.find(b"tw"), Found::Absent);
+
+        let records = table.into_records();
+        assert_eq!(rt; records.len(), 2);
+        assert_eq!(rt; records.as_slice()[0].text.as_slice(), b"two".as_slice());
+        assert_eq!(rt; records.as_slice()[1].text.as_slice(), b"one".as_slice());
+        Ok(())
+    }
+
+    #[test]
+    fn adds_records_at_the_end(rt: HostRuntime) -> Result<(), Fail> {
+        let mut records = Records::new(rt.alloc());
+        for text in [b"a", b"b"] {
+            records.push(Record {
+                text: Bytes::from_slice(rt.alloc(), text.as_slice())?,
+                verdict: Verdict::Yes,
+            })?;
+        }
+        assert_eq!(rt; records.len(), 2);
+        assert_eq!(rt; records.as_slice()[1].text.as_slice(), b"b".as_slice());
+        Ok(())
+    }
+}
