@@ -10,3 +10,4 @@ pub mod Counts
 pub mod Lengths
 pub mod Positions
 pub mod Rows
+pub mod AskedLemmas

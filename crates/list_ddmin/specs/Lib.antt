@@ -2,3 +2,4 @@ pub mod ListStep
 pub mod Machine
 pub mod Fields
 pub mod Plain
+pub mod Asked

@@ -1,6 +1,7 @@
 //! What holds of the states of the machine, and of the list step, for the proofs of callers.
 
 ghost use Rattle.std.specs.Prelude.{ℕ, List};
+ghost use Rattle.list_ddmin.specs.Asked.{DeletionsAsked, EndsAtYes, KeepsAllAtFirst, KeepsLastYes};
 ghost use Rattle.list_ddmin.specs.Machine.{AgreeingMaps, AsksAsKept, BeginsListStep, CountIsWithin, CountOfAll, CountsAllOnlyOfAll, CountsKept, EachYesIsSmaller, EndsOneMinimal, FollowsListStep, GoesByItsSteps, GoesOn, KeepsLength, PartsAreSlices, QuestionsFit, RestFits, StartsWithAll, StopsAtEnd};
 
 /// Answered from any map, the machine asks the questions of the list step in their order, and
@@ -68,4 +69,21 @@ pub fn counts_kept()
 /// What is asked keeps fewer elements than what is kept, so each yes makes the list smaller.
 pub fn each_yes_is_smaller()
     ensures { EachYesIsSmaller }
+{}
+
+/// Each list with one element fewer than the end was asked. Where not all elements may go, this is
+/// said of an end with two elements or more.
+pub fn deletions_asked()
+    ensures { DeletionsAsked }
+{}
+
+/// A yes is never lost: where the whole list is a yes, so is the end.
+pub fn ends_at_yes()
+    ensures { EndsAtYes }
+{}
+
+/// What the machine keeps is what the last yes asked, and everything before a yes.
+pub fn keeps_last_yes()
+    ensures answered { KeepsLastYes }
+    ensures started { KeepsAllAtFirst }
 {}

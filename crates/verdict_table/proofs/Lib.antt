@@ -1,3 +1,4 @@
 pub mod PlanLemmas
 pub mod RecordLemmas
 pub mod TableLemmas
+pub mod GrowLemmas
