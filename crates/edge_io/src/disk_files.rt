@@ -102,6 +102,7 @@ mod tests {
     use crate::sink::{OpenFault, Sink, SinkFault};
     use crate::stream_sink::StreamSink;
     use std::test::Fail;
+    use std::time::SystemTime;
     use std::{env, process};
 
     fn reads(files: &mut impl Files, name: &str, limit: u64, want: &[u8]) -> bool {
@@ -122,7 +123,9 @@ mod tests {
     #[test]
     fn reads_and_writes_real_files(rt: HostRuntime) -> Result<(), Fail> {
         let alloc = rt.alloc();
-        let name = format!(in alloc; "perses-edge-io-{}", process::id(rt.process()))?;
+        let since = SystemTime::now(&rt)?.duration_since(SystemTime::UNIX_EPOCH)?;
+        let process = process::id(rt.process());
+        let name = format!(in alloc; "perses-edge-io-{process}-{}", since.as_nanos())?;
         let folder = env::temp_dir(&rt)?.join(alloc, name.as_str())?;
         fs::create_dir(&rt, folder.as_path())?;
         let held = folder.join(alloc, "held")?;
