@@ -7,6 +7,7 @@ use crate::sink::{OpenFault, Sink, SinkFault};
 pub struct NullSink;
 
 impl NullSink {
+    /// The one value of the type.
     pub fn new() -> NullSink {
         NullSink
     }
