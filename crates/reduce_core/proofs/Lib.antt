@@ -1,0 +1,10 @@
+pub mod Rounds
+pub mod LineMachineLemmas
+pub mod Following
+pub mod LinesLemmas
+pub mod Candidates
+pub mod Ends
+pub mod Keeping
+pub mod FieldLemmas
+pub mod AnswerLemmas
+pub mod LawLemmas

@@ -1,0 +1,7 @@
+pub mod Lines
+pub mod Reduction
+pub mod LineMachine
+pub mod Minimal
+pub mod Fields
+pub mod LineRun
+pub mod Laws

@@ -1,0 +1,103 @@
+-- The reduction of lines as a machine that is asked and answered.
+use Rattle.std.specs.Prelude.{◌≡◌, ◌<◌, ◌+◌, ◌-◌, ◌^◌, min, ℕ, zero, suc, ◌==◌, Bool, true, false, List, [], ◌∷◌, ◌++◌, length, map, Option, Some, None, IsSome, option_map, if◌then◌else◌}
+use Rattle.std.specs.List.{concat}
+use Rattle.script_gate.specs.declared.gate.Verdict.{Verdict}
+use Rattle.script_gate.specs.declared.gate.Verdict.TheVariants.{Yes, No}
+use Rattle.verdict_table.specs.Plan.{Plan, Reduced}
+use Rattle.verdict_table.specs.Grow.{plan_from}
+use Rattle.list_ddmin.specs.Machine as list
+use Rattle.list_ddmin.specs.ListStep.{kept_of}
+use Rattle.list_ddmin.specs.Machine.{State}
+use Rattle.reduce_core.specs.Lines.{lines_of}
+use Rattle.reduce_core.specs.Reduction.{Reduction, candidate, reduction, is_yes}
+
+-- a count stays at its last value
+abbrev pub counted : ℕ → ℕ
+counted n = min n (2 ^ 64 - 1)
+
+-- Where a reduction stands. Whole: the start is asked. Round: a list step over these lines, after so many tests and whole rounds.
+pub data LineState : Type 0 where
+  Whole : List ℕ → LineState
+  Round : List (List ℕ) → State → ℕ → ℕ → LineState
+  Ended : Reduced → LineState
+
+abbrev pub reduced : List (List ℕ) → ℕ → ℕ → Bool → Reduced
+reduced lines used rounds refused = record { text = concat lines; units = length lines; used = used; rounds = rounds; refused = refused }
+
+-- the text that is asked now
+abbrev pub asks : LineState → Option (List ℕ)
+asks (Whole start) = Some start
+asks (Round lines step used rounds) = option_map (candidate lines) (list.asks step)
+asks (Ended result) = None
+
+-- a round over these lines; where there are none, it asks nothing and is the last
+abbrev pub begun : List (List ℕ) → ℕ → ℕ → LineState
+begun lines used rounds =
+    if length lines == 0 then Ended (reduced lines used (counted (rounds + 1)) false)
+    else Round lines (list.start (length lines) true) used rounds
+
+-- after a round that began with these lines and has left others
+abbrev pub past_round : List (List ℕ) → List (List ℕ) → ℕ → ℕ → LineState
+past_round lines left used rounds =
+    if length left == length lines then Ended (reduced lines used (counted (rounds + 1)) false)
+    else begun left used (counted (rounds + 1))
+
+-- a list step asks on, or the round is over
+abbrev pub within_round : Option (List Bool) → List (List ℕ) → State → ℕ → ℕ → LineState
+within_round (Some question) lines step used rounds = Round lines step used rounds
+within_round None lines step used rounds = past_round lines (kept_of (list.kept step) lines) used rounds
+
+abbrev pub after_start : List ℕ → Verdict → LineState
+after_start start Yes = begun (lines_of start) 1 0
+after_start start No = Ended (reduced (lines_of start) 1 0 true)
+
+-- the state after an answer
+abbrev pub after : LineState → Verdict → LineState
+after (Whole start) verdict = after_start start verdict
+after (Round lines step used rounds) verdict =
+    within_round (list.asks (list.after step (is_yes (Some verdict)))) lines (list.after step (is_yes (Some verdict))) (counted (used + 1)) rounds
+after (Ended result) verdict = Ended result
+
+-- what an end gives; before it, what there is now
+abbrev pub gives : LineState → Reduced
+gives (Whole start) = reduced (lines_of start) 0 0 false
+gives (Round lines step used rounds) = reduced (kept_of (list.kept step) lines) used rounds false
+gives (Ended result) = result
+
+-- what holds of each state that comes from a start
+pub record IsRound (lines : List (List ℕ)) (step : State) : Type 0 where
+  pub sound : list.IsSound step
+  pub open_ : IsSome (list.asks step)
+  pub same : length (list.kept step) ≡ length lines
+
+abbrev pub IsSound : LineState → Type 0
+IsSound (Whole start) = Unit {0}
+IsSound (Round lines step used rounds) = IsRound lines step
+IsSound (Ended result) = Unit {0}
+
+-- at most so many answers for rounds that begin with at most so many lines
+abbrev pub left_of_rounds : ℕ → ℕ
+left_of_rounds zero = 0
+left_of_rounds (suc less) = 1 + list.left (list.start (suc less) true) + left_of_rounds less
+
+-- at most so many answers until the end
+abbrev pub left : LineState → ℕ
+left (Whole start) = 1 + left_of_rounds (length (lines_of start))
+left (Round lines step used rounds) = list.left step + left_of_rounds (length lines - 1)
+left (Ended result) = 0
+
+-- what the reducer does from a state on
+abbrev pub plan_of : LineState → Plan
+plan_of state = plan_from asks after gives left state
+
+-- what a reduction still asks from a state, and what it ends with
+pub record Rest : Type 0 where
+  pub questions : List (List ℕ)
+  pub result : Reduced
+
+-- a reduction that goes on after so many tests and rounds
+abbrev pub counted_from : ℕ → ℕ → Reduction → Rest
+counted_from used rounds r = record {
+  questions = r.questions;
+  result = reduced r.lines (counted (used + length r.questions)) (counted (rounds + r.rounds)) r.refused;
+}

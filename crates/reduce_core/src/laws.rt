@@ -1,0 +1,25 @@
+//! What holds of the reducer of lines, for the proofs of callers.
+
+ghost use Rattle.reduce_core.specs.Laws.{AsksCandidates, EndsMinimal, FollowsReduction, RefusesAtNo};
+
+/// Followed over a map of verdicts, the reducer ends exactly where the map has a verdict for each
+/// text that the recursive reduction asks, and then with the reduction's result and counts.
+pub fn follows_reduction()
+    ensures { FollowsReduction }
+{}
+
+/// The start is refused exactly where its verdict is no.
+pub fn refuses_at_no()
+    ensures { RefusesAtNo }
+{}
+
+/// A reduction that was not refused ends at a yes, and without any one of its lines the verdict
+/// is no.
+pub fn ends_minimal()
+    ensures { EndsMinimal }
+{}
+
+/// All that the reducer may ask is some of the start's lines, one after another in their order.
+pub fn asks_candidates()
+    ensures { AsksCandidates }
+{}

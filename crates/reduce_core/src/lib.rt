@@ -1,0 +1,15 @@
+//! The reducers. A reducer is asked for texts and answered with verdicts until it asks nothing more.
+//!
+//! [`LineReducer`] is that of mode `lines`. What it does is defined as a recursion over a map of
+//! verdicts (`specs/Reduction.antt`); as code it is a machine that is asked and answered from
+//! outside (`specs/LineMachine.antt`). The laws tie the two together: each is a function that does
+//! nothing, which a caller calls so that its proof has the law.
+#![tactic(auto)]
+
+mod laws;
+mod line_reducer;
+mod lines;
+
+pub use laws::{asks_candidates, ends_minimal, follows_reduction, refuses_at_no};
+pub use line_reducer::LineReducer;
+pub use lines::Lines;
