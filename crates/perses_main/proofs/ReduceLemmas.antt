@@ -1,0 +1,157 @@
+-- What a run that came to the reducer's end says of the reduction over its records.
+use Rattle.std.proofs.Common.{◌≡◌, ◌≢◌, ℕ, List, [], ◌∷◌, Option, Some, None, IsSome, All, Bool, true, false, refl, sym, ap, ◌∙◌, subst, ◌⊎◌, inl, inr, ⊎_elim, cond, Err}
+use Rattle.std.specs.Prelude.{Result, Ok, IfErr, IfOk, IsErrOf, OnErr, OnOk}
+use Rattle.std.proofs.lemmas.Bool.{false≢true}
+use Rattle.std.proofs.lemmas.Cmp.{nat_list_eq_equiv}
+use Rattle.std.proofs.lemmas.List.Elements.{All-weaker}
+use Rattle.std.specs.List.{concat}
+use Rattle.std.specs.Str.{bytes_eq}
+use Rattle.script_gate.specs.declared.gate.Verdict.{Verdict}
+use Rattle.script_gate.specs.declared.gate.Verdict.TheVariants.{Yes, No}
+use Rattle.verdict_table.specs.declared.record.Record.{Record}
+use Rattle.verdict_table.specs.Plan.{Plan, Reduced, End, HasEnded, MayAsk, asked, follow}
+use Rattle.verdict_table.specs.Tabled.{verdict_in}
+use Rattle.reduce_core.specs.Laws.{FollowsReduction, RefusesAtNo, EndsMinimal, AsksCandidates, result_of}
+use Rattle.reduce_core.specs.LineRun.{LineRun}
+use Rattle.reduce_core.specs.LineMachine.{LineState, Whole, gives, plan_of}
+use Rattle.reduce_core.specs.Minimal.{HasVerdicts, IsCandidate}
+use Rattle.reduce_core.specs.Reduction.{Reduction, reduction, says_yes}
+use Rattle.reduce_core.proofs.LineMachineLemmas.{asked-plan}
+use Rattle.perses_main.specs.declared.run.RunFault.{RunFault}
+use Rattle.perses_main.specs.declared.run.RunFault.TheVariants.{Script, Memory as OutOfMemory}
+use Rattle.perses_main.specs.declared.status.Refusal.{Refusal}
+use Rattle.perses_main.specs.declared.status.Refusal.TheVariants.{Memory, NotInteresting}
+use Rattle.perses_main.specs.Run.{BeginsWith}
+use Rattle.perses_main.specs.Status.{refusal_of}
+use Rattle.perses_main.specs.Top.{AreOf, BeginsAt, FirstIs, FirstIsNo, IsReductionOf}
+
+begins_at : (start : List ℕ) (records : List Record) → BeginsWith (plan_of (Whole start)) records → BeginsAt start records
+begins_at start [] begun = tt
+begins_at start (r ∷ records) begun =
+    let same : Some start ≡ Some r.text = sym (asked-plan (Whole start) tt) ∙ begun in
+    (cc)
+
+-- what may be asked of a start is some of its lines
+pub are-of : AsksCandidates → (start : List ℕ) (records : List Record) → All (λ r. MayAsk (plan_of (Whole start)) r.text) records → BeginsWith (plan_of (Whole start)) records → AreOf start records
+are-of law start records may begun = record {
+  candidates = All-weaker (λ (r : Record). MayAsk (plan_of (Whole start)) r.text) (λ (r : Record). IsCandidate start r.text) (λ r. law start r.text) records may;
+  first = begins_at start records begun;
+}
+
+first_known : (start : List ℕ) (r : Record) (records : List Record) → r.text ≡ start → verdict_in (r ∷ records) start ≡ Some r.verdict
+first_known start r records same = rw (same, nat_list_eq_equiv.refl start) refl
+
+-- the start's verdict is that of the first record
+start_is : (start : List ℕ) (records : List Record) (verdict : Verdict) → BeginsAt start records → verdict_in records start ≡ Some verdict → FirstIs start verdict records
+start_is start [] verdict begins is = absurd (cc is)
+start_is start (r ∷ records) verdict begins is =
+    let both : Some r.verdict ≡ Some verdict = sym (first_known start r records begins) ∙ is in
+    (begins, cc)
+
+first_no_is : (start : List ℕ) (records : List Record) → BeginsAt start records → FirstIsNo records → verdict_in records start ≡ Some No
+first_no_is start [] begins no_first = absurd no_first
+first_no_is start (r ∷ records) begins no_first = first_known start r records begins ∙ ap (λ verdict. Some verdict) no_first
+
+no_is_first : (start : List ℕ) (records : List Record) → FirstIs start No records → FirstIsNo records
+no_is_first start [] first = absurd first
+no_is_first start (r ∷ records) first = first.1
+
+-- the start is asked first
+start_known : (V : List ℕ → Option Verdict) (start : List ℕ) → HasVerdicts V (reduction (says_yes V) start).questions → IsSome (V start)
+unfolding reduction
+start_known V start has = has.0
+
+by_verdict : (o : Option Verdict) → IsSome o → (o ≡ Some Yes) ⊎ (o ≡ Some No)
+by_verdict None some = absurd (false≢true some)
+by_verdict (Some Yes) some = inl refl
+by_verdict (Some No) some = inr refl
+
+-- a run that came to the reducer's end, which is in this state
+pub record CameToEnd (start : List ℕ) (records : List Record) (state : LineState) : Type 0 where
+  pub followed : plan_of state ≡ follow (verdict_in records) (plan_of (Whole start))
+  pub ended : HasEnded (plan_of state)
+  pub found : plan_of state ≡ End (gives state)
+  pub begun : BeginsWith (plan_of (Whole start)) records
+
+module _ (follows : FollowsReduction) (refuses : RefusesAtNo) (minimal : EndsMinimal) (start : List ℕ) (records : List Record) (state : LineState) (run : CameToEnd start records state) where
+  abbrev V : List ℕ → Option Verdict
+  V = verdict_in records
+
+  abbrev r : Reduction
+  r = reduction (says_yes V) start
+
+  has : HasVerdicts V r.questions
+  has = (follows V start).defined (subst HasEnded run.followed run.ended)
+
+  found_is : gives state ≡ result_of r
+  found_is =
+      let same : End (gives state) ≡ End (result_of r) = sym run.found ∙ run.followed ∙ (follows V start).ends has in
+      (cc)
+
+  pub is-reduction : (gives state).refused ≡ false → IsReductionOf V start (gives state).text
+  is-reduction stays =
+      let interesting : r.refused ≡ false = ap (λ (x : Reduced). x.refused) (sym found_is) ∙ stays in
+      let well = minimal V start interesting has in
+      let text : (gives state).text ≡ concat r.lines = ap (λ (x : Reduced). x.text) found_is in
+      record {
+        defined = has;
+        interesting = interesting;
+        is_text = text;
+        yes_at_end = ap V text ∙ well.yes_at_end;
+        minimal = well.minimal;
+      }
+
+  pub first-yes : (gives state).refused ≡ false → FirstIs start Yes records
+  first-yes stays =
+      ⊎_elim (λ yes_there. start_is start records Yes (begins_at start records run.begun) yes_there)
+      (λ no_there. absurd (false≢true (sym stays ∙ ap (λ (x : Reduced). x.refused) found_is ∙ ((refuses V start).1 no_there).1)))
+      (by_verdict (V start) (start_known V start has))
+
+  pub first-no : (gives state).refused ≡ true → FirstIsNo records
+  first-no refused =
+      ⊎_elim (λ yes_there. absurd (false≢true (sym ((refuses V start).0 yes_there) ∙ ap (λ (x : Reduced). x.refused) (sym found_is) ∙ refused)))
+      (λ no_there. no_is_first start records (start_is start records No (begins_at start records run.begun) no_there))
+      (by_verdict (V start) (start_known V start has))
+
+  pub no-first : FirstIsNo records → (gives state).refused ≡ true
+  no-first no_first =
+      let no_there = first_no_is start records (begins_at start records run.begun) no_first in
+      ap (λ (x : Reduced). x.refused) found_is ∙ ((refuses V start).1 no_there).1
+
+-- a run that waits for a verdict doesn't begin with a no
+pub not-waiting : RefusesAtNo → (start : List ℕ) (records : List Record) → BeginsWith (plan_of (Whole start)) records → FirstIsNo records
+    → asked (follow (verdict_in records) (plan_of (Whole start))) ≢ None → ⊥
+not-waiting refuses start records begun no_first waits =
+    waits ((refuses (verdict_in records) start).1 (first_no_is start records (begins_at start records begun) no_first)).0
+
+-- a fault that isn't the gate's is want of memory
+pub memory-else : {T : Type 0} (fault : RunFault) (refusal : Refusal) → refusal ≡ refusal_of fault → (fault ≡ Script → ⊥)
+    → IsErrOf {T = T} (Err refusal) NotInteresting ⊎ IsErrOf {T = T} (Err refusal) Memory
+memory-else Script refusal is never = absurd (never refl)
+memory-else OutOfMemory refusal is never = inr (ap (λ e. Err e) is)
+
+-- the same run by other names
+pub came-to-end : (start start' : List ℕ) (records records' : List Record) (state : LineState) → start' ≡ start → records ≡ records'
+    → plan_of state ≡ follow (verdict_in records') (plan_of (Whole start')) → HasEnded (plan_of state) → plan_of state ≡ End (gives state) → BeginsWith (plan_of (Whole start')) records'
+    → CameToEnd start records state
+came-to-end start start' records records' state same recorded followed ended found begun =
+    subst (λ s. CameToEnd s records state) same
+    (subst (λ rs. CameToEnd start' rs state) (sym recorded) (record { followed = followed; ended = ended; found = found; begun = begun }))
+
+pub on-ok : {T E : Type 0} (o : Result T E) {P Q : Type 0} → OnOk o P → (P → Q) → OnOk o Q
+on-ok (Ok x) holds next = next holds
+on-ok (Err e) holds next = tt
+
+-- what holds of the reducer holds of the one that was accepted
+pub if-ok : {E : Type 0} (o : Result LineRun E) (run : LineRun) {P : Type 0} (Q : LineRun → Type 0) → IfOk o (λ ended. ended ≡ run) → OnOk o P → (P → Q run) → IfOk o Q
+if-ok (Ok ended) run Q same holds next = subst Q (sym same) (next holds)
+if-ok (Err e) run Q same holds next = tt
+
+pub if-not-interesting : {T : Type 0} (o : Result T Refusal) {P Q : Type 0} → OnErr o P → (P → Q) → IsErrOf o NotInteresting → Q
+if-not-interesting (Ok x) holds next is = absurd (cc is)
+if-not-interesting (Err e) holds next is = next holds
+
+-- an accepted reducer's start is interesting, and one that was not has this cause
+pub refused-then : {T : Type 0} (o : Result T Refusal) {P Q : Type 0} → OnOk o P → (P → ⊥) → IfErr o (λ refusal. refusal ≡ NotInteresting) → IsErrOf o NotInteresting ⊎ Q
+refused-then (Ok x) holds never cause = absurd (never holds)
+refused-then (Err e) holds never cause = inl (ap (λ r. Err r) cause)

@@ -1,0 +1,45 @@
+//! Perses reduces an input that makes something fail to the few lines that matter.
+//!
+//! `perses reduce --mode lines --input F --output F --script F` asks the script for one candidate
+//! after another and writes the lines that are left. The work is done by [`call::perses`], whose
+//! contract is the program's; here it gets the machine's files, processes and standard output.
+#![tactic(auto)]
+
+mod call;
+mod reduce;
+mod run;
+mod status;
+mod words;
+
+use call::perses;
+use edge_io::{DiskFiles, StreamSink};
+use script_gate::ProcessGate;
+use std::io::ErrorKind;
+use std::process::ExitCode;
+use std::rt::Env;
+use std::{env, io};
+
+/// The words of the command line. Words that are no text are no command line, as no words are.
+fn words_of<R: Env + AllocGlobal>(rt: &R) -> io::Result<Vec<String>> {
+    match env::args(rt) {
+        Ok(words) => Ok(words.collect(rt.alloc())?),
+        Err(error) if error.kind() == ErrorKind::OutOfMemory => Err(error),
+        Err(_) => Ok(Vec::new(rt.alloc())),
+    }
+}
+
+/// Runs the program over the machine's files, processes and standard output.
+fn run_program(rt: &HostRuntime) -> io::Result<u8> {
+    let words = words_of(rt)?;
+    let mut files = DiskFiles::new(rt.clone()?, rt.alloc());
+    let mut gate = ProcessGate::new(rt.clone()?, rt.alloc());
+    let mut out = StreamSink::output(rt.clone()?);
+    let ended = perses(rt.alloc(), &words, &mut files, &mut gate, &mut out);
+    Ok(ended.status)
+}
+
+/// Ends with the status of the call. Without memory to begin with it prints nothing and ends with
+/// status 1.
+fn main(rt: HostRuntime) -> ExitCode {
+    ExitCode::from(run_program(&rt).unwrap_or(1))
+}
