@@ -48,8 +48,10 @@ fn read_start<R: std::rt::Files>(
     Ok(bytes)
 }
 
-fn is_memory(error: &io::Error) -> bool {
-    error.kind() == ErrorKind::OutOfMemory
+/// Whether the program itself had no memory. An error of the machine has a number, and is a failure
+/// also where it speaks of memory.
+pub(crate) fn is_memory(error: &io::Error) -> bool {
+    error.kind() == ErrorKind::OutOfMemory && error.raw_os_error().is_none()
 }
 
 impl<R: std::rt::Files> Files for DiskFiles<R> {

@@ -1,6 +1,7 @@
 ghost use Rattle.std.specs.Prelude.{◌≡◌, ◌≤◌, IsErr, IsErrOf};
 ghost use Rattle.edge_io.specs.Calls.{CountsFault};
 
+use crate::disk_files::is_memory;
 use crate::sink::{OpenFault, Sink, SinkFault};
 use std::io::{ErrorKind, Write};
 use std::marker::Model;
@@ -82,7 +83,7 @@ impl<R: std::rt::Files + Print> Sink for StreamSink<R> {
                 self.target = Target::File(file);
                 Ok(())
             }
-            Err(error) if error.kind() == ErrorKind::OutOfMemory => Err(OpenFault::Memory),
+            Err(error) if is_memory(&error) => Err(OpenFault::Memory),
             Err(_) => {
                 self.faults = self.faults.saturating_add(1);
                 Err(OpenFault::Failed)

@@ -28,12 +28,14 @@ impl Bytes {
         })
     }
 
+    /// These bytes, without a copy.
     pub fn from_vec(items: Vec<u8>) -> Bytes
         ensures { result ≡ items.items }
     {
         Bytes { items }
     }
 
+    /// The bytes.
     pub fn as_slice(&self) -> &[u8]
         ensures { result.now ≡ self.now }
     {
@@ -47,6 +49,7 @@ impl Bytes {
         self.items.len()
     }
 
+    /// Whether there is none.
     pub fn is_empty(&self) -> bool
         ensures { result ≡ (length self.now == 0) }
     {
@@ -69,6 +72,7 @@ impl Model for TextList {
 }
 
 impl TextList {
+    /// No text; it takes no memory.
     pub fn new(alloc: Global) -> TextList
         ensures { result ≡ [] }
     {
@@ -86,6 +90,7 @@ impl TextList {
         Ok(())
     }
 
+    /// The texts in their order.
     pub fn as_slice(&self) -> &[Bytes]
         ensures { result.now ≡ self.now }
     {
@@ -99,6 +104,7 @@ impl TextList {
         self.texts.len()
     }
 
+    /// Whether there is none.
     pub fn is_empty(&self) -> bool
         ensures { result ≡ (length self.now == 0) }
     {

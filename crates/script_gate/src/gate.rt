@@ -8,7 +8,9 @@ use thiserror::Error;
 /// What a gate says of a text: yes where it is interesting.
 #[derive(Clone, Copy, Debug, PartialEq, Eq)]
 pub enum Verdict {
+    /// The text is interesting: it still shows what is looked for.
     Yes,
+    /// It isn't.
     No,
 }
 
@@ -18,6 +20,7 @@ pub enum GateFault {
     /// The gate itself failed, and counted it.
     #[error("the gate failed")]
     Failed,
+    /// Memory ran out; nothing is counted.
     #[error("out of memory")]
     Memory,
 }

@@ -11,7 +11,9 @@ use std::marker::Model;
 /// One answer of a `ListGate`.
 #[derive(Clone, Copy, Debug, PartialEq, Eq)]
 pub enum Said {
+    /// The verdict yes.
     Yes,
+    /// The verdict no.
     No,
     /// The call fails.
     Fail,
@@ -44,6 +46,7 @@ impl Model for ListGate {
 }
 
 impl ListGate {
+    /// It gives these answers in their order, and `later` to each ask after them.
     pub fn new(alloc: Global, answers: Vec<Said>, later: Said) -> ListGate
         ensures { result ≡ record { answers = answers.items; later = later; faults = 0; told = nothing_told } }
     {

@@ -20,7 +20,9 @@ pub struct Opening {
 /// What a gate was asked, in order, and what it was last opened with.
 #[derive(Drop)]
 pub struct Told {
+    /// The texts that it gave a verdict on.
     pub asked: TextList,
+    /// The last opening; none before the first.
     pub opening: Option<Opening>,
 }
 

@@ -8,7 +8,9 @@ use std::marker::Model;
 /// A text and its verdict.
 #[derive(Drop)]
 pub struct Record {
+    /// The bytes that were asked about.
     pub text: Bytes,
+    /// What the gate said of them.
     pub verdict: Verdict,
 }
 
@@ -28,6 +30,7 @@ impl Model for Records {
 }
 
 impl Records {
+    /// No record; it takes no memory.
     pub fn new(alloc: Global) -> Records
         ensures { result ≡ [] }
     {
@@ -36,6 +39,7 @@ impl Records {
         }
     }
 
+    /// These records, without a copy.
     pub fn from_vec(records: Vec<Record>) -> Records
         ensures { result ≡ records.items }
     {
@@ -51,6 +55,7 @@ impl Records {
         Ok(())
     }
 
+    /// The records in their order.
     pub fn as_slice(&self) -> &[Record]
         ensures { result.now ≡ self.now }
     {
@@ -64,6 +69,7 @@ impl Records {
         self.records.len()
     }
 
+    /// Whether there is none.
     pub fn is_empty(&self) -> bool
         ensures { result ≡ (length self.now == 0) }
     {

@@ -14,7 +14,9 @@ use std::marker::Model;
 /// An open claim: a text whose verdict is still to come, under a number of its own.
 #[derive(Drop)]
 pub struct Claim {
+    /// The count of the claims that were made before it.
     pub number: u64,
+    /// The text whose verdict is to come.
     pub text: Bytes,
 }
 
@@ -102,6 +104,7 @@ fn take_claim(claims: &mut Vec<Claim>, number: u64) -> Claim
 impl Table {
     ghost use Rattle.verdict_table.specs.declared.found.Found.TheVariants.{Absent};
 
+    /// An empty table; it takes no memory.
     pub fn new(alloc: Global) -> Table
         ensures { result ≡ record { claims = []; records = []; filled = [] } }
     {
