@@ -9,21 +9,21 @@ use Rattle.std.specs.Str.{bytes_eq}
 use Rattle.script_gate.specs.declared.gate.Verdict.{Verdict}
 use Rattle.script_gate.specs.declared.gate.Verdict.TheVariants.{Yes, No}
 use Rattle.verdict_table.specs.declared.record.Record.{Record}
-use Rattle.verdict_table.specs.Plan.{Plan, Reduced, End, HasEnded, MayAsk, asked, follow}
+use Rattle.verdict_table.specs.Plan.{Plan, Reduced, End, HasEnded, MayAsk, after, asked, follow}
 use Rattle.verdict_table.specs.Tabled.{verdict_in}
 use Rattle.reduce_core.specs.Laws.{FollowsReduction, RefusesAtNo, EndsMinimal, AsksCandidates, result_of}
 use Rattle.reduce_core.specs.LineRun.{LineRun}
-use Rattle.reduce_core.specs.LineMachine.{LineState, Whole, gives, plan_of}
+use Rattle.reduce_core.specs.LineMachine.{LineState, Whole, gives, plan_of, after as line_after}
 use Rattle.reduce_core.specs.Minimal.{HasVerdicts, IsCandidate}
 use Rattle.reduce_core.specs.Reduction.{Reduction, reduction, says_yes}
-use Rattle.reduce_core.proofs.LineMachineLemmas.{asked-plan}
+use Rattle.reduce_core.proofs.LineMachineLemmas.{after-plan, asked-plan, plan-end}
 use Rattle.perses_main.specs.declared.run.RunFault.{RunFault}
 use Rattle.perses_main.specs.declared.run.RunFault.TheVariants.{Script, Memory as OutOfMemory}
 use Rattle.perses_main.specs.declared.status.Refusal.{Refusal}
 use Rattle.perses_main.specs.declared.status.Refusal.TheVariants.{Memory, NotInteresting}
-use Rattle.perses_main.specs.Run.{BeginsWith}
+use Rattle.perses_main.specs.Run.{BeginsWith, EndsAtFirst}
 use Rattle.perses_main.specs.Status.{refusal_of}
-use Rattle.perses_main.specs.Top.{AreOf, BeginsAt, FirstIs, FirstIsNo, IsReductionOf}
+use Rattle.perses_main.specs.Top.{AreOf, BeginsAt, FirstIs, FirstIsNo, IsReductionOf, OnlyNo}
 
 begins_at : (start : List ℕ) (records : List Record) → BeginsWith (plan_of (Whole start)) records → BeginsAt start records
 begins_at start [] begun = tt
@@ -72,6 +72,15 @@ pub record CameToEnd (start : List ℕ) (records : List Record) (state : LineSta
   pub ended : HasEnded (plan_of state)
   pub found : plan_of state ≡ End (gives state)
   pub begun : BeginsWith (plan_of (Whole start)) records
+  pub one : EndsAtFirst (plan_of (Whole start)) records
+
+-- a start that is refused ends the run at once
+refused_ends : (start : List ℕ) → HasEnded (after (plan_of (Whole start)) No)
+refused_ends start = ap asked (after-plan (Whole start) start No tt refl) ∙ ap asked (plan-end (line_after (Whole start) No) refl)
+
+only_no : (start : List ℕ) (records : List Record) → EndsAtFirst (plan_of (Whole start)) records → FirstIsNo records → OnlyNo records
+only_no start [] one no_first = absurd no_first
+only_no start (r ∷ records) one no_first = (no_first, one (subst (λ verdict. HasEnded (after (plan_of (Whole start)) verdict)) (sym no_first) (refused_ends start)))
 
 module _ (follows : FollowsReduction) (refuses : RefusesAtNo) (minimal : EndsMinimal) (start : List ℕ) (records : List Record) (state : LineState) (run : CameToEnd start records state) where
   abbrev V : List ℕ → Option Verdict
@@ -107,11 +116,14 @@ module _ (follows : FollowsReduction) (refuses : RefusesAtNo) (minimal : EndsMin
       (λ no_there. absurd (false≢true (sym stays ∙ ap (λ (x : Reduced). x.refused) found_is ∙ ((refuses V start).1 no_there).1)))
       (by_verdict (V start) (start_known V start has))
 
-  pub first-no : (gives state).refused ≡ true → FirstIsNo records
+  first-no : (gives state).refused ≡ true → FirstIsNo records
   first-no refused =
       ⊎_elim (λ yes_there. absurd (false≢true (sym ((refuses V start).0 yes_there) ∙ ap (λ (x : Reduced). x.refused) (sym found_is) ∙ refused)))
       (λ no_there. no_is_first start records (start_is start records No (begins_at start records run.begun) no_there))
       (by_verdict (V start) (start_known V start has))
+
+  pub only-no : (gives state).refused ≡ true → OnlyNo records
+  only-no refused = only_no start records run.one (first-no refused)
 
   pub no-first : FirstIsNo records → (gives state).refused ≡ true
   no-first no_first =
@@ -132,11 +144,11 @@ memory-else OutOfMemory refusal is never = inr (ap (λ e. Err e) is)
 
 -- the same run by other names
 pub came-to-end : (start start' : List ℕ) (records records' : List Record) (state : LineState) → start' ≡ start → records ≡ records'
-    → plan_of state ≡ follow (verdict_in records') (plan_of (Whole start')) → HasEnded (plan_of state) → plan_of state ≡ End (gives state) → BeginsWith (plan_of (Whole start')) records'
+    → plan_of state ≡ follow (verdict_in records') (plan_of (Whole start')) → HasEnded (plan_of state) → plan_of state ≡ End (gives state) → BeginsWith (plan_of (Whole start')) records' → EndsAtFirst (plan_of (Whole start')) records'
     → CameToEnd start records state
-came-to-end start start' records records' state same recorded followed ended found begun =
+came-to-end start start' records records' state same recorded followed ended found begun one =
     subst (λ s. CameToEnd s records state) same
-    (subst (λ rs. CameToEnd start' rs state) (sym recorded) (record { followed = followed; ended = ended; found = found; begun = begun }))
+    (subst (λ rs. CameToEnd start' rs state) (sym recorded) (record { followed = followed; ended = ended; found = found; begun = begun; one = one }))
 
 pub on-ok : {T E : Type 0} (o : Result T E) {P Q : Type 0} → OnOk o P → (P → Q) → OnOk o Q
 on-ok (Ok x) holds next = next holds

@@ -14,7 +14,7 @@ use Rattle.verdict_table.specs.Plan.{Plan, MayAsk, HasEnded, asked, after, follo
 use Rattle.verdict_table.specs.Tabled.{Tabled, Extends, texts_of, verdict_in}
 use Rattle.verdict_table.proofs.PlanLemmas.{asked_may, after_may, follow_after, follow_ended}
 use Rattle.verdict_table.proofs.RecordLemmas.{extends_front, extends_back, extends_known, extends_itself, not_among, stays}
-use Rattle.perses_main.specs.Run.{with_all_asked, Learns, Knew, Asks, BeginsWith}
+use Rattle.perses_main.specs.Run.{with_all_asked, Learns, Knew, Asks, BeginsWith, EndsAtFirst}
 
 -- nothing was asked yet, or the first text was
 abbrev pub Begun : Plan → Plan → List Record → Type 0
@@ -33,6 +33,26 @@ pub begins : (first plan : Plan) (records : List Record) → Begun first plan re
 begins first plan [] begun = tt
 begins first plan (r ∷ records) begun = begun
 
+-- where the first answer ends the plan, it is the only one
+abbrev pub OneAtEnd : Plan → Plan → List Record → Type 0
+OneAtEnd first plan [] = Unit {0}
+OneAtEnd first plan (r ∷ records) = HasEnded (after first r.verdict) → (records ≡ []) × HasEnded plan
+
+one_known : (first plan plan' : Plan) (records : List Record) (text : List ℕ) → OneAtEnd first plan records → asked plan ≡ Some text → OneAtEnd first plan' records
+one_known first plan plan' [] text one is = tt
+one_known first plan plan' (r ∷ records) text one is = λ ended. absurd (cc (sym is ∙ (one ended).1))
+
+one_first : (first plan : Plan) (records : List Record) (r : Record) → Begun first plan records → OneAtEnd first plan records → asked plan ≡ Some r.text → OneAtEnd first (after plan r.verdict) (records ++ r ∷ [])
+one_first first plan [] r begun one is = λ ended. (refl, rw begun ended)
+one_first first plan (q ∷ records) r begun one is = λ ended. absurd (cc (sym is ∙ (one ended).1))
+
+pub one_at_end : (first plan : Plan) (records : List Record) → OneAtEnd first plan records → EndsAtFirst first records
+one_at_end first plan [] one = tt
+one_at_end first plan (r ∷ records) one = λ ended. (one ended).0
+
+none_one : (first plan : Plan) (records : List Record) → records ≡ [] → OneAtEnd first plan records
+none_one first plan records none = rw none tt
+
 none_begun : (first plan : Plan) (records : List Record) → first ≡ plan → records ≡ [] → Begun first plan records
 none_begun first plan records same none = rw none (sym same)
 
@@ -46,6 +66,7 @@ pub record IsUnderWay {Gate : Type 0} (may_say : List ℕ → Verdict → Type 0
   pub count : faults gate ≤ faults gate'
   pub left : (text : List ℕ) → MayAsk plan text → MayAsk first text
   pub begun : Begun first plan table.records
+  pub one : OneAtEnd first plan table.records
   pub followed : (V : List ℕ → Option Verdict) → Extends V table.records → follow V first ≡ follow V plan
 
 one_more : (o : Option Told) (texts : List (List ℕ)) (text : List ℕ) → option_map (with_asked text) (option_map (with_all_asked texts) o) ≡ option_map (with_all_asked (texts ++ text ∷ [])) o
@@ -73,6 +94,7 @@ learned may_say told faults gate gate' gate'' first plan table table' text verdi
   count = omega (arith, way.count, count);
   left = λ t may. way.left t (after_may plan verdict text t is may);
   begun = rw knew.same (begun_known first plan (after plan verdict) table.records text verdict way.begun knew.known);
+  one = rw knew.same (one_known first plan (after plan verdict) table.records text way.one is);
   followed = λ V extends. let before : Extends V table.records = rw (← knew.same) extends in
       way.followed V before ∙ follow_after V plan verdict text is (extends_known V table.records text verdict before knew.known);
 }
@@ -88,6 +110,7 @@ learned may_say told faults gate gate' gate'' first plan table table' text verdi
       count = omega (arith, way.count, count);
       left = λ t may. way.left t (after_may plan verdict text t is may);
       begun = rw new.recorded (begun_more first plan (after plan verdict) table.records r way.begun is);
+      one = rw new.recorded (one_first first plan table.records r way.begun way.one is);
       followed = λ V extends. let all : Extends V (table.records ++ r ∷ []) = rw (← new.recorded) extends in
           way.followed V (extends_front V table.records (r ∷ []) all) ∙ follow_after V plan verdict text is (extends_back V table.records (r ∷ []) all).0;
     }
@@ -113,6 +136,7 @@ starts may_say told faults gate first plan table same empty settled = rw same (r
   count = omega arith;
   left = λ text may. may;
   begun = none_begun plan plan table.records refl empty;
+  one = none_one plan plan table.records empty;
   followed = λ V extends. refl;
 })
 

@@ -6,7 +6,7 @@ use Rattle.script_gate.specs.declared.gate.GateFault.TheVariants.{Failed, Memory
 use Rattle.script_gate.specs.declared.told.Told.{Told}
 use Rattle.script_gate.specs.Told.{with_asked}
 use Rattle.verdict_table.specs.declared.record.Record.{Record}
-use Rattle.verdict_table.specs.Plan.{Plan, asked}
+use Rattle.verdict_table.specs.Plan.{Plan, HasEnded, after, asked}
 use Rattle.verdict_table.specs.Tabled.{Tabled, verdict_in}
 use Rattle.perses_main.specs.declared.run.RunFault.{RunFault}
 use Rattle.perses_main.specs.declared.run.RunFault.TheVariants.{Script, Memory as OutOfMemory}
@@ -40,3 +40,8 @@ Learns may_say told gate gate' table table' text verdict =
 abbrev pub BeginsWith : Plan → List Record → Type 0
 BeginsWith first [] = Unit {0}
 BeginsWith first (r ∷ records) = asked first ≡ Some r.text
+
+-- a first answer that ends the plan is the only record
+abbrev pub EndsAtFirst : Plan → List Record → Type 0
+EndsAtFirst first [] = Unit {0}
+EndsAtFirst first (r ∷ records) = HasEnded (after first r.verdict) → records ≡ []

@@ -1,5 +1,5 @@
 -- What the top call has done, by its status and its records.
-use Rattle.std.specs.Prelude.{◌≡◌, ◌≤◌, ℕ, List, [], ◌∷◌, ◌++◌, length, false, Option, Some, None, IfSome, IsSomeAnd, All, codes}
+use Rattle.std.specs.Prelude.{◌≡◌, ◌<◌, ◌≤◌, ◌⊎◌, ℕ, List, [], ◌∷◌, ◌++◌, length, false, Option, Some, None, IfSome, IsSomeAnd, All, codes}
 use Rattle.std.specs.List.{concat}
 use Rattle.script_gate.specs.declared.gate.Verdict.{Verdict}
 use Rattle.script_gate.specs.declared.gate.Verdict.TheVariants.{Yes, No}
@@ -16,6 +16,11 @@ use Rattle.perses_main.specs.Words.{Names, name_of}
 abbrev pub FirstIs : List ℕ → Verdict → List Record → Type 0
 FirstIs text verdict [] = ⊥
 FirstIs text verdict (r ∷ records) = (r.text ≡ text) × (r.verdict ≡ verdict)
+
+-- the only record's verdict is no
+abbrev pub OnlyNo : List Record → Type 0
+OnlyNo [] = ⊥
+OnlyNo (r ∷ records) = (r.verdict ≡ No) × (records ≡ [])
 
 -- the first record's verdict is no
 abbrev pub FirstIsNo : List Record → Type 0
@@ -35,13 +40,22 @@ pub record IsReductionOf (V : List ℕ → Option Verdict) (start text : List �
   pub yes_at_end : V text ≡ Some Yes
   pub minimal : IsMinimal V (reduction (says_yes V) start).lines
 
--- The output file holds what the input is reduced to over the verdicts of the records, of which the first is the input's yes. Where the files don't tell what they hold, start and result are what was read and written.
-pub record IsReduced (old new : List ℕ → Option File) (names : Names) (records : List Record) : Type 0 where
+-- The input, within its limit, reduces to the result over the verdicts of the records, of which the first is the input's yes. Where the files don't tell what they hold, the start is the text of the first record.
+pub record ReducesTo (old : List ℕ → Option File) (names : Names) (records : List Record) (result : List ℕ) : Type 0 where
   pub start : List ℕ
-  pub result : List ℕ
   pub read : Holds start (old names.input)
+  pub limit : length start ≤ 262144
   pub first : FirstIs start Yes records
   pub reduced : IsReductionOf (verdict_in records) start result
+
+-- the input reduces to some result
+abbrev pub IsReducible : (List ℕ → Option File) → Names → List Record → Type 0
+IsReducible old names records = (result : List ℕ) × ReducesTo old names records result
+
+-- the output file holds what the input reduces to
+pub record IsReduced (old new : List ℕ → Option File) (names : Names) (records : List Record) : Type 0 where
+  pub result : List ℕ
+  pub reduces : ReducesTo old names records result
   pub written : Holds result (new names.output)
 
 -- each text is some of the start's lines in their order, and the first is the start
@@ -49,10 +63,10 @@ pub record AreOf (start : List ℕ) (records : List Record) : Type 0 where
   pub candidates : All (λ r. IsCandidate start r.text) records
   pub first : BeginsAt start records
 
--- where there is a record, the texts are those of the input that was read
+-- where there is a record, the texts are those of the input that was read, which is within its limit
 abbrev pub AreCandidates : (List ℕ → Option File) → Names → List Record → Type 0
 AreCandidates old names [] = Unit {0}
-AreCandidates old names (r ∷ records) = (start : List ℕ) × Holds start (old names.input) × AreOf start (r ∷ records)
+AreCandidates old names (r ∷ records) = (start : List ℕ) × Holds start (old names.input) × (length start ≤ 262144) × AreOf start (r ∷ records)
 
 -- where the gate tells its asks, they grew by these texts
 abbrev pub AsksAre : Option Told → Option Told → List (List ℕ) → Type 0
@@ -71,3 +85,11 @@ OpenedAs opening told (r ∷ records) = IfSome told (λ t. t.opening ≡ Some op
 -- the file is told, is there, and has at most so many bytes
 abbrev pub IsWithin : ℕ → Option File → Type 0
 IsWithin limit told = IsSomeAnd told (λ file. IsSomeAnd file (λ bytes. length bytes ≤ limit))
+
+-- the file is told, is there, and has more bytes than this
+abbrev pub IsOver : ℕ → Option File → Type 0
+IsOver limit told = IsSomeAnd told (λ file. IsSomeAnd file (λ bytes. limit < length bytes))
+
+-- the run ended before the gate was reached: at the words, the input's reading or its limit
+abbrev pub IsEarly : ℕ → Type 0
+IsEarly status = (status ≡ 2) ⊎ ((status ≡ 3) ⊎ (status ≡ 10))

@@ -1,6 +1,6 @@
 //! The top call.
 
-ghost use Rattle.std.specs.Prelude.{◌≡◌, ◌≢◌, ◌↔◌, ◌⊎◌, ◌≤◌, All, IfErr, IfOk, IfSome, IsErrOf, None, OnErr, OnOk, codes, map, option_map, string_bytes, vec_len};
+ghost use Rattle.std.specs.Prelude.{◌≡◌, ◌≢◌, ◌↔◌, ◌⊎◌, ◌≤◌, [], All, IfErr, IfOk, IfSome, IsErrOf, None, OnErr, OnOk, codes, map, option_map, string_bytes, vec_len};
 ghost use Rattle.std.specs.List.{IsDistinct};
 ghost use Rattle.std.specs.Str.{bytes_eq};
 ghost use Rattle.faults.specs.Count.{Rose};
@@ -8,7 +8,7 @@ ghost use Rattle.edge_io.specs.Files.{Holds, IsLonger, SameFiles, SameOthers};
 ghost use Rattle.script_gate.specs.Told.{with_opening};
 ghost use Rattle.verdict_table.specs.Tabled.{texts_of};
 ghost use Rattle.perses_main.specs.Status.{IsGateRefusal, IsReadRefusal, IsStatus, TellsStatus, status_of};
-ghost use Rattle.perses_main.specs.Top.{AreCandidates, AsksAre, FirstIsNo, IsReduced, IsWithin, OpenedAs, opening_for};
+ghost use Rattle.perses_main.specs.Top.{AreCandidates, AsksAre, FirstIsNo, IsEarly, IsOver, IsReduced, IsReducible, IsWithin, OnlyNo, OpenedAs, opening_for};
 ghost use Rattle.perses_main.specs.Words.{line_of, name_of};
 
 use crate::reduce::{Reduced, reduce};
@@ -98,10 +98,13 @@ pub fn perses<F: Files, G: Gate, O: Sink>(
     ensures usage { (result.status ≡ 2) ↔ (line_of (map string_bytes words.now) ≡ None) }
     ensures read { result.status ≡ 3 → Rose (F.faults files.old) (F.faults files.new) }
     ensures write { result.status ≡ 4 → Rose (F.faults files.old) (F.faults files.new) }
-    ensures not_interesting { result.status ≡ 8 → FirstIsNo result.records }
+    ensures not_interesting { result.status ≡ 8 → OnlyNo result.records }
     ensures first_no { FirstIsNo result.records → (result.status ≡ 8) ⊎ (result.status ≡ 1) }
     ensures too_long { result.status ≡ 10 → IfSome (line_of (map string_bytes words.now))
         (λ names. IsLonger 262144 (F.file files.old names.input)) }
+    ensures over { IfSome (line_of (map string_bytes words.now)) (λ names.
+        IsOver 262144 (F.file files.old names.input)
+        → (result.status ≡ 10) ⊎ ((result.status ≡ 3) ⊎ (result.status ≡ 1))) }
     ensures script { result.status ≡ 11 → Rose (G.faults gate.old) (G.faults gate.new) }
     ensures known { IsStatus result.status }
     ensures complete { IfSome (line_of (map string_bytes words.now)) (λ names.
@@ -117,6 +120,13 @@ pub fn perses<F: Files, G: Gate, O: Sink>(
     ensures asked { AsksAre (G.told gate.old) (G.told gate.new) (texts_of result.records) }
     ensures opened { IfSome (line_of (map string_bytes words.now))
         (λ names. OpenedAs (opening_for names 1) (G.told gate.new) result.records) }
+
+    // What a run that ended early leaves, and a failed write.
+    ensures no_records { IsEarly result.status → result.records ≡ [] }
+    ensures unopened { IsEarly result.status → G.told gate.new ≡ G.told gate.old }
+    ensures unasked { IsEarly result.status → G.faults gate.new ≡ G.faults gate.old }
+    ensures tried { result.status ≡ 4 → IfSome (line_of (map string_bytes words.now))
+        (λ names. IsReducible (F.file files.old) names result.records) }
 
     // The files, and what is told.
     ensures done { result.status ≡ 0 → IfSome (line_of (map string_bytes words.now))

@@ -10,7 +10,7 @@ ghost use Rattle.verdict_table.specs.Tabled.{texts_of, verdict_in};
 ghost use Rattle.reduce_core.specs.LineMachine.{gives, plan_of};
 ghost use Rattle.perses_main.specs.Run.{with_all_asked};
 ghost use Rattle.perses_main.specs.Status.{IsRunRefusal};
-ghost use Rattle.perses_main.specs.Top.{AreOf, FirstIs, FirstIsNo, IsReductionOf};
+ghost use Rattle.perses_main.specs.Top.{AreOf, FirstIs, FirstIsNo, IsReductionOf, OnlyNo};
 
 use crate::run::run;
 use crate::status::Refusal;
@@ -45,7 +45,7 @@ pub fn reduce<G: Gate>(alloc: Global, start: Vec<u8>, gate: &mut G) -> Reduced
         IsReductionOf (verdict_in result.records) start.items (gives reducer.state).text) }
 
     // Why there is none.
-    ensures not_interesting { IsErrOf result.outcome Refusal.NotInteresting → FirstIsNo result.records }
+    ensures not_interesting { IsErrOf result.outcome Refusal.NotInteresting → OnlyNo result.records }
     ensures first_no { FirstIsNo result.records
         → IsErrOf result.outcome Refusal.NotInteresting ⊎ IsErrOf result.outcome Refusal.Memory }
     ensures failed { IsErrOf result.outcome Refusal.Script → Rose (G.faults gate.old) (G.faults gate.new) }

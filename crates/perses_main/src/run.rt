@@ -6,7 +6,7 @@ ghost use Rattle.std.specs.List.{IsDistinct};
 ghost use Rattle.faults.specs.Count.{Rose};
 ghost use Rattle.verdict_table.specs.Plan.{HasEnded, MayAsk, asked, follow};
 ghost use Rattle.verdict_table.specs.Tabled.{texts_of, verdict_in};
-ghost use Rattle.perses_main.specs.Run.{BeginsWith, Learns, with_all_asked};
+ghost use Rattle.perses_main.specs.Run.{BeginsWith, EndsAtFirst, Learns, with_all_asked};
 
 use faults::Memory;
 use script_gate::{Gate, GateFault, Verdict};
@@ -84,6 +84,7 @@ pub fn run<S: Step, G: Gate>(step: &mut S, gate: &mut G, table: &mut Table) -> R
     ensures may_ask { All (λ r. MayAsk (S.first step.old) r.text) table.new.records }
     ensures asked { G.told gate.new ≡ option_map (with_all_asked (texts_of table.new.records)) (G.told gate.old) }
     ensures begun { BeginsWith (S.first step.old) table.new.records }
+    ensures one { EndsAtFirst (S.first step.old) table.new.records }
 
     // The end.
     ensures followed { OnOk result (S.plan step.new ≡ follow (verdict_in table.new.records) (S.first step.old)) }

@@ -4,7 +4,7 @@ use Rattle.verdict_table.specs.Tabled.{verdict_in}
 use Rattle.reduce_core.specs.LineMachine.{gives}
 use Rattle.perses_main.specs.Top.{AreOf, FirstIsNo, IsReductionOf}
 use Rattle.perses_main.proofs.RunLemmas.{none_distinct}
-use Rattle.perses_main.proofs.ReduceLemmas.{CameToEnd, are-of, is-reduction, first-yes, first-no, came-to-end, if-not-interesting, if-ok, memory-else, no-first, not-waiting, on-ok, refused-then}
+use Rattle.perses_main.proofs.ReduceLemmas.{CameToEnd, are-of, is-reduction, first-yes, only-no, came-to-end, if-not-interesting, if-ok, memory-else, no-first, not-waiting, on-ok, refused-then}
 use Rattle.perses_main.proofs.reduce.reduce.Goals as goal
 
 pub returns-in_default-clause-distinct : goal.returns-in_default-clause-distinct
@@ -34,7 +34,7 @@ pub returns-clause-first : goal.returns-clause-first
 returns-clause-first g c =
     let came : CameToEnd c.args.start.items c.into_records-records.result c.run-ran.new.step.state =
     came-to-end c.args.start.items c.in-Ok.reducer.start c.into_records-records.result c.run-ran.new.table.records c.run-ran.new.step.state (ap (λ r. r.start) c.in-Ok.ensures)
-    c.into_records-records.ensures.records c.in_default-ran.ensures.followed c.in_default-ran.ensures.ended c.accepted.ensures.ended c.in_default-ran.ensures.begun in
+    c.into_records-records.ensures.records c.in_default-ran.ensures.followed c.in_default-ran.ensures.ended c.accepted.ensures.ended c.in_default-ran.ensures.begun c.in_default-ran.ensures.one in
     on-ok c.accepted.result c.accepted.ensures.interesting
     (first-yes c.follows_reduction.ensures c.refuses_at_no.ensures c.ends_minimal.ensures c.args.start.items c.into_records-records.result c.run-ran.new.step.state came)
 
@@ -42,7 +42,7 @@ pub returns-clause-reduced : goal.returns-clause-reduced
 returns-clause-reduced g c =
     let came : CameToEnd c.args.start.items c.into_records-records.result c.run-ran.new.step.state =
     came-to-end c.args.start.items c.in-Ok.reducer.start c.into_records-records.result c.run-ran.new.table.records c.run-ran.new.step.state (ap (λ r. r.start) c.in-Ok.ensures)
-    c.into_records-records.ensures.records c.in_default-ran.ensures.followed c.in_default-ran.ensures.ended c.accepted.ensures.ended c.in_default-ran.ensures.begun in
+    c.into_records-records.ensures.records c.in_default-ran.ensures.followed c.in_default-ran.ensures.ended c.accepted.ensures.ended c.in_default-ran.ensures.begun c.in_default-ran.ensures.one in
     if-ok c.accepted.result c.run-ran.new.step (λ ended. IsReductionOf (verdict_in c.into_records-records.result) c.args.start.items (gives ended.state).text)
     c.accepted.ensures.same c.accepted.ensures.interesting
     (is-reduction c.follows_reduction.ensures c.refuses_at_no.ensures c.ends_minimal.ensures c.args.start.items c.into_records-records.result c.run-ran.new.step.state came)
@@ -51,15 +51,15 @@ pub returns-clause-not_interesting : goal.returns-clause-not_interesting
 returns-clause-not_interesting g c =
     let came : CameToEnd c.args.start.items c.into_records-records.result c.run-ran.new.step.state =
     came-to-end c.args.start.items c.in-Ok.reducer.start c.into_records-records.result c.run-ran.new.table.records c.run-ran.new.step.state (ap (λ r. r.start) c.in-Ok.ensures)
-    c.into_records-records.ensures.records c.in_default-ran.ensures.followed c.in_default-ran.ensures.ended c.accepted.ensures.ended c.in_default-ran.ensures.begun in
+    c.into_records-records.ensures.records c.in_default-ran.ensures.followed c.in_default-ran.ensures.ended c.accepted.ensures.ended c.in_default-ran.ensures.begun c.in_default-ran.ensures.one in
     if-not-interesting c.accepted.result c.accepted.ensures.refused
-    (first-no c.follows_reduction.ensures c.refuses_at_no.ensures c.ends_minimal.ensures c.args.start.items c.into_records-records.result c.run-ran.new.step.state came)
+    (only-no c.follows_reduction.ensures c.refuses_at_no.ensures c.ends_minimal.ensures c.args.start.items c.into_records-records.result c.run-ran.new.step.state came)
 
 pub returns-clause-first_no : goal.returns-clause-first_no
 returns-clause-first_no g c =
     let came : CameToEnd c.args.start.items c.into_records-records.result c.run-ran.new.step.state =
     came-to-end c.args.start.items c.in-Ok.reducer.start c.into_records-records.result c.run-ran.new.table.records c.run-ran.new.step.state (ap (λ r. r.start) c.in-Ok.ensures)
-    c.into_records-records.ensures.records c.in_default-ran.ensures.followed c.in_default-ran.ensures.ended c.accepted.ensures.ended c.in_default-ran.ensures.begun in
+    c.into_records-records.ensures.records c.in_default-ran.ensures.followed c.in_default-ran.ensures.ended c.accepted.ensures.ended c.in_default-ran.ensures.begun c.in_default-ran.ensures.one in
     λ no_first. refused-then c.accepted.result c.accepted.ensures.interesting
     (λ stays. false≢true (sym stays ∙ no-first c.follows_reduction.ensures c.refuses_at_no.ensures c.ends_minimal.ensures c.args.start.items c.into_records-records.result c.run-ran.new.step.state came no_first))
     c.accepted.ensures.cause
