@@ -8,3 +8,4 @@ pub mod Keeping
 pub mod FieldLemmas
 pub mod AnswerLemmas
 pub mod LawLemmas
+pub mod PlainLemmas

@@ -1,5 +1,6 @@
 pub mod Lines
 pub mod Reduction
+pub mod Plain
 pub mod LineMachine
 pub mod Minimal
 pub mod Fields

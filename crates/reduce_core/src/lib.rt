@@ -3,13 +3,19 @@
 //! [`LineReducer`] is that of mode `lines`. What it does is defined as a recursion over a map of
 //! verdicts (`specs/Reduction.antt`); as code it is a machine that is asked and answered from
 //! outside (`specs/LineMachine.antt`). The laws tie the two together: each is a function that does
-//! nothing, which a caller calls so that its proof has the law.
+//! nothing, which a caller calls so that its proof has the law. [`plain_reduction`] is the recursion
+//! itself as a plain program, with which a test compares the machine.
 #![tactic(auto)]
 
 mod laws;
 mod line_reducer;
 mod lines;
+mod plain;
+#[cfg(test)]
+mod tests;
 
+pub use faults::Memory;
 pub use laws::{asks_candidates, ends_minimal, follows_reduction, refuses_at_no};
 pub use line_reducer::LineReducer;
 pub use lines::Lines;
+pub use plain::{Reduction, Test, plain_reduction};

@@ -1,0 +1,53 @@
+use Rattle.std.proofs.Common.{◌≡◌, ◌≢◌, ◌≤◌, ◌<◌, ◌+◌, ◌∙◌, ℕ, suc, ap, sym, subst, refl, rules, arith, true, false, Bool, List, [], ◌∷◌, ◌++◌, Option, Some, None, length, map}
+use Rattle.std.specs.Prelude.{IfOk}
+use Rattle.std.specs.List.{AllByRecursion}
+use Rattle.list_ddmin.specs.ListStep.{Outcome, kept_of}
+use Rattle.reduce_core.specs.Reduction.{Reduction, after_round, candidate, rounds_of}
+use Rattle.reduce_core.proofs.Rounds.{length-kept_of}
+use Rattle.reduce_core.proofs.PlainLemmas.{last-round, next-rounds, rounds-few}
+use Rattle.reduce_core.proofs.plain.+plain_rounds.Goals as goal
+
+pub texts-requires : goal.texts-requires
+texts-requires g t c =
+    let are = ap (λ (o : Outcome). o.questions) (sym c.round.view_is) ∙ ap (λ vs. map (λ v. v.items) vs) (sym c.deref.ensures.value) in
+    subst (λ l. AllByRecursion (λ keep. length keep ≡ length c.args.lines) l) are c.in_ok-round.ensures.fits.questions
+
+pub kept-requires : goal.kept-requires
+kept-requires g t c = ap length c.deref-2.ensures.value ∙ ap (λ (o : Outcome). length o.result) c.round.view_is ∙ c.in_ok-round.ensures.fits.result
+
+pub returns-then-len : goal.returns-then-len
+returns-then-len g t c =
+    let verdict = g.T.Test.verdict c.args.test.now in
+    let texts = map (λ v. v.items) c.in_ok-texts.texts.items in
+    let questions = ap (λ vs. map (λ v. v.items) vs) c.deref.ensures.value ∙ ap (λ (o : Outcome). o.questions) c.round.view_is in
+    let texts_are = c.in_ok-texts.ensures ∙ ap (λ keeps. map (candidate c.args.lines) keeps) questions in
+    let left_is = c.in_ok-left.ensures ∙ ap (λ keep. kept_of keep c.args.lines) (c.deref-2.ensures.value ∙ ap (λ (o : Outcome). o.result) c.round.view_is) in
+    let is = ap (λ later. after_round texts later) c.nothing_more.ensures
+    ∙ last-round verdict c.args.lines c.in_ok-round.round texts c.in_ok-left.left c.in_ok-round.ensures.round texts_are left_is (omega arith) in
+    subst (λ (r : Reduction). IfOk c.after_round.result (λ found. found ≡ r)) is c.after_round.ensures
+
+pub plain_rounds-requires : goal.plain_rounds-requires
+plain_rounds-requires g t c κs within =
+    let fewer : length (kept_of c.deref-2.result.now c.args.lines) ≤ length c.args.lines = length-kept_of c.deref-2.result.now c.args.lines in
+    let left = ap length c.in_ok-left.ensures in
+    let falls : length c.in_ok-left.left < length c.args.lines = omega arith in
+    search rules
+
+pub after_round-requires-2 : goal.after_round-requires-2
+after_round-requires-2 g t c =
+    let fewer : length (kept_of c.deref-2.result.now c.args.lines) ≤ length c.args.lines = length-kept_of c.deref-2.result.now c.args.lines in
+    let left = ap length c.in_ok-left.ensures in
+    let few = rounds-few (g.T.Test.verdict c.args.test.now) c.in_ok-left.left in
+    let rounds = ap (λ (r : Reduction). r.rounds) c.in_ok-later.ensures in
+    omega arith
+
+pub returns : goal.returns
+returns g t c =
+    let verdict = g.T.Test.verdict c.args.test.now in
+    let texts = map (λ v. v.items) c.in_ok-texts.texts.items in
+    let questions = ap (λ vs. map (λ v. v.items) vs) c.deref.ensures.value ∙ ap (λ (o : Outcome). o.questions) c.round.view_is in
+    let texts_are = c.in_ok-texts.ensures ∙ ap (λ keeps. map (candidate c.args.lines) keeps) questions in
+    let left_is = c.in_ok-left.ensures ∙ ap (λ keep. kept_of keep c.args.lines) (c.deref-2.ensures.value ∙ ap (λ (o : Outcome). o.result) c.round.view_is) in
+    let is = ap (λ later. after_round texts later) c.in_ok-later.ensures
+    ∙ next-rounds verdict c.args.lines c.in_ok-round.round texts c.in_ok-left.left c.in_ok-round.ensures.round texts_are left_is (omega arith) in
+    subst (λ (r : Reduction). IfOk c.after_round-2.result (λ found. found ≡ r)) is c.after_round-2.ensures

@@ -1,0 +1,28 @@
+use Rattle.std.proofs.Common.{◌≡◌, ◌≢◌, ◌≤◌, ◌<◌, ◌+◌, ◌∙◌, ℕ, suc, ap, sym, subst, refl, rules, arith, true, false, Bool, List, [], ◌∷◌, ◌++◌, Option, Some, None, length, map}
+use Rattle.std.specs.Prelude.{IfOk}
+use Rattle.reduce_core.specs.Lines.{lines_of}
+use Rattle.reduce_core.specs.Reduction.{Reduction, reduction, rounds_of}
+use Rattle.reduce_core.proofs.FieldLemmas.{limit-lines_of}
+use Rattle.reduce_core.proofs.PlainLemmas.{reduction-no, reduction-yes}
+use Rattle.reduce_core.proofs.plain.plain_reduction.Goals as goal
+
+pub returns-then-not-test : goal.returns-then-not-test
+returns-then-not-test g c =
+    let verdict = g.T.Test.verdict c.args.test.now in
+    let asked : map (λ v. v.items) c.push.new.self.items ≡ c.args.start.now ∷ [] =
+    ap (λ vs. map (λ v. v.items) vs) (c.in_ok-push.ensures.items ∙ ap (λ vs. vs ++ c.in_ok-from_slice.field-0 ∷ []) c.new-questions.ensures.items) ∙ ap (λ text. text ∷ []) c.in_ok-from_slice.ensures.items in
+    (λ i. record { questions = asked i; lines = c.in_ok-lines.ensures i; rounds = 0; refused = true })
+    ∙ reduction-no verdict c.args.start.now (sym c.test.ensures ∙ c.if-not-test.true)
+
+pub plain_rounds-requires : goal.plain_rounds-requires
+plain_rounds-requires g c = subst (λ (lines : List (List ℕ)). length lines ≤ 1048576) (sym c.in_ok-lines.ensures) (limit-lines_of c.args.start.now c.requires).few
+
+pub returns : goal.returns
+returns g c =
+    let verdict = g.T.Test.verdict c.args.test.now in
+    let asked : map (λ v. v.items) c.push.new.self.items ≡ c.args.start.now ∷ [] =
+    ap (λ vs. map (λ v. v.items) vs) (c.in_ok-push.ensures.items ∙ ap (λ vs. vs ++ c.in_ok-from_slice.field-0 ∷ []) c.new-questions.ensures.items) ∙ ap (λ text. text ∷ []) c.in_ok-from_slice.ensures.items in
+    let later : c.in_ok-later.later ≡ rounds_of verdict (lines_of c.args.start.now) = c.in_ok-later.ensures ∙ ap (λ lines. rounds_of verdict lines) c.in_ok-lines.ensures in
+    let is = (λ i. record (later i) { questions = asked i ++ (later i).questions })
+    ∙ reduction-yes verdict c.args.start.now (sym c.test.ensures ∙ c.if-not-test.false) in
+    subst (λ (r : Reduction). IfOk c.after.result (λ found. found ≡ r)) is c.after.ensures
