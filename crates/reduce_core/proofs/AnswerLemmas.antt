@@ -1,21 +1,13 @@
 -- What an answer makes of the fields of a line reducer.
-use Rattle.std.proofs.Common.{◌≡◌, ◌≤◌, ◌+◌, ℕ, Bool, true, false, List, Option, Some, None, IsSome, option_map, length, refl, sym, ap, ◌∙◌, subst, arith}
+use Rattle.std.proofs.Common.{◌≡◌, ℕ, List, Option, Some, None, IsSome, refl, sym, ap, ◌∙◌, subst}
 use Rattle.std.proofs.lemmas.Bool.{false≢true}
 use Rattle.script_gate.specs.declared.gate.Verdict.{Verdict}
-use Rattle.script_gate.specs.declared.gate.Verdict.TheVariants.{Yes, No}
-use Rattle.verdict_table.specs.Plan.{Reduced, asked, after as plan_after}
-use Rattle.list_ddmin.specs.Machine as list
-use Rattle.list_ddmin.specs.ListStep.{kept_of}
-use Rattle.list_ddmin.specs.Machine.{State}
+use Rattle.verdict_table.specs.Plan.{asked, after as plan_after}
 use Rattle.reduce_core.specs.declared.line_reducer.Stage.{Stage}
 use Rattle.reduce_core.specs.declared.line_reducer.Stage.TheVariants.{Whole, Within, Ended}
-use Rattle.reduce_core.specs.declared.line_reducer.Round.{Round}
 use Rattle.reduce_core.specs.declared.line_reducer.Found.{Found}
-use Rattle.reduce_core.specs.Lines.{lines_of}
-use Rattle.reduce_core.specs.Reduction.{candidate, is_yes}
-use Rattle.reduce_core.specs.LineMachine as machine
-use Rattle.reduce_core.specs.LineMachine.{LineState, begun, within_round, reduced, counted, gives, asks, after, plan_of, IsSound, IsRound}
-use Rattle.reduce_core.specs.Fields.{IsInLimit, IsAsked, HasFound, Becomes, Agrees, IsReady, IsAnswered, IsOpen, found_of, state_of}
+use Rattle.reduce_core.specs.LineMachine.{gives, asks, after, plan_of, IsSound}
+use Rattle.reduce_core.specs.Fields.{Becomes, Agrees, IsAnswered, IsOpen, state_of}
 use Rattle.reduce_core.specs.LineRun.{LineRun}
 use Rattle.reduce_core.proofs.LineMachineLemmas.{after-plan, IsSound-after}
 use Rattle.reduce_core.proofs.FieldLemmas.{the_run, asked-now}

@@ -1,17 +1,16 @@
 -- All that the machine may ask is some of the start's lines.
-use Rattle.std.proofs.Common.{◌+◌, ◌≡◌, ◌≤◌, ◌<◌, ℕ, suc, zero, Bool, true, false, List, [], ◌∷◌, Option, Some, None, IsSome, length, refl, sym, ap, ◌∙◌, subst, arith, inl, inr, ⊎_elim, ◌⊎◌}
+use Rattle.std.proofs.Common.{◌+◌, ◌≡◌, ◌≤◌, ℕ, suc, zero, Bool, true, false, List, [], ◌∷◌, Option, Some, None, length, refl, sym, ◌∙◌, subst, arith, ⊎_elim}
 use Rattle.std.proofs.lemmas.Bool.{cond_both}
 use Rattle.std.specs.Prelude.{◌==◌}
-use Rattle.std.specs.List.{concat}
 use Rattle.script_gate.specs.declared.gate.Verdict.{Verdict}
 use Rattle.script_gate.specs.declared.gate.Verdict.TheVariants.{Yes, No}
-use Rattle.verdict_table.specs.Plan.{Plan, Reduced, End, Ask, MayAsk}
+use Rattle.verdict_table.specs.Plan.{MayAsk}
 use Rattle.list_ddmin.specs.Machine as list
 use Rattle.list_ddmin.specs.ListStep.{kept_of}
 use Rattle.list_ddmin.specs.Machine.{State}
 use Rattle.reduce_core.specs.Lines.{lines_of}
-use Rattle.reduce_core.specs.Reduction.{candidate, is_yes}
-use Rattle.reduce_core.specs.LineMachine.{LineState, Whole, Round, Ended, asks, after, begun, past_round, within_round, counted, reduced, gives, IsSound, left, plan_of}
+use Rattle.reduce_core.specs.Reduction.{is_yes}
+use Rattle.reduce_core.specs.LineMachine.{LineState, Whole, Round, Ended, asks, after, begun, past_round, within_round, counted, reduced, IsSound, left, plan_of}
 use Rattle.reduce_core.specs.Minimal.{IsSubsequence, nothing, keeps, leaves, IsCandidate}
 use Rattle.reduce_core.proofs.LinesLemmas.{concat-lines_of}
 use Rattle.reduce_core.proofs.LineMachineLemmas.{IsSound-after, left-after, plan-step, plan-end, text_asked}

@@ -1,19 +1,19 @@
 -- The end of a reduction: its text is a yes, and each of its lines is needed.
-use Rattle.std.proofs.Common.{◌≡◌, ◌≤◌, ◌<◌, ◌+◌, ℕ, suc, zero, Bool, true, false, cond, List, [], ◌∷◌, ◌++◌, Option, Some, None, IsSome, length, map, replicate, remove, slice_get, slice_set, refl, sym, ap, ◌∙◌, subst, arith, inl, inr, ⊎_elim, ◌⊎◌, append_assoc, take, drop}
+use Rattle.std.proofs.Common.{◌≡◌, ◌≤◌, ◌<◌, ℕ, suc, zero, Bool, true, false, cond, List, [], ◌∷◌, ◌++◌, Option, Some, None, IsSome, length, map, replicate, remove, slice_get, slice_set, refl, sym, ap, ◌∙◌, subst, arith, ⊎_elim, append_assoc}
 use Rattle.std.proofs.lemmas.List.{append-nil}
 use Rattle.std.proofs.lemmas.Bool.{cond_both, eqb-true, eqb-false, false≢true}
 use Rattle.std.specs.Prelude.{◌==◌, ◌≢◌}
-use Rattle.std.specs.List.{concat, AllByRecursion}
+use Rattle.std.specs.List.{concat}
 use Rattle.script_gate.specs.declared.gate.Verdict.{Verdict}
 use Rattle.script_gate.specs.declared.gate.Verdict.TheVariants.{Yes, No}
-use Rattle.list_ddmin.specs.ListStep.{list_step, kept_count, IsOneMinimal}
+use Rattle.list_ddmin.specs.ListStep.{list_step}
 use Rattle.list_ddmin.specs.ListStep.{kept_of}
 use Rattle.list_ddmin.specs.Asked.{WasAsked}
 use Rattle.list_ddmin.proofs.AskedLemmas.{ends_at_yes, deletions_asked}
 use Rattle.list_ddmin.proofs.Lengths.{questions_fit}
 use Rattle.list_ddmin.proofs.Minimal.{ends_one_minimal}
 use Rattle.reduce_core.specs.Lines.{lines_of}
-use Rattle.reduce_core.specs.Reduction.{Reduction, candidate, ends_with, after_round, asks_first, round_of, next_round, rounds_within, rounds_of, reduction, is_yes, says_yes}
+use Rattle.reduce_core.specs.Reduction.{Reduction, candidate, ends_with, after_round, round_of, rounds_within, rounds_of, reduction, is_yes, says_yes}
 use Rattle.reduce_core.specs.Laws.{EndsWell}
 use Rattle.reduce_core.specs.Minimal.{HasVerdicts, IsMinimal}
 use Rattle.reduce_core.proofs.LinesLemmas.{concat-lines_of}

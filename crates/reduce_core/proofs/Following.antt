@@ -1,14 +1,13 @@
 -- Answered from any map of verdicts, the machine ends where the reduction over the map is defined, and then as the reduction.
-use Rattle.std.proofs.Common.{◌≡◌, ◌≤◌, ◌<◌, ℕ, suc, zero, List, [], ◌∷◌, Option, Some, None, IsSome, refl, sym, ap, ◌∙◌, subst, arith}
+use Rattle.std.proofs.Common.{◌≡◌, ◌≤◌, ℕ, suc, zero, List, Option, Some, None, IsSome, refl, sym, ap, ◌∙◌, subst, arith}
 use Rattle.std.proofs.lemmas.Bool.{false≢true}
-use Rattle.std.specs.List.{AllByRecursion}
 use Rattle.script_gate.specs.declared.gate.Verdict.{Verdict}
 use Rattle.script_gate.specs.declared.gate.Verdict.TheVariants.{Yes, No}
-use Rattle.verdict_table.specs.Plan.{Plan, Reduced, End, Ask, asked, after as plan_after, follow, by_answer, HasEnded}
-use Rattle.reduce_core.specs.Reduction.{is_yes, says_yes, reduction}
-use Rattle.reduce_core.specs.LineMachine.{LineState, Whole, asks, after, gives, IsSound, left, plan_of, Rest}
+use Rattle.verdict_table.specs.Plan.{Plan, End, Ask, after as plan_after, follow, HasEnded}
+use Rattle.reduce_core.specs.Reduction.{is_yes, says_yes}
+use Rattle.reduce_core.specs.LineMachine.{LineState, asks, after, IsSound, left, plan_of, Rest}
 use Rattle.reduce_core.specs.Minimal.{HasVerdicts}
-use Rattle.reduce_core.proofs.LineMachineLemmas.{IsSound-after, left-after, plan-step, plan-end, rest_of, rest_of-after, rest_of-ended, first_asked}
+use Rattle.reduce_core.proofs.LineMachineLemmas.{IsSound-after, left-after, plan-step, plan-end, rest_of, rest_of-after, rest_of-ended}
 
 module _ (V : List ℕ → Option Verdict) where
   follow-said : (text : List ℕ) (at_yes at_no : Plan) (verdict : Verdict) → V text ≡ Some verdict → follow V (Ask text at_yes at_no) ≡ follow V (plan_after (Ask text at_yes at_no) verdict)

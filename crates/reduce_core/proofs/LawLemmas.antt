@@ -1,14 +1,11 @@
 -- The laws of the reducer of lines.
-use Rattle.std.proofs.Common.{◌≡◌, ◌≤◌, ◌+◌, ◌-◌, ◌^◌, min, ℕ, suc, zero, List, Bool, true, false, cond, Option, Some, None, length, refl, sym, ap, ◌∙◌, subst, arith}
+use Rattle.std.proofs.Common.{◌≡◌, ◌+◌, ℕ, suc, zero, List, Bool, true, false, length, refl, sym, ap, ◌∙◌, subst, arith}
 use Rattle.std.proofs.lemmas.Bool.{cond_both}
 use Rattle.std.specs.Prelude.{◌==◌}
-use Rattle.std.specs.List.{concat}
 use Rattle.list_ddmin.specs.ListStep.{kept_of}
-use Rattle.script_gate.specs.declared.gate.Verdict.{Verdict}
-use Rattle.script_gate.specs.declared.gate.Verdict.TheVariants.{Yes, No}
-use Rattle.verdict_table.specs.Plan.{Plan, Reduced, End, HasEnded, asked, follow}
-use Rattle.reduce_core.specs.Laws.{result_of, IsTheReduction, FollowsReduction, RefusesAtNo, EndsMinimal, AsksCandidates}
-use Rattle.reduce_core.specs.LineMachine.{Whole, counted, left, plan_of, reduced}
+use Rattle.verdict_table.specs.Plan.{End, asked}
+use Rattle.reduce_core.specs.Laws.{result_of, FollowsReduction, RefusesAtNo, EndsMinimal, AsksCandidates}
+use Rattle.reduce_core.specs.LineMachine.{Whole, counted, left, reduced}
 use Rattle.reduce_core.specs.Lines.{lines_of}
 use Rattle.reduce_core.specs.Reduction.{Reduction, asks_first, ends_with, is_yes, reduction, round_of, rounds_of, rounds_within, says_yes}
 use Rattle.reduce_core.specs.Minimal.{HasVerdicts}

@@ -1,13 +1,13 @@
 -- The machine goes on as the reduction does.
-use Rattle.std.proofs.Common.{◌≡◌, ℕ, suc, zero, ◌+◌, ◌-◌, ◌<◌, ◌≤◌, ◌^◌, min, Bool, true, false, cond, inl, inr, ⊎_elim, replicate, List, [], ◌∷◌, ◌++◌, Option, Some, None, IsSome, option_map, length, map, arith, refl, sym, ap, ◌∙◌, subst, rules}
+use Rattle.std.proofs.Common.{◌≡◌, ℕ, suc, zero, ◌+◌, ◌-◌, ◌<◌, ◌≤◌, ◌^◌, Bool, true, false, cond, ⊎_elim, replicate, List, [], ◌∷◌, Option, Some, None, IsSome, option_map, length, map, arith, refl, sym, ap, ◌∙◌, subst}
 use Rattle.std.proofs.lemmas.Bool.{cond_both, eqb-true, eqb-false, false≢true, ltb-false, cases_eq}
 use Rattle.std.specs.Prelude.{◌==◌, ◌≢◌, ◌&&◌, nat_lt}
-use Rattle.std.specs.List.{concat, AllByRecursion}
+use Rattle.std.specs.List.{AllByRecursion}
 use Rattle.script_gate.specs.declared.gate.Verdict.{Verdict}
 use Rattle.script_gate.specs.declared.gate.Verdict.TheVariants.{Yes, No}
-use Rattle.verdict_table.specs.Plan.{Plan, Reduced, End, Ask, asked, after as plan_after, follow, by_answer, HasEnded}
+use Rattle.verdict_table.specs.Plan.{End, Ask, asked, after as plan_after}
 use Rattle.verdict_table.proofs.GrowLemmas as grown
-use Rattle.list_ddmin.specs.ListStep.{Outcome, list_step, ends_with as list_ends}
+use Rattle.list_ddmin.specs.ListStep.{Outcome}
 use Rattle.list_ddmin.specs.Machine as list
 use Rattle.list_ddmin.specs.ListStep.{kept_of}
 use Rattle.list_ddmin.specs.Machine.{State}
@@ -15,8 +15,8 @@ use Rattle.list_ddmin.proofs.Left as list_left
 use Rattle.list_ddmin.proofs.Follows as list_follows
 use Rattle.list_ddmin.proofs.Lengths.{keeps_length, starts_with_all}
 use Rattle.reduce_core.specs.Lines.{lines_of}
-use Rattle.reduce_core.specs.Reduction.{Reduction, ends_with, asks_first, after_round, candidate, round_of, next_round, rounds_of, reduction, is_yes, says_yes}
-use Rattle.reduce_core.specs.LineMachine.{LineState, Whole, Round, Ended, asks, after, begun, past_round, within_round, after_start, gives, reduced, counted, IsRound, IsSound, left, left_of_rounds, plan_of, Rest, counted_from}
+use Rattle.reduce_core.specs.Reduction.{Reduction, ends_with, asks_first, after_round, candidate, next_round, rounds_of, reduction, is_yes}
+use Rattle.reduce_core.specs.LineMachine.{LineState, Whole, Round, Ended, asks, after, begun, past_round, within_round, gives, reduced, counted, IsSound, left, left_of_rounds, plan_of, Rest, counted_from}
 use Rattle.reduce_core.proofs.Rounds.{rounds_of-step, length-kept_of}
 
 -- a question of a list step that stands for a text of lines

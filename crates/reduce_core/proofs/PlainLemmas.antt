@@ -1,11 +1,11 @@
 -- The answers of a round: what one more makes of them, and how many can be missing.
-use Rattle.std.proofs.Common.{◌≡◌, ◌≢◌, ◌+◌, ◌<◌, ◌≤◌, ◌^◌, ◌⊎◌, ℕ, suc, zero, Bool, true, false, ◌||◌, ◌&&◌, List, [], ◌∷◌, ◌++◌, Option, Some, None, refl, sym, ap, ◌∙◌, cond, length, map, get_or, arith, inl, inr, ⊎_elim, subst}
+use Rattle.std.proofs.Common.{◌≡◌, ◌≢◌, ◌+◌, ◌<◌, ◌≤◌, ◌⊎◌, ℕ, suc, zero, Bool, true, false, ◌||◌, ◌&&◌, List, [], ◌∷◌, ◌++◌, Some, None, refl, sym, ap, ◌∙◌, cond, length, map, get_or, arith, inl, inr, ⊎_elim, subst}
 use Rattle.std.specs.Prelude.{unwrap_or}
 use Rattle.std.specs.Cmp.Lexicographic.{pointwise}
 use Rattle.std.specs.List.{AllByRecursion}
 use Rattle.list_ddmin.specs.ListStep.{Outcome, list_step}
 use Rattle.list_ddmin.specs.ListStep.{kept_of}
-use Rattle.list_ddmin.specs.Machine.{AgreeingMaps, QuestionsFit, HasLength}
+use Rattle.list_ddmin.specs.Machine.{AgreeingMaps, QuestionsFit}
 use Rattle.reduce_core.specs.Lines.{lines_of}
 use Rattle.reduce_core.specs.Reduction.{Reduction, after_round, asks_first, candidate, ends_with, next_round, reduction, round_of, rounds_of, rounds_within}
 use Rattle.reduce_core.proofs.Rounds.{rounds_of-step}

@@ -1,8 +1,7 @@
 -- The rounds of a reduction never run out: each but the last leaves fewer lines.
-use Rattle.std.proofs.Common.{◌≡◌, ℕ, suc, zero, ◌+◌, ◌-◌, ◌<◌, ◌≤◌, Bool, true, false, cond, List, [], ◌∷◌, length, map, arith, refl, sym, ap, ◌∙◌}
+use Rattle.std.proofs.Common.{◌≡◌, ℕ, suc, zero, ◌<◌, ◌≤◌, Bool, true, false, cond, List, [], ◌∷◌, length, map, arith, refl, ap}
 use Rattle.std.proofs.lemmas.Bool.{eqb-false}
 use Rattle.std.specs.Prelude.{◌==◌, ◌≢◌}
-use Rattle.list_ddmin.specs.ListStep.{Outcome, list_step}
 use Rattle.list_ddmin.specs.ListStep.{kept_of}
 use Rattle.reduce_core.specs.Reduction.{Reduction, ends_with, after_round, candidate, round_of, next_round, rounds_within, rounds_of}
 

@@ -1,5 +1,5 @@
 -- The fields of a line reducer, and the state that they stand for.
-use Rattle.std.specs.Prelude.{◌≡◌, ◌≤◌, ℕ, Bool, false, List, length, Some, IsSome, option_map}
+use Rattle.std.specs.Prelude.{◌≡◌, ◌≤◌, ℕ, false, List, length, Some, option_map}
 use Rattle.std.specs.List.{concat}
 use Rattle.script_gate.specs.declared.gate.Verdict.{Verdict}
 use Rattle.verdict_table.specs.Plan.{Reduced}
@@ -15,9 +15,11 @@ use Rattle.reduce_core.specs.Reduction.{candidate}
 use Rattle.reduce_core.specs.LineMachine as machine
 use Rattle.reduce_core.specs.LineMachine.{LineState, IsRound, IsSound, gives}
 
+-- what was found, as a reduction ends with it
 abbrev pub found_of : Found → Reduced
 found_of found = record { text = found.text.items; units = found.units; used = found.used; rounds = found.rounds; refused = found.refused }
 
+-- the state for which a start, a stage and what was found stand
 abbrev pub state_of : List ℕ → Stage → Found → LineState
 state_of start (Whole lines) found = machine.Whole start
 state_of start (Within round) found = machine.Round round.lines round.step found.used found.rounds

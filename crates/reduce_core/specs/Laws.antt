@@ -1,5 +1,5 @@
 -- What holds of the reducer of lines, whatever it is answered.
-use Rattle.std.specs.Prelude.{◌≡◌, ℕ, List, true, false, length, Option, Some, IsSome}
+use Rattle.std.specs.Prelude.{◌≡◌, ℕ, List, true, false, length, Option, Some}
 use Rattle.std.specs.List.{concat}
 use Rattle.script_gate.specs.declared.gate.Verdict.{Verdict}
 use Rattle.script_gate.specs.declared.gate.Verdict.TheVariants.{Yes, No}
@@ -8,7 +8,7 @@ use Rattle.reduce_core.specs.LineMachine.{Whole, counted, plan_of, reduced}
 use Rattle.reduce_core.specs.Minimal.{HasVerdicts, IsCandidate, IsMinimal}
 use Rattle.reduce_core.specs.Reduction.{Reduction, reduction, says_yes}
 
--- what a reduction ends with; the counts stay at their last value
+-- what a reduction ends with; a count stays at its greatest value
 abbrev pub result_of : Reduction → Reduced
 result_of r = reduced r.lines (counted (length r.questions)) (counted r.rounds) r.refused
 

@@ -1,5 +1,5 @@
 -- The reduction of lines as a machine that is asked and answered.
-use Rattle.std.specs.Prelude.{◌≡◌, ◌<◌, ◌+◌, ◌-◌, ◌^◌, min, ℕ, zero, suc, ◌==◌, Bool, true, false, List, [], ◌∷◌, ◌++◌, length, map, Option, Some, None, IsSome, option_map, if◌then◌else◌}
+use Rattle.std.specs.Prelude.{◌≡◌, ◌+◌, ◌-◌, ◌^◌, min, ℕ, zero, suc, ◌==◌, Bool, true, false, List, length, Option, Some, None, IsSome, option_map, if◌then◌else◌}
 use Rattle.std.specs.List.{concat}
 use Rattle.script_gate.specs.declared.gate.Verdict.{Verdict}
 use Rattle.script_gate.specs.declared.gate.Verdict.TheVariants.{Yes, No}
@@ -9,9 +9,9 @@ use Rattle.list_ddmin.specs.Machine as list
 use Rattle.list_ddmin.specs.ListStep.{kept_of}
 use Rattle.list_ddmin.specs.Machine.{State}
 use Rattle.reduce_core.specs.Lines.{lines_of}
-use Rattle.reduce_core.specs.Reduction.{Reduction, candidate, reduction, is_yes}
+use Rattle.reduce_core.specs.Reduction.{Reduction, candidate, is_yes}
 
--- a count stays at its last value
+-- a count of 64 bits, which stays at its greatest value
 abbrev pub counted : ℕ → ℕ
 counted n = min n (2 ^ 64 - 1)
 
@@ -21,6 +21,7 @@ pub data LineState : Type 0 where
   Round : List (List ℕ) → State → ℕ → ℕ → LineState
   Ended : Reduced → LineState
 
+-- what a reduction ends with: these lines, after so many tests and rounds
 abbrev pub reduced : List (List ℕ) → ℕ → ℕ → Bool → Reduced
 reduced lines used rounds refused = record { text = concat lines; units = length lines; used = used; rounds = rounds; refused = refused }
 
@@ -42,11 +43,12 @@ past_round lines left used rounds =
     if length left == length lines then Ended (reduced lines used (counted (rounds + 1)) false)
     else begun left used (counted (rounds + 1))
 
--- a list step asks on, or the round is over
+-- where the list step asks something the round goes on, and else it is over
 abbrev pub within_round : Option (List Bool) → List (List ℕ) → State → ℕ → ℕ → LineState
 within_round (Some question) lines step used rounds = Round lines step used rounds
 within_round None lines step used rounds = past_round lines (kept_of (list.kept step) lines) used rounds
 
+-- at yes the rounds begin, at no the start is refused
 abbrev pub after_start : List ℕ → Verdict → LineState
 after_start start Yes = begun (lines_of start) 1 0
 after_start start No = Ended (reduced (lines_of start) 1 0 true)
@@ -64,12 +66,13 @@ gives (Whole start) = reduced (lines_of start) 0 0 false
 gives (Round lines step used rounds) = reduced (kept_of (list.kept step) lines) used rounds false
 gives (Ended result) = result
 
--- what holds of each state that comes from a start
+-- a list step over these lines, which asks something
 pub record IsRound (lines : List (List ℕ)) (step : State) : Type 0 where
   pub sound : list.IsSound step
   pub open_ : IsSome (list.asks step)
   pub same : length (list.kept step) ≡ length lines
 
+-- what holds of each state that comes from a start
 abbrev pub IsSound : LineState → Type 0
 IsSound (Whole start) = Unit {0}
 IsSound (Round lines step used rounds) = IsRound lines step

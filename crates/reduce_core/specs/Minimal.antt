@@ -2,7 +2,7 @@
 use Rattle.std.specs.Prelude.{◌≡◌, ◌<◌, ℕ, List, [], ◌∷◌, length, remove, Option, Some, IsSome}
 use Rattle.std.specs.List.{concat, AllByRecursion}
 use Rattle.script_gate.specs.declared.gate.Verdict.{Verdict}
-use Rattle.script_gate.specs.declared.gate.Verdict.TheVariants.{Yes, No}
+use Rattle.script_gate.specs.declared.gate.Verdict.TheVariants.{No}
 use Rattle.reduce_core.specs.Lines.{lines_of}
 
 -- the map has a verdict for each of these texts

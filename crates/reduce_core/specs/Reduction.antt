@@ -1,5 +1,5 @@
 -- The reduction of a list of lines: rounds of delta debugging until one changes nothing.
-use Rattle.std.specs.Prelude.{◌≡◌, ◌<◌, ◌+◌, ℕ, zero, suc, ◌==◌, Bool, true, false, List, [], ◌∷◌, ◌++◌, length, map, remove, Option, Some, None, if◌then◌else◌}
+use Rattle.std.specs.Prelude.{◌+◌, ℕ, zero, suc, ◌==◌, Bool, true, false, List, [], ◌∷◌, ◌++◌, length, map, Option, Some, None, if◌then◌else◌}
 use Rattle.std.specs.List.{concat}
 use Rattle.script_gate.specs.declared.gate.Verdict.{Verdict}
 use Rattle.script_gate.specs.declared.gate.Verdict.TheVariants.{Yes, No}
@@ -18,10 +18,11 @@ pub record Reduction : Type 0 where
 abbrev pub ends_with : List (List ℕ) → Bool → Reduction
 ends_with lines refused = record { questions = []; lines = lines; rounds = 0; refused = refused }
 
+-- this text is asked first
 abbrev pub asks_first : List ℕ → Reduction → Reduction
 asks_first text later = record later { questions = text ∷ later.questions }
 
--- a round that asks these texts, and what follows
+-- a round is made first, which asks these texts
 abbrev pub after_round : List (List ℕ) → Reduction → Reduction
 after_round texts later = record later { questions = texts ++ later.questions; rounds = later.rounds + 1 }
 
@@ -33,18 +34,18 @@ candidate lines keep = concat (kept_of keep lines)
 abbrev pub round_of : (List ℕ → Bool) → List (List ℕ) → Outcome
 round_of verdict lines = list_step (λ keep. verdict (candidate lines keep)) (length lines) true
 
--- where a round that began with these lines has left others, it goes on with them; a round that changed nothing was the last
+-- what follows a round that began with these lines and has left those: a round that leaves as many as before was the last one, and after any other it goes on with what is left
 abbrev pub next_round : (List (List ℕ) → Reduction) → List (List ℕ) → List (List ℕ) → Reduction
 next_round go lines left = if length left == length lines then ends_with lines false else go left
 
--- rounds until one changes nothing, within a number of them
+-- rounds until one changes nothing, but at most so many
 unfoldable pub rounds_within : ℕ → (List ℕ → Bool) → List (List ℕ) → Reduction
 rounds_within zero verdict lines = ends_with lines false
 rounds_within (suc rounds) verdict lines =
     after_round (map (candidate lines) (round_of verdict lines).questions)
     (next_round (λ left. rounds_within rounds verdict left) lines (kept_of (round_of verdict lines).result lines))
 
--- each round but the last leaves fewer lines
+-- Each round but the last leaves fewer lines, so there is at most one round more than lines.
 unfoldable pub rounds_of : (List ℕ → Bool) → List (List ℕ) → Reduction
 rounds_of verdict lines = rounds_within (suc (length lines)) verdict lines
 

@@ -55,7 +55,7 @@ struct Found {
 /// The reducer of mode `lines`: the start is asked first, and then rounds of delta debugging over
 /// the lines of the last yes are made until one round changes nothing.
 ///
-/// A test costs time linear in the bytes and lines of its candidate's round.
+/// An answer takes time linear in the bytes and lines that its round began with.
 #[derive(Drop)]
 pub struct LineReducer {
     alloc: Global,

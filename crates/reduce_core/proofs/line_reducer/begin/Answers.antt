@@ -1,4 +1,4 @@
-use Rattle.std.proofs.Common.{◌≡◌, false, true, length, sym, ◌∙◌, rules}
+use Rattle.std.proofs.Common.{◌≡◌, false, true, length, ◌∙◌, rules}
 use Rattle.std.specs.Prelude.{◌==◌}
 use Rattle.list_ddmin.specs.Machine as list
 use Rattle.reduce_core.proofs.FieldLemmas.{becomes-begun}

@@ -1,8 +1,8 @@
-use Rattle.std.proofs.Common.{◌≡◌, sym, ◌∙◌, ap, subst, refl, rules}
+use Rattle.std.proofs.Common.{sym, ◌∙◌, ap, subst, refl, rules}
 use Rattle.list_ddmin.specs.Machine as list
 use Rattle.list_ddmin.specs.ListStep.{kept_of}
 use Rattle.reduce_core.specs.Fields.{IsInLimit}
-use Rattle.reduce_core.proofs.FieldLemmas.{limit-kept, becomes-last, becomes-next}
+use Rattle.reduce_core.proofs.FieldLemmas.{limit-kept, becomes-last}
 use Rattle.reduce_core.proofs.line_reducer.end_round.Goals as goal
 
 pub returns-then-found-len : goal.returns-then-found-len

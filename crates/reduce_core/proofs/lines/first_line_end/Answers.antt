@@ -1,4 +1,4 @@
-use Rattle.std.proofs.Common.{◌≡◌, ◌∷◌, List, ℕ, length, take, drop, ap, sym, ◌∙◌, arith, []}
+use Rattle.std.proofs.Common.{◌∷◌, List, ℕ, length, take, ap, sym, ◌∙◌, arith, []}
 use Rattle.std.proofs.lemmas.Bool.{eqb-true}
 use Rattle.std.proofs.lemmas.List.{take_all, drop_all}
 use Rattle.reduce_core.specs.Lines.{lines_of}

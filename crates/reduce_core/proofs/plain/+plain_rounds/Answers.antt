@@ -1,8 +1,8 @@
-use Rattle.std.proofs.Common.{◌≡◌, ◌≢◌, ◌≤◌, ◌<◌, ◌+◌, ◌∙◌, ℕ, suc, ap, sym, subst, refl, rules, arith, true, false, Bool, List, [], ◌∷◌, ◌++◌, Option, Some, None, length, map}
+use Rattle.std.proofs.Common.{◌≡◌, ◌≤◌, ◌<◌, ◌∙◌, ap, sym, subst, rules, arith, length, map}
 use Rattle.std.specs.Prelude.{IfOk}
 use Rattle.std.specs.List.{AllByRecursion}
 use Rattle.list_ddmin.specs.ListStep.{Outcome, kept_of}
-use Rattle.reduce_core.specs.Reduction.{Reduction, after_round, candidate, rounds_of}
+use Rattle.reduce_core.specs.Reduction.{Reduction, after_round, candidate}
 use Rattle.reduce_core.proofs.Rounds.{length-kept_of}
 use Rattle.reduce_core.proofs.PlainLemmas.{last-round, next-rounds, rounds-few}
 use Rattle.reduce_core.proofs.plain.+plain_rounds.Goals as goal

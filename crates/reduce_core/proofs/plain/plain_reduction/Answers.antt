@@ -1,7 +1,7 @@
-use Rattle.std.proofs.Common.{◌≡◌, ◌≢◌, ◌≤◌, ◌<◌, ◌+◌, ◌∙◌, ℕ, suc, ap, sym, subst, refl, rules, arith, true, false, Bool, List, [], ◌∷◌, ◌++◌, Option, Some, None, length, map}
+use Rattle.std.proofs.Common.{◌≡◌, ◌≤◌, ◌∙◌, ℕ, ap, sym, subst, true, List, [], ◌∷◌, ◌++◌, length, map}
 use Rattle.std.specs.Prelude.{IfOk}
 use Rattle.reduce_core.specs.Lines.{lines_of}
-use Rattle.reduce_core.specs.Reduction.{Reduction, reduction, rounds_of}
+use Rattle.reduce_core.specs.Reduction.{Reduction, rounds_of}
 use Rattle.reduce_core.proofs.FieldLemmas.{limit-lines_of}
 use Rattle.reduce_core.proofs.PlainLemmas.{reduction-no, reduction-yes}
 use Rattle.reduce_core.proofs.plain.plain_reduction.Goals as goal

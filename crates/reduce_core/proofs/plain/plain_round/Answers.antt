@@ -1,10 +1,9 @@
-use Rattle.std.proofs.Common.{◌≡◌, ◌≢◌, ◌≤◌, ◌<◌, ◌+◌, ◌∙◌, ℕ, suc, ap, sym, subst, refl, rules, arith, true, false, Bool, List, [], ◌∷◌, ◌++◌, Option, Some, None, length, map}
-use Rattle.std.specs.Prelude.{IfOk}
+use Rattle.std.proofs.Common.{◌<◌, ◌∙◌, ap, sym, subst, true, Bool, List, length, map}
 use Rattle.std.specs.Option.{option_copied}
 use Rattle.list_ddmin.specs.ListStep.{Outcome, list_step}
 use Rattle.list_ddmin.specs.Machine.{HasLength}
 use Rattle.reduce_core.specs.Plain.{first_other, is_among}
-use Rattle.reduce_core.specs.Reduction.{candidate, round_of}
+use Rattle.reduce_core.specs.Reduction.{candidate}
 use Rattle.reduce_core.proofs.PlainLemmas.{answered-next, found-other, missing, missing-asked, whole-step}
 use Rattle.reduce_core.proofs.plain.plain_round.Goals as goal
 

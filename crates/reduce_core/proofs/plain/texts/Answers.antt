@@ -1,5 +1,4 @@
-use Rattle.std.proofs.Common.{◌≡◌, ◌≢◌, ◌≤◌, ◌<◌, ◌+◌, ◌∙◌, ℕ, suc, ap, sym, subst, refl, rules, arith, true, false, Bool, List, [], ◌∷◌, ◌++◌, Option, Some, None, length, map}
-use Rattle.std.specs.Prelude.{IfOk}
+use Rattle.std.proofs.Common.{◌≡◌, ◌∙◌, ap, length}
 use Rattle.reduce_core.proofs.PlainLemmas.{all-at}
 use Rattle.reduce_core.proofs.plain.texts.Goals as goal
 

@@ -1,5 +1,4 @@
 use Rattle.std.proofs.Common.{false, ap, sym, ◌∙◌, length, ◌≡◌, ◌++◌, ◌∷◌, []}
-use Rattle.list_ddmin.specs.ListStep.{kept_of}
 use Rattle.reduce_core.proofs.Keeping.{pushed-kept, kept_of-left}
 use Rattle.reduce_core.proofs.lines.Lines.kept.Goals as goal
 use Rattle.reduce_core.proofs.lines.Lines.kept.Goals.{then-keep-k+in_ok-from_slice+in_ok-push, else-keep-k}

@@ -1,4 +1,4 @@
-use Rattle.std.proofs.Common.{◌≡◌, ◌++◌, drop, length}
+use Rattle.std.proofs.Common.{◌≡◌, ◌++◌, drop}
 use Rattle.list_ddmin.specs.ListStep.{kept_of}
 use Rattle.reduce_core.proofs.lines.Lines.kept.Given as goal
 

@@ -1,6 +1,4 @@
-use Rattle.std.proofs.Common.{false, ap, sym, ◌∙◌, length, ◌≡◌, ◌++◌, ◌≤◌, arith, drop, ◌+◌, ◌∷◌}
-use Rattle.std.specs.List.{concat}
-use Rattle.list_ddmin.specs.ListStep.{kept_of}
+use Rattle.std.proofs.Common.{false, ap, sym, ◌∙◌, length, ◌≡◌, ◌++◌, arith}
 use Rattle.reduce_core.proofs.Keeping.{joined-kept, kept_of-kept, kept_of-left}
 use Rattle.reduce_core.proofs.lines.Lines.write_kept.Goals as goal
 use Rattle.reduce_core.proofs.lines.Lines.write_kept.Goals.{then-keep-k+in_ok-extend_from_slice, else-keep-k}
