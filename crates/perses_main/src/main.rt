@@ -9,6 +9,8 @@ mod call;
 mod reduce;
 mod run;
 mod status;
+#[cfg(test)]
+mod tests;
 mod words;
 
 use call::perses;
