@@ -86,7 +86,6 @@ fn accepted(reducer: LineReducer) -> Result<LineReducer, Refusal>
     ensures refused { OnErr result ((gives reducer.state).refused ≡ true) }
     ensures cause { IfErr result (λ refusal. refusal ≡ Refusal.NotInteresting) }
 {
-    let _ = reducer.result();
     if reducer.refused() {
         Err(Refusal::NotInteresting)
     } else {

@@ -1,12 +1,13 @@
 -- What holds of the reducer of lines, whatever it is answered.
-use Rattle.std.specs.Prelude.{◌≡◌, ℕ, List, true, false, length, Option, Some}
+use Rattle.std.specs.Prelude.{◌≡◌, ℕ, List, Bool, map, true, false, length, Option, Some}
 use Rattle.std.specs.List.{concat}
 use Rattle.script_gate.specs.declared.gate.Verdict.{Verdict}
 use Rattle.script_gate.specs.declared.gate.Verdict.TheVariants.{Yes, No}
 use Rattle.verdict_table.specs.Plan.{Reduced, End, HasEnded, MayAsk, follow}
 use Rattle.reduce_core.specs.LineMachine.{Whole, counted, plan_of, reduced}
 use Rattle.reduce_core.specs.Minimal.{HasVerdicts, IsCandidate, IsMinimal}
-use Rattle.reduce_core.specs.Reduction.{Reduction, reduction, says_yes}
+use Rattle.list_ddmin.specs.ListStep.{kept_of}
+use Rattle.reduce_core.specs.Reduction.{Reduction, after_round, candidate, next_round, reduction, round_of, rounds_of, says_yes}
 
 -- what a reduction ends with; a count stays at its greatest value
 abbrev pub result_of : Reduction → Reduced
@@ -38,3 +39,9 @@ EndsMinimal = (V : List ℕ → Option Verdict) (start : List ℕ) →
 -- All that may be asked is some of the start's lines.
 abbrev pub AsksCandidates : Type 0
 AsksCandidates = (start text : List ℕ) → MayAsk (plan_of (Whole start)) text → IsCandidate start text
+
+-- The rounds of a reduction are one round and what follows: the bound in their definition is never met.
+abbrev pub GoesByItsRounds : Type 0
+GoesByItsRounds = (verdict : List ℕ → Bool) (lines : List (List ℕ)) → rounds_of verdict lines
+    ≡ after_round (map (candidate lines) (round_of verdict lines).questions)
+    (next_round (λ left. rounds_of verdict left) lines (kept_of (round_of verdict lines).result lines))

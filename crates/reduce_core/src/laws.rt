@@ -1,6 +1,6 @@
 //! What holds of the reducer of lines, for the proofs of callers.
 
-ghost use Rattle.reduce_core.specs.Laws.{AsksCandidates, EndsMinimal, FollowsReduction, RefusesAtNo};
+ghost use Rattle.reduce_core.specs.Laws.{AsksCandidates, EndsMinimal, FollowsReduction, GoesByItsRounds, RefusesAtNo};
 
 /// Followed over a map of verdicts, the reducer ends exactly where the map has a verdict for each
 /// text that the recursive reduction asks, and then with the reduction's result and counts.
@@ -22,4 +22,9 @@ pub fn ends_minimal()
 /// All that the reducer may ask is some of the start's lines, one after another in their order.
 pub fn asks_candidates()
     ensures { AsksCandidates }
+{}
+
+/// The rounds of a reduction are one round and what follows it, until one changes nothing.
+pub fn goes_by_its_rounds()
+    ensures { GoesByItsRounds }
 {}

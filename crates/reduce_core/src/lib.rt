@@ -15,7 +15,9 @@ mod plain;
 mod tests;
 
 pub use faults::Memory;
-pub use laws::{asks_candidates, ends_minimal, follows_reduction, refuses_at_no};
+pub use laws::{
+    asks_candidates, ends_minimal, follows_reduction, goes_by_its_rounds, refuses_at_no,
+};
 pub use line_reducer::LineReducer;
 pub use lines::Lines;
 pub use plain::{Reduction, Test, plain_reduction};

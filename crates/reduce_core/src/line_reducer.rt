@@ -100,8 +100,7 @@ impl LineReducer {
 
     /// The text of the last yes, at first the start.
     pub fn result(&self) -> &[u8]
-        ensures text { result.now ≡ (gives self.now.state).text }
-        ensures ended { HasEnded (plan_of self.now.state) → plan_of self.now.state ≡ End (gives self.now.state) }
+        ensures { result.now ≡ (gives self.now.state).text }
     {
         self.found.text.as_slice()
     }
@@ -128,9 +127,11 @@ impl LineReducer {
         self.found.rounds
     }
 
-    /// Whether the start was answered no.
+    /// Whether the start was answered no. A reducer that asks nothing more ends with what this and
+    /// the calls before it give.
     pub fn refused(&self) -> bool
-        ensures { result ≡ (gives self.now.state).refused }
+        ensures refused { result ≡ (gives self.now.state).refused }
+        ensures ended { HasEnded (plan_of self.now.state) → plan_of self.now.state ≡ End (gives self.now.state) }
     {
         self.found.refused
     }
