@@ -1,6 +1,6 @@
 //! The program over objects in memory, and over the files and scripts of the machine.
 
-use crate::call::{Ended, perses};
+use crate::call::perses;
 use edge_io::{DiskFiles, MemFiles, MemSink, Sink, StreamSink};
 use script_gate::{Gate, ListGate, ProcessGate, RuleGate, Said, Told, Verdict};
 use std::alloc::Global;
