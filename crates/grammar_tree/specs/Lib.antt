@@ -1,0 +1,14 @@
+pub use Rattle.regex_class.specs.Ranges
+pub mod Chars
+pub mod Written
+pub mod View
+pub mod GrammarView
+pub mod Matches
+pub mod Kinds
+pub mod Derives
+pub mod Corners
+pub mod Size
+pub mod Faults
+pub mod Lexes
+pub mod Code
+pub mod Checked
