@@ -12,3 +12,4 @@ pub mod Faults
 pub mod Lexes
 pub mod Code
 pub mod Checked
+pub mod Laws

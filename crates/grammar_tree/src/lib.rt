@@ -8,6 +8,7 @@
 
 mod char_set;
 mod checked;
+mod laws;
 mod lex_term;
 mod parser_term;
 mod rule;
@@ -16,6 +17,10 @@ mod text;
 pub use char_set::CharSet;
 pub use checked::Checked;
 pub use faults::Memory;
+pub use laws::{
+    complement_twice, derives_by_form, lexes_one_way, lexes_or_stops, matches_by_form,
+    pieces_cover, rules_match_greedily, same_chars_same_set, shortest_is_matched, stops_once,
+};
 pub use lex_term::{LexAlts, LexTerm, LexTerms};
 pub use parser_term::{ParserAlts, ParserTerm, ParserTerms, TokenRef, TokenRefs};
 pub use rule::{Grammar, Kind, KindSource, Rule};

@@ -1,0 +1,103 @@
+-- What follows from the definitions, for the proofs of other crates.
+use Rattle.std.specs.Prelude.{◌≡◌, ◌↔◌, ◌⊎◌, ℕ, ◌<◌, Bool, true, false, not, List, [], ◌∷◌, ◌++◌, Option, Some, None, slice_get, ◌||◌}
+use Rattle.std.specs.List.{Contains, flat_map}
+use Rattle.std.specs.Char.{IsScalar}
+use Rattle.grammar_tree.specs.Chars.{HasExactlyChars, IsCharSet, has}
+use Rattle.grammar_tree.specs.Written.{LexerTerm, LexerSeq, LexerAlts, LexerRule, WrittenGrammar}
+use Rattle.grammar_tree.specs.Matches.{Matches, MatchesAlternative, MatchesAlts, MatchesRule, MatchesSeq, any_is_short, is_short}
+use Rattle.grammar_tree.specs.Derives.{Term, Seq, Alts, Derives, DerivesSeq, DerivesAlts}
+use Rattle.grammar_tree.specs.Faults.{NoStart, start_of, AtParserRule}
+use Rattle.grammar_tree.specs.Lexes.{IsNext, Lexes, LexesTo, Piece, StopsAt}
+
+-- The text or list is cut in two, and each part is of its kind.
+abbrev pub CutsInto : (List ℕ → Type 0) → (List ℕ → Type 0) → List ℕ → Type 0
+CutsInto First Second w = (u : List ℕ) × (v : List ℕ) × (w ≡ u ++ v) × First u × Second v
+
+-- Two sets with the same characters are equal.
+abbrev pub SameCharsSameSet : Type 0
+SameCharsSameSet = (s t : List (ℕ × ℕ)) → IsCharSet s → IsCharSet t → HasExactlyChars s (has t) → s ≡ t
+
+-- The complement of the complement of a set is the set.
+abbrev pub ComplementTwice : Type 0
+ComplementTwice = (s t u : List (ℕ × ℕ)) → IsCharSet s → IsCharSet u →
+    HasExactlyChars t (λ c. not (has s c)) → HasExactlyChars u (λ c. not (has t c)) → u ≡ s
+
+-- How a lexer term matches, by its form. Each is an equivalence, so nothing else matches.
+pub record MatchesByForm (G : List LexerRule) : Type 0 where
+  -- a literal matches itself
+  pub literal : (t w : List ℕ) → Matches G (LexerTerm.literal t) w ↔ (w ≡ t)
+  -- a set matches one of its characters
+  pub set : (s : List (ℕ × ℕ)) (w : List ℕ) → Matches G (LexerTerm.set s) w ↔ ((c : ℕ) × (w ≡ c ∷ []) × (has s c ≡ true))
+  -- a name matches what the alternatives of its rule do
+  pub name : (n w : List ℕ) → Matches G (LexerTerm.name n) w ↔ ((rule : LexerRule) × Contains G rule × (rule.name ≡ n) × MatchesAlts G rule.alts w)
+  -- a block matches what its alternatives do
+  pub block : (a : LexerAlts) (w : List ℕ) → Matches G (LexerTerm.block a) w ↔ MatchesAlts G a w
+  -- `?` matches the empty text, and what its term does
+  pub opt : (t : LexerTerm) (w : List ℕ) → Matches G (LexerTerm.opt t) w ↔ ((w ≡ []) ⊎ Matches G t w)
+  -- a star matches the empty text, and its term with a star after it
+  pub star : (t : LexerTerm) (w : List ℕ) → Matches G (LexerTerm.star t) w ↔ ((w ≡ []) ⊎ CutsInto (Matches G t) (Matches G (LexerTerm.star t)) w)
+  -- a plus matches its term with a star after it
+  pub plus : (t : LexerTerm) (w : List ℕ) → Matches G (LexerTerm.plus t) w ↔ CutsInto (Matches G t) (Matches G (LexerTerm.star t)) w
+  -- greedily a non-greedy loop matches what the star of its set does
+  pub short : (s : List (ℕ × ℕ)) (w : List ℕ) → Matches G (LexerTerm.short s) w ↔ Matches G (LexerTerm.star (LexerTerm.set s)) w
+  -- nothing matches the empty text
+  pub done : (w : List ℕ) → MatchesSeq G LexerSeq.done w ↔ (w ≡ [])
+  -- a sequence matches what is cut into what its first term matches and what the rest does
+  pub next : (t : LexerTerm) (s : LexerSeq) (w : List ℕ) → MatchesSeq G (LexerSeq.next t s) w ↔ CutsInto (Matches G t) (MatchesSeq G s) w
+  -- no alternatives match nothing
+  pub none : (w : List ℕ) → ¬ MatchesAlts G LexerAlts.none w
+  -- alternatives match what the first does and what the others do
+  pub or : (s : LexerSeq) (a : LexerAlts) (w : List ℕ) → MatchesAlts G (LexerAlts.or s a) w ↔ (MatchesSeq G s w ⊎ MatchesAlts G a w)
+
+-- A non-greedy alternative matches no text that goes on from another text that it matches.
+abbrev pub ShortestIsMatched : Type 0
+ShortestIsMatched = (G : List LexerRule) (s : LexerSeq) (u v : List ℕ) → is_short s ≡ true →
+    MatchesAlternative G s u → MatchesAlternative G s (u ++ v) → v ≡ []
+
+-- What a rule matches, its alternatives match greedily; and where no alternative is non-greedy, that is all.
+pub record RulesMatchGreedily (G : List LexerRule) : Type 0 where
+  pub within : (a : LexerAlts) (w : List ℕ) → MatchesRule G a w → MatchesAlts G a w
+  pub all : (a : LexerAlts) (w : List ℕ) → any_is_short a ≡ false → MatchesAlts G a w → MatchesRule G a w
+
+-- How a term of a parser rule derives, by its form. Each is an equivalence, so nothing else is derived.
+pub record DerivesByForm (G : List Alts) : Type 0 where
+  -- a kind derives itself
+  pub kind : (k : ℕ) (w : List ℕ) → Derives G (Term.kind k) w ↔ (w ≡ k ∷ [])
+  -- a set derives one of its kinds
+  pub among : (ks w : List ℕ) → Derives G (Term.among ks) w ↔ ((k : ℕ) × (w ≡ k ∷ []) × Contains ks k)
+  -- a rule derives what its alternatives do
+  pub rule : (r : ℕ) (a : Alts) (w : List ℕ) → slice_get G r ≡ Some a → Derives G (Term.rule r) w ↔ DerivesAlts G a w
+  -- so does a block
+  pub block : (a : Alts) (w : List ℕ) → Derives G (Term.block a) w ↔ DerivesAlts G a w
+  -- `?` derives the empty list, and what its term does
+  pub opt : (t : Term) (w : List ℕ) → Derives G (Term.opt t) w ↔ ((w ≡ []) ⊎ Derives G t w)
+  -- a star derives the empty list, and its term with a star after it
+  pub star : (t : Term) (w : List ℕ) → Derives G (Term.star t) w ↔ ((w ≡ []) ⊎ CutsInto (Derives G t) (Derives G (Term.star t)) w)
+  -- a plus derives its term with a star after it
+  pub plus : (t : Term) (w : List ℕ) → Derives G (Term.plus t) w ↔ CutsInto (Derives G t) (Derives G (Term.star t)) w
+  -- `EOF` derives the empty list
+  pub eof : (w : List ℕ) → Derives G Term.eof w ↔ (w ≡ [])
+  -- nothing derives the empty list
+  pub done : (w : List ℕ) → DerivesSeq G Seq.done w ↔ (w ≡ [])
+  -- a sequence derives what is cut into what its first term derives and what the rest does
+  pub next : (t : Term) (s : Seq) (w : List ℕ) → DerivesSeq G (Seq.next t s) w ↔ CutsInto (Derives G t) (DerivesSeq G s) w
+  -- no alternatives derive nothing
+  pub none : (w : List ℕ) → ¬ DerivesAlts G Alts.none w
+  -- alternatives derive what the first does and what the others do
+  pub or : (s : Seq) (a : Alts) (w : List ℕ) → DerivesAlts G (Alts.or s a) w ↔ (DerivesSeq G s w ⊎ DerivesAlts G a w)
+
+-- The pieces that a text is cut into, one after another, are the text.
+abbrev pub PiecesCover : Type 0
+PiecesCover = (G : WrittenGrammar) (text : List ℕ) (pieces : List Piece) → Lexes G text pieces → flat_map (λ (p : Piece). p.text) pieces ≡ text
+
+-- A text is cut into pieces in one way at most.
+abbrev pub LexesOneWay : Type 0
+LexesOneWay = (G : WrittenGrammar) (text : List ℕ) (pieces others : List Piece) → Lexes G text pieces → Lexes G text others → pieces ≡ others
+
+-- A text that is cut into pieces has no offset where the reading stops.
+abbrev pub LexesOrStops : Type 0
+LexesOrStops = (G : WrittenGrammar) (text : List ℕ) (pieces : List Piece) (offset : ℕ) → Lexes G text pieces → ¬ StopsAt G text offset
+
+-- The reading stops at one offset at most.
+abbrev pub StopsOnce : Type 0
+StopsOnce = (G : WrittenGrammar) (text : List ℕ) (offset other : ℕ) → StopsAt G text offset → StopsAt G text other → offset ≡ other
