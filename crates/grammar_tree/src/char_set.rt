@@ -1,11 +1,11 @@
 //! Sets of characters.
 
-ghost use Rattle.std.specs.Prelude.{◌≡◌, ◌||◌, not, IfOk};
+ghost use Rattle.std.specs.Prelude.{◌≡◌, ◌||◌, ◌<◌, ◌≤◌, ℕ, false, true, not, length, IfOk, OnOk};
 ghost use Rattle.grammar_tree.specs.Chars.{HasExactlyChars, has, is_surrogate};
-ghost use Rattle.regex_class.specs.Ranges.{HasExactly, in_ranges};
+ghost use Rattle.regex_class.specs.Ranges.{HasExactly, StartsAtMost, in_range, in_ranges, range_at};
 
 use faults::Memory;
-use regex_class::Class;
+use regex_class::{Class, ClassRange};
 use std::alloc::Global;
 use std::marker::Model;
 
@@ -40,7 +40,7 @@ impl CharSet {
         for range in ranges {
             numbers.push((u32::from(range.0), u32::from(range.1)))?;
         }
-        without_surrogates(alloc, &Class::new(numbers)?)
+        chars_outside(&Class::new(numbers)?.negate(regex_class::MAX)?)
     }
 
     /// An equal set.
@@ -64,16 +64,26 @@ impl CharSet {
         ensures { IfOk result (λ set. HasExactlyChars set (λ c. has self.now c || has other.now c)) }
     {
         Ok(CharSet {
-            class: self.class.union(&other.class)?,
+            class: merged(&self.class, &other.class)?,
         })
     }
 
     /// The characters that the set doesn't have.
-    pub fn complement(&self, alloc: Global) -> Result<CharSet, Memory>
+    pub fn complement(&self) -> Result<CharSet, Memory>
         ensures { IfOk result (λ set. HasExactlyChars set (λ c. not (has self.now c))) }
     {
-        without_surrogates(alloc, &self.class.negate(regex_class::MAX)?)
+        chars_outside(&self.class)
     }
+}
+
+/// The characters outside a class.
+fn chars_outside(class: &Class) -> Result<CharSet, Memory>
+    ensures { IfOk result (λ set. HasExactlyChars set (λ c. not (in_ranges class.now.ranges.items c))) }
+{
+    let surrogates = surrogates(*class.ranges.allocator())?;
+    Ok(CharSet {
+        class: merged(class, &surrogates)?.negate(regex_class::MAX)?,
+    })
 }
 
 /// The numbers that are no characters.
@@ -83,11 +93,49 @@ fn surrogates(alloc: Global) -> Result<Class, Memory>
     Ok(Class::from_ranges(alloc, &[(0xD800, 0xDFFF)])?)
 }
 
-/// The characters among the numbers of a class.
-fn without_surrogates(alloc: Global, class: &Class) -> Result<CharSet, Memory>
-    ensures { IfOk result (λ set. HasExactlyChars set (in_ranges class.now.ranges.items)) }
+/// The numbers of both classes, in one pass over their ranges.
+fn merged(left: &Class, right: &Class) -> Result<Class, Memory>
+    ensures { IfOk result (λ all. (c : ℕ) → in_ranges all.ranges.items c ≡ (in_ranges left.now.ranges.items c || in_ranges right.now.ranges.items c)) }
 {
-    Ok(CharSet {
-        class: class.difference(&surrogates(alloc)?)?,
-    })
+    let mut all = Class::empty(*left.ranges.allocator());
+    let mut i = 0;
+    let mut j = 0;
+    while i < left.ranges.len() || j < right.ranges.len() {
+        if is_first(&left.ranges, i, &right.ranges, j) {
+            add_range(&mut all, left.ranges[i])?;
+            i += 1;
+        } else {
+            add_range(&mut all, right.ranges[j])?;
+            j += 1;
+        }
+    }
+    Ok(all)
+}
+
+/// Whether the next range of `left`, from `i` on, starts no later than that of `right`, from `j` on.
+fn is_first(left: &[ClassRange], i: usize, right: &[ClassRange], j: usize) -> bool
+    ensures left { result ≡ true → (i < length left.now) × (j < length right.now → (range_at left.now i).0 ≤ (range_at right.now j).0) }
+    ensures right { result ≡ false → i < length left.now → (j < length right.now) × ((range_at right.now j).0 ≤ (range_at left.now i).0) }
+{
+    i < left.len() && (j >= right.len() || left[i].0 <= right[j].0)
+}
+
+/// Adds a range that starts no earlier than those already there.
+fn add_range(class: &mut Class, range: ClassRange) -> Result<(), Memory>
+    requires ordered { range.0 ≤ range.1 }
+    requires bounded { range.1 ≤ 0x10FFFF }
+    requires last { StartsAtMost class.old.ranges.items range.0 }
+    ensures members { OnOk result ((c : ℕ) → in_ranges class.new.ranges.items c ≡ (in_ranges class.old.ranges.items c || in_range range c)) }
+    ensures starts { OnOk result (StartsAtMost class.new.ranges.items range.0) }
+{
+    let len = class.ranges.len();
+    if len > 0 {
+        let last = class.ranges[len - 1];
+        if range.0 <= last.1 + 1 {
+            class.ranges[len - 1] = (last.0, last.1.max(range.1));
+            return Ok(());
+        }
+    }
+    class.ranges.push(range)?;
+    Ok(())
 }
