@@ -12,6 +12,8 @@ mod laws;
 mod lex_term;
 mod parser_term;
 mod rule;
+#[cfg(test)]
+mod tests;
 mod text;
 
 pub use char_set::CharSet;
