@@ -1,6 +1,6 @@
 -- The kinds of tokens of a grammar in the order of their numbers, which count from 0, and what the names and literals of parser rules stand for.
 use Rattle.std.specs.Prelude.{ℕ, suc, Bool, true, false, not, ◌&&◌, List, [], ◌∷◌, ◌++◌, map, filter, Option, Some, None, is_none, find, position, option_map, nat_eq, length}
-use Rattle.std.specs.List.{filter_map, flat_map, list_any}
+use Rattle.std.specs.List.{filter_map, flat_map}
 use Rattle.std.specs.Option.{option_map_or}
 use Rattle.std.specs.Str.{bytes_eq}
 use Rattle.grammar_tree.specs.Written.{Reference, WrittenTerm, WrittenSeq, WrittenAlts, LexerTerm, LexerSeq, LexerAlts, ParserRule, LexerRule, WrittenRule, WrittenGrammar, Source, TokenKind}
@@ -138,7 +138,7 @@ has_name n kind = from_source kind.source (same_text kind.name n)
 -- The kind that a literal in a parser rule names: that of the first lexer rule that it can name, and else its implicit token.
 abbrev pub literal_kind : WrittenGrammar → List ℕ → Option ℕ
 literal_kind G t =
-    option_map_or (λ place. position (is_written_at place) (kinds_of G)) (position (is_implicit t) (kinds_of G)) (position (is_named_by t) G.rules)
+    option_map_or (λ place. position (is_written_at place) (kinds_of G)) (position (is_named_by t) G.rules) (position (is_implicit t) (kinds_of G))
 
 -- the kind that a token's name stands for: that of a lexer rule or of a declared token
 abbrev pub name_kind : WrittenGrammar → List ℕ → Option ℕ
@@ -172,4 +172,4 @@ is_kind k (Some other) = nat_eq other k
 
 -- `~`: all of these but the named ones
 abbrev pub other_kinds : WrittenGrammar → List Reference → List ℕ
-other_kinds G refs = filter (λ k. not (list_any (λ r. is_kind k (reference_kind G r)) refs)) (any_kinds G)
+other_kinds G refs = filter (λ k. is_none (find (λ r. is_kind k (reference_kind G r)) refs)) (any_kinds G)
