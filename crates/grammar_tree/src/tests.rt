@@ -101,27 +101,28 @@ fn lexer_rule(alloc: Global) -> Result<Rule, Memory> {
     })
 }
 
+/// Whether the rule's matches are gaps, how many alternatives it has, and how many terms the first.
+fn shape(rule: &Rule) -> (bool, usize, usize) {
+    match rule {
+        Rule::Parser { alts, .. } => {
+            let terms = alts.items.first().map_or(0, |alt| alt.items.len());
+            (false, alts.items.len(), terms)
+        }
+        Rule::Lexer { gap, alts, .. } => {
+            let terms = alts.items.first().map_or(0, |alt| alt.items.len());
+            (*gap, alts.items.len(), terms)
+        }
+    }
+}
+
 #[test]
 fn a_copy_has_the_same_rules(rt: HostRuntime) -> Result<(), Fail> {
     let copy = small_grammar(rt.alloc())?.copy(rt.alloc())?;
     assert_eq!(rt; copy.name.as_str(), "G");
     assert_eq!(rt; copy.tokens.len(), 1);
     assert_eq!(rt; copy.rules.len(), 2);
-    match &copy.rules[0] {
-        Rule::Parser { name, alts } => {
-            assert_eq!(rt; name.as_str(), "a");
-            assert_eq!(rt; alts.items.len(), 1);
-            assert_eq!(rt; alts.items[0].items.len(), 2);
-        }
-        Rule::Lexer { .. } => assert!(rt; false, "the first rule is one of the parser"),
-    }
-    match &copy.rules[1] {
-        Rule::Parser { .. } => assert!(rt; false, "the second rule is one of the lexer"),
-        Rule::Lexer { gap, alts, .. } => {
-            assert!(rt; *gap);
-            assert_eq!(rt; alts.items[0].items.len(), 3);
-        }
-    }
+    assert_eq!(rt; shape(&copy.rules[0]), (false, 1, 2));
+    assert_eq!(rt; shape(&copy.rules[1]), (true, 1, 3));
     Ok(())
 }
 
