@@ -71,11 +71,11 @@ pub data NoStart (G : WrittenGrammar) : Option (List ℕ) → List ℕ → Type 
   no_parser_rule : (wanted : Option (List ℕ)) → parser_rules G.rules ≡ [] → NoStart G wanted []
   not_there : (name : List ℕ) → parser_rules G.rules ≢ [] → (¬ Contains (map (λ (r : ParserRule). r.name) (parser_rules G.rules)) name) → NoStart G (Some name) name
 
-abbrev is_parser_rule : WrittenRule → Bool
+abbrev pub is_parser_rule : WrittenRule → Bool
 is_parser_rule (WrittenRule.parser_rule r) = true
 is_parser_rule (WrittenRule.lexer_rule r) = false
 
-abbrev is_parser_rule_named : List ℕ → WrittenRule → Bool
+abbrev pub is_parser_rule_named : List ℕ → WrittenRule → Bool
 is_parser_rule_named name (WrittenRule.parser_rule r) = same_text r.name name
 is_parser_rule_named name (WrittenRule.lexer_rule r) = false
 

@@ -6,7 +6,7 @@ use Rattle.grammar_tree.specs.Chars.{HasExactlyChars, IsCharSet, has}
 use Rattle.grammar_tree.specs.Written.{LexerTerm, LexerSeq, LexerAlts, LexerRule, WrittenGrammar}
 use Rattle.grammar_tree.specs.Matches.{Matches, MatchesAlternative, MatchesAlts, MatchesRule, MatchesSeq, any_is_short, is_short}
 use Rattle.grammar_tree.specs.Derives.{Term, Seq, Alts, Derives, DerivesSeq, DerivesAlts}
-use Rattle.grammar_tree.specs.Faults.{NoStart, start_of, AtParserRule}
+use Rattle.grammar_tree.specs.Faults.{AtParserRule, IsWellFormed, start_of}
 use Rattle.grammar_tree.specs.Lexes.{IsNext, Lexes, LexesTo, Piece, StopsAt}
 
 -- The text or list is cut in two, and each part is of its kind.
@@ -101,3 +101,12 @@ LexesOrStops = (G : WrittenGrammar) (text : List ℕ) (pieces : List Piece) (off
 -- The reading stops at one offset at most.
 abbrev pub StopsOnce : Type 0
 StopsOnce = (G : WrittenGrammar) (text : List ℕ) (offset other : ℕ) → StopsAt G text offset → StopsAt G text other → offset ≡ other
+
+-- The place of the start rule has a parser rule, which has the wanted name.
+abbrev pub StartIsThere : Type 0
+StartIsThere = (G : WrittenGrammar) (wanted : Option (List ℕ)) (i : ℕ) → start_of G wanted ≡ Some i →
+    AtParserRule G i (λ rule. (name : List ℕ) → wanted ≡ Some name → rule.name ≡ name)
+
+-- Some grammar is well-formed.
+abbrev pub SomeIsWellFormed : Type 0
+SomeIsWellFormed = (G : WrittenGrammar) × (start : ℕ) × IsWellFormed G start

@@ -17,7 +17,7 @@ abbrev pub token_ref : TokenRef → Reference
 token_ref (TokenRef.Literal t) = Reference.literal t
 token_ref (TokenRef.Name t) = Reference.name t
 
-abbrev parser_node : ParserTerm-F WrittenTerm (List (List WrittenTerm)) (List WrittenTerm) → WrittenTerm
+abbrev pub parser_node : ParserTerm-F WrittenTerm (List (List WrittenTerm)) (List WrittenTerm) → WrittenTerm
 parser_node (ParserTerm-F.Literal t) = WrittenTerm.literal t
 parser_node (ParserTerm-F.Name t) = WrittenTerm.name t
 parser_node ParserTerm-F.Any = WrittenTerm.any
@@ -28,10 +28,10 @@ parser_node (ParserTerm-F.Star t) = WrittenTerm.star t.value
 parser_node (ParserTerm-F.Plus t) = WrittenTerm.plus t.value
 parser_node ParserTerm-F.Eof = WrittenTerm.eof
 
-abbrev parser_seq_node : ParserTerms-F WrittenTerm (List (List WrittenTerm)) (List WrittenTerm) → List WrittenTerm
+abbrev pub parser_seq_node : ParserTerms-F WrittenTerm (List (List WrittenTerm)) (List WrittenTerm) → List WrittenTerm
 parser_seq_node s = s.items.items
 
-abbrev parser_alts_node : ParserAlts-F WrittenTerm (List (List WrittenTerm)) (List WrittenTerm) → List (List WrittenTerm)
+abbrev pub parser_alts_node : ParserAlts-F WrittenTerm (List (List WrittenTerm)) (List WrittenTerm) → List (List WrittenTerm)
 parser_alts_node a = a.items.items
 
 abbrev pub parser_term : ParserTerm → WrittenTerm
@@ -43,7 +43,7 @@ parser_terms = fold-ParserTerms WrittenTerm (List (List WrittenTerm)) (List Writ
 abbrev pub parser_alts : ParserAlts → List (List WrittenTerm)
 parser_alts = fold-ParserAlts WrittenTerm (List (List WrittenTerm)) (List WrittenTerm) parser_node parser_alts_node parser_seq_node
 
-abbrev lex_node : LexTerm-F LexerTerm (List (List LexerTerm)) (List LexerTerm) → LexerTerm
+abbrev pub lex_node : LexTerm-F LexerTerm (List (List LexerTerm)) (List LexerTerm) → LexerTerm
 lex_node (LexTerm-F.Literal t) = LexerTerm.literal t
 lex_node (LexTerm-F.Set s) = LexerTerm.set s
 lex_node (LexTerm-F.Name t) = LexerTerm.name t
@@ -53,10 +53,10 @@ lex_node (LexTerm-F.Star t) = LexerTerm.star t.value
 lex_node (LexTerm-F.Plus t) = LexerTerm.plus t.value
 lex_node (LexTerm-F.Short s) = LexerTerm.short s
 
-abbrev lex_seq_node : LexTerms-F LexerTerm (List (List LexerTerm)) (List LexerTerm) → List LexerTerm
+abbrev pub lex_seq_node : LexTerms-F LexerTerm (List (List LexerTerm)) (List LexerTerm) → List LexerTerm
 lex_seq_node s = s.items.items
 
-abbrev lex_alts_node : LexAlts-F LexerTerm (List (List LexerTerm)) (List LexerTerm) → List (List LexerTerm)
+abbrev pub lex_alts_node : LexAlts-F LexerTerm (List (List LexerTerm)) (List LexerTerm) → List (List LexerTerm)
 lex_alts_node a = a.items.items
 
 abbrev pub lex_term : LexTerm → LexerTerm

@@ -3,7 +3,7 @@
 
 ghost use Rattle.std.specs.Prelude.{List};
 ghost use Rattle.grammar_tree.specs.Derives.{Alts};
-ghost use Rattle.grammar_tree.specs.Laws.{ComplementTwice, DerivesByForm, LexesOneWay, LexesOrStops, MatchesByForm, PiecesCover, RulesMatchGreedily, SameCharsSameSet, ShortestIsMatched, StopsOnce};
+ghost use Rattle.grammar_tree.specs.Laws.{ComplementTwice, DerivesByForm, LexesOneWay, LexesOrStops, MatchesByForm, PiecesCover, RulesMatchGreedily, SameCharsSameSet, ShortestIsMatched, SomeIsWellFormed, StartIsThere, StopsOnce};
 ghost use Rattle.grammar_tree.specs.Written.{LexerRule};
 
 /// Two sets with the same characters are equal.
@@ -57,4 +57,14 @@ pub fn lexes_or_stops()
 /// The reading of a text stops at one offset at most.
 pub fn stops_once()
     ensures { StopsOnce }
+{}
+
+/// The place of the start rule has a parser rule, which has the wanted name.
+pub fn start_is_there()
+    ensures { StartIsThere }
+{}
+
+/// Some grammar is well-formed.
+pub fn some_is_well_formed()
+    ensures { SomeIsWellFormed }
 {}

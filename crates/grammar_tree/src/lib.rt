@@ -21,7 +21,8 @@ pub use checked::Checked;
 pub use faults::Memory;
 pub use laws::{
     complement_twice, derives_by_form, lexes_one_way, lexes_or_stops, matches_by_form,
-    pieces_cover, rules_match_greedily, same_chars_same_set, shortest_is_matched, stops_once,
+    pieces_cover, rules_match_greedily, same_chars_same_set, shortest_is_matched,
+    some_is_well_formed, start_is_there, stops_once,
 };
 pub use lex_term::{LexAlts, LexTerm, LexTerms};
 pub use parser_term::{ParserAlts, ParserTerm, ParserTerms, TokenRef, TokenRefs};
