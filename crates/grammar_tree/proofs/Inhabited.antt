@@ -1,9 +1,9 @@
 -- A grammar that no fault holds of: grammar K; a : 'x' ;
-use Rattle.std.proofs.Common.{◌≡◌, ◌+◌, ◌≤◌, ◌<◌, ◌⊎◌, ℕ, zero, suc, Bool, true, false, cond, List, [], ◌∷◌, Some, None, slice_get, refl, sym, ap, ◌∙◌, subst, arith, true≢false, inl, inr}
+use Rattle.std.proofs.Common.{◌≡◌, ◌+◌, ◌≤◌, ◌⊎◌, ℕ, zero, suc, Bool, true, false, cond, List, [], ◌∷◌, Some, slice_get, refl, sym, ap, subst, arith, true≢false, inl, inr}
 use Rattle.std.specs.List.{Contains}
 use Rattle.grammar_tree.specs.Written.{Reference, WrittenTerm, WrittenSeq, WrittenAlts, ParserRule, LexerRule, WrittenRule, WrittenGrammar}
 use Rattle.grammar_tree.specs.Kinds.{kinds_of, same_text}
-use Rattle.grammar_tree.specs.Derives.{Term, Seq, Alts, Derives, DerivesAlts, bodies, resolved_alts}
+use Rattle.grammar_tree.specs.Derives.{Term, Seq, Alts, DerivesAlts, bodies, resolved_alts}
 use Rattle.grammar_tree.specs.Corners.{BeginsAlts, HasEmptyLoopAlts, IsLeftCorner, LeadsTo, bases, normal_count, rests}
 use Rattle.grammar_tree.specs.Faults.{any_has_eof, is_misplaced, number_at, TwoRules, NoRule, EofPlace, NoBase, EmptyLoop, LeftRecursion, TooManyRules, Uses, IsWellFormed}
 

@@ -1,10 +1,10 @@
 -- A text is cut into pieces in one way.
-use Rattle.std.proofs.Common.{◌≡◌, ◌≢◌, ◌⊎◌, inl, inr, ℕ, ◌+◌, ◌<◌, ◌≤◌, List, [], ◌∷◌, ◌++◌, length, refl, sym, ap, ap₂, ◌∙◌, subst, arith}
+use Rattle.std.proofs.Common.{◌≡◌, ◌≢◌, ℕ, List, [], ◌∷◌, ◌++◌, length, refl, sym, ap, ap₂, ◌∙◌, subst, arith}
 use Rattle.std.proofs.lemmas.List.{append_assoc, length-append, append-nil}
 use Rattle.std.specs.Prelude.{encode_utf8_all}
 use Rattle.std.specs.List.{flat_map}
 use Rattle.grammar_tree.specs.Written.{WrittenGrammar}
-use Rattle.grammar_tree.specs.Lexes.{IsNext, KindMatches, Lexes, LexesTo, Piece, StopsAt}
+use Rattle.grammar_tree.specs.Lexes.{IsNext, KindMatches, LexesTo, Piece}
 use Rattle.grammar_tree.specs.Laws.{PiecesCover, LexesOneWay, LexesOrStops, StopsOnce}
 
 append_same : (a b c d : List ℕ) → a ++ b ≡ c ++ d → length a ≡ length c → (a ≡ c) × (b ≡ d)

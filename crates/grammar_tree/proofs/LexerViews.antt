@@ -1,5 +1,5 @@
 -- What contracts see of each form of term, as equations, for the proofs of code that reads or makes terms.
-use Rattle.std.proofs.Common.{◌≡◌, ℕ, List, Box, Global, map, refl, sym, ap, ◌∙◌}
+use Rattle.std.proofs.Common.{◌≡◌, ℕ, List, Box, Global, sym, ap, ◌∙◌}
 use Rattle.grammar_tree.specs.Written.{LexerTerm, lexer_alts}
 use Rattle.grammar_tree.specs.View.{lex_term, lex_alts, lex_node, lex_seq_node, lex_alts_node}
 use Rattle.grammar_tree.specs.declared.lex_term.LexAlts.{LexAlts}

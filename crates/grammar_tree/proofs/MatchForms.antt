@@ -1,10 +1,9 @@
 -- How lexer terms match, by their form.
-use Rattle.std.proofs.Common.{◌≡◌, ◌↔◌, ◌⊎◌, inl, inr, ℕ, Bool, true, false, ◌||◌, List, [], ◌∷◌, ◌++◌, refl, sym, ap, ◌∙◌, subst, true≢false}
+use Rattle.std.proofs.Common.{◌≡◌, ◌⊎◌, inl, inr, ℕ, Bool, true, false, ◌||◌, List, [], ◌∷◌, ◌++◌, refl, sym, ◌∙◌, subst, true≢false}
 use Rattle.std.specs.List.{Contains}
-use Rattle.std.proofs.lemmas.List.{append-nil}
 use Rattle.grammar_tree.specs.Chars.{has}
 use Rattle.grammar_tree.specs.Written.{LexerTerm, LexerSeq, LexerAlts, LexerRule}
-use Rattle.grammar_tree.specs.Matches.{Matches, MatchesMany, MatchesSeq, MatchesAlts, MatchesAlternative, MatchesRule, is_short, any_is_short}
+use Rattle.grammar_tree.specs.Matches.{Matches, MatchesMany, MatchesSeq, MatchesAlts, MatchesRule, is_short, any_is_short}
 use Rattle.grammar_tree.specs.Laws.{CutsInto, MatchesByForm, ShortestIsMatched, RulesMatchGreedily}
 
 neither : (x y : Bool) → (x || y) ≡ false → (x ≡ false) × (y ≡ false)

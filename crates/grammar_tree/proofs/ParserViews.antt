@@ -1,5 +1,5 @@
 -- What contracts see of each form of term, as equations, for the proofs of code that reads or makes terms.
-use Rattle.std.proofs.Common.{◌≡◌, ℕ, List, Box, Global, map, refl, sym, ap, ◌∙◌}
+use Rattle.std.proofs.Common.{◌≡◌, ℕ, List, Box, Global, map, sym, ap, ◌∙◌}
 use Rattle.grammar_tree.specs.Written.{WrittenTerm, written_alts}
 use Rattle.grammar_tree.specs.View.{parser_term, parser_alts, token_ref, parser_node, parser_seq_node, parser_alts_node}
 use Rattle.grammar_tree.specs.declared.parser_term.TokenRefs.{TokenRefs}

@@ -1,6 +1,6 @@
 -- The definitions at small grammars, worked by hand.
-use Rattle.std.proofs.Common.{◌≡◌, ℕ, true, false, List, [], ◌∷◌, Some, None, refl, inl, inr}
-use Rattle.grammar_tree.specs.Written.{Reference, WrittenTerm, WrittenSeq, WrittenAlts, LexerTerm, LexerSeq, LexerAlts, ParserRule, LexerRule, WrittenRule, WrittenGrammar, Source, TokenKind}
+use Rattle.std.proofs.Common.{◌≡◌, ℕ, true, false, List, [], ◌∷◌, Some, None, refl, inl}
+use Rattle.grammar_tree.specs.Written.{Reference, WrittenTerm, WrittenSeq, WrittenAlts, LexerTerm, LexerSeq, LexerAlts, WrittenRule, WrittenGrammar, Source}
 use Rattle.grammar_tree.specs.Kinds.{kinds_of, literal_kind, name_kind, any_kinds, other_kinds}
 use Rattle.grammar_tree.specs.Derives.{Term, Seq, Alts, bodies}
 use Rattle.grammar_tree.specs.Corners.{IsLeftCorner, bases, group_size, normal_count, rests}

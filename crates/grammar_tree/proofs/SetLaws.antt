@@ -1,7 +1,6 @@
 -- Sets with the same characters are equal.
-use Rattle.std.proofs.Common.{◌≡◌, ℕ, ◌<◌, ◌≤◌, Bool, true, false, not, List, refl, sym, ap, ◌∙◌, arith}
+use Rattle.std.proofs.Common.{◌≡◌, ℕ, ◌≤◌, Bool, true, false, not, List, refl, sym, ap, ◌∙◌, arith}
 use Rattle.std.specs.Char.{IsScalar}
-use Rattle.regex_class.specs.Ranges.{in_ranges}
 use Rattle.regex_class.proofs.RangesLemmas.{same_members-same}
 use Rattle.grammar_tree.specs.Chars.{HasExactlyChars, IsCharSet, has, is_surrogate}
 use Rattle.grammar_tree.specs.Laws.{SameCharsSameSet, ComplementTwice}

@@ -1,12 +1,11 @@
 -- Where the start rule is.
-use Rattle.std.proofs.Common.{◌≡◌, ◌≢◌, ◌↔◌, ◌⊎◌, inl, inr, ℕ, zero, suc, ◌<◌, ◌≤◌, Bool, true, false, cond, nat_lt, List, [], ◌∷◌, Option, Some, None, slice_get, length, map, refl, sym, ap, ◌∙◌, subst, arith, true≢false, slice_index_or}
+use Rattle.std.proofs.Common.{◌≡◌, ℕ, Bool, true, false, List, [], Some, None, slice_get, refl, sym, ap, ◌∙◌, true≢false, slice_index_or}
 use Rattle.std.proofs.lemmas.List.Quantifiers.{position-Some}
 use Rattle.std.proofs.lemmas.Option.{slice_get-get_or, none-some}
 use Rattle.std.proofs.lemmas.Slice.Eq.{bytes_eq-Decides}
-use Rattle.std.specs.List.{Contains, position}
-use Rattle.grammar_tree.specs.Written.{ParserRule, LexerRule, WrittenAlts, WrittenRule, WrittenGrammar}
-use Rattle.grammar_tree.specs.Kinds.{parser_rules}
-use Rattle.grammar_tree.specs.Faults.{is_parser_rule, is_parser_rule_named, start_of}
+use Rattle.std.specs.List.{position}
+use Rattle.grammar_tree.specs.Written.{ParserRule, LexerRule, WrittenAlts, WrittenRule}
+use Rattle.grammar_tree.specs.Faults.{is_parser_rule, is_parser_rule_named}
 use Rattle.grammar_tree.specs.Laws.{StartIsThere, SomeIsWellFormed}
 use Rattle.grammar_tree.proofs.Inhabited.{K, K_is_well_formed}
 

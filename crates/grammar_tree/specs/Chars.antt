@@ -1,5 +1,5 @@
 -- Characters, and sets of them.
-use Rattle.std.specs.Prelude.{◌≡◌, ℕ, ◌≤◌, Bool, true, false, ◌&&◌, nat_le, List}
+use Rattle.std.specs.Prelude.{◌≡◌, ℕ, Bool, true, false, ◌&&◌, nat_le, List}
 use Rattle.std.specs.Char.{IsScalar}
 use Rattle.regex_class.specs.Ranges.{IsCanonical, in_ranges}
 

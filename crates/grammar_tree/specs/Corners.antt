@@ -1,6 +1,6 @@
 -- Terms that can be empty, direct left recursion, left corners, and how many rules the normal form has.
-use Rattle.std.specs.Prelude.{◌≡◌, ℕ, zero, suc, ◌+◌, ◌⊎◌, nat_eq, cond, List, [], ◌∷◌, Option, Some, None, slice_get}
-use Rattle.grammar_tree.specs.Derives.{Term, Seq, Alts, Derives, DerivesSeq, DerivesAlts}
+use Rattle.std.specs.Prelude.{◌≡◌, ℕ, suc, ◌+◌, ◌⊎◌, nat_eq, cond, List, [], ◌∷◌, Option, Some, None, slice_get}
+use Rattle.grammar_tree.specs.Derives.{Term, Seq, Alts, Derives, DerivesAlts}
 
 -- the term derives the empty list
 abbrev pub CanBeEmpty : List Alts → Term → Type 0

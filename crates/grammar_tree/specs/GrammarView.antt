@@ -1,5 +1,5 @@
 -- What contracts see of rules, grammars and kinds.
-use Rattle.std.specs.Prelude.{List, map}
+use Rattle.std.specs.Prelude.{map}
 use Rattle.grammar_tree.specs.Written.{WrittenRule, WrittenGrammar, Source, TokenKind, written_alts, lexer_alts}
 use Rattle.grammar_tree.specs.View.{parser_alts, lex_alts}
 use Rattle.grammar_tree.specs.declared.rule.Rule.{Rule}

@@ -1,13 +1,12 @@
 -- What follows from the definitions, for the proofs of other crates.
-use Rattle.std.specs.Prelude.{◌≡◌, ◌↔◌, ◌⊎◌, ℕ, ◌<◌, Bool, true, false, not, List, [], ◌∷◌, ◌++◌, Option, Some, None, slice_get, ◌||◌}
+use Rattle.std.specs.Prelude.{◌≡◌, ◌↔◌, ◌⊎◌, ℕ, true, false, not, List, [], ◌∷◌, ◌++◌, Option, Some, slice_get}
 use Rattle.std.specs.List.{Contains, flat_map}
-use Rattle.std.specs.Char.{IsScalar}
 use Rattle.grammar_tree.specs.Chars.{HasExactlyChars, IsCharSet, has}
 use Rattle.grammar_tree.specs.Written.{LexerTerm, LexerSeq, LexerAlts, LexerRule, WrittenGrammar}
 use Rattle.grammar_tree.specs.Matches.{Matches, MatchesAlternative, MatchesAlts, MatchesRule, MatchesSeq, any_is_short, is_short}
 use Rattle.grammar_tree.specs.Derives.{Term, Seq, Alts, Derives, DerivesSeq, DerivesAlts}
 use Rattle.grammar_tree.specs.Faults.{AtParserRule, IsWellFormed, start_of}
-use Rattle.grammar_tree.specs.Lexes.{IsNext, Lexes, LexesTo, Piece, StopsAt}
+use Rattle.grammar_tree.specs.Lexes.{Lexes, Piece, StopsAt}
 
 -- The text or list is cut in two, and each part is of its kind.
 abbrev pub CutsInto : (List ℕ → Type 0) → (List ℕ → Type 0) → List ℕ → Type 0

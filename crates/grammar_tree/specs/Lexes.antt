@@ -1,6 +1,6 @@
 -- How a text is cut into tokens: longest match, and the least kind on a tie.
 use Rattle.std.specs.Prelude.{◌≡◌, ◌≢◌, ℕ, ◌≤◌, List, [], ◌∷◌, ◌++◌, Some, slice_get, length, encode_utf8_all}
-use Rattle.grammar_tree.specs.Written.{LexerRule, WrittenGrammar, Source, TokenKind}
+use Rattle.grammar_tree.specs.Written.{WrittenGrammar, Source, TokenKind}
 use Rattle.grammar_tree.specs.Matches.{MatchesRule}
 use Rattle.grammar_tree.specs.Kinds.{kinds_of, lexer_rules}
 use Rattle.grammar_tree.specs.Faults.{AtLexerRule}

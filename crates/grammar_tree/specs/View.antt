@@ -1,6 +1,6 @@
 -- What contracts see of terms: each type in memory as it is written.
 use Rattle.std.specs.Prelude.{List, map}
-use Rattle.grammar_tree.specs.Written.{Reference, WrittenTerm, LexerTerm, LexerRule, WrittenRule, WrittenGrammar, Source, TokenKind, written_alts, lexer_alts}
+use Rattle.grammar_tree.specs.Written.{Reference, WrittenTerm, LexerTerm, written_alts, lexer_alts}
 use Rattle.grammar_tree.specs.declared.parser_term.TokenRef.{TokenRef}
 use Rattle.grammar_tree.specs.declared.parser_term.ParserTerm.{ParserTerm}
 use Rattle.grammar_tree.specs.declared.parser_term.ParserTerms.{ParserTerms}

@@ -1,5 +1,5 @@
-use Rattle.std.proofs.Common.{◌≡◌, ◌<◌, ◌≤◌, ◌⊎◌, inl, inr, ℕ, ◌+◌, length, ap, ◌∙◌, arith}
-use Rattle.regex_class.specs.Ranges.{in_ranges, last_start_or, range_at}
+use Rattle.std.proofs.Common.{◌<◌, ◌⊎◌, inl, inr, length, ap, ◌∙◌, arith}
+use Rattle.regex_class.specs.Ranges.{in_ranges, last_start_or}
 use Rattle.regex_class.proofs.RangesLemmas.{last_start_or-nil}
 use Rattle.grammar_tree.proofs.Merging.{nothing_twice, read, fits, members_left, members_right, later, other, left_first, right_first}
 use Rattle.grammar_tree.proofs.char_set.merged.Goals.{then-i-len, else-i-len+then-j-len}
