@@ -99,13 +99,16 @@ fn verdict_of(status: ExitStatus) -> Verdict
     }
 }
 
-// Writes the text to the file, and runs the command to its end.
+// Writes the text to the file, and runs the command to its end. The file of the last text is removed first:
+// truncating a file that was just written waits for the disk on some file systems, a new file does not.
 fn judge<R: Files + Processes>(
     rt: &R,
     command: &mut Command,
     file: &str,
     text: &[u8],
 ) -> io::Result<Verdict> {
+    // (a file that isn't there, or can't be removed, is written over)
+    let _ = fs::remove_file(rt, file);
     fs::create(rt, file)?.write_all(text)?;
     Ok(verdict_of(command.status(rt)?))
 }
