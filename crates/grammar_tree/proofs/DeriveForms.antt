@@ -1,11 +1,8 @@
 -- How the terms of parser rules derive, by their form.
-use Rattle.std.proofs.Common.{◌≡◌, ◌⊎◌, inl, inr, ℕ, List, [], ◌∷◌, ◌++◌, Some, slice_get, refl, sym, ◌∙◌, subst}
+use Rattle.std.proofs.Common.{◌≡◌, ◌⊎◌, inl, inr, ℕ, List, [], ◌∷◌, ◌++◌, Some, slice_get, refl, sym, subst}
 use Rattle.std.specs.List.{Contains}
 use Rattle.grammar_tree.specs.Derives.{Term, Seq, Alts, Derives, DerivesMany, DerivesSeq, DerivesAlts}
 use Rattle.grammar_tree.specs.Laws.{CutsInto, DerivesByForm}
-
-some_same : {a b : Alts} → Some a ≡ Some b → a ≡ b
-some_same e = cc
 
 module _ {G : List Alts} where
   kind_in : (k : ℕ) (w : List ℕ) → Derives G (Term.kind k) w → w ≡ k ∷ []
@@ -20,9 +17,11 @@ module _ {G : List Alts} where
   among_of : (ks w : List ℕ) → (k : ℕ) × (w ≡ k ∷ []) × Contains ks k → Derives G (Term.among ks) w
   among_of ks w (k, e, h) = let P : List ℕ → Type 0 = λ x. Derives G (Term.among ks) x in subst P (sym e) (Derives.by_among ks k h)
 
-  rule_in : (r : ℕ) (a : Alts) (w : List ℕ) → slice_get G r ≡ Some a → Derives G (Term.rule r) w → DerivesAlts G a w
-  rule_in r a w at (Derives.by_rule r' b w' at' d) =
-      let same : b ≡ a = some_same (sym at' ∙ at) in let P : Alts → Type 0 = λ x. DerivesAlts G x w in subst P same d
+  rule_in : (r : ℕ) (w : List ℕ) → Derives G (Term.rule r) w → (a : Alts) × (slice_get G r ≡ Some a) × DerivesAlts G a w
+  rule_in r w (Derives.by_rule r' a w' at d) = (a, at, d)
+
+  rule_of : (r : ℕ) (w : List ℕ) → (a : Alts) × (slice_get G r ≡ Some a) × DerivesAlts G a w → Derives G (Term.rule r) w
+  rule_of r w (a, at, d) = Derives.by_rule r a w at d
 
   block_in : (a : Alts) (w : List ℕ) → Derives G (Term.block a) w → DerivesAlts G a w
   block_in a w (Derives.by_block a' w' d) = d
@@ -95,7 +94,7 @@ by_form G =
     record {
       kind = λ k w. (kind_in k w, kind_of k w);
       among = λ ks w. (among_in ks w, among_of ks w);
-      rule = λ r a w at. (rule_in r a w at, Derives.by_rule r a w at);
+      rule = λ r w. (rule_in r w, rule_of r w);
       block = λ a w. (block_in a w, Derives.by_block a w);
       opt = λ t w. (opt_in t w, opt_of t w);
       star = λ t w. (star_in t w, star_of t w);

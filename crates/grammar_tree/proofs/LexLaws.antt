@@ -1,11 +1,11 @@
 -- A text is cut into pieces in one way.
-use Rattle.std.proofs.Common.{◌≡◌, ◌≢◌, ℕ, List, [], ◌∷◌, ◌++◌, length, refl, sym, ap, ap₂, ◌∙◌, subst, arith}
+use Rattle.std.proofs.Common.{◌≡◌, ◌≢◌, ℕ, ◌<◌, ◌≤◌, List, [], ◌∷◌, ◌++◌, length, refl, sym, ap, ap₂, ◌∙◌, subst, arith}
 use Rattle.std.proofs.lemmas.List.{append_assoc, length-append, append-nil}
 use Rattle.std.specs.Prelude.{encode_utf8_all}
 use Rattle.std.specs.List.{flat_map}
 use Rattle.grammar_tree.specs.Written.{WrittenGrammar}
 use Rattle.grammar_tree.specs.Lexes.{IsNext, KindMatches, LexesTo, Piece}
-use Rattle.grammar_tree.specs.Laws.{PiecesCover, LexesOneWay, LexesOrStops, StopsOnce}
+use Rattle.grammar_tree.specs.Laws.{PiecesCover, LexesOneWay, LexedStopsNowhere, ReadsOneWay, StopsOnce}
 
 append_same : (a b c d : List ℕ) → a ++ b ≡ c ++ d → length a ≡ length c → (a ≡ c) × (b ≡ d)
 append_same [] b [] d e h = (refl, e)
@@ -63,14 +63,38 @@ module _ (G : WrittenGrammar) where
       let rest = same_end (subst P same.2 more) none more' none' in
       (ap₂ ◌∷◌ (ap₂ (λ x y. record { kind = x; text = y }) same.0 same.1) rest.0, rest.1)
 
+-- what is left is shorter where a piece was read
+module _ (G : WrittenGrammar) where
+  left_within : {text left : List ℕ} {pieces : List Piece} → LexesTo G text pieces left → length left ≤ length text
+  left_within (LexesTo.by_end text) = omega arith
+  left_within (LexesTo.by_piece text kind piece rest left pieces next more) = omega (arith, left_within more, ap length next.cut, length-append piece rest)
+
+  nonempty : (p : List ℕ) → p ≢ [] → 0 < length p
+  nonempty [] h = absurd (h refl)
+  nonempty (x ∷ p) h = omega arith
+
+  reads : {text left : List ℕ} {ps qs : List Piece} → LexesTo G text ps left → (other : List ℕ) → LexesTo G text qs other → left ≡ other → ps ≡ qs
+  reads (LexesTo.by_end text) other (LexesTo.by_end text') e = refl
+  reads (LexesTo.by_end text) other (LexesTo.by_piece text' k p r l qs next more) e =
+      absurd (omega (arith, left_within more, ap length next.cut, length-append p r, nonempty p next.some, ap length e))
+  reads (LexesTo.by_piece text k p r l ps next more) other (LexesTo.by_end text') e =
+      absurd (omega (arith, left_within more, ap length next.cut, length-append p r, nonempty p next.some, ap length e))
+  reads (LexesTo.by_piece text k p r l ps next more) other (LexesTo.by_piece text' k' p' r' l' qs next' more') e =
+      let same = next_same G next next' in
+      let P : List ℕ → Type 0 = λ x. LexesTo G x ps l in
+      ap₂ ◌∷◌ (ap₂ (λ x y. record { kind = x; text = y }) same.0 same.1) (reads (subst P same.2 more) l' more' e)
+
+pub reads_one_way : ReadsOneWay
+reads_one_way G text left pieces others a b = reads G a left b refl
+
 pub pieces_cover : PiecesCover
 pieces_cover G text pieces h = sym (append-nil (flat_map (λ (p : Piece). p.text) pieces)) ∙ covers G h
 
 pub one_way : LexesOneWay
 one_way G text pieces others a b = (same_end G a (at_end G [] refl) b (at_end G [] refl)).0
 
-pub lexes_or_stops : LexesOrStops
-lexes_or_stops G text pieces offset a b = b.more (sym (same_end G a (at_end G [] refl) b.lexed (where_stuck G b.left b.stuck)).1)
+pub lexed_stops_nowhere : LexedStopsNowhere
+lexed_stops_nowhere G text pieces offset a b = b.more (sym (same_end G a (at_end G [] refl) b.lexed (where_stuck G b.left b.stuck)).1)
 
 pub stops_once : StopsOnce
 stops_once G text offset other a b =

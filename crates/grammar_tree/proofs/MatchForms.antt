@@ -3,8 +3,8 @@ use Rattle.std.proofs.Common.{◌≡◌, ◌⊎◌, inl, inr, ℕ, Bool, true, f
 use Rattle.std.specs.List.{Contains}
 use Rattle.grammar_tree.specs.Chars.{has}
 use Rattle.grammar_tree.specs.Written.{LexerTerm, LexerSeq, LexerAlts, LexerRule}
-use Rattle.grammar_tree.specs.Matches.{Matches, MatchesMany, MatchesSeq, MatchesAlts, MatchesRule, is_short, any_is_short}
-use Rattle.grammar_tree.specs.Laws.{CutsInto, MatchesByForm, ShortestIsMatched, RulesMatchGreedily}
+use Rattle.grammar_tree.specs.Matches.{Matches, MatchesAlternative, MatchesMany, MatchesSeq, MatchesAlts, MatchesRule, is_short, any_is_short}
+use Rattle.grammar_tree.specs.Laws.{CutsInto, MatchesByForm, ShortestIsMatched, RulesMatchByForm, RulesMatchGreedily}
 
 neither : (x y : Bool) → (x || y) ≡ false → (x ≡ false) × (y ≡ false)
 neither false y e = (refl, e)
@@ -101,6 +101,21 @@ module _ {G : List LexerRule} where
   rule_of (MatchesAlts.by_first s a w m) e =
       MatchesRule.by_first s a w (record { greedily = m; shortest = λ short. absurd (true≢false (sym short ∙ (neither (is_short s) (any_is_short a) e).0)) })
   rule_of (MatchesAlts.by_later s a w m) e = MatchesRule.by_later s a w (rule_of m (neither (is_short s) (any_is_short a) e).1)
+
+  rule_none : (a : LexerAlts) (w : List ℕ) → MatchesRule G a w → a ≡ LexerAlts.none → ⊥
+  rule_none a w (MatchesRule.by_first s b w' m) e = absurd cc
+  rule_none a w (MatchesRule.by_later s b w' m) e = absurd cc
+
+  rule_or_in : (s : LexerSeq) (a : LexerAlts) (w : List ℕ) → MatchesRule G (LexerAlts.or s a) w → MatchesAlternative G s w ⊎ MatchesRule G a w
+  rule_or_in s a w (MatchesRule.by_first s' a' w' m) = inl m
+  rule_or_in s a w (MatchesRule.by_later s' a' w' m) = inr m
+
+  rule_or_of : (s : LexerSeq) (a : LexerAlts) (w : List ℕ) → MatchesAlternative G s w ⊎ MatchesRule G a w → MatchesRule G (LexerAlts.or s a) w
+  rule_or_of s a w (inl m) = MatchesRule.by_first s a w m
+  rule_or_of s a w (inr m) = MatchesRule.by_later s a w m
+
+pub rule_by_form : (G : List LexerRule) → RulesMatchByForm G
+rule_by_form G = record { none = λ w m. rule_none LexerAlts.none w m refl; or = λ s a w. (rule_or_in s a w, rule_or_of s a w) }
 
 pub by_form : (G : List LexerRule) → MatchesByForm G
 by_form G =

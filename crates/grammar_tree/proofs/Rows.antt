@@ -4,7 +4,8 @@ use Rattle.grammar_tree.specs.Written.{Reference, WrittenTerm, WrittenSeq, Writt
 use Rattle.grammar_tree.specs.Kinds.{kinds_of, literal_kind, name_kind, any_kinds, other_kinds}
 use Rattle.grammar_tree.specs.Derives.{Term, Seq, Alts, bodies}
 use Rattle.grammar_tree.specs.Corners.{IsLeftCorner, bases, group_size, normal_count, rests}
-use Rattle.grammar_tree.specs.Faults.{is_misplaced_in}
+use Rattle.grammar_tree.specs.Faults.{NameUse, is_misplaced_in, name_uses}
+use Rattle.grammar_tree.specs.Lexes.{Piece, placed_tokens, tokens_of}
 
 abbrev A : List ℕ
 A = 65 ∷ []
@@ -81,6 +82,36 @@ any_of_J = refl
 but_of_J : other_kinds J (Reference.literal y ∷ Reference.name W ∷ []) ≡ 1 ∷ 3 ∷ 4 ∷ []
 unfolding kinds_of
 but_of_J = refl
+
+-- grammar U; A : B ; a : c 'x' b ;
+abbrev U : WrittenGrammar
+U = record {
+  name = 85 ∷ [];
+  tokens = [];
+  rules =
+      lexer A (LexerTerm.name (66 ∷ []))
+      ∷ WrittenRule.parser_rule (record {
+        name = 97 ∷ [];
+        alts = WrittenAlts.or (WrittenSeq.next (WrittenTerm.name (99 ∷ [])) (WrittenSeq.next (WrittenTerm.literal x) (WrittenSeq.next (WrittenTerm.name (98 ∷ [])) WrittenSeq.done))) WrittenAlts.none;
+      })
+      ∷ [];
+}
+
+-- the names that are used, in written order
+uses_of_U : name_uses U ≡ NameUse.by_lexer_rule (66 ∷ []) ∷ NameUse.by_parser_rule (99 ∷ []) ∷ NameUse.by_parser_rule (98 ∷ []) ∷ []
+uses_of_U = refl
+
+-- in J the piece ' ' is gap text, and 'y' before it and é behind it are tokens
+pieces : List Piece
+pieces = record { kind = 0; text = y } ∷ record { kind = 2; text = 32 ∷ [] } ∷ record { kind = 3; text = 233 ∷ [] } ∷ []
+
+tokens_of_J : tokens_of J pieces ≡ record { kind = 0; text = y } ∷ record { kind = 3; text = 233 ∷ [] } ∷ []
+unfolding kinds_of pieces
+tokens_of_J = refl
+
+placed_in_J : placed_tokens J 0 pieces ≡ record { kind = 0; start = 0; end = 1 } ∷ record { kind = 3; start = 2; end = 4 } ∷ []
+unfolding kinds_of pieces lib.Utf8.encode
+placed_in_J = refl
 
 -- EOF before another part is misplaced, and EOF at the end isn't
 eof_first : is_misplaced_in (WrittenSeq.next WrittenTerm.eof (WrittenSeq.next WrittenTerm.any WrittenSeq.done)) ≡ true

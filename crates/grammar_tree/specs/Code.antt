@@ -229,7 +229,7 @@ abbrev rule_coded : Coded WrittenRule
 rule_coded =
     code_by Parts (coded× coded_bool (coded× (coded_list coded_ℕ) (coded× coded_bool (coded× coded_bool (coded× parser_alts_coded lexer_alts_coded))))) parts rule_back rule_same
 
-abbrev grammar_coded : Coded WrittenGrammar
+abbrev pub grammar_coded : Coded WrittenGrammar
 grammar_coded =
     code_by (Text × (List Text × List WrittenRule)) (coded× (coded_list coded_ℕ) (coded× (coded_list (coded_list coded_ℕ)) (coded_list rule_coded)))
     (λ g. (g.name, (g.tokens, g.rules))) (λ p. record { name = p.0; tokens = p.1.0; rules = p.1.1 }) (λ _. refl)

@@ -11,11 +11,11 @@ abbrev pub rest_of : ℕ → Seq → Option Seq
 rest_of r (Seq.next (Term.rule q) rest) = cond (nat_eq q r) (Some rest) None
 rest_of r _ = None
 
-abbrev and_base : Seq → Option Seq → Alts → Alts
+abbrev pub and_base : Seq → Option Seq → Alts → Alts
 and_base s None a = Alts.or s a
 and_base s (Some rest) a = a
 
-abbrev and_rest : Option Seq → Alts → Alts
+abbrev pub and_rest : Option Seq → Alts → Alts
 and_rest None a = a
 and_rest (Some rest) a = Alts.or rest a
 
@@ -31,7 +31,7 @@ rests r (Alts.or s a) = and_rest (rest_of r s) (rests r a)
 
 -- the rule q can stand first in a term
 abbrev mutual
-  Begins : List Alts → ℕ → Term → Type 0
+  pub Begins : List Alts → ℕ → Term → Type 0
   Begins G q (Term.kind k) = ⊥
   Begins G q (Term.among ks) = ⊥
   Begins G q (Term.rule r) = q ≡ r
@@ -63,7 +63,7 @@ pub data LeadsTo (G : List Alts) : ℕ → ℕ → Type 0 where
 
 -- a star or plus over a term that can be empty stands in the term
 abbrev mutual
-  HasEmptyLoop : List Alts → Term → Type 0
+  pub HasEmptyLoop : List Alts → Term → Type 0
   HasEmptyLoop G (Term.kind k) = ⊥
   HasEmptyLoop G (Term.among ks) = ⊥
   HasEmptyLoop G (Term.rule r) = ⊥
@@ -73,7 +73,7 @@ abbrev mutual
   HasEmptyLoop G (Term.plus t) = CanBeEmpty G t ⊎ HasEmptyLoop G t
   HasEmptyLoop G Term.eof = ⊥
 
-  HasEmptyLoopSeq : List Alts → Seq → Type 0
+  pub HasEmptyLoopSeq : List Alts → Seq → Type 0
   HasEmptyLoopSeq G Seq.done = ⊥
   HasEmptyLoopSeq G (Seq.next t s) = HasEmptyLoop G t ⊎ HasEmptyLoopSeq G s
 

@@ -1,9 +1,9 @@
 -- The faults of a grammar, and when it is well-formed: where none of them holds. A rule is given by its place among all rules of the grammar, in written order.
 use Rattle.std.specs.Prelude.{◌≡◌, ◌≢◌, ℕ, ◌<◌, ◌≤◌, ◌⊎◌, Bool, true, false, ◌||◌, not, List, [], ◌∷◌, ◌++◌, Option, Some, None, slice_get, length, take, map, filter, count_by, position, ⊤}
-use Rattle.std.specs.List.{Contains}
+use Rattle.std.specs.List.{Contains, filter_map, flat_map}
 use Rattle.grammar_tree.specs.Written.{Reference, WrittenTerm, WrittenSeq, WrittenAlts, LexerTerm, LexerSeq, LexerAlts, ParserRule, LexerRule, WrittenRule, WrittenGrammar}
 use Rattle.grammar_tree.specs.Matches.{Matches, MatchesRule, any_is_short}
-use Rattle.grammar_tree.specs.Kinds.{all_references, lexer_rules, parser_rules, rule_name, same_text}
+use Rattle.grammar_tree.specs.Kinds.{all_references, as_name, lexer_rules, parser_rules, references, rule_name, same_text}
 use Rattle.grammar_tree.specs.Derives.{Alts, DerivesAlts, bodies, resolved_alts}
 use Rattle.grammar_tree.specs.Corners.{bases, rests, HasEmptyLoopAlts, LeadsTo, normal_count}
 
@@ -25,7 +25,7 @@ TwoRules G name = 2 ≤ count_by (λ rule. same_text (rule_name rule) name) G.ru
 
 -- the names that stand in a lexer term, in written order
 abbrev mutual
-  term_names : LexerTerm → List (List ℕ)
+  pub term_names : LexerTerm → List (List ℕ)
   term_names (LexerTerm.literal t) = []
   term_names (LexerTerm.set s) = []
   term_names (LexerTerm.name n) = n ∷ []
@@ -35,7 +35,7 @@ abbrev mutual
   term_names (LexerTerm.plus t) = term_names t
   term_names (LexerTerm.short s) = []
 
-  seq_names : LexerSeq → List (List ℕ)
+  pub seq_names : LexerSeq → List (List ℕ)
   seq_names LexerSeq.done = []
   seq_names (LexerSeq.next t s) = term_names t ++ seq_names s
 
@@ -61,10 +61,36 @@ pub record NamesNothing (G : WrittenGrammar) (name : List ℕ) : Type 0 where
   pub no_token_rule : ¬ Contains (map (λ (r : LexerRule). r.name) (filter (λ (r : LexerRule). not r.fragment) (lexer_rules G.rules))) name
   pub no_token : ¬ Contains G.tokens name
 
+-- a use of a name, by a parser rule or by a lexer rule
+pub data NameUse : Type 0 where
+  by_parser_rule : List ℕ → NameUse
+  by_lexer_rule : List ℕ → NameUse
+
+abbrev pub used_name : NameUse → List ℕ
+used_name (NameUse.by_parser_rule n) = n
+used_name (NameUse.by_lexer_rule n) = n
+
+-- the names that a rule uses, in written order
+abbrev pub rule_uses : WrittenRule → List NameUse
+rule_uses (WrittenRule.parser_rule r) = map NameUse.by_parser_rule (filter_map as_name (references r.alts))
+rule_uses (WrittenRule.lexer_rule r) = map NameUse.by_lexer_rule (used_names r.alts)
+
+-- the names that the rules use, in written order
+abbrev pub name_uses : WrittenGrammar → List NameUse
+name_uses G = flat_map rule_uses G.rules
+
 -- A parser rule uses a name that names nothing, or a lexer rule uses a name that is no lexer rule.
-pub data NoRule (G : WrittenGrammar) (name : List ℕ) : Type 0 where
-  in_parser_rule : Contains (all_references G.rules) (Reference.name name) → NamesNothing G name → NoRule G name
-  in_lexer_rule : (user : List ℕ) → Uses G user name → (¬ Contains (map (λ (r : LexerRule). r.name) (lexer_rules G.rules)) name) → NoRule G name
+abbrev pub IsUnknown : WrittenGrammar → NameUse → Type 0
+IsUnknown G (NameUse.by_parser_rule n) = NamesNothing G n
+IsUnknown G (NameUse.by_lexer_rule n) = ¬ Contains (map (λ (r : LexerRule). r.name) (lexer_rules G.rules)) n
+
+-- The use with this number, counted in written order from 0, is of this name, which is unknown.
+abbrev pub NoRuleAt : WrittenGrammar → ℕ → List ℕ → Type 0
+NoRuleAt G i name = (it : NameUse) × (slice_get (name_uses G) i ≡ Some it) × (used_name it ≡ name) × IsUnknown G it
+
+-- Some use is of this name, which is unknown.
+abbrev pub NoRule : WrittenGrammar → List ℕ → Type 0
+NoRule G name = (i : ℕ) × NoRuleAt G i name
 
 -- No parser rule has the wanted name, or there is no parser rule; the name that the fault tells is then empty.
 pub data NoStart (G : WrittenGrammar) : Option (List ℕ) → List ℕ → Type 0 where
@@ -86,7 +112,7 @@ start_of G (Some name) = position (is_parser_rule_named name) G.rules
 
 -- `EOF` stands in the term
 abbrev mutual
-  has_eof : WrittenTerm → Bool
+  pub has_eof : WrittenTerm → Bool
   has_eof (WrittenTerm.literal t) = false
   has_eof (WrittenTerm.name n) = false
   has_eof WrittenTerm.any = false
@@ -97,7 +123,7 @@ abbrev mutual
   has_eof (WrittenTerm.plus t) = has_eof t
   has_eof WrittenTerm.eof = true
 
-  seq_has_eof : WrittenSeq → Bool
+  pub seq_has_eof : WrittenSeq → Bool
   seq_has_eof WrittenSeq.done = false
   seq_has_eof (WrittenSeq.next t s) = has_eof t || seq_has_eof s
 
@@ -139,7 +165,7 @@ NoBase G i = AtParserRule G i (λ rule. bases (number_at G i) (resolved_alts G r
 
 -- a star or plus over a term that can match the empty text stands in the lexer term
 abbrev mutual
-  LexerHasEmptyLoop : List LexerRule → LexerTerm → Type 0
+  pub LexerHasEmptyLoop : List LexerRule → LexerTerm → Type 0
   LexerHasEmptyLoop G (LexerTerm.literal t) = ⊥
   LexerHasEmptyLoop G (LexerTerm.set s) = ⊥
   LexerHasEmptyLoop G (LexerTerm.name n) = ⊥
@@ -149,7 +175,7 @@ abbrev mutual
   LexerHasEmptyLoop G (LexerTerm.plus t) = Matches G t [] ⊎ LexerHasEmptyLoop G t
   LexerHasEmptyLoop G (LexerTerm.short s) = ⊥
 
-  LexerHasEmptyLoopSeq : List LexerRule → LexerSeq → Type 0
+  pub LexerHasEmptyLoopSeq : List LexerRule → LexerSeq → Type 0
   LexerHasEmptyLoopSeq G LexerSeq.done = ⊥
   LexerHasEmptyLoopSeq G (LexerSeq.next t s) = LexerHasEmptyLoop G t ⊎ LexerHasEmptyLoopSeq G s
 

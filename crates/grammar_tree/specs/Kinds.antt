@@ -31,7 +31,7 @@ lexer_rules = filter_map as_lexer_rule
 
 -- the literals and names in a term, in written order, those after `~` too
 abbrev mutual
-  term_references : WrittenTerm → List Reference
+  pub term_references : WrittenTerm → List Reference
   term_references (WrittenTerm.literal t) = Reference.literal t ∷ []
   term_references (WrittenTerm.name n) = Reference.name n ∷ []
   term_references WrittenTerm.any = []
@@ -42,7 +42,7 @@ abbrev mutual
   term_references (WrittenTerm.plus t) = term_references t
   term_references WrittenTerm.eof = []
 
-  seq_references : WrittenSeq → List Reference
+  pub seq_references : WrittenSeq → List Reference
   seq_references WrittenSeq.done = []
   seq_references (WrittenSeq.next t s) = term_references t ++ seq_references s
 

@@ -1,12 +1,13 @@
 -- What follows from the definitions, for the proofs of other crates.
-use Rattle.std.specs.Prelude.{◌≡◌, ◌↔◌, ◌⊎◌, ℕ, true, false, not, List, [], ◌∷◌, ◌++◌, Option, Some, slice_get}
+use Rattle.std.specs.Prelude.{◌≡◌, ◌≢◌, ◌↔◌, ◌⊎◌, ℕ, true, false, not, List, [], ◌∷◌, ◌++◌, Option, Some, slice_get}
 use Rattle.std.specs.List.{Contains, flat_map}
 use Rattle.grammar_tree.specs.Chars.{HasExactlyChars, IsCharSet, has}
 use Rattle.grammar_tree.specs.Written.{LexerTerm, LexerSeq, LexerAlts, LexerRule, WrittenGrammar}
 use Rattle.grammar_tree.specs.Matches.{Matches, MatchesAlternative, MatchesAlts, MatchesRule, MatchesSeq, any_is_short, is_short}
 use Rattle.grammar_tree.specs.Derives.{Term, Seq, Alts, Derives, DerivesSeq, DerivesAlts}
-use Rattle.grammar_tree.specs.Faults.{AtParserRule, IsWellFormed, start_of}
-use Rattle.grammar_tree.specs.Lexes.{Lexes, Piece, StopsAt}
+use Rattle.grammar_tree.specs.Corners.{bases, rests}
+use Rattle.grammar_tree.specs.Faults.{AtParserRule, EmptyLoop, EmptyToken, EofPlace, FragmentLoop, IsWellFormed, LeftRecursion, NoBase, NoRule, NoStart, ShortUse, TooManyRules, TwoRules, start_of}
+use Rattle.grammar_tree.specs.Lexes.{Lexes, LexesTo, Piece, StopsAt}
 
 -- The text or list is cut in two, and each part is of its kind.
 abbrev pub CutsInto : (List ℕ → Type 0) → (List ℕ → Type 0) → List ℕ → Type 0
@@ -58,14 +59,19 @@ pub record RulesMatchGreedily (G : List LexerRule) : Type 0 where
   pub within : (a : LexerAlts) (w : List ℕ) → MatchesRule G a w → MatchesAlts G a w
   pub all : (a : LexerAlts) (w : List ℕ) → any_is_short a ≡ false → MatchesAlts G a w → MatchesRule G a w
 
+-- How a rule matches: as one of its alternatives, each as itself.
+pub record RulesMatchByForm (G : List LexerRule) : Type 0 where
+  pub none : (w : List ℕ) → ¬ MatchesRule G LexerAlts.none w
+  pub or : (s : LexerSeq) (a : LexerAlts) (w : List ℕ) → MatchesRule G (LexerAlts.or s a) w ↔ (MatchesAlternative G s w ⊎ MatchesRule G a w)
+
 -- How a term of a parser rule derives, by its form. Each is an equivalence, so nothing else is derived.
 pub record DerivesByForm (G : List Alts) : Type 0 where
   -- a kind derives itself
   pub kind : (k : ℕ) (w : List ℕ) → Derives G (Term.kind k) w ↔ (w ≡ k ∷ [])
   -- a set derives one of its kinds
   pub among : (ks w : List ℕ) → Derives G (Term.among ks) w ↔ ((k : ℕ) × (w ≡ k ∷ []) × Contains ks k)
-  -- a rule derives what its alternatives do
-  pub rule : (r : ℕ) (a : Alts) (w : List ℕ) → slice_get G r ≡ Some a → Derives G (Term.rule r) w ↔ DerivesAlts G a w
+  -- a rule derives what its alternatives do, and a number that no rule has derives nothing
+  pub rule : (r : ℕ) (w : List ℕ) → Derives G (Term.rule r) w ↔ ((a : Alts) × (slice_get G r ≡ Some a) × DerivesAlts G a w)
   -- so does a block
   pub block : (a : Alts) (w : List ℕ) → Derives G (Term.block a) w ↔ DerivesAlts G a w
   -- `?` derives the empty list, and what its term does
@@ -85,6 +91,11 @@ pub record DerivesByForm (G : List Alts) : Type 0 where
   -- alternatives derive what the first does and what the others do
   pub or : (s : Seq) (a : Alts) (w : List ℕ) → DerivesAlts G (Alts.or s a) w ↔ (DerivesSeq G s w ⊎ DerivesAlts G a w)
 
+-- A rule derives what one of its bases does, followed by any number of its rests.
+abbrev pub BaseThenRests : Type 0
+BaseThenRests = (G : List Alts) (r : ℕ) (a : Alts) (w : List ℕ) → slice_get G r ≡ Some a →
+    Derives G (Term.rule r) w ↔ CutsInto (DerivesAlts G (bases r a)) (Derives G (Term.star (Term.block (rests r a)))) w
+
 -- The pieces that a text is cut into, one after another, are the text.
 abbrev pub PiecesCover : Type 0
 PiecesCover = (G : WrittenGrammar) (text : List ℕ) (pieces : List Piece) → Lexes G text pieces → flat_map (λ (p : Piece). p.text) pieces ≡ text
@@ -93,9 +104,13 @@ PiecesCover = (G : WrittenGrammar) (text : List ℕ) (pieces : List Piece) → L
 abbrev pub LexesOneWay : Type 0
 LexesOneWay = (G : WrittenGrammar) (text : List ℕ) (pieces others : List Piece) → Lexes G text pieces → Lexes G text others → pieces ≡ others
 
+-- From a text to the same rest the pieces are read in one way at most.
+abbrev pub ReadsOneWay : Type 0
+ReadsOneWay = (G : WrittenGrammar) (text left : List ℕ) (pieces others : List Piece) → LexesTo G text pieces left → LexesTo G text others left → pieces ≡ others
+
 -- A text that is cut into pieces has no offset where the reading stops.
-abbrev pub LexesOrStops : Type 0
-LexesOrStops = (G : WrittenGrammar) (text : List ℕ) (pieces : List Piece) (offset : ℕ) → Lexes G text pieces → ¬ StopsAt G text offset
+abbrev pub LexedStopsNowhere : Type 0
+LexedStopsNowhere = (G : WrittenGrammar) (text : List ℕ) (pieces : List Piece) (offset : ℕ) → Lexes G text pieces → ¬ StopsAt G text offset
 
 -- The reading stops at one offset at most.
 abbrev pub StopsOnce : Type 0
@@ -109,3 +124,28 @@ StartIsThere = (G : WrittenGrammar) (wanted : Option (List ℕ)) (i : ℕ) → s
 -- Some grammar is well-formed.
 abbrev pub SomeIsWellFormed : Type 0
 SomeIsWellFormed = (G : WrittenGrammar) × (start : ℕ) × IsWellFormed G start
+
+-- Each fault holds of some grammar, in each of its forms.
+pub record EachFaultCanHold : Type 0 where
+  pub two_rules : (G : WrittenGrammar) × (name : List ℕ) × TwoRules G name
+  -- a name in a parser rule, and one in a lexer rule
+  pub no_rule : (G : WrittenGrammar) × (name : List ℕ) × NoRule G name
+  pub no_lexer_rule : (G : WrittenGrammar) × (name : List ℕ) × NoRule G name
+  -- no parser rule at all, and none of the wanted name
+  pub no_parser_rule : (G : WrittenGrammar) × (wanted : Option (List ℕ)) × NoStart G wanted []
+  pub no_start : (G : WrittenGrammar) × (name : List ℕ) × NoStart G (Some name) name
+  -- `EOF` before another part, and at the end of a rule that another rule uses
+  pub eof_first : (G : WrittenGrammar) × (start : ℕ) × EofPlace G start start
+  pub eof_within : (G : WrittenGrammar) × (start : ℕ) × (i : ℕ) × (i ≢ start) × EofPlace G start i
+  pub fragment_loop : (G : WrittenGrammar) × (i : ℕ) × FragmentLoop G i
+  pub short_use : (G : WrittenGrammar) × (i : ℕ) × ShortUse G i
+  pub empty_token : (G : WrittenGrammar) × (i : ℕ) × EmptyToken G i
+  pub no_base : (G : WrittenGrammar) × (i : ℕ) × NoBase G i
+  -- a star over what can be empty, a rest that can be empty, and a star in a lexer rule
+  pub empty_star : (G : WrittenGrammar) × (i : ℕ) × EmptyLoop G i
+  pub empty_rest : (G : WrittenGrammar) × (i : ℕ) × EmptyLoop G i
+  pub empty_lexer_star : (G : WrittenGrammar) × (i : ℕ) × EmptyLoop G i
+  -- through another rule, and behind a part that can be empty
+  pub left_recursion : (G : WrittenGrammar) × (i : ℕ) × LeftRecursion G i
+  pub hidden_left_recursion : (G : WrittenGrammar) × (i : ℕ) × LeftRecursion G i
+  pub too_many_rules : (G : WrittenGrammar) × (count : ℕ) × TooManyRules G count

@@ -13,3 +13,4 @@ pub mod Lexes
 pub mod Code
 pub mod Checked
 pub mod Laws
+pub mod Places

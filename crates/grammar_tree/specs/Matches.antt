@@ -11,7 +11,7 @@ mutual
     by_literal : (text : List ℕ) → Matches G (LexerTerm.literal text) text
     -- a set matches one of its characters
     by_set : (set : List (ℕ × ℕ)) (c : ℕ) → has set c ≡ true → Matches G (LexerTerm.set set) (c ∷ [])
-    -- a name matches what the rule of this name does
+    -- A name matches what the alternatives of its rule do, read greedily. In a well-formed grammar no rule that a name stands for is non-greedy, so that the name matches what its rule does.
     by_name : (name : List ℕ) (rule : LexerRule) (w : List ℕ) → Contains G rule → rule.name ≡ name → MatchesAlts G rule.alts w → Matches G (LexerTerm.name name) w
     -- a block matches what one of its alternatives does
     by_block : (a : LexerAlts) (w : List ℕ) → MatchesAlts G a w → Matches G (LexerTerm.block a) w
@@ -42,7 +42,7 @@ mutual
 
 -- a non-greedy loop stands in the term
 abbrev mutual
-  has_short : LexerTerm → Bool
+  pub has_short : LexerTerm → Bool
   has_short (LexerTerm.literal t) = false
   has_short (LexerTerm.set s) = false
   has_short (LexerTerm.name n) = false

@@ -3,7 +3,7 @@ use Rattle.std.specs.Prelude.{ℕ, suc, ◌+◌, length, sum_by}
 use Rattle.grammar_tree.specs.Written.{WrittenTerm, WrittenSeq, WrittenAlts, LexerTerm, LexerSeq, LexerAlts, WrittenRule, WrittenGrammar}
 
 abbrev mutual
-  term_size : WrittenTerm → ℕ
+  pub term_size : WrittenTerm → ℕ
   term_size (WrittenTerm.literal t) = 1
   term_size (WrittenTerm.name n) = 1
   term_size WrittenTerm.any = 1
@@ -14,7 +14,7 @@ abbrev mutual
   term_size (WrittenTerm.plus t) = suc (term_size t)
   term_size WrittenTerm.eof = 1
 
-  seq_size : WrittenSeq → ℕ
+  pub seq_size : WrittenSeq → ℕ
   seq_size WrittenSeq.done = 0
   seq_size (WrittenSeq.next t s) = term_size t + seq_size s
 
@@ -23,7 +23,7 @@ abbrev mutual
   alts_size (WrittenAlts.or s a) = suc (seq_size s + alts_size a)
 
 abbrev mutual
-  lexer_term_size : LexerTerm → ℕ
+  pub lexer_term_size : LexerTerm → ℕ
   lexer_term_size (LexerTerm.literal t) = 1
   lexer_term_size (LexerTerm.set s) = 1
   lexer_term_size (LexerTerm.name n) = 1
@@ -33,7 +33,7 @@ abbrev mutual
   lexer_term_size (LexerTerm.plus t) = suc (lexer_term_size t)
   lexer_term_size (LexerTerm.short s) = 1
 
-  lexer_seq_size : LexerSeq → ℕ
+  pub lexer_seq_size : LexerSeq → ℕ
   lexer_seq_size LexerSeq.done = 0
   lexer_seq_size (LexerSeq.next t s) = lexer_term_size t + lexer_seq_size s
 

@@ -1,7 +1,7 @@
 //! Sets of characters.
 
 ghost use Rattle.std.specs.Prelude.{◌≡◌, ◌||◌, ◌<◌, ◌≤◌, ℕ, false, true, not, length, IfOk, OnOk};
-ghost use Rattle.grammar_tree.specs.Chars.{HasExactlyChars, has, is_surrogate};
+ghost use Rattle.grammar_tree.specs.Chars.{HasExactlyChars, IsCharSet, has, is_surrogate};
 ghost use Rattle.regex_class.specs.Ranges.{HasExactly, StartsAtMost, in_range, in_ranges, range_at};
 
 use faults::Memory;
@@ -50,6 +50,21 @@ impl CharSet {
         Ok(CharSet {
             class: self.class.clone()?,
         })
+    }
+
+    /// The ranges of the set, both ends included. They rise, and between two of them at least one
+    /// number is missing.
+    pub fn ranges(&self) -> &[ClassRange]
+        ensures { result.now ≡ self.now }
+    {
+        &self.class.ranges
+    }
+
+    /// The ranges are those of a set: a caller calls this so that its proof knows.
+    pub fn is_char_set(&self)
+        ensures { IsCharSet self.now }
+    {
+        let _ = &self.class;
     }
 
     /// Whether the character is in the set.

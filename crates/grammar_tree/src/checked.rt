@@ -1,6 +1,7 @@
 //! Grammars that were checked.
 
 ghost use Rattle.std.specs.Prelude.{◌≡◌, ◌^◌, ◌<◌, IfOk, map};
+ghost use Rattle.grammar_tree.specs.Checked.{IsChecked};
 ghost use Rattle.grammar_tree.specs.Faults.{IsWellFormed};
 ghost use Rattle.grammar_tree.specs.GrammarView.{grammar_of, kind_of};
 ghost use Rattle.grammar_tree.specs.Kinds.{kinds_of};
@@ -72,6 +73,14 @@ impl Checked {
         ensures { result ≡ self.now.start }
     {
         self.start
+    }
+
+    /// The grammar is well-formed, its kinds are numbered, and it isn't too large: a caller calls
+    /// this so that its proof knows.
+    pub fn is_checked(&self)
+        ensures { IsChecked self.now }
+    {
+        let _ = &self.start;
     }
 
     /// An equal grammar, with equal kinds and the same start.

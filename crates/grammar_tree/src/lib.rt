@@ -20,9 +20,11 @@ pub use char_set::CharSet;
 pub use checked::Checked;
 pub use faults::Memory;
 pub use laws::{
-    complement_twice, derives_by_form, lexes_one_way, lexes_or_stops, matches_by_form,
-    pieces_cover, rules_match_greedily, same_chars_same_set, shortest_is_matched,
-    some_is_well_formed, start_is_there, stops_once,
+    base_then_rests, complement_twice, counts_fit, derives_by_form, each_fault_can_hold,
+    kinds_are_rules, lexed_stops_nowhere, lexer_rules_have_places, lexes_one_way, matches_by_form,
+    name_is_its_rule, pieces_cover, places_have_numbers, reads_one_way, rules_match_by_form,
+    rules_match_greedily, same_chars_same_set, shortest_is_matched, some_is_well_formed,
+    start_is_found, start_is_there, stops_once, well_formed_names,
 };
 pub use lex_term::{LexAlts, LexTerm, LexTerms};
 pub use parser_term::{ParserAlts, ParserTerm, ParserTerms, TokenRef, TokenRefs};
