@@ -1,0 +1,5 @@
+pub mod Adding
+pub mod Places
+pub mod TokenKinds
+pub mod Literals
+pub mod LiteralKinds

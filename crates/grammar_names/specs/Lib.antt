@@ -1,0 +1,6 @@
+pub use Rattle.grammar_tree.specs.Written
+pub use Rattle.grammar_tree.specs.Kinds
+pub use Rattle.grammar_tree.specs.Code
+pub use Rattle.grammar_tree.specs.GrammarView
+pub mod Index
+pub mod Names

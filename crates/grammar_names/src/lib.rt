@@ -1,0 +1,9 @@
+//! What the names and literals of a grammar's parser rules stand for, looked up by text.
+#![tactic(auto)]
+
+mod index;
+mod names;
+
+pub use faults::Memory;
+pub use index::Index;
+pub use names::{Names, literal_of, visible_kinds, without};
