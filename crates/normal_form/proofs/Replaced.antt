@@ -1,0 +1,38 @@
+-- A rule that is put in its place once the rules behind it are known.
+use Rattle.std.proofs.Common.{◌≡◌, ℕ, ◌+◌, ◌-◌, arith, List, [], ◌∷◌, ◌++◌, length, map, slice_set, refl, sym, ap, ◌∙◌, append_assoc}
+use Rattle.std.proofs.lemmas.List.{map-append, map-set, length-map, set-append_right}
+use Rattle.std.proofs.Math.Seq.{set-append_seam}
+use Rattle.std.proofs.Math.ListN.{set}
+use Rattle.normal_form.specs.declared.normal.NormalRule.{NormalRule}
+use Rattle.normal_form.specs.declared.normal.Sym.{Sym}
+use Rattle.normal_form.specs.Numbering.{head_of}
+use Rattle.normal_form.specs.Form.{RuleForm}
+use Rattle.normal_form.specs.View.{rule_form}
+
+set_seam : (xs : List RuleForm) (x y : RuleForm) (ys : List RuleForm) (n : ℕ) → n ≡ length xs → set (xs ++ x ∷ ys) n y ≡ xs ++ y ∷ ys
+set_seam xs x y ys n e = ap (λ k. set (xs ++ x ∷ ys) k y) e ∙ set-append_seam xs x ys y
+
+pub replaced : (old pushed new : List NormalRule) (first own : NormalRule) (n : ℕ) (more : List RuleForm) → n ≡ length old → pushed ≡ old ++ first ∷ [] → map rule_form new ≡ map rule_form pushed ++ more → map rule_form (slice_set new n own) ≡ map rule_form old ++ rule_form own ∷ more
+replaced old pushed new first own n more e is all =
+    map-set rule_form new n own
+    ∙ ap (λ l. set l n (rule_form own)) (all ∙ ap (λ l. map rule_form l ++ more) is ∙ ap (λ l. l ++ more) (map-append rule_form old (first ∷ [])) ∙ append_assoc (map rule_form old) (rule_form first ∷ []) more)
+    ∙ set_seam (map rule_form old) (rule_form first) (rule_form own) more n (e ∙ sym (length-map old rule_form))
+
+set_behind : (xs ys : List RuleForm) (n i k : ℕ) (y : RuleForm) → length xs ≡ n → n + k ≡ i → set (xs ++ ys) i y ≡ xs ++ set ys k y
+set_behind xs ys n i k y e is =
+    let back : i - n ≡ k = omega (arith, is) in set-append_right xs ys n i y e (omega (arith, is)) ∙ ap (λ j. xs ++ set ys j y) back
+
+-- the bases and the rests are put in
+pub replaced_head : (old pushed new : List NormalRule) (bases rests : NormalRule) (base rest : List (List Sym)) (n : ℕ) (more : List RuleForm) → n ≡ length old → map rule_form pushed ≡ map rule_form old ++ head_of n [] [] → map rule_form new ≡ map rule_form pushed ++ more → rule_form bases ≡ RuleForm.regular base → rule_form rests ≡ RuleForm.regular rest → map rule_form (slice_set (slice_set new (n + 1) bases) (n + 3) rests) ≡ map rule_form old ++ (head_of n base rest ++ more)
+replaced_head old pushed new bases rests base rest n more e is all b r =
+    let xs = map rule_form old in
+    let len : length xs ≡ n = length-map old rule_form ∙ sym e in
+    let first : map rule_form (slice_set new (n + 1) bases) ≡ xs ++ (head_of n base [] ++ more) =
+    map-set rule_form new (n + 1) bases
+    ∙ ap (λ l. set l (n + 1) (rule_form bases)) (all ∙ ap (λ l. l ++ more) is ∙ append_assoc xs (head_of n [] []) more)
+    ∙ set_behind xs (head_of n [] [] ++ more) n (n + 1) 1 (rule_form bases) len refl
+    ∙ ap (λ f. xs ++ set (head_of n [] [] ++ more) 1 f) b in
+    map-set rule_form (slice_set new (n + 1) bases) (n + 3) rests
+    ∙ ap (λ l. set l (n + 3) (rule_form rests)) first
+    ∙ set_behind xs (head_of n base [] ++ more) n (n + 3) 3 (rule_form rests) len refl
+    ∙ ap (λ f. xs ++ set (head_of n base [] ++ more) 3 f) r

@@ -1,0 +1,82 @@
+-- Each set that stands in the grammar has its number.
+use Rattle.std.proofs.Common.{◌≡◌, ℕ, suc, ◌+◌, ◌<◌, ◌⊎◌, inl, inr, Bool, true, false, not, cond, List, [], ◌∷◌, length, Some, None, slice_get, refl, sym, ap, ◌∙◌, subst, arith, true≢false}
+use Rattle.std.specs.Prelude.{filter, nat_lt, unwrap_or}
+use Rattle.std.specs.List.{Contains, position_or_len}
+use Rattle.std.proofs.lemmas.Bool.{lt-ltb, ltb-true}
+use Rattle.std.proofs.lemmas.List.Sums.{position_or_len_is}
+use Rattle.std.proofs.Common.{get_or, ◌≤◌}
+use Rattle.std.proofs.lemmas.Slice.Eq.{bytes_eq-Decides}
+use Rattle.grammar_tree.specs.Kinds.{distinct, same_text}
+use Rattle.normal_form.specs.NormalOf.{set_number}
+use Rattle.normal_form.proofs.Lists.{Contains-nil, Contains-here, Contains-there, Contains-cases}
+
+-- what a filter keeps of a list that has an element
+keeps_first : (p : List ℕ → Bool) (y : List ℕ) (ys : List (List ℕ)) (x : List ℕ) → p x ≡ true → (Contains ys x → Contains (filter p ys) x) → (b : Bool) → p y ≡ b → (x ≡ y) ⊎ Contains ys x → Contains (cond b (y ∷ filter p ys) (filter p ys)) x
+keeps_first p y ys x e more true h (inl same) = let P : List ℕ → Type 0 = λ z. Contains (z ∷ filter p ys) x in subst P same (Contains-here x (filter p ys))
+keeps_first p y ys x e more true h (inr d) = Contains-there x y (filter p ys) (more d)
+keeps_first p y ys x e more false h (inl same) = absurd (true≢false (sym e ∙ ap p same ∙ h))
+keeps_first p y ys x e more false h (inr d) = more d
+
+filter_keeps : (p : List ℕ → Bool) (xs : List (List ℕ)) (x : List ℕ) → Contains xs x → p x ≡ true → Contains (filter p xs) x
+filter_keeps p [] x c e = absurd (Contains-nil x c)
+filter_keeps p (y ∷ ys) x c e = keeps_first p y ys x e (λ d. filter_keeps p ys x d e) (p y) refl (Contains-cases x y ys c)
+
+distinct_first : (y : List ℕ) (ys : List (List ℕ)) (x : List ℕ) → (Contains ys x → Contains (distinct ys) x) → (b : Bool) → same_text y x ≡ b → (x ≡ y) ⊎ Contains ys x → Contains (y ∷ filter (λ u. not (same_text y u)) (distinct ys)) x
+distinct_first y ys x more b h (inl same) =
+    let rest = filter (λ u. not (same_text y u)) (distinct ys) in
+    let P : List ℕ → Type 0 = λ z. Contains (z ∷ rest) x in subst P same (Contains-here x rest)
+distinct_first y ys x more true h (inr d) =
+    let rest = filter (λ u. not (same_text y u)) (distinct ys) in
+    let same : y ≡ x = (bytes_eq-Decides y x).0 h in
+    let P : List ℕ → Type 0 = λ z. Contains (z ∷ rest) x in subst P (sym same) (Contains-here x rest)
+distinct_first y ys x more false h (inr d) =
+    let test = λ (u : List ℕ). not (same_text y u) in
+    Contains-there x y (filter test (distinct ys)) (filter_keeps test (distinct ys) x (more d) (ap not h))
+
+distinct_has : (xs : List (List ℕ)) (x : List ℕ) → Contains xs x → Contains (distinct xs) x
+distinct_has [] x c = c
+distinct_has (y ∷ ys) x c = distinct_first y ys x (distinct_has ys x) (same_text y x) refl (Contains-cases x y ys c)
+
+-- the place has the element
+record IsPlace (xs : List (List ℕ)) (x : List ℕ) (i : ℕ) : Type 0 where
+  within : i < length xs
+  at : slice_get xs i ≡ Some x
+
+first_of : (y : List ℕ) (ys : List (List ℕ)) (x : List ℕ) (i : ℕ) → (Contains ys x → IsPlace ys x i) → (b : Bool) → same_text y x ≡ b → (x ≡ y) ⊎ Contains ys x → IsPlace (y ∷ ys) x (cond (not b) (1 + i) 0)
+first_of y ys x i more true h c = record { within = omega arith; at = ap Some ((bytes_eq-Decides y x).0 h) }
+first_of y ys x i more false h (inl same) = absurd (true≢false (sym ((bytes_eq-Decides y x).1 (sym same)) ∙ h))
+first_of y ys x i more false h (inr d) =
+    let found = more d in
+    let next : suc i ≡ 1 + i = omega arith in
+    record { within = omega (arith, found.within); at = ap (slice_get (y ∷ ys)) (sym next) ∙ found.at }
+
+first_place : (xs : List (List ℕ)) (x : List ℕ) → Contains xs x → IsPlace xs x (position_or_len (λ other. same_text other x) xs)
+first_place [] x c = absurd (Contains-nil x c)
+first_place (y ∷ ys) x c = first_of y ys x (position_or_len (λ other. same_text other x) ys) (first_place ys x) (same_text y x) refl (Contains-cases x y ys c)
+
+not_less : (m n : ℕ) → n ≤ m → (b : Bool) → nat_lt m n ≡ b → b ≡ false
+not_less m n h false e = refl
+not_less m n h true e = absurd (omega (arith, h, ltb-true m n e))
+
+number_is : (xs : List (List ℕ)) (x : List ℕ) → position_or_len (λ other. same_text other x) xs < length xs → set_number xs x ≡ position_or_len (λ other. same_text other x) xs
+number_is xs x h =
+    let i = position_or_len (λ other. same_text other x) xs in
+    ap (λ b. unwrap_or (cond b (Some i) None) 0) (lt-ltb i (length xs) h)
+
+-- the set stands at its number
+pub set_is_there : (xs : List (List ℕ)) (x : List ℕ) → Contains xs x → slice_get (distinct xs) (set_number (distinct xs) x) ≡ Some x
+set_is_there xs x c =
+    let d = first_place (distinct xs) x (distinct_has xs x c) in
+    ap (slice_get (distinct xs)) (number_is (distinct xs) x d.within) ∙ d.at
+
+-- the number of a set that stands first at a place, and of one that isn't there
+pub number_at_place : (xs : List (List ℕ)) (x : List ℕ) (i : ℕ) → i < length xs → ((k : ℕ) → k < i → same_text (get_or xs k []) x ≡ false) → same_text (get_or xs i []) x ≡ true → set_number xs x ≡ i
+number_at_place xs x i h before here =
+    let at : position_or_len (λ other. same_text other x) xs ≡ i = position_or_len_is (λ other. same_text other x) xs i [] (omega (arith, h)) before (λ _. here) in
+    number_is xs x (omega (arith, at, h)) ∙ at
+
+pub number_past : (xs : List (List ℕ)) (x : List ℕ) → ((k : ℕ) → k < length xs → same_text (get_or xs k []) x ≡ false) → set_number xs x ≡ 0
+number_past xs x none =
+    let i = position_or_len (λ other. same_text other x) xs in
+    let at : i ≡ length xs = position_or_len_is (λ other. same_text other x) xs (length xs) [] (omega arith) none (λ h. absurd (omega (arith, h))) in
+    ap (λ b. unwrap_or (cond b (Some i) None) 0) (not_less i (length xs) (omega (arith, at)) (nat_lt i (length xs)) refl)

@@ -1,0 +1,15 @@
+pub use Rattle.grammar_tree.specs.Written
+pub use Rattle.grammar_tree.specs.Kinds
+pub use Rattle.grammar_tree.specs.Derives
+pub use Rattle.grammar_tree.specs.Corners
+pub use Rattle.grammar_tree.specs.Checked
+pub mod Form
+pub mod NormalDerives
+pub mod Numbering
+pub mod NormalOf
+pub mod Print
+pub mod Printing
+pub mod Code
+pub mod View
+pub mod Numbers
+pub mod Laws

@@ -1,0 +1,85 @@
+-- What the code of this crate looks up while it makes a normal form.
+use Rattle.std.specs.Prelude.{◌≡◌, ℕ, ◌+◌, ◌<◌, ◌^◌, Bool, true, false, if◌then◌else◌, List, [], ◌∷◌, ◌++◌, length, map, slice_index, nat_eq, Option, Some, None}
+use Rattle.std.specs.List.{list_any}
+use Rattle.std.specs.Global.{Vec}
+use Rattle.grammar_tree.specs.Written.{WrittenTerm, WrittenSeq, WrittenAlts, WrittenGrammar}
+use Rattle.grammar_tree.specs.Kinds.{name_kind, rule_number, same_text}
+use Rattle.grammar_tree.specs.Corners.{group_size}
+use Rattle.grammar_tree.specs.Derives.{Alts, Term, bodies}
+use Rattle.normal_form.specs.declared.normal.Sym.{Sym}
+use Rattle.normal_form.specs.declared.normal.Sym.TheVariants.{Kind, Set, Rule}
+use Rattle.normal_form.specs.NormalOf.{numbering, place, sets_of}
+use Rattle.normal_form.specs.View.{set_form}
+
+-- how many new rules a term as it is written makes
+abbrev mutual
+  pub term_count : WrittenTerm → ℕ
+  term_count (WrittenTerm.literal t) = 0
+  term_count (WrittenTerm.name n) = 0
+  term_count WrittenTerm.any = 0
+  term_count (WrittenTerm.but refs) = 0
+  term_count (WrittenTerm.block a) = alts_count a + 1
+  term_count (WrittenTerm.opt t) = term_count t + 1
+  term_count (WrittenTerm.star t) = term_count t + 1
+  term_count (WrittenTerm.plus t) = term_count t + 1
+  term_count WrittenTerm.eof = 0
+
+  pub seq_count : WrittenSeq → ℕ
+  seq_count WrittenSeq.done = 0
+  seq_count (WrittenSeq.next t s) = term_count t + seq_count s
+
+  pub alts_count : WrittenAlts → ℕ
+  alts_count WrittenAlts.none = 0
+  alts_count (WrittenAlts.or s a) = seq_count s + alts_count a
+
+-- the sets with one more, unless it is one of them
+abbrev pub with_set : List (List ℕ) → List ℕ → List (List ℕ)
+with_set sets ks = if list_any (λ other. same_text other ks) sets then sets else sets ++ ks ∷ []
+
+-- the sets with each of these
+abbrev pub with_sets : List (List ℕ) → List (List ℕ) → List (List ℕ)
+with_sets sets [] = sets
+with_sets sets (ks ∷ more) = with_sets (with_set sets ks) more
+
+-- The places are those of the parser rules' own rules, and the sets those of the grammar.
+pub record AreNumbersOf (G : WrittenGrammar) (places : List ℕ) (sets : List (Vec ℕ)) : Type 0 where
+  pub known : length places ≡ length (bodies G)
+  pub places_are : (r : ℕ) → r < length (bodies G) → slice_index places r ≡ place (bodies G) r
+  pub sets_are : map set_form sets ≡ sets_of (bodies G)
+  pub few_sets : length sets < 2 ^ 32
+
+-- what a kind that may be missing stands for, and what a name does
+abbrev pub token_symbol : WrittenGrammar → Option ℕ → Sym
+token_symbol G None = Set ((numbering (bodies G)).set_of [])
+token_symbol G (Some k) = Kind k
+
+abbrev pub rule_symbol : WrittenGrammar → Option ℕ → Option ℕ → Sym
+rule_symbol G (Some r) token = Rule (place (bodies G) r)
+rule_symbol G None token = token_symbol G token
+
+abbrev pub named_symbol : WrittenGrammar → List ℕ → Sym
+named_symbol G n = rule_symbol G (rule_number G n) (name_kind G n)
+
+-- there are alternatives
+abbrev pub is_or : Alts → Bool
+is_or Alts.none = false
+is_or (Alts.or s a) = true
+
+-- the term is the rule r
+abbrev pub is_rule_term : ℕ → Term → Bool
+is_rule_term r (Term.rule q) = nat_eq q r
+is_rule_term r _ = false
+
+-- the places of the rules of these parser rules, of which the first has the number r and its own rule the number n
+abbrev pub places_from : ℕ → ℕ → List Alts → List ℕ
+places_from n r [] = []
+places_from n r (a ∷ G) = n ∷ places_from (n + group_size r a) (r + 1) G
+
+-- the sets of a token that may stand for no kind, and of a name
+abbrev pub token_sets : Option ℕ → List (List ℕ)
+token_sets None = [] ∷ []
+token_sets (Some k) = []
+
+abbrev pub name_sets : Option ℕ → Option ℕ → List (List ℕ)
+name_sets (Some r) token = []
+name_sets None token = token_sets token

@@ -1,0 +1,31 @@
+//! The normal form of a grammar, on which the reducer's trees stand.
+//!
+//! Each rule of a [`Normal`] has alternatives of symbols, or is an optional, a star or a plus of one
+//! symbol. [`normalise`] makes it of a checked grammar, and [`normal_text`] prints it. Each parser
+//! rule derives the same lists of token kinds as its rule in the normal form, direct left recursion
+//! included: that is a clause of [`normalise`].
+//!
+//! The definitions stand in `specs/`: what a normal form is and derives (`Form.antt`,
+//! `NormalDerives.antt`), which rules a grammar's terms give and how they are numbered
+//! (`Numbering.antt`, `NormalOf.antt`), and how it is printed (`Print.antt`).
+#![tactic(auto)]
+
+mod counts;
+mod from_grammar;
+mod groups;
+mod laws;
+mod normal;
+mod numbers;
+mod parser_rule;
+mod places;
+mod print;
+mod recursion;
+mod rule_names;
+mod rules;
+mod sets;
+
+pub use faults::Memory;
+pub use from_grammar::normalise;
+pub use laws::{equal_languages, rules_are_few};
+pub use normal::{Normal, NormalRule, Sym};
+pub use print::normal_text;
