@@ -1,0 +1,14 @@
+pub mod Nodes
+pub mod Added
+pub mod Compiled
+pub mod Terms
+pub mod Standing
+pub mod Going
+pub mod Best
+pub mod Depth
+pub mod Shorts
+pub mod Pushed
+pub mod Listed
+pub mod Next
+pub mod Cut
+pub mod OneChar

@@ -1,0 +1,69 @@
+-- Lists of the alternatives that can begin with a character.
+use Rattle.std.proofs.Common.{◌≡◌, ◌<◌, ◌≤◌, ◌+◌, ◌⊎◌, inl, inr, ℕ, Vec, List, [], ◌∷◌, ◌++◌, Some, slice_get, slice_index_or, length, sym, ap, ◌∙◌, subst, arith, length-append}
+use Rattle.std.specs.List.{Contains}
+use Rattle.std.proofs.lemmas.Bool.{cases_lt}
+use Rattle.std.proofs.lemmas.List.Elements.{Contains-push, Contains-push_cases, Contains-append_left}
+use Rattle.std.proofs.lemmas.Option.{slice_get-get_or}
+use Rattle.lexer.specs.declared.program.Node.{Node}
+use Rattle.lexer.specs.declared.reading.Alternative.{Alternative}
+use Rattle.lexer.specs.Program.{Reads}
+use Rattle.lexer.specs.Candidates.{AreCandidates, AreListed}
+use Rattle.lexer.proofs.Nodes.{get_before, get_last, get_within}
+
+module _ (P : List Node) (all : List Alternative) (c : ℕ) where
+  abbrev pub Complete : ℕ → List Alternative → Type 0
+  Complete i list = (k : ℕ) (a : Alternative) (w : List ℕ) → k < i → slice_get all k ≡ Some a → Reads P a.start (c ∷ w) → Contains list a
+
+  pub among_more : (list new : List Alternative) (x : Alternative) → new ≡ list ++ x ∷ [] → Contains all x → ((a : Alternative) → Contains list a → Contains all a) → (a : Alternative) → Contains new a → Contains all a
+  among_more list new x e here before a k = let Q : List Alternative → Type 0 = λ l. Contains l a in pick (Contains-push_cases list x a (subst Q e k))
+    where
+      pick : Contains list a ⊎ (x ≡ a) → Contains all a
+      pick (inl k) = before a k
+      pick (inr same) = let Q : Alternative → Type 0 = λ y. Contains all y in subst Q same here
+
+  complete_next : (i : ℕ) (list new : List Alternative) (x d : Alternative) → i < length all → x ≡ slice_index_or all i d → ((a : Alternative) → Contains list a → Contains new a) → ((w : List ℕ) → Reads P x.start (c ∷ w) → Contains new x) → Complete i list → Complete (i + 1) new
+  complete_next i list new x d inside is kept here before k a w h e r = pick (cases_lt k i)
+    where
+      pick : (k < i) ⊎ (i ≤ k) → Contains new a
+      pick (inl l) = kept a (before k a w l e r)
+      pick (inr l) =
+          let same : k ≡ i = omega (arith, h, l) in
+          let q : Some a ≡ Some x = sym e ∙ ap (λ n. slice_get all n) same ∙ slice_get-get_or all i d inside ∙ ap Some (sym is) in
+          let it : x ≡ a = cc in
+          let Q : Alternative → Type 0 = λ y. Reads P y.start (c ∷ w) in
+          let R : Alternative → Type 0 = λ y. Contains new y in
+          subst R it (here w (subst Q (sym it) r))
+
+  pub complete_more : (i : ℕ) (list new : List Alternative) (x d : Alternative) → i < length all → x ≡ slice_index_or all i d → new ≡ list ++ x ∷ [] → Complete i list → Complete (i + 1) new
+  complete_more i list new x d inside is e =
+      let Q : List Alternative → Type 0 = λ l. (a : Alternative) → Contains list a → Contains l a in
+      let R : List Alternative → Type 0 = λ l. Contains l x in
+      complete_next i list new x d inside is (subst Q (sym e) (λ a k. Contains-append_left list (x ∷ []) a k)) (λ w r. subst R (sym e) (Contains-push list x))
+
+  pub complete_skip : (i : ℕ) (list new : List Alternative) (x d : Alternative) → i < length all → x ≡ slice_index_or all i d → new ≡ list → ((w : List ℕ) → ¬ Reads P x.start (c ∷ w)) → Complete i list → Complete (i + 1) new
+  complete_skip i list new x d inside is e none =
+      let Q : List Alternative → Type 0 = λ l. (a : Alternative) → Contains list a → Contains l a in
+      complete_next i list new x d inside is (subst Q (sym e) (λ a k. k)) (λ w r. absurd (none w r))
+
+  pub complete_all : (i : ℕ) (list : List Alternative) → length all ≤ i → ((a : Alternative) → Contains list a → Contains all a) → Complete i list → AreCandidates P all list c
+  complete_all i list h among complete =
+      record {
+        among = among;
+        complete = λ a w (k, l, e) r. complete k a w (omega (arith, h, l)) (slice_get-get_or all k a l ∙ ap Some e) r;
+      }
+
+pub listed_more : {A : Type 0} (P : List Node) (all : List Alternative) (lists new : List (Vec Alternative A)) (list : Vec Alternative A) (c : ℕ) → new ≡ lists ++ list ∷ [] → length lists ≡ c → AreListed P all lists → AreCandidates P all list.items c → AreListed P all new
+listed_more {A} P all lists new list c e n before here k l g = pick (cases_lt k (length lists))
+  where
+    at : slice_get (lists ++ list ∷ []) k ≡ Some l
+    at = ap (λ x. slice_get x k) (sym e) ∙ g
+
+    pick : (k < length lists) ⊎ (length lists ≤ k) → AreCandidates P all l.items k
+    pick (inl h) = before k l (sym (get_before lists (list ∷ []) k h) ∙ at)
+    pick (inr h) =
+        let last : k ≡ length lists = omega (arith, h, get_within (lists ++ list ∷ []) l k at, length-append lists (list ∷ [])) in
+        let q : Some list ≡ Some l = sym (get_last lists list k last) ∙ at in
+        let is : list ≡ l = cc in
+        let Q : Vec Alternative A → Type 0 = λ x. AreCandidates P all x.items k in
+        let R : ℕ → Type 0 = λ x. AreCandidates P all list.items x in
+        subst Q is (subst R (sym (last ∙ n)) here)

@@ -1,0 +1,19 @@
+use Rattle.std.proofs.Common.{List, [], refl, arith}
+use Rattle.grammar_tree.specs.Written.{LexerRule}
+use Rattle.lexer.specs.declared.program.Node.{Node}
+use Rattle.lexer.proofs.Compiled.{grown, pushed_is_closed, short_all}
+use Rattle.lexer.proofs.compile.add_short.Goals as goal
+
+abbrev no_rules : List LexerRule
+no_rules = []
+
+pub add_set-requires-clause-closed : goal.add_set-requires-clause-closed
+add_set-requires-clause-closed c = pushed_is_closed c.args.nodes.now.items c.add.new.nodes.items Node.Never c.requires.closed tt c.in_ok-again.ensures.added
+
+pub index_mut-requires : goal.index_mut-requires
+index_mut-requires c = let a = c.in_ok-body.ensures no_rules in omega (arith, a.longer, grown c.args.nodes.now.items c.add.new.nodes.items Node.Never c.in_ok-again.ensures.added, c.add_set.new.nodes.ok.0, c.in_ok-again.ensures.number)
+
+pub returns : goal.returns
+returns c rules =
+    short_all rules c.args.set.now c.args.nodes.now.items c.add.new.nodes.items c.add_set.new.nodes.items _ c.in_ok-again.again c.in_ok-body.body c.args.next
+    c.requires.next c.in_ok-again.ensures.added c.in_ok-again.ensures.number (c.in_ok-body.ensures rules) refl

@@ -1,0 +1,15 @@
+use Rattle.std.proofs.Common.{List, MatchOption, subst}
+use Rattle.std.specs.Str.{chars}
+use Rattle.lexer.specs.declared.pieces.Match.{Match}
+use Rattle.lexer.specs.declared.program.Node.{Node}
+use Rattle.lexer.specs.declared.reading.Alternative.{Alternative}
+use Rattle.lexer.specs.Candidates.{ComesNext, HasNoNext}
+use Rattle.lexer.proofs.rules.Rules.next.Goals as goal
+
+pub returns-clause-next : goal.returns-clause-next
+returns-clause-next c =
+    let text = chars c.args.text.now in
+    let found = c.in_ok-found.found in
+    let P : List Node → Type 0 = λ x. MatchOption found (HasNoNext x c.deref-2.result.now text) (λ (m : Match). ComesNext x c.deref-2.result.now text m.kind m.len) in
+    let Q : List Alternative → Type 0 = λ x. MatchOption found (HasNoNext c.args.self.now.nodes.items x text) (λ (m : Match). ComesNext c.args.self.now.nodes.items x text m.kind m.len) in
+    subst Q c.deref-2.ensures.value (subst P c.deref.ensures.value c.in_ok-found.ensures.next)

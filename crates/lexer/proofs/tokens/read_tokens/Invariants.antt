@@ -1,0 +1,14 @@
+use Rattle.std.proofs.Common.{◌-◌, map, length}
+use Rattle.lexer.specs.Reading.{IsReady}
+use Rattle.lexer.specs.Tokens.{token_of}
+use Rattle.lexer.proofs.Cut.{IsReadTo}
+use Rattle.lexer.proofs.tokens.read_tokens.Given as goal
+
+abbrev pub invariant-loop-at : goal.invariant-loop-at
+invariant-loop-at l = record {
+  ready : IsReady (length l.rules.nodes.items) l.reading;
+  read_to : IsReadTo l.checked.grammar l.text l.at (map token_of l.tokens.items);
+}
+
+abbrev pub decreases-loop-at : goal.decreases-loop-at
+decreases-loop-at l = length l.text - l.at

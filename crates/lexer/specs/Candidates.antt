@@ -1,0 +1,38 @@
+-- Which alternatives have to be read, and what comes next by them.
+use Rattle.std.specs.Prelude.{◌≡◌, ◌≢◌, ◌<◌, ◌≤◌, ℕ, List, [], ◌∷◌, ◌++◌, Some, slice_get, length, encode_utf8_all, Vec}
+use Rattle.std.specs.List.{Contains}
+use Rattle.lexer.specs.declared.program.Node.{Node}
+use Rattle.lexer.specs.declared.reading.Alternative.{Alternative}
+use Rattle.lexer.specs.Program.{Reads}
+use Rattle.lexer.specs.Longest.{IsLongestLen}
+use Rattle.lexer.specs.Reading.{IsRead}
+use Rattle.lexer.specs.Alternatives.{HasAlternative}
+
+-- Some of the alternatives, with all that can read a text which begins with the character.
+pub record AreCandidates (P : List Node) (all some : List Alternative) (c : ℕ) : Type 0 where
+  pub among : (a : Alternative) → Contains some a → Contains all a
+  pub complete : (a : Alternative) (w : List ℕ) → Contains all a → Reads P a.start (c ∷ w) → Contains some a
+
+-- each list has candidates for the character that is its place
+abbrev pub AreListed : {A : Type 0} → List Node → List Alternative → List (Vec Alternative A) → Type 0
+AreListed {A} P all lists = (c : ℕ) (list : Vec Alternative A) → slice_get lists c ≡ Some list → AreCandidates P all list.items c
+
+-- no alternative matches a beginning of at least one character
+abbrev pub HasNoNext : List Node → List Alternative → List ℕ → Type 0
+HasNoNext P all text = (k : ℕ) (front back : List ℕ) → text ≡ front ++ back → front ≢ [] → ¬ HasAlternative P all k front
+
+-- The text begins with a match of the kind, which has so many bytes. No alternative has a longer one, and none of a lesser kind has the same.
+pub record ComesNext (P : List Node) (all : List Alternative) (text : List ℕ) (kind len : ℕ) : Type 0 where
+  pub front : List ℕ
+  pub back : List ℕ
+  pub cut : text ≡ front ++ back
+  pub some : front ≢ []
+  pub matched : HasAlternative P all kind front
+  pub longest : (other : ℕ) (f b : List ℕ) → text ≡ f ++ b → HasAlternative P all other f → length f ≤ length front
+  pub least : (other : ℕ) → HasAlternative P all other front → kind ≤ other
+  pub bytes : len ≡ length (encode_utf8_all front)
+
+-- The best match of the alternatives: the longest one, and that of the least kind on a tie. The length 0 stands for none.
+pub record IsBestOf (P : List Node) (list : List Alternative) (text : List ℕ) (kind len : ℕ) : Type 0 where
+  pub each : (a : Alternative) → Contains list a → (n : ℕ) × IsLongestLen (IsRead P a) text n × (n ≤ len) × (n ≡ len → 0 < len → kind ≤ a.kind)
+  pub some : 0 < len → (a : Alternative) × Contains list a × (a.kind ≡ kind) × IsLongestLen (IsRead P a) text len

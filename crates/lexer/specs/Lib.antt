@@ -1,0 +1,9 @@
+pub mod Program
+pub mod Compile
+pub mod Standing
+pub mod Longest
+pub mod Reading
+pub mod Alternatives
+pub mod Candidates
+pub mod Tokens
+pub mod Built

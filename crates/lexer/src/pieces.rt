@@ -1,0 +1,89 @@
+//! What comes next in a text.
+
+ghost use Rattle.std.specs.Prelude.{◌≡◌, ◌⊎◌, ◌<◌, ◌≤◌, ℕ, List, IfOk, MatchOption, OnOk, length};
+ghost use Rattle.std.specs.List.{Contains};
+ghost use Rattle.std.specs.Str.{chars};
+ghost use Rattle.lexer.specs.declared.reading.Alternative.{Alternative};
+ghost use Rattle.lexer.specs.Alternatives.{IsProgram};
+ghost use Rattle.lexer.specs.Candidates.{AreListed, ComesNext, HasNoNext, IsBestOf};
+ghost use Rattle.lexer.specs.Program.{IsClosed};
+ghost use Rattle.lexer.specs.Reading.{IsReady};
+
+use crate::candidates::candidates;
+use crate::program::Node;
+use crate::reading::{Alternative, Reading};
+use faults::Memory;
+
+/// A match at the beginning of a text: the number of its kind, and its length in bytes. The length
+/// 0 stands for none.
+#[derive(Clone, Copy)]
+pub(crate) struct Match {
+    pub(crate) kind: u32,
+    pub(crate) len: usize,
+}
+
+/// The longer of the two, and that of the lesser kind where they have one length.
+fn better(best: Match, other: Match) -> Match
+    ensures one { (result ≡ best) ⊎ (result ≡ other) }
+    ensures no_shorter { best.len ≤ result.len }
+    ensures no_shorter_other { other.len ≤ result.len }
+    ensures least { best.len ≡ result.len → result.kind ≤ best.kind }
+    ensures least_other { other.len ≡ result.len → result.kind ≤ other.kind }
+{
+    if other.len > best.len || other.len == best.len && other.kind < best.kind {
+        other
+    } else {
+        best
+    }
+}
+
+/// The best match of the alternatives.
+fn best_match(
+    program: &[Node],
+    alternatives: &[Alternative],
+    reading: &mut Reading,
+    text: &str,
+) -> Result<Match, Memory>
+    requires program { IsClosed program.now }
+    requires inside { (a : Alternative) → Contains alternatives.now a → a.start < length program.now }
+    requires ready { IsReady (length program.now) reading.old }
+    ensures ready { OnOk result (IsReady (length program.now) reading.new) }
+    ensures best { IfOk result (λ m. IsBestOf program.now alternatives.now (chars text.now) m.kind m.len) }
+{
+    let mut best = Match { kind: 0, len: 0 };
+    for alternative in alternatives {
+        let alternative = *alternative;
+        let len = reading.longest(program, alternative, text)?;
+        let other = Match {
+            kind: alternative.kind,
+            len,
+        };
+        best = better(best, other);
+    }
+    Ok(best)
+}
+
+/// What comes next in the text. None where no alternative matches at least one character.
+pub(crate) fn next_match(
+    program: &[Node],
+    alternatives: &[Alternative],
+    lists: &[Vec<Alternative>],
+    reading: &mut Reading,
+    text: &str,
+) -> Result<Option<Match>, Memory>
+    requires program { IsProgram program.now alternatives.now }
+    requires listed { AreListed program.now alternatives.now lists.now }
+    requires ready { IsReady (length program.now) reading.old }
+    ensures ready { OnOk result (IsReady (length program.now) reading.new) }
+    ensures next { IfOk result (λ found. MatchOption found (HasNoNext program.now alternatives.now (chars text.now)) (λ m. ComesNext program.now alternatives.now (chars text.now) m.kind m.len)) }
+{
+    let Some(c) = text.chars().next() else {
+        return Ok(None);
+    };
+    let list = candidates(lists, alternatives, c);
+    let best = best_match(program, list, reading, text)?;
+    if best.len == 0 {
+        return Ok(None);
+    }
+    Ok(Some(best))
+}

@@ -1,0 +1,67 @@
+//! The rules of a lexer, in the form in which they are read.
+
+ghost use Rattle.std.specs.Prelude.{IfOk, MatchOption, OnOk, length};
+ghost use Rattle.std.specs.Str.{chars};
+ghost use Rattle.lexer.specs.Built.{IsBuilt, IsRunnable};
+ghost use Rattle.lexer.specs.Candidates.{ComesNext, HasNoNext};
+ghost use Rattle.lexer.specs.Reading.{IsReady};
+
+use crate::alternatives::add_kinds;
+use crate::candidates::by_first_character;
+use crate::pieces::{Match, next_match};
+use crate::program::Node;
+use crate::reading::{Alternative, Reading};
+use faults::Memory;
+use grammar_tree::Checked;
+use std::alloc::Global;
+
+/// The rules of a lexer: their nodes, and the alternatives of their kinds.
+#[derive(Drop)]
+pub(crate) struct Rules {
+    pub(crate) nodes: Vec<Node>,
+    pub(crate) alternatives: Vec<Alternative>,
+
+    /// By its first character, for each below 128, the alternatives that can match a text.
+    pub(crate) by_first: Vec<Vec<Alternative>>,
+}
+
+impl Rules {
+    /// The rules of the grammar.
+    pub(crate) fn build(alloc: Global, checked: &Checked) -> Result<Rules, Memory>
+        ensures { IfOk result (λ rules. IsBuilt checked.now rules) }
+    {
+        let mut nodes = vec![in alloc; Node::Never]?;
+        let mut alternatives = Vec::new(alloc);
+        add_kinds(&mut nodes, &mut alternatives, checked)?;
+        let by_first = by_first_character(alloc, &nodes, &alternatives)?;
+        Ok(Rules {
+            nodes,
+            alternatives,
+            by_first,
+        })
+    }
+
+    /// What reading by these rules takes.
+    pub(crate) fn reading(&self, alloc: Global) -> Result<Reading, Memory>
+        ensures { IfOk result (λ reading. IsReady (length self.now.nodes.items) reading) }
+    {
+        Reading::new(alloc, self.nodes.len())
+    }
+
+    /// What comes next in the text. None where no rule matches at least one character.
+    pub(crate) fn next(&self, reading: &mut Reading, text: &str) -> Result<Option<Match>, Memory>
+        requires runnable { IsRunnable self.now }
+        requires ready { IsReady (length self.now.nodes.items) reading.old }
+        ensures ready { OnOk result (IsReady (length self.now.nodes.items) reading.new) }
+        ensures next { IfOk result (λ found. MatchOption found (HasNoNext self.now.nodes.items self.now.alternatives.items (chars text.now)) (λ m. ComesNext self.now.nodes.items self.now.alternatives.items (chars text.now) m.kind m.len)) }
+    {
+        let found = next_match(
+            &self.nodes,
+            &self.alternatives,
+            &self.by_first,
+            reading,
+            text,
+        )?;
+        Ok(found)
+    }
+}
