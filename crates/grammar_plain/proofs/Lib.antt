@@ -1,0 +1,15 @@
+pub mod Marks
+pub mod Ends
+pub mod Rows
+pub mod Views
+pub mod LexerViews
+pub mod ParserViews
+pub mod Pairs
+pub mod Standing
+pub mod Ones
+pub mod Reading
+pub mod LexerMeaning
+pub mod LexerResults
+pub mod LexerAlternatives
+pub mod Lent
+pub mod ParserMeaning

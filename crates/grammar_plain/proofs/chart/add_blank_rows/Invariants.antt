@@ -1,0 +1,5 @@
+use Rattle.grammar_plain.specs.Places.{AddsRows}
+use Rattle.grammar_plain.proofs.chart.add_blank_rows.Given as goal
+
+abbrev pub invariant-loop-start : goal.invariant-loop-start
+invariant-loop-start l = AddsRows l.initial.rows.items l.rows.items l.rule l.count l.start

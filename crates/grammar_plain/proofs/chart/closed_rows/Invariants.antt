@@ -1,0 +1,12 @@
+use Rattle.std.proofs.Common.{◌+◌, length, map}
+use Rattle.grammar_plain.specs.Places.{AreRows, Known}
+use Rattle.grammar_plain.specs.View.{pattern}
+use Rattle.grammar_plain.proofs.Pairs.{total}
+use Rattle.grammar_plain.proofs.Standing.{Sound}
+use Rattle.grammar_plain.proofs.chart.closed_rows.Given as goal
+
+abbrev pub invariant-loop-rows : goal.invariant-loop-rows
+invariant-loop-rows l = record { are : AreRows l.rows.items (length l.bodies) (length l.list + 1); sound : Sound (map pattern l.bodies) l.list (Known l.rows.items) }
+
+abbrev pub decreases-loop-rows : goal.decreases-loop-rows
+decreases-loop-rows l = total l.rows.items

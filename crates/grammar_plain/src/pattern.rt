@@ -1,0 +1,117 @@
+//! Patterns.
+
+ghost use Rattle.std.specs.Prelude.{◌≡◌, ◌+◌, ℕ, [], ◌∷◌, IfOk, length, vec_len};
+ghost use Rattle.grammar_plain.specs.Patterns as plain;
+ghost use Rattle.grammar_plain.specs.Places.{AreEnds, Fit, Known};
+ghost use Rattle.grammar_plain.specs.View.{pattern};
+
+use crate::chart::{self, Row};
+use crate::places;
+use faults::Memory;
+use std::alloc::Global;
+
+/// A term whose names are numbers of rules, over lists of numbers.
+#[derive(Drop)]
+pub enum Pattern {
+    Never,
+    Empty,
+    /// One number that lies in one of the ranges, both ends included.
+    One(Vec<(u32, u32)>),
+    Rule(usize),
+    Seq(Box<Pattern>, Box<Pattern>),
+    Alt(Box<Pattern>, Box<Pattern>),
+    Plus(Box<Pattern>),
+}
+
+impl Pattern {
+    /// The first pattern, and then the second.
+    pub fn then(alloc: Global, first: Pattern, second: Pattern) -> Result<Pattern, Memory>
+        ensures { IfOk result (λ p. pattern p ≡ plain.Pattern.seq (pattern first) (pattern second)) }
+    {
+        Ok(Pattern::Seq(Box::new(alloc, first)?, Box::new(alloc, second)?))
+    }
+
+    /// The first pattern or the second.
+    pub fn either(alloc: Global, first: Pattern, second: Pattern) -> Result<Pattern, Memory>
+        ensures { IfOk result (λ p. pattern p ≡ plain.Pattern.alt (pattern first) (pattern second)) }
+    {
+        Ok(Pattern::Alt(Box::new(alloc, first)?, Box::new(alloc, second)?))
+    }
+
+    /// The pattern once or more.
+    pub fn repeated(alloc: Global, part: Pattern) -> Result<Pattern, Memory>
+        ensures { IfOk result (λ p. pattern p ≡ plain.Pattern.plus (pattern part)) }
+    {
+        Ok(Pattern::Plus(Box::new(alloc, part)?))
+    }
+
+    /// One number.
+    pub fn number(alloc: Global, number: u32) -> Result<Pattern, Memory>
+        ensures { IfOk result (λ p. pattern p ≡ plain.Pattern.one ((number, number) ∷ [])) }
+    {
+        Ok(Pattern::One(vec![in alloc; (number, number)]?))
+    }
+
+    /// The pattern, or nothing.
+    pub fn optional(alloc: Global, part: Pattern) -> Result<Pattern, Memory>
+        ensures { IfOk result (λ p. pattern p ≡ plain.Pattern.alt plain.Pattern.empty (pattern part)) }
+    {
+        let whole = Pattern::either(alloc, Pattern::Empty, part)?;
+        Ok(whole)
+    }
+
+    /// The places up to which the pattern stands from a marked place.
+    pub fn ends(
+        &self,
+        alloc: Global,
+        rows: &[Row],
+        list: &[u32],
+        from: &[bool],
+    ) -> Result<Vec<bool>, Memory>
+        requires places { length from.now ≡ length list.now + 1 }
+        requires rows { Fit rows.now (length list.now + 1) }
+        ensures len { IfOk result (λ to. vec_len to ≡ length from.now) }
+        ensures ends { IfOk result (λ to. AreEnds (Known rows.now) list.now (pattern self.now) from.now to.items) }
+    {
+        match self {
+            Pattern::Never => {
+                let to = places::none(alloc, from.len())?;
+                Ok(to)
+            }
+            Pattern::Empty => {
+                let to = Vec::from_slice(alloc, from)?;
+                Ok(to)
+            }
+            Pattern::One(ranges) => {
+                let to = places::steps(alloc, ranges, list, from)?;
+                Ok(to)
+            }
+            Pattern::Rule(rule) => {
+                let to = chart::known_ends(alloc, rows, *rule, from)?;
+                Ok(to)
+            }
+            Pattern::Seq(first, second) => {
+                let middle = first.ends(alloc, rows, list, from)?;
+                let to = second.ends(alloc, rows, list, &middle)?;
+                Ok(to)
+            }
+            Pattern::Alt(first, second) => {
+                let left = first.ends(alloc, rows, list, from)?;
+                let right = second.ends(alloc, rows, list, from)?;
+                let to = places::union(alloc, &left, &right)?;
+                Ok(to)
+            }
+            Pattern::Plus(part) => {
+                let mut all = part.ends(alloc, rows, list, from)?;
+                loop {
+                    let more = part.ends(alloc, rows, list, &all)?;
+                    let next = places::union(alloc, &all, &more)?;
+                    if places::are_same(&next, &all) {
+                        return Ok(all);
+                    }
+                    all = next;
+                }
+            }
+        }
+    }
+}
