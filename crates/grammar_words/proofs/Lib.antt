@@ -1,0 +1,5 @@
+pub mod Going
+pub mod Hex
+pub mod Joined
+pub mod Tails
+pub mod CharTests
