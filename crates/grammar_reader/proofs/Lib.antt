@@ -1,0 +1,13 @@
+pub mod Rest
+pub mod Unroll
+pub mod ParserSteps
+pub mod LexerSteps
+pub mod Steps
+pub mod Runs
+pub mod SpotSteps
+pub mod Reading
+pub mod SetOf
+pub mod Views
+pub mod OneChars
+pub mod Defaults
+pub mod Ranging

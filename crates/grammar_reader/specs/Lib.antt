@@ -1,0 +1,10 @@
+pub use Rattle.grammar_tree.specs.Written
+pub mod Sets
+pub mod Notation
+pub mod Machine
+pub mod View
+pub mod OneChar
+pub mod Printed
+pub mod Reads
+pub mod Ended
+pub mod Spots
