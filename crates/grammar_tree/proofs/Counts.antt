@@ -78,7 +78,7 @@ is_of_rule from (WrittenRule.lexer_rule r ∷ rules) kind i c e = elim (cases_Bo
 ]
 
 module _ (G : WrittenGrammar) where
-  kind_cases : (kind : TokenKind) → Contains (kinds_of G) kind → Contains (map implicit_kind (implicit_literals G.rules)) kind ⊎ (Contains (written_kinds 0 G.rules) kind ⊎ Contains (map declared_kind (declared_names G)) kind)
+  pub kind_cases : (kind : TokenKind) → Contains (kinds_of G) kind → Contains (map implicit_kind (implicit_literals G.rules)) kind ⊎ (Contains (written_kinds 0 G.rules) kind ⊎ Contains (map declared_kind (declared_names G)) kind)
   unfolding kinds_of
   kind_cases kind c = elim (Contains-append_cases (map implicit_kind (implicit_literals G.rules)) (written_kinds 0 G.rules ++ map declared_kind (declared_names G)) kind c) [
     | inl a ↦ inl a

@@ -1,12 +1,13 @@
 -- A small grammar for each fault that has it.
-use Rattle.std.proofs.Common.{◌≡◌, ℕ, zero, suc, Bool, true, false, List, [], ◌∷◌, None, refl, sym, ap, arith, inl, inr, true≢false}
+use Rattle.std.proofs.Common.{◌≡◌, ℕ, zero, suc, Bool, true, false, List, [], ◌∷◌, None, refl, sym, ap, arith, subst, inl, inr, true≢false}
+use Rattle.std.proofs.lemmas.Option.{same_Some}
 use Rattle.std.specs.List.{Contains}
 use Rattle.grammar_tree.specs.Written.{WrittenTerm, WrittenSeq, WrittenAlts, LexerTerm, LexerSeq, LexerAlts, LexerRule, WrittenRule, WrittenGrammar}
 use Rattle.grammar_tree.specs.Kinds.{kinds_of}
 use Rattle.grammar_tree.specs.Matches.{Matches, MatchesAlts, MatchesMany, MatchesSeq, MatchesRule}
 use Rattle.grammar_tree.specs.Derives.{Alts, Derives, DerivesAlts, DerivesSeq, Seq, Term, bodies, resolved_seq}
-use Rattle.grammar_tree.specs.Corners.{IsLeftCorner, LeadsTo, normal_count, seq_new_rules}
-use Rattle.grammar_tree.specs.Faults.{NameUse, NoStart, TooManyRules, Uses, UsesThrough}
+use Rattle.grammar_tree.specs.Corners.{BeginsAlts, HasEmptyLoopAlts, IsLeftCorner, LeadsTo, bases, rests, normal_count, seq_new_rules}
+use Rattle.grammar_tree.specs.Faults.{NoStart, TooManyRules, Uses, UsesThrough}
 use Rattle.grammar_tree.specs.Laws.{EachFaultCanHold}
 
 abbrev a : List ℕ
@@ -159,8 +160,11 @@ b_is_empty = Derives.by_rule 1 opt_x [] refl (opt_is_empty (hidden_a ∷ opt_x �
 hidden_corner : IsLeftCorner (hidden_a ∷ opt_x ∷ []) 0 0
 hidden_corner = IsLeftCorner.in_base hidden_a refl (inl (inr (b_is_empty, inl refl)))
 
+abbrev indirect_a : Alts
+indirect_a = Alts.or (Seq.next (Term.rule 1) Seq.done) Alts.none
+
 abbrev indirect : List Alts
-indirect = Alts.or (Seq.next (Term.rule 1) Seq.done) Alts.none ∷ Alts.or (Seq.next (Term.rule 0) Seq.done) just_x ∷ []
+indirect = indirect_a ∷ Alts.or (Seq.next (Term.rule 0) Seq.done) just_x ∷ []
 
 indirect_loop : LeadsTo indirect 0 0
 indirect_loop = LeadsTo.by_corners 0 1 0 (IsLeftCorner.in_base _ refl (inl (inl refl))) (LeadsTo.by_corner 1 0 (IsLeftCorner.in_base _ refl (inl (inl refl))))
@@ -189,6 +193,23 @@ opt_block_is_empty G =
     Matches.by_block (LexerAlts.or opt_y LexerAlts.none) []
     (MatchesAlts.by_first opt_y LexerAlts.none [] (MatchesSeq.by_next (LexerTerm.opt y) LexerSeq.done [] [] (Matches.by_absent y) MatchesSeq.by_done))
 
+no_loop : HasEmptyLoopAlts (empty_rest_a ∷ opt_x ∷ []) empty_rest_a → ⊥
+no_loop (inl (inl c)) = c
+no_loop (inl (inr (inl c))) = c
+no_loop (inl (inr (inr c))) = c
+no_loop (inr (inl (inl c))) = c
+no_loop (inr (inl (inr c))) = c
+no_loop (inr (inr c)) = c
+
+not_in_base : BeginsAlts indirect 0 indirect_a → ⊥
+not_in_base (inl (inl e)) = omega (arith, e)
+not_in_base (inl (inr (_, c))) = c
+not_in_base (inr c) = c
+
+not_own_corner : IsLeftCorner indirect 0 0 → ⊥
+not_own_corner (IsLeftCorner.in_base alts e begins) = not_in_base (subst (λ z. BeginsAlts indirect 0 (bases 0 z)) (sym (same_Some indirect_a alts e)) begins)
+not_own_corner (IsLeftCorner.in_rest alts e empty begins) = subst (λ z. BeginsAlts indirect 0 (rests 0 z)) (sym (same_Some indirect_a alts e)) begins
+
 pub each_fault_can_hold : EachFaultCanHold
 unfolding kinds_of
 each_fault_can_hold =
@@ -197,33 +218,26 @@ each_fault_can_hold =
       no_rule = (
         Unknown,
         b,
-        (
-          0,
-          (
-            NameUse.by_parser_rule b,
-            refl,
-            refl,
-            record {
-              no_parser_rule = λ c. names_differ a b (λ e. omega (arith, e)) (one_element a b c);
-              no_token_rule = λ c. omega (arith, c.1);
-              no_token = λ c. omega (arith, c.1);
-            },
-          ),
-        ),
+        (0, omega arith, refl),
+        record {
+          no_parser_rule = λ c. names_differ a b (λ e. omega (arith, e)) (one_element a b c);
+          no_token_rule = λ c. omega (arith, c.1);
+          no_token = λ c. omega (arith, c.1);
+        },
       );
-      no_lexer_rule = (UnknownFragment, B, (0, (NameUse.by_lexer_rule B, refl, refl, λ c. names_differ A B (λ e. omega (arith, e)) (one_element A B c))));
-      no_parser_rule = (UnknownFragment, None, NoStart.no_parser_rule None refl);
-      no_start = (Unknown, b, NoStart.not_there b (λ e. absurd cc) (λ c. names_differ a b (λ e. omega (arith, e)) (one_element a b c)));
+      no_lexer_rule = (UnknownFragment, B, (0, omega arith, refl), λ c. names_differ A B (λ e. omega (arith, e)) (one_element A B c));
+      no_parser_rule = (UnknownFragment, None, refl, NoStart.no_parser_rule None refl);
+      no_start = (Unknown, b, (λ e. absurd cc), NoStart.not_there b (λ e. absurd cc) (λ c. names_differ a b (λ e. omega (arith, e)) (one_element a b c)));
       eof_first = (EofFirst, 0, (_, refl, inl refl));
-      eof_within = (EofWithin, 0, 1, (λ e. omega (arith, e)), (_, refl, inr (refl, (λ e. omega (arith, e)), (0, omega arith, refl))));
+      eof_within = (EofWithin, 0, 1, (_, refl, refl), (_, refl, inr (refl, (λ e. omega (arith, e)), (0, omega arith, refl))));
       fragment_loop = (Loop, 1, (_, refl, UsesThrough.directly B B loop_uses));
       short_use = (Short, 0, (_, refl, (refl, (B, names_differ B A (λ e. omega (arith, e)), short_uses))));
       empty_token = (Empty, 0, (_, refl, (refl, star_is_empty _)));
       no_base = (Baseless, 0, (_, refl, refl));
-      empty_star = (EmptyStar, 0, inl (_, refl, inl (inl (inl (inl (Derives.by_block opt_x [] (opt_is_empty _ (Term.kind 0))))))));
-      empty_rest = (EmptyRest, 0, inl (_, refl, inr rest_is_empty));
-      empty_lexer_star = (EmptyLexerStar, 0, inr (_, refl, inl (inl (inl (opt_block_is_empty _)))));
-      left_recursion = (Indirect, 0, (_, refl, indirect_loop));
-      hidden_left_recursion = (Hidden, 0, (_, refl, LeadsTo.by_corner 0 0 hidden_corner));
+      empty_star = (EmptyStar, 0, (_, refl, refl), inl (_, refl, inl (inl (inl (inl (Derives.by_block opt_x [] (opt_is_empty _ (Term.kind 0))))))));
+      empty_rest = (EmptyRest, 0, (_, refl, no_loop), inl (_, refl, inr rest_is_empty));
+      empty_lexer_star = (EmptyLexerStar, 0, (_, refl, tt), inr (_, refl, inl (inl (inl (opt_block_is_empty _)))));
+      left_recursion = (Indirect, 0, not_own_corner, (_, refl, indirect_loop));
+      hidden_left_recursion = (Hidden, 0, hidden_corner, (_, refl, LeadsTo.by_corner 0 0 hidden_corner));
       too_many_rules = (many 65535, 65536, too_many);
     }

@@ -9,7 +9,7 @@ use Rattle.grammar_tree.specs.Laws.{BaseThenRests, CutsInto}
 use Rattle.grammar_tree.proofs.DeriveForms.{by_form}
 
 -- what an alternative with a rest looks like
-leads : (r : ℕ) (s rest : Seq) → rest_of r s ≡ Some rest → s ≡ Seq.next (Term.rule r) rest
+pub leads : (r : ℕ) (s rest : Seq) → rest_of r s ≡ Some rest → s ≡ Seq.next (Term.rule r) rest
 leads r (Seq.next (Term.rule q) more) rest e = step (nat_eq q r) refl e
   where
     step : (b : Bool) → nat_eq q r ≡ b → cond b (Some more) None ≡ Some rest → Seq.next (Term.rule q) more ≡ Seq.next (Term.rule r) rest

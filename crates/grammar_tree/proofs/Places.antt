@@ -97,7 +97,7 @@ passes_once p (y ∷ xs) zero x e h =
     omega (arith, sum_by-cons (λ z. cond (p z) 1 0) y xs, one)
 passes_once p (y ∷ xs) (suc k) x e h = omega (arith, sum_by-cons (λ z. cond (p z) 1 0) y xs, passes_once p xs k x e h)
 
-passes_twice : {X : Type 0} (p : X → Bool) (xs : List X) (i j : ℕ) (a b : X) → i < j → slice_get xs i ≡ Some a → slice_get xs j ≡ Some b → p a ≡ true → p b ≡ true → 2 ≤ count_by p xs
+pub passes_twice : {X : Type 0} (p : X → Bool) (xs : List X) (i j : ℕ) (a b : X) → i < j → slice_get xs i ≡ Some a → slice_get xs j ≡ Some b → p a ≡ true → p b ≡ true → 2 ≤ count_by p xs
 passes_twice p [] i j a b lt e f g h = absurd cc
 passes_twice p (y ∷ xs) i zero a b lt e f g h = absurd (omega (arith, lt))
 passes_twice p (y ∷ xs) zero (suc j) a b lt e f g h =

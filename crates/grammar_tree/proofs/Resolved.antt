@@ -133,7 +133,7 @@ module _ (G : WrittenGrammar) where
   no_position p xs x e c h = let at = some_position p xs x c h in none-some at.0 (sym e ∙ at.1)
 
   -- a name with no number and no kind names nothing
-  names_nothing : (n : List ℕ) → rule_number G n ≡ None → name_kind G n ≡ None → NamesNothing G n
+  pub names_nothing : (n : List ℕ) → rule_number G n ≡ None → name_kind G n ≡ None → NamesNothing G n
   names_nothing n e f =
       record {
         no_parser_rule = λ c. let it = mapped (λ (r : ParserRule). r.name) (parser_rules G.rules) n c in no_position (λ (r : ParserRule). same_text r.name n) (parser_rules G.rules) it.0 e it.1 (same_is it.0.name n it.2);

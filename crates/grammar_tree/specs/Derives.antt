@@ -63,12 +63,12 @@ mutual
     by_later : (s : Seq) (a : Alts) (w : List ℕ) → DerivesAlts G a w → DerivesAlts G (Alts.or s a) w
 
 -- What a kind that may be missing stands for. A literal or name that stands for nothing derives nothing.
-abbrev kind_term : Option ℕ → Term
+abbrev pub kind_term : Option ℕ → Term
 kind_term None = Term.among []
 kind_term (Some k) = Term.kind k
 
 -- A name is that of a parser rule, and else that of a token.
-abbrev name_term : Option ℕ → Option ℕ → Term
+abbrev pub name_term : Option ℕ → Option ℕ → Term
 name_term (Some r) token = Term.rule r
 name_term None token = kind_term token
 

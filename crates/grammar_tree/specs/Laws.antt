@@ -1,12 +1,13 @@
 -- What follows from the definitions, for the proofs of other crates.
-use Rattle.std.specs.Prelude.{◌≡◌, ◌≢◌, ◌↔◌, ◌⊎◌, ℕ, true, false, not, List, [], ◌∷◌, ◌++◌, Option, Some, slice_get}
+use Rattle.std.specs.Prelude.{◌≡◌, ◌≢◌, ◌↔◌, ◌⊎◌, ℕ, true, false, not, ⊤, List, [], ◌∷◌, ◌++◌, Option, Some, slice_get}
 use Rattle.std.specs.List.{Contains, flat_map}
 use Rattle.grammar_tree.specs.Chars.{HasExactlyChars, IsCharSet, has}
 use Rattle.grammar_tree.specs.Written.{LexerTerm, LexerSeq, LexerAlts, LexerRule, WrittenGrammar}
 use Rattle.grammar_tree.specs.Matches.{Matches, MatchesAlternative, MatchesAlts, MatchesRule, MatchesSeq, any_is_short, is_short}
-use Rattle.grammar_tree.specs.Derives.{Term, Seq, Alts, Derives, DerivesSeq, DerivesAlts}
-use Rattle.grammar_tree.specs.Corners.{bases, rests}
-use Rattle.grammar_tree.specs.Faults.{AtParserRule, EmptyLoop, EmptyToken, EofPlace, FragmentLoop, IsWellFormed, LeftRecursion, NoBase, NoRule, NoStart, ShortUse, TooManyRules, TwoRules, start_of}
+use Rattle.grammar_tree.specs.Kinds.{parser_rules}
+use Rattle.grammar_tree.specs.Derives.{Term, Seq, Alts, Derives, DerivesSeq, DerivesAlts, bodies, resolved_alts}
+use Rattle.grammar_tree.specs.Corners.{HasEmptyLoopAlts, IsLeftCorner, bases, rests}
+use Rattle.grammar_tree.specs.Faults.{AtLexerRule, AtParserRule, EmptyLoop, EmptyToken, EofPlace, FragmentLoop, IsUnknown, IsWellFormed, LeftRecursion, NameUse, NoBase, NoStart, ShortUse, TooManyRules, TwoRules, is_misplaced, name_uses, number_at, start_of}
 use Rattle.grammar_tree.specs.Lexes.{Lexes, LexesTo, Piece, StopsAt}
 
 -- The text or list is cut in two, and each part is of its kind.
@@ -129,23 +130,23 @@ SomeIsWellFormed = (G : WrittenGrammar) × (start : ℕ) × IsWellFormed G start
 pub record EachFaultCanHold : Type 0 where
   pub two_rules : (G : WrittenGrammar) × (name : List ℕ) × TwoRules G name
   -- a name in a parser rule, and one in a lexer rule
-  pub no_rule : (G : WrittenGrammar) × (name : List ℕ) × NoRule G name
-  pub no_lexer_rule : (G : WrittenGrammar) × (name : List ℕ) × NoRule G name
+  pub no_rule : (G : WrittenGrammar) × (name : List ℕ) × Contains (name_uses G) (NameUse.by_parser_rule name) × IsUnknown G (NameUse.by_parser_rule name)
+  pub no_lexer_rule : (G : WrittenGrammar) × (name : List ℕ) × Contains (name_uses G) (NameUse.by_lexer_rule name) × IsUnknown G (NameUse.by_lexer_rule name)
   -- no parser rule at all, and none of the wanted name
-  pub no_parser_rule : (G : WrittenGrammar) × (wanted : Option (List ℕ)) × NoStart G wanted []
-  pub no_start : (G : WrittenGrammar) × (name : List ℕ) × NoStart G (Some name) name
+  pub no_parser_rule : (G : WrittenGrammar) × (wanted : Option (List ℕ)) × (parser_rules G.rules ≡ []) × NoStart G wanted []
+  pub no_start : (G : WrittenGrammar) × (name : List ℕ) × (parser_rules G.rules ≢ []) × NoStart G (Some name) name
   -- `EOF` before another part, and at the end of a rule that another rule uses
   pub eof_first : (G : WrittenGrammar) × (start : ℕ) × EofPlace G start start
-  pub eof_within : (G : WrittenGrammar) × (start : ℕ) × (i : ℕ) × (i ≢ start) × EofPlace G start i
+  pub eof_within : (G : WrittenGrammar) × (start : ℕ) × (i : ℕ) × AtParserRule G i (λ rule. is_misplaced rule.alts ≡ false) × EofPlace G start i
   pub fragment_loop : (G : WrittenGrammar) × (i : ℕ) × FragmentLoop G i
   pub short_use : (G : WrittenGrammar) × (i : ℕ) × ShortUse G i
   pub empty_token : (G : WrittenGrammar) × (i : ℕ) × EmptyToken G i
   pub no_base : (G : WrittenGrammar) × (i : ℕ) × NoBase G i
   -- a star over what can be empty, a rest that can be empty, and a star in a lexer rule
-  pub empty_star : (G : WrittenGrammar) × (i : ℕ) × EmptyLoop G i
-  pub empty_rest : (G : WrittenGrammar) × (i : ℕ) × EmptyLoop G i
-  pub empty_lexer_star : (G : WrittenGrammar) × (i : ℕ) × EmptyLoop G i
-  -- through another rule, and behind a part that can be empty
-  pub left_recursion : (G : WrittenGrammar) × (i : ℕ) × LeftRecursion G i
-  pub hidden_left_recursion : (G : WrittenGrammar) × (i : ℕ) × LeftRecursion G i
+  pub empty_star : (G : WrittenGrammar) × (i : ℕ) × AtParserRule G i (λ rule. rests (number_at G i) (resolved_alts G rule.alts) ≡ Alts.none) × EmptyLoop G i
+  pub empty_rest : (G : WrittenGrammar) × (i : ℕ) × AtParserRule G i (λ rule. ¬ HasEmptyLoopAlts (bodies G) (resolved_alts G rule.alts)) × EmptyLoop G i
+  pub empty_lexer_star : (G : WrittenGrammar) × (i : ℕ) × AtLexerRule G i (λ rule. ⊤) × EmptyLoop G i
+  -- through another rule, and of a rule that is its own left corner: behind a part that can be empty
+  pub left_recursion : (G : WrittenGrammar) × (i : ℕ) × (¬ IsLeftCorner (bodies G) (number_at G i) (number_at G i)) × LeftRecursion G i
+  pub hidden_left_recursion : (G : WrittenGrammar) × (i : ℕ) × IsLeftCorner (bodies G) (number_at G i) (number_at G i) × LeftRecursion G i
   pub too_many_rules : (G : WrittenGrammar) × (count : ℕ) × TooManyRules G count

@@ -5,10 +5,11 @@ ghost use Rattle.std.specs.Str.{chars};
 
 use faults::Memory;
 use std::alloc::Global;
+use std::fmt;
 use std::marker::Model;
 
 /// A text: a name, or what stands between the quotes of a literal. Contracts see its characters.
-#[derive(Drop)]
+#[derive(Debug, Drop)]
 pub struct Text {
     text: String,
 }
@@ -52,5 +53,16 @@ impl Text {
         ensures { IsTrue result ↔ (self.now ≡ other.now) }
     {
         self.text.as_str() == other.text.as_str()
+    }
+}
+
+/// The characters, as they are.
+impl fmt::Display for Text {
+    ghost use Rattle.std.specs.Prelude.{Some, encode_utf8_all};
+
+    ghost output = { λ text. Some (encode_utf8_all text) };
+
+    fn fmt<W: fmt::Write>(&self, f: &mut fmt::Formatter<W>) -> fmt::Result {
+        f.write_str(self.as_str())
     }
 }
