@@ -1,5 +1,5 @@
 -- What holds of rows, bodies and a list holds of equal ones, as where they are lent.
-use Rattle.std.proofs.Common.{◌≡◌, ◌+◌, ◌↔◌, ℕ, Bool, List, length, sym, ap, subst}
+use Rattle.std.proofs.Common.{◌≡◌, ◌+◌, ◌↔◌, ℕ, Bool, List, length, subst}
 use Rattle.grammar_plain.specs.Patterns.{Pattern}
 use Rattle.grammar_plain.specs.Places.{Fit, IsExact, IsIn, Known, Spans}
 use Rattle.grammar_plain.specs.declared.chart.Row.{Row}

@@ -1,12 +1,9 @@
 -- The pattern of a lexer term stands exactly where the term matches.
-use Rattle.std.proofs.Common.{◌≡◌, ◌≤◌, ◌+◌, ◌⊎◌, ◌↔◌, inl, inr, ℕ, zero, suc, Bool, true, false, List, [], ◌∷◌, ◌++◌, Option, Some, None, slice_get, length, map, refl, sym, ap, ◌∙◌, subst, arith}
+use Rattle.std.proofs.Common.{◌≡◌, ◌≤◌, ◌+◌, ◌⊎◌, ◌↔◌, inl, inr, ℕ, zero, suc, Bool, true, false, List, [], ◌∷◌, ◌++◌, Option, Some, None, slice_get, length, refl, sym, ap, ◌∙◌, subst, arith}
 use Rattle.std.specs.List.{Contains}
 use Rattle.std.specs.Option.{option_map}
-use Rattle.std.proofs.lemmas.Bool.{cases_Bool}
-use Rattle.std.proofs.lemmas.List.{append-nil}
 use Rattle.std.proofs.lemmas.Option.{slice_get-map}
 use Rattle.std.proofs.lemmas.Slice.Eq.{bytes_eq-Decides}
-use Rattle.grammar_tree.specs.Chars.{has}
 use Rattle.grammar_tree.specs.Written.{LexerTerm, LexerSeq, LexerAlts, LexerRule, WrittenRule}
 use Rattle.grammar_tree.specs.Kinds.{lexer_rules, same_text}
 use Rattle.grammar_tree.specs.Matches.{Matches, MatchesMany, MatchesSeq, MatchesAlts}
@@ -14,7 +11,7 @@ use Rattle.grammar_tree.proofs.Places.{at_of_contains, contains_later, lexer_pla
 use Rattle.grammar_plain.specs.Patterns.{Pattern, Stands}
 use Rattle.grammar_plain.specs.Places.{IsExact, Known as rows_known, Many, Spans}
 use Rattle.grammar_plain.specs.declared.chart.Row.{Row}
-use Rattle.grammar_plain.specs.Spelled.{is_lexer_rule_named, named_from, or_rule, spelled, spelled_alts, spelled_rule, spelled_rules, spelled_seq, spelled_text}
+use Rattle.grammar_plain.specs.Spelled.{named_from, or_rule, spelled, spelled_alts, spelled_rule, spelled_rules, spelled_seq, spelled_text}
 use Rattle.grammar_plain.proofs.Reading.{Reads, join, cut}
 use Rattle.grammar_plain.proofs.Standing.{spans_of, exact_ends}
 use Rattle.grammar_plain.proofs.Ones.{one_only, one_itself}

@@ -1,13 +1,12 @@
 -- What the ends of a term and of an alternative from the start of a list say of what they match.
-use Rattle.std.proofs.Common.{◌≡◌, ◌<◌, ◌≤◌, ◌+◌, ◌⊎◌, ◌↔◌, inl, inr, ℕ, zero, suc, Bool, true, false, not, ◌&&◌, List, [], ◌∷◌, ◌++◌, IsTrue, length, map, refl, sym, ap, ◌∙◌, subst, true≢false, arith, length-append}
-use Rattle.std.proofs.lemmas.Bool.{and_from, and_parts, and_cases}
-use Rattle.grammar_tree.specs.Written.{LexerTerm, LexerSeq, LexerAlts, LexerRule, WrittenRule}
+use Rattle.std.proofs.Common.{◌≡◌, ◌<◌, ◌+◌, ◌↔◌, ℕ, Bool, true, false, not, List, [], ◌∷◌, ◌++◌, IsTrue, length, refl, sym, ap, subst, true≢false, arith, length-append}
+use Rattle.grammar_tree.specs.Written.{LexerTerm, LexerSeq, WrittenRule}
 use Rattle.grammar_tree.specs.Kinds.{lexer_rules}
-use Rattle.grammar_tree.specs.Matches.{Matches, MatchesAlternative, MatchesRule, MatchesSeq, is_short}
+use Rattle.grammar_tree.specs.Matches.{Matches, MatchesAlternative, MatchesSeq, is_short}
 use Rattle.grammar_plain.specs.Places.{IsExact, IsIn, Known, Spans}
 use Rattle.grammar_plain.specs.Spelled.{spelled, spelled_rules, spelled_seq}
 use Rattle.grammar_plain.specs.declared.chart.Row.{Row}
-use Rattle.grammar_plain.proofs.Reading.{Reads, front_of, nothing_left, reads_front, reads_whole, whole_of}
+use Rattle.grammar_plain.proofs.Reading.{front_of, reads_front, reads_whole, whole_of}
 use Rattle.grammar_plain.proofs.LexerMeaning.{term_meaning, seq_meaning}
 
 module _ (rules : List WrittenRule) (K : List ℕ) (rows : List Row) (exact : IsExact rows (spelled_rules rules) K (length K + 1)) (ends : List Bool) where

@@ -1,10 +1,10 @@
 -- Rows that are related, place by place, and rows that are added.
-use Rattle.std.proofs.Common.{◌≡◌, ◌<◌, ◌≤◌, ◌+◌, ◌⊎◌, inl, inr, ℕ, zero, suc, Bool, List, [], ◌∷◌, ◌++◌, length, vec_len, get_or, append_assoc, refl, sym, ap, ◌∙◌, subst, arith}
+use Rattle.std.proofs.Common.{◌≡◌, ◌<◌, ◌≤◌, ◌+◌, ◌⊎◌, inl, inr, ℕ, zero, suc, List, [], ◌∷◌, ◌++◌, length, vec_len, get_or, append_assoc, refl, sym, ap, ◌∙◌, subst, arith}
 use Rattle.std.specs.List.{Contains}
 use Rattle.std.proofs.lemmas.List.{append-nil}
 use Rattle.std.proofs.lemmas.Bool.{cases_lt}
 use Rattle.std.proofs.lemmas.List.Elements.{Contains-append_left, Contains-append_right, Contains-append_cases}
-use Rattle.grammar_plain.specs.Places.{AddsRows, AreRows, Fit, IsBlank, IsIn, Pairs, SameEnds}
+use Rattle.grammar_plain.specs.Places.{AddsRows, AreRows, IsBlank, IsIn, Pairs, SameEnds}
 use Rattle.grammar_plain.specs.declared.chart.Row.{Row}
 use Rattle.grammar_plain.proofs.Marks.{unmarked}
 use Rattle.grammar_plain.proofs.Rows.{contains_only}

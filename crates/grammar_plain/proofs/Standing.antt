@@ -1,9 +1,9 @@
 -- A pattern stands exactly where it spans, where each rule is known to stand exactly where it does.
-use Rattle.std.proofs.Common.{◌≡◌, ◌<◌, ◌≤◌, ◌+◌, ◌⊎◌, ◌↔◌, inl, inr, ℕ, zero, suc, Bool, List, [], ◌∷◌, Some, slice_get, length, vec_len, refl, sym, ap, ◌∙◌, subst, arith}
+use Rattle.std.proofs.Common.{◌≡◌, ◌<◌, ◌≤◌, ◌+◌, ◌⊎◌, ◌↔◌, inl, inr, ℕ, Bool, List, Some, slice_get, length, refl, sym, ◌∙◌, subst, arith}
 use Rattle.std.specs.List.{Contains}
 use Rattle.std.proofs.lemmas.Option.{slice_get_within}
 use Rattle.grammar_plain.specs.Patterns.{Pattern, Stands}
-use Rattle.grammar_plain.specs.Places.{AreRows, BodySpans, Fit, Grows, IsBlank, IsExact, IsIn, Known, Many, Pairs, SameEnds, Spans}
+use Rattle.grammar_plain.specs.Places.{AreRows, BodySpans, Grows, IsExact, IsIn, Known, Many, Pairs, SameEnds, Spans}
 use Rattle.grammar_plain.specs.declared.chart.Row.{Row}
 use Rattle.grammar_plain.proofs.Marks.{unmarked, fewer}
 use Rattle.grammar_plain.proofs.Pairs.{pairs_both, pairs_old, pairs_new, total, total_falls}

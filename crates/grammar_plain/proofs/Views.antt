@@ -3,7 +3,7 @@ use Rattle.std.proofs.Common.{◌≡◌, ℕ, Box, Global, Vec, sym, ap, ◌∙�
 use Rattle.grammar_plain.specs.Patterns as plain
 use Rattle.grammar_plain.specs.View.{pattern, node_pattern}
 use Rattle.grammar_plain.specs.declared.pattern.Pattern.{Pattern, Pattern-F, fold-roll-Pattern}
-use Rattle.grammar_plain.specs.declared.pattern.Pattern.TheVariants.{Never, Empty, One, Rule, Seq, Alt, Plus, rolls-Never, rolls-Empty, rolls-One, rolls-Rule, rolls-Seq, rolls-Alt, rolls-Plus}
+use Rattle.grammar_plain.specs.declared.pattern.Pattern.TheVariants.{One, Rule, Plus, rolls-One, rolls-Rule, rolls-Plus}
 
 pub pattern-One : (ranges : Vec (ℕ × ℕ) Global) → pattern (One ranges) ≡ plain.Pattern.one ranges.items
 pattern-One ranges = ap pattern (sym (rolls-One ranges)) ∙ fold-roll-Pattern plain.Pattern node_pattern (Pattern-F.One ranges)

@@ -1,4 +1,10 @@
-//! Plain, slow programs that decide what the definitions of `grammar_tree` say.
+//! Plain, slow programs that decide what the definitions of `grammar_tree` say, for tests to compare
+//! faster ones with.
+//!
+//! Terms are seen as patterns over lists of numbers, of characters or of kinds. A table tells from
+//! where to where each rule is known to stand in the list; it grows by the rules' bodies until nothing
+//! more is found. For a list of n numbers and r rules at most r (n + 1)^2 rounds find more, each over
+//! all rules and places, so it is for small inputs. It recurses as deep as the terms do.
 #![tactic(auto)]
 
 mod chart;

@@ -13,13 +13,24 @@ use std::alloc::Global;
 /// A term whose names are numbers of rules, over lists of numbers.
 #[derive(Drop)]
 pub enum Pattern {
+    /// Nowhere.
     Never,
+
+    /// Nothing, at each place.
     Empty,
+
     /// One number that lies in one of the ranges, both ends included.
     One(Vec<(u32, u32)>),
+    /// What the rule with this number, from 0, stands for.
     Rule(usize),
+
+    /// The first, and then the second.
     Seq(Box<Pattern>, Box<Pattern>),
+
+    /// The first or the second.
     Alt(Box<Pattern>, Box<Pattern>),
+
+    /// Once or more.
     Plus(Box<Pattern>),
 }
 

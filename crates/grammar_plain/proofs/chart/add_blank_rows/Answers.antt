@@ -1,4 +1,4 @@
-use Rattle.std.proofs.Common.{◌≡◌, ◌+◌, ◌++◌, ℕ, List, [], ◌∷◌, length, refl, sym, true≢false, ◌∙◌, subst, arith}
+use Rattle.std.proofs.Common.{◌+◌, List, refl, sym, true≢false, ◌∙◌, subst}
 use Rattle.grammar_plain.specs.Places.{AddsRows}
 use Rattle.grammar_plain.specs.declared.chart.Row.{Row}
 use Rattle.grammar_plain.proofs.Pairs.{adds_more}

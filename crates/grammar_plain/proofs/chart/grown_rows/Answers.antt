@@ -1,4 +1,4 @@
-use Rattle.std.proofs.Common.{◌≡◌, ◌↔◌, ◌<◌, ◌+◌, ◌⊎◌, inl, inr, ◌++◌, ℕ, Bool, List, [], ◌∷◌, Some, slice_get, map, take, get_or, length, vec_len, refl, sym, ap, ◌∙◌, subst, arith}
+use Rattle.std.proofs.Common.{◌≡◌, ◌↔◌, ◌+◌, ◌⊎◌, inl, inr, ◌++◌, ℕ, Bool, List, [], ◌∷◌, Some, slice_get, map, take, length, vec_len, refl, sym, ap, ◌∙◌, subst, arith}
 use Rattle.std.proofs.lemmas.List.{take_more}
 use Rattle.grammar_plain.specs.Patterns as plain
 use Rattle.grammar_plain.specs.Places.{AreEnds, BodySpans, Grows, IsIn, Known, Pairs, Spans}

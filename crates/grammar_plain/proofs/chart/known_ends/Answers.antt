@@ -1,7 +1,6 @@
-use Rattle.std.proofs.Common.{rules, ◌≡◌, ◌⊎◌, ◌<◌, ◌≤◌, ◌+◌, ◌↔◌, ℕ, Bool, false, slice_index_or, List, length, vec_len, take, inl, inr, sym, ap, refl, ◌∙◌, subst, true≢false, arith}
-use Rattle.std.specs.List.{Contains}
+use Rattle.std.proofs.Common.{◌≡◌, ◌<◌, ◌≤◌, ◌+◌, ℕ, Bool, slice_index_or, List, length, vec_len, take, sym, ap, ◌∙◌, subst, true≢false, arith}
 use Rattle.std.proofs.lemmas.List.{take_all}
-use Rattle.grammar_plain.specs.Places.{IsIn, Known}
+use Rattle.grammar_plain.specs.Places.{IsIn}
 use Rattle.grammar_plain.specs.declared.chart.Row.{Row}
 use Rattle.grammar_plain.proofs.Marks.{IsUnion, in_union}
 use Rattle.grammar_plain.proofs.Rows.{Reached, reached_more, reached_same}

@@ -2,7 +2,7 @@ use Rattle.std.proofs.Common.{◌≡◌, ℕ, map, drop, sym, ap, ◌∙◌, sub
 use Rattle.grammar_tree.specs.declared.lex_term.LexAlts.{out-LexAlts}
 use Rattle.grammar_tree.specs.declared.lex_term.LexTerms.{out-LexTerms}
 use Rattle.grammar_tree.specs.GrammarView.{rule_of}
-use Rattle.grammar_tree.specs.View.{lex_term, lex_terms, lex_alts}
+use Rattle.grammar_tree.specs.View.{lex_term, lex_terms}
 use Rattle.grammar_tree.specs.Written.{lexer_seq, lexer_alts}
 use Rattle.grammar_plain.specs.Spelled.{spelled_seq, spelled_alts}
 use Rattle.grammar_plain.specs.View.{pattern}

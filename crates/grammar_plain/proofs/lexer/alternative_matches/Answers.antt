@@ -1,4 +1,4 @@
-use Rattle.std.proofs.Common.{◌≡◌, ◌<◌, ◌+◌, ◌↔◌, ℕ, Bool, true, false, not, List, IsTrue, length, map, sym, ap, refl, ◌∙◌, subst, true≢false, arith}
+use Rattle.std.proofs.Common.{◌<◌, ℕ, Bool, List, length, map, sym, refl, ◌∙◌, subst, true≢false, arith}
 use Rattle.grammar_tree.specs.GrammarView.{rule_of}
 use Rattle.grammar_tree.specs.View.{lex_terms}
 use Rattle.grammar_tree.specs.Written.{lexer_seq}

@@ -1,10 +1,7 @@
-use Rattle.std.proofs.Common.{◌≡◌, ◌↔◌, ◌+◌, ◌<◌, ℕ, true, false, List, IsTrue, length, drop, map, sym, ap, refl, ◌∙◌, subst, true≢false, arith}
+use Rattle.std.proofs.Common.{◌<◌, length, map, sym, refl, ◌∙◌, true≢false, arith}
 use Rattle.grammar_tree.specs.declared.lex_term.LexAlts.{out-LexAlts}
 use Rattle.grammar_tree.specs.GrammarView.{rule_of}
 use Rattle.grammar_tree.specs.Kinds.{lexer_rules}
-use Rattle.grammar_tree.specs.Matches.{MatchesRule}
-use Rattle.grammar_tree.specs.View.{lex_terms, lex_alts}
-use Rattle.grammar_tree.specs.Written.{lexer_alts}
 use Rattle.grammar_plain.proofs.LexerAlternatives.{this_one, not_this, none_left}
 use Rattle.grammar_plain.proofs.lexer.any_matches.Goals as goal
 

@@ -1,5 +1,4 @@
-use Rattle.std.proofs.Common.{◌≡◌, ◌<◌, ◌+◌, ◌↔◌, ℕ, List, slice_index_or, IsTrue, length, map, sym, ap, refl, ◌∙◌, subst, arith}
-use Rattle.std.specs.Str.{chars}
+use Rattle.std.proofs.Common.{◌≡◌, ◌+◌, ◌↔◌, ℕ, List, slice_index_or, IsTrue, length, map, sym, ap, refl, ◌∙◌, subst, arith}
 use Rattle.grammar_tree.specs.GrammarView.{rule_of}
 use Rattle.grammar_tree.specs.Kinds.{lexer_rules}
 use Rattle.grammar_tree.specs.Matches.{Matches}

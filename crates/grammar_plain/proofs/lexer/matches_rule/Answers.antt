@@ -1,6 +1,5 @@
-use Rattle.std.proofs.Common.{◌≡◌, ◌+◌, ℕ, List, length, map, sym, ap, refl, ◌∙◌, subst, arith}
+use Rattle.std.proofs.Common.{map, sym, ap, ◌∙◌}
 use Rattle.grammar_tree.specs.GrammarView.{rule_of}
-use Rattle.grammar_plain.specs.Places.{Fit, IsExact}
 use Rattle.grammar_plain.specs.Spelled.{spelled_rules}
 use Rattle.grammar_plain.proofs.Lent.{fit_at, exact_at}
 use Rattle.grammar_plain.proofs.lexer.matches_rule.Goals as goal

@@ -1,6 +1,6 @@
-use Rattle.std.proofs.Common.{◌≡◌, ◌<◌, ◌+◌, ◌↔◌, ℕ, List, length, sym, ap, refl, ◌∙◌, subst, arith}
+use Rattle.std.proofs.Common.{◌↔◌, ℕ, List, length, sym, refl, subst, arith}
 use Rattle.grammar_tree.specs.Derives.{RuleDerives, bodies}
-use Rattle.grammar_plain.specs.Places.{Fit, IsIn, Known}
+use Rattle.grammar_plain.specs.Places.{IsIn, Known}
 use Rattle.grammar_plain.specs.declared.chart.Row.{Row}
 use Rattle.grammar_plain.proofs.Lent.{fit_at}
 use Rattle.grammar_plain.proofs.Marks.{tells}

@@ -1,5 +1,5 @@
-use Rattle.std.proofs.Common.{◌≡◌, List, map, sym, ap, refl, ◌∙◌}
-use Rattle.grammar_tree.specs.GrammarView.{grammar_of, rule_of}
+use Rattle.std.proofs.Common.{◌≡◌, List, map, ap, refl, ◌∙◌}
+use Rattle.grammar_tree.specs.GrammarView.{rule_of}
 use Rattle.grammar_tree.specs.Written.{WrittenGrammar, WrittenRule}
 use Rattle.grammar_plain.specs.Resolved.{body_patterns, rule_patterns}
 use Rattle.grammar_plain.specs.View.{pattern}

@@ -1,4 +1,4 @@
-use Rattle.std.proofs.Common.{◌≡◌, ◌≤◌, ◌<◌, ℕ, List, take, ◌+◌, ◌&&◌, ◌||◌, ◌⊎◌, inl, inr, Bool, nat_le, sym, ap, refl, ◌∙◌, true, false, get_or, length, arith}
+use Rattle.std.proofs.Common.{◌≡◌, ◌≤◌, ◌<◌, ℕ, List, take, ◌+◌, ◌⊎◌, inl, inr, nat_le, sym, ◌∙◌, true, false, get_or, length}
 use Rattle.std.proofs.lemmas.Bool.{or_from, le-leb, lt-leb, and_from, and_left, and_right}
 use Rattle.regex_class.specs.Ranges.{in_range, in_ranges}
 use Rattle.regex_class.proofs.RangesLemmas.{in_ranges-nil, in_ranges-at, in_ranges-more}

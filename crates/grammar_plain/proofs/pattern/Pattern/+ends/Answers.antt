@@ -1,10 +1,8 @@
-use Rattle.std.proofs.Common.{rules, ◌≡◌, ◌&&◌, false, slice_index_or, ◌<◌, ◌+◌, ◌⊎◌, ℕ, Bool, List, length, vec_len, inl, inr, sym, ap, refl, ◌∙◌, subst, arith}
-use Rattle.std.specs.List.{Contains}
+use Rattle.std.proofs.Common.{◌≡◌, ◌&&◌, false, slice_index_or, ◌<◌, ◌+◌, ◌⊎◌, ℕ, Bool, List, length, inl, inr, sym, ap, refl, ◌∙◌, subst, arith}
 use Rattle.grammar_tree.specs.Chars.{has}
 use Rattle.grammar_plain.specs.Patterns as plain
-use Rattle.grammar_plain.specs.Places.{AreEnds, Begun, Fit, IsIn, Known}
+use Rattle.grammar_plain.specs.Places.{AreEnds, Known}
 use Rattle.grammar_plain.specs.View.{pattern}
-use Rattle.grammar_plain.specs.declared.chart.Row.{Row}
 use Rattle.grammar_plain.proofs.Views.{pattern-One, pattern-Plus}
 use Rattle.grammar_plain.proofs.Marks.{IsUnion, fewer, in_union, unmarked}
 use Rattle.grammar_plain.proofs.Ends.{ends_one, begun_first, begun_next, ends_plus}

@@ -1,4 +1,4 @@
-use Rattle.std.proofs.Common.{◌≡◌, ℕ, length, vec_len}
+use Rattle.std.proofs.Common.{◌≡◌, length, vec_len}
 use Rattle.grammar_plain.specs.Places.{Begun, Known}
 use Rattle.grammar_plain.proofs.Marks.{unmarked}
 use Rattle.grammar_plain.specs.View.{pattern}
