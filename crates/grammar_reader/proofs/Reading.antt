@@ -1,5 +1,5 @@
 -- Reading a text, a word at a time.
-use Rattle.std.proofs.Common.{ℕ, ◌≡◌, true, false, List, [], ◌∷◌, ◌++◌, Option, Some, None, refl, sym, ap, subst, ◌∙◌, append_assoc}
+use Rattle.std.proofs.Common.{ℕ, ◌≡◌, true, false, List, [], ◌∷◌, ◌++◌, Option, Some, None, Err, refl, sym, ap, subst, ◌∙◌, append_assoc}
 use Rattle.grammar_tree.specs.Written.{WrittenGrammar, LexerTerm}
 use Rattle.grammar_words.specs.Words.{words_of, is_last}
 use Rattle.grammar_words.specs.declared.word.Word.{Word}
@@ -9,9 +9,15 @@ use Rattle.grammar_reader.specs.Sets.{outside}
 use Rattle.grammar_reader.specs.Machine as m
 use Rattle.grammar_reader.specs.Machine.{State, AtStart, AtEnd, step, run}
 use Rattle.grammar_reader.specs.Notation.{IsTextOf, BeginsOf, IsText}
-use Rattle.grammar_reader.specs.Spots.{Spot, heading, between, prequel, named, opening, body, suffixed, looped, last, command, finished, next}
-use Rattle.grammar_reader.specs.Reads.{only_words, IsFirstFault}
+use Rattle.grammar_reader.proofs.Spots.{Spot, starting, heading, between, prequel, named, opening, body, suffixed, looped, last, command, finished, next}
+use Rattle.std.specs.Str.{IsUtf8}
+use Rattle.grammar_reader.specs.declared.fault.ReadFault.{ReadFault}
+use Rattle.grammar_reader.specs.declared.fault.ReadFault.TheVariants as f
+use Rattle.grammar_reader.specs.Naming.{IsNamed}
+use Rattle.grammar_reader.specs.Reads.{only_words, IsFirstFault, IsFaultOf}
 use Rattle.grammar_reader.proofs.SpotSteps.{Keeps, spot_of, spot_of_owner, spot_of_value, keeps_step}
+use Rattle.grammar_reader.specs.Rows.{fault_at}
+use Rattle.grammar_reader.proofs.Called as called
 use Rattle.grammar_reader.proofs.Runs.{reached, stuck, accepts, further, accepted, EndsText, end_step}
 
 -- No bad word can follow, and no set with a property.
@@ -73,6 +79,7 @@ not_last s t _ e k = refl
 
 -- a text ends with the word that is its end
 only_end : (s : Spot) (word : Word) → next s word ≡ finished → (s ≡ finished → ⊥) → is_last word ≡ true
+only_end starting _ e k = cc e
 only_end heading w.Semicolon e k = cc e
 only_end heading _ e k = cc e
 only_end between w.End e k = refl
@@ -97,14 +104,15 @@ only_end (suffixed side) w.Semicolon e k = cc e
 only_end (suffixed side) w.Arrow e k = cc e
 only_end (suffixed side) w.Question e k = cc e
 only_end (suffixed side) _ e k = cc e
-only_end looped _ e k = cc e
-only_end last w.Semicolon e k = cc e
-only_end last w.Bar e k = cc e
-only_end last w.Arrow e k = cc e
-only_end last _ e k = cc e
-only_end command w.Semicolon e k = cc e
-only_end command w.Bar e k = cc e
-only_end command _ e k = cc e
+only_end (looped side) w.Semicolon e k = cc e
+only_end (looped side) _ e k = cc e
+only_end (last side) w.Semicolon e k = cc e
+only_end (last side) w.Bar e k = cc e
+only_end (last side) w.Arrow e k = cc e
+only_end (last side) _ e k = cc e
+only_end (command side) w.Semicolon e k = cc e
+only_end (command side) w.Bar e k = cc e
+only_end (command side) _ e k = cc e
 only_end finished _ e k = absurd (k refl)
 
 open_owner : (o : m.Owner) → spot_of_owner o ≡ finished → ⊥
@@ -169,15 +177,15 @@ module _ (bytes : List ℕ) (left more : List Placed) (p : Placed) (s : State) (
     some = goes (not_last s t p.word f k);
   }
 
-  pub stops : (offset : ℕ) → offset ≡ p.offset → step 64 s p.word ≡ None → IsFirstFault bytes offset
-  stops offset o f = record {
+  pub stops : step 64 s p.word ≡ None → IsFirstFault bytes (fault_at s p.word p.offset)
+  stops f = record {
     before = r.before;
     here = p;
     behind = more;
     cut = whole;
     begun = reached 64 s (only_words r.before) r.read;
     stuck = λ b. stuck 64 (only_words r.before ++ p.word ∷ []) (now None f) (subst (BeginsOf 64) (snoc r.before p) b);
-    at = o;
+    named = called.named (only_words r.before) s r.read p f;
   }
 
   pub no_text : (G : WrittenGrammar) → step 64 s p.word ≡ None → IsText (only_words (words_of bytes)) G → ⊥
@@ -199,3 +207,13 @@ module _ (bytes : List ℕ) (left more : List Placed) (p : Placed) (s : State) (
       let here : step 64 s w.End ≡ Some (AtEnd H) = accepted 64 (only_words r.before) s H r.read shown in
       let there : step 64 s w.End ≡ Some (AtEnd G) = subst (λ word. step 64 s word ≡ Some (AtEnd G)) last f in
       cc (sym there ∙ here)
+
+-- no other fault is a name
+pub is_fault : (bytes : List ℕ) (fault : ReadFault) → IsUtf8 bytes → IsFirstFault bytes fault → IsFaultOf bytes (Err fault)
+is_fault bytes (f.NotUtf8 offset) u h = absurd (none h.named) where
+  none : {before : List Word} {here : Placed} → IsNamed before here (f.NotUtf8 offset) → ⊥
+  none n = elim n [ ]
+is_fault bytes (f.Syntax offset) u h = (u, h)
+is_fault bytes (f.Unsupported what offset) u h = (u, h)
+is_fault bytes (f.NestedTooDeep offset) u h = (u, h)
+is_fault bytes f.Memory u h = tt

@@ -7,7 +7,7 @@ use Rattle.grammar_words.specs.declared.word.Word.TheVariants as w
 use Rattle.grammar_reader.specs.Notation.{is_eof, may_name_option}
 use Rattle.grammar_reader.specs.Sets.{within, outside}
 use Rattle.grammar_reader.specs.Machine as m
-use Rattle.grammar_reader.specs.Spots.{Side, parsing, lexing, Spot, heading, between, prequel, named, opening, body, suffixed, looped, last, command, finished, next, spot_from}
+use Rattle.grammar_reader.proofs.Spots.{Side, parsing, lexing, Spot, starting, heading, between, prequel, named, opening, body, suffixed, looped, last, command, finished, next, spot_from}
 
 abbrev side_of : m.Head → Side
 side_of (m.ParserHead name) = parsing
@@ -22,7 +22,7 @@ spot_of_value (m.InEntry g o) = spot_of_owner o
 spot_of_value (m.InOpening b) = body parsing
 
 abbrev pub spot_of : m.State → Spot
-spot_of m.AtStart = heading
+spot_of m.AtStart = starting
 spot_of m.AtName = heading
 spot_of (m.AtSemicolon n) = heading
 spot_of (m.AtPrequel g) = between
@@ -60,18 +60,18 @@ spot_of (m.BehindLiteral b k) = body lexing
 spot_of (m.AtRangeEnd b c) = body lexing
 spot_of (m.BehindSet b s) = body lexing
 spot_of (m.BehindSetStar b s) = suffixed lexing
-spot_of (m.BehindLoop b s) = looped
-spot_of (m.AltDone b) = last
+spot_of (m.BehindLoop b s) = looped lexing
+spot_of (m.AltDone b) = last lexing
 spot_of (m.AtItem b) = body lexing
 spot_of (m.AtItemIn b p) = body lexing
 spot_of (m.BehindItemChar b p c) = body lexing
 spot_of (m.AtItemEnd b p c) = body lexing
 spot_of (m.BehindItem b rs) = body lexing
-spot_of (m.AtCommand b) = command
-spot_of (m.AtChannelOpen b) = command
-spot_of (m.AtChannelName b) = command
-spot_of (m.AtChannelClose b) = command
-spot_of (m.BehindCommand b) = command
+spot_of (m.AtCommand b) = command lexing
+spot_of (m.AtChannelOpen b) = command lexing
+spot_of (m.AtChannelName b) = command lexing
+spot_of (m.AtChannelClose b) = command lexing
+spot_of (m.BehindCommand b) = command lexing
 spot_of (m.AtEnd g) = finished
 
 abbrev pub Keeps : Spot → Word → Option m.State → Type 0
@@ -104,7 +104,7 @@ keeps_name (w.Upper k) = refl
 keeps_name (w.Lower k) = refl
 keeps_name _ = tt
 
-keeps_start : (word : Word) → Keeps heading word (m.step_start word)
+keeps_start : (word : Word) → Keeps starting word (m.step_start word)
 keeps_start w.Grammar = refl
 keeps_start _ = tt
 
@@ -327,7 +327,7 @@ command_keeps s word (Some false) t e = tt
 pub data AtEndOfAlt : Spot → Type 0 where
   in_body : AtEndOfAlt (body lexing)
   after_suffix : AtEndOfAlt (suffixed lexing)
-  after_loop : AtEndOfAlt last
+  after_loop : AtEndOfAlt (last lexing)
 
 keeps_done : (s : Spot) → AtEndOfAlt s → (b : m.LexBody) (word : Word) → Keeps s word (m.step_done b word)
 keeps_done s in_body b w.Bar = plain_keeps (body lexing) w.Bar b.known (m.next_top b false) refl
@@ -336,9 +336,9 @@ keeps_done s in_body b w.Arrow = command_keeps (body lexing) w.Arrow b.known (m.
 keeps_done s after_suffix b w.Bar = plain_keeps (suffixed lexing) w.Bar b.known (m.next_top b false) refl
 keeps_done s after_suffix b w.Semicolon = plain_keeps (suffixed lexing) w.Semicolon b.known (m.end_top b false) refl
 keeps_done s after_suffix b w.Arrow = command_keeps (suffixed lexing) w.Arrow b.known (m.AtCommand b) refl
-keeps_done s after_loop b w.Bar = plain_keeps last w.Bar b.known (m.next_top b false) refl
-keeps_done s after_loop b w.Semicolon = plain_keeps last w.Semicolon b.known (m.end_top b false) refl
-keeps_done s after_loop b w.Arrow = command_keeps last w.Arrow b.known (m.AtCommand b) refl
+keeps_done s after_loop b w.Bar = plain_keeps (last lexing) w.Bar b.known (m.next_top b false) refl
+keeps_done s after_loop b w.Semicolon = plain_keeps (last lexing) w.Semicolon b.known (m.end_top b false) refl
+keeps_done s after_loop b w.Arrow = command_keeps (last lexing) w.Arrow b.known (m.AtCommand b) refl
 keeps_done s i b _ = tt
 
 keeps_inner_end : (s : Spot) → InBody lexing s → (b : m.LexBody) (word : Word) → Keeps s word (m.step_inner_end b word)
@@ -400,7 +400,7 @@ keeps_star : (b : m.LexBody) (s : List (ℕ × ℕ)) (word : Word) → Keeps (su
 keeps_star b s w.Question = keeps_looped b s b.outer b.fragment
 keeps_star b s word = keeps_lex (suffixed lexing) behind_suffix (m.lex_add b (LexerTerm.star (LexerTerm.set s))) word
 
-keeps_loop : (b : m.LexBody) (s : List (ℕ × ℕ)) (word : Word) → Keeps looped word (m.step_loop b s word)
+keeps_loop : (b : m.LexBody) (s : List (ℕ × ℕ)) (word : Word) → Keeps (looped lexing) word (m.step_loop b s word)
 keeps_loop b s (w.Literal k) = refl
 keeps_loop b s (w.Set ranges) = refl
 keeps_loop b s _ = tt
@@ -442,27 +442,27 @@ keeps_item_end b p a (w.Literal (c ∷ [])) = provided_keeps (body lexing) (w.Li
 keeps_item_end b p a (w.Literal (c ∷ (e ∷ es))) = tt
 keeps_item_end b p a _ = tt
 
-keeps_either : (k : List ℕ) (b : m.LexBody) (t : Bool) → Keeps command (w.Lower k) (cond t (Some (m.BehindCommand b)) (m.provided (is k "channel") (m.AtChannelOpen b)))
+keeps_either : (k : List ℕ) (b : m.LexBody) (t : Bool) → Keeps (command lexing) (w.Lower k) (cond t (Some (m.BehindCommand b)) (m.provided (is k "channel") (m.AtChannelOpen b)))
 keeps_either k b true = refl
-keeps_either k b false = provided_keeps command (w.Lower k) (is k "channel") (m.AtChannelOpen b) refl
+keeps_either k b false = provided_keeps (command lexing) (w.Lower k) (is k "channel") (m.AtChannelOpen b) refl
 
-keeps_command : (b : m.LexBody) (word : Word) → Keeps command word (m.step_command b word)
+keeps_command : (b : m.LexBody) (word : Word) → Keeps (command lexing) word (m.step_command b word)
 keeps_command b (w.Lower k) = keeps_either k b (is k "skip")
 keeps_command b _ = tt
 
-keeps_channel_open : (b : m.LexBody) (word : Word) → Keeps command word (m.step_channel_open b word)
+keeps_channel_open : (b : m.LexBody) (word : Word) → Keeps (command lexing) word (m.step_channel_open b word)
 keeps_channel_open b w.Open = refl
 keeps_channel_open b _ = tt
 
-keeps_channel_name : (b : m.LexBody) (word : Word) → Keeps command word (m.step_channel_name b word)
-keeps_channel_name b (w.Upper k) = provided_keeps command (w.Upper k) (is k "HIDDEN") (m.AtChannelClose b) refl
+keeps_channel_name : (b : m.LexBody) (word : Word) → Keeps (command lexing) word (m.step_channel_name b word)
+keeps_channel_name b (w.Upper k) = provided_keeps (command lexing) (w.Upper k) (is k "HIDDEN") (m.AtChannelClose b) refl
 keeps_channel_name b _ = tt
 
-keeps_channel_close : (b : m.LexBody) (word : Word) → Keeps command word (m.step_channel_close b word)
+keeps_channel_close : (b : m.LexBody) (word : Word) → Keeps (command lexing) word (m.step_channel_close b word)
 keeps_channel_close b w.Close = refl
 keeps_channel_close b _ = tt
 
-keeps_behind_command : (b : m.LexBody) (word : Word) → Keeps command word (m.step_behind_command b word)
+keeps_behind_command : (b : m.LexBody) (word : Word) → Keeps (command lexing) word (m.step_behind_command b word)
 keeps_behind_command b w.Bar = refl
 keeps_behind_command b w.Semicolon = refl
 keeps_behind_command b _ = tt
@@ -507,7 +507,7 @@ keeps_step d (m.AtRangeEnd b a) word = keeps_range_end b a word
 keeps_step d (m.BehindSet b s) word = keeps_set b s word
 keeps_step d (m.BehindSetStar b s) word = keeps_star b s word
 keeps_step d (m.BehindLoop b s) word = keeps_loop b s word
-keeps_step d (m.AltDone b) word = keeps_done last after_loop b word
+keeps_step d (m.AltDone b) word = keeps_done (last lexing) after_loop b word
 keeps_step d (m.AtItem b) word = keeps_item b word
 keeps_step d (m.AtItemIn b p) word = keeps_item_in b p word
 keeps_step d (m.BehindItemChar b p c) word = keeps_item_char b p c word
@@ -537,8 +537,11 @@ tells_run : (d : ℕ) (s : m.State) (words : List Word) → Tells (spot_of s) wo
 tells_run d s [] = refl
 tells_run d s (word ∷ words) = tells_after d (spot_of s) word words (m.step d s word) (keeps_step d s word) (λ t. tells_run d t words)
 
-pub spot_told : (d : ℕ) (words : List Word) (s : m.State) → m.run d m.AtStart words ≡ Some s → spot_from heading words ≡ spot_of s
-spot_told d words s e = told (m.run d m.AtStart words) (tells_run d m.AtStart words) e where
-  told : (o : Option m.State) → Tells heading words o → o ≡ Some s → spot_from heading words ≡ spot_of s
+pub told_from : (d : ℕ) (s t : m.State) (words : List Word) → m.run d s words ≡ Some t → spot_from (spot_of s) words ≡ spot_of t
+told_from d s t words e = told (m.run d s words) (tells_run d s words) e where
+  told : (o : Option m.State) → Tells (spot_of s) words o → o ≡ Some t → spot_from (spot_of s) words ≡ spot_of t
   told None x e = cc e
-  told (Some t) x e = let f : t ≡ s = cc e in x ∙ ap spot_of f
+  told (Some u) x e = let f : u ≡ t = cc e in x ∙ ap spot_of f
+
+pub spot_told : (d : ℕ) (words : List Word) (s : m.State) → m.run d m.AtStart words ≡ Some s → spot_from starting words ≡ spot_of s
+spot_told d words s e = told_from d m.AtStart s words e

@@ -1,6 +1,8 @@
 -- What is seen of terms, for the proofs of code that makes them.
-use Rattle.std.proofs.Common.{◌≡◌, ◌-◌, ◌+◌, ℕ, zero, suc, length, List, [], ◌∷◌, ◌++◌, Bool, true, false, Some, None, refl, ap, sym, ◌∙◌}
+use Rattle.std.specs.Bool.{◌==◌}
+use Rattle.std.proofs.Common.{◌≡◌, ◌-◌, ◌+◌, ℕ, zero, suc, length, List, [], ◌∷◌, ◌++◌, Bool, true, false, Some, None, refl, ap, sym, ◌∙◌, arith}
 use Rattle.std.proofs.Math.Numerals.{sub-one, add-one}
+use Rattle.std.proofs.lemmas.Bool.Decides.{nat_tests}
 use Rattle.grammar_tree.specs.Written.{WrittenTerm, LexerTerm, written_alts, lexer_alts}
 use Rattle.grammar_tree.proofs.ParserViews.{parser_term-Literal, parser_term-Name, parser_term-Not, parser_term-Any, parser_term-Eof, parser_term-Block, parser_term-Opt, parser_term-Star, parser_term-Plus}
 use Rattle.grammar_tree.proofs.LexerViews.{lex_term-Literal, lex_term-Set, lex_term-Name, lex_term-Short, lex_term-Block, lex_term-Opt, lex_term-Star, lex_term-Plus}
@@ -9,6 +11,7 @@ use Rattle.grammar_reader.specs.declared.frame.Frame.{Frame}
 use Rattle.grammar_reader.specs.declared.frame.LexFrame.{LexFrame}
 use Rattle.grammar_reader.specs.View.{frame_of, lex_frame_of, frames_behind, lex_frames_behind}
 use Rattle.grammar_reader.specs.Machine as m
+use Rattle.grammar_reader.specs.Places.{no_block}
 
 pub frames_push : (inner : List (m.Frame WrittenTerm)) (fs : List Frame) (f : Frame) → frames_behind inner (fs ++ f ∷ []) ≡ frame_of f ∷ frames_behind inner fs
 frames_push inner [] f = refl
@@ -122,5 +125,16 @@ looped_as b s (f ∷ fs) h = cc h
 pub fragment_looped : (b : m.LexBody) (s : List (ℕ × ℕ)) (outer : List (m.Frame LexerTerm)) → m.looped b s outer true ≡ None
 fragment_looped b s [] = refl
 fragment_looped b s (f ∷ outer) = refl
+
+some_block : (inner : List (m.Frame LexerTerm)) (f : m.Frame LexerTerm) (fs : List LexFrame) → no_block (lex_frames_behind (f ∷ inner) fs) ≡ false
+some_block inner f [] = refl
+some_block inner f (g ∷ fs) = some_block (f ∷ inner) (lex_frame_of g) fs
+
+suc_not_zero : (n : ℕ) → (suc n == 0) ≡ false
+suc_not_zero n = grind (arith, nat_tests)
+
+pub no_block_as : (fs : List LexFrame) → no_block (lex_frames_behind [] fs) ≡ (length fs == 0)
+no_block_as [] = refl
+no_block_as (f ∷ fs) = some_block [] (lex_frame_of f) fs ∙ sym (suc_not_zero (length fs))
 
 pub ruleset lex_views = (lex_term-Literal, lex_term-Set, lex_term-Name, lex_term-Short, lex_term-Block, lex_term-Opt, lex_term-Star, lex_term-Plus, lex_frames_push, lex_opened_as, lex_closed_as)

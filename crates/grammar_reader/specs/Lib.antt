@@ -1,10 +1,14 @@
 pub use Rattle.grammar_tree.specs.Written
+pub use Rattle.grammar_tree.specs.Size
 pub mod Sets
 pub mod Notation
 pub mod Machine
 pub mod View
 pub mod OneChar
 pub mod Printed
+pub mod FaultText
 pub mod Reads
 pub mod Ended
-pub mod Spots
+pub mod Naming
+pub mod Places
+pub mod Rows

@@ -5,6 +5,7 @@ ghost use Rattle.grammar_reader.specs.Printed.{name_of};
 ghost use Rattle.grammar_reader.specs.declared.fault.ReadFault.TheVariants as f;
 
 use faults::Memory;
+use std::fmt;
 
 /// A part of the notation of ANTLR 4 that isn't supported.
 #[derive(Clone, Copy, Debug, PartialEq, Eq, Drop)]
@@ -62,16 +63,18 @@ impl What {
 /// Why a text is no grammar of the profile. Offsets count bytes, from 0.
 #[derive(Clone, Copy, Debug, PartialEq, Eq, Drop)]
 pub enum ReadFault {
-    /// Here the first ill-formed sequence of bytes begins.
+    /// The first ill-formed sequence of bytes begins here.
     NotUtf8 { offset: u64 },
 
-    /// This word can't follow.
+    /// The first word that can't follow begins here.
     Syntax { offset: u64 },
 
-    /// This word can't follow, and belongs to a part of ANTLR's notation that isn't supported.
+    /// The first word that can't follow begins here, and is a part of the notation of
+    /// ANTLR 4 that isn't supported.
     Unsupported { what: What, offset: u64 },
 
-    /// This bracket opens the 65th block, one in another.
+    /// The first word that can't follow begins here, and is the bracket that opens the
+    /// 65th block, one in another.
     NestedTooDeep { offset: u64 },
     Memory,
 }
@@ -83,3 +86,25 @@ impl From<Memory> for ReadFault {
         ReadFault::Memory
     }
 }
+
+impl fmt::Display for ReadFault {
+    ghost use Rattle.std.specs.Prelude.{Some};
+    ghost use Rattle.grammar_reader.specs.FaultText.{fault_text};
+
+    ghost output = { λ fault. Some (fault_text fault) };
+
+    fn fmt<W: fmt::Write>(&self, f: &mut fmt::Formatter<W>) -> fmt::Result {
+        match self {
+            ReadFault::NotUtf8 { offset } => write!(f, "not UTF-8 at byte {offset}"),
+            ReadFault::Syntax { offset } => write!(f, "syntax at byte {offset}"),
+            ReadFault::Unsupported { what, offset } => {
+                let name = what.name();
+                write!(f, "unsupported {name} at byte {offset}")
+            }
+            ReadFault::NestedTooDeep { offset } => write!(f, "nested too deep at byte {offset}"),
+            ReadFault::Memory => f.write_str("out of memory"),
+        }
+    }
+}
+
+impl std::error::Error for ReadFault {}

@@ -1,14 +1,16 @@
 //! Reading a text, a word at a time.
 
-ghost use Rattle.std.specs.Prelude.{◌≡◌, IfOk};
+ghost use Rattle.std.specs.Prelude.{◌≡◌, ◌≤◌, IfOk, length};
 ghost use Rattle.std.specs.Str.{IsUtf8};
 ghost use Rattle.grammar_tree.specs.Written.{WrittenGrammar};
 ghost use Rattle.grammar_tree.specs.GrammarView.{grammar_of};
+ghost use Rattle.grammar_tree.specs.Size.{grammar_size};
 ghost use Rattle.grammar_reader.specs.Ended.{IsEnded};
 ghost use Rattle.grammar_reader.specs.Reads.{IsFaultOf, IsProfile, IsReadAs};
 ghost use Rattle.grammar_reader.specs.View.{state_of};
 
 use crate::fault::ReadFault;
+use crate::naming::fault_at;
 use crate::state::State;
 use crate::step::step;
 use grammar_tree::Grammar;
@@ -28,6 +30,7 @@ fn ended(state: State) -> Result<Grammar, State>
 fn read_text(alloc: Global, text: &str) -> Result<Grammar, ReadFault>
     requires { IsUtf8 text.now }
     ensures ok { IfOk result (λ g. IsProfile text.now (grammar_of g)) }
+    ensures few { IfOk result (λ g. grammar_size (grammar_of g) ≤ length text.now) }
     ensures only { (G : WrittenGrammar) → IsProfile text.now G → IsReadAs G result }
     ensures fault { IsFaultOf text.now result }
 {
@@ -38,12 +41,10 @@ fn read_text(alloc: Global, text: &str) -> Result<Grammar, ReadFault>
             unreachable!()
         };
         let Placed { word, offset } = placed;
+        // The step takes the state and the word, so what the word would be called is told before.
+        let fault = fault_at(&state, &word, offset as u64);
         match step(alloc, state, word)? {
-            None => {
-                return Err(ReadFault::Syntax {
-                    offset: offset as u64,
-                });
-            }
+            None => return Err(fault),
             Some(next) => match ended(next) {
                 Ok(grammar) => return Ok(grammar),
                 Err(further) => state = further,
@@ -55,6 +56,7 @@ fn read_text(alloc: Global, text: &str) -> Result<Grammar, ReadFault>
 /// The grammar that a text spells, or why it spells none.
 pub fn read_grammar(alloc: Global, text: &[u8]) -> Result<Grammar, ReadFault>
     ensures ok { IfOk result (λ g. IsProfile text.now (grammar_of g)) }
+    ensures few { IfOk result (λ g. grammar_size (grammar_of g) ≤ length text.now) }
     ensures only { (G : WrittenGrammar) → IsProfile text.now G → IsReadAs G result }
     ensures fault { IsFaultOf text.now result }
 {

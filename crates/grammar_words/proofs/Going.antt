@@ -1,17 +1,17 @@
 -- How the words go on.
-use Rattle.std.proofs.Common.{◌≡◌, ℕ, zero, suc, ◌+◌, ◌-◌, ◌≤◌, ◌<◌, Bool, true, false, cond, ◌&&◌, ◌||◌, ◌==◌, List, [], ◌∷◌, ◌++◌, Option, Some, None, length, take, drop, refl, ap, sym, subst, ◌∙◌, arith, length-drop}
+use Rattle.std.proofs.Common.{◌≡◌, ℕ, zero, suc, ◌+◌, ◌-◌, ◌<◌, Bool, true, false, cond, ◌&&◌, ◌||◌, ◌==◌, List, [], ◌∷◌, Option, Some, None, length, drop, refl, ap, sym, subst, ◌∙◌, arith, length-drop}
 use Rattle.std.specs.List.{prefix_len}
-use Rattle.std.specs.Char.{is_ascii_digit, is_ascii_alphabetic, is_ascii_alphanumeric}
+use Rattle.std.specs.Char.{is_ascii_digit, is_ascii_alphabetic}
 use Rattle.std.specs.Int.{is_in_range}
-use Rattle.grammar_words.specs.Names.{is, is_part, name_word, word_before_brace}
-use Rattle.grammar_words.specs.Quoted.{begins, literal_piece, set_piece, Pieces, pieces_from, outer_dashes_plain, ranges_of}
-use Rattle.grammar_words.specs.Words.{after_close, comment, gap, is_blank, is_on_line, symbol, single, content_word, literal_word, marked_word, set_word, name_at, word, is_last, at_brace, brace_from, settled, placed, listed, listed_gap, words_from, words_left}
+use Rattle.grammar_words.specs.Names.{is, is_part, word_before_brace}
+use Rattle.grammar_words.specs.Quoted.{begins, literal_piece, set_piece, Pieces, pieces_from}
+use Rattle.grammar_words.specs.Words.{after_close, comment, gap, is_blank, is_on_line, symbol, single, literal_word, set_word, name_at, word, is_last, at_brace, brace_from, settled, placed, listed, listed_gap, words_from, words_left}
 use Rattle.grammar_words.specs.declared.quoted.Mark.{Mark}
 use Rattle.grammar_words.specs.declared.word.Word.{Word}
 use Rattle.grammar_words.specs.declared.word.Word.TheVariants as w
 use Rattle.grammar_words.specs.declared.word.Reserved.TheVariants as r
 use Rattle.grammar_words.specs.declared.word.Placed.{Placed}
-use Rattle.grammar_words.proofs.Tails.{Ends, EndsIn, RestEnds, whole, least, behind, over, pieces_ends, literal_piece_ends, set_piece_ends, passed_len, choose}
+use Rattle.grammar_words.proofs.Tails.{Ends, EndsIn, RestEnds, whole, least, behind, pieces_ends, literal_piece_ends, set_piece_ends, passed_len, choose}
 
 if_so : {A : Type 0} (P : A → Type 0) (b : Bool) {x y : A} → (b ≡ true → P x) → (b ≡ false → P y) → P (cond b x y)
 if_so P true p q = p refl

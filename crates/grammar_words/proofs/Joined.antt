@@ -1,14 +1,13 @@
 -- Marks and ranges, as far as they are read.
-use Rattle.std.proofs.Common.{◌≡◌, ◌&&◌, ℕ, zero, suc, ◌+◌, ◌-◌, ◌<◌, Bool, false, take, List, [], ◌∷◌, ◌++◌, Option, Some, None, true, refl, ap, sym, ◌∙◌, length, get_or, arith, append_assoc, append-nil}
+use Rattle.std.proofs.Common.{◌≡◌, ◌&&◌, ℕ, zero, suc, ◌<◌, Bool, false, take, List, [], ◌∷◌, ◌++◌, Option, Some, None, true, refl, ap, sym, ◌∙◌, length, get_or, arith, append_assoc, append-nil}
 use Rattle.std.proofs.Math.ListN.{set}
 use Rattle.std.proofs.lemmas.Str.{chars-encodes, encodes-append, scalars-chars}
 use Rattle.grammar_words.specs.Cursor.{uncons}
 use Rattle.std.specs.Str.{IsUtf8, all_scalars, chars, encode_utf8_all}
 use Rattle.std.specs.Char.{encode_utf8}
 use lib.Utf8.{scalar}
-use Rattle.grammar_words.specs.Quoted.{Pieces, put, with_range, plain, first_plain, last_plain, outer_dashes_plain}
+use Rattle.grammar_words.specs.Quoted.{Pieces, put, with_range, plain, first_plain, last_plain}
 use Rattle.grammar_words.specs.declared.quoted.Mark.{Mark}
-use Rattle.grammar_words.specs.declared.quoted.Mark.TheVariants.{Dash}
 
 -- what is read, before what comes
 abbrev pub joined : {A : Type 0} → List A → Pieces A → Pieces A

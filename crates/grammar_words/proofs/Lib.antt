@@ -3,3 +3,4 @@ pub mod Hex
 pub mod Joined
 pub mod Tails
 pub mod CharTests
+pub mod Numbers

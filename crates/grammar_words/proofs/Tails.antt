@@ -1,16 +1,13 @@
 -- What follows a piece is the end of what stood there.
-use Rattle.std.proofs.Common.{◌≡◌, ℕ, zero, suc, ◌+◌, ◌-◌, ◌≤◌, ◌<◌, Bool, true, false, cond, ◌&&◌, ◌||◌, ◌==◌, nat_le, List, [], ◌∷◌, ◌++◌, Option, Some, None, length, take, drop, refl, ap, sym, subst, ◌∙◌, arith, length-drop}
+use Rattle.std.proofs.Common.{◌≡◌, ℕ, zero, suc, ◌+◌, ◌-◌, ◌≤◌, ◌<◌, Bool, true, false, cond, ◌&&◌, ◌==◌, nat_le, List, [], ◌∷◌, Option, Some, None, length, take, drop, refl, ap, sym, subst, ◌∙◌, arith, length-drop}
 use Rattle.std.proofs.lemmas.List.{drop-drop}
 use Rattle.std.specs.List.{prefix_len}
-use Rattle.std.specs.Char.{is_ascii_hexdigit, is_ascii_digit, is_ascii_alphabetic}
+use Rattle.std.specs.Char.{is_ascii_hexdigit, is_ascii_alphabetic}
 use lib.Utf8.{scalar}
 use Rattle.grammar_words.specs.Cursor.{uncons}
-use Rattle.grammar_words.specs.Names.{is_part, name_word}
+use Rattle.grammar_words.specs.Names.{is_part}
 use Rattle.grammar_words.specs.Quoted.{begins, hex_after, braced_hex, plain_hex, hex_escape, escape_by, escape, Piece, as_character, literal_piece, as_code, property_name, property, set_escape_by, set_escape, set_piece, Pieces, put, gathered, pieces_from}
-use Rattle.grammar_words.specs.declared.quoted.Mark.{Mark}
 use Rattle.grammar_words.specs.declared.quoted.Mark.TheVariants.{Code, Dash, Property}
-use Rattle.grammar_words.specs.Words.{after_close, comment, gap, is_blank, is_on_line, symbol, literal_word, set_word, word}
-use Rattle.grammar_words.specs.declared.word.Word.{Word}
 
 -- the last characters of `cs`
 pub record Ends (cs rest : List ℕ) : Type 0 where

@@ -1,5 +1,5 @@
 -- Names, and the words that are no names.
-use Rattle.std.specs.Prelude.{ℕ, Bool, ◌||◌, ◌==◌, cond, List, [], ◌∷◌, codes}
+use Rattle.std.specs.Prelude.{ℕ, Bool, ◌||◌, ◌==◌, cond, List, codes}
 use Rattle.std.specs.Char.{is_ascii_uppercase, is_ascii_alphanumeric}
 use Prim.Native.String.{String}
 use Rattle.std.specs.Str.{bytes_eq, chars}

@@ -1,5 +1,5 @@
 -- What the first marks of a set write.
-use Rattle.std.specs.Prelude.{ℕ, ◌<◌, List, [], ◌∷◌, Option, Some, None, length}
+use Rattle.std.specs.Prelude.{ℕ, ◌<◌, List, [], Option, Some, None, length}
 use Rattle.grammar_words.specs.Quoted.{ranges_of, with_range}
 use Rattle.grammar_words.specs.declared.sets.Next.{Next}
 use Rattle.grammar_words.specs.declared.sets.Next.TheVariants.{End, Broken, Property, Range}

@@ -1,10 +1,13 @@
-use Rattle.std.proofs.Common.{◌≡◌, true, false, [], ◌∷◌, MatchOption, IfSome, Some, None, Ok, subst, sym, ◌∙◌, refl}
+use Rattle.std.proofs.Common.{◌≡◌, true, false, [], ◌∷◌, MatchOption, IfSome, Some, None, Ok, subst, sym, ◌∙◌}
 use Rattle.grammar_tree.specs.Written.{WrittenGrammar}
 use Rattle.grammar_tree.specs.GrammarView.{grammar_of}
 use Rattle.grammar_words.specs.Words.{is_last}
 use Rattle.grammar_reader.specs.View.{state_of, Gives}
 use Rattle.grammar_reader.specs.Machine as m
-use Rattle.grammar_reader.proofs.Reading.{goes_on, stops, no_text, is_text, same_text}
+use Rattle.grammar_reader.specs.Reads.{IsFirstFault}
+use Rattle.grammar_reader.specs.Rows.{fault_at}
+use Rattle.grammar_reader.proofs.Reading.{goes_on, stops, is_fault, no_text, is_text, same_text}
+use Rattle.grammar_reader.proofs.Sizes.{profile_fits}
 use Rattle.grammar_reader.proofs.reader.read_text.Goals as goal
 
 pub loop-state-preserved : goal.loop-state-preserved
@@ -33,7 +36,9 @@ returns-in-None-clause-fault c =
     subst (λ o. MatchOption o ((c.loop-state.words ≡ []) × (c.next.new.self ≡ [])) (λ p. c.loop-state.words ≡ p ∷ c.next.new.self)) c.in-Some.is c.in_ok-placed.ensures.word in
     let none : m.step 64 (state_of c.loop-state.state) c.in-Some.placed.word ≡ None =
     subst (λ o. Gives (Ok o) (m.step 64 (state_of c.loop-state.state) c.in-Some.placed.word)) c.in-None.is c.in_ok-step.ensures in
-    (c.requires, stops c.args.text.now c.loop-state.words c.next.new.self c.in-Some.placed (state_of c.loop-state.state) c.loop-state.invariant first c.in-Some.placed.offset refl none)
+    let s = state_of c.loop-state.state in
+    let here : IsFirstFault c.args.text.now (fault_at s c.in-Some.placed.word c.in-Some.placed.offset) = stops c.args.text.now c.loop-state.words c.next.new.self c.in-Some.placed s c.loop-state.invariant first none in
+    is_fault c.args.text.now c.fault_at-fault.result c.requires (subst (λ x. IsFirstFault c.args.text.now x) (sym c.fault_at-fault.ensures) here)
 
 pub returns-in-Ok-clause-ok : goal.returns-in-Ok-clause-ok
 returns-in-Ok-clause-ok c =
@@ -46,6 +51,9 @@ returns-in-Ok-clause-ok c =
     let done : m.step 64 (state_of c.loop-state.state) c.in-Some.placed.word ≡ Some (m.AtEnd (grammar_of c.in-Ok.grammar)) =
     subst (λ t. m.step 64 (state_of c.loop-state.state) c.in-Some.placed.word ≡ Some t) c.in-Ok.ensures after in
     record { utf8 = c.requires; text = is_text c.args.text.now c.loop-state.words c.next.new.self c.in-Some.placed (state_of c.loop-state.state) c.loop-state.invariant first (grammar_of c.in-Ok.grammar) done over }
+
+pub returns-in-Ok-clause-few : goal.returns-in-Ok-clause-few
+returns-in-Ok-clause-few c = profile_fits (returns-in-Ok-clause-ok c)
 
 pub returns-in-Ok-clause-only : goal.returns-in-Ok-clause-only
 returns-in-Ok-clause-only c =

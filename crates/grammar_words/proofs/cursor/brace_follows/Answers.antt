@@ -1,4 +1,4 @@
-use Rattle.std.proofs.Common.{◌≡◌, ◌∙◌, sym}
+use Rattle.std.proofs.Common.{◌∙◌, sym}
 use Rattle.std.specs.Str.{chars}
 use Rattle.grammar_words.proofs.Going.{brace_here}
 use Rattle.grammar_words.proofs.cursor.brace_follows.Goals as goal

@@ -1,4 +1,4 @@
-use Rattle.std.proofs.Common.{◌≡◌, ℕ, ◌∙◌, arith, rules}
+use Rattle.std.proofs.Common.{◌∙◌, arith, rules}
 use Rattle.std.specs.Str.{chars}
 use Rattle.grammar_words.proofs.Going.{gap_passed, brace_passed, gap_shorter}
 use Rattle.grammar_words.proofs.cursor.skip_gaps.Goals as goal

@@ -1,4 +1,4 @@
-use Rattle.std.proofs.Common.{◌≡◌, sym, ap, ◌∙◌}
+use Rattle.std.proofs.Common.{ap, ◌∙◌}
 use Rattle.std.specs.Str.{bytes_eq, chars}
 use Rattle.grammar_words.proofs.CharTests.{same_texts}
 use Rattle.grammar_words.proofs.names.is.Goals as goal

@@ -1,4 +1,4 @@
-use Rattle.std.proofs.Common.{◌≡◌, ◌-◌, suc, length, arith}
+use Rattle.std.proofs.Common.{◌-◌, length, arith}
 use Rattle.grammar_words.proofs.Joined.{last_set}
 use Rattle.grammar_words.specs.declared.quoted.Mark.TheVariants.{Code}
 use Rattle.grammar_words.proofs.sets.make_last_plain.Goals as goal

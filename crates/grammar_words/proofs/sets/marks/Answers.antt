@@ -1,4 +1,4 @@
-use Rattle.std.proofs.Common.{◌≡◌, ◌<◌, ◌++◌, [], ◌∷◌, length, sym, ap, ◌∙◌, rules}
+use Rattle.std.proofs.Common.{sym, ap, ◌∙◌, rules}
 use Rattle.std.specs.Str.{chars}
 use Rattle.grammar_words.specs.Quoted.{pieces_from, set_piece}
 use Rattle.grammar_words.proofs.Tails.{at_closed, at_one, set_piece_ends}

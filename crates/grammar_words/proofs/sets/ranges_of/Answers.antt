@@ -1,4 +1,4 @@
-use Rattle.std.proofs.Common.{◌≡◌, ◌++◌, sym, ap, ◌∙◌}
+use Rattle.std.proofs.Common.{sym, ap, ◌∙◌}
 use Rattle.grammar_words.specs.Quoted.{ranges_of}
 use Rattle.grammar_words.proofs.Joined.{after, after_range}
 use Rattle.grammar_words.proofs.sets.ranges_of.Goals as goal

@@ -1,4 +1,4 @@
-use Rattle.std.proofs.Common.{◌≡◌, ◌-◌, suc, ◌∙◌, arith, rules}
+use Rattle.std.proofs.Common.{◌-◌, ◌∙◌, arith, rules}
 use Rattle.std.specs.Prelude.{string_bytes}
 use Rattle.std.specs.Str.{chars}
 use Rattle.grammar_words.proofs.Joined.{front_more}

@@ -9,6 +9,8 @@ pub data Side : Type 0 where
   lexing : Side
 
 pub data Spot : Type 0 where
+  -- before the first word
+  starting : Spot
   -- before the first `;`
   heading : Spot
   -- where a rule may begin, or behind `fragment`
@@ -24,16 +26,17 @@ pub data Spot : Type 0 where
   -- there, directly behind a suffix
   suffixed : Side → Spot
   -- directly behind a non-greedy loop
-  looped : Spot
+  looped : Side → Spot
   -- behind the one literal or set that follows it
-  last : Spot
+  last : Side → Spot
   -- behind `->` in its alternative
-  command : Spot
+  command : Side → Spot
   -- behind the end of the text
   finished : Spot
 
 -- one word further in a text
 abbrev pub next : Spot → Word → Spot
+next starting word = heading
 next heading w.Semicolon = between
 next heading word = heading
 next between (w.Lower n) = named parsing
@@ -49,29 +52,26 @@ next (named side) word = opening side
 next (opening side) w.Colon = body side
 next (opening side) word = opening side
 next (body side) w.Semicolon = between
-next (body side) w.Arrow = command
+next (body side) w.Arrow = command side
 next (body side) w.Question = suffixed side
 next (body side) w.Star = suffixed side
 next (body side) w.Plus = suffixed side
 next (body side) word = body side
 next (suffixed side) w.Semicolon = between
-next (suffixed side) w.Arrow = command
-next (suffixed side) w.Question = looped
+next (suffixed side) w.Arrow = command side
+next (suffixed side) w.Question = looped side
 next (suffixed side) word = body side
-next looped word = last
-next last w.Semicolon = between
-next last w.Bar = body lexing
-next last w.Arrow = command
-next last word = last
-next command w.Semicolon = between
-next command w.Bar = body lexing
-next command word = command
+next (looped side) w.Semicolon = between
+next (looped side) word = last side
+next (last side) w.Semicolon = between
+next (last side) w.Bar = body side
+next (last side) w.Arrow = command side
+next (last side) word = body side
+next (command side) w.Semicolon = between
+next (command side) w.Bar = body side
+next (command side) word = command side
 next finished word = finished
 
 abbrev pub spot_from : Spot → List Word → Spot
 spot_from spot [] = spot
 spot_from spot (word ∷ words) = spot_from (next spot word) words
-
--- behind these words
-abbrev pub spot : List Word → Spot
-spot words = spot_from heading words
