@@ -1,0 +1,16 @@
+pub mod Searching
+pub mod Walking
+pub mod Traversed
+pub mod EmptyForms
+pub mod EmptyRules
+pub mod LoopForms
+pub mod CornerForms
+pub mod RecursionForms
+pub mod CornerFacts
+pub mod ReferenceForms
+pub mod CornerRows
+pub mod CountForms
+pub mod LexerForms
+pub mod LexerFacts
+pub mod LexerRows
+pub mod BodyForms

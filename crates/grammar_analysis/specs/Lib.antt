@@ -1,0 +1,9 @@
+pub use Rattle.grammar_names.specs.Index
+pub mod First
+pub mod Graph
+pub mod Empty
+pub mod Loops
+pub mod Corners
+pub mod Recursion
+pub mod Rules
+pub mod Lexer

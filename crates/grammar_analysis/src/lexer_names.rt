@@ -1,0 +1,39 @@
+//! Lexer rules by their names.
+
+ghost use Rattle.std.specs.Prelude.{◌≡◌, ℕ, ◌<◌, ◌^◌, List, IfOk, length, map};
+ghost use Rattle.grammar_tree.specs.GrammarView.{rule_of};
+ghost use Rattle.grammar_names.specs.Index.{Finds};
+ghost use Rattle.grammar_analysis.specs.Lexer.{lexer_place};
+
+use crate::rules::{Key, rules_by};
+use faults::Memory;
+use grammar_names::Index;
+use grammar_tree::{Rule, Text};
+use std::alloc::Global;
+
+/// The places of the lexer rules of a grammar, by their names.
+#[derive(Drop)]
+pub struct LexerNames<'a> {
+    /// All rules of the grammar, in written order.
+    pub rules: &'a [Rule],
+    places: Index,
+    ghost found: { Finds places (lexer_place (map rule_of rules.now)) },
+}
+
+impl<'a> LexerNames<'a> {
+    /// The lexer rules among these rules. It takes time near linear in their number.
+    pub fn new(alloc: Global, rules: &'a [Rule]) -> Result<LexerNames<'a>, Memory>
+        requires { length rules.now < 2 ^ 32 }
+        ensures { IfOk result (λ names. names.rules.now ≡ rules.now) }
+    {
+        let places = rules_by(alloc, rules, Key::LexerName)?;
+        Ok(LexerNames { rules, places })
+    }
+
+    /// The place of the lexer rule with this name.
+    pub fn place(&self, name: &Text) -> Option<u32>
+        ensures { result ≡ lexer_place (map rule_of self.now.rules.now) name.now }
+    {
+        self.places.get(name)
+    }
+}

@@ -1,0 +1,32 @@
+//! What the rules of a grammar use, which of them can be empty, which stand first in others, and
+//! which are on cycles.
+#![tactic(auto)]
+
+mod bodies;
+mod corners;
+mod count;
+mod cycles;
+mod empty;
+mod empty_rules;
+mod graph;
+mod lexer_names;
+mod lexer_rules;
+mod lexer_tables;
+mod loops;
+mod recursion;
+mod references;
+mod rules;
+
+pub use bodies::{empty_bodies, numbered_bodies};
+pub use count::normal_count;
+pub use cycles::first_on_cycle;
+pub use empty::is_flagged;
+pub use faults::Memory;
+pub use graph::targets;
+pub use lexer_names::LexerNames;
+pub use lexer_rules::{add_names, is_empty_text, lexer_alts_have_empty_loop, some_is_short};
+pub use lexer_tables::{empty_places, lexer_rows};
+pub use loops::alts_have_empty_loop;
+pub use recursion::{corner_rows, has_base, some_rest_can_be_empty};
+pub use references::{add_references, references_of};
+pub use rules::{Key, rules_by};
