@@ -1,0 +1,7 @@
+use Rattle.std.proofs.Common.{ℕ, ◌<◌}
+use Rattle.grammar_tree.specs.Faults.{EofPlace}
+use Rattle.grammar_tree.specs.GrammarView.{grammar_of}
+use Rattle.grammar_check.proofs.eof.first_misplaced_eof.Given as goal
+
+abbrev pub invariant-loop-place : goal.invariant-loop-place
+invariant-loop-place l = (i : ℕ) → i < l.place → ¬ EofPlace (grammar_of l.grammar) l.start i

@@ -1,0 +1,13 @@
+use Rattle.std.proofs.Common.{ℕ, Option, sym, ap, ◌∙◌, subst}
+use Rattle.grammar_tree.specs.Derives.{bodies}
+use Rattle.grammar_analysis.specs.First.{IsFirstOrNone}
+use Rattle.grammar_check.specs.ParserFaults.{HasLoopAt, ParserLoopAt}
+use Rattle.grammar_check.specs.ParserPlaces.{place_at}
+use Rattle.grammar_check.proofs.PlaceForms.{loops_by_place, first_place}
+use Rattle.grammar_check.proofs.parser_places.place_with_loop.Goals as goal
+
+pub returns : goal.returns
+returns c =
+    let G = c.args.names.now in
+    let R : Option ℕ → Type 0 = λ o. IsFirstOrNone (ParserLoopAt G) o in
+    subst R (sym (c.place_of.ensures ∙ ap (λ ps. place_at ps c.first_with_loop.result) c.requires.places)) (first_place G (HasLoopAt (bodies G)) (ParserLoopAt G) (loops_by_place G) c.first_with_loop.result c.first_with_loop.ensures)

@@ -1,0 +1,7 @@
+use Rattle.std.proofs.Common.{ℕ, ◌<◌}
+use Rattle.grammar_tree.specs.Faults.{ShortUse}
+use Rattle.grammar_tree.specs.GrammarView.{grammar_of}
+use Rattle.grammar_check.proofs.rule_checks.first_short_use.Given as goal
+
+abbrev pub invariant-loop-place : goal.invariant-loop-place
+invariant-loop-place l = (i : ℕ) → i < l.place → ¬ ShortUse (grammar_of l.grammar) i

@@ -1,0 +1,12 @@
+pub use Rattle.grammar_analysis.specs.First
+pub mod Kinds
+pub mod ParserFaults
+pub mod LexerFaults
+pub mod Twins
+pub mod Eof
+pub mod Unknown
+pub mod ParserPlaces
+pub mod Answer
+pub mod CheckFaults
+pub mod Messages
+pub mod Check

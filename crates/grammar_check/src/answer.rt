@@ -1,0 +1,71 @@
+//! The names of the rules that have a fault.
+
+ghost use Rattle.std.specs.Prelude.{◌≡◌, List, Option, IfOk, ◌<◌, ◌^◌, length, map};
+ghost use Rattle.grammar_tree.specs.GrammarView.{grammar_of, rule_of};
+ghost use Rattle.grammar_check.specs.Answer.{IsNamedOrNone, name_at};
+ghost use Rattle.grammar_check.specs.Twins.{IsTwinAt};
+ghost use Rattle.grammar_tree.specs.Faults.{EofPlace, FragmentLoop};
+ghost use Rattle.grammar_analysis.specs.Lexer.{OneRule, lexer_rows};
+
+use crate::eof::first_misplaced_eof;
+use crate::lexer_checks::first_fragment_loop;
+use crate::rule_checks::{first_twin, name_of};
+use faults::Memory;
+use grammar_tree::{Grammar, Text};
+use std::alloc::Global;
+
+/// The name of the rule at a place.
+pub(crate) fn name_at(grammar: &Grammar, place: Option<usize>) -> Result<Option<Text>, Memory>
+    ensures { IfOk result (λ name. name ≡ name_at (grammar_of grammar.now) place) }
+{
+    match place {
+        None => Ok(None),
+        Some(place) => {
+            if place < grammar.rules.len() {
+                let name = name_of(&grammar.rules[place]).copy()?;
+                Ok(Some(name))
+            } else {
+                Ok(None)
+            }
+        }
+    }
+}
+
+/// The name of the first rule that has another one's name.
+pub(crate) fn twin(alloc: Global, grammar: &Grammar) -> Result<Option<Text>, Memory>
+    requires { length grammar.now.rules.items < 2 ^ 32 }
+    ensures { IfOk result (IsNamedOrNone (grammar_of grammar.now) (IsTwinAt (grammar_of grammar.now))) }
+{
+    let place = first_twin(alloc, grammar)?;
+    let name = name_at(grammar, place)?;
+    Ok(name)
+}
+
+/// The name of the first rule in which `EOF` is misplaced.
+pub(crate) fn misplaced_eof(
+    alloc: Global,
+    grammar: &Grammar,
+    start: usize,
+) -> Result<Option<Text>, Memory>
+    ensures { IfOk result (IsNamedOrNone (grammar_of grammar.now) (EofPlace (grammar_of grammar.now) start)) }
+{
+    let place = first_misplaced_eof(alloc, grammar, start)?;
+    let name = name_at(grammar, place)?;
+    Ok(name)
+}
+
+/// The name of the first lexer rule that uses itself.
+pub(crate) fn fragment_loop(
+    alloc: Global,
+    grammar: &Grammar,
+    rows: &[Vec<u32>],
+) -> Result<Option<Text>, Memory>
+    requires small { length grammar.now.rules.items < 2 ^ 32 }
+    requires one { OneRule (map rule_of grammar.now.rules.items) }
+    requires rows { map (λ row. row.items) rows.now ≡ lexer_rows (map rule_of grammar.now.rules.items) }
+    ensures { IfOk result (IsNamedOrNone (grammar_of grammar.now) (FragmentLoop (grammar_of grammar.now))) }
+{
+    let place = first_fragment_loop(alloc, grammar, rows)?;
+    let name = name_at(grammar, place)?;
+    Ok(name)
+}

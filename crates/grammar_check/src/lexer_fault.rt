@@ -1,0 +1,50 @@
+//! The first fault of the rules of the lexer.
+
+ghost use Rattle.std.specs.Prelude.{◌≡◌, ◌<◌, ◌^◌, List, Option, IfOk, length, map};
+ghost use Rattle.grammar_tree.specs.GrammarView.{grammar_of, rule_of};
+ghost use Rattle.grammar_check.specs.CheckFaults.{IsLexerAnswer};
+ghost use Rattle.grammar_analysis.specs.Lexer.{OneRule};
+
+use crate::answer::{fragment_loop, name_at};
+use crate::fault::CheckFault;
+use crate::lexer_checks::{first_empty_token, first_lexer_loop};
+use crate::rule_checks::first_short_use;
+use faults::Memory;
+use grammar_analysis::{LexerNames, empty_places, lexer_rows};
+use grammar_tree::Grammar;
+use std::alloc::Global;
+
+/// What is told of the rules of the lexer: a fault, or the place of the first empty loop, which is
+/// a fault only if no rule of the parser has one of an earlier row.
+#[derive(Drop)]
+pub(crate) enum LexerAnswer {
+    Faulty(CheckFault),
+    Sound(Option<usize>),
+}
+
+/// The first fault of the rules of the lexer, but for empty loops.
+pub(crate) fn lexer_fault(
+    alloc: Global,
+    grammar: &Grammar,
+    names: &LexerNames,
+) -> Result<LexerAnswer, Memory>
+    requires small { length grammar.now.rules.items < 2 ^ 32 }
+    requires one { OneRule (map rule_of grammar.now.rules.items) }
+    requires names { names.now.rules.now ≡ grammar.now.rules.items }
+    ensures { IfOk result (IsLexerAnswer (grammar_of grammar.now)) }
+{
+    let rows = lexer_rows(alloc, names)?;
+    if let Some(rule) = fragment_loop(alloc, grammar, &rows)? {
+        return Ok(LexerAnswer::Faulty(CheckFault::FragmentLoop { rule }));
+    }
+    let place = first_short_use(alloc, grammar, &rows)?;
+    if let Some(rule) = name_at(grammar, place)? {
+        return Ok(LexerAnswer::Faulty(CheckFault::ShortUse { rule }));
+    }
+    let flags = empty_places(alloc, names, &rows)?;
+    let token = first_empty_token(grammar, &flags);
+    if let Some(rule) = name_at(grammar, token)? {
+        return Ok(LexerAnswer::Faulty(CheckFault::EmptyToken { rule }));
+    }
+    Ok(LexerAnswer::Sound(first_lexer_loop(grammar, names, &flags)))
+}

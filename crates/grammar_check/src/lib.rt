@@ -1,0 +1,19 @@
+//! Whether a grammar is well-formed, and if not, its first fault.
+#![tactic(auto)]
+
+mod answer;
+mod checking;
+mod eof;
+mod fault;
+mod first_fault;
+mod kinds;
+mod lexer_checks;
+mod lexer_fault;
+mod parser_fault;
+mod parser_places;
+mod parser_rows;
+mod rule_checks;
+mod unknown;
+
+pub use checking::check;
+pub use fault::CheckFault;

@@ -1,0 +1,168 @@
+//! Faults of rules by their names: twins, the start rule, and uses of non-greedy rules.
+
+ghost use Rattle.std.specs.Prelude.{◌≡◌, ◌&&◌, ℕ, ◌<◌, ◌^◌, List, Option, IfOk, length, map, option_map, position};
+ghost use Rattle.std.specs.Str.{chars};
+ghost use Rattle.grammar_tree.specs.Faults.{NoStart, FragmentLoop, ShortUse, is_parser_rule, is_parser_rule_named, start_of};
+ghost use Rattle.grammar_tree.specs.GrammarView.{grammar_of, rule_of};
+ghost use Rattle.grammar_tree.specs.Kinds.{rule_name};
+ghost use Rattle.grammar_names.specs.Index.{Finds};
+ghost use Rattle.grammar_analysis.specs.First.{IsFirstOrNone, Nowhere};
+ghost use Rattle.grammar_analysis.specs.Lexer.{OneRule, lexer_rows};
+ghost use Rattle.grammar_check.specs.LexerFaults.{is_short_rule};
+ghost use Rattle.grammar_check.specs.Twins.{IsEarliest, IsTwinAt};
+
+use faults::Memory;
+use grammar_analysis::{Key, is_flagged, rules_by, some_is_short, targets};
+use grammar_names::Index;
+use grammar_tree::{Grammar, Rule, Text};
+use std::alloc::Global;
+
+/// The name of a rule.
+pub(crate) fn name_of(rule: &Rule) -> &Text
+    ensures { result.now ≡ rule_name (rule_of rule.now) }
+{
+    match rule {
+        Rule::Parser { name, .. } => name,
+        Rule::Lexer { name, .. } => name,
+    }
+}
+
+/// The lesser of a place and that of the first rule with the rule's name, where that stands before
+/// the rule.
+fn earliest(first: usize, places: &Index, rule: &Rule, place: usize) -> usize
+    ensures { (f : List ℕ → Option ℕ) → Finds places.now f → IsEarliest (f (rule_name (rule_of rule.now))) place first result }
+{
+    match places.get(name_of(rule)) {
+        Some(other) if (other as usize) < place => first.min(other as usize),
+        _ => first,
+    }
+}
+
+/// The first rule that has a twin: another rule with its name.
+pub(crate) fn first_twin(alloc: Global, grammar: &Grammar) -> Result<Option<usize>, Memory>
+    requires { length grammar.now.rules.items < 2 ^ 32 }
+    ensures { IfOk result (IsFirstOrNone (IsTwinAt (grammar_of grammar.now))) }
+{
+    let places = rules_by(alloc, &grammar.rules, Key::Name)?;
+    let mut first = grammar.rules.len();
+    for place in 0..grammar.rules.len() {
+        first = earliest(first, &places, &grammar.rules[place], place);
+    }
+    if first < grammar.rules.len() {
+        return Ok(Some(first));
+    }
+    Ok(None)
+}
+
+/// Whether the rule is a parser rule.
+fn is_parser(rule: &Rule) -> bool
+    ensures { result ≡ is_parser_rule (rule_of rule.now) }
+{
+    match rule {
+        Rule::Parser { .. } => true,
+        Rule::Lexer { .. } => false,
+    }
+}
+
+/// Whether the rule is a parser rule with this name.
+fn is_parser_named(rule: &Rule, wanted: &Text) -> bool
+    ensures { result ≡ is_parser_rule_named wanted.now (rule_of rule.now) }
+{
+    match rule {
+        Rule::Parser { name, .. } => name.is(wanted),
+        Rule::Lexer { .. } => false,
+    }
+}
+
+/// The place of the first parser rule.
+fn first_parser_rule(rules: &[Rule]) -> Option<usize>
+    ensures { result ≡ position is_parser_rule (map rule_of rules.now) }
+{
+    for place in 0..rules.len() {
+        if is_parser(&rules[place]) {
+            return Some(place);
+        }
+    }
+    None
+}
+
+/// The place of the parser rule with this name.
+fn parser_rule_named(rules: &[Rule], wanted: &Text) -> Option<usize>
+    ensures { result ≡ position (is_parser_rule_named wanted.now) (map rule_of rules.now) }
+{
+    for place in 0..rules.len() {
+        if is_parser_named(&rules[place], wanted) {
+            return Some(place);
+        }
+    }
+    None
+}
+
+/// The place of the start rule: the parser rule of the wanted name, and the first parser rule where
+/// none is wanted.
+pub(crate) fn find_start(
+    alloc: Global,
+    grammar: &Grammar,
+    wanted: Option<&str>,
+) -> Result<Option<usize>, Memory>
+    ensures { IfOk result (λ place. place ≡ start_of (grammar_of grammar.now) (option_map (λ s. chars s.now) wanted.entry)) }
+{
+    let Some(wanted) = wanted else {
+        return Ok(first_parser_rule(&grammar.rules));
+    };
+    let name = Text::new(alloc, wanted)?;
+    Ok(parser_rule_named(&grammar.rules, &name))
+}
+
+/// Whether the rule is used, and is a lexer rule with a non-greedy alternative.
+fn is_used_short(rule: &Rule, used: bool) -> bool
+    ensures { result ≡ (used && is_short_rule (rule_of rule.now)) }
+{
+    match rule {
+        Rule::Parser { .. } => false,
+        Rule::Lexer { alts, .. } => used && some_is_short(alts),
+    }
+}
+
+/// The first lexer rule with a non-greedy alternative that another lexer rule uses.
+pub(crate) fn first_short_use(
+    alloc: Global,
+    grammar: &Grammar,
+    rows: &[Vec<u32>],
+) -> Result<Option<usize>, Memory>
+    requires small { length grammar.now.rules.items < 2 ^ 32 }
+    requires one { OneRule (map rule_of grammar.now.rules.items) }
+    requires rows { map (λ row. row.items) rows.now ≡ lexer_rows (map rule_of grammar.now.rules.items) }
+    requires no_loops { Nowhere (FragmentLoop (grammar_of grammar.now)) }
+    ensures { IfOk result (IsFirstOrNone (ShortUse (grammar_of grammar.now))) }
+{
+    let flags = targets(alloc, rows)?;
+    for place in 0..grammar.rules.len() {
+        let used = is_flagged(&flags, place as u32);
+        if is_used_short(&grammar.rules[place], used) {
+            return Ok(Some(place));
+        }
+    }
+    Ok(None)
+}
+
+/// The name of a start rule that isn't there; empty where there is no parser rule at all.
+pub(crate) fn missing_name(
+    alloc: Global,
+    grammar: &Grammar,
+    wanted: Option<&str>,
+) -> Result<Text, Memory>
+    requires { start_of (grammar_of grammar.now) (option_map (λ s. chars s.now) wanted) ≡ None }
+    ensures { IfOk result (NoStart (grammar_of grammar.now) (option_map (λ s. chars s.now) wanted.entry)) }
+{
+    let Some(wanted) = wanted else {
+        let name = Text::new(alloc, "")?;
+        return Ok(name);
+    };
+    if first_parser_rule(&grammar.rules).is_none() {
+        let name = Text::new(alloc, "")?;
+        return Ok(name);
+    }
+    let name = Text::new(alloc, wanted)?;
+    Ok(name)
+}
