@@ -1,0 +1,4 @@
+pub mod Reading
+pub mod Beginnings
+pub mod Numbered
+pub mod Scalars
