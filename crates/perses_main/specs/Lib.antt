@@ -1,4 +1,5 @@
 pub mod Words
 pub mod Run
 pub mod Status
+pub mod Normal
 pub mod Top

@@ -1,13 +1,21 @@
 -- The words that are a command line: options with a value each, in a fixed order.
-use Rattle.std.specs.Prelude.{ℕ, ◌==◌, not, ◌&&◌, Bool, false, List, [], ◌∷◌, Option, Some, None, if◌then◌else◌, codes, length}
+use Rattle.std.specs.Prelude.{ℕ, ◌==◌, not, ◌&&◌, Bool, false, List, [], ◌∷◌, Option, Some, None, ⊤, if◌then◌else◌, codes, length, option_map}
 use Rattle.std.specs.List.{list_any}
 use Rattle.std.specs.Str.{bytes_eq}
+use Rattle.perses_main.specs.declared.words.Line.{Line}
+use Rattle.perses_main.specs.declared.words.CommandLine.{CommandLine}
+use Rattle.perses_main.specs.declared.words.CommandLine.TheVariants as read
 
--- the names that a command line gives
+-- the names that a command line of `reduce` gives
 pub record Names : Type 0 where
   pub input : List ℕ
   pub output : List ℕ
   pub script : List ℕ
+
+-- what a command line asks for: a file is reduced, or the normal form of the grammar in a file is printed
+pub data Command : Type 0 where
+  reduce : Names → Command
+  normal : List ℕ → Command
 
 -- a value isn't empty and doesn't begin with `-` (45)
 abbrev pub is_value : List ℕ → Bool
@@ -31,8 +39,8 @@ then_takes next None = None
 then_takes next (Some t) = next t
 
 -- nothing stands behind the last option
-abbrev pub at_end : Names → List (List ℕ) → Option Names
-at_end names words = if length words == 0 then Some names else None
+abbrev pub at_end : {X : Type 0} → X → List (List ℕ) → Option X
+at_end given words = if length words == 0 then Some given else None
 
 -- `--mode lines --input F --output F --script F`
 abbrev pub reduce_line : List (List ℕ) → Option Names
@@ -43,11 +51,39 @@ reduce_line words =
     (taken (codes "--script") output.rest)) (taken (codes "--output") input.rest)) (taken (codes "--input") mode.rest)
     else None) (taken (codes "--mode") words)
 
+-- `--grammar F`
+abbrev pub normal_line : List (List ℕ) → Option (List ℕ)
+normal_line words = then_takes (λ grammar. at_end grammar.value grammar.rest) (taken (codes "--grammar") words)
+
 -- the words as a command line, if they are one; the program's name, which is the first, isn't looked at
-abbrev pub line_of : List (List ℕ) → Option Names
-line_of [] = None
-line_of (program ∷ []) = None
-line_of (program ∷ (command ∷ words)) = if bytes_eq command (codes "reduce") then reduce_line words else None
+abbrev pub command_of : List (List ℕ) → Option Command
+command_of [] = None
+command_of (program ∷ []) = None
+command_of (program ∷ (command ∷ words)) =
+    if bytes_eq command (codes "reduce") then option_map Command.reduce (reduce_line words)
+    else if bytes_eq command (codes "normal") then option_map Command.normal (normal_line words)
+    else None
+
+-- a fact about the names of a command line of `reduce`
+abbrev pub IfReduce : Option Command → (Names → Type 0) → Type 0
+IfReduce None P = ⊤
+IfReduce (Some (Command.reduce names)) P = P names
+IfReduce (Some (Command.normal grammar)) P = ⊤
+
+-- a fact about the grammar's name on a command line of `normal`
+abbrev pub IfNormal : Option Command → (List ℕ → Type 0) → Type 0
+IfNormal None P = ⊤
+IfNormal (Some (Command.reduce names)) P = ⊤
+IfNormal (Some (Command.normal grammar)) P = P grammar
+
+-- the names that were read
+abbrev pub names_of : Line → Names
+names_of line = record { input = line.input.now; output = line.output.now; script = line.script.now }
+
+-- the command line that was read
+abbrev pub command : CommandLine → Command
+command (read.Reduce line) = Command.reduce (names_of line)
+command (read.Normal grammar) = Command.normal grammar.now
 
 -- a slash (47) stands in the path
 abbrev pub has_slash : List ℕ → Bool

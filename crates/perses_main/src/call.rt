@@ -1,20 +1,23 @@
 //! The top call.
 
-ghost use Rattle.std.specs.Prelude.{◌≡◌, ◌≢◌, ◌↔◌, ◌⊎◌, ◌≤◌, [], All, IfErr, IfOk, IfSome, IsErrOf, None, OnErr, OnOk, codes, map, option_map, string_bytes, vec_len};
+ghost use Rattle.std.specs.Prelude.{◌≡◌, ◌≢◌, ◌↔◌, ◌⊎◌, ◌≤◌, [], ◌∷◌, All, IfErr, IsErrOf, None, OnErr, OnOk, codes, map, option_map, string_bytes};
 ghost use Rattle.std.specs.List.{IsDistinct};
 ghost use Rattle.std.specs.Str.{bytes_eq};
 ghost use Rattle.faults.specs.Count.{Rose};
-ghost use Rattle.edge_io.specs.Files.{Holds, IsLonger, SameFiles, SameOthers};
+ghost use Rattle.edge_io.specs.Files.{IsLonger, SameFiles, SameOthers};
 ghost use Rattle.script_gate.specs.Told.{with_opening};
 ghost use Rattle.verdict_table.specs.Tabled.{texts_of};
-ghost use Rattle.perses_main.specs.Status.{IsGateRefusal, IsReadRefusal, IsStatus, TellsStatus, status_of};
+ghost use Rattle.perses_main.specs.Normal.{CutsNormal, IsGrammarText, IsToldIn, PutsFault, PutsNormal};
+ghost use Rattle.perses_main.specs.Status.{IsGateRefusal, IsOneOf, PutsLine, TellsStatus, line_of, line_of_status, status_of, statuses_of};
 ghost use Rattle.perses_main.specs.Top.{AreCandidates, AsksAre, FirstIsNo, IsEarly, IsOver, IsReduced, IsReducible, IsWithin, OnlyNo, OpenedAs, opening_for};
-ghost use Rattle.perses_main.specs.Words.{line_of, name_of};
+ghost use Rattle.perses_main.specs.Words.{IfNormal, IfReduce, command_of, name_of};
 
+use crate::normal::normal;
+use crate::read::read_file;
 use crate::reduce::{Reduced, reduce};
-use crate::status::Refusal;
-use crate::words::{Line, name_of, read_words};
-use edge_io::{FileFault, Files, Sink, WriteFault};
+use crate::status::{Refusal, Source, refuse};
+use crate::words::{CommandLine, Line, name_of, read_words};
+use edge_io::{Files, Sink, WriteFault};
 use script_gate::{Gate, GateFault};
 use std::alloc::Global;
 use verdict_table::Records;
@@ -38,31 +41,11 @@ pub struct Ended {
 fn refused<O: Sink>(out: &mut O, refusal: Refusal, records: Records) -> Ended
     ensures status { result.status ≡ status_of refusal }
     ensures records { result.records ≡ records }
-    ensures known { IsStatus result.status }
-    ensures told { TellsStatus result.status (O.put_so_far out.old) (O.put_so_far out.new) (O.faults out.old) (O.faults out.new) }
+    ensures told { PutsLine (line_of refusal) (O.put_so_far out.old) (O.put_so_far out.new) (O.faults out.old) (O.faults out.new) }
 {
-    let _ = out.put(refusal.line().as_bytes());
     Ended {
-        status: refusal.status(),
+        status: refuse(out, &refusal),
         records,
-    }
-}
-
-/// The input's bytes.
-fn read_input<F: Files>(files: &mut F, line: Line<'_>) -> Result<Vec<u8>, Refusal>
-    ensures bytes { IfOk result (λ start. Holds start.items (F.file files.old line.entry.input.now)) }
-    ensures limit { IfOk result (λ start. vec_len start ≤ 262144) }
-    ensures causes { IfErr result (λ refusal. IsReadRefusal refusal) }
-    ensures failed { IsErrOf result Refusal.CannotRead → Rose (F.faults files.old) (F.faults files.new) }
-    ensures too_long { IsErrOf result Refusal.TooLong → IsLonger 262144 (F.file files.old line.entry.input.now) }
-    ensures count { F.faults files.old ≤ F.faults files.new }
-    ensures same { SameFiles (F.file files.old) (F.file files.new) }
-{
-    match files.read(line.input, INPUT_LIMIT) {
-        Ok(start) => Ok(start),
-        Err(FileFault::Failed) => Err(Refusal::CannotRead),
-        Err(FileFault::TooLong) => Err(Refusal::TooLong),
-        Err(FileFault::Memory) => Err(Refusal::Memory),
     }
 }
 
@@ -81,12 +64,15 @@ fn open_gate<G: Gate>(gate: &mut G, line: Line<'_>) -> Result<(), Refusal>
     }
 }
 
-/// Reduces a file as the words say, in this order: the words, the input, the gate's opening, the
-/// run, and the result, which is written only at the end. `out` gets the line of a status that
-/// isn't 0.
+/// Does what the words ask for. The statuses and what they mean are those of [`Refusal`]; `out`
+/// gets the line of a status that isn't 0.
 ///
-/// The gate is asked once for each text, on the calling thread. A start whose verdict is no ends
-/// the run at once. The statuses and what they mean are those of [`Refusal`].
+/// `reduce` goes in this order: the words, the input, the gate's opening, the run, and the result,
+/// which is written only at the end. The gate is asked once for each text, on the calling thread. A
+/// start whose verdict is no ends the run at once.
+///
+/// `normal` reads and checks a grammar and puts its printed normal form on `out`. Where that put
+/// fails the status is that of a result that can't be written, and no line follows.
 pub fn perses<F: Files, G: Gate, O: Sink>(
     alloc: Global,
     words: &[String],
@@ -95,19 +81,20 @@ pub fn perses<F: Files, G: Gate, O: Sink>(
     out: &mut O,
 ) -> Ended
     // Why a run ends so.
-    ensures usage { (result.status ≡ 2) ↔ (line_of (map string_bytes words.now) ≡ None) }
+    ensures usage { (result.status ≡ 2) ↔ (command_of (map string_bytes words.now) ≡ None) }
+    ensures known { IsOneOf (statuses_of (command_of (map string_bytes words.now))) result.status }
     ensures read { result.status ≡ 3 → Rose (F.faults files.old) (F.faults files.new) }
-    ensures write { result.status ≡ 4 → Rose (F.faults files.old) (F.faults files.new) }
+    ensures write { IfReduce (command_of (map string_bytes words.now))
+        (λ _. result.status ≡ 4 → Rose (F.faults files.old) (F.faults files.new)) }
     ensures not_interesting { result.status ≡ 8 → OnlyNo result.records }
     ensures first_no { FirstIsNo result.records → (result.status ≡ 8) ⊎ (result.status ≡ 1) }
-    ensures too_long { result.status ≡ 10 → IfSome (line_of (map string_bytes words.now))
+    ensures too_long { result.status ≡ 10 → IfReduce (command_of (map string_bytes words.now))
         (λ names. IsLonger 262144 (F.file files.old names.input)) }
-    ensures over { IfSome (line_of (map string_bytes words.now)) (λ names.
+    ensures over { IfReduce (command_of (map string_bytes words.now)) (λ names.
         IsOver 262144 (F.file files.old names.input)
         → (result.status ≡ 10) ⊎ ((result.status ≡ 3) ⊎ (result.status ≡ 1))) }
     ensures script { result.status ≡ 11 → Rose (G.faults gate.old) (G.faults gate.new) }
-    ensures known { IsStatus result.status }
-    ensures complete { IfSome (line_of (map string_bytes words.now)) (λ names.
+    ensures complete { IfReduce (command_of (map string_bytes words.now)) (λ names.
         IsWithin 262144 (F.file files.old names.input)
         → ¬ Rose (F.faults files.old) (F.faults files.new) → ¬ Rose (G.faults gate.old) (G.faults gate.new)
         → (result.status ≡ 0) ⊎ ((result.status ≡ 8) ⊎ (result.status ≡ 1))) }
@@ -115,31 +102,74 @@ pub fn perses<F: Files, G: Gate, O: Sink>(
     // The records, at every status.
     ensures distinct { IsDistinct bytes_eq (texts_of result.records) }
     ensures said { All (λ r. G.may_say r.text r.verdict) result.records }
-    ensures candidates { IfSome (line_of (map string_bytes words.now))
+    ensures candidates { IfReduce (command_of (map string_bytes words.now))
         (λ names. AreCandidates (F.file files.old) names result.records) }
     ensures asked { AsksAre (G.told gate.old) (G.told gate.new) (texts_of result.records) }
-    ensures opened { IfSome (line_of (map string_bytes words.now))
+    ensures opened { IfReduce (command_of (map string_bytes words.now))
         (λ names. OpenedAs (opening_for names 1) (G.told gate.new) result.records) }
 
     // What a run that ended early leaves, and a failed write.
     ensures no_records { IsEarly result.status → result.records ≡ [] }
     ensures unopened { IsEarly result.status → G.told gate.new ≡ G.told gate.old }
     ensures unasked { IsEarly result.status → G.faults gate.new ≡ G.faults gate.old }
-    ensures tried { result.status ≡ 4 → IfSome (line_of (map string_bytes words.now))
+    ensures tried { result.status ≡ 4 → IfReduce (command_of (map string_bytes words.now))
         (λ names. IsReducible (F.file files.old) names result.records) }
 
     // The files, and what is told.
-    ensures done { result.status ≡ 0 → IfSome (line_of (map string_bytes words.now))
+    ensures done { result.status ≡ 0 → IfReduce (command_of (map string_bytes words.now))
         (λ names. IsReduced (F.file files.old) (F.file files.new) names result.records) }
-    ensures others { IfSome (line_of (map string_bytes words.now))
+    ensures others { IfReduce (command_of (map string_bytes words.now))
         (λ names. SameOthers (F.file files.old) (F.file files.new) names.output) }
     ensures unwritten { result.status ≢ 0 → result.status ≢ 4 → SameFiles (F.file files.old) (F.file files.new) }
-    ensures told { TellsStatus result.status (O.put_so_far out.old) (O.put_so_far out.new) (O.faults out.old) (O.faults out.new) }
+    ensures told { IfReduce (command_of (map string_bytes words.now)) (λ _. TellsStatus result.status
+        (O.put_so_far out.old) (O.put_so_far out.new) (O.faults out.old) (O.faults out.new)) }
+    ensures told_usage { result.status ≡ 2 → PutsLine (line_of_status Source.Input 2)
+        (O.put_so_far out.old) (O.put_so_far out.new) (O.faults out.old) (O.faults out.new) }
+
+    // The command `normal`: why it ends so.
+    ensures normal_too_long { IfNormal (command_of (map string_bytes words.now)) (λ grammar. result.status ≡ 10
+        → IsLonger 1048576 (F.file files.old grammar)) }
+    ensures normal_over { IfNormal (command_of (map string_bytes words.now)) (λ grammar.
+        IsOver 1048576 (F.file files.old grammar)
+        → (result.status ≡ 10) ⊎ ((result.status ≡ 3) ⊎ (result.status ≡ 1))) }
+    ensures normal_faulty { IfNormal (command_of (map string_bytes words.now)) (λ grammar.
+        IsToldIn (F.file files.old grammar) (λ bytes. ¬ IsGrammarText bytes)
+        → (result.status ≡ 5) ⊎ ((result.status ≡ 3) ⊎ (result.status ≡ 1))) }
+    ensures normal_complete { IfNormal (command_of (map string_bytes words.now)) (λ grammar.
+        IsToldIn (F.file files.old grammar) (λ bytes. IsGrammarText bytes)
+        → ¬ Rose (F.faults files.old) (F.faults files.new) → ¬ Rose (O.faults out.old) (O.faults out.new)
+        → (result.status ≡ 0) ⊎ (result.status ≡ 1)) }
+
+    // The command `normal`: what is put.
+    ensures normal_done { IfNormal (command_of (map string_bytes words.now)) (λ grammar. result.status ≡ 0
+        → PutsNormal (F.file files.old grammar) (O.put_so_far out.old) (O.put_so_far out.new)) }
+    ensures normal_cut { IfNormal (command_of (map string_bytes words.now)) (λ grammar. result.status ≡ 4
+        → CutsNormal (F.file files.old grammar) (O.put_so_far out.old) (O.put_so_far out.new)) }
+    ensures normal_write { IfNormal (command_of (map string_bytes words.now)) (λ _. result.status ≡ 4
+        → Rose (O.faults out.old) (O.faults out.new)) }
+    ensures normal_fault { IfNormal (command_of (map string_bytes words.now)) (λ grammar. result.status ≡ 5
+        → PutsFault (F.file files.old grammar) (O.put_so_far out.old) (O.put_so_far out.new) (O.faults out.old) (O.faults out.new)) }
+    ensures normal_told { IfNormal (command_of (map string_bytes words.now)) (λ _. IsOneOf (1 ∷ 3 ∷ 10 ∷ []) result.status
+        → PutsLine (line_of_status Source.Grammar result.status)
+        (O.put_so_far out.old) (O.put_so_far out.new) (O.faults out.old) (O.faults out.new)) }
+
+    // The command `normal`: what it leaves alone.
+    ensures normal_files { IfNormal (command_of (map string_bytes words.now)) (λ _. SameFiles (F.file files.old) (F.file files.new)) }
+    ensures normal_gate { IfNormal (command_of (map string_bytes words.now)) (λ _. G.told gate.new ≡ G.told gate.old) }
+    ensures normal_unasked { IfNormal (command_of (map string_bytes words.now)) (λ _. G.faults gate.new ≡ G.faults gate.old) }
+    ensures normal_records { IfNormal (command_of (map string_bytes words.now)) (λ _. result.records ≡ []) }
 {
-    let Some(line) = read_words(words) else {
-        return refused(out, Refusal::Usage, Records::new(alloc));
+    let line = match read_words(words) {
+        None => return refused(out, Refusal::Usage, Records::new(alloc)),
+        Some(CommandLine::Reduce(line)) => line,
+        Some(CommandLine::Normal(grammar)) => {
+            return Ended {
+                status: normal(alloc, grammar, files, out),
+                records: Records::new(alloc),
+            };
+        }
     };
-    let start = match read_input(files, line) {
+    let start = match read_file(files, line.input, INPUT_LIMIT, Source::Input) {
         Ok(start) => start,
         Err(refusal) => return refused(out, refusal, Records::new(alloc)),
     };

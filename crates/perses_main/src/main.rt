@@ -1,11 +1,16 @@
 //! Perses reduces an input that makes something fail to the few lines that matter.
 //!
 //! `perses reduce --mode lines --input F --output F --script F` asks the script for one candidate
-//! after another and writes the lines that are left. The work is done by [`call::perses`], whose
-//! contract is the program's; here it gets the machine's files, processes and standard output.
+//! after another and writes the lines that are left. `perses normal --grammar F` prints the normal
+//! form of a grammar. The work is done by [`call::perses`], whose contract is the program's; here it
+//! gets the machine's files, processes and standard output.
 #![tactic(auto)]
 
 mod call;
+mod normal;
+#[cfg(test)]
+mod normal_tests;
+mod read;
 mod reduce;
 mod run;
 mod status;

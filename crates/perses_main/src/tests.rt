@@ -14,7 +14,7 @@ use std::{env, fs, process};
 use verdict_table::Records;
 
 /// The bytes that a sink in memory has room for.
-const ROOM: u64 = 2_097_152;
+pub const ROOM: u64 = 2_097_152;
 
 /// A run over objects in memory, and what has to come of it.
 #[derive(Clone, Copy)]
@@ -44,7 +44,7 @@ fn plain_case<'a>(shows: &'a str, input: Option<&'a [u8]>) -> Case<'a> {
 }
 
 /// The words between single spaces; two spaces in a row have the empty word between them.
-fn words_in(alloc: Global, line: &str) -> Result<Vec<String>, Fail> {
+pub fn words_in(alloc: Global, line: &str) -> Result<Vec<String>, Fail> {
     let mut words = Vec::new(alloc);
     for word in line.split(' ') {
         words.push(String::from_str(alloc, word)?)?;
@@ -271,6 +271,16 @@ fn refuses_words_that_are_no_command_line(rt: HostRuntime) -> Result<(), Fail> {
         "perses reduce --mode lines --input -i --output o --script s",
         "perses reduce --mode lines --input i --output o --script s more",
         "perses reduce --mode lines --input=i --output o --script s",
+        "perses reduce --grammar i --input i --output o --script s",
+        "perses --grammar i",
+        "perses normal",
+        "perses normal i",
+        "perses normal --grammar",
+        "perses normal --grammar ",
+        "perses normal --grammar -i",
+        "perses normal --grammar=i",
+        "perses normal --grammar i more",
+        "perses normal --grammar i --start a",
     ] {
         let words = words_in(alloc, line)?;
         assert!(rt; refuses_words(&rt, &words, &[], told)?, "{line}");
@@ -282,7 +292,7 @@ fn refuses_words_that_are_no_command_line(rt: HostRuntime) -> Result<(), Fail> {
 }
 
 /// Makes a folder of its own, in which this process runs from then on.
-fn enter_folder(rt: &HostRuntime) -> Result<PathBuf, Fail> {
+pub fn enter_folder(rt: &HostRuntime) -> Result<PathBuf, Fail> {
     let alloc = rt.alloc();
     let since = SystemTime::now(rt)?.duration_since(SystemTime::UNIX_EPOCH)?;
     let process = process::id(rt.process());
@@ -308,7 +318,7 @@ fn run_real(rt: &HostRuntime, input: &str, output: &str, script: &str) -> Result
     Ok(ended.status)
 }
 
-fn holds(rt: &HostRuntime, name: &str, bytes: &[u8]) -> Result<bool, Fail> {
+pub fn holds(rt: &HostRuntime, name: &str, bytes: &[u8]) -> Result<bool, Fail> {
     Ok(fs::read(rt, name)?.as_slice() == bytes)
 }
 

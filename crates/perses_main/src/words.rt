@@ -1,7 +1,7 @@
 ghost use Rattle.std.specs.Prelude.{◌≡◌, None, Some, MatchOption, codes, map, string_bytes};
-ghost use Rattle.perses_main.specs.Words.{is_value, line_of, name_of, taken};
+ghost use Rattle.perses_main.specs.Words.{command, command_of, is_value, name_of, names_of, normal_line, reduce_line, taken};
 
-/// The names that a command line gives.
+/// The names that a command line of `reduce` gives.
 #[derive(Clone, Copy, Debug)]
 pub struct Line<'a> {
     /// The file to be reduced.
@@ -12,20 +12,40 @@ pub struct Line<'a> {
     pub script: &'a str,
 }
 
+/// What a command line asks for.
+#[derive(Clone, Copy, Debug)]
+pub enum CommandLine<'a> {
+    /// `reduce`: a file is reduced.
+    Reduce(Line<'a>),
+    /// `normal`: the normal form of the grammar in this file is printed.
+    Normal(&'a str),
+}
+
 /// The command line that the words are, the first of which is the program's name. None where they
 /// are no command line.
-pub fn read_words(words: &[String]) -> Option<Line<'_>>
+pub fn read_words(words: &[String]) -> Option<CommandLine<'_>>
     ensures { MatchOption result
-        (line_of (map string_bytes words.entry.now) ≡ None)
-        (λ line. line_of (map string_bytes words.entry.now)
-        ≡ Some (record { input = line.input.now; output = line.output.now; script = line.script.now })) }
+        (command_of (map string_bytes words.entry.now) ≡ None)
+        (λ line. command_of (map string_bytes words.entry.now) ≡ Some (command line)) }
 {
     let [_, command, words @ ..] = words else {
         return None;
     };
-    if command.as_str() != "reduce" {
-        return None;
+    if command.as_str() == "reduce" {
+        Some(CommandLine::Reduce(read_reduce(words)?))
+    } else if command.as_str() == "normal" {
+        Some(CommandLine::Normal(read_normal(words)?))
+    } else {
+        None
     }
+}
+
+/// The names behind the word `reduce`.
+fn read_reduce(words: &[String]) -> Option<Line<'_>>
+    ensures { MatchOption result
+        (reduce_line (map string_bytes words.entry.now) ≡ None)
+        (λ line. reduce_line (map string_bytes words.entry.now) ≡ Some (names_of line)) }
+{
     let (mode, words) = take_option(words, "--mode")?;
     if mode != "lines" {
         return None;
@@ -41,6 +61,20 @@ pub fn read_words(words: &[String]) -> Option<Line<'_>>
         output,
         script,
     })
+}
+
+/// The grammar's name behind the word `normal`.
+fn read_normal(words: &[String]) -> Option<&str>
+    ensures { MatchOption result
+        (normal_line (map string_bytes words.entry.now) ≡ None)
+        (λ grammar. normal_line (map string_bytes words.entry.now) ≡ Some grammar.now) }
+{
+    let (grammar, words) = take_option(words, "--grammar")?;
+    if words.is_empty() {
+        Some(grammar)
+    } else {
+        None
+    }
 }
 
 /// The value of the option of this name, where the words begin with it, and the words behind it.
