@@ -1,0 +1,6 @@
+//! Expected values are worked out by hand from the definitions.
+
+mod checks;
+mod forms;
+mod kinds;
+mod lexing;
