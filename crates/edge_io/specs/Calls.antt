@@ -1,4 +1,4 @@
--- Counts of calls, and the calls that an object in memory is told to fail.
+-- Counts of calls, and the calls that an object in memory lets fail.
 use Rattle.std.specs.Prelude.{◌≡◌, ℕ, ◌+◌, ◌-◌, ◌^◌, min, List, Contains}
 
 -- one more than the count, which stays at its last value

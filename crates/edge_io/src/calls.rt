@@ -3,7 +3,7 @@ ghost use Rattle.edge_io.specs.Calls.{no_calls, IsNextToFail, after_call, after_
 
 use std::marker::Model;
 
-/// Counts the calls of an object in memory, some of which it is told to fail.
+/// Counts the calls of an object in memory, and has the numbers of those that are to fail.
 #[derive(Drop)]
 pub(crate) struct Calls {
     made: u64,

@@ -7,7 +7,7 @@ use std::io::{ErrorKind, Read, Write};
 use std::marker::Model;
 use std::{fs, io};
 
-/// The files of the machine. They tell no content; contracts see them as the count of their faults.
+/// The files of the machine. Their content isn't visible to contracts, which see the count of their faults alone.
 #[derive(Drop)]
 pub struct DiskFiles<R: std::rt::Files> {
     rt: R,
@@ -57,7 +57,7 @@ pub(crate) fn is_memory(error: &io::Error) -> bool {
 impl<R: std::rt::Files> Files for DiskFiles<R> {
     ghost use Rattle.std.specs.Prelude.{None};
 
-    ghost file = { λ _ _. None };
+    ghost content = { λ _ _. None };
 
     ghost faults = { λ d. d };
 
@@ -66,7 +66,7 @@ impl<R: std::rt::Files> Files for DiskFiles<R> {
         ensures count { self.old ≤ self.new }
         ensures faults { CountsFault (IsErrOf result FileFault.Failed) self.old self.new }
     {
-        // One byte more than the limit tells a file that is too long.
+        // A file that is too long has one byte more than the limit.
         match read_start(&self.rt, self.alloc, name, limit.saturating_add(1)) {
             Ok(bytes) if bytes.len() as u64 > limit => Err(FileFault::TooLong),
             Ok(bytes) => Ok(bytes),
@@ -78,7 +78,7 @@ impl<R: std::rt::Files> Files for DiskFiles<R> {
         }
     }
 
-    /// Want of memory is told only before the file is made; from then on an error is `Failed`.
+    /// `Memory` comes only before the file is made; from then on an error is `Failed`.
     fn write(&mut self, name: &str, bytes: &[u8]) -> Result<(), WriteFault>
         ensures count { self.old ≤ self.new }
         ensures faults { CountsFault (IsErrOf result WriteFault.Failed) self.old self.new }

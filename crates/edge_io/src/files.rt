@@ -65,30 +65,32 @@ impl<T: Drop> From<AllocFailed<T>> for WriteFault {
 
 /// Files that are read and written whole, by name.
 pub trait Files {
-    ghost use Rattle.edge_io.specs.Files.{File};
+    ghost use Rattle.edge_io.specs.Files.{FileContent};
 
-    /// What the file of a name holds: `None` where that is not told, `Some(None)` where the file is
+    /// What the file of a name holds: `None` where that isn't visible, `Some(None)` where the file is
     /// missing.
-    ghost file: { Self → List ℕ → Option File };
+    ghost content: { Self → List ℕ → Option FileContent };
 
     /// How many calls failed. It never falls, and stays at 2^64 - 1 once it is there.
     ghost faults: { Self → ℕ };
 
     /// The whole bytes of a file that has at most `limit` of them. A missing file fails.
     fn read(&mut self, name: &str, limit: u64) -> Result<Vec<u8>, FileFault>
-        ensures bytes { IfOk result (λ bytes. Holds bytes.items (file self.old name.now)) }
+        ensures bytes { IfOk result (λ bytes. Holds bytes.items (content self.old name.now)) }
         ensures limit { IfOk result (λ bytes. vec_len bytes ≤ limit) }
-        ensures too_long { IsErrOf result FileFault.TooLong → IsLonger limit (file self.old name.now) }
+        ensures too_long { IsErrOf result FileFault.TooLong → IsLonger limit (content self.old name.now) }
         ensures failed { IsErrOf result FileFault.Failed → Rose (faults self.old) (faults self.new) }
+        ensures quiet { (¬ IsErrOf result FileFault.Failed) → faults self.new ≡ faults self.old }
         ensures count { faults self.old ≤ faults self.new }
-        ensures same { SameFiles (file self.old) (file self.new) };
+        ensures same { SameFiles (content self.old) (content self.new) };
 
     /// Makes the file hold exactly `bytes`, in place of what it held before. After `Failed` this
     /// one file may hold anything.
     fn write(&mut self, name: &str, bytes: &[u8]) -> Result<(), WriteFault>
-        ensures written { OnOk result (Holds bytes.now (file self.new name.now)) }
-        ensures others { SameOthers (file self.old) (file self.new) name.now }
+        ensures written { OnOk result (Holds bytes.now (content self.new name.now)) }
+        ensures others { SameOthers (content self.old) (content self.new) name.now }
         ensures failed { IsErrOf result WriteFault.Failed → Rose (faults self.old) (faults self.new) }
-        ensures memory { IsErrOf result WriteFault.Memory → SameFiles (file self.old) (file self.new) }
+        ensures quiet { (¬ IsErrOf result WriteFault.Failed) → faults self.new ≡ faults self.old }
+        ensures memory { IsErrOf result WriteFault.Memory → SameFiles (content self.old) (content self.new) }
         ensures count { faults self.old ≤ faults self.new };
 }

@@ -1,8 +1,8 @@
 //! Files and sinks, whose failing calls are counted.
 //!
 //! The traits [`Files`] and [`Sink`] are what the crates above read and write through. Three
-//! implementations are in memory, and tell what they hold; [`DiskFiles`] and [`StreamSink`] reach
-//! the machine, and tell nothing but their counts.
+//! implementations are in memory, and contracts see what they hold; [`DiskFiles`] and [`StreamSink`]
+//! reach the machine, and contracts see nothing of them but their counts.
 #![tactic(auto)]
 
 mod calls;

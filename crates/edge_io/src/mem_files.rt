@@ -1,13 +1,13 @@
 ghost use Rattle.std.specs.Prelude.{◌≡◌, ◌≤◌, ◌⊎◌, ◌↔◌, Some, option_copied, IfOk, OnOk, OnErr, IsErrOf, vec_len};
 ghost use Rattle.edge_io.specs.Calls.{CountsCall, IsNextToFail};
-ghost use Rattle.edge_io.specs.MemFiles.{after_write, content, entries_of, new_files, IsMissing, IsTooLong};
+ghost use Rattle.edge_io.specs.MemFiles.{after_write, content_of, entries_of, new_files, IsMissing, IsTooLong};
 
 use crate::calls::Calls;
 use crate::files::{FileFault, Files, WriteFault};
 use std::alloc::Global;
 use std::marker::Model;
 
-/// Files in memory, some calls of which are told to fail.
+/// Files in memory, some calls of which can be made to fail.
 #[derive(Drop)]
 pub struct MemFiles {
     alloc: Global,
@@ -24,7 +24,7 @@ impl Model for MemFiles {
 }
 
 fn find<'a>(entries: &'a [(String, Vec<u8>)], name: &str) -> Option<&'a [u8]>
-    ensures { option_copied result ≡ content (entries_of entries.entry.now) name.now }
+    ensures { option_copied result ≡ content_of (entries_of entries.entry.now) name.now }
 {
     let entry = entries.iter().find(|entry| entry.0.as_str() == name)?;
     Some(entry.1.as_slice())
@@ -45,7 +45,7 @@ impl MemFiles {
 
     /// What the file of this name holds, `None` where it is missing. It counts as no call.
     pub fn content(&self, name: &str) -> Option<&[u8]>
-        ensures { option_copied result ≡ content self.now.entries name.now }
+        ensures { option_copied result ≡ content_of self.now.entries name.now }
     {
         find(self.entries.as_slice(), name)
     }
@@ -59,15 +59,15 @@ impl MemFiles {
 }
 
 impl Files for MemFiles {
-    ghost file = { λ m name. Some (content m.entries name) };
+    ghost content = { λ m name. Some (content_of m.entries name) };
 
     ghost faults = { λ m. m.calls.faults };
 
     fn read(&mut self, name: &str, limit: u64) -> Result<Vec<u8>, FileFault>
-        ensures bytes { IfOk result (λ bytes. content self.old.entries name.now ≡ Some bytes.items) }
+        ensures bytes { IfOk result (λ bytes. content_of self.old.entries name.now ≡ Some bytes.items) }
         ensures limit { IfOk result (λ bytes. vec_len bytes ≤ limit) }
 
-        // Both errors come exactly where they should; want of memory alone is free.
+        // Both errors come exactly where they should; out of memory alone is free.
         ensures failed { IsErrOf result FileFault.Failed
             ↔ (IsNextToFail self.old.calls ⊎ IsMissing name.now self.old) }
         ensures too_long { IsErrOf result FileFault.TooLong
@@ -93,7 +93,7 @@ impl Files for MemFiles {
         Ok(Vec::from_slice(self.alloc, bytes)?)
     }
 
-    /// The file that is written stands before the entries that had its name, which no longer count.
+    /// The file that is written comes before the entries that had its name, which no longer count.
     fn write(&mut self, name: &str, bytes: &[u8]) -> Result<(), WriteFault>
         ensures failed { IsErrOf result WriteFault.Failed ↔ IsNextToFail self.old.calls }
         ensures ok { OnOk result (self.new.entries ≡ after_write name.now bytes.now self.old.entries) }

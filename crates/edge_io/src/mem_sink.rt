@@ -1,7 +1,7 @@
 ghost use Rattle.std.specs.Prelude.{◌≡◌, ◌≤◌, ◌⊎◌, ◌↔◌, IfOk, OnOk, OnErr, IsErr, IsOkUnless};
 ghost use Rattle.edge_io.specs.Calls.{IsNextToFail};
 ghost use Rattle.edge_io.specs.MemSink.{empty_sink, IsTooBig, after_put, after_failed_put};
-ghost use Rattle.edge_io.specs.Sink.{opened};
+ghost use Rattle.edge_io.specs.Sink.{empty_put};
 
 use crate::calls::Calls;
 use crate::sink::{OpenFault, Sink, SinkFault};
@@ -9,13 +9,13 @@ use faults::Memory;
 use std::alloc::Global;
 use std::marker::Model;
 
-/// A sink in memory with a fixed room, some puts of which are told to fail.
+/// A sink in memory with a fixed capacity, some puts of which can be made to fail.
 #[derive(Drop)]
 pub struct MemSink {
     alloc: Global,
     bytes: Vec<u8>,
     name: String,
-    room: u64,
+    capacity: u64,
     calls: Calls,
 }
 
@@ -27,24 +27,24 @@ impl Model for MemSink {
 
     ghost view = { λ s. record {
       put = record { bytes = s.bytes.items; name = string_bytes s.name };
-      room = s.room;
+      capacity = s.capacity;
       calls = s.calls;
     } };
 
-    ghost invariant = { λ s. (vec_len s.bytes ≤ s.room) × (s.room ≤ vec_capacity s.bytes) };
+    ghost invariant = { λ s. (vec_len s.bytes ≤ s.capacity) × (s.capacity ≤ vec_capacity s.bytes) };
 }
 
 impl MemSink {
-    /// A sink that has room for `room` bytes, all of which are taken here, and the empty name.
+    /// A sink that takes `capacity` bytes, whose memory is taken now, and has the empty name.
     /// `fail` has the numbers, from 1, of the puts that fail.
-    pub fn new(alloc: Global, room: u64, fail: Vec<u64>) -> Result<MemSink, Memory>
-        ensures { IfOk result (λ sink. sink ≡ empty_sink room fail.items) }
+    pub fn new(alloc: Global, capacity: u64, fail: Vec<u64>) -> Result<MemSink, Memory>
+        ensures { IfOk result (λ sink. sink ≡ empty_sink capacity fail.items) }
     {
         Ok(MemSink {
             alloc,
-            bytes: Vec::with_capacity(alloc, room as usize)?,
+            bytes: Vec::with_capacity(alloc, capacity as usize)?,
             name: String::new(alloc),
-            room,
+            capacity,
             calls: Calls::new(fail),
         })
     }
@@ -80,7 +80,7 @@ impl Sink for MemSink {
 
     fn open(&mut self, name: &str) -> Result<(), OpenFault>
         ensures only_memory { IsOkUnless result OpenFault.Memory }
-        ensures ok { OnOk result (self.new ≡ record self.old { put = opened name.now }) }
+        ensures ok { OnOk result (self.new ≡ record self.old { put = empty_put name.now }) }
         ensures err { OnErr result (self.new ≡ self.old) }
     {
         self.name = String::from_str(self.alloc, name)?;
@@ -94,8 +94,8 @@ impl Sink for MemSink {
         ensures err { OnErr result (self.new ≡ after_failed_put self.old) }
         ensures count { self.old.calls.faults ≤ self.new.calls.faults }
     {
-        let left = self.room - self.bytes.len() as u64;
-        if self.calls.is_next_to_fail() || piece.len() as u64 > left {
+        let free = self.capacity - self.bytes.len() as u64;
+        if self.calls.is_next_to_fail() || piece.len() as u64 > free {
             self.calls.count_fault();
             return Err(SinkFault::Failed);
         }

@@ -2,7 +2,7 @@ ghost use Rattle.std.specs.Prelude.{IsOk};
 
 use crate::sink::{OpenFault, Sink, SinkFault};
 
-/// A sink that keeps nothing, tells nothing and never fails.
+/// A sink that keeps nothing and never fails. What was put isn't visible.
 #[derive(Clone, Copy, Debug, Default)]
 pub struct NullSink;
 

@@ -1,6 +1,6 @@
 ghost use Rattle.std.specs.Prelude.{◌≡◌, ◌≤◌, ℕ, Option, option_map, OnOk, OnErr, IsErrOf};
 ghost use Rattle.faults.specs.Count.{Rose};
-ghost use Rattle.edge_io.specs.Sink.{opened, with_piece, GrewByPrefix};
+ghost use Rattle.edge_io.specs.Sink.{empty_put, with_piece, GrewByPrefix};
 
 use std::alloc::AllocError;
 use thiserror::Error;
@@ -35,11 +35,11 @@ impl From<AllocError> for OpenFault {
     }
 }
 
-/// A place that bytes are put into, piece by piece.
+/// What bytes are put into, piece by piece.
 pub trait Sink {
     ghost use Rattle.edge_io.specs.Sink.{Put};
 
-    /// The bytes that were put since the last opening, and its name: `None` where that is not told.
+    /// The bytes that were put since the last opening, and its name: `None` where that isn't visible.
     ghost put_so_far: { Self → Option Put };
 
     /// How many calls failed. It never falls, and stays at 2^64 - 1 once it is there.
@@ -48,9 +48,10 @@ pub trait Sink {
     /// Begins anew under this name. After an error the sink is as before.
     fn open(&mut self, name: &str) -> Result<(), OpenFault>
         ensures ok { OnOk result
-            (put_so_far self.new ≡ option_map (λ _. opened name.now) (put_so_far self.old)) }
+            (put_so_far self.new ≡ option_map (λ _. empty_put name.now) (put_so_far self.old)) }
         ensures err { OnErr result (put_so_far self.new ≡ put_so_far self.old) }
         ensures failed { IsErrOf result OpenFault.Failed → Rose (faults self.old) (faults self.new) }
+        ensures quiet { (¬ IsErrOf result OpenFault.Failed) → faults self.new ≡ faults self.old }
         ensures count { faults self.old ≤ faults self.new };
 
     /// Puts the piece after what was put before, and takes no memory. An empty piece is a put as
@@ -60,5 +61,6 @@ pub trait Sink {
             (put_so_far self.new ≡ option_map (with_piece piece.now) (put_so_far self.old)) }
         ensures err { OnErr result (GrewByPrefix piece.now (put_so_far self.old) (put_so_far self.new)) }
         ensures failed { OnErr result (Rose (faults self.old) (faults self.new)) }
+        ensures quiet { OnOk result (faults self.new ≡ faults self.old) }
         ensures count { faults self.old ≤ faults self.new };
 }

@@ -14,8 +14,8 @@ enum Target<F> {
     File(F),
 }
 
-/// A sink over standard output, or over the file that was opened last. It tells nothing of what it
-/// holds; contracts see it as the count of its faults.
+/// A sink over standard output, or over the file that was opened last. What was put isn't visible to
+/// contracts, which see the count of its faults alone.
 #[derive(Drop)]
 pub struct StreamSink<R: std::rt::Files + Print> {
     rt: R,

@@ -1,7 +1,7 @@
 -- Why there is no normal form, and what is told of it.
 use Rattle.std.proofs.Common.{◌≡◌, ◌≢◌, inl, inr, ℕ, List, [], ◌∷◌, Option, Some, None, Err, string_bytes, refl, sym, ◌∙◌, subst, arith}
 use Rattle.std.proofs.lemmas.Bool.{false≢true}
-use Rattle.edge_io.specs.Files.{File}
+use Rattle.edge_io.specs.Files.{FileContent}
 use Rattle.edge_io.specs.Sink.{Put}
 use Rattle.grammar_tree.specs.Faults.{IsWellFormed, start_of}
 use Rattle.grammar_tree.specs.Written.{WrittenGrammar}
@@ -54,7 +54,7 @@ unchecked bytes G spelled only NotInteresting why = why
 unchecked bytes G spelled only (TooLong file) why = why
 unchecked bytes G spelled only Script why = why
 
-module _ (told : Option File) (status : ℕ) (old new : Option Put) (faults faults' : ℕ) where
+module _ (told : Option FileContent) (status : ℕ) (old new : Option Put) (faults faults' : ℕ) where
   -- a status other than 5 is not that of a grammar's fault
   not_five : (n : ℕ) → status ≡ n → n ≢ 5 → status ≡ 5 → ⊥
   not_five n is other five = other (sym is ∙ five)

@@ -9,8 +9,8 @@ use Rattle.std.specs.Str.{bytes_eq}
 use Rattle.script_gate.specs.declared.gate.Verdict.{Verdict}
 use Rattle.script_gate.specs.declared.gate.Verdict.TheVariants.{Yes, No}
 use Rattle.verdict_table.specs.declared.record.Record.{Record}
-use Rattle.verdict_table.specs.Plan.{Plan, Reduced, End, HasEnded, MayAsk, after, asked, follow}
-use Rattle.verdict_table.specs.Tabled.{verdict_in}
+use Rattle.verdict_table.specs.Plan.{Plan, StepResult, End, HasEnded, MayAsk, after, asked, follow}
+use Rattle.verdict_table.specs.TableState.{verdict_in}
 use Rattle.reduce_core.specs.Laws.{FollowsReduction, RefusesAtNo, EndsMinimal, AsksCandidates, result_of}
 use Rattle.reduce_core.specs.LineRun.{LineRun}
 use Rattle.reduce_core.specs.LineMachine.{LineState, Whole, gives, plan_of, after as line_after}
@@ -99,9 +99,9 @@ module _ (follows : FollowsReduction) (refuses : RefusesAtNo) (minimal : EndsMin
 
   pub is-reduction : (gives state).refused ≡ false → IsReductionOf V start (gives state).text
   is-reduction stays =
-      let interesting : r.refused ≡ false = ap (λ (x : Reduced). x.refused) (sym found_is) ∙ stays in
+      let interesting : r.refused ≡ false = ap (λ (x : StepResult). x.refused) (sym found_is) ∙ stays in
       let well = minimal V start interesting has in
-      let text : (gives state).text ≡ concat r.lines = ap (λ (x : Reduced). x.text) found_is in
+      let text : (gives state).text ≡ concat r.lines = ap (λ (x : StepResult). x.text) found_is in
       record {
         defined = has;
         interesting = interesting;
@@ -113,12 +113,12 @@ module _ (follows : FollowsReduction) (refuses : RefusesAtNo) (minimal : EndsMin
   pub first-yes : (gives state).refused ≡ false → FirstIs start Yes records
   first-yes stays =
       ⊎_elim (λ yes_there. start_is start records Yes (begins_at start records run.begun) yes_there)
-      (λ no_there. absurd (false≢true (sym stays ∙ ap (λ (x : Reduced). x.refused) found_is ∙ ((refuses V start).1 no_there).1)))
+      (λ no_there. absurd (false≢true (sym stays ∙ ap (λ (x : StepResult). x.refused) found_is ∙ ((refuses V start).1 no_there).1)))
       (by_verdict (V start) (start_known V start has))
 
   first-no : (gives state).refused ≡ true → FirstIsNo records
   first-no refused =
-      ⊎_elim (λ yes_there. absurd (false≢true (sym ((refuses V start).0 yes_there) ∙ ap (λ (x : Reduced). x.refused) (sym found_is) ∙ refused)))
+      ⊎_elim (λ yes_there. absurd (false≢true (sym ((refuses V start).0 yes_there) ∙ ap (λ (x : StepResult). x.refused) (sym found_is) ∙ refused)))
       (λ no_there. no_is_first start records (start_is start records No (begins_at start records run.begun) no_there))
       (by_verdict (V start) (start_known V start has))
 
@@ -128,7 +128,7 @@ module _ (follows : FollowsReduction) (refuses : RefusesAtNo) (minimal : EndsMin
   pub no-first : FirstIsNo records → (gives state).refused ≡ true
   no-first no_first =
       let no_there = first_no_is start records (begins_at start records run.begun) no_first in
-      ap (λ (x : Reduced). x.refused) found_is ∙ ((refuses V start).1 no_there).1
+      ap (λ (x : StepResult). x.refused) found_is ∙ ((refuses V start).1 no_there).1
 
 -- a run that waits for a verdict doesn't begin with a no
 pub not-waiting : RefusesAtNo → (start : List ℕ) (records : List Record) → BeginsWith (plan_of (Whole start)) records → FirstIsNo records

@@ -7,11 +7,11 @@ use Rattle.std.proofs.lemmas.Cmp.{nat_list_eq_equiv}
 use Rattle.std.specs.List.{IsDistinct, list_any}
 use Rattle.std.specs.Str.{bytes_eq}
 use Rattle.script_gate.specs.declared.gate.Verdict.{Verdict}
-use Rattle.script_gate.specs.declared.told.Told.{Told}
-use Rattle.script_gate.specs.Told.{with_asked}
+use Rattle.script_gate.specs.declared.log.Log.{Log}
+use Rattle.script_gate.specs.Log.{with_asked}
 use Rattle.verdict_table.specs.declared.record.Record.{Record}
 use Rattle.verdict_table.specs.Plan.{Plan, MayAsk, HasEnded, asked, after, follow}
-use Rattle.verdict_table.specs.Tabled.{Tabled, Extends, texts_of, verdict_in}
+use Rattle.verdict_table.specs.TableState.{TableState, Extends, texts_of, verdict_in}
 use Rattle.verdict_table.proofs.PlanLemmas.{asked_may, after_may, follow_after, follow_ended}
 use Rattle.verdict_table.proofs.RecordLemmas.{extends_front, extends_back, extends_known, extends_itself, not_among, stays}
 use Rattle.perses_main.specs.Run.{with_all_asked, Learns, Knew, Asks, BeginsWith, EndsAtFirst}
@@ -57,7 +57,7 @@ none_begun : (first plan : Plan) (records : List Record) → first ≡ plan → 
 none_begun first plan records same none = rw none (sym same)
 
 -- some texts were asked and answered so far
-pub record IsUnderWay {Gate : Type 0} (may_say : List ℕ → Verdict → Type 0) (told : Gate → Option Told) (faults : Gate → ℕ) (gate gate' : Gate) (first plan : Plan) (table : Tabled) : Type 0 where
+pub record IsUnderWay {Gate : Type 0} (may_say : List ℕ → Verdict → Type 0) (told : Gate → Option Log) (faults : Gate → ℕ) (gate gate' : Gate) (first plan : Plan) (table : TableState) : Type 0 where
   pub settled : table.claims ≡ []
   pub distinct : IsDistinct bytes_eq (texts_of table.records)
   pub said : All (λ r. may_say r.text r.verdict) table.records
@@ -69,7 +69,7 @@ pub record IsUnderWay {Gate : Type 0} (may_say : List ℕ → Verdict → Type 0
   pub one : OneAtEnd first plan table.records
   pub followed : (V : List ℕ → Option Verdict) → Extends V table.records → follow V first ≡ follow V plan
 
-one_more : (o : Option Told) (texts : List (List ℕ)) (text : List ℕ) → option_map (with_asked text) (option_map (with_all_asked texts) o) ≡ option_map (with_all_asked (texts ++ text ∷ [])) o
+one_more : (o : Option Log) (texts : List (List ℕ)) (text : List ℕ) → option_map (with_asked text) (option_map (with_all_asked texts) o) ≡ option_map (with_all_asked (texts ++ text ∷ [])) o
 one_more None texts text = refl
 one_more (Some told) texts text = rw append_assoc refl
 
@@ -78,7 +78,7 @@ texts_more [] r = refl
 texts_more (q ∷ records) r = λ i. q.text ∷ texts_more records r i
 
 -- an answer, known before or new, keeps what is under way
-pub learned : {Gate : Type 0} (may_say : List ℕ → Verdict → Type 0) (told : Gate → Option Told) (faults : Gate → ℕ) (gate gate' gate'' : Gate) (first plan : Plan) (table table' : Tabled) (text : List ℕ) (verdict : Verdict)
+pub learned : {Gate : Type 0} (may_say : List ℕ → Verdict → Type 0) (told : Gate → Option Log) (faults : Gate → ℕ) (gate gate' gate'' : Gate) (first plan : Plan) (table table' : TableState) (text : List ℕ) (verdict : Verdict)
     → IsUnderWay may_say told faults gate gate' first plan table
     → asked plan ≡ Some text
     → Learns may_say told gate' gate'' table table' text verdict
@@ -119,12 +119,12 @@ pub none_distinct : (records : List Record) → records ≡ [] → IsDistinct by
 unfolding IsDistinct
 none_distinct records none = rw none tt
 
-none_told : (o : Option Told) → o ≡ option_map (with_all_asked []) o
+none_told : (o : Option Log) → o ≡ option_map (with_all_asked []) o
 none_told None = refl
 none_told (Some told) = grind (arith, common_steps)
 
 -- nothing was asked yet
-pub starts : {Gate : Type 0} (may_say : List ℕ → Verdict → Type 0) (told : Gate → Option Told) (faults : Gate → ℕ) (gate : Gate) (first plan : Plan) (table : Tabled)
+pub starts : {Gate : Type 0} (may_say : List ℕ → Verdict → Type 0) (told : Gate → Option Log) (faults : Gate → ℕ) (gate : Gate) (first plan : Plan) (table : TableState)
     → first ≡ plan → table.records ≡ [] → table.claims ≡ []
     → IsUnderWay may_say told faults gate gate first plan table
 starts may_say told faults gate first plan table same empty settled = rw same (record {

@@ -1,7 +1,7 @@
 -- The command `normal`: the printed normal form of the grammar in a file.
 use Rattle.std.specs.Prelude.{◌≡◌, ◌≢◌, ◌≤◌, ◌⊎◌, ℕ, List, length, Option, None, Some, Err, ⊤, IsSomeAnd, encode_utf8_all, option_map, string_bytes}
 use Rattle.faults.specs.Count.{Rose}
-use Rattle.edge_io.specs.Files.{File, Holds, IsLonger}
+use Rattle.edge_io.specs.Files.{FileContent, Holds, IsLonger}
 use Rattle.edge_io.specs.Sink.{Put, GrewByPrefix, with_piece}
 use Rattle.grammar_tree.specs.Checked.{IsChecked}
 use Rattle.grammar_tree.specs.Faults.{IsWellFormed, start_of}
@@ -59,26 +59,26 @@ pub record IsFaultIn (bytes text : List ℕ) : Type 0 where
   pub refused : ¬ IsGrammarText bytes
 
 -- The file is within the limit of a grammar, and the fact holds of its bytes. Where the files don't tell what they hold, it holds of some bytes.
-pub record IsReadIn (told : Option File) (P : List ℕ → Type 0) : Type 0 where
+pub record IsReadIn (told : Option FileContent) (P : List ℕ → Type 0) : Type 0 where
   pub bytes : List ℕ
   pub read : Holds bytes told
   pub limit : length bytes ≤ 1048576
   pub holds : P bytes
 
 -- the printed normal form of the grammar in the file was put
-abbrev pub PutsNormal : Option File → Option Put → Option Put → Type 0
+abbrev pub PutsNormal : Option FileContent → Option Put → Option Put → Type 0
 PutsNormal told old new = (text : List ℕ) × IsReadIn told (λ bytes. IsNormalOf bytes text) × (new ≡ option_map (with_piece text) old)
 
 -- some prefix of the printed normal form was put, and nothing more
-abbrev pub CutsNormal : Option File → Option Put → Option Put → Type 0
+abbrev pub CutsNormal : Option FileContent → Option Put → Option Put → Type 0
 CutsNormal told old new = (text : List ℕ) × IsReadIn told (λ bytes. IsNormalOf bytes text) × GrewByPrefix text old new
 
 -- the line that tells why the file has no well-formed grammar was put
-abbrev pub PutsFault : Option File → Option Put → Option Put → ℕ → ℕ → Type 0
+abbrev pub PutsFault : Option FileContent → Option Put → Option Put → ℕ → ℕ → Type 0
 PutsFault told old new faults faults' = (text : List ℕ) × IsReadIn told (λ bytes. IsFaultIn bytes text) × PutsLine (fault_line text) old new faults faults'
 
 -- the file is told, within the limit of a grammar, and the fact holds of its bytes
-abbrev pub IsToldIn : Option File → (List ℕ → Type 0) → Type 0
+abbrev pub IsToldIn : Option FileContent → (List ℕ → Type 0) → Type 0
 IsToldIn told P = IsSomeAnd told (λ file. IsSomeAnd file (λ bytes. (length bytes ≤ 1048576) × P bytes))
 
 -- why a grammar wasn't checked
@@ -104,7 +104,7 @@ IsFaultRefusal bytes (TooLong file) = ⊥
 IsFaultRefusal bytes Script = ⊥
 
 -- why a file has no normal form
-abbrev pub IsNormalRefusal : Option File → Refusal → Type 0
+abbrev pub IsNormalRefusal : Option FileContent → Refusal → Type 0
 IsNormalRefusal told Memory = ⊤
 IsNormalRefusal told (Grammar line) = (text : List ℕ) × IsReadIn told (λ bytes. IsFaultIn bytes text) × (string_bytes line ≡ fault_line text)
 IsNormalRefusal told (CannotRead file) = file ≡ source.Grammar

@@ -3,11 +3,11 @@ use Rattle.std.specs.Prelude.{◌≡◌, ◌⊎◌, ℕ, List, [], ◌∷◌, �
 use Rattle.script_gate.specs.declared.gate.Verdict.{Verdict}
 use Rattle.script_gate.specs.declared.gate.GateFault.{GateFault}
 use Rattle.script_gate.specs.declared.gate.GateFault.TheVariants.{Failed, Memory}
-use Rattle.script_gate.specs.declared.told.Told.{Told}
-use Rattle.script_gate.specs.Told.{with_asked}
+use Rattle.script_gate.specs.declared.log.Log.{Log}
+use Rattle.script_gate.specs.Log.{with_asked}
 use Rattle.verdict_table.specs.declared.record.Record.{Record}
 use Rattle.verdict_table.specs.Plan.{Plan, HasEnded, after, asked}
-use Rattle.verdict_table.specs.Tabled.{Tabled, verdict_in}
+use Rattle.verdict_table.specs.TableState.{TableState, verdict_in}
 use Rattle.perses_main.specs.declared.run.RunFault.{RunFault}
 use Rattle.perses_main.specs.declared.run.RunFault.TheVariants.{Script, Memory as OutOfMemory}
 
@@ -16,23 +16,23 @@ fault_of Failed = Script
 fault_of Memory = OutOfMemory
 
 -- these asks more
-abbrev pub with_all_asked : List (List ℕ) → Told → Told
+abbrev pub with_all_asked : List (List ℕ) → Log → Log
 with_all_asked texts told = record told { asked = told.asked ++ texts }
 
 -- the text had this verdict before, and nothing was asked
-pub record Knew {Gate : Type 0} (told : Gate → Option Told) (gate gate' : Gate) (table table' : Tabled) (text : List ℕ) (verdict : Verdict) : Type 0 where
+pub record Knew {Gate : Type 0} (told : Gate → Option Log) (gate gate' : Gate) (table table' : TableState) (text : List ℕ) (verdict : Verdict) : Type 0 where
   pub same : table'.records ≡ table.records
   pub known : verdict_in table.records text ≡ Some verdict
   pub told_same : told gate' ≡ told gate
 
 -- the text had no verdict, and the gate's was recorded
-pub record Asks {Gate : Type 0} (may_say : List ℕ → Verdict → Type 0) (told : Gate → Option Told) (gate gate' : Gate) (table table' : Tabled) (text : List ℕ) (verdict : Verdict) : Type 0 where
+pub record Asks {Gate : Type 0} (may_say : List ℕ → Verdict → Type 0) (told : Gate → Option Log) (gate gate' : Gate) (table table' : TableState) (text : List ℕ) (verdict : Verdict) : Type 0 where
   pub absent : verdict_in table.records text ≡ None
   pub recorded : table'.records ≡ table.records ++ record { text = text; verdict = verdict } ∷ []
   pub said : may_say text verdict
   pub asked : told gate' ≡ option_map (with_asked text) (told gate)
 
-abbrev pub Learns : {Gate : Type 0} → (List ℕ → Verdict → Type 0) → (Gate → Option Told) → Gate → Gate → Tabled → Tabled → List ℕ → Verdict → Type 0
+abbrev pub Learns : {Gate : Type 0} → (List ℕ → Verdict → Type 0) → (Gate → Option Log) → Gate → Gate → TableState → TableState → List ℕ → Verdict → Type 0
 Learns may_say told gate gate' table table' text verdict =
     Knew told gate gate' table table' text verdict ⊎ Asks may_say told gate gate' table table' text verdict
 

@@ -3,11 +3,11 @@ use Rattle.std.specs.Prelude.{◌≡◌, ◌<◌, ◌≤◌, ◌⊎◌, ℕ, Lis
 use Rattle.std.specs.List.{concat}
 use Rattle.script_gate.specs.declared.gate.Verdict.{Verdict}
 use Rattle.script_gate.specs.declared.gate.Verdict.TheVariants.{Yes, No}
-use Rattle.script_gate.specs.declared.told.Told.{Told}
-use Rattle.script_gate.specs.declared.told.Opening.{Opening}
-use Rattle.edge_io.specs.Files.{File, Holds}
+use Rattle.script_gate.specs.declared.log.Log.{Log}
+use Rattle.script_gate.specs.declared.log.Opening.{Opening}
+use Rattle.edge_io.specs.Files.{FileContent, Holds}
 use Rattle.verdict_table.specs.declared.record.Record.{Record}
-use Rattle.verdict_table.specs.Tabled.{verdict_in}
+use Rattle.verdict_table.specs.TableState.{verdict_in}
 use Rattle.reduce_core.specs.Reduction.{Reduction, reduction, says_yes}
 use Rattle.reduce_core.specs.Minimal.{HasVerdicts, IsCandidate, IsMinimal}
 use Rattle.perses_main.specs.Words.{Names, name_of}
@@ -41,7 +41,7 @@ pub record IsReductionOf (V : List ℕ → Option Verdict) (start text : List �
   pub minimal : IsMinimal V (reduction (says_yes V) start).lines
 
 -- The input, within its limit, reduces to the result over the verdicts of the records, of which the first is the input's yes. Where the files don't tell what they hold, the start is the text of the first record.
-pub record ReducesTo (old : List ℕ → Option File) (names : Names) (records : List Record) (result : List ℕ) : Type 0 where
+pub record ReducesTo (old : List ℕ → Option FileContent) (names : Names) (records : List Record) (result : List ℕ) : Type 0 where
   pub start : List ℕ
   pub read : Holds start (old names.input)
   pub limit : length start ≤ 262144
@@ -49,11 +49,11 @@ pub record ReducesTo (old : List ℕ → Option File) (names : Names) (records :
   pub reduced : IsReductionOf (verdict_in records) start result
 
 -- the input reduces to some result
-abbrev pub IsReducible : (List ℕ → Option File) → Names → List Record → Type 0
+abbrev pub IsReducible : (List ℕ → Option FileContent) → Names → List Record → Type 0
 IsReducible old names records = (result : List ℕ) × ReducesTo old names records result
 
 -- the output file holds what the input reduces to
-pub record IsReduced (old new : List ℕ → Option File) (names : Names) (records : List Record) : Type 0 where
+pub record IsReduced (old new : List ℕ → Option FileContent) (names : Names) (records : List Record) : Type 0 where
   pub result : List ℕ
   pub reduces : ReducesTo old names records result
   pub written : Holds result (new names.output)
@@ -64,12 +64,12 @@ pub record AreOf (start : List ℕ) (records : List Record) : Type 0 where
   pub first : BeginsAt start records
 
 -- where there is a record, the texts are those of the input that was read, which is within its limit
-abbrev pub AreCandidates : (List ℕ → Option File) → Names → List Record → Type 0
+abbrev pub AreCandidates : (List ℕ → Option FileContent) → Names → List Record → Type 0
 AreCandidates old names [] = Unit {0}
 AreCandidates old names (r ∷ records) = (start : List ℕ) × Holds start (old names.input) × (length start ≤ 262144) × AreOf start (r ∷ records)
 
 -- where the gate tells its asks, they grew by these texts
-abbrev pub AsksAre : Option Told → Option Told → List (List ℕ) → Type 0
+abbrev pub AsksAre : Option Log → Option Log → List (List ℕ) → Type 0
 AsksAre None new texts = Unit {0}
 AsksAre (Some old) new texts = IfSome new (λ told. told.asked ≡ old.asked ++ texts)
 
@@ -78,16 +78,16 @@ abbrev pub opening_for : Names → ℕ → Opening
 opening_for names number = record { work = codes "perses-work"; script = names.script; name = name_of names.input; number = number }
 
 -- where there is a record, a gate that tells its opening was last opened so
-abbrev pub OpenedAs : Opening → Option Told → List Record → Type 0
+abbrev pub OpenedAs : Opening → Option Log → List Record → Type 0
 OpenedAs opening told [] = Unit {0}
 OpenedAs opening told (r ∷ records) = IfSome told (λ t. t.opening ≡ Some opening)
 
 -- the file is told, is there, and has at most so many bytes
-abbrev pub IsWithin : ℕ → Option File → Type 0
+abbrev pub IsWithin : ℕ → Option FileContent → Type 0
 IsWithin limit told = IsSomeAnd told (λ file. IsSomeAnd file (λ bytes. length bytes ≤ limit))
 
 -- the file is told, is there, and has more bytes than this
-abbrev pub IsOver : ℕ → Option File → Type 0
+abbrev pub IsOver : ℕ → Option FileContent → Type 0
 IsOver limit told = IsSomeAnd told (λ file. IsSomeAnd file (λ bytes. limit < length bytes))
 
 -- the run ended before the gate was reached: at the words, the input's reading or its limit

@@ -5,8 +5,8 @@ ghost use Rattle.std.specs.List.{IsDistinct};
 ghost use Rattle.std.specs.Str.{bytes_eq};
 ghost use Rattle.faults.specs.Count.{Rose};
 ghost use Rattle.edge_io.specs.Files.{IsLonger, SameFiles, SameOthers};
-ghost use Rattle.script_gate.specs.Told.{with_opening};
-ghost use Rattle.verdict_table.specs.Tabled.{texts_of};
+ghost use Rattle.script_gate.specs.Log.{with_opening};
+ghost use Rattle.verdict_table.specs.TableState.{texts_of};
 ghost use Rattle.perses_main.specs.Normal.{CutsNormal, IsGrammarText, IsToldIn, PutsFault, PutsNormal};
 ghost use Rattle.perses_main.specs.Status.{IsGateRefusal, IsOneOf, PutsLine, TellsStatus, line_of, line_of_status, status_of, statuses_of};
 ghost use Rattle.perses_main.specs.Top.{AreCandidates, AsksAre, FirstIsNo, IsEarly, IsOver, IsReduced, IsReducible, IsWithin, OnlyNo, OpenedAs, opening_for};
@@ -51,8 +51,8 @@ fn refused<O: Sink>(out: &mut O, refusal: Refusal, records: Records) -> Ended
 
 /// Readies the gate of the only worker.
 fn open_gate<G: Gate>(gate: &mut G, line: Line<'_>) -> Result<(), Refusal>
-    ensures opened { OnOk result (G.told gate.new ≡ option_map (with_opening (codes "perses-work") line.entry.script.now (name_of line.entry.input.now) 1) (G.told gate.old)) }
-    ensures refused { OnErr result (G.told gate.new ≡ G.told gate.old) }
+    ensures opened { OnOk result (G.log gate.new ≡ option_map (with_opening (codes "perses-work") line.entry.script.now (name_of line.entry.input.now) 1) (G.log gate.old)) }
+    ensures refused { OnErr result (G.log gate.new ≡ G.log gate.old) }
     ensures causes { IfErr result (λ refusal. IsGateRefusal refusal) }
     ensures failed { IsErrOf result Refusal.Script → Rose (G.faults gate.old) (G.faults gate.new) }
     ensures count { G.faults gate.old ≤ G.faults gate.new }
@@ -89,13 +89,13 @@ pub fn perses<F: Files, G: Gate, O: Sink>(
     ensures not_interesting { result.status ≡ 8 → OnlyNo result.records }
     ensures first_no { FirstIsNo result.records → (result.status ≡ 8) ⊎ (result.status ≡ 1) }
     ensures too_long { result.status ≡ 10 → IfReduce (command_of (map string_bytes words.now))
-        (λ names. IsLonger 262144 (F.file files.old names.input)) }
+        (λ names. IsLonger 262144 (F.content files.old names.input)) }
     ensures over { IfReduce (command_of (map string_bytes words.now)) (λ names.
-        IsOver 262144 (F.file files.old names.input)
+        IsOver 262144 (F.content files.old names.input)
         → (result.status ≡ 10) ⊎ ((result.status ≡ 3) ⊎ (result.status ≡ 1))) }
     ensures script { result.status ≡ 11 → Rose (G.faults gate.old) (G.faults gate.new) }
     ensures complete { IfReduce (command_of (map string_bytes words.now)) (λ names.
-        IsWithin 262144 (F.file files.old names.input)
+        IsWithin 262144 (F.content files.old names.input)
         → ¬ Rose (F.faults files.old) (F.faults files.new) → ¬ Rose (G.faults gate.old) (G.faults gate.new)
         → (result.status ≡ 0) ⊎ ((result.status ≡ 8) ⊎ (result.status ≡ 1))) }
 
@@ -103,24 +103,24 @@ pub fn perses<F: Files, G: Gate, O: Sink>(
     ensures distinct { IsDistinct bytes_eq (texts_of result.records) }
     ensures said { All (λ r. G.may_say r.text r.verdict) result.records }
     ensures candidates { IfReduce (command_of (map string_bytes words.now))
-        (λ names. AreCandidates (F.file files.old) names result.records) }
-    ensures asked { AsksAre (G.told gate.old) (G.told gate.new) (texts_of result.records) }
+        (λ names. AreCandidates (F.content files.old) names result.records) }
+    ensures asked { AsksAre (G.log gate.old) (G.log gate.new) (texts_of result.records) }
     ensures opened { IfReduce (command_of (map string_bytes words.now))
-        (λ names. OpenedAs (opening_for names 1) (G.told gate.new) result.records) }
+        (λ names. OpenedAs (opening_for names 1) (G.log gate.new) result.records) }
 
     // What a run that ended early leaves, and a failed write.
     ensures no_records { IsEarly result.status → result.records ≡ [] }
-    ensures unopened { IsEarly result.status → G.told gate.new ≡ G.told gate.old }
+    ensures unopened { IsEarly result.status → G.log gate.new ≡ G.log gate.old }
     ensures unasked { IsEarly result.status → G.faults gate.new ≡ G.faults gate.old }
     ensures tried { result.status ≡ 4 → IfReduce (command_of (map string_bytes words.now))
-        (λ names. IsReducible (F.file files.old) names result.records) }
+        (λ names. IsReducible (F.content files.old) names result.records) }
 
     // The files, and what is told.
     ensures done { result.status ≡ 0 → IfReduce (command_of (map string_bytes words.now))
-        (λ names. IsReduced (F.file files.old) (F.file files.new) names result.records) }
+        (λ names. IsReduced (F.content files.old) (F.content files.new) names result.records) }
     ensures others { IfReduce (command_of (map string_bytes words.now))
-        (λ names. SameOthers (F.file files.old) (F.file files.new) names.output) }
-    ensures unwritten { result.status ≢ 0 → result.status ≢ 4 → SameFiles (F.file files.old) (F.file files.new) }
+        (λ names. SameOthers (F.content files.old) (F.content files.new) names.output) }
+    ensures unwritten { result.status ≢ 0 → result.status ≢ 4 → SameFiles (F.content files.old) (F.content files.new) }
     ensures told { IfReduce (command_of (map string_bytes words.now)) (λ _. TellsStatus result.status
         (O.put_so_far out.old) (O.put_so_far out.new) (O.faults out.old) (O.faults out.new)) }
     ensures told_usage { result.status ≡ 2 → PutsLine (line_of_status Source.Input 2)
@@ -128,34 +128,34 @@ pub fn perses<F: Files, G: Gate, O: Sink>(
 
     // The command `normal`: why it ends so.
     ensures normal_too_long { IfNormal (command_of (map string_bytes words.now)) (λ grammar. result.status ≡ 10
-        → IsLonger 1048576 (F.file files.old grammar)) }
+        → IsLonger 1048576 (F.content files.old grammar)) }
     ensures normal_over { IfNormal (command_of (map string_bytes words.now)) (λ grammar.
-        IsOver 1048576 (F.file files.old grammar)
+        IsOver 1048576 (F.content files.old grammar)
         → (result.status ≡ 10) ⊎ ((result.status ≡ 3) ⊎ (result.status ≡ 1))) }
     ensures normal_faulty { IfNormal (command_of (map string_bytes words.now)) (λ grammar.
-        IsToldIn (F.file files.old grammar) (λ bytes. ¬ IsGrammarText bytes)
+        IsToldIn (F.content files.old grammar) (λ bytes. ¬ IsGrammarText bytes)
         → (result.status ≡ 5) ⊎ ((result.status ≡ 3) ⊎ (result.status ≡ 1))) }
     ensures normal_complete { IfNormal (command_of (map string_bytes words.now)) (λ grammar.
-        IsToldIn (F.file files.old grammar) (λ bytes. IsGrammarText bytes)
+        IsToldIn (F.content files.old grammar) (λ bytes. IsGrammarText bytes)
         → ¬ Rose (F.faults files.old) (F.faults files.new) → ¬ Rose (O.faults out.old) (O.faults out.new)
         → (result.status ≡ 0) ⊎ (result.status ≡ 1)) }
 
     // The command `normal`: what is put.
     ensures normal_done { IfNormal (command_of (map string_bytes words.now)) (λ grammar. result.status ≡ 0
-        → PutsNormal (F.file files.old grammar) (O.put_so_far out.old) (O.put_so_far out.new)) }
+        → PutsNormal (F.content files.old grammar) (O.put_so_far out.old) (O.put_so_far out.new)) }
     ensures normal_cut { IfNormal (command_of (map string_bytes words.now)) (λ grammar. result.status ≡ 4
-        → CutsNormal (F.file files.old grammar) (O.put_so_far out.old) (O.put_so_far out.new)) }
+        → CutsNormal (F.content files.old grammar) (O.put_so_far out.old) (O.put_so_far out.new)) }
     ensures normal_write { IfNormal (command_of (map string_bytes words.now)) (λ _. result.status ≡ 4
         → Rose (O.faults out.old) (O.faults out.new)) }
     ensures normal_fault { IfNormal (command_of (map string_bytes words.now)) (λ grammar. result.status ≡ 5
-        → PutsFault (F.file files.old grammar) (O.put_so_far out.old) (O.put_so_far out.new) (O.faults out.old) (O.faults out.new)) }
+        → PutsFault (F.content files.old grammar) (O.put_so_far out.old) (O.put_so_far out.new) (O.faults out.old) (O.faults out.new)) }
     ensures normal_told { IfNormal (command_of (map string_bytes words.now)) (λ _. IsOneOf (1 ∷ 3 ∷ 10 ∷ []) result.status
         → PutsLine (line_of_status Source.Grammar result.status)
         (O.put_so_far out.old) (O.put_so_far out.new) (O.faults out.old) (O.faults out.new)) }
 
     // The command `normal`: what it leaves alone.
-    ensures normal_files { IfNormal (command_of (map string_bytes words.now)) (λ _. SameFiles (F.file files.old) (F.file files.new)) }
-    ensures normal_gate { IfNormal (command_of (map string_bytes words.now)) (λ _. G.told gate.new ≡ G.told gate.old) }
+    ensures normal_files { IfNormal (command_of (map string_bytes words.now)) (λ _. SameFiles (F.content files.old) (F.content files.new)) }
+    ensures normal_gate { IfNormal (command_of (map string_bytes words.now)) (λ _. G.log gate.new ≡ G.log gate.old) }
     ensures normal_unasked { IfNormal (command_of (map string_bytes words.now)) (λ _. G.faults gate.new ≡ G.faults gate.old) }
     ensures normal_records { IfNormal (command_of (map string_bytes words.now)) (λ _. result.records ≡ []) }
 {

@@ -66,11 +66,11 @@ fn form_of(alloc: Global, text: &[u8]) -> Result<Vec<u8>, Refusal>
 
 /// The printed normal form of the grammar in a file.
 fn form_in<F: Files>(alloc: Global, grammar: &str, files: &mut F) -> Result<Vec<u8>, Refusal>
-    ensures form { IfOk result (λ form. IsReadIn (F.file files.old grammar.now) (λ bytes. IsNormalOf bytes form.items)) }
-    ensures refused { IfErr result (λ refusal. IsNormalRefusal (F.file files.old grammar.now) refusal) }
+    ensures form { IfOk result (λ form. IsReadIn (F.content files.old grammar.now) (λ bytes. IsNormalOf bytes form.items)) }
+    ensures refused { IfErr result (λ refusal. IsNormalRefusal (F.content files.old grammar.now) refusal) }
     ensures failed { IsErrOf result (Refusal.CannotRead Source.Grammar) → Rose (F.faults files.old) (F.faults files.new) }
     ensures count { F.faults files.old ≤ F.faults files.new }
-    ensures same { SameFiles (F.file files.old) (F.file files.new) }
+    ensures same { SameFiles (F.content files.old) (F.content files.new) }
 {
     let text = read_file(files, grammar, GRAMMAR_LIMIT, Source::Grammar)?;
     form_of(alloc, &text)
@@ -83,25 +83,25 @@ pub fn normal<F: Files, O: Sink>(alloc: Global, grammar: &str, files: &mut F, ou
     // Why it ends so.
     ensures known { IsOneOf (0 ∷ 1 ∷ 3 ∷ 4 ∷ 5 ∷ 10 ∷ []) result }
     ensures read { result ≡ 3 → Rose (F.faults files.old) (F.faults files.new) }
-    ensures too_long { result ≡ 10 → IsLonger 1048576 (F.file files.old grammar.now) }
-    ensures over { IsOver 1048576 (F.file files.old grammar.now) → (result ≡ 10) ⊎ ((result ≡ 3) ⊎ (result ≡ 1)) }
-    ensures faulty { IsToldIn (F.file files.old grammar.now) (λ bytes. ¬ IsGrammarText bytes)
+    ensures too_long { result ≡ 10 → IsLonger 1048576 (F.content files.old grammar.now) }
+    ensures over { IsOver 1048576 (F.content files.old grammar.now) → (result ≡ 10) ⊎ ((result ≡ 3) ⊎ (result ≡ 1)) }
+    ensures faulty { IsToldIn (F.content files.old grammar.now) (λ bytes. ¬ IsGrammarText bytes)
         → (result ≡ 5) ⊎ ((result ≡ 3) ⊎ (result ≡ 1)) }
-    ensures complete { IsToldIn (F.file files.old grammar.now) (λ bytes. IsGrammarText bytes)
+    ensures complete { IsToldIn (F.content files.old grammar.now) (λ bytes. IsGrammarText bytes)
         → ¬ Rose (F.faults files.old) (F.faults files.new) → ¬ Rose (O.faults out.old) (O.faults out.new)
         → (result ≡ 0) ⊎ (result ≡ 1) }
 
     // What is put.
-    ensures done { result ≡ 0 → PutsNormal (F.file files.old grammar.now) (O.put_so_far out.old) (O.put_so_far out.new) }
-    ensures cut { result ≡ 4 → CutsNormal (F.file files.old grammar.now) (O.put_so_far out.old) (O.put_so_far out.new) }
+    ensures done { result ≡ 0 → PutsNormal (F.content files.old grammar.now) (O.put_so_far out.old) (O.put_so_far out.new) }
+    ensures cut { result ≡ 4 → CutsNormal (F.content files.old grammar.now) (O.put_so_far out.old) (O.put_so_far out.new) }
     ensures write { result ≡ 4 → Rose (O.faults out.old) (O.faults out.new) }
-    ensures fault { result ≡ 5 → PutsFault (F.file files.old grammar.now)
+    ensures fault { result ≡ 5 → PutsFault (F.content files.old grammar.now)
         (O.put_so_far out.old) (O.put_so_far out.new) (O.faults out.old) (O.faults out.new) }
     ensures told { IsOneOf (1 ∷ 3 ∷ 10 ∷ []) result → PutsLine (line_of_status Source.Grammar result)
         (O.put_so_far out.old) (O.put_so_far out.new) (O.faults out.old) (O.faults out.new) }
 
     // The files.
-    ensures same { SameFiles (F.file files.old) (F.file files.new) }
+    ensures same { SameFiles (F.content files.old) (F.content files.new) }
 {
     match form_in(alloc, grammar, files) {
         Ok(form) if out.put(&form).is_ok() => 0,

@@ -82,7 +82,7 @@ fn run_case<R: Abort + AllocGlobal>(rt: &R, case: &Case<'_>) -> Result<(), Fail>
     assert_eq!(rt; files.content("g"), case.grammar, "{shows}");
     assert_eq!(rt; out.bytes(), case.told.as_bytes(), "{shows}");
     let untouched = gate
-        .told()
+        .log()
         .is_some_and(|told| told.opening.is_none() && told.asked.is_empty());
     assert!(rt; untouched, "{shows}");
     Ok(())

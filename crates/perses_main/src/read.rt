@@ -15,13 +15,13 @@ pub fn read_file<F: Files>(
     limit: u64,
     file: Source,
 ) -> Result<Vec<u8>, Refusal>
-    ensures bytes { IfOk result (λ bytes. Holds bytes.items (F.file files.old name.now)) }
+    ensures bytes { IfOk result (λ bytes. Holds bytes.items (F.content files.old name.now)) }
     ensures limit { IfOk result (λ bytes. vec_len bytes ≤ limit) }
     ensures causes { IfErr result (λ refusal. IsReadRefusal file refusal) }
     ensures failed { IsErrOf result (Refusal.CannotRead file) → Rose (F.faults files.old) (F.faults files.new) }
-    ensures too_long { IsErrOf result (Refusal.TooLong file) → IsLonger limit (F.file files.old name.now) }
+    ensures too_long { IsErrOf result (Refusal.TooLong file) → IsLonger limit (F.content files.old name.now) }
     ensures count { F.faults files.old ≤ F.faults files.new }
-    ensures same { SameFiles (F.file files.old) (F.file files.new) }
+    ensures same { SameFiles (F.content files.old) (F.content files.new) }
 {
     match files.read(name, limit) {
         Ok(bytes) => Ok(bytes),

@@ -6,7 +6,7 @@ ghost use Rattle.std.specs.Str.{bytes_eq};
 ghost use Rattle.faults.specs.Count.{Rose};
 ghost use Rattle.script_gate.specs.declared.gate.Verdict.TheVariants.{Yes};
 ghost use Rattle.verdict_table.specs.Plan.{End, HasEnded};
-ghost use Rattle.verdict_table.specs.Tabled.{texts_of, verdict_in};
+ghost use Rattle.verdict_table.specs.TableState.{texts_of, verdict_in};
 ghost use Rattle.reduce_core.specs.LineMachine.{gives, plan_of};
 ghost use Rattle.perses_main.specs.Run.{with_all_asked};
 ghost use Rattle.perses_main.specs.Status.{IsRunRefusal};
@@ -37,7 +37,7 @@ pub fn reduce<G: Gate>(alloc: Global, start: Vec<u8>, gate: &mut G) -> Reduced
     ensures distinct { IsDistinct bytes_eq (texts_of result.records) }
     ensures said { All (λ r. G.may_say r.text r.verdict) result.records }
     ensures candidates { AreOf start.items result.records }
-    ensures asked { G.told gate.new ≡ option_map (with_all_asked (texts_of result.records)) (G.told gate.old) }
+    ensures asked { G.log gate.new ≡ option_map (with_all_asked (texts_of result.records)) (G.log gate.old) }
 
     // The result.
     ensures first { OnOk result.outcome (FirstIs start.items Yes result.records) }

@@ -5,7 +5,7 @@ ghost use Rattle.std.specs.Str.{bytes_eq};
 ghost use Rattle.std.specs.List.{IsDistinct};
 ghost use Rattle.faults.specs.Count.{Rose};
 ghost use Rattle.verdict_table.specs.Plan.{HasEnded, MayAsk, asked, follow};
-ghost use Rattle.verdict_table.specs.Tabled.{texts_of, verdict_in};
+ghost use Rattle.verdict_table.specs.TableState.{texts_of, verdict_in};
 ghost use Rattle.perses_main.specs.Run.{BeginsWith, EndsAtFirst, Learns, with_all_asked};
 
 use faults::Memory;
@@ -51,11 +51,11 @@ impl From<GateFault> for RunFault {
 /// asked only for a text that has no record.
 fn learn<G: Gate>(gate: &mut G, table: &mut Table, text: &[u8]) -> Result<Verdict, RunFault>
     requires settled { table.old.claims ≡ [] }
-    ensures learns { IfOk result (λ verdict. Learns G.may_say G.told gate.old gate.new table.old table.new text.now verdict) }
+    ensures learns { IfOk result (λ verdict. Learns G.may_say G.log gate.old gate.new table.old table.new text.now verdict) }
     ensures settled { OnOk result (table.new.claims ≡ []) }
     ensures records { OnErr result (table.new.records ≡ table.old.records) }
     ensures absent { OnErr result (verdict_in table.old.records text.now ≡ None) }
-    ensures told { OnErr result (G.told gate.new ≡ G.told gate.old) }
+    ensures told { OnErr result (G.log gate.new ≡ G.log gate.old) }
     ensures count { G.faults gate.old ≤ G.faults gate.new }
     ensures failed { IsErrOf result RunFault.Script → Rose (G.faults gate.old) (G.faults gate.new) }
 {
@@ -82,7 +82,7 @@ pub fn run<S: Step, G: Gate>(step: &mut S, gate: &mut G, table: &mut Table) -> R
     ensures distinct { IsDistinct bytes_eq (texts_of table.new.records) }
     ensures said { All (λ r. G.may_say r.text r.verdict) table.new.records }
     ensures may_ask { All (λ r. MayAsk (S.first step.old) r.text) table.new.records }
-    ensures asked { G.told gate.new ≡ option_map (with_all_asked (texts_of table.new.records)) (G.told gate.old) }
+    ensures asked { G.log gate.new ≡ option_map (with_all_asked (texts_of table.new.records)) (G.log gate.old) }
     ensures begun { BeginsWith (S.first step.old) table.new.records }
     ensures one { EndsAtFirst (S.first step.old) table.new.records }
 

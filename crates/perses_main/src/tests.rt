@@ -2,7 +2,7 @@
 
 use crate::call::perses;
 use edge_io::{DiskFiles, MemFiles, MemSink, Sink, StreamSink};
-use script_gate::{Gate, ListGate, ProcessGate, RuleGate, Said, Told, Verdict};
+use script_gate::{Gate, ListGate, Log, ProcessGate, RuleGate, Said, Verdict};
 use std::alloc::Global;
 use std::fs::Permissions;
 use std::os::unix::fs::PermissionsExt;
@@ -96,7 +96,7 @@ fn run_case<R: Abort + AllocGlobal, G: Gate>(
 }
 
 /// The opening that was told, and whether the asks that were told are the texts of the records.
-fn tells(told: Option<&Told>, name: &str, records: &[(&str, Verdict)]) -> bool {
+fn tells(told: Option<&Log>, name: &str, records: &[(&str, Verdict)]) -> bool {
     let Some(told) = told else {
         return false;
     };
@@ -131,7 +131,7 @@ fn keeps_the_line_that_the_rule_needs(rt: HostRuntime) -> Result<(), Fail> {
     };
     let mut gate = RuleGate::<98>::new(rt.alloc(), true);
     run_case(&rt, &case, &mut gate)?;
-    assert!(rt; tells(gate.told(), "i", case.records));
+    assert!(rt; tells(gate.log(), "i", case.records));
     Ok(())
 }
 
@@ -157,7 +157,7 @@ fn removes_all_where_all_is_interesting(rt: HostRuntime) -> Result<(), Fail> {
     for case in &[empty, without_newline, unwritten] {
         let mut gate = RuleGate::<0>::new(rt.alloc(), true);
         run_case(&rt, case, &mut gate)?;
-        assert!(rt; tells(gate.told(), "i", case.records), "{}", case.shows);
+        assert!(rt; tells(gate.log(), "i", case.records), "{}", case.shows);
     }
     Ok(())
 }
@@ -173,7 +173,7 @@ fn refuses_what_the_gate_refuses(rt: HostRuntime) -> Result<(), Fail> {
     };
     let mut rule = RuleGate::<255>::new(alloc, true);
     run_case(&rt, &uninteresting, &mut rule)?;
-    assert!(rt; tells(rule.told(), "i", uninteresting.records));
+    assert!(rt; tells(rule.log(), "i", uninteresting.records));
 
     let failing = Case {
         status: 11,
@@ -184,7 +184,7 @@ fn refuses_what_the_gate_refuses(rt: HostRuntime) -> Result<(), Fail> {
     let answers = vec![in alloc; Said::Yes, Said::Fail]?;
     let mut list = ListGate::new(alloc, answers, Said::Yes);
     run_case(&rt, &failing, &mut list)?;
-    assert!(rt; tells(Some(list.told()), "i", failing.records));
+    assert!(rt; tells(Some(list.log()), "i", failing.records));
     Ok(())
 }
 
@@ -205,7 +205,7 @@ fn opens_no_gate_without_an_input(rt: HostRuntime) -> Result<(), Fail> {
     for case in &[too_long, missing] {
         let mut gate = RuleGate::<0>::new(alloc, true);
         run_case(&rt, case, &mut gate)?;
-        let opening = gate.told().and_then(|told| told.opening.as_ref());
+        let opening = gate.log().and_then(|told| told.opening.as_ref());
         assert!(rt; opening.is_none(), "{}", case.shows);
     }
     Ok(())
@@ -225,7 +225,7 @@ fn opens_the_gate_with_the_name_behind_the_last_slash(rt: HostRuntime) -> Result
     let mut out = MemSink::new(alloc, ROOM, Vec::new(alloc))?;
     let ended = perses(alloc, &words, &mut files, &mut gate, &mut out);
     assert_eq!(rt; ended.status, 0);
-    assert!(rt; tells(gate.told(), "i", &[("", Verdict::Yes)]));
+    assert!(rt; tells(gate.log(), "i", &[("", Verdict::Yes)]));
     Ok(())
 }
 

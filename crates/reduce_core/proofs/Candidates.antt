@@ -10,7 +10,7 @@ use Rattle.list_ddmin.specs.ListStep.{kept_of}
 use Rattle.list_ddmin.specs.Machine.{State}
 use Rattle.reduce_core.specs.Lines.{lines_of}
 use Rattle.reduce_core.specs.Reduction.{is_yes}
-use Rattle.reduce_core.specs.LineMachine.{LineState, Whole, Round, Ended, asks, after, begun, past_round, within_round, counted, reduced, IsSound, left, plan_of}
+use Rattle.reduce_core.specs.LineMachine.{LineState, Whole, Round, Ended, asks, after, new_round, past_round, within_round, capped_count, step_result, IsSound, left, plan_of}
 use Rattle.reduce_core.specs.Minimal.{IsSubsequence, nothing, keeps, leaves, IsCandidate}
 use Rattle.reduce_core.proofs.LinesLemmas.{concat-lines_of}
 use Rattle.reduce_core.proofs.LineMachineLemmas.{IsSound-after, left-after, plan-step, plan-end, text_asked}
@@ -40,17 +40,17 @@ module _ (start : List ℕ) where
   IsOver (Round lines step used rounds) = IsSubsequence lines (lines_of start)
   IsOver (Ended result) = Unit {0}
 
-  over-begun : (lines : List (List ℕ)) (used rounds : ℕ) → IsSubsequence lines (lines_of start) → IsOver (begun lines used rounds)
+  over-new_round : (lines : List (List ℕ)) (used rounds : ℕ) → IsSubsequence lines (lines_of start) → IsOver (new_round lines used rounds)
   unfolding IsOver
-  over-begun lines used rounds some =
-      cond_both (length lines == 0) (Ended (reduced lines used (counted (rounds + 1)) false)) (Round lines (list.start (length lines) true) used rounds) IsOver
+  over-new_round lines used rounds some =
+      cond_both (length lines == 0) (Ended (step_result lines used (capped_count (rounds + 1)) false)) (Round lines (list.start (length lines) true) used rounds) IsOver
       (λ _. tt) (λ _. some)
 
   over-past : (lines rest : List (List ℕ)) (used rounds : ℕ) → IsSubsequence rest (lines_of start) → IsOver (past_round lines rest used rounds)
   unfolding IsOver
   over-past lines rest used rounds some =
-      cond_both (length rest == length lines) (Ended (reduced lines used (counted (rounds + 1)) false)) (begun rest used (counted (rounds + 1))) IsOver
-      (λ _. tt) (λ _. over-begun rest used (counted (rounds + 1)) some)
+      cond_both (length rest == length lines) (Ended (step_result lines used (capped_count (rounds + 1)) false)) (new_round rest used (capped_count (rounds + 1))) IsOver
+      (λ _. tt) (λ _. over-new_round rest used (capped_count (rounds + 1)) some)
 
   over-within : (o : Option (List Bool)) (lines : List (List ℕ)) (step : State) (used rounds : ℕ) → IsSubsequence lines (lines_of start) → IsOver (within_round o lines step used rounds)
   unfolding IsOver
@@ -60,10 +60,10 @@ module _ (start : List ℕ) where
 
   over-after : (state : LineState) (verdict : Verdict) → IsOver state → IsOver (after state verdict)
   unfolding IsOver
-  over-after (Whole text) Yes over = rw over (over-begun (lines_of start) 1 0 (all-subsequence (lines_of start)))
+  over-after (Whole text) Yes over = rw over (over-new_round (lines_of start) 1 0 (all-subsequence (lines_of start)))
   over-after (Whole text) No over = tt
   over-after (Round lines step used rounds) verdict over =
-      over-within (list.asks (list.after step (is_yes (Some verdict)))) lines (list.after step (is_yes (Some verdict))) (counted (used + 1)) rounds over
+      over-within (list.asks (list.after step (is_yes (Some verdict)))) lines (list.after step (is_yes (Some verdict))) (capped_count (used + 1)) rounds over
   over-after (Ended result) verdict over = tt
 
   asked-candidate : (state : LineState) (text : List ℕ) → IsOver state → asks state ≡ Some text → IsCandidate start text

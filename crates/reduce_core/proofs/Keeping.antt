@@ -1,9 +1,9 @@
--- What is kept from one place on.
+-- What is kept from one index on.
 use Rattle.std.proofs.Common.{◌≡◌, ◌+◌, ◌<◌, ◌++◌, ◌∙◌, sym, append_assoc, ℕ, suc, zero, Bool, true, false, List, [], ◌∷◌, refl, ap, drop, get_or, length, arith}
 use Rattle.std.specs.List.{concat}
 use Rattle.list_ddmin.specs.ListStep.{kept_of}
 
--- a kept element stands first, and what is kept after it follows
+-- a kept element comes first, and what is kept after it follows
 pub kept_of-kept : {X : Type 0} (keep : List Bool) (xs : List X) (k : ℕ) (d : Bool) (x : X) → k < length keep → length keep ≡ length xs → get_or keep k d ≡ true
     → kept_of (drop k keep) (drop k xs) ≡ get_or xs k x ∷ kept_of (drop (k + 1) keep) (drop (k + 1) xs)
 kept_of-kept [] xs k d x within same is = absurd (omega arith)
@@ -14,23 +14,23 @@ kept_of-kept (flag ∷ keep) (y ∷ xs) (suc k) d x within same is =
     rw next (kept_of-kept keep xs k d x (omega arith) (omega arith) is)
 
 -- an element that is not kept is left out
-pub kept_of-left : {X : Type 0} (keep : List Bool) (xs : List X) (k : ℕ) (d : Bool) → k < length keep → length keep ≡ length xs → get_or keep k d ≡ false
+pub kept_of-dropped : {X : Type 0} (keep : List Bool) (xs : List X) (k : ℕ) (d : Bool) → k < length keep → length keep ≡ length xs → get_or keep k d ≡ false
     → kept_of (drop k keep) (drop k xs) ≡ kept_of (drop (k + 1) keep) (drop (k + 1) xs)
-kept_of-left [] xs k d within same is = absurd (omega arith)
-kept_of-left (flag ∷ keep) [] k d within same is = absurd (omega arith)
-kept_of-left (flag ∷ keep) (y ∷ xs) zero d within same is = rw is refl
-kept_of-left (flag ∷ keep) (y ∷ xs) (suc k) d within same is =
+kept_of-dropped [] xs k d within same is = absurd (omega arith)
+kept_of-dropped (flag ∷ keep) [] k d within same is = absurd (omega arith)
+kept_of-dropped (flag ∷ keep) (y ∷ xs) zero d within same is = rw is refl
+kept_of-dropped (flag ∷ keep) (y ∷ xs) (suc k) d within same is =
     let next : suc k + 1 ≡ suc (k + 1) = omega arith in
-    rw next (kept_of-left keep xs k d (omega arith) (omega arith) is)
+    rw next (kept_of-dropped keep xs k d (omega arith) (omega arith) is)
 
 -- one element more on the left, one fewer on the right
 pub pushed-kept : {X : Type 0} (front front' : List X) (keep : List Bool) (xs whole : List X) (k : ℕ) (d : Bool) (x : X) → k < length keep → length keep ≡ length xs
     → get_or keep k d ≡ true → x ≡ get_or xs k x → front' ≡ front ++ x ∷ [] → front ++ kept_of (drop k keep) (drop k xs) ≡ whole
     → front' ++ kept_of (drop (k + 1) keep) (drop (k + 1) xs) ≡ whole
-pushed-kept front front' keep xs whole k d x within same is here pushed before =
+pushed-kept front front' keep xs whole k d x within same is element pushed before =
     ap (λ f. f ++ kept_of (drop (k + 1) keep) (drop (k + 1) xs)) pushed
     ∙ append_assoc front (x ∷ []) (kept_of (drop (k + 1) keep) (drop (k + 1) xs))
-    ∙ ap (λ y. front ++ y ∷ kept_of (drop (k + 1) keep) (drop (k + 1) xs)) here
+    ∙ ap (λ y. front ++ y ∷ kept_of (drop (k + 1) keep) (drop (k + 1) xs)) element
     ∙ ap (λ l. front ++ l) (sym (kept_of-kept keep xs k d x within same is))
     ∙ before
 
@@ -38,9 +38,9 @@ pushed-kept front front' keep xs whole k d x within same is here pushed before =
 pub joined-kept : (front front' : List ℕ) (keep : List Bool) (lines : List (List ℕ)) (whole : List ℕ) (k : ℕ) (d : Bool) (line : List ℕ) → k < length keep → length keep ≡ length lines
     → get_or keep k d ≡ true → line ≡ get_or lines k line → front' ≡ front ++ line → front ++ concat (kept_of (drop k keep) (drop k lines)) ≡ whole
     → front' ++ concat (kept_of (drop (k + 1) keep) (drop (k + 1) lines)) ≡ whole
-joined-kept front front' keep lines whole k d line within same is here joined before =
+joined-kept front front' keep lines whole k d line within same is element joined before =
     ap (λ f. f ++ concat (kept_of (drop (k + 1) keep) (drop (k + 1) lines))) joined
     ∙ append_assoc front line (concat (kept_of (drop (k + 1) keep) (drop (k + 1) lines)))
-    ∙ ap (λ y. front ++ (y ++ concat (kept_of (drop (k + 1) keep) (drop (k + 1) lines)))) here
+    ∙ ap (λ y. front ++ (y ++ concat (kept_of (drop (k + 1) keep) (drop (k + 1) lines)))) element
     ∙ ap (λ l. front ++ concat l) (sym (kept_of-kept keep lines k d line within same is))
     ∙ before

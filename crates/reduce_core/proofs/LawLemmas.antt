@@ -5,7 +5,7 @@ use Rattle.std.specs.Prelude.{◌==◌}
 use Rattle.list_ddmin.specs.ListStep.{kept_of}
 use Rattle.verdict_table.specs.Plan.{End, asked}
 use Rattle.reduce_core.specs.Laws.{result_of, FollowsReduction, RefusesAtNo, EndsMinimal, AsksCandidates}
-use Rattle.reduce_core.specs.LineMachine.{Whole, counted, left, reduced}
+use Rattle.reduce_core.specs.LineMachine.{Whole, capped_count, left, step_result}
 use Rattle.reduce_core.specs.Lines.{lines_of}
 use Rattle.reduce_core.specs.Reduction.{Reduction, asks_first, ends_with, is_yes, reduction, round_of, rounds_of, rounds_within, says_yes}
 use Rattle.reduce_core.specs.Minimal.{HasVerdicts}
@@ -13,11 +13,11 @@ use Rattle.reduce_core.proofs.Candidates.{whole-candidates}
 use Rattle.reduce_core.proofs.Ends.{reduction-ends}
 use Rattle.reduce_core.proofs.Following.{Follows, follows}
 
-same_result : (r : Reduction) → reduced r.lines (counted (0 + length r.questions)) (counted (0 + r.rounds)) r.refused ≡ result_of r
+same_result : (r : Reduction) → step_result r.lines (capped_count (0 + length r.questions)) (capped_count (0 + r.rounds)) r.refused ≡ result_of r
 same_result r =
-    let used : counted (0 + length r.questions) ≡ counted (length r.questions) = omega arith in
-    let rounds : counted (0 + r.rounds) ≡ counted r.rounds = omega arith in
-    λ i. reduced r.lines (used i) (rounds i) r.refused
+    let used : capped_count (0 + length r.questions) ≡ capped_count (length r.questions) = omega arith in
+    let rounds : capped_count (0 + r.rounds) ≡ capped_count r.rounds = omega arith in
+    λ i. step_result r.lines (used i) (rounds i) r.refused
 
 pub follows_reduction : FollowsReduction
 follows_reduction V start =
@@ -32,9 +32,9 @@ accepted-rounds : (test : List ℕ → Bool) (n : ℕ) (lines : List (List ℕ))
 unfolding rounds_within
 accepted-rounds test zero lines = refl
 accepted-rounds test (suc n) lines =
-    let left : List (List ℕ) = kept_of (round_of test lines).result lines in
-    cond_both (length left == length lines) (ends_with lines false) (rounds_within n test left) (λ r. r.refused ≡ false)
-    (λ same. refl) (λ differs. accepted-rounds test n left)
+    let remaining : List (List ℕ) = kept_of (round_of test lines).result lines in
+    cond_both (length remaining == length lines) (ends_with lines false) (rounds_within n test remaining) (λ r. r.refused ≡ false)
+    (λ same. refl) (λ differs. accepted-rounds test n remaining)
 
 at_yes : (test : List ℕ → Bool) (start : List ℕ) → test start ≡ true → (reduction test start).refused ≡ false
 unfolding reduction rounds_of

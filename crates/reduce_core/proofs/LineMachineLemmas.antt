@@ -16,10 +16,10 @@ use Rattle.list_ddmin.proofs.Follows as list_follows
 use Rattle.list_ddmin.proofs.Lengths.{keeps_length, starts_with_all}
 use Rattle.reduce_core.specs.Lines.{lines_of}
 use Rattle.reduce_core.specs.Reduction.{Reduction, ends_with, asks_first, after_round, candidate, next_round, rounds_of, reduction, is_yes}
-use Rattle.reduce_core.specs.LineMachine.{LineState, Whole, Round, Ended, asks, after, begun, past_round, within_round, gives, reduced, counted, IsSound, left, left_of_rounds, plan_of, Rest, counted_from}
+use Rattle.reduce_core.specs.LineMachine.{LineState, Whole, Round, Ended, asks, after, new_round, past_round, within_round, gives, step_result, capped_count, IsSound, left, left_of_rounds, plan_of, Rest, rest_from}
 use Rattle.reduce_core.proofs.Rounds.{rounds_of-step, length-kept_of}
 
--- a question of a list step that stands for a text of lines
+-- a question of a list step, as a text of lines
 pub text_asked : (lines : List (List ℕ)) (o : Option (List Bool)) (text : List ℕ) → option_map (candidate lines) o ≡ Some text → (keep : List Bool) × (o ≡ Some keep) × (candidate lines keep ≡ text)
 text_asked lines None text is = absurd (cc is)
 text_asked lines (Some keep) text is = (keep, refl, cc is)
@@ -37,9 +37,9 @@ nonzero : (n : ℕ) → (n == 0) ≡ false → (m : ℕ) × (n ≡ suc m)
 nonzero zero is = absurd (false≢true (sym is))
 nonzero (suc n) is = (n, refl)
 
-IsSound-begun : (lines : List (List ℕ)) (used rounds : ℕ) → IsSound (begun lines used rounds)
-IsSound-begun lines used rounds =
-    cond_both (length lines == 0) (Ended (reduced lines used (counted (rounds + 1)) false)) (Round lines (list.start (length lines) true) used rounds) IsSound
+IsSound-new_round : (lines : List (List ℕ)) (used rounds : ℕ) → IsSound (new_round lines used rounds)
+IsSound-new_round lines used rounds =
+    cond_both (length lines == 0) (Ended (step_result lines used (capped_count (rounds + 1)) false)) (Round lines (list.start (length lines) true) used rounds) IsSound
     (λ none. tt)
     (λ some.
     let more = nonzero (length lines) some in
@@ -51,8 +51,8 @@ IsSound-begun lines used rounds =
 
 IsSound-past : (lines left : List (List ℕ)) (used rounds : ℕ) → IsSound (past_round lines left used rounds)
 IsSound-past lines left used rounds =
-    cond_both (length left == length lines) (Ended (reduced lines used (counted (rounds + 1)) false)) (begun left used (counted (rounds + 1))) IsSound
-    (λ _. tt) (λ _. IsSound-begun left used (counted (rounds + 1)))
+    cond_both (length left == length lines) (Ended (step_result lines used (capped_count (rounds + 1)) false)) (new_round left used (capped_count (rounds + 1))) IsSound
+    (λ _. tt) (λ _. IsSound-new_round left used (capped_count (rounds + 1)))
 
 IsSound-within : (o : Option (List Bool)) (lines : List (List ℕ)) (step : State) (used rounds : ℕ) → o ≡ list.asks step → list.IsSound step → length (list.kept step) ≡ length lines
     → IsSound (within_round o lines step used rounds)
@@ -60,12 +60,12 @@ IsSound-within None lines step used rounds is sound same = IsSound-past lines (k
 IsSound-within (Some keep) lines step used rounds is sound same = record { sound = sound; open_ = IsSome-of (list.asks step) keep (sym is); same = same }
 
 pub IsSound-after : (state : LineState) (text : List ℕ) (verdict : Verdict) → IsSound state → asks state ≡ Some text → IsSound (after state verdict)
-IsSound-after (Whole start) text Yes sound is = IsSound-begun (lines_of start) 1 0
+IsSound-after (Whole start) text Yes sound is = IsSound-new_round (lines_of start) 1 0
 IsSound-after (Whole start) text No sound is = tt
 IsSound-after (Round lines step used rounds) text verdict sound is =
     let question = text_asked lines (list.asks step) text is in
     let next = (list_left.goes_on (λ keep. true) step question.0 sound.sound question.1).1 (is_yes (Some verdict)) in
-    IsSound-within (list.asks (list.after step (is_yes (Some verdict)))) lines (list.after step (is_yes (Some verdict))) (counted (used + 1)) rounds refl next.0
+    IsSound-within (list.asks (list.after step (is_yes (Some verdict)))) lines (list.after step (is_yes (Some verdict))) (capped_count (used + 1)) rounds refl next.0
     (keeps_length step (is_yes (Some verdict)) ∙ sound.same)
 IsSound-after (Ended result) text verdict sound is = absurd (cc is)
 
@@ -79,19 +79,19 @@ left-first : (n : ℕ) → 0 < n → list.left (list.start n true) + left_of_rou
 left-first zero some = absurd (omega arith)
 left-first (suc n) some = let before : suc n - 1 ≡ n = omega arith in rw before (omega arith)
 
-left-begun : (lines : List (List ℕ)) (used rounds : ℕ) → left (begun lines used rounds) ≤ left_of_rounds (length lines)
-left-begun lines used rounds =
-    cond_both (length lines == 0) (Ended (reduced lines used (counted (rounds + 1)) false)) (Round lines (list.start (length lines) true) used rounds) (λ s. left s ≤ left_of_rounds (length lines))
+left-new_round : (lines : List (List ℕ)) (used rounds : ℕ) → left (new_round lines used rounds) ≤ left_of_rounds (length lines)
+left-new_round lines used rounds =
+    cond_both (length lines == 0) (Ended (step_result lines used (capped_count (rounds + 1)) false)) (Round lines (list.start (length lines) true) used rounds) (λ s. left s ≤ left_of_rounds (length lines))
     (λ none. omega arith)
     (λ some. let other : length lines ≢ 0 = eqb-false (length lines) 0 some in left-first (length lines) (omega arith))
 
 left-past : (lines rest : List (List ℕ)) (used rounds : ℕ) → length rest ≤ length lines → left (past_round lines rest used rounds) ≤ left_of_rounds (length lines - 1)
 left-past lines rest used rounds fewer =
-    cond_both (length rest == length lines) (Ended (reduced lines used (counted (rounds + 1)) false)) (begun rest used (counted (rounds + 1))) (λ s. left s ≤ left_of_rounds (length lines - 1))
+    cond_both (length rest == length lines) (Ended (step_result lines used (capped_count (rounds + 1)) false)) (new_round rest used (capped_count (rounds + 1))) (λ s. left s ≤ left_of_rounds (length lines - 1))
     (λ _. omega arith)
     (λ differs.
     let other : length rest ≢ length lines = eqb-false (length rest) (length lines) differs in
-    let first = left-begun rest used (counted (rounds + 1)) in
+    let first = left-new_round rest used (capped_count (rounds + 1)) in
     let later = left_of_rounds-≤ (length rest) (length lines - 1) (omega arith) in
     omega arith)
 
@@ -101,12 +101,12 @@ left-within None lines step used rounds =
 left-within (Some keep) lines step used rounds = omega arith
 
 pub left-after : (state : LineState) (text : List ℕ) (verdict : Verdict) → IsSound state → asks state ≡ Some text → left (after state verdict) < left state
-left-after (Whole start) text Yes sound is = let first = left-begun (lines_of start) 1 0 in omega arith
+left-after (Whole start) text Yes sound is = let first = left-new_round (lines_of start) 1 0 in omega arith
 left-after (Whole start) text No sound is = omega arith
 left-after (Round lines step used rounds) text verdict sound is =
     let question = text_asked lines (list.asks step) text is in
     let next = (list_left.goes_on (λ keep. true) step question.0 sound.sound question.1).1 (is_yes (Some verdict)) in
-    let within = left-within (list.asks (list.after step (is_yes (Some verdict)))) lines (list.after step (is_yes (Some verdict))) (counted (used + 1)) rounds in
+    let within = left-within (list.asks (list.after step (is_yes (Some verdict)))) lines (list.after step (is_yes (Some verdict))) (capped_count (used + 1)) rounds in
     omega (arith, next.1)
 left-after (Ended result) text verdict sound is = absurd (cc is)
 
@@ -124,7 +124,7 @@ pub after-plan : (state : LineState) (text : List ℕ) (verdict : Verdict) → I
 after-plan state text verdict sound is = grown.after-plan asks after gives IsSound left IsSound-after left-after state text verdict sound is
 
 abbrev the_rest : List (List ℕ) → List (List ℕ) → ℕ → ℕ → Bool → Rest
-the_rest questions lines used rounds refused = record { questions = questions; result = reduced lines used rounds refused }
+the_rest questions lines used rounds refused = record { questions = questions; result = step_result lines used rounds refused }
 
 -- a text is asked before the rest
 abbrev pub first_asked : List ℕ → Rest → Rest
@@ -151,8 +151,8 @@ module _ (test : List ℕ → Bool) where
       (next_round (λ l. rounds_of test l) lines (kept_of (list.rest_of (on_keeps lines) step).result lines))
 
   abbrev pub rest_of : LineState → Rest
-  rest_of (Whole start) = counted_from 0 0 (reduction test start)
-  rest_of (Round lines step used rounds) = counted_from used rounds (round_rest lines step)
+  rest_of (Whole start) = rest_from 0 0 (reduction test start)
+  rest_of (Round lines step used rounds) = rest_from used rounds (round_rest lines step)
   rest_of (Ended result) = record { questions = []; result = result }
 
   same_rest : (questions : List (List ℕ)) (lines : List (List ℕ)) (used used' rounds rounds' : ℕ) (refused : Bool) → used ≡ used' → rounds ≡ rounds'
@@ -173,37 +173,37 @@ module _ (test : List ℕ → Bool) where
       let none = (list_follows.begins_list_step (on_keeps []) 0 true).1 in
       rounds_of-step test [] ∙ ap (λ (o : Outcome). after_round (map (candidate []) o.questions) (next_round (λ l. rounds_of test l) [] (kept_of o.result []))) (sym none)
 
-  rest_of-begun : (lines : List (List ℕ)) (used rounds : ℕ) → used < 2 ^ 64 → rest_of (begun lines used rounds) ≡ counted_from used rounds (rounds_of test lines)
-  rest_of-begun [] used rounds fits =
-      same_rest [] [] used (counted (used + 0)) (counted (rounds + 1)) (counted (rounds + 1)) false (omega arith) refl
-      ∙ ap (λ r. counted_from used rounds r) (sym rounds_of-none)
-  rest_of-begun (line ∷ lines) used rounds fits =
+  rest_of-new_round : (lines : List (List ℕ)) (used rounds : ℕ) → used < 2 ^ 64 → rest_of (new_round lines used rounds) ≡ rest_from used rounds (rounds_of test lines)
+  rest_of-new_round [] used rounds fits =
+      same_rest [] [] used (capped_count (used + 0)) (capped_count (rounds + 1)) (capped_count (rounds + 1)) false (omega arith) refl
+      ∙ ap (λ r. rest_from used rounds r) (sym rounds_of-none)
+  rest_of-new_round (line ∷ lines) used rounds fits =
       let all : List (List ℕ) = line ∷ lines in
-      cond_both (length all == 0) (Ended (reduced all used (counted (rounds + 1)) false)) (Round all (list.start (length all) true) used rounds)
-      (λ s. rest_of s ≡ counted_from used rounds (rounds_of test all))
+      cond_both (length all == 0) (Ended (step_result all used (capped_count (rounds + 1)) false)) (Round all (list.start (length all) true) used rounds)
+      (λ s. rest_of s ≡ rest_from used rounds (rounds_of test all))
       (λ none. absurd (let no : length all ≡ 0 = eqb-true (length all) 0 none in omega arith))
       (λ some.
       let first = (list_follows.begins_list_step (on_keeps all) (length all) true).1 in
-      ap (λ (o : Outcome). counted_from used rounds (after_round (map (candidate all) o.questions) (next_round (λ l. rounds_of test l) all (kept_of o.result all)))) first
-      ∙ ap (λ r. counted_from used rounds r) (sym (rounds_of-step test all)))
+      ap (λ (o : Outcome). rest_from used rounds (after_round (map (candidate all) o.questions) (next_round (λ l. rounds_of test l) all (kept_of o.result all)))) first
+      ∙ ap (λ r. rest_from used rounds r) (sym (rounds_of-step test all)))
 
   rest_of-past : (lines rest : List (List ℕ)) (used rounds : ℕ) → used < 2 ^ 64
-      → rest_of (past_round lines rest used rounds) ≡ counted_from used rounds (after_round [] (next_round (λ l. rounds_of test l) lines rest))
+      → rest_of (past_round lines rest used rounds) ≡ rest_from used rounds (after_round [] (next_round (λ l. rounds_of test l) lines rest))
   rest_of-past lines rest used rounds fits =
-      both_choices (length rest == length lines) (Ended (reduced lines used (counted (rounds + 1)) false)) (begun rest used (counted (rounds + 1)))
+      both_choices (length rest == length lines) (Ended (step_result lines used (capped_count (rounds + 1)) false)) (new_round rest used (capped_count (rounds + 1)))
       (ends_with lines false) (rounds_of test rest)
-      (λ s r. rest_of s ≡ counted_from used rounds (after_round [] r))
-      (same_rest [] lines used (counted (used + 0)) (counted (rounds + 1)) (counted (rounds + 1)) false (omega arith) refl)
-      (rest_of-begun rest used (counted (rounds + 1)) fits
-      ∙ same_rest (rounds_of test rest).questions (rounds_of test rest).lines (counted (used + length (rounds_of test rest).questions)) (counted (used + length (rounds_of test rest).questions))
-      (counted (counted (rounds + 1) + (rounds_of test rest).rounds)) (counted (rounds + ((rounds_of test rest).rounds + 1))) (rounds_of test rest).refused refl (omega arith))
+      (λ s r. rest_of s ≡ rest_from used rounds (after_round [] r))
+      (same_rest [] lines used (capped_count (used + 0)) (capped_count (rounds + 1)) (capped_count (rounds + 1)) false (omega arith) refl)
+      (rest_of-new_round rest used (capped_count (rounds + 1)) fits
+      ∙ same_rest (rounds_of test rest).questions (rounds_of test rest).lines (capped_count (used + length (rounds_of test rest).questions)) (capped_count (used + length (rounds_of test rest).questions))
+      (capped_count (capped_count (rounds + 1) + (rounds_of test rest).rounds)) (capped_count (rounds + ((rounds_of test rest).rounds + 1))) (rounds_of test rest).refused refl (omega arith))
 
   rest_of-within : (o : Option (List Bool)) (lines : List (List ℕ)) (step : State) (used rounds : ℕ) → o ≡ list.asks step → used < 2 ^ 64
-      → rest_of (within_round o lines step used rounds) ≡ counted_from used rounds (round_rest lines step)
+      → rest_of (within_round o lines step used rounds) ≡ rest_from used rounds (round_rest lines step)
   rest_of-within None lines step used rounds is fits =
       let over = list_follows.stops_at_end (on_keeps lines) step (sym is) in
       rest_of-past lines (kept_of (list.kept step) lines) used rounds fits
-      ∙ ap (λ (o : Outcome). counted_from used rounds (after_round (map (candidate lines) o.questions) (next_round (λ l. rounds_of test l) lines (kept_of o.result lines)))) (sym over)
+      ∙ ap (λ (o : Outcome). rest_from used rounds (after_round (map (candidate lines) o.questions) (next_round (λ l. rounds_of test l) lines (kept_of o.result lines)))) (sym over)
   rest_of-within (Some keep) lines step used rounds is fits = refl
 
   -- a test, its answer, and then the rest of the state after it
@@ -213,14 +213,14 @@ module _ (test : List ℕ → Bool) where
       let same : start ≡ text = cc is in
       let is_true : test start ≡ true = rw same says in
       let r = rounds_of test (lines_of start) in
-      ap (λ r. counted_from 0 0 r) (reduction-yes start is_true)
-      ∙ same_rest (start ∷ r.questions) r.lines (counted (0 + length (start ∷ r.questions))) (counted (1 + length r.questions)) (counted (0 + r.rounds)) (counted (0 + r.rounds)) r.refused (omega arith) refl
-      ∙ ap (λ t. first_asked t (counted_from 1 0 r)) same
-      ∙ ap (λ rest. first_asked text rest) (sym (rest_of-begun (lines_of start) 1 0 (omega arith)))
+      ap (λ r. rest_from 0 0 r) (reduction-yes start is_true)
+      ∙ same_rest (start ∷ r.questions) r.lines (capped_count (0 + length (start ∷ r.questions))) (capped_count (1 + length r.questions)) (capped_count (0 + r.rounds)) (capped_count (0 + r.rounds)) r.refused (omega arith) refl
+      ∙ ap (λ t. first_asked t (rest_from 1 0 r)) same
+      ∙ ap (λ rest. first_asked text rest) (sym (rest_of-new_round (lines_of start) 1 0 (omega arith)))
   rest_of-after (Whole start) text No sound is says =
       let same : start ≡ text = cc is in
       let is_false : test start ≡ false = rw same says in
-      ap (λ r. counted_from 0 0 r) (reduction-no start is_false)
+      ap (λ r. rest_from 0 0 r) (reduction-no start is_false)
       ∙ ap (λ t. first_asked t (rest_of (after (Whole start) No))) same
   rest_of-after (Round lines step used rounds) text verdict sound is says =
       let question = text_asked lines (list.asks step) text is in
@@ -228,11 +228,11 @@ module _ (test : List ℕ → Bool) where
       let goes = (list_left.goes_on (on_keeps lines) step question.0 sound.sound question.1).0 in
       let said : on_keeps lines question.0 ≡ answer = ap test question.2 ∙ says in
       let r = round_rest lines (list.after step answer) in
-      ap (λ (o : Outcome). counted_from used rounds (after_round (map (candidate lines) o.questions) (next_round (λ l. rounds_of test l) lines (kept_of o.result lines)))) goes
-      ∙ ap (λ b. counted_from used rounds (asks_first (candidate lines question.0) (round_rest lines (list.after step b)))) said
-      ∙ ap (λ t. counted_from used rounds (asks_first t r)) question.2
-      ∙ same_rest (text ∷ r.questions) r.lines (counted (used + length (text ∷ r.questions))) (counted (counted (used + 1) + length r.questions)) (counted (rounds + r.rounds)) (counted (rounds + r.rounds)) r.refused (omega arith) refl
-      ∙ ap (λ rest. first_asked text rest) (sym (rest_of-within (list.asks (list.after step answer)) lines (list.after step answer) (counted (used + 1)) rounds refl (omega arith)))
+      ap (λ (o : Outcome). rest_from used rounds (after_round (map (candidate lines) o.questions) (next_round (λ l. rounds_of test l) lines (kept_of o.result lines)))) goes
+      ∙ ap (λ b. rest_from used rounds (asks_first (candidate lines question.0) (round_rest lines (list.after step b)))) said
+      ∙ ap (λ t. rest_from used rounds (asks_first t r)) question.2
+      ∙ same_rest (text ∷ r.questions) r.lines (capped_count (used + length (text ∷ r.questions))) (capped_count (capped_count (used + 1) + length r.questions)) (capped_count (rounds + r.rounds)) (capped_count (rounds + r.rounds)) r.refused (omega arith) refl
+      ∙ ap (λ rest. first_asked text rest) (sym (rest_of-within (list.asks (list.after step answer)) lines (list.after step answer) (capped_count (used + 1)) rounds refl (omega arith)))
   rest_of-after (Ended result) text verdict sound is says = absurd (cc is)
 
   pub rest_of-ended : (state : LineState) → IsSound state → asks state ≡ None → rest_of state ≡ record { questions = []; result = gives state }

@@ -30,15 +30,15 @@ other_line : (byte : ℕ) (b : Bool) (lines : List (List ℕ)) (text : List ℕ)
 other_line byte true lines text differs one = absurd (cc differs)
 other_line byte false lines text differs one = ap (at_front_of byte) one
 
--- a text whose first newline stands here begins with the line up to it
+-- a text whose first newline is at this index begins with the line up to it
 pub first-line-some : (text : List ℕ) (at : ℕ) → Nowhere (Passes (is_byte 10) text) 0 at → at < length text → slice_index text at ≡ 10
     → lines_of text ≡ take (at + 1) text ∷ lines_of (drop (at + 1) text)
-first-line-some [] at before within here = absurd (omega arith)
-first-line-some (byte ∷ text) zero before within here = rw here refl
-first-line-some (byte ∷ text) (suc at) before within here =
+first-line-some [] at before within newline = absurd (omega arith)
+first-line-some (byte ∷ text) zero before within newline = rw newline refl
+first-line-some (byte ∷ text) (suc at) before within newline =
     let more : suc at + 1 ≡ suc (at + 1) = omega arith in
     let other : (byte == 10) ≡ false = not_passing byte (before 0 (omega arith) (omega arith)) in
-    let rest = first-line-some text at (λ k low high pass. before (suc k) (omega arith) (omega arith) pass) (omega arith) here in
+    let rest = first-line-some text at (λ k low high pass. before (suc k) (omega arith) (omega arith) pass) (omega arith) newline in
     rw (more, other, rest) refl
 
 -- a text without a newline is one line

@@ -252,7 +252,7 @@ pub reduction-yes : (verdict : List ℕ → Bool) (start : List ℕ) → verdict
 unfolding reduction
 reduction-yes verdict start is = ap (λ b. asks_first start (cond b (rounds_of verdict (lines_of start)) (ends_with (lines_of start) true))) (sym is)
 
--- what holds of all holds of the one at a place
+-- what holds of all holds of the one at an index
 pub all-at : {X Y : Type 0} (P : X → Type 0) (f : Y → X) (ys : List Y) (k : ℕ) (y : Y) → AllByRecursion P (map f ys) → k < length ys → P (f (get_or ys k y))
 all-at P f [] k y all within = absurd (omega arith)
 all-at P f (x ∷ ys) zero y all within = all.0

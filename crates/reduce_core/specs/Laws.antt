@@ -3,15 +3,15 @@ use Rattle.std.specs.Prelude.{◌≡◌, ℕ, List, Bool, map, true, false, leng
 use Rattle.std.specs.List.{concat}
 use Rattle.script_gate.specs.declared.gate.Verdict.{Verdict}
 use Rattle.script_gate.specs.declared.gate.Verdict.TheVariants.{Yes, No}
-use Rattle.verdict_table.specs.Plan.{Reduced, End, HasEnded, MayAsk, follow}
-use Rattle.reduce_core.specs.LineMachine.{Whole, counted, plan_of, reduced}
+use Rattle.verdict_table.specs.Plan.{StepResult, End, HasEnded, MayAsk, follow}
+use Rattle.reduce_core.specs.LineMachine.{Whole, capped_count, plan_of, step_result}
 use Rattle.reduce_core.specs.Minimal.{HasVerdicts, IsCandidate, IsMinimal}
 use Rattle.list_ddmin.specs.ListStep.{kept_of}
 use Rattle.reduce_core.specs.Reduction.{Reduction, after_round, candidate, next_round, reduction, round_of, rounds_of, says_yes}
 
 -- what a reduction ends with; a count stays at its greatest value
-abbrev pub result_of : Reduction → Reduced
-result_of r = reduced r.lines (counted (length r.questions)) (counted r.rounds) r.refused
+abbrev pub result_of : Reduction → StepResult
+result_of r = step_result r.lines (capped_count (length r.questions)) (capped_count r.rounds) r.refused
 
 -- Followed over a map of verdicts, the machine ends exactly where the map has a verdict for each text that the reduction asks, and then with the reduction's result.
 pub record IsTheReduction (V : List ℕ → Option Verdict) (start : List ℕ) : Type 0 where
@@ -44,4 +44,4 @@ AsksCandidates = (start text : List ℕ) → MayAsk (plan_of (Whole start)) text
 abbrev pub GoesByItsRounds : Type 0
 GoesByItsRounds = (verdict : List ℕ → Bool) (lines : List (List ℕ)) → rounds_of verdict lines
     ≡ after_round (map (candidate lines) (round_of verdict lines).questions)
-    (next_round (λ left. rounds_of verdict left) lines (kept_of (round_of verdict lines).result lines))
+    (next_round (λ remaining. rounds_of verdict remaining) lines (kept_of (round_of verdict lines).result lines))

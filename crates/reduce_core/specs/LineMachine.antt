@@ -3,7 +3,7 @@ use Rattle.std.specs.Prelude.{◌≡◌, ◌+◌, ◌-◌, ◌^◌, min, ℕ, ze
 use Rattle.std.specs.List.{concat}
 use Rattle.script_gate.specs.declared.gate.Verdict.{Verdict}
 use Rattle.script_gate.specs.declared.gate.Verdict.TheVariants.{Yes, No}
-use Rattle.verdict_table.specs.Plan.{Plan, Reduced}
+use Rattle.verdict_table.specs.Plan.{Plan, StepResult}
 use Rattle.verdict_table.specs.Grow.{plan_from}
 use Rattle.list_ddmin.specs.Machine as list
 use Rattle.list_ddmin.specs.ListStep.{kept_of}
@@ -12,18 +12,18 @@ use Rattle.reduce_core.specs.Lines.{lines_of}
 use Rattle.reduce_core.specs.Reduction.{Reduction, candidate, is_yes}
 
 -- a count of 64 bits, which stays at its greatest value
-abbrev pub counted : ℕ → ℕ
-counted n = min n (2 ^ 64 - 1)
+abbrev pub capped_count : ℕ → ℕ
+capped_count n = min n (2 ^ 64 - 1)
 
--- Where a reduction stands. Whole: the start is asked. Round: a list step over these lines, after so many tests and whole rounds.
+-- Where a reduction is. Whole: the start is asked. Round: a list step over these lines, after so many tests and whole rounds.
 pub data LineState : Type 0 where
   Whole : List ℕ → LineState
   Round : List (List ℕ) → State → ℕ → ℕ → LineState
-  Ended : Reduced → LineState
+  Ended : StepResult → LineState
 
 -- what a reduction ends with: these lines, after so many tests and rounds
-abbrev pub reduced : List (List ℕ) → ℕ → ℕ → Bool → Reduced
-reduced lines used rounds refused = record { text = concat lines; units = length lines; used = used; rounds = rounds; refused = refused }
+abbrev pub step_result : List (List ℕ) → ℕ → ℕ → Bool → StepResult
+step_result lines used rounds refused = record { text = concat lines; units = length lines; used = used; rounds = rounds; refused = refused }
 
 -- the text that is asked now
 abbrev pub asks : LineState → Option (List ℕ)
@@ -32,16 +32,16 @@ asks (Round lines step used rounds) = option_map (candidate lines) (list.asks st
 asks (Ended result) = None
 
 -- a round over these lines; where there are none, it asks nothing and is the last
-abbrev pub begun : List (List ℕ) → ℕ → ℕ → LineState
-begun lines used rounds =
-    if length lines == 0 then Ended (reduced lines used (counted (rounds + 1)) false)
+abbrev pub new_round : List (List ℕ) → ℕ → ℕ → LineState
+new_round lines used rounds =
+    if length lines == 0 then Ended (step_result lines used (capped_count (rounds + 1)) false)
     else Round lines (list.start (length lines) true) used rounds
 
--- after a round that began with these lines and has left others
+-- after a round that began with the first lines, of which the others remain
 abbrev pub past_round : List (List ℕ) → List (List ℕ) → ℕ → ℕ → LineState
-past_round lines left used rounds =
-    if length left == length lines then Ended (reduced lines used (counted (rounds + 1)) false)
-    else begun left used (counted (rounds + 1))
+past_round lines remaining used rounds =
+    if length remaining == length lines then Ended (step_result lines used (capped_count (rounds + 1)) false)
+    else new_round remaining used (capped_count (rounds + 1))
 
 -- where the list step asks something the round goes on, and else it is over
 abbrev pub within_round : Option (List Bool) → List (List ℕ) → State → ℕ → ℕ → LineState
@@ -50,20 +50,20 @@ within_round None lines step used rounds = past_round lines (kept_of (list.kept 
 
 -- at yes the rounds begin, at no the start is refused
 abbrev pub after_start : List ℕ → Verdict → LineState
-after_start start Yes = begun (lines_of start) 1 0
-after_start start No = Ended (reduced (lines_of start) 1 0 true)
+after_start start Yes = new_round (lines_of start) 1 0
+after_start start No = Ended (step_result (lines_of start) 1 0 true)
 
 -- the state after an answer
 abbrev pub after : LineState → Verdict → LineState
 after (Whole start) verdict = after_start start verdict
 after (Round lines step used rounds) verdict =
-    within_round (list.asks (list.after step (is_yes (Some verdict)))) lines (list.after step (is_yes (Some verdict))) (counted (used + 1)) rounds
+    within_round (list.asks (list.after step (is_yes (Some verdict)))) lines (list.after step (is_yes (Some verdict))) (capped_count (used + 1)) rounds
 after (Ended result) verdict = Ended result
 
 -- what an end gives; before it, what there is now
-abbrev pub gives : LineState → Reduced
-gives (Whole start) = reduced (lines_of start) 0 0 false
-gives (Round lines step used rounds) = reduced (kept_of (list.kept step) lines) used rounds false
+abbrev pub gives : LineState → StepResult
+gives (Whole start) = step_result (lines_of start) 0 0 false
+gives (Round lines step used rounds) = step_result (kept_of (list.kept step) lines) used rounds false
 gives (Ended result) = result
 
 -- a list step over these lines, which asks something
@@ -96,11 +96,11 @@ plan_of state = plan_from asks after gives left state
 -- what a reduction still asks from a state, and what it ends with
 pub record Rest : Type 0 where
   pub questions : List (List ℕ)
-  pub result : Reduced
+  pub result : StepResult
 
 -- a reduction that goes on after so many tests and rounds
-abbrev pub counted_from : ℕ → ℕ → Reduction → Rest
-counted_from used rounds r = record {
+abbrev pub rest_from : ℕ → ℕ → Reduction → Rest
+rest_from used rounds r = record {
   questions = r.questions;
-  result = reduced r.lines (counted (used + length r.questions)) (counted (rounds + r.rounds)) r.refused;
+  result = step_result r.lines (capped_count (used + length r.questions)) (capped_count (rounds + r.rounds)) r.refused;
 }

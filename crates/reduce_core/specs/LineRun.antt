@@ -2,7 +2,7 @@
 use Rattle.std.specs.Prelude.{ℕ, List}
 use Rattle.reduce_core.specs.LineMachine.{LineState}
 
--- the start's bytes, and where the reduction stands
+-- the start's bytes, and where the reduction is
 pub record LineRun : Type 0 where
   pub start : List ℕ
   pub state : LineState

@@ -30,20 +30,20 @@ after_round texts later = record later { questions = texts ++ later.questions; r
 abbrev pub candidate : List (List ℕ) → List Bool → List ℕ
 candidate lines keep = concat (kept_of keep lines)
 
--- one list step over the lines, of which none may be left too
+-- one list step over the lines, after which there may be none
 abbrev pub round_of : (List ℕ → Bool) → List (List ℕ) → Outcome
 round_of verdict lines = list_step (λ keep. verdict (candidate lines keep)) (length lines) true
 
--- what follows a round that began with these lines and has left those: a round that leaves as many as before was the last one, and after any other it goes on with what is left
+-- what follows a round that began with the first lines, of which the others remain: a round after which as many remain was the last one, and any other is followed by rounds over those that remain
 abbrev pub next_round : (List (List ℕ) → Reduction) → List (List ℕ) → List (List ℕ) → Reduction
-next_round go lines left = if length left == length lines then ends_with lines false else go left
+next_round go lines remaining = if length remaining == length lines then ends_with lines false else go remaining
 
 -- rounds until one changes nothing, but at most so many
 unfoldable pub rounds_within : ℕ → (List ℕ → Bool) → List (List ℕ) → Reduction
 rounds_within zero verdict lines = ends_with lines false
 rounds_within (suc rounds) verdict lines =
     after_round (map (candidate lines) (round_of verdict lines).questions)
-    (next_round (λ left. rounds_within rounds verdict left) lines (kept_of (round_of verdict lines).result lines))
+    (next_round (λ remaining. rounds_within rounds verdict remaining) lines (kept_of (round_of verdict lines).result lines))
 
 -- Each round but the last leaves fewer lines, so there is at most one round more than lines.
 unfoldable pub rounds_of : (List ℕ → Bool) → List (List ℕ) → Reduction

@@ -2,10 +2,10 @@ ghost use Rattle.std.specs.Prelude.{◌≡◌, ◌≤◌, length, IfOk, IsSome, 
 ghost use Rattle.list_ddmin.specs.Machine as list;
 ghost use Rattle.list_ddmin.specs.ListStep.{kept_of};
 ghost use Rattle.verdict_table.specs.Plan.{End, HasEnded};
-ghost use Rattle.reduce_core.specs.LineMachine.{IsRound, begun, gives, past_round, plan_of, within_round};
+ghost use Rattle.reduce_core.specs.LineMachine.{IsRound, new_round, gives, past_round, plan_of, within_round};
 ghost use Rattle.reduce_core.specs.LineMachine as machine;
 ghost use Rattle.reduce_core.specs.Reduction.{is_yes};
-ghost use Rattle.reduce_core.specs.Fields.{Becomes, HasFound, IsAnswered, IsAsked, IsHeld, IsInLimit, IsOpen};
+ghost use Rattle.reduce_core.specs.Fields.{Becomes, HasLines, IsAnswered, IsAsked, IsHeld, IsInLimit, IsOpen};
 
 use crate::lines::Lines;
 use faults::Memory;
@@ -31,7 +31,7 @@ struct Round {
     candidate: Candidate,
 }
 
-/// Where the reduction stands.
+/// Where the reduction is.
 #[derive(Drop)]
 enum Stage {
     /// The start is asked, which has these lines.
@@ -42,9 +42,9 @@ enum Stage {
     Ended,
 }
 
-/// What was found so far.
+/// The last yes, and what was counted so far.
 #[derive(Drop)]
-struct Found {
+struct Progress {
     text: Vec<u8>,
     units: u64,
     used: u64,
@@ -61,7 +61,7 @@ pub struct LineReducer {
     alloc: Global,
     start: Bytes,
     stage: Stage,
-    found: Found,
+    progress: Progress,
 }
 
 impl Model for LineReducer {
@@ -71,9 +71,9 @@ impl Model for LineReducer {
 
     ghost use Rattle.reduce_core.specs.Fields.{Agrees, state_of};
 
-    ghost view = { λ r. record { start = r.start; state = state_of r.start r.stage r.found } };
+    ghost view = { λ r. record { start = r.start; state = state_of r.start r.stage r.progress } };
 
-    ghost invariant = { λ r. Agrees r.start r.stage r.found };
+    ghost invariant = { λ r. Agrees r.start r.stage r.progress };
 }
 
 impl LineReducer {
@@ -83,7 +83,7 @@ impl LineReducer {
         ensures { IfOk result (λ reducer. reducer ≡ record { start = start.items; state = machine.Whole start.items }) }
     {
         let lines = Lines::split(alloc, &start)?;
-        let found = Found {
+        let progress = Progress {
             text: Vec::from_slice(alloc, &start)?,
             units: lines.len() as u64,
             used: 0,
@@ -94,7 +94,7 @@ impl LineReducer {
             alloc,
             start: Bytes::from_vec(start),
             stage: Stage::Whole(lines),
-            found,
+            progress,
         })
     }
 
@@ -102,14 +102,14 @@ impl LineReducer {
     pub fn result(&self) -> &[u8]
         ensures { result.now ≡ (gives self.now.state).text }
     {
-        self.found.text.as_slice()
+        self.progress.text.as_slice()
     }
 
     /// How many lines the result has.
     pub fn units(&self) -> u64
         ensures { result ≡ (gives self.now.state).units }
     {
-        self.found.units
+        self.progress.units
     }
 
     /// How many tests were made, the start's included and repeated texts each time. It stays at
@@ -117,14 +117,14 @@ impl LineReducer {
     pub fn used(&self) -> u64
         ensures { result ≡ (gives self.now.state).used }
     {
-        self.found.used
+        self.progress.used
     }
 
     /// How many rounds were made, the last one included. It stays at `u64::MAX` once it is there.
     pub fn rounds(&self) -> u64
         ensures { result ≡ (gives self.now.state).rounds }
     {
-        self.found.rounds
+        self.progress.rounds
     }
 
     /// Whether the start was answered no. A reducer that asks nothing more ends with what this and
@@ -133,7 +133,7 @@ impl LineReducer {
         ensures refused { result ≡ (gives self.now.state).refused }
         ensures ended { HasEnded (plan_of self.now.state) → plan_of self.now.state ≡ End (gives self.now.state) }
     {
-        self.found.refused
+        self.progress.refused
     }
 }
 
@@ -154,7 +154,7 @@ impl Step for LineReducer {
 
     fn answer(&mut self, verdict: Verdict) -> Result<(), Memory> {
         let stage = mem::replace(&mut self.stage, Stage::Ended);
-        self.stage = next_stage(self.alloc, stage, verdict, &mut self.found)?;
+        self.stage = next_stage(self.alloc, stage, verdict, &mut self.progress)?;
         Ok(())
     }
 }
@@ -164,13 +164,13 @@ fn next_stage(
     alloc: Global,
     stage: Stage,
     verdict: Verdict,
-    found: &mut Found,
+    progress: &mut Progress,
 ) -> Result<Stage, Memory>
-    requires agrees { IsHeld stage found.old }
+    requires agrees { IsHeld stage progress.old }
     requires open_stage { IsOpen stage }
-    ensures { IfOk result (λ next. IsAnswered stage found.old verdict next found.new) }
+    ensures { IfOk result (λ next. IsAnswered stage progress.old verdict next progress.new) }
 {
-    found.used = found.used.saturating_add(1);
+    progress.used = progress.used.saturating_add(1);
     match stage {
         Stage::Whole(lines) => match verdict {
             Verdict::Yes => {
@@ -178,14 +178,14 @@ fn next_stage(
                     text: Vec::new(alloc),
                     units: 0,
                 };
-                begin(alloc, lines, candidate, found)
+                begin(alloc, lines, candidate, progress)
             }
             Verdict::No => {
-                found.refused = true;
+                progress.refused = true;
                 Ok(Stage::Ended)
             }
         },
-        Stage::Within(round) => answered(alloc, round, verdict, found),
+        Stage::Within(round) => answered(alloc, round, verdict, progress),
         Stage::Ended => unreachable!(),
     }
 }
@@ -214,14 +214,14 @@ fn begin(
     alloc: Global,
     lines: Lines,
     candidate: Candidate,
-    found: &mut Found,
+    progress: &mut Progress,
 ) -> Result<Stage, Memory>
     requires limit { IsInLimit lines }
-    requires found { HasFound found.old lines }
-    ensures { IfOk result (λ stage. Becomes (begun lines found.old.used found.old.rounds) stage found.new) }
+    requires progress { HasLines progress.old lines }
+    ensures { IfOk result (λ stage. Becomes (new_round lines progress.old.used progress.old.rounds) stage progress.new) }
 {
     if lines.is_empty() {
-        found.rounds = found.rounds.saturating_add(1);
+        progress.rounds = progress.rounds.saturating_add(1);
         return Ok(Stage::Ended);
     }
     let step = Ddmin::new(alloc, lines.len() as u32, true)?;
@@ -234,19 +234,19 @@ fn end_round(
     lines: Lines,
     step: &Ddmin,
     candidate: Candidate,
-    found: &mut Found,
+    progress: &mut Progress,
 ) -> Result<Stage, Memory>
     requires same { length (list.kept step.now) ≡ length lines }
     requires limit { IsInLimit lines }
-    requires found { HasFound found.old (kept_of (list.kept step.now) lines) }
-    ensures { IfOk result (λ stage. Becomes (past_round lines (kept_of (list.kept step.now) lines) found.old.used found.old.rounds) stage found.new) }
+    requires progress { HasLines progress.old (kept_of (list.kept step.now) lines) }
+    ensures { IfOk result (λ stage. Becomes (past_round lines (kept_of (list.kept step.now) lines) progress.old.used progress.old.rounds) stage progress.new) }
 {
-    found.rounds = found.rounds.saturating_add(1);
-    if found.units == lines.len() as u64 {
+    progress.rounds = progress.rounds.saturating_add(1);
+    if progress.units == lines.len() as u64 {
         return Ok(Stage::Ended);
     }
-    let left = lines.kept(alloc, step.kept())?;
-    begin(alloc, left, candidate, found)
+    let remaining = lines.kept(alloc, step.kept())?;
+    begin(alloc, remaining, candidate, progress)
 }
 
 /// Goes on with a round, whose list step was answered.
@@ -255,30 +255,30 @@ fn go_on(
     lines: Lines,
     step: Ddmin,
     candidate: Candidate,
-    found: &mut Found,
+    progress: &mut Progress,
 ) -> Result<Stage, Memory>
     requires same { length (list.kept step) ≡ length lines }
     requires limit { IsInLimit lines }
-    requires found { HasFound found.old (kept_of (list.kept step) lines) }
-    ensures { IfOk result (λ stage. Becomes (within_round (list.asks step) lines step found.old.used found.old.rounds) stage found.new) }
+    requires progress { HasLines progress.old (kept_of (list.kept step) lines) }
+    ensures { IfOk result (λ stage. Becomes (within_round (list.asks step) lines step progress.old.used progress.old.rounds) stage progress.new) }
 {
     if step.asks().is_none() {
-        return end_round(alloc, lines, &step, candidate, found);
+        return end_round(alloc, lines, &step, candidate, progress);
     }
     Ok(Stage::Within(ask(lines, step, candidate)?))
 }
 
-/// At yes the candidate is what was found last.
-fn keep_candidate(candidate: &mut Candidate, found: &mut Found, yes: bool)
-    ensures text { found.new.text.items ≡ (if yes then candidate.old.text.items else found.old.text.items) }
-    ensures units { found.new.units ≡ (if yes then candidate.old.units else found.old.units) }
-    ensures used { found.new.used ≡ found.old.used }
-    ensures rounds { found.new.rounds ≡ found.old.rounds }
-    ensures refused { found.new.refused ≡ found.old.refused }
+/// At yes the candidate is the last yes.
+fn keep_candidate(candidate: &mut Candidate, progress: &mut Progress, yes: bool)
+    ensures text { progress.new.text.items ≡ (if yes then candidate.old.text.items else progress.old.text.items) }
+    ensures units { progress.new.units ≡ (if yes then candidate.old.units else progress.old.units) }
+    ensures used { progress.new.used ≡ progress.old.used }
+    ensures rounds { progress.new.rounds ≡ progress.old.rounds }
+    ensures refused { progress.new.refused ≡ progress.old.refused }
 {
     if yes {
-        mem::swap(&mut candidate.text, &mut found.text);
-        found.units = candidate.units;
+        mem::swap(&mut candidate.text, &mut progress.text);
+        progress.units = candidate.units;
     }
 }
 
@@ -287,12 +287,12 @@ fn answered(
     alloc: Global,
     round: Round,
     verdict: Verdict,
-    found: &mut Found,
+    progress: &mut Progress,
 ) -> Result<Stage, Memory>
     requires round { IsRound round.lines round.step }
     requires asked { IsAsked round }
-    requires found { HasFound found.old (kept_of (list.kept round.step) round.lines) }
-    ensures { IfOk result (λ stage. Becomes (machine.within_round (list.asks (list.after round.step (is_yes (Some verdict)))) round.lines (list.after round.step (is_yes (Some verdict))) found.old.used found.old.rounds) stage found.new) }
+    requires progress { HasLines progress.old (kept_of (list.kept round.step) round.lines) }
+    ensures { IfOk result (λ stage. Becomes (machine.within_round (list.asks (list.after round.step (is_yes (Some verdict)))) round.lines (list.after round.step (is_yes (Some verdict))) progress.old.used progress.old.rounds) stage progress.new) }
 {
     let Round {
         lines,
@@ -301,6 +301,6 @@ fn answered(
     } = round;
     let yes = verdict == Verdict::Yes;
     step.answer(yes);
-    keep_candidate(&mut candidate, found, yes);
-    go_on(alloc, lines, step, candidate, found)
+    keep_candidate(&mut candidate, progress, yes);
+    go_on(alloc, lines, step, candidate, progress)
 }

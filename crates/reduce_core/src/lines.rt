@@ -54,7 +54,7 @@ impl Lines {
         self.items.is_empty()
     }
 
-    /// Puts the text of the lines that `keep` marks into `text`, in place of what it held. Answers
+    /// Puts the text of the lines that `keep` marks into `text`, replacing what it held. Answers
     /// how many lines these are.
     pub fn write_kept(&self, keep: &[bool], text: &mut Vec<u8>) -> Result<u64, Memory>
         requires { length keep.now ≡ length self.now }
@@ -87,7 +87,7 @@ impl Lines {
     }
 }
 
-/// Where the first line ends: behind the first newline, or at the text's end.
+/// Where the first line ends: after the first newline, or at the text's end.
 fn first_line_end(text: &[u8]) -> usize
     requires { length text.now ≢ 0 }
     ensures some { 0 < result }

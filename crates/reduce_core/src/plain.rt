@@ -28,7 +28,7 @@ pub struct Reduction {
     /// The texts in the order in which they were asked, repeated ones each time.
     pub questions: Vec<Vec<u8>>,
 
-    /// The lines that are left.
+    /// The lines that remain.
     pub lines: Lines,
 
     /// How many rounds were made, the last one included.
@@ -96,11 +96,11 @@ fn plain_rounds<T: Test>(alloc: Global, test: &T, lines: Lines) -> Result<Reduct
 {
     let round = plain_round(alloc, test, &lines)?;
     let texts = texts(alloc, &lines, &round.questions)?;
-    let left = lines.kept(alloc, &round.result)?;
-    if left.len() == lines.len() {
+    let remaining = lines.kept(alloc, &round.result)?;
+    if remaining.len() == lines.len() {
         return after_round(texts, nothing_more(alloc, lines));
     }
-    let later = plain_rounds(alloc, test, left)?;
+    let later = plain_rounds(alloc, test, remaining)?;
     after_round(texts, later)
 }
 

@@ -208,9 +208,9 @@ fn keeps_the_marked_lines(rt: HostRuntime) -> Result<(), Fail> {
     assert_eq!(rt; lines.len(), 3);
     let keep = [true, false, true];
     if lines.len() == 3 {
-        let left = lines.kept(alloc, &keep)?;
-        assert_eq!(rt; left.len(), 2);
-        assert_eq!(rt; text_of(alloc, &left)?.as_slice(), b"a\nb".as_slice());
+        let remaining = lines.kept(alloc, &keep)?;
+        assert_eq!(rt; remaining.len(), 2);
+        assert_eq!(rt; text_of(alloc, &remaining)?.as_slice(), b"a\nb".as_slice());
         let mut text = Vec::from_slice(alloc, b"before")?;
         assert_eq!(rt; lines.write_kept(&keep, &mut text)?, 2);
         assert_eq!(rt; text.as_slice(), b"a\nb".as_slice());

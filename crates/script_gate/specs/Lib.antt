@@ -1,4 +1,6 @@
+pub use Rattle.edge_io.specs.Calls
+pub use Rattle.faults.specs.Count
 pub mod Listed
 pub mod Rule
 pub mod Script
-pub mod Told
+pub mod Log

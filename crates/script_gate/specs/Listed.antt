@@ -4,7 +4,7 @@ use Rattle.script_gate.specs.declared.gate.Verdict.{Verdict}
 use Rattle.script_gate.specs.declared.gate.Verdict.TheVariants.{Yes, No}
 use Rattle.script_gate.specs.declared.list_gate.Said.{Said}
 use Rattle.script_gate.specs.declared.list_gate.Said.TheVariants.{Yes as SaysYes, No as SaysNo, Fail}
-use Rattle.script_gate.specs.declared.told.Told.{Told}
+use Rattle.script_gate.specs.declared.log.Log.{Log}
 
 -- the answers that are still to be given in order, the answer to each ask after them,
 -- how often it failed, and what it was asked and opened with
@@ -12,7 +12,7 @@ pub record Listed : Type 0 where
   pub answers : List Said
   pub later : Said
   pub faults : ℕ
-  pub told : Told
+  pub log : Log
 
 -- what it answers next
 abbrev pub next_answer : Listed → Said

@@ -1,4 +1,4 @@
--- The rules of gates: a number stands for eight bytes, and zero bytes ask for nothing.
+-- The rules of gates: a number is eight bytes, the first one lowest, and zero bytes ask for nothing.
 use Rattle.std.specs.Prelude.{ℕ, ◌==◌, List, Bool, ◌||◌, if◌then◌else◌}
 use Rattle.std.specs.Int.{to_le_bytes, w64}
 use Rattle.std.specs.List.{list_all, list_any}

@@ -21,6 +21,6 @@ folder_of work number = path_in work (decimal number)
 abbrev pub file_of : List ℕ → ℕ → List ℕ → List ℕ
 file_of work number name = path_in (folder_of work number) name
 
--- the script by a path: a name without a slash is that of a file in the present folder
+-- the script by a path: a name without a slash is that of a file in the current folder
 abbrev pub script_of : List ℕ → List ℕ
 script_of name = if list_any (λ byte. byte == 47) name then name else codes "./" ++ name

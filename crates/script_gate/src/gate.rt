@@ -5,7 +5,7 @@ use faults::Memory;
 use std::alloc::AllocError;
 use thiserror::Error;
 
-/// What a gate says of a text: yes where it is interesting.
+/// A gate's answer to a text: yes where it is interesting.
 #[derive(Clone, Copy, Debug, PartialEq, Eq)]
 pub enum Verdict {
     /// The text is interesting: it still shows what is looked for.
@@ -48,14 +48,14 @@ impl From<AllocError> for GateFault {
 /// What answers yes or no to a text, for one worker.
 pub trait Gate {
     ghost use Rattle.script_gate.specs.declared.gate.Verdict.{Verdict};
-    ghost use Rattle.script_gate.specs.declared.told.Told.{Told};
-    ghost use Rattle.script_gate.specs.Told.{with_asked, with_opening};
+    ghost use Rattle.script_gate.specs.declared.log.Log.{Log};
+    ghost use Rattle.script_gate.specs.Log.{with_asked, with_opening};
 
     /// How often it failed. It never falls.
     ghost faults: { Self → ℕ };
 
-    /// What it was asked and last opened with, where it tells this.
-    ghost told: { Self → Option Told };
+    /// What it was asked and last opened with, where this is visible.
+    ghost log: { Self → Option Log };
 
     /// Which verdict on a text it may give.
     ghost may_say: { List ℕ → Verdict → Type 0 };
@@ -64,16 +64,18 @@ pub trait Gate {
     /// and `name` that of the file that a candidate is written to. It asks nothing.
     fn open(&mut self, work: &str, script: &str, name: &str, number: u32) -> Result<(), GateFault>
         ensures opened { OnOk result
-            (told self.new ≡ option_map (with_opening work.now script.now name.now number) (told self.old)) }
-        ensures refused { OnErr result (told self.new ≡ told self.old) }
+            (log self.new ≡ option_map (with_opening work.now script.now name.now number) (log self.old)) }
+        ensures refused { OnErr result (log self.new ≡ log self.old) }
         ensures count { faults self.old ≤ faults self.new }
-        ensures failed { IsErrOf result GateFault.Failed → Rose (faults self.old) (faults self.new) };
+        ensures failed { IsErrOf result GateFault.Failed → Rose (faults self.old) (faults self.new) }
+        ensures quiet { (¬ IsErrOf result GateFault.Failed) → faults self.new ≡ faults self.old };
 
-    /// Asks once for the verdict on a text. A refused ask isn't told.
+    /// Asks once for the verdict on a text. A refused ask isn't in the log.
     fn ask(&mut self, text: &[u8]) -> Result<Verdict, GateFault>
         ensures verdict { IfOk result (λ verdict. may_say text.now verdict) }
-        ensures asked { OnOk result (told self.new ≡ option_map (with_asked text.now) (told self.old)) }
-        ensures refused { OnErr result (told self.new ≡ told self.old) }
+        ensures asked { OnOk result (log self.new ≡ option_map (with_asked text.now) (log self.old)) }
+        ensures refused { OnErr result (log self.new ≡ log self.old) }
         ensures count { faults self.old ≤ faults self.new }
-        ensures failed { IsErrOf result GateFault.Failed → Rose (faults self.old) (faults self.new) };
+        ensures failed { IsErrOf result GateFault.Failed → Rose (faults self.old) (faults self.new) }
+        ensures quiet { (¬ IsErrOf result GateFault.Failed) → faults self.new ≡ faults self.old };
 }

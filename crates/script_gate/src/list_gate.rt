@@ -1,10 +1,10 @@
 ghost use Rattle.std.specs.Prelude.{◌≡◌, ◌≤◌, ◌↔◌, Some, IfOk, OnOk, OnErr, IsErrOf, IsOkUnless};
-ghost use Rattle.faults.specs.Count.{Rose};
+ghost use Rattle.edge_io.specs.Calls.{one_more};
 ghost use Rattle.script_gate.specs.Listed.{moved_on, next_answer, verdict_of};
-ghost use Rattle.script_gate.specs.Told.{nothing_told, with_asked, with_opening};
+ghost use Rattle.script_gate.specs.Log.{empty_log, with_asked, with_opening};
 
 use crate::gate::{Gate, GateFault, Verdict};
-use crate::told::Told;
+use crate::log::Log;
 use std::alloc::Global;
 use std::marker::Model;
 
@@ -20,7 +20,7 @@ pub enum Said {
 }
 
 /// A gate that answers from a list, and each ask after the list's end by one last answer.
-/// It tells what it is asked and opened with.
+/// Contracts see what it is asked and opened with.
 #[derive(Drop)]
 pub struct ListGate {
     alloc: Global,
@@ -28,7 +28,7 @@ pub struct ListGate {
     given: usize,
     later: Said,
     faults: u64,
-    told: Told,
+    log: Log,
 }
 
 impl Model for ListGate {
@@ -41,14 +41,14 @@ impl Model for ListGate {
       answers = drop gate.given gate.answers.items;
       later = gate.later;
       faults = gate.faults;
-      told = gate.told;
+      log = gate.log;
     } };
 }
 
 impl ListGate {
     /// It gives these answers in their order, and `later` to each ask after them.
     pub fn new(alloc: Global, answers: Vec<Said>, later: Said) -> ListGate
-        ensures { result ≡ record { answers = answers.items; later = later; faults = 0; told = nothing_told } }
+        ensures { result ≡ record { answers = answers.items; later = later; faults = 0; log = empty_log } }
     {
         ListGate {
             alloc,
@@ -56,15 +56,15 @@ impl ListGate {
             given: 0,
             later,
             faults: 0,
-            told: Told::new(alloc),
+            log: Log::new(alloc),
         }
     }
 
-    /// What it was asked and opened with; failed asks aren't among it.
-    pub fn told(&self) -> &Told
-        ensures { result.now ≡ self.now.told }
+    /// What it was asked and opened with; failed asks aren't in it.
+    pub fn log(&self) -> &Log
+        ensures { result.now ≡ self.now.log }
     {
-        &self.told
+        &self.log
     }
 
     fn next_answer(&self) -> Said
@@ -85,17 +85,17 @@ impl ListGate {
 impl Gate for ListGate {
     ghost faults = { λ gate. gate.faults };
 
-    ghost told = { λ gate. Some gate.told };
+    ghost log = { λ gate. Some gate.log };
 
     ghost may_say = { λ _ _. Unit {0} };
 
     fn open(&mut self, work: &str, script: &str, name: &str, number: u32) -> Result<(), GateFault>
         ensures opened { OnOk result
-            (self.new ≡ record self.old { told = with_opening work.now script.now name.now number self.old.told }) }
+            (self.new ≡ record self.old { log = with_opening work.now script.now name.now number self.old.log }) }
         ensures refused { OnErr result (self.new ≡ self.old) }
         ensures never_fails { IsOkUnless result GateFault.Memory }
     {
-        self.told
+        self.log
             .set_opening(self.alloc, work, script, name, number)?;
         Ok(())
     }
@@ -104,11 +104,10 @@ impl Gate for ListGate {
     fn ask(&mut self, text: &[u8]) -> Result<Verdict, GateFault>
         ensures verdict { IfOk result (λ verdict. verdict_of (next_answer self.old) ≡ Some verdict) }
         ensures asked { OnOk result
-            (self.new ≡ record (moved_on self.old) { told = with_asked text.now self.old.told }) }
+            (self.new ≡ record (moved_on self.old) { log = with_asked text.now self.old.log }) }
         ensures fails { IsErrOf result GateFault.Failed ↔ (next_answer self.old ≡ Said.Fail) }
         ensures moved { IsErrOf result GateFault.Failed
-            → self.new ≡ record (moved_on self.old) { faults = self.new.faults } }
-        ensures failed { IsErrOf result GateFault.Failed → Rose self.old.faults self.new.faults }
+            → self.new ≡ record (moved_on self.old) { faults = one_more self.old.faults } }
         ensures count { self.old.faults ≤ self.new.faults }
         ensures memory { IsErrOf result GateFault.Memory → self.new ≡ self.old }
     {
@@ -121,7 +120,7 @@ impl Gate for ListGate {
                 return Err(GateFault::Failed);
             }
         };
-        self.told.add_ask(self.alloc, text)?;
+        self.log.add_ask(self.alloc, text)?;
         self.move_on();
         Ok(verdict)
     }
@@ -151,8 +150,8 @@ mod tests {
         ] {
             assert_eq!(rt; answer(&mut gate, text.as_slice()), answered);
         }
-        let asked = gate.told().asked.as_slice();
-        assert_eq!(rt; asked.len(), 4, "the failed ask isn't told");
+        let asked = gate.log().asked.as_slice();
+        assert_eq!(rt; asked.len(), 4, "the failed ask isn't in the log");
         assert_eq!(rt; asked[1].as_slice(), b"c".as_slice());
         Ok(())
     }

@@ -1,7 +1,7 @@
 ghost use Rattle.std.specs.Prelude.{◌≡◌, ◌≢◌, ◌≤◌, ◌↔◌, [], ◌∷◌, Some, pos, IfOk, OnOk, OnErr, IsErrOf};
 ghost use Rattle.std.specs.String.{string_bytes};
 ghost use Rattle.std.specs.Process.{command_args, command_program, exit_code};
-ghost use Rattle.faults.specs.Count.{Rose};
+ghost use Rattle.edge_io.specs.Calls.{CountsFault};
 ghost use Rattle.script_gate.specs.Script.{file_of, folder_of, path_in, script_of};
 
 use crate::gate::{Gate, GateFault, Verdict};
@@ -113,12 +113,10 @@ fn judge<R: Files + Processes>(
     Ok(verdict_of(command.status(rt)?))
 }
 
-// The fault that an error stands for: want of memory where the program itself had none, and else a failure,
-// which is counted.
+// The fault of an error: out of memory where the program itself had none, and else a failure, which is counted.
 fn fault_of(faults: &mut u64, error: &io::Error) -> GateFault
-    ensures failed { result ≡ GateFault.Failed → Rose faults.old faults.new }
+    ensures faults { CountsFault (result ≡ GateFault.Failed) faults.old faults.new }
     ensures count { faults.old ≤ faults.new }
-    ensures memory { result ≡ GateFault.Memory → faults.new ≡ faults.old }
 {
     if error.kind() == ErrorKind::OutOfMemory && error.raw_os_error().is_none() {
         return GateFault::Memory;
@@ -132,18 +130,17 @@ impl<R: Files + Processes> Gate for ProcessGate<R> {
 
     ghost faults = { λ gate. gate.faults };
 
-    ghost told = { λ _. None };
+    ghost log = { λ _. None };
 
     ghost may_say = { λ _ _. Unit {0} };
 
-    /// Makes the folder `work/number`, which may stand already. After an error the last opening stays.
+    /// Makes the folder `work/number`, which may be there already. After an error the last opening stays.
     fn open(&mut self, work: &str, script: &str, name: &str, number: u32) -> Result<(), GateFault>
         ensures script { OnOk result (self.new.script ≡ script_of script.now) }
         ensures file { OnOk result (self.new.file ≡ file_of work.now number name.now) }
         ensures refused { OnErr result ((self.new.script ≡ self.old.script) × (self.new.file ≡ self.old.file)) }
-        ensures failed { IsErrOf result GateFault.Failed → Rose self.old.faults self.new.faults }
+        ensures faults { CountsFault (IsErrOf result GateFault.Failed) self.old.faults self.new.faults }
         ensures count { self.old.faults ≤ self.new.faults }
-        ensures uncounted { result ≢ Err GateFault.Failed → self.new.faults ≡ self.old.faults }
     {
         let folder = folder_at(self.alloc, work, number)?;
         let file = file_in(self.alloc, folder.as_str(), name)?;
@@ -158,9 +155,8 @@ impl<R: Files + Processes> Gate for ProcessGate<R> {
 
     fn ask(&mut self, text: &[u8]) -> Result<Verdict, GateFault>
         ensures opening { (self.new.script ≡ self.old.script) × (self.new.file ≡ self.old.file) }
-        ensures failed { IsErrOf result GateFault.Failed → Rose self.old.faults self.new.faults }
+        ensures faults { CountsFault (IsErrOf result GateFault.Failed) self.old.faults self.new.faults }
         ensures count { self.old.faults ≤ self.new.faults }
-        ensures uncounted { result ≢ Err GateFault.Failed → self.new.faults ≡ self.old.faults }
     {
         let mut command = command_of(self.alloc, self.script.as_str(), self.file.as_str())?;
         match judge(&self.rt, &mut command, self.file.as_str(), text) {

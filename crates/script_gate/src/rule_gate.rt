@@ -1,44 +1,44 @@
 ghost use Rattle.std.specs.Prelude.{◌≡◌, None, Some, IsOk, IsOkUnless, IfOk, OnOk, OnErr, option_map, if◌then◌else◌};
 ghost use Rattle.std.specs.Option.{option_copied};
 ghost use Rattle.script_gate.specs.Rule.{occur_all, rule_verdict};
-ghost use Rattle.script_gate.specs.Told.{nothing_told, with_asked, with_opening};
+ghost use Rattle.script_gate.specs.Log.{empty_log, with_asked, with_opening};
 
 use crate::gate::{Gate, GateFault, Verdict};
-use crate::told::Told;
+use crate::log::Log;
 use std::alloc::Global;
 use std::marker::Model;
 
-/// A gate that answers by a rule: `R` stands for its eight bytes, and the verdict is yes exactly where
-/// each of them that isn't zero occurs in the text. A clause sees it as what it tells.
+/// A gate that answers by a rule: `R` is its eight bytes as a number, the first one lowest, and the verdict is yes exactly where
+/// each of them that isn't zero occurs in the text. A clause sees it as its log.
 #[derive(Drop)]
 pub struct RuleGate<const R: u64> {
     alloc: Global,
-    told: Option<Told>,
+    log: Option<Log>,
 }
 
 impl<const R: u64> Model for RuleGate<R> {
     ghost use Rattle.std.specs.Prelude.{Option};
-    ghost use Rattle.script_gate.specs.declared.told.Told.{Told};
+    ghost use Rattle.script_gate.specs.declared.log.Log.{Log};
 
-    ghost Value = { Option Told };
+    ghost Value = { Option Log };
 
-    ghost view = { λ gate. gate.told };
+    ghost view = { λ gate. gate.log };
 }
 
 impl<const R: u64> RuleGate<R> {
-    /// With `tell` it keeps what it is asked and opened with; without, it never takes memory.
-    pub fn new(alloc: Global, tell: bool) -> RuleGate<R>
-        ensures { result ≡ (if tell then Some nothing_told else None) }
+    /// With `logs` it keeps what it is asked and opened with; without, it never takes memory.
+    pub fn new(alloc: Global, logs: bool) -> RuleGate<R>
+        ensures { result ≡ (if logs then Some empty_log else None) }
     {
-        let told = if tell { Some(Told::new(alloc)) } else { None };
-        RuleGate { alloc, told }
+        let log = if logs { Some(Log::new(alloc)) } else { None };
+        RuleGate { alloc, log }
     }
 
-    /// What it was asked and opened with, where it tells.
-    pub fn told(&self) -> Option<&Told>
+    /// What it was asked and opened with, where it keeps this.
+    pub fn log(&self) -> Option<&Log>
         ensures { option_copied result ≡ self.now }
     {
-        self.told.as_ref()
+        self.log.as_ref()
     }
 }
 
@@ -53,7 +53,7 @@ fn obeys(rule: u64, text: &[u8]) -> bool
 impl<const R: u64> Gate for RuleGate<R> {
     ghost faults = { λ gate. 0 };
 
-    ghost told = { λ gate. gate };
+    ghost log = { λ gate. gate };
 
     ghost may_say = { λ text verdict. verdict ≡ rule_verdict R text };
 
@@ -64,8 +64,8 @@ impl<const R: u64> Gate for RuleGate<R> {
         ensures never_fails { IsOkUnless result GateFault.Memory }
         ensures silent { self.old ≡ None → IsOk result }
     {
-        if let Some(told) = &mut self.told {
-            told.set_opening(self.alloc, work, script, name, number)?;
+        if let Some(log) = &mut self.log {
+            log.set_opening(self.alloc, work, script, name, number)?;
         }
         Ok(())
     }
@@ -77,8 +77,8 @@ impl<const R: u64> Gate for RuleGate<R> {
         ensures never_fails { IsOkUnless result GateFault.Memory }
         ensures silent { self.old ≡ None → IsOk result }
     {
-        if let Some(told) = &mut self.told {
-            told.add_ask(self.alloc, text)?;
+        if let Some(log) = &mut self.log {
+            log.add_ask(self.alloc, text)?;
         }
         if obeys(R, text) {
             Ok(Verdict::Yes)
@@ -137,18 +137,18 @@ mod tests {
     }
 
     #[test]
-    fn tells_its_opening_and_its_asks(rt: HostRuntime) -> Result<(), Fail> {
+    fn logs_its_opening_and_its_asks(rt: HostRuntime) -> Result<(), Fail> {
         let mut gate = RuleGate::<97>::new(rt.alloc(), true);
         gate.open("work", "test.sh", "input", 3)?;
         gate.ask(b"a")?;
         gate.ask(b"b")?;
-        let told = gate.told().ok_or("it tells")?;
-        let opening = told.opening.as_ref().ok_or("it was opened")?;
+        let log = gate.log().ok_or("it keeps a log")?;
+        let opening = log.opening.as_ref().ok_or("it was opened")?;
         assert_eq!(rt; opening.work.as_slice(), b"work".as_slice());
         assert_eq!(rt; opening.script.as_slice(), b"test.sh".as_slice());
         assert_eq!(rt; opening.name.as_slice(), b"input".as_slice());
         assert_eq!(rt; opening.number, 3);
-        let asked = told.asked.as_slice();
+        let asked = log.asked.as_slice();
         assert_eq!(rt; asked.len(), 2);
         assert_eq!(rt; asked[0].as_slice(), b"a".as_slice());
         assert_eq!(rt; asked[1].as_slice(), b"b".as_slice());

@@ -2,29 +2,29 @@
 use Rattle.std.proofs.Common.{◌≡◌, ◌<◌, ◌≤◌, ℕ, zero, suc, List, Option, Some, None, refl, sym, ap, ◌∙◌, arith, rules}
 use Rattle.script_gate.specs.declared.gate.Verdict.{Verdict}
 use Rattle.script_gate.specs.declared.gate.Verdict.TheVariants.{Yes, No}
-use Rattle.verdict_table.specs.Plan.{Plan, Reduced, End, Ask, asked, after as plan_after}
+use Rattle.verdict_table.specs.Plan.{Plan, StepResult, End, Ask, asked, after as plan_after}
 use Rattle.verdict_table.specs.Grow.{grow, asking, plan_from}
 
-module _ {State : Type 0} (asks : State → Option (List ℕ)) (after : State → Verdict → State) (gives : State → Reduced)
-    (IsSound : State → Type 0) (left : State → ℕ)
+module _ {State : Type 0} (asks : State → Option (List ℕ)) (after : State → Verdict → State) (gives : State → StepResult)
+    (IsSound : State → Type 0) (remaining : State → ℕ)
     (keeps : (state : State) (text : List ℕ) (verdict : Verdict) → IsSound state → asks state ≡ Some text → IsSound (after state verdict))
-    (falls : (state : State) (text : List ℕ) (verdict : Verdict) → IsSound state → asks state ≡ Some text → left (after state verdict) < left state) where
+    (falls : (state : State) (text : List ℕ) (verdict : Verdict) → IsSound state → asks state ≡ Some text → remaining (after state verdict) < remaining state) where
   at_asks : (o : Option (List ℕ)) (state : State) (n m : ℕ) → ((text : List ℕ) → o ≡ Some text → (verdict : Verdict) → grow asks after gives n (after state verdict) ≡ grow asks after gives m (after state verdict))
       → asking o (End (gives state)) (grow asks after gives n (after state Yes)) (grow asks after gives n (after state No))
       ≡ asking o (End (gives state)) (grow asks after gives m (after state Yes)) (grow asks after gives m (after state No))
   at_asks None state n m same = refl
   at_asks (Some text) state n m same = λ i. Ask text (same text refl Yes i) (same text refl No i)
 
-  none_left : (o : Option (List ℕ)) (state : State) (at_yes at_no : Plan) → ((text : List ℕ) → o ≡ Some text → ⊥) → End (gives state) ≡ asking o (End (gives state)) at_yes at_no
-  none_left None state at_yes at_no none = refl
-  none_left (Some text) state at_yes at_no none = absurd (none text refl)
+  none_remaining : (o : Option (List ℕ)) (state : State) (at_yes at_no : Plan) → ((text : List ℕ) → o ≡ Some text → ⊥) → End (gives state) ≡ asking o (End (gives state)) at_yes at_no
+  none_remaining None state at_yes at_no none = refl
+  none_remaining (Some text) state at_yes at_no none = absurd (none text refl)
 
   -- more answers than a state can take change nothing
-  pub grow-more : (n m : ℕ) (state : State) → IsSound state → left state ≤ n → left state ≤ m → grow asks after gives n state ≡ grow asks after gives m state
+  pub grow-more : (n m : ℕ) (state : State) → IsSound state → remaining state ≤ n → remaining state ≤ m → grow asks after gives n state ≡ grow asks after gives m state
   unfolding grow
   grow-more zero zero state sound few few' = refl
-  grow-more zero (suc m) state sound few few' = none_left (asks state) state _ _ (λ text is. let less = falls state text Yes sound is in omega arith)
-  grow-more (suc n) zero state sound few few' = sym (none_left (asks state) state _ _ (λ text is. let less = falls state text Yes sound is in omega arith))
+  grow-more zero (suc m) state sound few few' = none_remaining (asks state) state _ _ (λ text is. let less = falls state text Yes sound is in omega arith)
+  grow-more (suc n) zero state sound few few' = sym (none_remaining (asks state) state _ _ (λ text is. let less = falls state text Yes sound is in omega arith))
   grow-more (suc n) (suc m) state sound few few' =
       at_asks (asks state) state n m (λ text is verdict.
       let less = falls state text verdict sound is in
@@ -39,15 +39,15 @@ module _ {State : Type 0} (asks : State → Option (List ℕ)) (after : State �
   end-at (Some x) ended at_yes at_no is = absurd (cc is)
 
   -- the plan for some number of answers that is enough
-  grow-step : (n : ℕ) (state : State) (text : List ℕ) → IsSound state → left state ≤ n → asks state ≡ Some text
-      → grow asks after gives n state ≡ Ask text (grow asks after gives (left (after state Yes)) (after state Yes)) (grow asks after gives (left (after state No)) (after state No))
+  grow-step : (n : ℕ) (state : State) (text : List ℕ) → IsSound state → remaining state ≤ n → asks state ≡ Some text
+      → grow asks after gives n state ≡ Ask text (grow asks after gives (remaining (after state Yes)) (after state Yes)) (grow asks after gives (remaining (after state No)) (after state No))
   unfolding grow
   grow-step zero state text sound few is = absurd (let less = falls state text Yes sound is in omega arith)
   grow-step (suc n) state text sound few is =
       ask-at (asks state) text (End (gives state)) (grow asks after gives n (after state Yes)) (grow asks after gives n (after state No)) is
       ∙ (λ i. Ask text
-      (grow-more n (left (after state Yes)) (after state Yes) (keeps state text Yes sound is) (let less = falls state text Yes sound is in omega arith) (omega arith) i)
-      (grow-more n (left (after state No)) (after state No) (keeps state text No sound is) (let less = falls state text No sound is in omega arith) (omega arith) i))
+      (grow-more n (remaining (after state Yes)) (after state Yes) (keeps state text Yes sound is) (let less = falls state text Yes sound is in omega arith) (omega arith) i)
+      (grow-more n (remaining (after state No)) (after state No) (keeps state text No sound is) (let less = falls state text No sound is in omega arith) (omega arith) i))
 
   grow-end : (n : ℕ) (state : State) → asks state ≡ None → grow asks after gives n state ≡ End (gives state)
   unfolding grow
@@ -56,28 +56,28 @@ module _ {State : Type 0} (asks : State → Option (List ℕ)) (after : State �
 
   -- a state that asks: its plan asks the same, and goes on as the states after it
   pub plan-step : (state : State) (text : List ℕ) → IsSound state → asks state ≡ Some text
-      → plan_from asks after gives left state ≡ Ask text (plan_from asks after gives left (after state Yes)) (plan_from asks after gives left (after state No))
-  plan-step state text sound is = grow-step (left state) state text sound (omega arith) is
+      → plan_from asks after gives remaining state ≡ Ask text (plan_from asks after gives remaining (after state Yes)) (plan_from asks after gives remaining (after state No))
+  plan-step state text sound is = grow-step (remaining state) state text sound (omega arith) is
 
   -- a state that asks nothing: its plan has ended
-  pub plan-end : (state : State) → asks state ≡ None → plan_from asks after gives left state ≡ End (gives state)
-  plan-end state is = grow-end (left state) state is
+  pub plan-end : (state : State) → asks state ≡ None → plan_from asks after gives remaining state ≡ End (gives state)
+  plan-end state is = grow-end (remaining state) state is
 
   by_case : (o : Option (List ℕ)) → (P : Option (List ℕ) → Type 0) → (o ≡ None → P None) → ((text : List ℕ) → o ≡ Some text → P (Some text)) → P o
   by_case None P at_none at_some = at_none refl
   by_case (Some text) P at_none at_some = at_some text refl
 
-  pub asked-plan : (state : State) → IsSound state → asked (plan_from asks after gives left state) ≡ asks state
+  pub asked-plan : (state : State) → IsSound state → asked (plan_from asks after gives remaining state) ≡ asks state
   asked-plan state sound =
-      by_case (asks state) (λ o. asked (plan_from asks after gives left state) ≡ o)
+      by_case (asks state) (λ o. asked (plan_from asks after gives remaining state) ≡ o)
       (λ is. ap asked (plan-end state is))
       (λ text is. ap asked (plan-step state text sound is))
 
   after-both : (verdict : Verdict) (state : State) (text : List ℕ)
-      → plan_after (Ask text (plan_from asks after gives left (after state Yes)) (plan_from asks after gives left (after state No))) verdict ≡ plan_from asks after gives left (after state verdict)
+      → plan_after (Ask text (plan_from asks after gives remaining (after state Yes)) (plan_from asks after gives remaining (after state No))) verdict ≡ plan_from asks after gives remaining (after state verdict)
   after-both Yes state text = refl
   after-both No state text = refl
 
   pub after-plan : (state : State) (text : List ℕ) (verdict : Verdict) → IsSound state → asks state ≡ Some text
-      → plan_after (plan_from asks after gives left state) verdict ≡ plan_from asks after gives left (after state verdict)
+      → plan_after (plan_from asks after gives remaining state) verdict ≡ plan_from asks after gives remaining (after state verdict)
   after-plan state text verdict sound is = ap (λ plan. plan_after plan verdict) (plan-step state text sound is) ∙ after-both verdict state text

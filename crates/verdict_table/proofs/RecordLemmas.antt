@@ -8,7 +8,7 @@ use Rattle.std.specs.List.{AllByRecursion, IsDistinct, list_any}
 use Rattle.std.specs.Str.{bytes_eq}
 use Rattle.script_gate.specs.declared.gate.Verdict.{Verdict}
 use Rattle.verdict_table.specs.Plan.{Plan, End, Ask, asked, follow}
-use Rattle.verdict_table.specs.Tabled.{Extends, texts_of, verdict_in}
+use Rattle.verdict_table.specs.TableState.{Extends, texts_of, verdict_in}
 use Rattle.verdict_table.specs.declared.record.Record.{Record}
 
 -- what extends a list of records extends its front and its back

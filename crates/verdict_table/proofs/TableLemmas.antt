@@ -13,13 +13,13 @@ use Rattle.std.specs.List.{AllByRecursion, IsDistinct, find, list_any, position,
 use Rattle.std.specs.List.Sorted.{IsPermutation}
 use Rattle.std.specs.Str.{bytes_eq}
 use Rattle.script_gate.specs.declared.gate.Verdict.{Verdict}
-use Rattle.verdict_table.specs.Tabled.{IsSound, Tabled, all_numbers, all_texts, claim_count, claim_in, claimed_texts, found_in, numbers_of, other_claims, record_from, text_claimed, texts_of, verdict_found, verdict_in}
+use Rattle.verdict_table.specs.TableState.{IsSound, TableState, all_numbers, all_texts, claim_count, claim_in, claimed_texts, found_in, numbers_of, other_claims, record_from, text_claimed, texts_of, verdict_found, verdict_in}
 use Rattle.verdict_table.specs.declared.found.Found.{Found}
 use Rattle.verdict_table.specs.declared.found.Found.TheVariants.{Absent, Claimed, Filled}
 use Rattle.verdict_table.specs.declared.record.Record.{Record}
 use Rattle.verdict_table.specs.declared.table.Claim.{Claim}
 
--- the record at a place hasn't the text, so it is one after it
+-- the record at an index hasn't the text, so it is one after it
 record_later : (n : ℕ) (text : List ℕ) (rs : List Record) (filled : List ℕ) (i : ℕ) (d : Record) → i < length rs → length filled ≡ length rs → bytes_eq text (get_or rs i d).text ≡ false → record_from n text (drop i rs) (drop i filled) ≡ record_from (n + 1) text (drop (suc i) rs) (drop (suc i) filled)
 record_later n text [] filled i d within same other = absurd (omega (arith, within))
 record_later n text (r ∷ rs) [] i d within same other = absurd (omega (arith, same))
@@ -46,7 +46,7 @@ others_same n (c ∷ cs) apart =
 same_number : (c : Claim) (n : ℕ) → c.number ≡ n → nat_eq c.number n ≡ true
 same_number c n is = rw is (nat_eq_equiv.refl n)
 
--- without the claim at its place, those with other numbers are left
+-- without the claim at its index, those with other numbers remain
 others_left : (n : ℕ) (cs : List Claim) (i : ℕ) (d : Claim) → i < length cs → (get_or cs i d).number ≡ n → IsDistinct nat_eq (numbers_of cs) → remove cs i ≡ other_claims n cs
 others_left n [] i d within is distinct = absurd (omega (arith, within))
 others_left n (c ∷ cs) zero d within is distinct =
@@ -55,7 +55,7 @@ others_left n (c ∷ cs) (suc i) d within is distinct =
     let other : nat_eq c.number n ≡ false = number_apart c.number n cs i d (omega (arith, within)) is (IsDistinct-head nat_eq c.number (numbers_of cs) distinct) in
     rw other (ap (λ ds. c ∷ ds) (others_left n cs i d (omega (arith, within)) is (IsDistinct-tail nat_eq c.number (numbers_of cs) distinct)))
 
--- the claim at its place has the text that was claimed
+-- the claim at its index has the text that was claimed
 text_taken : (n : ℕ) (cs : List Claim) (i : ℕ) (d : Claim) → i < length cs → (get_or cs i d).number ≡ n → IsDistinct nat_eq (numbers_of cs) → text_claimed n cs ≡ Some (get_or cs i d).text
 text_taken n [] i d within is distinct = absurd (omega (arith, within))
 text_taken n (c ∷ cs) zero d within is distinct = rw (same_number c n is) refl
@@ -63,9 +63,9 @@ text_taken n (c ∷ cs) (suc i) d within is distinct =
     let other : nat_eq c.number n ≡ false = number_apart c.number n cs i d (omega (arith, within)) is (IsDistinct-head nat_eq c.number (numbers_of cs) distinct) in
     rw other (text_taken n cs i d (omega (arith, within)) is (IsDistinct-tail nat_eq c.number (numbers_of cs) distinct))
 
-none_at : (b : Bool) (c : Claim) (i : ℕ) (place : Option ℕ) (found : Option Claim) → cond b (Some i) place ≡ None → (place ≡ None → found ≡ None) → cond b (Some c) found ≡ None
-none_at true c i place found none later = absurd (cc none)
-none_at false c i place found none later = later none
+none_at : (b : Bool) (c : Claim) (i : ℕ) (index : Option ℕ) (found : Option Claim) → cond b (Some i) index ≡ None → (index ≡ None → found ≡ None) → cond b (Some c) found ≡ None
+none_at true c i index found none later = absurd (cc none)
+none_at false c i index found none later = later none
 
 none_from : (n i : ℕ) (cs : List Claim) → position_from (λ c. c.number == n) i cs ≡ None → find (λ c. c.number == n) cs ≡ None
 none_from n i [] none = refl
@@ -77,25 +77,25 @@ not_open n cs none claimed =
     let nothing : find (λ c. c.number == n) cs ≡ None = none_from n 0 cs (sym (none ∙ position_from-zero (λ (c : Claim). c.number == n) cs)) in
     cc (rw nothing at claimed)
 
--- the claim at the place where its number is: its text, and the claims that are left without it
-pub text_at_place : (n : ℕ) (cs : List Claim) (i : ℕ) (c : Claim) → Some i ≡ position (λ c. c.number == n) cs → IsDistinct nat_eq (numbers_of cs) → c ≡ get_or cs i c → text_claimed n cs ≡ Some c.text
-text_at_place n cs i c place distinct is =
-    let found : (i < length cs) × (nat_eq (get_or cs i c).number n ≡ true) × ((k : ℕ) → k < i → nat_eq (get_or cs k c).number n ≡ false) = position-Some (λ c. c.number == n) cs i c (sym place) in
+-- the claim at the index where its number is: its text, and the claims that remain without it
+pub text_at_index : (n : ℕ) (cs : List Claim) (i : ℕ) (c : Claim) → Some i ≡ position (λ c. c.number == n) cs → IsDistinct nat_eq (numbers_of cs) → c ≡ get_or cs i c → text_claimed n cs ≡ Some c.text
+text_at_index n cs i c index distinct is =
+    let found : (i < length cs) × (nat_eq (get_or cs i c).number n ≡ true) × ((k : ℕ) → k < i → nat_eq (get_or cs k c).number n ≡ false) = position-Some (λ c. c.number == n) cs i c (sym index) in
     text_taken n cs i c found.0 (eqb-true _ _ found.1) distinct ∙ ap (λ (d : Claim). Some d.text) (sym is)
 
-pub left_at_place : (n : ℕ) (cs : List Claim) (i : ℕ) (c : Claim) → Some i ≡ position (λ c. c.number == n) cs → IsDistinct nat_eq (numbers_of cs) → remove cs i ≡ other_claims n cs
-left_at_place n cs i c place distinct =
-    let found : (i < length cs) × (nat_eq (get_or cs i c).number n ≡ true) × ((k : ℕ) → k < i → nat_eq (get_or cs k c).number n ≡ false) = position-Some (λ c. c.number == n) cs i c (sym place) in
+pub others_at_index : (n : ℕ) (cs : List Claim) (i : ℕ) (c : Claim) → Some i ≡ position (λ c. c.number == n) cs → IsDistinct nat_eq (numbers_of cs) → remove cs i ≡ other_claims n cs
+others_at_index n cs i c index distinct =
+    let found : (i < length cs) × (nat_eq (get_or cs i c).number n ≡ true) × ((k : ℕ) → k < i → nat_eq (get_or cs k c).number n ≡ false) = position-Some (λ c. c.number == n) cs i c (sym index) in
     others_left n cs i c found.0 (eqb-true _ _ found.1) distinct
 
-pub number_at_place : (n : ℕ) (cs : List Claim) (i : ℕ) (c : Claim) → Some i ≡ position (λ c. c.number == n) cs → c ≡ get_or cs i c → c.number ≡ n
-number_at_place n cs i c place is =
-    let found : (i < length cs) × (nat_eq (get_or cs i c).number n ≡ true) × ((k : ℕ) → k < i → nat_eq (get_or cs k c).number n ≡ false) = position-Some (λ c. c.number == n) cs i c (sym place) in
+pub number_at_index : (n : ℕ) (cs : List Claim) (i : ℕ) (c : Claim) → Some i ≡ position (λ c. c.number == n) cs → c ≡ get_or cs i c → c.number ≡ n
+number_at_index n cs i c index is =
+    let found : (i < length cs) × (nat_eq (get_or cs i c).number n ≡ true) × ((k : ℕ) → k < i → nat_eq (get_or cs k c).number n ≡ false) = position-Some (λ c. c.number == n) cs i c (sym index) in
     ap (λ (d : Claim). d.number) is ∙ eqb-true _ _ found.1
 
-pub moved_from_place : (n : ℕ) (cs : List Claim) (i : ℕ) (c : Claim) → Some i ≡ position (λ c. c.number == n) cs → c ≡ get_or cs i c → IsPermutation cs (c ∷ remove cs i)
-moved_from_place n cs i c place is =
-    let found : (i < length cs) × (nat_eq (get_or cs i c).number n ≡ true) × ((k : ℕ) → k < i → nat_eq (get_or cs k c).number n ≡ false) = position-Some (λ c. c.number == n) cs i c (sym place) in
+pub moved_from_index : (n : ℕ) (cs : List Claim) (i : ℕ) (c : Claim) → Some i ≡ position (λ c. c.number == n) cs → c ≡ get_or cs i c → IsPermutation cs (c ∷ remove cs i)
+moved_from_index n cs i c index is =
+    let found : (i < length cs) × (nat_eq (get_or cs i c).number n ≡ true) × ((k : ℕ) → k < i → nat_eq (get_or cs k c).number n ≡ false) = position-Some (λ c. c.number == n) cs i c (sym index) in
     IsPermutation-remove cs i c found.0 is
 
 -- ---- the verdict that is found
@@ -115,7 +115,7 @@ claim_without None = refl
 claim_without (Some c) = refl
 
 -- what is found for a text has the verdict of the text's record
-pub verdict_found_in : (table : Tabled) (text : List ℕ) → IsSound table → verdict_found (found_in table text) ≡ verdict_in table.records text
+pub verdict_found_in : (table : TableState) (text : List ℕ) → IsSound table → verdict_found (found_in table text) ≡ verdict_in table.records text
 verdict_found_in table text sound =
     recorded 1 text table.records table.filled (unwrap_or (claim_in text table.claims) Absent) sound.filled (claim_without (find (λ c. bytes_eq text c.text) table.claims))
 
@@ -131,7 +131,7 @@ filled_from n text (r ∷ rs) [] claim is = absurd (cc is)
 filled_from n text (r ∷ rs) (c ∷ cs) claim is = not_claimed_at (bytes_eq text r.text) c n r.verdict (record_from (n + 1) text rs cs) claim is (filled_from (n + 1) text rs cs claim)
 
 -- it has no open claim, so none is found
-pub none_claimed : (table : Tabled) (text : List ℕ) (claim : ℕ) → table.claims ≡ [] → found_in table text ≡ Claimed claim → ⊥
+pub none_claimed : (table : TableState) (text : List ℕ) (claim : ℕ) → table.claims ≡ [] → found_in table text ≡ Claimed claim → ⊥
 none_claimed table text claim none is =
     let there : unwrap_or (record_from 1 text table.records table.filled) Absent ≡ Claimed claim = rw none at is in
     filled_from 1 text table.records table.filled claim there
@@ -151,7 +151,7 @@ unfolding IsDistinct
 distinct_front e [] ys distinct = tt
 distinct_front e (x ∷ xs) ys distinct = (apart_front e x xs ys distinct.0, distinct_front e xs ys distinct.1)
 
-pub distinct_claims : (table : Tabled) → IsSound table → IsDistinct nat_eq (numbers_of table.claims)
+pub distinct_claims : (table : TableState) → IsSound table → IsDistinct nat_eq (numbers_of table.claims)
 distinct_claims table sound = distinct_back nat_eq table.filled (numbers_of table.claims) sound.numbered
 
 -- a table without claims and records
@@ -169,9 +169,9 @@ not_recorded : (n : ℕ) (text : List ℕ) (rs : List Record) (filled : List ℕ
 not_recorded n text [] filled other same absent = (refl, absent)
 not_recorded n text (r ∷ rs) [] other same absent = absurd (omega (arith, same))
 not_recorded n text (r ∷ rs) (c ∷ cs) other same absent =
-    let here : (bytes_eq text r.text ≡ false) × (unwrap_or (record_from (n + 1) text rs cs) other ≡ Absent) = absent_at (bytes_eq text r.text) c n r.verdict (record_from (n + 1) text rs cs) other absent in
-    let later : (list_any (bytes_eq text) (texts_of rs) ≡ false) × (other ≡ Absent) = not_recorded (n + 1) text rs cs other (omega (arith, same)) here.1 in
-    (rw here.0 later.0, later.1)
+    let current : (bytes_eq text r.text ≡ false) × (unwrap_or (record_from (n + 1) text rs cs) other ≡ Absent) = absent_at (bytes_eq text r.text) c n r.verdict (record_from (n + 1) text rs cs) other absent in
+    let later : (list_any (bytes_eq text) (texts_of rs) ≡ false) × (other ≡ Absent) = not_recorded (n + 1) text rs cs other (omega (arith, same)) current.1 in
+    (rw current.0 later.0, later.1)
 
 unclaimed_at : (b : Bool) (c : Claim) (found : Option Claim) → unwrap_or (option_map (λ d. Claimed d.number) (cond b (Some c) found)) Absent ≡ Absent → (b ≡ false) × (unwrap_or (option_map (λ d. Claimed d.number) found) Absent ≡ Absent)
 unclaimed_at true c found absent = absurd (cc absent)
@@ -180,10 +180,10 @@ unclaimed_at false c found absent = (refl, absent)
 not_claimed : (text : List ℕ) (cs : List Claim) → unwrap_or (claim_in text cs) Absent ≡ Absent → list_any (bytes_eq text) (claimed_texts cs) ≡ false
 not_claimed text [] absent = refl
 not_claimed text (c ∷ cs) absent =
-    let here : (bytes_eq text c.text ≡ false) × (unwrap_or (claim_in text cs) Absent ≡ Absent) = unclaimed_at (bytes_eq text c.text) c (find (λ d. bytes_eq text d.text) cs) absent in
-    rw here.0 (not_claimed text cs here.1)
+    let current : (bytes_eq text c.text ≡ false) × (unwrap_or (claim_in text cs) Absent ≡ Absent) = unclaimed_at (bytes_eq text c.text) c (find (λ d. bytes_eq text d.text) cs) absent in
+    rw current.0 (not_claimed text cs current.1)
 
-absent_everywhere : (table : Tabled) (text : List ℕ) → IsSound table → found_in table text ≡ Absent → list_any (bytes_eq text) (all_texts table) ≡ false
+absent_everywhere : (table : TableState) (text : List ℕ) → IsSound table → found_in table text ≡ Absent → list_any (bytes_eq text) (all_texts table) ≡ false
 absent_everywhere table text sound absent =
     let none : (list_any (bytes_eq text) (texts_of table.records) ≡ false) × (unwrap_or (claim_in text table.claims) Absent ≡ Absent) = not_recorded 1 text table.records table.filled (unwrap_or (claim_in text table.claims) Absent) sound.filled absent in
     rw (list_any-append (bytes_eq text) (texts_of table.records) (claimed_texts table.claims), none.0) (not_claimed text table.claims none.1)
@@ -196,7 +196,7 @@ number_above n (m ∷ numbers) below =
     let less : m < n = All-head (λ k. k < n) m numbers below in
     rw (ne_eqb n m (λ same. omega (arith, less, same))) (number_above n numbers (All-tail (λ k. k < n) m numbers below))
 
-pub sound_claimed : (table : Tabled) (text : List ℕ) → IsSound table → found_in table text ≡ Absent → IsSound (record { claims = table.claims ++ record { number = claim_count table; text = text } ∷ []; records = table.records; filled = table.filled })
+pub sound_claimed : (table : TableState) (text : List ℕ) → IsSound table → found_in table text ≡ Absent → IsSound (record { claims = table.claims ++ record { number = claim_count table; text = text } ∷ []; records = table.records; filled = table.filled })
 sound_claimed table text sound absent =
     let c : Claim = record { number = claim_count table; text = text } in
     let texts : texts_of table.records ++ claimed_texts (table.claims ++ c ∷ []) ≡ all_texts table ++ text ∷ [] =
@@ -223,13 +223,13 @@ last_opened n text (c ∷ cs) below =
     rw (ne_eqb c.number n (λ same. omega (arith, less, same))) (last_opened n text cs (All-tail (λ m. m < n) c.number (numbers_of cs) below))
 
 -- the new claim is open
-pub claim_opened : (table : Tabled) (text : List ℕ) → IsSound table → text_claimed (claim_count table) (table.claims ++ record { number = claim_count table; text = text } ∷ []) ≡ Some text
+pub claim_opened : (table : TableState) (text : List ℕ) → IsSound table → text_claimed (claim_count table) (table.claims ++ record { number = claim_count table; text = text } ∷ []) ≡ Some text
 claim_opened table text sound =
     last_opened (claim_count table) text table.claims (all_back (claim_count table) table.filled (numbers_of table.claims) sound.below)
 
 -- ---- a claim filled
 
-pub sound_filled : (table : Tabled) (c : Claim) (claims : List Claim) (verdict : Verdict) → IsSound table → IsPermutation table.claims (c ∷ claims) → IsSound (record { claims = claims; records = table.records ++ record { text = c.text; verdict = verdict } ∷ []; filled = table.filled ++ c.number ∷ [] })
+pub sound_filled : (table : TableState) (c : Claim) (claims : List Claim) (verdict : Verdict) → IsSound table → IsPermutation table.claims (c ∷ claims) → IsSound (record { claims = claims; records = table.records ++ record { text = c.text; verdict = verdict } ∷ []; filled = table.filled ++ c.number ∷ [] })
 sound_filled table c claims verdict sound moved =
     let r : Record = record { text = c.text; verdict = verdict } in
     let texts : IsPermutation (all_texts table) (texts_of table.records ++ claimed_texts (c ∷ claims)) =

@@ -1,3 +1,3 @@
 pub mod Plan
-pub mod Tabled
+pub mod TableState
 pub mod Grow

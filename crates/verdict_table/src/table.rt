@@ -2,7 +2,7 @@ ghost use Rattle.std.specs.Prelude.{◌≡◌, ◌+◌, [], ◌∷◌, ◌++◌,
 ghost use Rattle.std.specs.List.{IsDistinct};
 ghost use Rattle.std.specs.List.Sorted.{IsPermutation};
 ghost use Rattle.std.specs.Str.{bytes_eq};
-ghost use Rattle.verdict_table.specs.Tabled.{HasOnce, all_numbers, claim_count, claim_in, found_in, numbers_of, other_claims, record_from, text_claimed, texts_of, verdict_found, verdict_in};
+ghost use Rattle.verdict_table.specs.TableState.{HasOnce, all_numbers, claim_count, claim_in, found_in, numbers_of, other_claims, record_from, text_claimed, texts_of, verdict_found, verdict_in};
 
 use crate::found::Found;
 use crate::record::{Record, Records};
@@ -21,7 +21,7 @@ pub struct Claim {
 }
 
 /// A finite map from texts to verdicts: the records in their order, and the open claims.
-/// Each text stands in it at most once.
+/// Each text is in it at most once.
 #[derive(Drop)]
 pub struct Table {
     alloc: Global,
@@ -32,9 +32,9 @@ pub struct Table {
 
 impl Model for Table {
     ghost use Rattle.std.specs.Prelude.{◌+◌, ◌≤◌, length, vec_capacity};
-    ghost use Rattle.verdict_table.specs.Tabled.{IsSound, Tabled};
+    ghost use Rattle.verdict_table.specs.TableState.{IsSound, TableState};
 
-    ghost Value = { Tabled };
+    ghost Value = { TableState };
 
     ghost view = { λ table. record {
       claims = table.claims.items;
@@ -48,8 +48,8 @@ impl Model for Table {
         records = table.records.items;
         filled = table.filled.items;
       });
-      record_room : length table.claims.items + length table.records.items ≤ vec_capacity table.records;
-      filled_room : length table.claims.items + length table.records.items ≤ vec_capacity table.filled;
+      record_capacity : length table.claims.items + length table.records.items ≤ vec_capacity table.records;
+      filled_capacity : length table.claims.items + length table.records.items ≤ vec_capacity table.filled;
     } };
 }
 
@@ -57,11 +57,11 @@ fn record_of(records: &[Record], filled: &[u64], text: &[u8]) -> Option<Found>
     requires { length filled.now ≡ length records.now }
     ensures { result ≡ record_from 1 text.now records.now filled.now }
 {
-    for (place, record) in records.iter().enumerate() {
+    for (index, record) in records.iter().enumerate() {
         if text == record.text.as_slice() {
             return Some(Found::Filled {
-                claim: filled[place],
-                number: place as u64 + 1,
+                claim: filled[index],
+                number: index as u64 + 1,
                 verdict: record.verdict,
             });
         }
@@ -80,7 +80,7 @@ fn claim_of(claims: &[Claim], text: &[u8]) -> Option<Found>
     None
 }
 
-fn place_of(claims: &[Claim], number: u64) -> Option<usize>
+fn index_of(claims: &[Claim], number: u64) -> Option<usize>
     ensures { result ≡ position (λ c. c.number == number) claims.now }
 {
     claims.iter().position(|claim| claim.number == number)
@@ -95,9 +95,9 @@ fn take_claim(claims: &mut Vec<Claim>, number: u64) -> Claim
     ensures others { claims.new.items ≡ other_claims number claims.old.items }
     ensures moved { IsPermutation claims.old.items (result ∷ claims.new.items) }
 {
-    match place_of(claims, number) {
+    match index_of(claims, number) {
         None => unreachable!(),
-        Some(place) => claims.remove(place),
+        Some(index) => claims.remove(index),
     }
 }
 
@@ -129,7 +129,7 @@ impl Table {
     }
 
     /// Opens a claim of a text that the table doesn't hold, and answers the claim's number, which no claim had before.
-    /// It reserves the place of the claim's record, so that filling it takes no memory.
+    /// It reserves the memory of the claim's record, so that filling it takes none.
     pub fn claim(&mut self, text: &[u8]) -> Result<u64, Memory>
         requires absent { found_in self.old text.now ≡ Absent }
         ensures claimed { IfOk result (λ claim. self.new ≡ record self.old {

@@ -1,6 +1,6 @@
 use Rattle.std.proofs.Common.{◌≡◌, ◌∙◌, ℕ, List, ap, sym, subst, Err}
 use Rattle.std.proofs.lemmas.Bool.{false≢true}
-use Rattle.verdict_table.specs.Tabled.{verdict_in}
+use Rattle.verdict_table.specs.TableState.{verdict_in}
 use Rattle.reduce_core.specs.LineMachine.{gives}
 use Rattle.perses_main.specs.Top.{AreOf, FirstIsNo, IsReductionOf}
 use Rattle.perses_main.proofs.RunLemmas.{none_distinct}

@@ -1,5 +1,5 @@
 use Rattle.std.proofs.Common.{sym, ◌∙◌}
-use Rattle.verdict_table.specs.Tabled.{verdict_in}
+use Rattle.verdict_table.specs.TableState.{verdict_in}
 use Rattle.verdict_table.proofs.PlanLemmas.{follow_ended}
 use Rattle.verdict_table.proofs.RecordLemmas.{extends_itself}
 use Rattle.perses_main.proofs.RunLemmas.{IsUnderWay, learned, starts, unfinished}

@@ -21,23 +21,23 @@ returns-then-len g t c =
     let texts = map (λ v. v.items) c.in_ok-texts.texts.items in
     let questions = ap (λ vs. map (λ v. v.items) vs) c.deref.ensures.value ∙ ap (λ (o : Outcome). o.questions) c.round.view_is in
     let texts_are = c.in_ok-texts.ensures ∙ ap (λ keeps. map (candidate c.args.lines) keeps) questions in
-    let left_is = c.in_ok-left.ensures ∙ ap (λ keep. kept_of keep c.args.lines) (c.deref-2.ensures.value ∙ ap (λ (o : Outcome). o.result) c.round.view_is) in
+    let left_is = c.in_ok-remaining.ensures ∙ ap (λ keep. kept_of keep c.args.lines) (c.deref-2.ensures.value ∙ ap (λ (o : Outcome). o.result) c.round.view_is) in
     let is = ap (λ later. after_round texts later) c.nothing_more.ensures
-    ∙ last-round verdict c.args.lines c.in_ok-round.round texts c.in_ok-left.left c.in_ok-round.ensures.round texts_are left_is (omega arith) in
+    ∙ last-round verdict c.args.lines c.in_ok-round.round texts c.in_ok-remaining.remaining c.in_ok-round.ensures.round texts_are left_is (omega arith) in
     subst (λ (r : Reduction). IfOk c.after_round.result (λ found. found ≡ r)) is c.after_round.ensures
 
 pub plain_rounds-requires : goal.plain_rounds-requires
 plain_rounds-requires g t c κs within =
     let fewer : length (kept_of c.deref-2.result.now c.args.lines) ≤ length c.args.lines = length-kept_of c.deref-2.result.now c.args.lines in
-    let left = ap length c.in_ok-left.ensures in
-    let falls : length c.in_ok-left.left < length c.args.lines = omega arith in
+    let remaining = ap length c.in_ok-remaining.ensures in
+    let falls : length c.in_ok-remaining.remaining < length c.args.lines = omega arith in
     search rules
 
 pub after_round-requires-2 : goal.after_round-requires-2
 after_round-requires-2 g t c =
     let fewer : length (kept_of c.deref-2.result.now c.args.lines) ≤ length c.args.lines = length-kept_of c.deref-2.result.now c.args.lines in
-    let left = ap length c.in_ok-left.ensures in
-    let few = rounds-few (g.T.Test.verdict c.args.test.now) c.in_ok-left.left in
+    let remaining = ap length c.in_ok-remaining.ensures in
+    let few = rounds-few (g.T.Test.verdict c.args.test.now) c.in_ok-remaining.remaining in
     let rounds = ap (λ (r : Reduction). r.rounds) c.in_ok-later.ensures in
     omega arith
 
@@ -47,7 +47,7 @@ returns g t c =
     let texts = map (λ v. v.items) c.in_ok-texts.texts.items in
     let questions = ap (λ vs. map (λ v. v.items) vs) c.deref.ensures.value ∙ ap (λ (o : Outcome). o.questions) c.round.view_is in
     let texts_are = c.in_ok-texts.ensures ∙ ap (λ keeps. map (candidate c.args.lines) keeps) questions in
-    let left_is = c.in_ok-left.ensures ∙ ap (λ keep. kept_of keep c.args.lines) (c.deref-2.ensures.value ∙ ap (λ (o : Outcome). o.result) c.round.view_is) in
+    let left_is = c.in_ok-remaining.ensures ∙ ap (λ keep. kept_of keep c.args.lines) (c.deref-2.ensures.value ∙ ap (λ (o : Outcome). o.result) c.round.view_is) in
     let is = ap (λ later. after_round texts later) c.in_ok-later.ensures
-    ∙ next-rounds verdict c.args.lines c.in_ok-round.round texts c.in_ok-left.left c.in_ok-round.ensures.round texts_are left_is (omega arith) in
+    ∙ next-rounds verdict c.args.lines c.in_ok-round.round texts c.in_ok-remaining.remaining c.in_ok-round.ensures.round texts_are left_is (omega arith) in
     subst (λ (r : Reduction). IfOk c.after_round-2.result (λ found. found ≡ r)) is c.after_round-2.ensures

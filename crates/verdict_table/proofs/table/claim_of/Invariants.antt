@@ -1,5 +1,5 @@
 use Rattle.std.proofs.Common.{◌≡◌, drop}
-use Rattle.verdict_table.specs.Tabled.{claim_in}
+use Rattle.verdict_table.specs.TableState.{claim_in}
 use Rattle.verdict_table.proofs.table.claim_of.Given as goal
 
 abbrev pub invariant-loop-claim : goal.invariant-loop-claim

@@ -1,5 +1,5 @@
 use Rattle.std.proofs.Common.{false, ap, sym, ◌∙◌, length, ◌≡◌, ◌++◌, arith}
-use Rattle.reduce_core.proofs.Keeping.{joined-kept, kept_of-kept, kept_of-left}
+use Rattle.reduce_core.proofs.Keeping.{joined-kept, kept_of-kept, kept_of-dropped}
 use Rattle.reduce_core.proofs.lines.Lines.write_kept.Goals as goal
 use Rattle.reduce_core.proofs.lines.Lines.write_kept.Goals.{then-keep-k+in_ok-extend_from_slice, else-keep-k}
 
@@ -16,7 +16,7 @@ loop-k-preserved c =
             few = omega (arith, w.count-is, c.loop-k.invariant.few);
           }
       | else-keep-k w ↦
-          let less = kept_of-left c.args.keep.now c.self.inside.items.items c.loop-k.k false c.loop-k-test.true same w.if-keep-k.false in
+          let less = kept_of-dropped c.args.keep.now c.self.inside.items.items c.loop-k.k false c.loop-k-test.true same w.if-keep-k.false in
           record {
             text = rw (← less, w.text-is) c.loop-k.invariant.text;
             count = omega (arith, w.count-is, ap length less, c.loop-k.invariant.count);

@@ -3,7 +3,7 @@ use Rattle.script_gate.specs.declared.gate.GateFault.{GateFault}
 use Rattle.script_gate.specs.declared.gate.GateFault.TheVariants.{Failed, Memory}
 use Rattle.script_gate.proofs.rule_gate.RuleGateGate.TheImpl.Goals as goal
 
--- what only wants memory never fails
+-- what fails only where memory runs out never answers `Failed`
 never_failed : {A : Type 0} (result : Result A GateFault) → IsOkUnless result Memory → IsErrOf result Failed → ⊥
 never_failed (Ok value) only failed = absurd (cc failed)
 never_failed (Err fault) only failed = absurd (cc (only, failed))
@@ -14,6 +14,7 @@ open-tells g c = record {
   refused = c.ensures.refused;
   count = omega arith;
   failed = λ failed. absurd (never_failed c.result c.ensures.never_fails failed);
+  quiet = λ _. cc;
 }
 
 pub ask-tells : goal.ask-tells
@@ -23,4 +24,5 @@ ask-tells g c = record {
   refused = c.ensures.refused;
   count = omega arith;
   failed = λ failed. absurd (never_failed c.result c.ensures.never_fails failed);
+  quiet = λ _. cc;
 }

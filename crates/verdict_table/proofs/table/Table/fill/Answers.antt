@@ -1,6 +1,6 @@
 use Rattle.std.proofs.Common.{◌≡◌, suc, length, arith, sym}
 use Rattle.std.proofs.lemmas.List.Sorted.{length_permutation}
-use Rattle.verdict_table.specs.Tabled.{Tabled}
+use Rattle.verdict_table.specs.TableState.{TableState}
 use Rattle.verdict_table.proofs.TableLemmas.{distinct_claims, sound_filled}
 use Rattle.verdict_table.proofs.table.Table.fill.Goals as goal
 
@@ -9,13 +9,13 @@ take_claim-number-requires-clause-numbered c = distinct_claims _ c.self.invarian
 
 pub invariant_of-self : goal.invariant_of-self
 invariant_of-self c =
-    let table : Tabled = record { claims = c.self.inside.claims.items; records = c.self.inside.records.items; filled = c.self.inside.filled.items } in
+    let table : TableState = record { claims = c.self.inside.claims.items; records = c.self.inside.records.items; filled = c.self.inside.filled.items } in
     let moved : length table.claims ≡ suc (length c.take_claim-number.new.claims.items) = sym (length_permutation _ _ c.take_claim-number.ensures.moved) in
     let recorded = rw c.unwrap.ensures at c.push.ensures.len in
     let filled = rw c.unwrap-2.ensures at c.push-2.ensures.len in
     record {
       sound = rw (c.push.ensures.items, c.unwrap.ensures, c.push-2.ensures.items, c.unwrap-2.ensures)
           (sound_filled table c.take_claim-number.result c.take_claim-number.new.claims.items c.args.verdict c.self.invariant.sound c.take_claim-number.ensures.moved);
-      record_room = omega (arith, recorded);
-      filled_room = omega (arith, recorded, filled);
+      record_capacity = omega (arith, recorded);
+      filled_capacity = omega (arith, recorded, filled);
     }

@@ -1,16 +1,16 @@
 use Rattle.std.proofs.Common.{◌≡◌}
-use Rattle.verdict_table.specs.Tabled.{Tabled, found_in}
+use Rattle.verdict_table.specs.TableState.{TableState, found_in}
 use Rattle.verdict_table.proofs.TableLemmas.{verdict_found_in}
 use Rattle.verdict_table.proofs.table.Table.find.Goals as goal
 
 pub returns-in-Some-clause-verdict : goal.returns-in-Some-clause-verdict
 returns-in-Some-clause-verdict c =
-    let table : Tabled = record { claims = c.self.inside.claims.items; records = c.self.inside.records.items; filled = c.self.inside.filled.items } in
+    let table : TableState = record { claims = c.self.inside.claims.items; records = c.self.inside.records.items; filled = c.self.inside.filled.items } in
     let is : c.in-Some.found ≡ found_in table c.args.text.now = rw (← c.deref.ensures.value, ← c.deref-2.ensures.value, ← c.in-Some.ensures) in
     rw (← c.self.view_is, is) (verdict_found_in table c.args.text.now c.self.invariant.sound)
 
 pub returns-in-None-clause-verdict : goal.returns-in-None-clause-verdict
 returns-in-None-clause-verdict c =
-    let table : Tabled = record { claims = c.self.inside.claims.items; records = c.self.inside.records.items; filled = c.self.inside.filled.items } in
+    let table : TableState = record { claims = c.self.inside.claims.items; records = c.self.inside.records.items; filled = c.self.inside.filled.items } in
     let is : c.unwrap_or.result ≡ found_in table c.args.text.now = rw (← c.deref.ensures.value, ← c.deref-2.ensures.value, ← c.in-None.ensures, c.unwrap_or.ensures, c.claim_of.ensures, c.deref-in-None.ensures.value) in
     rw (← c.self.view_is, is) (verdict_found_in table c.args.text.now c.self.invariant.sound)

@@ -1,5 +1,5 @@
 use Rattle.std.specs.Str.{bytes_eq}
-use Rattle.verdict_table.specs.Tabled.{claimed_texts, texts_of}
+use Rattle.verdict_table.specs.TableState.{claimed_texts, texts_of}
 use Rattle.verdict_table.proofs.TableLemmas.{distinct_front}
 use Rattle.verdict_table.proofs.table.Table.into_records.Goals as goal
 

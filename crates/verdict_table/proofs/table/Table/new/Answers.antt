@@ -5,6 +5,6 @@ use Rattle.verdict_table.proofs.table.Table.new.Goals as goal
 pub invariant_of-result : goal.invariant_of-result
 invariant_of-result c = record {
   sound = rw (c.new.ensures.items, c.new-2.ensures.items, c.new-3.ensures.items) sound_empty;
-  record_room = rw (c.new.ensures.items, c.new-2.ensures.items) (omega arith);
-  filled_room = rw (c.new.ensures.items, c.new-2.ensures.items) (omega arith);
+  record_capacity = rw (c.new.ensures.items, c.new-2.ensures.items) (omega arith);
+  filled_capacity = rw (c.new.ensures.items, c.new-2.ensures.items) (omega arith);
 }

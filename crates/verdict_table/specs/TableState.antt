@@ -9,7 +9,7 @@ use Rattle.verdict_table.specs.declared.record.Record.{Record}
 use Rattle.verdict_table.specs.declared.table.Claim.{Claim}
 
 -- the open claims, the records in their order, and for each record the number of its claim
-pub record Tabled : Type 0 where
+pub record TableState : Type 0 where
   pub claims : List Claim
   pub records : List Record
   pub filled : List ℕ
@@ -25,24 +25,24 @@ abbrev pub numbers_of : List Claim → List ℕ
 numbers_of claims = map (λ c. c.number) claims
 
 -- the texts of the records and of the open claims
-abbrev pub all_texts : Tabled → List (List ℕ)
+abbrev pub all_texts : TableState → List (List ℕ)
 all_texts table = texts_of table.records ++ claimed_texts table.claims
 
 -- the numbers of all claims that were ever made
-abbrev pub all_numbers : Tabled → List ℕ
+abbrev pub all_numbers : TableState → List ℕ
 all_numbers table = table.filled ++ numbers_of table.claims
 
--- each text stands in the table at most once
-abbrev pub HasOnce : Tabled → Type 0
+-- each text is in the table at most once
+abbrev pub HasOnce : TableState → Type 0
 HasOnce table = IsDistinct bytes_eq (all_texts table)
 
 -- how many claims were ever made
-abbrev pub claim_count : Tabled → ℕ
+abbrev pub claim_count : TableState → ℕ
 claim_count table = length table.claims + length table.records
 
 -- what holds of every table: each text once, each claim's number once and below their count,
 -- and one claim's number for each record
-pub record IsSound (table : Tabled) : Type 0 where
+pub record IsSound (table : TableState) : Type 0 where
   pub once : HasOnce table
   pub numbered : IsDistinct nat_eq (all_numbers table)
   pub below : All (λ number. number < claim_count table) (all_numbers table)
@@ -70,7 +70,7 @@ abbrev pub claim_in : List ℕ → List Claim → Option Found
 claim_in text claims = option_map (λ c. Claimed c.number) (find (λ c. bytes_eq text c.text) claims)
 
 -- what the table holds for a text: a record with it, numbered from 1, or an open claim
-abbrev pub found_in : Tabled → List ℕ → Found
+abbrev pub found_in : TableState → List ℕ → Found
 found_in table text =
     unwrap_or (record_from 1 text table.records table.filled) (unwrap_or (claim_in text table.claims) Absent)
 

@@ -19,21 +19,21 @@ pub struct Opening {
 
 /// What a gate was asked, in order, and what it was last opened with.
 #[derive(Drop)]
-pub struct Told {
+pub struct Log {
     /// The texts that it gave a verdict on.
     pub asked: TextList,
     /// The last opening; none before the first.
     pub opening: Option<Opening>,
 }
 
-impl Told {
-    ghost use Rattle.script_gate.specs.Told.{nothing_told, with_asked, with_opening};
+impl Log {
+    ghost use Rattle.script_gate.specs.Log.{empty_log, with_asked, with_opening};
 
     /// Neither an ask nor an opening.
-    pub fn new(alloc: Global) -> Told
-        ensures { result ≡ nothing_told }
+    pub fn new(alloc: Global) -> Log
+        ensures { result ≡ empty_log }
     {
-        Told {
+        Log {
             asked: TextList::new(alloc),
             opening: None,
         }
@@ -48,7 +48,7 @@ impl Told {
         self.asked.push(text)
     }
 
-    /// Puts an opening in the place of the last one. After an error all is as before.
+    /// Replaces the last opening. After an error all is as before.
     pub fn set_opening(
         &mut self,
         alloc: Global,
