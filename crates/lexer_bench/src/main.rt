@@ -1,5 +1,6 @@
-//! Lexes a file by the grammar Mini as often as it is told, and prints how many tokens it has.
-//! `bench/lexer` runs it and takes the times.
+//! Lexes a text so many times and prints how many tokens it has: `lexer_bench TEXT TIMES` by the
+//! grammar Mini, and `lexer_bench TEXT TIMES GRAMMAR` by the grammar in a file. `bench/lexer` and
+//! `bench/grammars` run it and take the times.
 #![tactic(auto)]
 
 ghost use Rattle.std.specs.Prelude.{◌<◌, ◌^◌, IfOk, length};
@@ -13,11 +14,11 @@ use lexer::{LexFault, Lexer};
 use std::alloc::Global;
 use std::{env, fs};
 
-/// The lexer of Mini.
-fn mini(alloc: Global) -> Result<Lexer> {
-    match checked(alloc, MINI, None) {
+/// The lexer of the grammar that the text spells.
+fn lexer_of(alloc: Global, grammar: &str) -> Result<Lexer> {
+    match checked(alloc, grammar, None) {
         Ok(grammar) => Ok(Lexer::build(alloc, &grammar)?),
-        Err(refused) => bail!("Mini is refused: {refused:?}"),
+        Err(refused) => bail!("the grammar is refused: {refused:?}"),
     }
 }
 
@@ -43,15 +44,19 @@ fn repeated(lexer: &Lexer, text: &str, times: u32) -> std::result::Result<usize,
 fn main(rt: HostRuntime) -> Result<()> {
     let alloc = rt.alloc();
     let words: Vec<String> = env::args(&rt)?.collect(alloc)?;
-    if words.len() != 3 {
-        bail!("give the name of a file, and how often it is lexed");
+    if words.len() < 3 || words.len() > 4 {
+        bail!("give the name of a text, how often it is lexed, and maybe the name of a grammar");
     }
     let times = words[2].as_str().parse::<u32>()?;
+    let lexer = match words.get(3) {
+        Some(name) => lexer_of(alloc, fs::read_to_string(&rt, name.as_str())?.as_str())?,
+        None => lexer_of(alloc, MINI)?,
+    };
     let text = fs::read_to_string(&rt, words[1].as_str())?;
     if text.len() > u32::MAX as usize {
         bail!("the file is too long");
     }
-    let count = repeated(&mini(alloc)?, text.as_str(), times)?;
+    let count = repeated(&lexer, text.as_str(), times)?;
     println!(rt; "{count} tokens")?;
     Ok(())
 }
