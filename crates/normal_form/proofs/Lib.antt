@@ -17,3 +17,6 @@ pub mod PrintLemmas
 pub mod PrintedSymbols
 pub mod Few
 pub mod Rows
+pub mod DeriveForms
+pub mod VisibleKinds
+pub mod Parts

@@ -3,6 +3,7 @@ pub use Rattle.grammar_tree.specs.Kinds
 pub use Rattle.grammar_tree.specs.Derives
 pub use Rattle.grammar_tree.specs.Corners
 pub use Rattle.grammar_tree.specs.Checked
+pub use Rattle.grammar_tree.specs.Laws
 pub mod Form
 pub mod NormalDerives
 pub mod Numbering
@@ -13,3 +14,5 @@ pub mod Code
 pub mod View
 pub mod Numbers
 pub mod Laws
+pub mod Symbols
+pub mod FormLaws

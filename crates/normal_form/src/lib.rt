@@ -11,6 +11,7 @@
 #![tactic(auto)]
 
 mod counts;
+mod form_laws;
 mod from_grammar;
 mod groups;
 mod laws;
@@ -25,6 +26,7 @@ mod rules;
 mod sets;
 
 pub use faults::Memory;
+pub use form_laws::{normal_derives_by_form, sets_are_visible_kinds};
 pub use from_grammar::normalise;
 pub use laws::{equal_languages, rules_are_few};
 pub use normal::{Normal, NormalRule, Sym};

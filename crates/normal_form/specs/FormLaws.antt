@@ -1,0 +1,59 @@
+-- What holds of every normal form, for the proofs of other crates.
+use Rattle.std.specs.Prelude.{◌≡◌, ◌↔◌, ◌⊎◌, ℕ, ◌<◌, ◌^◌, false, List, [], ◌∷◌, Some, None, length, slice_get}
+use Rattle.std.specs.List.{Contains}
+use Rattle.std.specs.List.Sorted.{IsStrictlyIncreasing}
+use Rattle.grammar_tree.specs.Written.{TokenKind}
+use Rattle.grammar_tree.specs.Laws.{CutsInto}
+use Rattle.normal_form.specs.declared.normal.Sym.{Sym}
+use Rattle.normal_form.specs.declared.normal.Sym.TheVariants.{Kind, Set, Rule}
+use Rattle.normal_form.specs.Form.{RuleForm, NormalForm}
+use Rattle.normal_form.specs.NormalDerives.{NormalDerives, NormalDerivesSeq, NormalDerivesMany}
+use Rattle.normal_form.specs.NormalOf.{IsNormal}
+use Rattle.normal_form.specs.Symbols.{HasSymbol, IsSymbolOf}
+
+-- Each symbol in a rule is one of the grammar's kinds, or one of the form's sets or rules.
+abbrev pub SymbolsAreKnown : Type 0
+SymbolsAreKnown = (N : NormalForm) (normal : IsNormal N) (r : ℕ) (form : RuleForm) (s : Sym) →
+    slice_get N.rules r ≡ Some form → HasSymbol form s → IsSymbolOf (length normal.grammar.kinds) N s
+
+-- The kinds rise, and each is the number of a kind that isn't a gap kind.
+pub record AreVisibleKinds (kinds : List TokenKind) (ks : List ℕ) : Type 0 where
+  pub rising : IsStrictlyIncreasing ks
+  pub visible : (k : ℕ) → Contains ks k → (kind : TokenKind) × (slice_get kinds k ≡ Some kind) × (kind.gap ≡ false)
+
+-- Each set has kinds of the grammar that aren't gap kinds, rising.
+abbrev pub SetsAreVisibleKinds : Type 0
+SetsAreVisibleKinds = (N : NormalForm) (normal : IsNormal N) (i : ℕ) (ks : List ℕ) →
+    slice_get N.sets i ≡ Some ks → AreVisibleKinds normal.grammar.kinds ks
+
+-- A regular rule has fewer than 2^32 alternatives, and each of them fewer than 2^32 symbols.
+pub record AlternativesAreFew (N : NormalForm) : Type 0 where
+  pub alternatives : (r : ℕ) (alts : List (List Sym)) → slice_get N.rules r ≡ Some (RuleForm.regular alts) → length alts < 2 ^ 32
+  pub symbols : (r : ℕ) (alts : List (List Sym)) (alt : List Sym) → slice_get N.rules r ≡ Some (RuleForm.regular alts) → Contains alts alt → length alt < 2 ^ 32
+
+-- How a symbol derives, by its form. Each is an equivalence, so nothing else is derived.
+pub record NormalDerivesByForm (N : NormalForm) : Type 0 where
+  -- a kind derives itself
+  pub kind : (k : ℕ) (w : List ℕ) → NormalDerives N (Kind k) w ↔ (w ≡ k ∷ [])
+  -- a set derives one of its kinds, and a number that no set has derives nothing
+  pub set : (i : ℕ) (w : List ℕ) → NormalDerives N (Set i) w ↔ ((ks : List ℕ) × (k : ℕ) × (slice_get N.sets i ≡ Some ks) × Contains ks k × (w ≡ k ∷ []))
+  -- a number that no rule has derives nothing
+  pub no_rule : (r : ℕ) (w : List ℕ) → slice_get N.rules r ≡ None → ¬ NormalDerives N (Rule r) w
+  -- a regular rule derives what one of its alternatives does
+  pub regular : (r : ℕ) (alts : List (List Sym)) (w : List ℕ) → slice_get N.rules r ≡ Some (RuleForm.regular alts) →
+      NormalDerives N (Rule r) w ↔ ((alt : List Sym) × Contains alts alt × NormalDerivesSeq N alt w)
+  -- an optional derives the empty list, and what its symbol does
+  pub opt : (r : ℕ) (s : Sym) (w : List ℕ) → slice_get N.rules r ≡ Some (RuleForm.opt s) →
+      NormalDerives N (Rule r) w ↔ ((w ≡ []) ⊎ NormalDerives N s w)
+  -- a star derives its symbol any number of times
+  pub star : (r : ℕ) (s : Sym) (w : List ℕ) → slice_get N.rules r ≡ Some (RuleForm.star s) →
+      NormalDerives N (Rule r) w ↔ NormalDerivesMany N s w
+  -- a plus derives its symbol once, and then any number of times
+  pub plus : (r : ℕ) (s : Sym) (w : List ℕ) → slice_get N.rules r ≡ Some (RuleForm.plus s) →
+      NormalDerives N (Rule r) w ↔ CutsInto (NormalDerives N s) (NormalDerivesMany N s) w
+  -- any number of times is not at all, or once and then any number of times
+  pub many : (s : Sym) (w : List ℕ) → NormalDerivesMany N s w ↔ ((w ≡ []) ⊎ CutsInto (NormalDerives N s) (NormalDerivesMany N s) w)
+  -- no symbols derive the empty list
+  pub done : (w : List ℕ) → NormalDerivesSeq N [] w ↔ (w ≡ [])
+  -- symbols one after another derive what is cut into what the first derives and what the rest does
+  pub next : (s : Sym) (ss : List Sym) (w : List ℕ) → NormalDerivesSeq N (s ∷ ss) w ↔ CutsInto (NormalDerives N s) (NormalDerivesSeq N ss) w

@@ -1,0 +1,16 @@
+//! What holds of every normal form. Each law is a function that does nothing: a caller calls it so
+//! that its proof has the law.
+
+ghost use Rattle.normal_form.specs.Form.{NormalForm};
+ghost use Rattle.normal_form.specs.FormLaws.{NormalDerivesByForm, SetsAreVisibleKinds};
+
+/// Each set has kinds of the grammar that aren't gap kinds, rising.
+pub fn sets_are_visible_kinds()
+    ensures { SetsAreVisibleKinds }
+{}
+
+/// How each form of symbol derives: a kind itself, a set one of its kinds, a regular rule what one
+/// of its alternatives does, and so on. Nothing else is derived.
+pub fn normal_derives_by_form()
+    ensures { (form : NormalForm) → NormalDerivesByForm form }
+{}
