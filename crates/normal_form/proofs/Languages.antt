@@ -18,7 +18,7 @@ use Rattle.normal_form.proofs.Forward.{forward}
 use Rattle.normal_form.proofs.Backward.{backward}
 
 -- the sets of a rule are among all sets
-sets_among : (G : List Alts) (r : ℕ) (a : Alts) → slice_get G r ≡ Some a → (ks : List ℕ) → Contains (alts_sets a) ks → Contains (flat_map alts_sets G) ks
+pub sets_among : (G : List Alts) (r : ℕ) (a : Alts) → slice_get G r ≡ Some a → (ks : List ℕ) → Contains (alts_sets a) ks → Contains (flat_map alts_sets G) ks
 sets_among [] r a e ks c = absurd (cc)
 sets_among (b ∷ G) zero a e ks c =
     let same : b ≡ a = cc in

@@ -20,3 +20,7 @@ pub mod Rows
 pub mod DeriveForms
 pub mod VisibleKinds
 pub mod Parts
+pub mod Positions
+pub mod Origins
+pub mod Settings
+pub mod KnownSymbols

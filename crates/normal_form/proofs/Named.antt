@@ -49,7 +49,7 @@ mutual
   alts_length M n none = refl
   alts_length M n (or s a) = length-append (seq_rules M n s) (alts_rules M (n + seq_new_rules s) a) ∙ omega (arith, seq_length M n s, alts_length M (n + seq_new_rules s) a)
 
-closed_part : (G : List Alts) (K : List ℕ → Type 0) (t : Term) (x : Sym) (ss : List Sym) → IsClosed G K t → and_symbol t x ss ≡ x ∷ ss
+pub closed_part : (G : List Alts) (K : List ℕ → Type 0) (t : Term) (x : Sym) (ss : List Sym) → IsClosed G K t → and_symbol t x ss ≡ x ∷ ss
 closed_part G K eof x ss h = absurd h
 closed_part G K (kind k) x ss h = refl
 closed_part G K (among ks) x ss h = refl

@@ -154,7 +154,7 @@ module _ (S : Setting) (low high : ℕ) where
       }
 
 -- The rule is in these rules, at an index.
-get_append : (xs ys : List RuleForm) (k : ℕ) (f : RuleForm) → slice_get (xs ++ ys) k ≡ Some f → (slice_get xs k ≡ Some f) ⊎ ((j : ℕ) × (k ≡ length xs + j) × (slice_get ys j ≡ Some f))
+pub get_append : (xs ys : List RuleForm) (k : ℕ) (f : RuleForm) → slice_get (xs ++ ys) k ≡ Some f → (slice_get xs k ≡ Some f) ⊎ ((j : ℕ) × (k ≡ length xs + j) × (slice_get ys j ≡ Some f))
 get_append [] ys k f e = inr (k, omega arith, e)
 get_append (x ∷ xs) ys zero f e = inl e
 get_append (x ∷ xs) ys (suc k) f e = elim (get_append xs ys k f e) [

@@ -2,7 +2,12 @@
 //! that its proof has the law.
 
 ghost use Rattle.normal_form.specs.Form.{NormalForm};
-ghost use Rattle.normal_form.specs.FormLaws.{NormalDerivesByForm, SetsAreVisibleKinds};
+ghost use Rattle.normal_form.specs.FormLaws.{NormalDerivesByForm, SetsAreVisibleKinds, SymbolsAreKnown};
+
+/// Each symbol in a rule is one of the grammar's kinds, or one of the form's sets or rules.
+pub fn symbols_are_known()
+    ensures { SymbolsAreKnown }
+{}
 
 /// Each set has kinds of the grammar that aren't gap kinds, rising.
 pub fn sets_are_visible_kinds()

@@ -26,7 +26,7 @@ mod rules;
 mod sets;
 
 pub use faults::Memory;
-pub use form_laws::{normal_derives_by_form, sets_are_visible_kinds};
+pub use form_laws::{normal_derives_by_form, sets_are_visible_kinds, symbols_are_known};
 pub use from_grammar::normalise;
 pub use laws::{equal_languages, rules_are_few};
 pub use normal::{Normal, NormalRule, Sym};
