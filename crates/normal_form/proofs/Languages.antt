@@ -1,15 +1,19 @@
 -- A checked grammar and its normal form have equal languages.
-use Rattle.std.proofs.Common.{◌≡◌, ℕ, zero, suc, List, [], ◌∷◌, Some, slice_get, refl, sym, subst, arith, get_or}
+use Rattle.std.proofs.Common.{◌≡◌, ◌↔◌, ℕ, zero, suc, ◌<◌, length, List, [], ◌∷◌, Some, slice_get, refl, sym, subst, arith, get_or}
 use Rattle.std.specs.List.{Contains, flat_map}
 use Rattle.std.proofs.lemmas.List.Elements.{Contains-append_left, Contains-append_right}
 use Rattle.std.proofs.lemmas.Option.{slice_get-get_or}
 use Rattle.grammar_tree.specs.Written.{CheckedGrammar}
 use Rattle.grammar_tree.specs.Checked.{IsChecked}
-use Rattle.grammar_tree.specs.Derives.{Alts, Term, bodies}
+use Rattle.grammar_tree.specs.Derives.{Alts, RuleDerives, Term, bodies}
+use Rattle.grammar_tree.specs.Faults.{number_at}
+use Rattle.grammar_tree.proofs.Places.{numbers}
 use Rattle.normal_form.specs.declared.normal.Sym.TheVariants.{Rule}
 use Rattle.normal_form.specs.Numbering.{groups, group}
 use Rattle.normal_form.specs.NormalOf.{normal_of, numbering, place, alts_sets}
+use Rattle.normal_form.specs.NormalDerives.{NormalDerives}
 use Rattle.normal_form.specs.Laws.{EqualLanguages}
+use Rattle.normal_form.proofs.Assembly.{number_within}
 use Rattle.normal_form.proofs.Stands.{Fits}
 use Rattle.normal_form.proofs.Closed.{IsClosedAlts, bodies_closed}
 use Rattle.normal_form.proofs.SetNumbers.{set_is_there}
@@ -41,8 +45,9 @@ fits c checked r a e =
 any_alts : Alts
 any_alts = Alts.none
 
-pub equal_languages : EqualLanguages
-equal_languages c checked r known w =
+-- a parser rule and its rule in the normal form
+equal_rules : (c : CheckedGrammar) → IsChecked c → (r : ℕ) → r < length (bodies c.grammar) → (w : List ℕ) → RuleDerives c.grammar r w ↔ NormalDerives (normal_of c) (Rule (place (bodies c.grammar) r)) w
+equal_rules c checked r known w =
     let G = bodies c.grammar in
     let a = get_or G r any_alts in
     let at : slice_get G r ≡ Some a = slice_get-get_or G r any_alts known in
@@ -50,3 +55,11 @@ equal_languages c checked r known w =
       λ d. forward shape d (Rule (place G r)) (refl, (a, at)),
       λ d. backward shape d (Term.rule r) (refl, (a, at)),
     )
+
+pub equal_languages : EqualLanguages
+unfolding normal_of
+equal_languages c checked =
+    record {
+      rules = equal_rules c checked;
+      starts = equal_rules c checked (number_at c.grammar c.start) (number_within c checked (numbers c.grammar));
+    }

@@ -24,3 +24,5 @@ pub mod Positions
 pub mod Origins
 pub mod Settings
 pub mod KnownSymbols
+pub mod FewAlternatives
+pub mod Elements

@@ -1,16 +1,16 @@
 -- From a symbol in an alternative of a normal form to the term that it is the symbol of.
 use Rattle.std.proofs.Common.{◌≡◌, ◌⊎◌, inl, inr, ℕ, ◌+◌, List, [], ◌∷◌, ◌++◌, Option, Some, None, slice_get, refl, sym, ap, ◌∙◌, subst}
 use Rattle.std.specs.List.{Contains}
-use Rattle.grammar_tree.specs.Derives.{Term, Seq, Alts, kind, among, rule, block, opt, star, plus, eof, done, next, none, or, by_eof}
+use Rattle.grammar_tree.specs.Derives.{Term, Seq, Alts, kind, among, rule, block, opt, star, plus, eof, done, next, none, or, DerivesSeq, DerivesAlts, by_eof, by_first, by_later}
 use Rattle.grammar_tree.specs.Corners.{Begins, BeginsSeq, BeginsAlts, CanBeEmpty, and_base, and_rest, bases, new_rules, rest_of, rests, seq_new_rules}
 use Rattle.normal_form.specs.declared.normal.Sym.{Sym}
 use Rattle.normal_form.specs.NormalDerives.{NormalDerives, NormalDerivesSeq}
 use Rattle.normal_form.specs.Numbering.{symbol, and_symbol, seq_symbols, alts_symbols, tail, base_symbols, rest_symbols}
 use Rattle.normal_form.specs.Numbering as numbers
-use Rattle.normal_form.proofs.Backward.{backward}
+use Rattle.normal_form.proofs.Backward.{backward, backward_all}
 use Rattle.normal_form.proofs.Forward.{all_inverse, rest_is}
 use Rattle.normal_form.proofs.Lists.{Contains-nil, Contains-cases}
-use Rattle.normal_form.proofs.Named.{closed_part, stands}
+use Rattle.normal_form.proofs.Named.{closed_part, stands, stands_seq}
 use Rattle.normal_form.proofs.Parts.{Setting, Known, KnownSeq, KnownAlts, first_of_alts, first_of_seq, rest_of_alts, rest_of_seq}
 use Rattle.normal_form.proofs.Stands.{Fits}
 
@@ -45,6 +45,7 @@ pub record AltAt (S : Setting) (low high : ℕ) (a : Alts) (alt : List Sym) : Ty
   pub is : alt ≡ seq_symbols S.numbers number seq
   pub known : KnownSeq S low high number seq
   pub begins : (q : ℕ) → BeginsSeq S.bodies q seq → BeginsAlts S.bodies q a
+  pub derives : (w : List ℕ) → DerivesSeq S.bodies seq w → DerivesAlts S.bodies a w
 
 module _ (S : Setting) (fits : Fits S.bodies S.form S.numbers.place) (low high : ℕ) where
   pub can_be_empty : (n : ℕ) (t : Term) → Known S low high n t → NormalDerives S.form (symbol S.numbers n t) [] → CanBeEmpty S.bodies t
@@ -89,14 +90,20 @@ module _ (S : Setting) (fits : Fits S.bodies S.form S.numbers.place) (low high :
   part_of n (next t s) x before after known e =
       part_first n t s x before after (first_of_seq S low high n t s known) (λ b h. part_of (n + new_rules t) s x b after (rest_of_seq S low high n t s known) h) e
 
+-- what an alternative of the form derives, one of the alternatives of the grammar derives
+pub alt_derives : (S : Setting) (fits : Fits S.bodies S.form S.numbers.place) (low high : ℕ) (a : Alts) (alt : List Sym) (w : List ℕ) → AltAt S low high a alt → NormalDerivesSeq S.form alt w → DerivesAlts S.bodies a w
+alt_derives S fits low high a alt w it d =
+    let P : List Sym → Type 0 = λ x. NormalDerivesSeq S.form x w in
+    it.derives w (backward_all fits (subst P it.is d) it.seq (stands_seq S.bodies S.form S.numbers it.number it.seq it.known.closed it.known.at))
+
 module _ (S : Setting) (low high : ℕ) where
   later_alt : (s : Seq) (a : Alts) (alt : List Sym) → AltAt S low high a alt → AltAt S low high (or s a) alt
-  later_alt s a alt h = record { number = h.number; seq = h.seq; is = h.is; known = h.known; begins = λ q b. inr (h.begins q b) }
+  later_alt s a alt h = record { number = h.number; seq = h.seq; is = h.is; known = h.known; begins = λ q b. inr (h.begins q b); derives = λ w d. by_later s a w (h.derives w d) }
 
   pub alt_of : (n : ℕ) (a : Alts) (alt : List Sym) → KnownAlts S low high n a → Contains (alts_symbols S.numbers n a) alt → AltAt S low high a alt
   alt_of n none alt known c = absurd (Contains-nil alt c)
   alt_of n (or s a) alt known c = elim (Contains-cases alt (seq_symbols S.numbers n s) (alts_symbols S.numbers (n + seq_new_rules s) a) c) [
-    | inl e ↦ record { number = n; seq = s; is = e; known = first_of_alts S low high n s a known; begins = λ q b. inl b }
+    | inl e ↦ record { number = n; seq = s; is = e; known = first_of_alts S low high n s a known; begins = λ q b. inl b; derives = λ w d. by_first s a w d }
     | inr d ↦ later_alt s a alt (alt_of (n + seq_new_rules s) a alt (rest_of_alts S low high n s a known) d)
   ]
 
@@ -104,7 +111,7 @@ module _ (S : Setting) (low high : ℕ) where
   base_first : (n : ℕ) (s : Seq) (b : Alts) (o : Option Seq) (more : List (List Sym)) (alt : List Sym) → KnownSeq S low high n s → (Contains more alt → AltAt S low high b alt) →
       Contains (numbers.with_base o (seq_symbols S.numbers n s) more) alt → AltAt S low high (and_base s o b) alt
   base_first n s b None more alt known later c = elim (Contains-cases alt (seq_symbols S.numbers n s) more c) [
-    | inl e ↦ record { number = n; seq = s; is = e; known = known; begins = λ q h. inl h }
+    | inl e ↦ record { number = n; seq = s; is = e; known = known; begins = λ q h. inl h; derives = λ w d. by_first s b w d }
     | inr d ↦ later_alt s b alt (later d)
   ]
   base_first n s b (Some rest) more alt known later c = later c
@@ -124,6 +131,7 @@ module _ (S : Setting) (low high : ℕ) where
         is = is ∙ ap (λ x. tail (seq_symbols S.numbers n x)) e;
         known = rest_of_seq S low high n (rule r) rest (subst P e known);
         begins = λ q h. inl h;
+        derives = λ w d. by_first rest b w d;
       }
 
   rest_first : (r n : ℕ) (s : Seq) (b : Alts) (o : Option Seq) (more : List (List Sym)) (alt : List Sym) → rest_of r s ≡ o → KnownSeq S low high n s → (Contains more alt → AltAt S low high b alt) →

@@ -27,9 +27,20 @@ SetsAreVisibleKinds = (N : NormalForm) (normal : IsNormal N) (i : ℕ) (ks : Lis
     slice_get N.sets i ≡ Some ks → AreVisibleKinds normal.grammar.kinds ks
 
 -- A regular rule has fewer than 2^32 alternatives, and each of them fewer than 2^32 symbols.
-pub record AlternativesAreFew (N : NormalForm) : Type 0 where
+pub record HasFewAlternatives (N : NormalForm) : Type 0 where
   pub alternatives : (r : ℕ) (alts : List (List Sym)) → slice_get N.rules r ≡ Some (RuleForm.regular alts) → length alts < 2 ^ 32
   pub symbols : (r : ℕ) (alts : List (List Sym)) (alt : List Sym) → slice_get N.rules r ≡ Some (RuleForm.regular alts) → Contains alts alt → length alt < 2 ^ 32
+
+abbrev pub AlternativesAreFew : Type 0
+AlternativesAreFew = (N : NormalForm) → IsNormal N → HasFewAlternatives N
+
+-- What a star or plus repeats is never empty.
+pub record HasNoEmptyElements (N : NormalForm) : Type 0 where
+  pub star : (r : ℕ) (s : Sym) → slice_get N.rules r ≡ Some (RuleForm.star s) → ¬ NormalDerives N s []
+  pub plus : (r : ℕ) (s : Sym) → slice_get N.rules r ≡ Some (RuleForm.plus s) → ¬ NormalDerives N s []
+
+abbrev pub ElementsAreNotEmpty : Type 0
+ElementsAreNotEmpty = (N : NormalForm) → IsNormal N → HasNoEmptyElements N
 
 -- How a symbol derives, by its form. Each is an equivalence, so nothing else is derived.
 pub record NormalDerivesByForm (N : NormalForm) : Type 0 where

@@ -2,7 +2,7 @@
 //! that its proof has the law.
 
 ghost use Rattle.normal_form.specs.Form.{NormalForm};
-ghost use Rattle.normal_form.specs.FormLaws.{NormalDerivesByForm, SetsAreVisibleKinds, SymbolsAreKnown};
+ghost use Rattle.normal_form.specs.FormLaws.{AlternativesAreFew, ElementsAreNotEmpty, NormalDerivesByForm, SetsAreVisibleKinds, SymbolsAreKnown};
 
 /// Each symbol in a rule is one of the grammar's kinds, or one of the form's sets or rules.
 pub fn symbols_are_known()
@@ -12,6 +12,16 @@ pub fn symbols_are_known()
 /// Each set has kinds of the grammar that aren't gap kinds, rising.
 pub fn sets_are_visible_kinds()
     ensures { SetsAreVisibleKinds }
+{}
+
+/// A regular rule has fewer than 2^32 alternatives, and each of them fewer than 2^32 symbols.
+pub fn alternatives_are_few()
+    ensures { AlternativesAreFew }
+{}
+
+/// The symbol of a star or plus doesn't derive the empty list.
+pub fn elements_are_not_empty()
+    ensures { ElementsAreNotEmpty }
 {}
 
 /// How each form of symbol derives: a kind itself, a set one of its kinds, a regular rule what one

@@ -4,7 +4,7 @@
 ghost use Rattle.normal_form.specs.Laws.{EqualLanguages, RulesAreFew};
 
 /// Each parser rule of a checked grammar, as it is written, derives the same lists of kinds as its
-/// rule in the normal form, direct left recursion included.
+/// rule in the normal form, direct left recursion included; and so do the two start rules.
 pub fn equal_languages()
     ensures { EqualLanguages }
 {}

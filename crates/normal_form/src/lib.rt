@@ -26,7 +26,10 @@ mod rules;
 mod sets;
 
 pub use faults::Memory;
-pub use form_laws::{normal_derives_by_form, sets_are_visible_kinds, symbols_are_known};
+pub use form_laws::{
+    alternatives_are_few, elements_are_not_empty, normal_derives_by_form, sets_are_visible_kinds,
+    symbols_are_known,
+};
 pub use from_grammar::normalise;
 pub use laws::{equal_languages, rules_are_few};
 pub use normal::{Normal, NormalRule, Sym};
