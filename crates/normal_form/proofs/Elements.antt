@@ -2,19 +2,19 @@
 use Rattle.std.proofs.Common.{◌≡◌, ◌⊎◌, inl, inr, ℕ, ◌+◌, List, [], ◌∷◌, Some, slice_get, refl, sym, ap, ◌∙◌, subst, arith}
 use Rattle.std.specs.List.{Contains}
 use Rattle.grammar_tree.specs.Derives.{Term, Seq, Alts, DerivesAlts, bodies, kind, among, rule, block, opt, star, plus, eof, none, or}
-use Rattle.grammar_tree.specs.Corners.{group_size, rests}
+use Rattle.grammar_tree.specs.Corners.{bases, group_size, rests}
 use Rattle.normal_form.specs.declared.normal.Sym.{Sym}
 use Rattle.normal_form.specs.declared.normal.Sym.TheVariants.{Rule}
 use Rattle.normal_form.specs.Form.{RuleForm, NormalForm}
 use Rattle.normal_form.specs.FormLaws.{ElementsAreNotEmpty, HasNoEmptyElements}
 use Rattle.normal_form.specs.NormalDerives.{NormalDerives}
 use Rattle.normal_form.specs.NormalOf.{IsNormal, normal_of, place}
-use Rattle.normal_form.specs.Numbering.{symbol, rest_symbols, term_rules}
+use Rattle.normal_form.specs.Numbering.{symbol, base_symbols, rest_symbols, term_rules}
 use Rattle.normal_form.proofs.Forward.{regular_inverse}
 use Rattle.normal_form.proofs.Languages.{fits}
 use Rattle.normal_form.proofs.Origins.{Origin, RuleAt, left_alts, rules_of}
 use Rattle.normal_form.proofs.Parts.{Setting, Known, of_plus, of_star}
-use Rattle.normal_form.proofs.Positions.{alt_derives, can_be_empty, rest_alt}
+use Rattle.normal_form.proofs.Positions.{alt_derives, base_of, can_be_empty, rest_alt}
 use Rattle.normal_form.proofs.Settings.{made, setting}
 use Rattle.normal_form.proofs.Stands.{Fits}
 
@@ -44,6 +44,13 @@ module _ (S : Setting) (fits : Fits S.bodies S.form S.numbers.place) where
     of_begun m (opt t) f more s k e (inl h) d = absurd (cc)
     of_begun m (opt t) f more s k e (inr h) d = absurd (cc)
     of_begun m eof f more s k e h d = absurd (cc)
+
+  -- what the rule of the bases derives, the bases derive
+  pub base_derives : (r : ℕ) (a : Alts) (n : ℕ) (s : Seq) (b : Alts) (w : List ℕ) → RuleAt S r a n → rests r a ≡ or s b → NormalDerives S.form (Rule (n + 1)) w → DerivesAlts S.bodies (bases r a) w
+  base_derives r a n s b w known e d =
+      let high = n + group_size r a in
+      let one = regular_inverse (n + 1) (base_symbols S.numbers r (n + 4) a) (rules_of S r a n known (or s b) e).1.0 d refl in
+      alt_derives S fits (n + 1) high (bases r a) one.0 w (base_of S (n + 1) high r (n + 4) a one.0 (left_alts S r a n known s b e) one.1) one.2
 
   -- what the rule of the rests derives, the rests derive
   pub rest_derives : (r : ℕ) (a : Alts) (n : ℕ) (s : Seq) (b : Alts) (w : List ℕ) → RuleAt S r a n → rests r a ≡ or s b → NormalDerives S.form (Rule (n + 3)) w → DerivesAlts S.bodies (rests r a) w

@@ -26,3 +26,5 @@ pub mod Settings
 pub mod KnownSymbols
 pub mod FewAlternatives
 pub mod Elements
+pub mod Corners
+pub mod NoLeftRecursion

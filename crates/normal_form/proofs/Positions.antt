@@ -22,11 +22,11 @@ split_at (y ∷ ys) x c = elim (Contains-cases x y ys c) [
   | inr d ↦ let more = split_at ys x d in (y ∷ more.0, more.1, ap (λ l. y ∷ l) more.2)
 ]
 
-nil_has_none : {X : Type 0} (before : List X) (x : X) (after : List X) → [] ≡ before ++ x ∷ after → ⊥
+pub nil_has_none : {X : Type 0} (before : List X) (x : X) (after : List X) → [] ≡ before ++ x ∷ after → ⊥
 nil_has_none [] x after e = absurd (cc)
 nil_has_none (y ∷ before) x after e = absurd (cc)
 
-both_nil : (u v : List ℕ) → u ++ v ≡ [] → (u ≡ []) × (v ≡ [])
+pub both_nil : (u v : List ℕ) → u ++ v ≡ [] → (u ≡ []) × (v ≡ [])
 both_nil [] v e = (refl, e)
 both_nil (x ∷ u) v e = absurd (cc)
 

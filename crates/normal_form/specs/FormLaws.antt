@@ -1,5 +1,5 @@
 -- What holds of every normal form, for the proofs of other crates.
-use Rattle.std.specs.Prelude.{◌≡◌, ◌↔◌, ◌⊎◌, ℕ, ◌<◌, ◌^◌, false, List, [], ◌∷◌, Some, None, length, slice_get}
+use Rattle.std.specs.Prelude.{◌≡◌, ◌↔◌, ◌⊎◌, ℕ, ◌<◌, ◌^◌, false, List, [], ◌∷◌, ◌++◌, suc, Some, None, length, slice_get}
 use Rattle.std.specs.List.{Contains}
 use Rattle.std.specs.List.Sorted.{IsStrictlyIncreasing}
 use Rattle.grammar_tree.specs.Written.{TokenKind}
@@ -68,3 +68,23 @@ pub record NormalDerivesByForm (N : NormalForm) : Type 0 where
   pub done : (w : List ℕ) → NormalDerivesSeq N [] w ↔ (w ≡ [])
   -- symbols one after another derive what is cut into what the first derives and what the rest does
   pub next : (s : Sym) (ss : List Sym) (w : List ℕ) → NormalDerivesSeq N (s ∷ ss) w ↔ CutsInto (NormalDerives N s) (NormalDerivesSeq N ss) w
+
+-- The rule b can be first in what a rule of this form derives: it is in an alternative, behind symbols that derive the empty list; or the form is a star, plus or optional of it.
+abbrev pub CanBeFirst : NormalForm → ℕ → RuleForm → Type 0
+CanBeFirst N b (RuleForm.regular alts) = (before : List Sym) × (after : List Sym) × Contains alts (before ++ Rule b ∷ after) × NormalDerivesSeq N before []
+CanBeFirst N b (RuleForm.star s) = s ≡ Rule b
+CanBeFirst N b (RuleForm.plus s) = s ≡ Rule b
+CanBeFirst N b (RuleForm.opt s) = s ≡ Rule b
+
+-- The rule b is a left corner of the rule a.
+abbrev pub IsNormalCorner : NormalForm → ℕ → ℕ → Type 0
+IsNormalCorner N a b = (form : RuleForm) × (slice_get N.rules a ≡ Some form) × CanBeFirst N b form
+
+-- Left corners lead from the rule a to the rule b, by so many steps.
+pub data NormalLeadsTo (N : NormalForm) : ℕ → ℕ → ℕ → Type 0 where
+  at_once : (a : ℕ) → NormalLeadsTo N 0 a a
+  by_corner : (n a m b : ℕ) → NormalLeadsTo N n a m → IsNormalCorner N m b → NormalLeadsTo N (suc n) a b
+
+-- No rule is on a cycle of left corners. So none leads back to itself through symbols beside which everything derives the empty list.
+abbrev pub NoLeftRecursion : Type 0
+NoLeftRecursion = (N : NormalForm) → IsNormal N → (n r : ℕ) → ¬ NormalLeadsTo N (suc n) r r

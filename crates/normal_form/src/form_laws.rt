@@ -2,7 +2,7 @@
 //! that its proof has the law.
 
 ghost use Rattle.normal_form.specs.Form.{NormalForm};
-ghost use Rattle.normal_form.specs.FormLaws.{AlternativesAreFew, ElementsAreNotEmpty, NormalDerivesByForm, SetsAreVisibleKinds, SymbolsAreKnown};
+ghost use Rattle.normal_form.specs.FormLaws.{AlternativesAreFew, ElementsAreNotEmpty, NoLeftRecursion, NormalDerivesByForm, SetsAreVisibleKinds, SymbolsAreKnown};
 
 /// Each symbol in a rule is one of the grammar's kinds, or one of the form's sets or rules.
 pub fn symbols_are_known()
@@ -22,6 +22,12 @@ pub fn alternatives_are_few()
 /// The symbol of a star or plus doesn't derive the empty list.
 pub fn elements_are_not_empty()
     ensures { ElementsAreNotEmpty }
+{}
+
+/// No rule is on a cycle of left corners. So none leads back to itself through symbols beside which
+/// everything derives the empty list.
+pub fn no_left_recursion()
+    ensures { NoLeftRecursion }
 {}
 
 /// How each form of symbol derives: a kind itself, a set one of its kinds, a regular rule what one
