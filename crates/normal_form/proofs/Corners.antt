@@ -1,11 +1,10 @@
 -- A left corner of a rule of the normal form: a new rule of the same parser rule, with a greater number; or the own rule of a parser rule that can be first there.
-use Rattle.std.proofs.Common.{◌≡◌, ◌⊎◌, inl, inr, ℕ, suc, ◌+◌, ◌<◌, ◌≤◌, List, [], ◌∷◌, ◌++◌, length, Some, slice_get, refl, sym, ap, ◌∙◌, subst, arith}
-use Rattle.std.specs.List.{Contains}
+use Rattle.std.proofs.Common.{◌≡◌, ℕ, ◌+◌, ◌<◌, ◌≤◌, List, [], ◌∷◌, ◌++◌, length, Some, slice_get, refl, sym, ap, subst, arith}
 use Rattle.grammar_tree.specs.Derives.{Term, Seq, Alts, DerivesAlts, kind, among, rule, block, opt, star, plus, eof, none, or}
-use Rattle.grammar_tree.specs.Corners.{Begins, BeginsAlts, bases, group_size, new_rules, rests}
+use Rattle.grammar_tree.specs.Corners.{Begins, BeginsAlts, bases, group_size, rests}
 use Rattle.normal_form.specs.declared.normal.Sym.{Sym}
 use Rattle.normal_form.specs.declared.normal.Sym.TheVariants.{Rule}
-use Rattle.normal_form.specs.Form.{RuleForm, NormalForm}
+use Rattle.normal_form.specs.Form.{RuleForm}
 use Rattle.normal_form.specs.FormLaws.{CanBeFirst, IsNormalCorner}
 use Rattle.normal_form.specs.NormalDerives.{NormalDerives, NormalDerivesSeq}
 use Rattle.normal_form.specs.Numbering.{symbol, alts_symbols, base_symbols, rest_symbols, term_rules}
@@ -15,7 +14,7 @@ use Rattle.normal_form.proofs.Forward.{all_inverse, bases_plain}
 use Rattle.normal_form.proofs.Lists.{Contains-only}
 use Rattle.normal_form.proofs.Named.{rules_length}
 use Rattle.normal_form.proofs.Origins.{Origin, RuleAt, left_alts, plain_alts, rules_of, size_is}
-use Rattle.normal_form.proofs.Parts.{Setting, Known, KnownAlts, KnownSeq, of_block, of_opt, of_plus, of_star}
+use Rattle.normal_form.proofs.Parts.{Setting, Known, KnownAlts, of_block, of_opt, of_plus, of_star}
 use Rattle.normal_form.proofs.Positions.{AltAt, alt_of, base_of, both_nil, nil_has_none, part_of, rest_alt}
 use Rattle.normal_form.proofs.Stands.{Fits}
 

@@ -1,14 +1,13 @@
 -- What a star or plus of a normal form repeats is never empty.
-use Rattle.std.proofs.Common.{◌≡◌, ◌⊎◌, inl, inr, ℕ, ◌+◌, List, [], ◌∷◌, Some, slice_get, refl, sym, ap, ◌∙◌, subst, arith}
-use Rattle.std.specs.List.{Contains}
-use Rattle.grammar_tree.specs.Derives.{Term, Seq, Alts, DerivesAlts, bodies, kind, among, rule, block, opt, star, plus, eof, none, or}
+use Rattle.std.proofs.Common.{◌≡◌, ◌⊎◌, inl, inr, ℕ, ◌+◌, List, [], ◌∷◌, Some, slice_get, refl, sym, subst, arith}
+use Rattle.grammar_tree.specs.Derives.{Term, Seq, Alts, DerivesAlts, bodies, kind, among, rule, block, opt, star, plus, eof, or}
 use Rattle.grammar_tree.specs.Corners.{bases, group_size, rests}
 use Rattle.normal_form.specs.declared.normal.Sym.{Sym}
 use Rattle.normal_form.specs.declared.normal.Sym.TheVariants.{Rule}
 use Rattle.normal_form.specs.Form.{RuleForm, NormalForm}
-use Rattle.normal_form.specs.FormLaws.{ElementsAreNotEmpty, HasNoEmptyElements}
+use Rattle.normal_form.specs.FormLaws.{ElementsAreNotEmpty}
 use Rattle.normal_form.specs.NormalDerives.{NormalDerives}
-use Rattle.normal_form.specs.NormalOf.{IsNormal, normal_of, place}
+use Rattle.normal_form.specs.NormalOf.{IsNormal, place}
 use Rattle.normal_form.specs.Numbering.{symbol, base_symbols, rest_symbols, term_rules}
 use Rattle.normal_form.proofs.Forward.{regular_inverse}
 use Rattle.normal_form.proofs.Languages.{fits}

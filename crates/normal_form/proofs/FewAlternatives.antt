@@ -1,13 +1,13 @@
 -- How many alternatives the rules of a normal form have, and how many symbols these.
-use Rattle.std.proofs.Common.{◌≡◌, ◌⊎◌, inl, inr, ℕ, suc, ◌+◌, ◌<◌, ◌≤◌, ◌^◌, List, [], ◌∷◌, length, Option, Some, None, slice_get, refl, sym, ap, ◌∙◌, subst, arith}
+use Rattle.std.proofs.Common.{◌≡◌, ℕ, suc, ◌+◌, ◌<◌, ◌≤◌, ◌^◌, List, [], ◌∷◌, length, Option, Some, None, slice_get, refl, ap, subst, arith}
 use Rattle.std.specs.List.{Contains}
 use Rattle.grammar_tree.specs.Derives.{Term, Seq, Alts, bodies, kind, among, rule, block, opt, star, plus, eof, done, next, none, or}
 use Rattle.grammar_tree.specs.Corners.{group_size, new_rules, rest_of, seq_new_rules}
 use Rattle.normal_form.specs.declared.normal.Sym.{Sym}
 use Rattle.normal_form.specs.declared.normal.Sym.TheVariants.{Rule}
 use Rattle.normal_form.specs.Form.{RuleForm, NormalForm}
-use Rattle.normal_form.specs.FormLaws.{AlternativesAreFew, HasFewAlternatives}
-use Rattle.normal_form.specs.NormalOf.{IsNormal, normal_of, place}
+use Rattle.normal_form.specs.FormLaws.{AlternativesAreFew}
+use Rattle.normal_form.specs.NormalOf.{IsNormal, place}
 use Rattle.normal_form.specs.Numbering.{Numbering, and_symbol, symbol, seq_symbols, alts_symbols, base_symbols, rest_symbols, term_rules, with_base, with_rest}
 use Rattle.normal_form.proofs.Lists.{Contains-only}
 use Rattle.normal_form.proofs.Origins.{Origin, RuleAt, left_alts, plain_alts}

@@ -1,20 +1,20 @@
 -- Each symbol of a normal form is one of its kinds, sets and rules.
-use Rattle.std.proofs.Common.{◌≡◌, ◌⊎◌, inl, inr, ℕ, ◌+◌, ◌<◌, List, [], ◌∷◌, ◌++◌, length, Some, slice_get, refl, sym, ap, ◌∙◌, subst, arith}
+use Rattle.std.proofs.Common.{◌≡◌, ◌⊎◌, inl, inr, ℕ, ◌+◌, List, [], ◌∷◌, length, Some, slice_get, refl, sym, ◌∙◌, subst, arith}
 use Rattle.std.specs.List.{Contains}
 use Rattle.std.proofs.lemmas.Option.{slice_get_within}
-use Rattle.grammar_tree.specs.Derives.{Term, Seq, Alts, bodies, kind, among, rule, block, opt, star, plus, eof, none, or}
+use Rattle.grammar_tree.specs.Derives.{Term, Alts, bodies, kind, among, rule, block, opt, star, plus, eof, or}
 use Rattle.grammar_tree.specs.Corners.{group_size}
 use Rattle.normal_form.specs.declared.normal.Sym.{Sym}
 use Rattle.normal_form.specs.declared.normal.Sym.TheVariants.{Rule}
 use Rattle.normal_form.specs.Form.{RuleForm, NormalForm}
 use Rattle.normal_form.specs.FormLaws.{SymbolsAreKnown}
-use Rattle.normal_form.specs.NormalOf.{IsNormal, place}
+use Rattle.normal_form.specs.NormalOf.{place}
 use Rattle.normal_form.specs.Symbols.{HasSymbol, IsSymbolOf}
 use Rattle.normal_form.specs.Numbering.{symbol, seq_symbols, alts_symbols, rest_symbols, term_rules}
 use Rattle.normal_form.proofs.Stands.{Fits, StandsPlain, StandsLeft}
-use Rattle.normal_form.proofs.Lists.{Contains-only, Contains-nil, Contains-cases}
-use Rattle.normal_form.proofs.Parts.{Setting, Known, KnownAlts, Begun, of_block, of_opt, of_plus, of_star}
-use Rattle.normal_form.proofs.Positions.{AltAt, PartAt, alt_of, base_of, part_of, rest_alt, split_at}
+use Rattle.normal_form.proofs.Lists.{Contains-only, Contains-cases}
+use Rattle.normal_form.proofs.Parts.{Setting, Known, of_block, of_opt, of_plus, of_star}
+use Rattle.normal_form.proofs.Positions.{AltAt, alt_of, base_of, part_of, rest_alt, split_at}
 use Rattle.normal_form.proofs.Languages.{fits}
 use Rattle.normal_form.proofs.Settings.{made, setting}
 use Rattle.normal_form.proofs.Origins.{Origin, RuleAt, left_alts, plain_alts, rules_of}

@@ -28,3 +28,4 @@ pub mod FewAlternatives
 pub mod Elements
 pub mod Corners
 pub mod NoLeftRecursion
+pub mod ShortChains

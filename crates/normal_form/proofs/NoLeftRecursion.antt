@@ -5,16 +5,14 @@ use Rattle.grammar_tree.specs.Written.{CheckedGrammar}
 use Rattle.grammar_tree.specs.Checked.{IsChecked}
 use Rattle.grammar_tree.specs.Derives.{Alts, bodies}
 use Rattle.grammar_tree.specs.Corners.{IsLeftCorner, LeadsTo, by_corner, by_corners, group_size, in_base, in_rest, normal_count_from}
-use Rattle.grammar_tree.specs.Corners as written
 use Rattle.grammar_tree.proofs.Places.{numbers}
-use Rattle.normal_form.specs.Form.{RuleForm, NormalForm}
+use Rattle.normal_form.specs.Form.{NormalForm}
 use Rattle.normal_form.specs.FormLaws.{IsNormalCorner, NoLeftRecursion, NormalLeadsTo, at_once}
 use Rattle.normal_form.specs.FormLaws as law
-use Rattle.normal_form.specs.NormalOf.{IsNormal, normal_of, place}
+use Rattle.normal_form.specs.NormalOf.{normal_of, place}
 use Rattle.normal_form.proofs.Corners.{Next, State, anywhere, in_group, leaves, step, within}
 use Rattle.normal_form.proofs.Counted.{group_positive}
 use Rattle.normal_form.proofs.Languages.{fits}
-use Rattle.normal_form.proofs.Origins.{RuleAt}
 use Rattle.normal_form.proofs.Settings.{made, rule_at, setting}
 
 -- a group of rules ends before each later group

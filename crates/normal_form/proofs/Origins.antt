@@ -1,8 +1,7 @@
 -- From a rule of a normal form to what made it.
-use Rattle.std.proofs.Common.{◌≡◌, ◌⊎◌, inl, inr, ℕ, zero, suc, ◌+◌, ◌<◌, ◌≤◌, ◌^◌, List, [], ◌∷◌, ◌++◌, length, take, Option, Some, None, slice_get, refl, sym, ap, ◌∙◌, subst, arith}
+use Rattle.std.proofs.Common.{◌≡◌, inl, inr, ℕ, zero, suc, ◌+◌, ◌<◌, ◌≤◌, ◌^◌, List, [], ◌∷◌, take, Some, slice_get, refl, ap, subst, arith}
 use Rattle.grammar_tree.specs.Derives.{Seq, Alts, none, or, DerivesAlts}
-use Rattle.grammar_tree.specs.Corners.{HasEmptyLoopAlts, alts_new_rules, bases, rests, group_size, normal_count_from}
-use Rattle.normal_form.specs.declared.normal.Sym.{Sym}
+use Rattle.grammar_tree.specs.Corners.{HasEmptyLoopAlts, alts_new_rules, rests, group_size, normal_count_from}
 use Rattle.normal_form.specs.declared.normal.Sym.TheVariants.{Rule}
 use Rattle.normal_form.specs.Form.{RuleForm}
 use Rattle.normal_form.specs.Numbering.{Numbering, alts_symbols, alts_rules, base_symbols, rest_symbols, group_of, group, groups}

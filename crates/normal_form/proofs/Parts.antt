@@ -1,13 +1,11 @@
 -- The terms of a checked grammar, each with the number of its first new rule: what is known of a term holds of its parts.
-use Rattle.std.proofs.Common.{◌≡◌, ◌⊎◌, inl, inr, ℕ, zero, suc, ◌+◌, ◌<◌, ◌≤◌, ◌^◌, List, [], ◌∷◌, ◌++◌, length, Option, Some, None, slice_get, refl, sym, ap, ◌∙◌, subst, arith}
-use Rattle.std.specs.List.{Contains}
+use Rattle.std.proofs.Common.{◌≡◌, ◌⊎◌, inl, inr, ℕ, zero, suc, ◌+◌, ◌<◌, ◌≤◌, ◌^◌, List, [], ◌∷◌, ◌++◌, length, Some, None, slice_get, refl, ap, ◌∙◌, subst, arith}
 use Rattle.grammar_tree.specs.Derives.{Term, Seq, Alts, kind, among, rule, block, opt, star, plus, eof, done, next, none, or}
 use Rattle.grammar_tree.specs.Corners.{HasEmptyLoop, HasEmptyLoopSeq, HasEmptyLoopAlts, new_rules, seq_new_rules, alts_new_rules}
-use Rattle.normal_form.specs.declared.normal.Sym.{Sym}
 use Rattle.normal_form.specs.Form.{RuleForm, NormalForm}
-use Rattle.normal_form.specs.Numbering.{Numbering, symbol, and_symbol, seq_symbols, alts_symbols, term_rules, seq_rules, alts_rules}
+use Rattle.normal_form.specs.Numbering.{Numbering, symbol, alts_symbols, term_rules, seq_rules, alts_rules}
 use Rattle.normal_form.proofs.Closed.{IsClosed, IsClosedSeq, IsClosedAlts}
-use Rattle.normal_form.proofs.Named.{At, At_left, At_right, IsThere, alts_length, rules_length, seq_length}
+use Rattle.normal_form.proofs.Named.{At, At_left, At_right, IsThere, rules_length, seq_length}
 
 -- Each kind in the term is one of so many.
 abbrev mutual

@@ -1,7 +1,7 @@
 -- From a symbol in an alternative of a normal form to the term that it is the symbol of.
 use Rattle.std.proofs.Common.{◌≡◌, ◌⊎◌, inl, inr, ℕ, ◌+◌, List, [], ◌∷◌, ◌++◌, Option, Some, None, slice_get, refl, sym, ap, ◌∙◌, subst}
 use Rattle.std.specs.List.{Contains}
-use Rattle.grammar_tree.specs.Derives.{Term, Seq, Alts, kind, among, rule, block, opt, star, plus, eof, done, next, none, or, DerivesSeq, DerivesAlts, by_eof, by_first, by_later}
+use Rattle.grammar_tree.specs.Derives.{Term, Seq, Alts, rule, eof, done, next, none, or, DerivesSeq, DerivesAlts, by_eof, by_first, by_later}
 use Rattle.grammar_tree.specs.Corners.{Begins, BeginsSeq, BeginsAlts, CanBeEmpty, and_base, and_rest, bases, new_rules, rest_of, rests, seq_new_rules}
 use Rattle.normal_form.specs.declared.normal.Sym.{Sym}
 use Rattle.normal_form.specs.NormalDerives.{NormalDerives, NormalDerivesSeq}

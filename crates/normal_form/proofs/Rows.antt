@@ -1,11 +1,17 @@
 -- The normal forms of small grammars, worked by hand.
-use Rattle.std.proofs.Common.{◌≡◌, ℕ, true, false, List, [], ◌∷◌, refl}
+use Rattle.std.proofs.Common.{◌≡◌, ℕ, true, false, List, [], ◌∷◌, Some, length, slice_get, refl, arith}
 use Rattle.std.specs.Prelude.{codes, map}
 use Rattle.std.specs.Fmt as fmt
 use Rattle.grammar_tree.specs.Written.{Reference, WrittenTerm, LexerTerm, LexerSeq, LexerAlts, WrittenRule, WrittenGrammar, written_alts}
 use Rattle.grammar_tree.specs.Kinds.{kinds_of}
+use Rattle.normal_form.specs.declared.normal.Sym.TheVariants.{Kind, Rule}
+use Rattle.normal_form.specs.Form.{RuleForm, NormalForm}
+use Rattle.normal_form.specs.FormLaws.{IsNormalCorner}
+use Rattle.normal_form.specs.NormalDerives.{NormalDerives, of_done, of_end, of_next, of_regular, of_star}
 use Rattle.normal_form.specs.NormalOf.{normal_of}
 use Rattle.normal_form.specs.Print.{printed}
+use Rattle.normal_form.specs.Symbols.{IsSymbolOf}
+use Rattle.normal_form.proofs.Lists.{Contains-here}
 
 abbrev literal : List ℕ → WrittenTerm
 literal t = WrittenTerm.literal t
@@ -153,3 +159,27 @@ C_kinds = refl
 C_prints : text_of C ≡ codes "file : file#1 ;\nfile#1 : func* ;\nfunc : type ID '(' func#1 ')' block ;\nfunc#1 : params? ;\nparams : type ID params#1 ;\nparams#1 : params#2* ;\nparams#2 : ',' type ID ;\ntype : 'int' | 'char' ;\nblock : '{' block#1 '}' ;\nblock#1 : stmt* ;\nstmt : type ID stmt#1 ';' | ID '=' expr ';' | 'if' '(' expr ')' block stmt#3 | 'while' '(' expr ')' block | 'return' stmt#5 ';' | block ;\nstmt#1 : stmt#2? ;\nstmt#2 : '=' expr ;\nstmt#3 : stmt#4? ;\nstmt#4 : 'else' block ;\nstmt#5 : expr? ;\nexpr : expr#1 expr#2 ;\nexpr#1 : ID '(' expr#6 ')' | '(' expr ')' | ID | INT | STR ;\nexpr#2 : expr#3* ;\nexpr#3 : expr#4 expr | expr#5 expr ;\nexpr#4 : '*' | '/' ;\nexpr#5 : '+' | '-' ;\nexpr#6 : expr#7? ;\nexpr#7 : expr expr#8 ;\nexpr#8 : expr#9* ;\nexpr#9 : ',' expr ;\n"
 unfolding kinds_of normal_of printed fmt.digits
 C_prints = refl
+
+-- the rules of the form of E by their numbers: 0 is `file`, 4 is `expr`, 5 its bases, 6 any number of its rests, 7 a rest
+abbrev form_of_E : NormalForm
+form_of_E = normal_of (record { grammar = E; kinds = kinds_of E; start = 0 })
+
+-- `expr` begins with a base, and a base with a kind; what comes behind a base is no left corner unless the base can be empty
+bases_come_first : IsNormalCorner form_of_E 4 5
+unfolding kinds_of normal_of
+bases_come_first = (RuleForm.regular ((Rule 5 ∷ Rule 6 ∷ []) ∷ []), refl, ([], Rule 6 ∷ [], Contains-here (Rule 5 ∷ Rule 6 ∷ []) [], of_done))
+
+rests_come_first : IsNormalCorner form_of_E 6 7
+unfolding kinds_of normal_of
+rests_come_first = (RuleForm.star (Rule 7), refl, refl)
+
+-- the rule of the rests is `'+' expr`, whose symbols are the kind 4 and the rule 4
+rest_has_expr : (slice_get form_of_E.rules 7 ≡ Some (RuleForm.regular ((Kind 4 ∷ Rule 4 ∷ []) ∷ []))) × IsSymbolOf (length (kinds_of E)) form_of_E (Kind 4)
+unfolding kinds_of normal_of
+rest_has_expr = (refl, omega arith)
+
+-- an empty file
+nothing_is_a_file : NormalDerives form_of_E (Rule 0) []
+unfolding kinds_of normal_of
+nothing_is_a_file =
+    of_regular 0 ((Rule 1 ∷ []) ∷ []) (Rule 1 ∷ []) [] refl (Contains-here (Rule 1 ∷ []) []) (of_next (Rule 1) [] [] [] (of_star 1 (Rule 2) [] refl (of_end (Rule 2))) of_done)

@@ -1,7 +1,7 @@
 -- What the check of a grammar says of its terms.
-use Rattle.std.proofs.Common.{◌≡◌, ◌⊎◌, inl, inr, ℕ, suc, ◌+◌, ◌<◌, ◌≤◌, ◌^◌, List, [], ◌∷◌, length, take, Option, Some, None, slice_get, refl, sym, ap, ◌∙◌, subst, arith}
+use Rattle.std.proofs.Common.{◌≡◌, ◌⊎◌, inl, inr, ℕ, ◌+◌, ◌<◌, ◌≤◌, List, [], length, Option, Some, None, slice_get, refl, sym, ap, subst, arith}
 use Rattle.std.specs.Prelude.{Bool, false, position}
-use Rattle.std.specs.List.{Contains, flat_map, sum_by}
+use Rattle.std.specs.List.{flat_map}
 use Rattle.std.specs.Option.{option_map_or}
 use Rattle.std.proofs.lemmas.List.Quantifiers.{position-Some}
 use Rattle.std.proofs.lemmas.List.Sums.{get_or-le-sum_by}
@@ -10,7 +10,7 @@ use Rattle.grammar_tree.specs.Written.{WrittenTerm, WrittenSeq, WrittenAlts, Par
 use Rattle.grammar_tree.specs.Kinds.{is_implicit, is_named_by, is_written_at, kinds_of, literal_kind, name_kind, has_name, rule_number}
 use Rattle.grammar_tree.specs.Derives.{Alts, DerivesAlts, bodies, resolved, resolved_seq, resolved_alts}
 use Rattle.grammar_tree.specs.Corners.{HasEmptyLoopAlts, rests}
-use Rattle.grammar_tree.specs.Faults.{AtParserRule, number_at}
+use Rattle.grammar_tree.specs.Faults.{number_at}
 use Rattle.grammar_tree.specs.Size.{grammar_size, rule_size}
 use Rattle.grammar_tree.specs.Size as written
 use Rattle.grammar_tree.specs.Checked.{IsChecked}
@@ -18,9 +18,9 @@ use Rattle.grammar_tree.proofs.Places.{numbers}
 use Rattle.normal_form.specs.Form.{RuleForm}
 use Rattle.normal_form.specs.Numbering.{group, groups}
 use Rattle.normal_form.specs.NormalOf.{alts_sets, normal_of, numbering, place}
-use Rattle.normal_form.proofs.Closed.{IsClosedAlts, bodies_closed}
+use Rattle.normal_form.proofs.Closed.{bodies_closed}
 use Rattle.normal_form.proofs.Languages.{sets_among}
-use Rattle.normal_form.proofs.Named.{At, At_all, IsThere, group_at}
+use Rattle.normal_form.proofs.Named.{At_all, IsThere, group_at}
 use Rattle.normal_form.proofs.Origins.{Origin, RuleAt, in_groups, origin}
 use Rattle.normal_form.proofs.Parts.{HasKinds, HasKindsAlts, HasKindsSeq, Setting, alts_size, seq_size, size}
 use Rattle.normal_form.proofs.Resolving.{kind_term, name_term}

@@ -88,3 +88,7 @@ pub data NormalLeadsTo (N : NormalForm) : ℕ → ℕ → ℕ → Type 0 where
 -- No rule is on a cycle of left corners. So none leads back to itself through symbols beside which everything derives the empty list.
 abbrev pub NoLeftRecursion : Type 0
 NoLeftRecursion = (N : NormalForm) → IsNormal N → (n r : ℕ) → ¬ NormalLeadsTo N (suc n) r r
+
+-- From a rule of the form left corners lead on by fewer steps than the form has rules.
+abbrev pub CornersAreFew : Type 0
+CornersAreFew = (N : NormalForm) → IsNormal N → (n a b : ℕ) → a < length N.rules → NormalLeadsTo N n a b → n < length N.rules

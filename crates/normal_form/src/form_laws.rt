@@ -2,7 +2,7 @@
 //! that its proof has the law.
 
 ghost use Rattle.normal_form.specs.Form.{NormalForm};
-ghost use Rattle.normal_form.specs.FormLaws.{AlternativesAreFew, ElementsAreNotEmpty, NoLeftRecursion, NormalDerivesByForm, SetsAreVisibleKinds, SymbolsAreKnown};
+ghost use Rattle.normal_form.specs.FormLaws.{AlternativesAreFew, CornersAreFew, ElementsAreNotEmpty, NoLeftRecursion, NormalDerivesByForm, SetsAreVisibleKinds, SymbolsAreKnown};
 
 /// Each symbol in a rule is one of the grammar's kinds, or one of the form's sets or rules.
 pub fn symbols_are_known()
@@ -28,6 +28,11 @@ pub fn elements_are_not_empty()
 /// everything derives the empty list.
 pub fn no_left_recursion()
     ensures { NoLeftRecursion }
+{}
+
+/// From a rule left corners lead on by fewer steps than there are rules.
+pub fn corners_are_few()
+    ensures { CornersAreFew }
 {}
 
 /// How each form of symbol derives: a kind itself, a set one of its kinds, a regular rule what one
