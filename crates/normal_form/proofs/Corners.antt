@@ -18,12 +18,12 @@ use Rattle.normal_form.proofs.Parts.{Setting, Known, KnownAlts, of_block, of_opt
 use Rattle.normal_form.proofs.Positions.{AltAt, alt_of, base_of, both_nil, nil_has_none, part_of, rest_alt}
 use Rattle.normal_form.proofs.Stands.{Fits}
 
--- what is known of a term from its own number on
-raised : (S : Setting) (low high n : ℕ) (t : Term) → Known S low high n t → Known S n high n t
-raised S low high n t k = record { at = k.at; closed = k.closed; no_loop = k.no_loop; kinds = k.kinds; small = k.small; above = omega arith; below = k.below }
+-- What is known of a term is known from its own number on.
+known_from : (S : Setting) (low high n : ℕ) (t : Term) → Known S low high n t → Known S n high n t
+known_from S low high n t k = record { at = k.at; closed = k.closed; no_loop = k.no_loop; kinds = k.kinds; small = k.small; above = omega arith; below = k.below }
 
-raised_alts : (S : Setting) (low high n : ℕ) (a : Alts) → KnownAlts S low high n a → KnownAlts S n high n a
-raised_alts S low high n a k = record { at = k.at; closed = k.closed; no_loop = k.no_loop; kinds = k.kinds; small = k.small; above = omega arith; below = k.below }
+known_alts_from : (S : Setting) (low high n : ℕ) (a : Alts) → KnownAlts S low high n a → KnownAlts S n high n a
+known_alts_from S low high n a k = record { at = k.at; closed = k.closed; no_loop = k.no_loop; kinds = k.kinds; small = k.small; above = omega arith; below = k.below }
 
 -- The rule with the number m is one of the rules of the parser rule r, whose own has the number n. All that can be first in it is among B.
 pub data State (S : Setting) (r : ℕ) (a : Alts) (n : ℕ) (B : ℕ → Type 0) : ℕ → Type 0 where
@@ -47,7 +47,7 @@ module _ (S : Setting) (fits : Fits S.bodies S.form S.numbers.place) (r : ℕ) (
 
   -- a block or suffix as the left corner
   new_rule : (low k : ℕ) (t : Term) (f : RuleForm) (more : List RuleForm) (m b : ℕ) → Known S low high k t → term_rules S.numbers k t ≡ f ∷ more → Rule k ≡ Rule b → n < k → m < k → ((q : ℕ) → Begins S.bodies q t → B q) → Next S r a n B m b
-  new_rule low k t f more m b known e same above less first = let at : k ≡ b = cc in move m k b at less (State.part k t f more above (raised S low high k t known) e first)
+  new_rule low k t f more m b known e same above less first = let at : k ≡ b = cc in move m k b at less (State.part k t f more above (known_from S low high k t known) e first)
 
   -- the symbol of a term as the left corner
   of_symbol : (low k : ℕ) (t : Term) (m b : ℕ) → Known S low high k t → symbol S.numbers k t ≡ Rule b → n < k → m < k → ((q : ℕ) → Begins S.bodies q t → B q) → Next S r a n B m b
@@ -60,7 +60,7 @@ module _ (S : Setting) (fits : Fits S.bodies S.form S.numbers.place) (r : ℕ) (
   of_symbol low k (plus t) m b known e above less first = new_rule low k (plus t) _ _ m b known refl e above less first
   of_symbol low k eof m b known e above less first = absurd known.closed
 
-  -- a symbol of an alternative, behind symbols that can be empty
+  -- a symbol of an alternative, after symbols that can be empty
   of_alt : (low : ℕ) (target : Alts) (m b : ℕ) (before after : List Sym) → n < low → m < low → AltAt S low high target (before ++ Rule b ∷ after) → NormalDerivesSeq S.form before [] → ((q : ℕ) → BeginsAlts S.bodies q target → B q) → Next S r a n B m b
   of_alt low target m b before after above less it empty first =
       let found = part_of S fits low high it.number it.seq (Rule b) before after it.known (sym it.is) in
@@ -78,7 +78,7 @@ module _ (S : Setting) (fits : Fits S.bodies S.form S.numbers.place) (r : ℕ) (
   of_part m eof f more b above known e first c = absurd (cc)
   of_part m (block x) f more b above known e first c =
       let it = form_first m b (RuleForm.regular (alts_symbols S.numbers (m + 1) x)) known.at.0 c in
-      let alts = raised_alts S m high (m + 1) x (of_block S m high m x known) in
+      let alts = known_alts_from S m high (m + 1) x (of_block S m high m x known) in
       of_alt (m + 1) x m b it.0 it.1 (omega (arith, above)) (omega arith) (alt_of S (m + 1) high (m + 1) x (it.0 ++ Rule b ∷ it.1) alts it.2) it.3 first
   of_part m (opt t) f more b above known e first c =
       of_symbol m (m + 1) t m b (of_opt S m high m t known) (form_first m b (RuleForm.opt (symbol S.numbers (m + 1) t)) known.at.0 c) (omega (arith, above)) (omega arith) first
@@ -115,7 +115,7 @@ module _ (S : Setting) (fits : Fits S.bodies S.form S.numbers.place) (r : ℕ) (
     of_base : (b : ℕ) (s : Seq) (y : Alts) → rests r a ≡ or s y → ((q : ℕ) → BeginsAlts S.bodies q (bases r a) → B q) → IsNormalCorner S.form (n + 1) b → Next S r a n B (n + 1) b
     of_base b s y e first c =
         let it = form_first (n + 1) b (RuleForm.regular (base_symbols S.numbers r (n + 4) a)) (rules_of S r a n known (or s y) e).1.0 c in
-        let alts = raised_alts S (n + 1) high (n + 4) a (left_alts S r a n known s y e) in
+        let alts = known_alts_from S (n + 1) high (n + 4) a (left_alts S r a n known s y e) in
         of_alt (n + 4) (bases r a) (n + 1) b it.0 it.1 (omega arith) (omega arith) (base_of S (n + 4) high r (n + 4) a (it.0 ++ Rule b ∷ it.1) alts it.2) it.3 first
 
     of_many : (b : ℕ) (s : Seq) (y : Alts) → rests r a ≡ or s y → ((q : ℕ) → BeginsAlts S.bodies q (rests r a) → B q) → IsNormalCorner S.form (n + 2) b → Next S r a n B (n + 2) b
@@ -133,7 +133,7 @@ module _ (S : Setting) (fits : Fits S.bodies S.form S.numbers.place) (r : ℕ) (
         let P : ℕ → Type 0 = λ k. slice_get S.form.rules k ≡ Some f in
         let third : n + 1 + 1 + 1 ≡ n + 3 = omega arith in
         let it = form_first (n + 3) b f (subst P third (rules_of S r a n known (or s y) e).1.1.1.0) c in
-        let alts = raised_alts S (n + 1) high (n + 4) a (left_alts S r a n known s y e) in
+        let alts = known_alts_from S (n + 1) high (n + 4) a (left_alts S r a n known s y e) in
         of_alt (n + 4) (rests r a) (n + 3) b it.0 it.1 (omega arith) (omega arith) (rest_alt S (n + 4) high r (n + 4) a (it.0 ++ Rule b ∷ it.1) alts it.2) it.3 first
 
     pub step : (m b : ℕ) → State S r a n B m → IsNormalCorner S.form m b → Next S r a n B m b
@@ -158,4 +158,4 @@ anywhere S r a n m f B all (Origin.left s b e) = State.own (λ q h. all q) (λ d
 anywhere S r a n m f B all (Origin.base s b e) = State.base s b e (λ q h. all q)
 anywhere S r a n m f B all (Origin.many s b e) = State.many s b e (λ q h. all q)
 anywhere S r a n m f B all (Origin.rest s b e) = State.rest s b e (λ q h. all q)
-anywhere S r a n m f B all (Origin.part m' f' b) = State.part m b.term f b.more (omega (arith, b.known.above)) (raised S (n + 1) (n + group_size r a) m b.term b.known) b.rules (λ q h. all q)
+anywhere S r a n m f B all (Origin.part m' f' b) = State.part m b.term f b.more (omega (arith, b.known.above)) (known_from S (n + 1) (n + group_size r a) m b.term b.known) b.rules (λ q h. all q)

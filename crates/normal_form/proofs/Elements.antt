@@ -14,7 +14,7 @@ use Rattle.normal_form.proofs.Languages.{fits}
 use Rattle.normal_form.proofs.Origins.{Origin, RuleAt, left_alts, rules_of}
 use Rattle.normal_form.proofs.Parts.{Setting, Known, of_plus, of_star}
 use Rattle.normal_form.proofs.Positions.{alt_derives, base_of, can_be_empty, rest_alt}
-use Rattle.normal_form.proofs.Settings.{made, setting}
+use Rattle.normal_form.proofs.Settings.{origin_of_rule, setting}
 use Rattle.normal_form.proofs.Stands.{Fits}
 
 -- the rule repeats the symbol
@@ -80,7 +80,7 @@ not_empty N normal r f s at h d =
     let c = normal.grammar in
     let P : NormalForm → Type 0 = λ M. slice_get M.rules r ≡ Some f in
     let Q : NormalForm → Type 0 = λ M. NormalDerives M s [] in
-    let it = made c normal.checked r f (subst P normal.is at) in
+    let it = origin_of_rule c normal.checked r f (subst P normal.is at) in
     of_origin (setting c) (fits c normal.checked) it.rule it.alts (place (bodies c.grammar) it.rule) r f s it.known it.origin h (subst Q normal.is d)
 
 pub elements_are_not_empty : ElementsAreNotEmpty

@@ -13,7 +13,7 @@ use Rattle.normal_form.proofs.Lists.{Contains-only}
 use Rattle.normal_form.proofs.Origins.{Origin, RuleAt, left_alts, plain_alts}
 use Rattle.normal_form.proofs.Parts.{Setting, Known, KnownAlts, alts_size, of_block, seq_size, size}
 use Rattle.normal_form.proofs.Positions.{AltAt, alt_of, base_of, rest_alt}
-use Rattle.normal_form.proofs.Settings.{made, setting}
+use Rattle.normal_form.proofs.Settings.{origin_of_rule, setting}
 
 with_symbol : (t : Term) (x : Sym) (ss : List Sym) (n : ℕ) → length ss ≤ n → length (and_symbol t x ss) ≤ size t + n
 with_symbol (kind k) x ss n h = omega (arith, h)
@@ -95,7 +95,7 @@ few_at : (N : NormalForm) (normal : IsNormal N) (r : ℕ) (alts : List (List Sym
 few_at N normal r alts at =
     let c = normal.grammar in
     let P : NormalForm → Type 0 = λ M. slice_get M.rules r ≡ Some (RuleForm.regular alts) in
-    let it = made c normal.checked r (RuleForm.regular alts) (subst P normal.is at) in
+    let it = origin_of_rule c normal.checked r (RuleForm.regular alts) (subst P normal.is at) in
     of_origin (setting c) it.rule it.alts (place (bodies c.grammar) it.rule) r (RuleForm.regular alts) alts it.known it.origin refl
 
 pub alternatives_are_few : AlternativesAreFew

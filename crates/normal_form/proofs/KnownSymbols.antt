@@ -16,19 +16,19 @@ use Rattle.normal_form.proofs.Lists.{Contains-only, Contains-cases}
 use Rattle.normal_form.proofs.Parts.{Setting, Known, of_block, of_opt, of_plus, of_star}
 use Rattle.normal_form.proofs.Positions.{AltAt, alt_of, base_of, part_of, rest_alt, split_at}
 use Rattle.normal_form.proofs.Languages.{fits}
-use Rattle.normal_form.proofs.Settings.{made, setting}
+use Rattle.normal_form.proofs.Settings.{origin_of_rule, setting}
 use Rattle.normal_form.proofs.Origins.{Origin, RuleAt, left_alts, plain_alts, rules_of}
 
 module _ (S : Setting) (fits : Fits S.bodies S.form S.numbers.place) where
-  abbrev IsThere : Sym → Type 0
-  IsThere = IsSymbolOf S.kinds S.form
+  abbrev IsOne : Sym → Type 0
+  IsOne = IsSymbolOf S.kinds S.form
 
-  rule_is_there : (r : ℕ) (a : Alts) → StandsPlain S.bodies S.form S.numbers.place r a ⊎ StandsLeft S.bodies S.form S.numbers.place r a → IsThere (Rule (S.numbers.place r))
+  rule_is_there : (r : ℕ) (a : Alts) → StandsPlain S.bodies S.form S.numbers.place r a ⊎ StandsLeft S.bodies S.form S.numbers.place r a → IsOne (Rule (S.numbers.place r))
   rule_is_there r a (inl h) = slice_get_within S.form.rules (S.numbers.place r) (RuleForm.regular h.alts) h.at
   rule_is_there r a (inr h) = slice_get_within S.form.rules (S.numbers.place r) (RuleForm.regular ((Rule h.base ∷ Rule h.many ∷ []) ∷ [])) h.at
 
   module _ (low high : ℕ) where
-    pub symbol_is_there : (n : ℕ) (t : Term) → Known S low high n t → IsThere (symbol S.numbers n t)
+    pub symbol_is_there : (n : ℕ) (t : Term) → Known S low high n t → IsOne (symbol S.numbers n t)
     symbol_is_there n (kind k) h = h.kinds
     symbol_is_there n (among ks) h = slice_get_within S.form.sets (S.numbers.set_of ks) ks h.closed
     symbol_is_there n (rule r) h = rule_is_there r h.closed.0 (fits r h.closed.0 h.closed.1)
@@ -39,18 +39,18 @@ module _ (S : Setting) (fits : Fits S.bodies S.form S.numbers.place) where
     symbol_is_there n eof h = absurd h.closed
 
     -- a symbol of an alternative
-    in_alt : (a : Alts) (alt : List Sym) (s : Sym) → AltAt S low high a alt → Contains alt s → IsThere s
+    in_alt : (a : Alts) (alt : List Sym) (s : Sym) → AltAt S low high a alt → Contains alt s → IsOne s
     in_alt a alt s it c =
         let P : List Sym → Type 0 = λ x. Contains x s in
         let cut = split_at (seq_symbols S.numbers it.number it.seq) s (subst P it.is c) in
         let found = part_of S fits low high it.number it.seq s cut.0 cut.1 it.known cut.2 in
-        let Q : Sym → Type 0 = IsThere in subst Q (sym found.is) (symbol_is_there found.number found.term found.known)
+        let Q : Sym → Type 0 = IsOne in subst Q (sym found.is) (symbol_is_there found.number found.term found.known)
 
     -- the symbol of a suffix
-    of_suffix : (n : ℕ) (t : Term) (x s : Sym) → Known S low high n t → symbol S.numbers n t ≡ x → x ≡ s → IsThere s
-    of_suffix n t x s h e same = let P : Sym → Type 0 = IsThere in subst P (e ∙ same) (symbol_is_there n t h)
+    of_suffix : (n : ℕ) (t : Term) (x s : Sym) → Known S low high n t → symbol S.numbers n t ≡ x → x ≡ s → IsOne s
+    of_suffix n t x s h e same = let P : Sym → Type 0 = IsOne in subst P (e ∙ same) (symbol_is_there n t h)
 
-    of_begun : (m : ℕ) (t : Term) (f : RuleForm) (more : List RuleForm) (s : Sym) → Known S low high m t → term_rules S.numbers m t ≡ f ∷ more → HasSymbol f s → IsThere s
+    of_begun : (m : ℕ) (t : Term) (f : RuleForm) (more : List RuleForm) (s : Sym) → Known S low high m t → term_rules S.numbers m t ≡ f ∷ more → HasSymbol f s → IsOne s
     of_begun m (kind k) f more s h e c = absurd (cc)
     of_begun m (among ks) f more s h e c = absurd (cc)
     of_begun m (rule r) f more s h e c = absurd (cc)
@@ -69,15 +69,15 @@ module _ (S : Setting) (fits : Fits S.bodies S.form S.numbers.place) where
         let P : RuleForm → Type 0 = λ x. HasSymbol x s in of_suffix (m + 1) t _ s (of_plus S low high m t h) refl (subst P same c)
     of_begun m eof f more s h e c = absurd (cc)
 
-  rule_there : (n : ℕ) (f : RuleForm) (s : Sym) → slice_get S.form.rules n ≡ Some f → Rule n ≡ s → IsThere s
-  rule_there n f s at e = let P : Sym → Type 0 = IsThere in subst P e (slice_get_within S.form.rules n f at)
+  rule_there : (n : ℕ) (f : RuleForm) (s : Sym) → slice_get S.form.rules n ≡ Some f → Rule n ≡ s → IsOne s
+  rule_there n f s at e = let P : Sym → Type 0 = IsOne in subst P e (slice_get_within S.form.rules n f at)
 
   -- one of the two symbols of a rule with rests
-  of_two : (m n : ℕ) (f g : RuleForm) (s : Sym) → slice_get S.form.rules m ≡ Some f → slice_get S.form.rules n ≡ Some g → (s ≡ Rule m) ⊎ Contains (Rule n ∷ []) s → IsThere s
+  of_two : (m n : ℕ) (f g : RuleForm) (s : Sym) → slice_get S.form.rules m ≡ Some f → slice_get S.form.rules n ≡ Some g → (s ≡ Rule m) ⊎ Contains (Rule n ∷ []) s → IsOne s
   of_two m n f g s at at' (inl e) = rule_there m f s at (sym e)
   of_two m n f g s at at' (inr c) = rule_there n g s at' (sym (Contains-only s (Rule n) c))
 
-  pub of_origin : (r : ℕ) (a : Alts) (n m : ℕ) (f : RuleForm) (s : Sym) → RuleAt S r a n → Origin S r a n m f → HasSymbol f s → IsThere s
+  pub of_origin : (r : ℕ) (a : Alts) (n m : ℕ) (f : RuleForm) (s : Sym) → RuleAt S r a n → Origin S r a n m f → HasSymbol f s → IsOne s
   of_origin r a n m f s known (Origin.plain e) (alt, c, d) =
       let high = n + group_size r a in in_alt (n + 1) high a alt s (alt_of S (n + 1) high (n + 1) a alt (plain_alts S r a n known e) c) d
   of_origin r a n m f s known (Origin.left s' b e) (alt, c, d) =
@@ -102,6 +102,6 @@ pub symbols_are_known : SymbolsAreKnown
 symbols_are_known N normal r form s at h =
     let c = normal.grammar in
     let P : NormalForm → Type 0 = λ M. slice_get M.rules r ≡ Some form in
-    let it = made c normal.checked r form (subst P normal.is at) in
+    let it = origin_of_rule c normal.checked r form (subst P normal.is at) in
     let Q : NormalForm → Type 0 = λ M. IsSymbolOf (length c.kinds) M s in
     subst Q (sym normal.is) (of_origin (setting c) (fits c normal.checked) it.rule it.alts (place (bodies c.grammar) it.rule) r form s it.known it.origin h)

@@ -148,7 +148,7 @@ module _ (G : List Alts) (N : NormalForm) (M : Numbering) where
       })
 
 -- how many rules a parser rule with these rests makes of its own
-abbrev own_rules : Alts → ℕ
+abbrev pub own_rules : Alts → ℕ
 own_rules none = 1
 own_rules (or s a) = 4
 

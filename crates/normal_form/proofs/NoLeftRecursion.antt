@@ -13,7 +13,7 @@ use Rattle.normal_form.specs.NormalOf.{normal_of, place}
 use Rattle.normal_form.proofs.Corners.{Next, State, anywhere, in_group, leaves, step, within}
 use Rattle.normal_form.proofs.Counted.{group_positive}
 use Rattle.normal_form.proofs.Languages.{fits}
-use Rattle.normal_form.proofs.Settings.{made, rule_at, setting}
+use Rattle.normal_form.proofs.Settings.{origin_of_rule, rule_at, setting}
 
 -- a group of rules ends before each later group
 before_later : (r : ℕ) (G : List Alts) (i j : ℕ) (a : Alts) → slice_get G i ≡ Some a → i < j → normal_count_from r (take i G) + group_size (r + i) a ≤ normal_count_from r (take j G)
@@ -44,10 +44,10 @@ leads_on G a b c (by_corner a' b' h) k = by_corners a b c h (by_corner b c k)
 leads_on G a b c (by_corners a' m b' h more) k = by_corners a m c h (leads_on G m b c more k)
 
 -- one chain of left corners after another
-joined : (N : NormalForm) (j a b : ℕ) → NormalLeadsTo N j a b → (k c : ℕ) → NormalLeadsTo N k b c → NormalLeadsTo N (j + k) a c
-joined N j a b h k c (at_once b') = let P : ℕ → Type 0 = λ n. NormalLeadsTo N n a b in let same : j ≡ j + 0 = omega arith in subst P same h
-joined N j a b h k c (law.by_corner k' b' m c' more corner) =
-    let P : ℕ → Type 0 = λ n. NormalLeadsTo N n a c in let same : suc (j + k') ≡ j + suc k' = omega arith in subst P same (law.by_corner (j + k') a m c (joined N j a b h k' m more) corner)
+append_chain : (N : NormalForm) (j a b : ℕ) → NormalLeadsTo N j a b → (k c : ℕ) → NormalLeadsTo N k b c → NormalLeadsTo N (j + k) a c
+append_chain N j a b h k c (at_once b') = let P : ℕ → Type 0 = λ n. NormalLeadsTo N n a b in let same : j ≡ j + 0 = omega arith in subst P same h
+append_chain N j a b h k c (law.by_corner k' b' m c' more corner) =
+    let P : ℕ → Type 0 = λ n. NormalLeadsTo N n a c in let same : suc (j + k') ≡ j + suc k' = omega arith in subst P same (law.by_corner (j + k') a m c (append_chain N j a b h k' m more) corner)
 
 module _ (c : CheckedGrammar) (checked : IsChecked c) where
   abbrev G : List Alts
@@ -61,7 +61,7 @@ module _ (c : CheckedGrammar) (checked : IsChecked c) where
       let it = (numbers c.grammar).place r a at in
       let P : ℕ → Type 0 = λ q. LeadsTo G q q in checked.well_formed.no_left_recursion it.0 (it.2.0, it.2.1, subst P (sym it.1) h)
 
-  -- what is reached from the own rule of a parser rule: a rule of that parser rule, or of one to which left corners lead
+  -- what is reached_by from the own rule of a parser rule: a rule of that parser rule, or of one to which left corners lead
   record Reached (from m : ℕ) : Type 0 where
     rule : ℕ
     alts : Alts
@@ -69,27 +69,27 @@ module _ (c : CheckedGrammar) (checked : IsChecked c) where
     leads : (rule ≡ from) ⊎ LeadsTo G from rule
     state : State (setting c) rule alts (place G rule) (λ q. IsLeftCorner G rule q) m
 
-  arrived : (from q : ℕ) (a : Alts) (m : ℕ) → slice_get G q ≡ Some a → place G q ≡ m → (q ≡ from) ⊎ LeadsTo G from q → Reached from m
-  arrived from q a m body at leads =
+  at_own_rule : (from q : ℕ) (a : Alts) (m : ℕ) → slice_get G q ≡ Some a → place G q ≡ m → (q ≡ from) ⊎ LeadsTo G from q → Reached from m
+  at_own_rule from q a m body at leads =
       let P : ℕ → Type 0 = λ k. State (setting c) q a (place G q) (λ p. IsLeftCorner G q p) k in
       record { rule = q; alts = a; body = body; leads = leads; state = subst P at (State.own (λ p h. in_base a body h) (λ d p h. in_rest a body d h)) }
 
-  extended : (from rule q : ℕ) → (rule ≡ from) ⊎ LeadsTo G from rule → IsLeftCorner G rule q → LeadsTo G from q
-  extended from rule q (inl e) h = let P : ℕ → Type 0 = λ k. IsLeftCorner G k q in by_corner from q (subst P e h)
-  extended from rule q (inr more) h = leads_on G from rule q more h
+  leads_to_next : (from rule q : ℕ) → (rule ≡ from) ⊎ LeadsTo G from rule → IsLeftCorner G rule q → LeadsTo G from q
+  leads_to_next from rule q (inl e) h = let P : ℕ → Type 0 = λ k. IsLeftCorner G k q in by_corner from q (subst P e h)
+  leads_to_next from rule q (inr more) h = leads_on G from rule q more h
 
   next_reached : (from m b : ℕ) (it : Reached from m) → Next (setting c) it.rule it.alts (place G it.rule) (λ q. IsLeftCorner G it.rule q) m b → Reached from b
   next_reached from m b it (within less s) = record { rule = it.rule; alts = it.alts; body = it.body; leads = it.leads; state = s }
-  next_reached from m b it (leaves q body at at' h) = arrived from q body b at at' (inr (extended from it.rule q it.leads h))
+  next_reached from m b it (leaves q body at at' h) = at_own_rule from q body b at at' (inr (leads_to_next from it.rule q it.leads h))
 
   step_of : (from m b : ℕ) (it : Reached from m) → IsNormalCorner N m b → Next (setting c) it.rule it.alts (place G it.rule) (λ q. IsLeftCorner G it.rule q) m b
   step_of from m b it corner =
       step (setting c) (fits c checked) it.rule it.alts (place G it.rule) (λ q. IsLeftCorner G it.rule q) (rule_at c checked it.rule it.alts it.body) m b it.state corner
 
-  reached : (from : ℕ) (a : Alts) → slice_get G from ≡ Some a → (n x m : ℕ) → NormalLeadsTo N n x m → place G from ≡ x → Reached from m
-  reached from a body n x m (at_once x') at = arrived from from a m body at (inl refl)
-  reached from a body n x m (law.by_corner n' x' k m' chain corner) at =
-      let it = reached from a body n' x k chain at in next_reached from k m it (step_of from k m it corner)
+  reached_by : (from : ℕ) (a : Alts) → slice_get G from ≡ Some a → (n x m : ℕ) → NormalLeadsTo N n x m → place G from ≡ x → Reached from m
+  reached_by from a body n x m (at_once x') at = at_own_rule from from a m body at (inl refl)
+  reached_by from a body n x m (law.by_corner n' x' k m' chain corner) at =
+      let it = reached_by from a body n' x k chain at in next_reached from k m it (step_of from k m it corner)
 
   -- the last step of a chain that comes back to the own rule of a parser rule
   closes : (from : ℕ) (a : Alts) → slice_get G from ≡ Some a → (m b : ℕ) (it : Reached from m) → Next (setting c) it.rule it.alts (place G it.rule) (λ q. IsLeftCorner G it.rule q) m b → place G from ≡ b → ⊥
@@ -101,11 +101,11 @@ module _ (c : CheckedGrammar) (checked : IsChecked c) where
       absurd (omega (arith, ap (place G) same, here.0, less, at))
   closes from a body m b it (leaves q other at' is h) at =
       let same : from ≡ q = same_group G q from other a at' body (omega (arith, at, is)) (omega (arith, at, is, group_positive q other)) in
-      let P : ℕ → Type 0 = λ k. LeadsTo G from k in no_cycle from a body (subst P (sym same) (extended from it.rule q it.leads h))
+      let P : ℕ → Type 0 = λ k. LeadsTo G from k in no_cycle from a body (subst P (sym same) (leads_to_next from it.rule q it.leads h))
 
   no_cycle_of_own : (from : ℕ) (a : Alts) → slice_get G from ≡ Some a → (n x y : ℕ) → NormalLeadsTo N (suc n) x y → place G from ≡ x → place G from ≡ y → ⊥
   no_cycle_of_own from a body n x y (law.by_corner n' x' m y' chain corner) first last =
-      let it = reached from a body n x m chain first in closes from a body m y it (step_of from m y it corner) last
+      let it = reached_by from a body n x m chain first in closes from a body m y it (step_of from m y it corner) last
 
   -- a chain that passes through the own rule of a parser rule
   record Through (x y : ℕ) : Type 0 where
@@ -136,7 +136,7 @@ module _ (c : CheckedGrammar) (checked : IsChecked c) where
   rises : (n x y : ℕ) → NormalLeadsTo N n x y → (x + n ≤ y) ⊎ Through x y
   rises n x y (at_once x') = inl (omega arith)
   rises n x y (law.by_corner n' x' m y' chain corner) =
-      let it = made c checked m corner.0 corner.1 in
+      let it = origin_of_rule c checked m corner.0 corner.1 in
       let all = anywhere (setting c) it.rule it.alts (place G it.rule) m corner.0 (λ q. Unit {0}) (λ q. tt) it.origin in
       one_more n' x m y chain corner (rises n' x m chain) it.rule it.alts (step (setting c) (fits c checked) it.rule it.alts (place G it.rule) (λ q. Unit {0}) it.known m y all corner)
 
@@ -148,7 +148,7 @@ module _ (c : CheckedGrammar) (checked : IsChecked c) where
       go (inr t) =
           let P : ℕ → Type 0 = λ k. NormalLeadsTo N k (place G t.rule) (place G t.rule) in
           let one : t.second + suc t.first ≡ suc (t.second + t.first) = omega arith in
-          no_cycle_of_own t.rule t.alts t.body (t.second + t.first) (place G t.rule) (place G t.rule) (subst P one (joined N t.second (place G t.rule) r t.after (suc t.first) (place G t.rule) t.before)) refl refl
+          no_cycle_of_own t.rule t.alts t.body (t.second + t.first) (place G t.rule) (place G t.rule) (subst P one (append_chain N t.second (place G t.rule) r t.after (suc t.first) (place G t.rule) t.before)) refl refl
 
 pub no_left_recursion : NoLeftRecursion
 no_left_recursion M normal n r chain =

@@ -6,7 +6,7 @@ use Rattle.normal_form.specs.declared.normal.Sym.TheVariants.{Rule}
 use Rattle.normal_form.specs.Form.{RuleForm}
 use Rattle.normal_form.specs.Numbering.{Numbering, alts_symbols, alts_rules, base_symbols, rest_symbols, group_of, group, groups}
 use Rattle.normal_form.proofs.Closed.{IsClosedAlts}
-use Rattle.normal_form.proofs.Named.{At, IsThere, group_length}
+use Rattle.normal_form.proofs.Named.{At, IsThere, group_length, own_rules}
 use Rattle.normal_form.proofs.Parts.{Setting, KnownAlts, HasKindsAlts, Begun, alts_size, get_append, in_alts}
 
 -- A parser rule, whose own rule has the number n, with its rules in the form; and what the check of the grammar says of it.
@@ -28,11 +28,6 @@ pub data Origin (S : Setting) (r : ℕ) (a : Alts) (n : ℕ) : ℕ → RuleForm 
   many : (s : Seq) (b : Alts) → rests r a ≡ or s b → Origin S r a n (n + 2) (RuleForm.star (Rule (n + 3)))
   rest : (s : Seq) (b : Alts) → rests r a ≡ or s b → Origin S r a n (n + 3) (RuleForm.regular (rest_symbols S.numbers r (n + 4) a))
   part : (m : ℕ) (f : RuleForm) → Begun S (n + 1) (n + group_size r a) m f → Origin S r a n m f
-
--- how many rules a parser rule with these rests makes of its own
-abbrev own_rules : Alts → ℕ
-own_rules none = 1
-own_rules (or s a) = 4
 
 pub size_is : (r : ℕ) (a b : Alts) → rests r a ≡ b → group_size r a ≡ own_rules b + alts_new_rules a
 size_is r a b e = ap (λ x. own_rules x + alts_new_rules a) e

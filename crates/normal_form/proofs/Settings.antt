@@ -137,15 +137,15 @@ rule_at c checked r a body =
     }
 
 -- what a rule of the normal form of a checked grammar is made of
-pub record Made (c : CheckedGrammar) (m : ℕ) (f : RuleForm) : Type 0 where
+pub record MadeRule (c : CheckedGrammar) (m : ℕ) (f : RuleForm) : Type 0 where
   pub rule : ℕ
   pub alts : Alts
   pub known : RuleAt (setting c) rule alts (place (bodies c.grammar) rule)
   pub origin : Origin (setting c) rule alts (place (bodies c.grammar) rule) m f
 
-pub made : (c : CheckedGrammar) → IsChecked c → (m : ℕ) (f : RuleForm) → slice_get (normal_of c).rules m ≡ Some f → Made c m f
+pub origin_of_rule : (c : CheckedGrammar) → IsChecked c → (m : ℕ) (f : RuleForm) → slice_get (normal_of c).rules m ≡ Some f → MadeRule c m f
 unfolding normal_of
-made c checked m f at =
+origin_of_rule c checked m f at =
     let G = bodies c.grammar in
     let it = in_groups (numbering G) G 0 0 m f at in
     let known = rule_at c checked it.rule it.alts it.body in

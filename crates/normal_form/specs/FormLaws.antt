@@ -69,7 +69,7 @@ pub record NormalDerivesByForm (N : NormalForm) : Type 0 where
   -- symbols one after another derive what is cut into what the first derives and what the rest does
   pub next : (s : Sym) (ss : List Sym) (w : List ℕ) → NormalDerivesSeq N (s ∷ ss) w ↔ CutsInto (NormalDerives N s) (NormalDerivesSeq N ss) w
 
--- The rule b can be first in what a rule of this form derives: it is in an alternative, behind symbols that derive the empty list; or the form is a star, plus or optional of it.
+-- The rule b can be first in what a rule of this form derives: it is in an alternative, after symbols that derive the empty list; or the form is a star, plus or optional of it.
 abbrev pub CanBeFirst : NormalForm → ℕ → RuleForm → Type 0
 CanBeFirst N b (RuleForm.regular alts) = (before : List Sym) × (after : List Sym) × Contains alts (before ++ Rule b ∷ after) × NormalDerivesSeq N before []
 CanBeFirst N b (RuleForm.star s) = s ≡ Rule b
