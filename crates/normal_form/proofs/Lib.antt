@@ -29,3 +29,4 @@ pub mod Elements
 pub mod Corners
 pub mod NoLeftRecursion
 pub mod ShortChains
+pub mod SomeAlternative

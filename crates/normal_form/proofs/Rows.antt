@@ -2,7 +2,7 @@
 use Rattle.std.proofs.Common.{◌≡◌, ℕ, true, false, List, [], ◌∷◌, Some, length, slice_get, refl, arith}
 use Rattle.std.specs.Prelude.{codes, map}
 use Rattle.std.specs.Fmt as fmt
-use Rattle.grammar_tree.specs.Written.{Reference, WrittenTerm, LexerTerm, LexerSeq, LexerAlts, WrittenRule, WrittenGrammar, written_alts}
+use Rattle.grammar_tree.specs.Written.{Reference, WrittenTerm, LexerTerm, LexerSeq, LexerAlts, WrittenAlts, WrittenRule, WrittenGrammar, written_alts}
 use Rattle.grammar_tree.specs.Kinds.{kinds_of}
 use Rattle.normal_form.specs.declared.normal.Sym.TheVariants.{Kind, Rule}
 use Rattle.normal_form.specs.Form.{RuleForm, NormalForm}
@@ -183,3 +183,11 @@ nothing_is_a_file : NormalDerives form_of_E (Rule 0) []
 unfolding kinds_of normal_of
 nothing_is_a_file =
     of_regular 0 ((Rule 1 ∷ []) ∷ []) (Rule 1 ∷ []) [] refl (Contains-here (Rule 1 ∷ []) []) (of_next (Rule 1) [] [] [] (of_star 1 (Rule 2) [] refl (of_end (Rule 2))) of_done)
+
+-- A block without alternatives, which no text of a grammar has, gives a regular rule without alternatives.
+abbrev no_alternatives : WrittenGrammar
+no_alternatives = grammar (rule (codes "a") ((WrittenTerm.block WrittenAlts.none ∷ []) ∷ []) ∷ [])
+
+empty_block : (normal_of (record { grammar = no_alternatives; kinds = kinds_of no_alternatives; start = 0 })).rules ≡ RuleForm.regular ((Rule 1 ∷ []) ∷ []) ∷ RuleForm.regular [] ∷ []
+unfolding kinds_of normal_of
+empty_block = refl

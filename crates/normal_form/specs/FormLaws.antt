@@ -1,8 +1,8 @@
 -- What holds of every normal form, for the proofs of other crates.
-use Rattle.std.specs.Prelude.{◌≡◌, ◌↔◌, ◌⊎◌, ℕ, ◌<◌, ◌^◌, false, List, [], ◌∷◌, ◌++◌, suc, Some, None, length, slice_get}
+use Rattle.std.specs.Prelude.{◌≡◌, ◌≢◌, ◌↔◌, ◌⊎◌, ℕ, ◌<◌, ◌^◌, ⊤, false, List, [], ◌∷◌, ◌++◌, suc, Some, None, length, slice_get}
 use Rattle.std.specs.List.{Contains}
 use Rattle.std.specs.List.Sorted.{IsStrictlyIncreasing}
-use Rattle.grammar_tree.specs.Written.{TokenKind}
+use Rattle.grammar_tree.specs.Written.{ParserRule, TokenKind, WrittenAlts, WrittenRule, WrittenSeq, WrittenTerm}
 use Rattle.grammar_tree.specs.Laws.{CutsInto}
 use Rattle.normal_form.specs.declared.normal.Sym.{Sym}
 use Rattle.normal_form.specs.declared.normal.Sym.TheVariants.{Kind, Set, Rule}
@@ -41,6 +41,33 @@ pub record HasNoEmptyElements (N : NormalForm) : Type 0 where
 
 abbrev pub ElementsAreNotEmpty : Type 0
 ElementsAreNotEmpty = (N : NormalForm) → IsNormal N → HasNoEmptyElements N
+
+-- Each block in the term has an alternative, at every depth.
+abbrev mutual
+  pub HasFullBlocks : WrittenTerm → Type 0
+  HasFullBlocks (WrittenTerm.literal t) = ⊤
+  HasFullBlocks (WrittenTerm.name n) = ⊤
+  HasFullBlocks WrittenTerm.any = ⊤
+  HasFullBlocks (WrittenTerm.but refs) = ⊤
+  HasFullBlocks (WrittenTerm.block a) = (a ≢ WrittenAlts.none) × HasFullBlocksAlts a
+  HasFullBlocks (WrittenTerm.opt t) = HasFullBlocks t
+  HasFullBlocks (WrittenTerm.star t) = HasFullBlocks t
+  HasFullBlocks (WrittenTerm.plus t) = HasFullBlocks t
+  HasFullBlocks WrittenTerm.eof = ⊤
+
+  pub HasFullBlocksSeq : WrittenSeq → Type 0
+  HasFullBlocksSeq WrittenSeq.done = ⊤
+  HasFullBlocksSeq (WrittenSeq.next t s) = HasFullBlocks t × HasFullBlocksSeq s
+
+  pub HasFullBlocksAlts : WrittenAlts → Type 0
+  HasFullBlocksAlts WrittenAlts.none = ⊤
+  HasFullBlocksAlts (WrittenAlts.or s a) = HasFullBlocksSeq s × HasFullBlocksAlts a
+
+-- Where each block of the grammar has an alternative, each regular rule has one.
+abbrev pub AlternativesAreThere : Type 0
+AlternativesAreThere = (N : NormalForm) (normal : IsNormal N) →
+    ((i : ℕ) (rule : ParserRule) → slice_get normal.grammar.grammar.rules i ≡ Some (WrittenRule.parser_rule rule) → HasFullBlocksAlts rule.alts) →
+    (r : ℕ) (alts : List (List Sym)) → slice_get N.rules r ≡ Some (RuleForm.regular alts) → 0 < length alts
 
 -- How a symbol derives, by its form. Each is an equivalence, so nothing else is derived.
 pub record NormalDerivesByForm (N : NormalForm) : Type 0 where

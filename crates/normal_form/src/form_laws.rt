@@ -2,7 +2,7 @@
 //! that its proof has the law.
 
 ghost use Rattle.normal_form.specs.Form.{NormalForm};
-ghost use Rattle.normal_form.specs.FormLaws.{AlternativesAreFew, CornersAreFew, ElementsAreNotEmpty, NoLeftRecursion, NormalDerivesByForm, SetsAreVisibleKinds, SymbolsAreKnown};
+ghost use Rattle.normal_form.specs.FormLaws.{AlternativesAreFew, AlternativesAreThere, CornersAreFew, ElementsAreNotEmpty, NoLeftRecursion, NormalDerivesByForm, SetsAreVisibleKinds, SymbolsAreKnown};
 
 /// Each symbol in a rule is one of the grammar's kinds, or one of the form's sets or rules.
 pub fn symbols_are_known()
@@ -17,6 +17,11 @@ pub fn sets_are_visible_kinds()
 /// A regular rule has fewer than 2^32 alternatives, and each of them fewer than 2^32 symbols.
 pub fn alternatives_are_few()
     ensures { AlternativesAreFew }
+{}
+
+/// Where each block of the grammar has an alternative, each regular rule has one.
+pub fn alternatives_are_there()
+    ensures { AlternativesAreThere }
 {}
 
 /// The symbol of a star or plus doesn't derive the empty list.

@@ -27,8 +27,8 @@ mod sets;
 
 pub use faults::Memory;
 pub use form_laws::{
-    alternatives_are_few, corners_are_few, elements_are_not_empty, no_left_recursion,
-    normal_derives_by_form, sets_are_visible_kinds, symbols_are_known,
+    alternatives_are_few, alternatives_are_there, corners_are_few, elements_are_not_empty,
+    no_left_recursion, normal_derives_by_form, sets_are_visible_kinds, symbols_are_known,
 };
 pub use from_grammar::normalise;
 pub use laws::{equal_languages, rules_are_few};
