@@ -7,7 +7,8 @@
 //!
 //! The definitions stand in `specs/`: what a normal form is and derives (`Form.antt`,
 //! `NormalDerives.antt`), which rules a grammar's terms give and how they are numbered
-//! (`Numbering.antt`, `NormalOf.antt`), and how it is printed (`Print.antt`).
+//! (`Numbering.antt`, `NormalOf.antt`), how it is printed (`Print.antt`), and what holds of every
+//! normal form (`Symbols.antt`, `FormLaws.antt`), for trees and a parser.
 #![tactic(auto)]
 
 mod counts;
