@@ -6,4 +6,5 @@ pub mod Reading
 pub mod Alternatives
 pub mod Candidates
 pub mod Tokens
+pub mod FaultText
 pub mod Built

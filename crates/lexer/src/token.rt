@@ -2,7 +2,7 @@
 
 use faults::Memory;
 use std::alloc::AllocFailed;
-use thiserror::Error;
+use std::fmt;
 
 /// A token of a text: the number of its kind, and where it begins and ends, in bytes from 0. The
 /// end is the offset behind its last byte.
@@ -21,16 +21,30 @@ pub struct Tokens {
 }
 
 /// Why a text was not cut into tokens.
-#[derive(Clone, Copy, Debug, PartialEq, Eq, Error)]
+#[derive(Clone, Copy, Debug, PartialEq, Eq)]
 pub enum LexFault {
     /// At this offset, in bytes from 0, no rule matches at least one character.
-    #[error("no token at byte {offset}")]
     NoToken { offset: u64 },
 
     /// Memory ran out.
-    #[error("out of memory")]
     Memory,
 }
+
+impl fmt::Display for LexFault {
+    ghost use Rattle.std.specs.Prelude.{Some};
+    ghost use Rattle.lexer.specs.FaultText.{fault_text};
+
+    ghost output = { λ fault. Some (fault_text fault) };
+
+    fn fmt<W: fmt::Write>(&self, f: &mut fmt::Formatter<W>) -> fmt::Result {
+        match self {
+            LexFault::NoToken { offset } => write!(f, "no token at byte {offset}"),
+            LexFault::Memory => f.write_str("out of memory"),
+        }
+    }
+}
+
+impl std::error::Error for LexFault {}
 
 impl From<Memory> for LexFault {
     ghost use Rattle.std.specs.Prelude.{◌≡◌};
