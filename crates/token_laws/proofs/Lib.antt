@@ -1,0 +1,9 @@
+pub mod Once
+pub mod Order
+pub mod Gaps
+pub mod Pieces
+pub mod Parts
+pub mod GapPieces
+pub mod Decided
+pub mod Matching
+pub mod Reading
