@@ -1,16 +1,17 @@
 -- Each gap is read as pieces of gap kinds.
 use Rattle.std.proofs.Common.{◌≡◌, ℕ, zero, suc, ◌+◌, ◌≤◌, Bool, true, false, cond, List, [], ◌∷◌, ◌++◌, drop, length, refl, sym, ap, ◌∙◌, subst, arith}
 use Rattle.std.specs.Prelude.{encode_utf8_all}
-use Rattle.std.specs.List.{All}
+use Rattle.std.specs.List.{All, between, flat_map}
 use Rattle.std.specs.Str.{chars, IsUtf8}
-use Rattle.std.proofs.lemmas.List.{drop_all}
+use Rattle.std.proofs.lemmas.List.{append_assoc, append_cancel_right, drop_all}
 use Rattle.std.proofs.lemmas.List.Elements.{All-nil, All-cons}
-use Rattle.std.proofs.lemmas.Str.{chars-nil}
+use Rattle.std.proofs.lemmas.Str.{chars-append, chars-nil}
 use Rattle.grammar_tree.specs.Written.{WrittenGrammar}
 use Rattle.grammar_tree.specs.Lexes.{IsNext, LexesTo, Piece, PlacedToken, is_gap_kind, placed_tokens}
-use Rattle.token_laws.specs.Spelling.{gap_end, gap_start}
+use Rattle.token_laws.specs.Spelling.{gap, gap_end, gap_start}
 use Rattle.token_laws.specs.Laws.{GapsAreGapPieces}
-use Rattle.token_laws.proofs.Gaps.{start_from, start_is, start_later}
+use Rattle.token_laws.proofs.Gaps.{join, start_from, start_is, start_later}
+use Rattle.token_laws.proofs.Parts.{are_parts}
 use Rattle.token_laws.proofs.Pieces.{cut_next, cut_later, end_chars, size_later}
 
 -- the text is read from one offset up to another as pieces of gap kinds
@@ -52,10 +53,28 @@ module _ (G : WrittenGrammar) (text : List ℕ) (utf8 : IsUtf8 text) where
       gaps_more kind piece rest at end (placed_tokens G end pieces) (subst P here next) (sym there) (is_gap_kind G kind) refl
       (gaps_from more none (front ++ piece) end (cut_later G (chars text) front cs kind piece rest e next) (size_later G (chars text) front piece at s) (sym there)) i h
 
+covers : (G : WrittenGrammar) {text left : List ℕ} {pieces : List Piece} → LexesTo G text pieces left → flat_map (λ (p : Piece). p.text) pieces ++ left ≡ text
+covers G (LexesTo.by_end text) = refl
+covers G (LexesTo.by_piece text kind piece rest left pieces next more) =
+    append_assoc piece (flat_map (λ (p : Piece). p.text) pieces) left ∙ ap (λ l. piece ++ l) (covers G more) ∙ sym next.cut
+
+-- The characters from one offset on are those up to another one, and then those from there on.
+cut_chars : (text : List ℕ) (from to : ℕ) → IsUtf8 (between from to text) → from ≤ to → chars (drop from text) ≡ chars (between from to text) ++ chars (drop to text)
+cut_chars text from to utf8 h = ap chars (sym (join from to text (drop to text) h refl)) ∙ chars-append (between from to text) (drop to text) utf8
+
 pub are_gap_pieces : GapsAreGapPieces
 are_gap_pieces G text tokens i utf8 (pieces, lexed, are) h =
     let P : List PlacedToken → Type 0 = λ ts. i ≤ length ts → IsGapFrom G text (gap_start text ts i) (gap_end text ts i) in
-    subst P (sym are) first h
+    let (gaps, read, all) = subst P (sym are) first h in
+    let part = are_parts G text tokens i utf8 (pieces, lexed, are) h in
+    record {
+      pieces = gaps;
+      read = read;
+      gaps = all;
+      cover =
+          append_cancel_right (flat_map (λ (p : Piece). p.text) gaps) (chars (gap text tokens i)) (chars (drop (gap_end text tokens i) text))
+          (covers G read ∙ cut_chars text (gap_start text tokens i) (gap_end text tokens i) part.utf8 part.rises);
+    }
   where
     first : i ≤ length (placed_tokens G 0 pieces) → IsGapFrom G text (gap_start text (placed_tokens G 0 pieces) i) (gap_end text (placed_tokens G 0 pieces) i)
     first k =

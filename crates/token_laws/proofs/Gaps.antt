@@ -9,7 +9,7 @@ use Rattle.token_laws.specs.Laws.{GapsAndSpellingsAreText}
 use Rattle.token_laws.proofs.Order.{Rise, placed_rise}
 
 -- what is between two offsets, and then the rest, is what comes from the first offset on
-join : (a b : ℕ) (text rest : List ℕ) → a ≤ b → rest ≡ drop b text → between a b text ++ rest ≡ drop a text
+pub join : (a b : ℕ) (text rest : List ℕ) → a ≤ b → rest ≡ drop b text → between a b text ++ rest ≡ drop a text
 join a b text rest h e =
     let there : drop (b - a) (drop a text) ≡ drop b text = drop-drop (b - a) a text ∙ ap (λ n. drop n text) (omega (arith, h)) in
     ap (λ l. take (b - a) (drop a text) ++ l) (e ∙ sym there) ∙ take-append-drop (b - a) (drop a text)

@@ -1,11 +1,10 @@
 -- Tokens come one after another.
-use Rattle.std.proofs.Common.{ℕ, zero, suc, ◌+◌, ◌≤◌, Bool, true, false, cond, List, [], ◌∷◌, length, arith}
+use Rattle.std.proofs.Common.{ℕ, zero, suc, ◌+◌, ◌<◌, ◌≤◌, Bool, true, false, cond, List, [], ◌∷◌, length, arith}
 use Rattle.std.specs.Prelude.{⊤, encode_utf8_all}
 use Rattle.std.specs.List.{All, AllPairs}
 use Rattle.std.proofs.lemmas.List.Elements.{All-head, All-tail}
 use Rattle.grammar_tree.specs.Written.{WrittenGrammar}
 use Rattle.grammar_tree.specs.Lexes.{Piece, PlacedToken, is_gap_kind, placed_tokens}
-use Rattle.token_laws.specs.Laws.{IsPart}
 
 -- The tokens begin at the offset or later, each no earlier than the one before it ends.
 abbrev pub Rise : ℕ → List PlacedToken → Type 0
@@ -38,8 +37,9 @@ apart at (t ∷ tokens) r zero (suc j) d lt h = begin_later t.end tokens r.2 j d
 apart at (t ∷ tokens) r (suc i) (suc j) d lt h = apart t.end tokens r.2 i j d (omega (arith, lt)) (omega (arith, h))
 
 -- tokens of at least one byte each are no more than the bytes up to where the last one ends
-pub few : (text : List ℕ) (at : ℕ) (tokens : List PlacedToken) → Rise at tokens → All (IsPart text) tokens → at ≤ length text → at + length tokens ≤ length text
+pub few : (text : List ℕ) (at : ℕ) (tokens : List PlacedToken) → Rise at tokens → All (λ t. (t.start < t.end) × (t.end ≤ length text)) tokens → at ≤ length text → at + length tokens ≤ length text
 few text at [] r parts h = omega (arith, h)
 few text at (t ∷ tokens) r parts h =
-    let part = All-head (IsPart text) t tokens parts in
-    omega (arith, r.0, part.some, few text t.end tokens r.2 (All-tail (IsPart text) t tokens parts) part.within)
+    let P : PlacedToken → Type 0 = λ x. (x.start < x.end) × (x.end ≤ length text) in
+    let (some, within) = All-head P t tokens parts in
+    omega (arith, r.0, some, few text t.end tokens r.2 (All-tail P t tokens parts) within)

@@ -7,7 +7,7 @@ use Rattle.std.proofs.lemmas.Option.{slice_get-get_or, slice_get_past}
 use Rattle.std.proofs.lemmas.Str.{IsCharBoundary-end, IsCharBoundary-start, IsUtf8-between}
 use Rattle.grammar_tree.specs.Lexes.{PlacedToken}
 use Rattle.token_laws.specs.Spelling.{gap_end, gap_start}
-use Rattle.token_laws.specs.Laws.{AreInOrder, GapsArePartsOfText, IsGap}
+use Rattle.token_laws.specs.Laws.{AreInOrder, GapsAreParts, IsPart}
 use Rattle.token_laws.proofs.Pieces.{in_order}
 
 module _ (text : List ℕ) (tokens : List PlacedToken) (utf8 : IsUtf8 text) (order : AreInOrder text tokens) where
@@ -46,7 +46,7 @@ module _ (text : List ℕ) (tokens : List PlacedToken) (utf8 : IsUtf8 text) (ord
       pick : (i < length tokens) ⊎ (length tokens ≤ i) → IsCut low (gap_end text tokens i)
       pick (inl h) =
           let part = order.parts i no_token h in
-          start_is low (slice_get tokens i) (token i) (slice_get-get_or tokens i no_token h) (record { rises = before h; within = omega (arith, part.some, part.within); boundary = part.starts })
+          start_is low (slice_get tokens i) (token i) (slice_get-get_or tokens i no_token h) (record { rises = before h; within = omega (arith, part.rises, part.within); boundary = part.starts })
       pick (inr h) = none_is low (slice_get tokens i) (slice_get_past tokens i h) (record { rises = all; within = omega arith; boundary = IsCharBoundary-end text })
 
   -- no token that comes later begins before the gap does
@@ -56,8 +56,8 @@ module _ (text : List ℕ) (tokens : List PlacedToken) (utf8 : IsUtf8 text) (ord
       let P : Option PlacedToken → Type 0 = λ x. option_map_or (λ (y : PlacedToken). y.end) x (length text) ≤ (token (suc i)).start in
       subst P (sym (slice_get-get_or tokens i no_token (omega (arith, h)))) (order.apart i (suc i) no_token (omega arith) h)
 
-  pub is_gap : (i : ℕ) → i ≤ length tokens → IsGap text tokens i
-  is_gap i h =
+  pub is_part : (i : ℕ) → i ≤ length tokens → IsPart text (gap_start text tokens i) (gap_end text tokens i)
+  is_part i h =
       let from = begins i h in
       let to = ends (gap_start text tokens i) i from.within (begins_before i) in
       record {
@@ -68,5 +68,5 @@ module _ (text : List ℕ) (tokens : List PlacedToken) (utf8 : IsUtf8 text) (ord
         utf8 = IsUtf8-between text (gap_start text tokens i) (gap_end text tokens i) utf8 to.rises from.boundary to.boundary;
       }
 
-pub are_parts : GapsArePartsOfText
-are_parts G text tokens i utf8 has h = is_gap text tokens utf8 (in_order G text tokens utf8 has) i h
+pub are_parts : GapsAreParts
+are_parts G text tokens i utf8 has h = is_part text tokens utf8 (in_order G text tokens utf8 has) i h

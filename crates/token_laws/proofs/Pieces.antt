@@ -117,17 +117,20 @@ filled [] h = absurd (h refl)
 filled (c ∷ cs) h = omega arith
 
 module _ (G : WrittenGrammar) (text : List ℕ) (utf8 : IsUtf8 text) (t : PlacedToken) (p : IsPlaced G (chars text) t) where
-  pub is_part : IsPart text t
+  pub some : t.start < t.end
+  some = omega (arith, p.ends, filled p.piece p.next.some, length-le-encodes p.piece)
+
+  pub is_part : IsPart text t.start t.end
   is_part =
-      let some : t.start < t.end = omega (arith, p.ends, filled p.piece p.next.some, length-le-encodes p.piece) in
       let starts = start_boundary text utf8 p.front p.piece p.back p.cut t.start t.end p.starts p.ends in
       let ends = end_boundary text utf8 p.front p.piece p.back p.cut t.start t.end p.starts p.ends in
+      let rises : t.start ≤ t.end = omega (arith, some) in
       record {
-        some = some;
+        rises = rises;
         within = within text utf8 p.front p.piece p.back p.cut t.start t.end p.starts p.ends;
         starts = starts;
         ends = ends;
-        utf8 = IsUtf8-between text t.start t.end utf8 (omega (arith, some)) starts ends;
+        utf8 = IsUtf8-between text t.start t.end utf8 rises starts ends;
       }
 
   pub comes_next : IsNext G (chars (drop t.start text)) t.kind (chars (spelling text t)) (chars (drop t.end text))
@@ -146,8 +149,14 @@ pub in_order : TokensAreInOrder
 in_order G text tokens utf8 (pieces, lexed, are) =
     let P : List PlacedToken → Type 0 = λ ts. Rise 0 ts in
     let rise = subst P (sym are) (placed_rise G 0 pieces) in
-    let parts = All-weaker (IsPlaced G (chars text)) (IsPart text) (is_part G text utf8) tokens (placed G (chars text) pieces tokens lexed are) in
-    record { parts = parts; apart = apart 0 tokens rise; few = omega (arith, few text 0 tokens rise parts (omega arith)) }
+    let each = placed G (chars text) pieces tokens lexed are in
+    let within = All-weaker (IsPlaced G (chars text)) (λ t. (t.start < t.end) × (t.end ≤ length text)) (λ t p. (some G text utf8 t p, (is_part G text utf8 t p).within)) tokens each in
+    record {
+      parts = All-weaker (IsPlaced G (chars text)) (λ t. IsPart text t.start t.end) (is_part G text utf8) tokens each;
+      some = All-weaker (IsPlaced G (chars text)) (λ t. t.start < t.end) (some G text utf8) tokens each;
+      apart = apart 0 tokens rise;
+      few = omega (arith, few text 0 tokens rise within (omega arith));
+    }
 
 pub come_next : TokensComeNext
 come_next G text tokens utf8 (pieces, lexed, are) =

@@ -1,6 +1,6 @@
 //! The laws.
 
-ghost use Rattle.token_laws.specs.Laws.{EachTextIsRead, GapsAndSpellingsAreText, GapsAreGapPieces, GapsArePartsOfText, TokensAreInOrder, TokensArePieces, TokensAreUnique, TokensComeNext, TokensHaveKinds, TokensHaveNoStop};
+ghost use Rattle.token_laws.specs.Laws.{EachTextIsRead, GapsAndSpellingsAreText, GapsAreGapPieces, GapsAreParts, TokensAreInOrder, TokensArePieces, TokensAreUnique, TokensComeNext, TokensHaveKinds, TokensHaveNoStop};
 
 /// A text has one list of tokens at most.
 pub fn tokens_are_unique()
@@ -46,11 +46,11 @@ pub fn gaps_and_spellings_are_text()
 {}
 
 /// Each gap is a part of the text that begins and ends between characters.
-pub fn gaps_are_parts_of_text()
-    ensures { GapsArePartsOfText }
+pub fn gaps_are_parts()
+    ensures { GapsAreParts }
 {}
 
-/// Each gap is read as pieces of gap kinds, from its beginning up to its end.
+/// Each gap is cut into pieces of gap kinds, which are read from its beginning up to its end.
 pub fn gaps_are_gap_pieces()
     ensures { GapsAreGapPieces }
 {}

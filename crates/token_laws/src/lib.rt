@@ -9,7 +9,7 @@
 mod laws;
 
 pub use laws::{
-    each_text_is_read, gaps_and_spellings_are_text, gaps_are_gap_pieces, gaps_are_parts_of_text,
+    each_text_is_read, gaps_and_spellings_are_text, gaps_are_gap_pieces, gaps_are_parts,
     tokens_are_in_order, tokens_are_pieces, tokens_are_unique, tokens_come_next, tokens_have_kinds,
     tokens_have_no_stop,
 };
