@@ -5,7 +5,7 @@ use std::alloc::AllocFailed;
 use std::fmt;
 
 /// A token of a text: the number of its kind, and where it begins and ends, in bytes from 0. The
-/// end is the offset behind its last byte.
+/// end is the offset after its last byte.
 #[derive(Clone, Copy, Debug, PartialEq, Eq)]
 pub struct Token {
     pub kind: u32,
@@ -13,8 +13,8 @@ pub struct Token {
     pub end: u32,
 }
 
-/// The tokens of a text in their order. What stands before the first one, between two of them and
-/// behind the last one is gap text.
+/// The tokens of a text in their order. What is before the first one, between two of them and after
+/// the last one is gap text.
 #[derive(Debug, Drop)]
 pub struct Tokens {
     pub items: Vec<Token>,
