@@ -1,13 +1,21 @@
 //! Files and sinks, whose failing calls are counted.
 //!
-//! The traits [`Files`] and [`Sink`] are what the crates above read and write through. Three
-//! implementations are in memory, and contracts see what they hold; [`DiskFiles`] and [`StreamSink`]
-//! reach the machine, and contracts see nothing of them but their counts.
+//! Enter by the traits [`Files`] (`read`, `write`) and [`Sink`] (`open`, `put`), which the crates above
+//! are generic over; read `specs/Files.antt` and `specs/Sink.antt` first. A count of faults rises
+//! exactly where a call answers that it failed. [`MemFiles`], [`MemSink`] and [`NullSink`] are in
+//! memory; [`DiskFiles`] and [`StreamSink`] reach the machine, and contracts see nothing of them but
+//! their counts. So a program reads its input:
+//!
+//! ```
+//! let mut files = DiskFiles::new(rt.clone()?, rt.alloc());
+//! let input = files.read("input.txt", 262_144)?;
+//! ```
 #![tactic(auto)]
 
 mod calls;
 mod disk_files;
 mod files;
+mod machine;
 mod mem_files;
 mod mem_sink;
 mod null_sink;
@@ -17,6 +25,7 @@ mod stream_sink;
 pub use disk_files::DiskFiles;
 pub use faults::Memory;
 pub use files::{FileFault, Files, WriteFault};
+pub use machine::{count_failure, write_whole};
 pub use mem_files::MemFiles;
 pub use mem_sink::MemSink;
 pub use null_sink::NullSink;

@@ -1,9 +1,9 @@
 ghost use Rattle.std.specs.Prelude.{◌≡◌, ◌≤◌, IsErr, IsErrOf};
 ghost use Rattle.edge_io.specs.Calls.{CountsFault};
 
-use crate::disk_files::is_memory;
+use crate::machine::{count_failure, write_whole};
 use crate::sink::{OpenFault, Sink, SinkFault};
-use std::io::{ErrorKind, Write};
+use std::io::ErrorKind;
 use std::marker::Model;
 use std::{fs, io};
 
@@ -62,8 +62,8 @@ fn put_all<R: std::rt::Files + Print>(
 ) -> io::Result<()> {
     match target {
         Target::Nothing => Err(io::Error::from(ErrorKind::NotConnected)),
-        Target::Output => io::writer(rt).write_all(piece),
-        Target::File(file) => file.write_all(piece),
+        Target::Output => write_whole(&mut io::writer(rt), piece),
+        Target::File(file) => write_whole(file, piece),
     }
 }
 
@@ -83,11 +83,8 @@ impl<R: std::rt::Files + Print> Sink for StreamSink<R> {
                 self.target = Target::File(file);
                 Ok(())
             }
-            Err(error) if is_memory(&error) => Err(OpenFault::Memory),
-            Err(_) => {
-                self.faults = self.faults.saturating_add(1);
-                Err(OpenFault::Failed)
-            }
+            Err(error) if count_failure(&mut self.faults, &error) => Err(OpenFault::Failed),
+            Err(_) => Err(OpenFault::Memory),
         }
     }
 
@@ -99,6 +96,32 @@ impl<R: std::rt::Files + Print> Sink for StreamSink<R> {
             self.faults = self.faults.saturating_add(1);
             return Err(SinkFault::Failed);
         }
+        Ok(())
+    }
+}
+
+#[cfg(test)]
+mod tests {
+    use super::*;
+    use crate::mem_sink::MemSink;
+    use crate::null_sink::NullSink;
+    use std::test::Fail;
+
+    // The bound `Send` shows that each sink may go to a thread.
+    fn put_into<S: Sink + Send + Drop>(mut sink: S, piece: &[u8]) -> Result<(), SinkFault> {
+        sink.put(piece)
+    }
+
+    #[test]
+    fn each_sink_takes_a_piece(rt: HostRuntime) -> Result<(), Fail> {
+        let in_memory = MemSink::new(rt.alloc(), 3, Vec::new(rt.alloc()))?;
+        assert_eq!(rt; put_into(in_memory, b"put"), Ok(()));
+        assert_eq!(rt; put_into(NullSink::new(), b"put"), Ok(()));
+        assert_eq!(rt; put_into(StreamSink::output(rt.clone()?), b""), Ok(()));
+        assert_eq!(rt;
+            put_into(StreamSink::file(rt.clone()?), b""),
+            Err(SinkFault::Failed)
+        );
         Ok(())
     }
 }

@@ -1,8 +1,9 @@
-//! The reducers. A reducer is asked for texts and answered with verdicts until it asks nothing more.
+//! The reducers, which are asked for texts and answered with verdicts until they ask nothing more.
 //!
-//! [`LineReducer`] is that of mode `lines`. What it does is defined as a recursion over a map of
-//! verdicts (`specs/Reduction.antt`); as code it is a machine that is asked and answered from
-//! outside (`specs/LineMachine.antt`). The laws tie the two together: each is a function that does
+//! Enter by [`LineReducer::new`], the reducer of mode `lines`, and then `asks` and `answer` of `Step`;
+//! read `specs/Reduction.antt` first. What a reducer does is defined there as a recursion over a map
+//! of verdicts; as code it is a machine that is asked and answered from outside
+//! (`specs/LineMachine.antt`). The laws tie the two together: each is a function that does
 //! nothing, which a caller calls so that its proof has the law. [`plain_reduction`] is the recursion
 //! itself as a plain program, with which a test compares the machine.
 #![tactic(auto)]

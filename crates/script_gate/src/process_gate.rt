@@ -1,13 +1,14 @@
-ghost use Rattle.std.specs.Prelude.{◌≡◌, ◌≢◌, ◌≤◌, ◌↔◌, [], ◌∷◌, Some, pos, IfOk, OnOk, OnErr, IsErrOf};
+ghost use Rattle.std.specs.Prelude.{◌≡◌, ◌≤◌, ◌↔◌, [], ◌∷◌, ℕ, List, None, Some, false, pos, IfOk, OnOk, OnErr, IsErrOf};
 ghost use Rattle.std.specs.String.{string_bytes};
-ghost use Rattle.std.specs.Process.{command_args, command_program, exit_code};
+ghost use Rattle.std.specs.Process.{clears_env, command_args, command_dir, command_program, command_var, exit_code};
 ghost use Rattle.edge_io.specs.Calls.{CountsFault};
+ghost use Rattle.edge_io.specs.Machine.{IsOutOfMemory};
 ghost use Rattle.script_gate.specs.Script.{file_of, folder_of, path_in, script_of};
 
 use crate::gate::{Gate, GateFault, Verdict};
+use edge_io::{count_failure, write_whole};
 use faults::Memory;
 use std::alloc::Global;
-use std::io::{ErrorKind, Write};
 use std::marker::Model;
 use std::process::{Command, ExitStatus, Processes, Stdio};
 use std::rt::Files;
@@ -78,9 +79,13 @@ fn script_at(alloc: Global, name: &str) -> Result<String, Memory>
     }
 }
 
+// The script with the file as its only argument, in the program's own folder and with its own environment.
 fn command_of(alloc: Global, script: &str, file: &str) -> Result<Command, Memory>
     ensures program { IfOk result (λ command. command_program command ≡ script.now) }
     ensures args { IfOk result (λ command. command_args command ≡ file.now ∷ []) }
+    ensures folder { IfOk result (λ command. command_dir command ≡ None) }
+    ensures environment { IfOk result (λ command. clears_env command ≡ false) }
+    ensures variables { IfOk result (λ command. (name : List ℕ) → command_var command name ≡ None) }
 {
     let mut command = Command::new(alloc, script)?;
     command.arg(file)?;
@@ -109,20 +114,21 @@ fn judge<R: Files + Processes>(
 ) -> io::Result<Verdict> {
     // (a file that isn't there, or can't be removed, is written over)
     let _ = fs::remove_file(rt, file);
-    fs::create(rt, file)?.write_all(text)?;
+    write_whole(&mut fs::create(rt, file)?, text)?;
     Ok(verdict_of(command.status(rt)?))
 }
 
-// The fault of an error: out of memory where the program itself had none, and else a failure, which is counted.
+// The fault of an error, counted unless the program itself had no memory.
 fn fault_of(faults: &mut u64, error: &io::Error) -> GateFault
+    ensures memory { (result ≡ GateFault.Memory) ↔ IsOutOfMemory error.now }
     ensures faults { CountsFault (result ≡ GateFault.Failed) faults.old faults.new }
     ensures count { faults.old ≤ faults.new }
 {
-    if error.kind() == ErrorKind::OutOfMemory && error.raw_os_error().is_none() {
-        return GateFault::Memory;
+    if count_failure(faults, error) {
+        GateFault::Failed
+    } else {
+        GateFault::Memory
     }
-    *faults = faults.saturating_add(1);
-    GateFault::Failed
 }
 
 impl<R: Files + Processes> Gate for ProcessGate<R> {
@@ -169,6 +175,8 @@ impl<R: Files + Processes> Gate for ProcessGate<R> {
 #[cfg(test)]
 mod tests {
     use super::*;
+    use std::os::fd::AsRawFd;
+    use std::path::PathBuf;
     use std::test::Fail;
     use std::{env, process};
 
@@ -183,12 +191,18 @@ mod tests {
         gate.ask(text)
     }
 
+    // A path of its own for a test, below which the gate makes its folder. The test removes it at its end.
+    fn work_folder(rt: &HostRuntime, test: &str) -> Result<PathBuf, Fail> {
+        let process = process::id(rt.process());
+        let name = format!(in rt.alloc(); "perses-script-gate-{process}-{test}")?;
+        Ok(env::temp_dir(rt)?.join(rt.alloc(), name.as_str())?)
+    }
+
     // The shell is the script, and each candidate a program for it.
     #[test]
     fn judges_by_the_status_of_the_script(rt: HostRuntime) -> Result<(), Fail> {
         let alloc = rt.alloc();
-        let name = format!(in alloc; "perses-script-gate-{}", process::id(rt.process()))?;
-        let folder = env::temp_dir(&rt)?.join(alloc, name.as_str())?;
+        let folder = work_folder(&rt, "status")?;
         let work = folder.as_path().as_str();
         let mut gate = ProcessGate::new(rt.clone()?, alloc);
         for (script, text, answered) in [
@@ -203,7 +217,7 @@ mod tests {
             ),
             (
                 "/bin/sh",
-                "case \"$0\" in *-$PPID/7/candidate) ;; *) false ;; esac\n",
+                "case \"$0\" in *-$PPID-status/7/candidate) ;; *) false ;; esac\n",
                 Ok(Verdict::Yes),
             ),
             ("/bin/sh", "test -z \"$(cat)\"\n", Ok(Verdict::Yes)),
@@ -216,6 +230,34 @@ mod tests {
         let file = folder.join(alloc, "7/candidate")?;
         assert_eq!(rt; fs::read_to_string(&rt, file.as_path())?.as_str(), "true\n");
         fs::remove_dir_all(&rt, folder.as_path())?;
+        Ok(())
+    }
+
+    // The file of a candidate is removed before it is written, and the entry of an open file can't be:
+    // so the write goes to the device.
+    #[test]
+    fn a_full_device_is_a_failed_ask(rt: HostRuntime) -> Result<(), Fail> {
+        let alloc = rt.alloc();
+        let device = fs::create(&rt, "/dev/full")?;
+        let mut gate = ProcessGate::new(rt.clone()?, alloc);
+        gate.script = String::from_str(alloc, "/bin/true")?;
+        gate.file = format!(in alloc; "/proc/self/fd/{}", device.as_raw_fd())?;
+        assert_eq!(rt; gate.ask(b"text"), Err(GateFault::Failed));
+        assert_eq!(rt; gate.faults, 1);
+        assert_eq!(rt; gate.ask(b""), Ok(Verdict::Yes));
+        assert_eq!(rt; gate.faults, 1);
+        Ok(())
+    }
+
+    #[test]
+    fn a_folder_that_is_a_file_is_a_failed_opening(rt: HostRuntime) -> Result<(), Fail> {
+        let file = work_folder(&rt, "file")?;
+        fs::write(&rt, file.as_path(), "no folder")?;
+        let mut gate = ProcessGate::new(rt.clone()?, rt.alloc());
+        let opened = gate.open(file.as_path().as_str(), "/bin/true", "candidate", 7);
+        assert_eq!(rt; opened, Err(GateFault::Failed));
+        assert_eq!(rt; gate.faults, 1);
+        fs::remove_file(&rt, file.as_path())?;
         Ok(())
     }
 }

@@ -1,4 +1,15 @@
-//! The table of verdicts, and the reducers that ask for them.
+//! The table of verdicts, which has each text once, and the trait of what asks for them.
+//!
+//! Enter by [`Table`]: `find`, `claim` and `fill` for each text, `into_records` at the end; read
+//! `specs/TableState.antt` first. A reducer is a [`Step`], whose plan is a tree of the texts that it
+//! may ask (`specs/Plan.antt`). So a verdict is learned:
+//!
+//! ```
+//! if table.find(text) == Found::Absent {
+//!     let claim = table.claim(text)?;
+//!     table.fill(claim, gate.ask(text)?);
+//! }
+//! ```
 #![tactic(auto)]
 
 mod found;
