@@ -1,3 +1,4 @@
+pub mod KindLists
 pub mod Adding
 pub mod Places
 pub mod TokenKinds

@@ -3,4 +3,5 @@ pub use Rattle.grammar_tree.specs.Kinds
 pub use Rattle.grammar_tree.specs.Code
 pub use Rattle.grammar_tree.specs.GrammarView
 pub mod Index
+pub mod KindLists
 pub mod Names

@@ -2,8 +2,10 @@
 #![tactic(auto)]
 
 mod index;
+mod kinds;
 mod names;
 
 pub use faults::Memory;
 pub use index::Index;
-pub use names::{Names, literal_of, visible_kinds, without};
+pub use kinds::{is_among, visible_kinds, without};
+pub use names::{Names, literal_of};

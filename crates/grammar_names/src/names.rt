@@ -1,17 +1,20 @@
 //! What the names and literals of parser rules stand for.
 
-ghost use Rattle.std.specs.Prelude.{◌≡◌, ℕ, List, ◌+◌, ◌<◌, ◌^◌, false, [], ◌∷◌, slice_get, IfOk, OnOk, filter, length, map, nat_eq, not, position};
-ghost use Rattle.std.specs.List.{filter_map, list_any};
+ghost use Rattle.std.specs.Prelude.{◌≡◌, ℕ, List, ◌+◌, ◌<◌, ◌^◌, false, [], ◌∷◌, slice_get, IfOk, OnOk, length, map, position};
+ghost use Rattle.std.specs.List.{filter_map};
+ghost use Rattle.std.specs.List.Sorted.{IsStrictlyIncreasing};
 ghost use Rattle.std.specs.Option.{option_map_or};
 ghost use Rattle.grammar_tree.specs.GrammarView.{grammar_of, kind_of, rule_of};
-ghost use Rattle.grammar_tree.specs.Kinds.{any_kinds, has_name, is_just, is_named_by, kinds_of, literal_kind, name_kind, other_kinds, parser_rules, reference_kind, rule_number, same_text, visible_from};
+ghost use Rattle.grammar_tree.specs.Kinds.{any_kinds, has_name, is_just, is_named_by, kinds_of, literal_kind, name_kind, other_kinds, parser_rules, reference_kind, rule_number, same_text};
 ghost use Rattle.grammar_tree.specs.Size.{grammar_size};
 ghost use Rattle.grammar_tree.specs.View.{lex_alts, lex_terms, token_ref};
 ghost use Rattle.grammar_tree.specs.Written.{ParserRule, lexer_alts};
 ghost use Rattle.grammar_names.specs.Index.{Finds, IsAdded};
+ghost use Rattle.grammar_names.specs.KindLists.{named_kinds};
 ghost use Rattle.grammar_names.specs.Names.{can_stand_for, is_parser_rule_of, next_number};
 
 use crate::index::Index;
+use crate::kinds::{common, sorted, visible_kinds, without};
 use faults::Memory;
 use grammar_tree::{
     Grammar, Kind, KindSource, LexAlts, LexTerm, LexTerms, Rule, Text, TokenRef, TokenRefs,
@@ -88,7 +91,8 @@ impl<'a> Names<'a> {
 
     /// `.`: the numbers of all kinds that aren't gap kinds, rising.
     pub fn any_kinds(&self) -> &[u32]
-        ensures { result.now ≡ any_kinds self.now }
+        ensures kinds { result.now ≡ any_kinds self.now }
+        ensures rising { IsStrictlyIncreasing result.now }
     {
         self.any.as_slice()
     }
@@ -103,13 +107,23 @@ impl<'a> Names<'a> {
         }
     }
 
-    /// `~`: the numbers of all kinds that aren't gap kinds but the named ones, rising. It compares
-    /// each of these kinds with each named one.
+    /// `~`: the numbers of all kinds that aren't gap kinds but the named ones, rising. It takes time
+    /// near linear in the number of kinds.
     pub fn other_kinds(&self, alloc: Global, tokens: &TokenRefs) -> Result<Vec<u32>, Memory>
         ensures { IfOk result (λ kinds. kinds.items ≡ other_kinds self.now (map token_ref tokens.now.items.items)) }
     {
         let left_out = self.reference_kinds(alloc, &tokens.items)?;
         without(alloc, self.any_kinds(), left_out.as_slice())
+    }
+
+    /// The numbers of the kinds that `~` leaves out: those that a token stands for and that aren't
+    /// gap kinds, rising. It takes time near linear in the number of tokens.
+    pub fn named_kinds(&self, alloc: Global, tokens: &TokenRefs) -> Result<Vec<u32>, Memory>
+        ensures { IfOk result (λ kinds. kinds.items ≡ named_kinds self.now (map token_ref tokens.now.items.items)) }
+    {
+        let named = self.reference_kinds(alloc, &tokens.items)?;
+        let named = sorted(named);
+        common(alloc, self.any_kinds(), named.as_slice())
     }
 
     /// The numbers of the kinds that the tokens stand for.
@@ -218,7 +232,7 @@ pub fn literal_of(rule: &Rule) -> Option<&Text>
     }
 }
 
-/// The literal that can name the rule: it has no command, is no fragment, and is that literal alone.at this place.
+/// The literal that can name the rule at this place.
 fn literal_at(rules: &[Rule], place: u32) -> Option<&Text>
     ensures { (t : List ℕ) → option_map_or (is_named_by t) (slice_get (map rule_of rules.now) place) false ≡ option_map_or (λ u. same_text u.now t) result false }
 {
@@ -258,31 +272,4 @@ fn literal_index(alloc: Global, rules: &[Rule], kinds: &[Kind]) -> Result<Index,
         add_literal(alloc, &mut index, rules, kind, number as u32)?;
     }
     Ok(index)
-}
-
-/// The numbers of the kinds that aren't gap kinds, rising.
-pub fn visible_kinds(alloc: Global, kinds: &[Kind]) -> Result<Vec<u32>, Memory>
-    requires { length kinds.now < 2 ^ 32 }
-    ensures { IfOk result (λ numbers. numbers.items ≡ visible_from 0 (map kind_of kinds.now)) }
-{
-    let mut numbers = Vec::new(alloc);
-    for (number, kind) in kinds.iter().enumerate() {
-        if !kind.gap {
-            numbers.push(number as u32)?;
-        }
-    }
-    Ok(numbers)
-}
-
-/// The kinds that aren't left out, in their order. It compares each kind with each left out one.
-pub fn without(alloc: Global, kinds: &[u32], left_out: &[u32]) -> Result<Vec<u32>, Memory>
-    ensures { IfOk result (λ others. others.items ≡ filter (λ k. not (list_any (λ other. nat_eq other k) left_out.now)) kinds.now) }
-{
-    let mut others = Vec::new(alloc);
-    for kind in kinds {
-        if !left_out.contains(kind) {
-            others.push(*kind)?;
-        }
-    }
-    Ok(others)
 }
