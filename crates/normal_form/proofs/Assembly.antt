@@ -1,14 +1,13 @@
 -- The parts of a normal form, put together.
 use Rattle.std.proofs.Common.{◌≡◌, ℕ, zero, suc, ◌+◌, ◌<◌, ◌≤◌, ◌^◌, ◌⊎◌, inl, inr, Bool, true, false, cond, List, [], ◌∷◌, length, map, take, get_or, Option, Some, None, refl, sym, ap, ◌∙◌, subst, arith, length-append, length-take}
 use Rattle.std.specs.Prelude.{filter, sum_by, not}
-use Rattle.std.specs.Global.{Vec}
 use Rattle.std.specs.List.{flat_map}
 use Rattle.std.proofs.lemmas.List.{length-map, take-map, get_or_default}
 use Rattle.std.proofs.lemmas.List.Sums.{sum_by-cons}
 use Rattle.std.proofs.lemmas.Option.{slice_get_within}
 use Rattle.std.proofs.lemmas.Bool.{cases_lt}
 use Rattle.grammar_tree.specs.Written.{WrittenTerm, WrittenSeq, WrittenAlts, ParserRule, WrittenRule, WrittenGrammar, CheckedGrammar}
-use Rattle.grammar_tree.specs.Kinds.{distinct, literal_kind, name_kind, parser_rules, rule_number, same_text}
+use Rattle.grammar_tree.specs.Kinds.{any_kinds, distinct, literal_kind, name_kind, parser_rules, rule_number, same_text}
 use Rattle.grammar_tree.specs.Derives.{Alts, bodies, resolved, resolved_seq, resolved_alts}
 use Rattle.grammar_tree.specs.Corners.{group_size, normal_count, normal_count_from}
 use Rattle.grammar_tree.specs.Faults.{number_at}
@@ -19,7 +18,8 @@ use Rattle.normal_form.proofs.Resolving.{kind_term, name_term}
 use Rattle.normal_form.specs.declared.parser_rule.ParserRuleRef.{ParserRuleRef}
 use Rattle.normal_form.specs.NormalOf.{alts_sets, names_from, normal_of, numbering, place, seq_sets, sets_of, term_sets}
 use Rattle.normal_form.specs.Numbers.{AreNumbersOf, places_from}
-use Rattle.normal_form.specs.View.{bodies_of, normal_form, parser_rule, rule_form, set_form}
+use Rattle.normal_form.specs.Sets.{SetsOfKinds}
+use Rattle.normal_form.specs.View.{bodies_of, normal_form, parser_rule, rule_form}
 use Rattle.normal_form.specs.Form.{RuleForm, NormalForm}
 use Rattle.normal_form.specs.Numbering.{groups}
 use Rattle.normal_form.specs.Laws.{EqualLanguages, HasEqualLanguages}
@@ -101,16 +101,17 @@ unfolding grammar_size
 few_sets G = omega (arith, distinct_shorter (flat_map alts_sets (bodies G)), rules_fit G G.rules)
 
 -- what is looked up is the grammar's
-pub numbers_are : (G H : WrittenGrammar) (places : List ℕ) (sets : List (Vec ℕ)) (B : List Alts) → H ≡ G → B ≡ bodies G → places ≡ places_from 0 0 B → map set_form sets ≡ sets_of B → grammar_size G < 2 ^ 32 → AreNumbersOf H places sets
+pub numbers_are : (G H : WrittenGrammar) (places : List ℕ) (sets : SetsOfKinds) (B : List Alts) → H ≡ G → B ≡ bodies G → places ≡ places_from 0 0 B → sets ≡ record { all = any_kinds H; sets = sets_of B } → grammar_size G < 2 ^ 32 → AreNumbersOf H places sets
 numbers_are G H places sets B e b p s small =
     let at_B : places ≡ places_from 0 0 (bodies G) = p ∙ ap (places_from 0 0) b in
-    let sets_G : map set_form sets ≡ sets_of (bodies G) = s ∙ ap sets_of b in
+    let sets_G : sets.sets ≡ sets_of (bodies G) = ap (λ (t : SetsOfKinds). t.sets) s ∙ ap sets_of b in
     let all : AreNumbersOf G places sets =
     (record {
       known = ap length at_B ∙ places_length 0 0 (bodies G);
       places_are = λ r h. ap (λ l. get_or l r 0) at_B ∙ place_at 0 0 (bodies G) r h ∙ omega arith;
+      all_are = ap (λ (t : SetsOfKinds). t.all) s ∙ ap any_kinds e;
       sets_are = sets_G;
-      few_sets = omega (arith, few_sets G, small, ap length sets_G, length-map sets set_form);
+      few_sets = omega (arith, few_sets G, small, ap length sets_G);
     }) in
     let P : WrittenGrammar → Type 0 = λ K. AreNumbersOf K places sets in subst P (sym e) all
 
@@ -154,14 +155,14 @@ place_read G places B k m x b p e h is =
     is ∙ ap (λ j. get_or places j x) e ∙ get_or_default places m x 0 within ∙ ap (λ l. get_or l m 0) at ∙ place_at 0 0 (bodies G) m h ∙ omega arith
 
 -- the whole
-pub assembled : (c : CheckedGrammar) (made : List NormalRule) (names : List (List ℕ)) (sets : List (Vec ℕ)) (start : ℕ) → map rule_form made ≡ groups (numbering (bodies c.grammar)) 0 0 (bodies c.grammar) → names ≡ names_from c.grammar 0 (parser_rules c.grammar.rules) → map set_form sets ≡ sets_of (bodies c.grammar) → start ≡ place (bodies c.grammar) (number_at c.grammar c.start) → normal_form made names sets start ≡ normal_of c
+pub assembled : (c : CheckedGrammar) (made : List NormalRule) (names : List (List ℕ)) (sets : List (List ℕ)) (start : ℕ) → map rule_form made ≡ groups (numbering (bodies c.grammar)) 0 0 (bodies c.grammar) → names ≡ names_from c.grammar 0 (parser_rules c.grammar.rules) → sets ≡ sets_of (bodies c.grammar) → start ≡ place (bodies c.grammar) (number_at c.grammar c.start) → normal_form made names sets start ≡ normal_of c
 unfolding normal_of
 assembled c made names sets start m n s k =
     let G = bodies c.grammar in
     let rules = groups (numbering G) 0 0 G in
     let all_names = names_from c.grammar 0 (parser_rules c.grammar.rules) in
-    ap (with_rules names (map set_form sets) start) m
-    ∙ ap (λ l. with_rules l (map set_form sets) start rules) n
+    ap (with_rules names sets start) m
+    ∙ ap (λ l. with_rules l sets start rules) n
     ∙ ap (λ l. with_rules all_names l start rules) s
     ∙ ap (λ i. with_rules all_names (sets_of G) i rules) k
   where

@@ -5,6 +5,7 @@ pub mod Closed
 pub mod Forward
 pub mod Backward
 pub mod Named
+pub mod Lacking
 pub mod SetNumbers
 pub mod Languages
 pub mod Replaced

@@ -1,10 +1,8 @@
 -- Each set that stands in the grammar has its number.
 use Rattle.std.proofs.Common.{◌≡◌, ℕ, suc, ◌+◌, ◌<◌, ◌⊎◌, inl, inr, Bool, true, false, not, cond, List, [], ◌∷◌, length, Some, None, slice_get, refl, sym, ap, ◌∙◌, subst, arith, true≢false}
-use Rattle.std.specs.Prelude.{filter, nat_lt, unwrap_or}
+use Rattle.std.specs.Prelude.{filter, unwrap_or}
 use Rattle.std.specs.List.{Contains, position_or_len}
-use Rattle.std.proofs.lemmas.Bool.{lt-ltb, ltb-true}
-use Rattle.std.proofs.lemmas.List.Sums.{position_or_len_is}
-use Rattle.std.proofs.Common.{get_or, ◌≤◌}
+use Rattle.std.proofs.lemmas.Bool.{lt-ltb}
 use Rattle.std.proofs.lemmas.Slice.Eq.{bytes_eq-Decides}
 use Rattle.grammar_tree.specs.Kinds.{distinct, same_text}
 use Rattle.normal_form.specs.NormalOf.{set_number}
@@ -54,10 +52,6 @@ first_place : (xs : List (List ℕ)) (x : List ℕ) → Contains xs x → IsPlac
 first_place [] x c = absurd (Contains-nil x c)
 first_place (y ∷ ys) x c = first_of y ys x (position_or_len (λ other. same_text other x) ys) (first_place ys x) (same_text y x) refl (Contains-cases x y ys c)
 
-not_less : (m n : ℕ) → n ≤ m → (b : Bool) → nat_lt m n ≡ b → b ≡ false
-not_less m n h false e = refl
-not_less m n h true e = absurd (omega (arith, h, ltb-true m n e))
-
 number_is : (xs : List (List ℕ)) (x : List ℕ) → position_or_len (λ other. same_text other x) xs < length xs → set_number xs x ≡ position_or_len (λ other. same_text other x) xs
 number_is xs x h =
     let i = position_or_len (λ other. same_text other x) xs in
@@ -68,15 +62,3 @@ pub set_is_there : (xs : List (List ℕ)) (x : List ℕ) → Contains xs x → s
 set_is_there xs x c =
     let d = first_place (distinct xs) x (distinct_has xs x c) in
     ap (slice_get (distinct xs)) (number_is (distinct xs) x d.within) ∙ d.at
-
--- the number of a set that stands first at a place, and of one that isn't there
-pub number_at_place : (xs : List (List ℕ)) (x : List ℕ) (i : ℕ) → i < length xs → ((k : ℕ) → k < i → same_text (get_or xs k []) x ≡ false) → same_text (get_or xs i []) x ≡ true → set_number xs x ≡ i
-number_at_place xs x i h before here =
-    let at : position_or_len (λ other. same_text other x) xs ≡ i = position_or_len_is (λ other. same_text other x) xs i [] (omega (arith, h)) before (λ _. here) in
-    number_is xs x (omega (arith, at, h)) ∙ at
-
-pub number_past : (xs : List (List ℕ)) (x : List ℕ) → ((k : ℕ) → k < length xs → same_text (get_or xs k []) x ≡ false) → set_number xs x ≡ 0
-number_past xs x none =
-    let i = position_or_len (λ other. same_text other x) xs in
-    let at : i ≡ length xs = position_or_len_is (λ other. same_text other x) xs (length xs) [] (omega arith) none (λ h. absurd (omega (arith, h))) in
-    ap (λ b. unwrap_or (cond b (Some i) None) 0) (not_less i (length xs) (omega (arith, at)) (nat_lt i (length xs)) refl)

@@ -1,5 +1,5 @@
 -- Sets that are added one after another.
-use Rattle.std.proofs.Common.{◌≡◌, ℕ, zero, suc, ◌+◌, ◌<◌, ◌≤◌, ◌||◌, ◌&&◌, Bool, true, false, not, cond, List, [], ◌∷◌, ◌++◌, length, map, drop, get_or, refl, sym, ap, ◌∙◌, arith, append_assoc, add-one, drop-cons}
+use Rattle.std.proofs.Common.{◌≡◌, ℕ, suc, ◌+◌, ◌<◌, ◌≤◌, ◌||◌, ◌&&◌, Bool, true, false, not, cond, List, [], ◌∷◌, ◌++◌, length, drop, get_or, refl, sym, ap, ◌∙◌, append_assoc, add-one, drop-cons}
 use Rattle.std.specs.Prelude.{filter}
 use Rattle.std.specs.List.{list_any}
 use Rattle.std.proofs.lemmas.List.{append-nil}
@@ -7,9 +7,7 @@ use Rattle.std.proofs.lemmas.List.{drop_all}
 use Rattle.std.proofs.lemmas.List.Folds.{list_any-append}
 use Rattle.std.proofs.lemmas.Slice.Eq.{bytes_eq-Decides}
 use Rattle.grammar_tree.specs.Kinds.{distinct, same_text}
-use Rattle.std.specs.Global.{Vec}
-use Rattle.normal_form.specs.View.{set_form}
-use Rattle.normal_form.specs.Numbers.{with_set, with_sets}
+use Rattle.normal_form.specs.Sets.{SetsOfKinds, no_sets, with_each, with_set, with_sets}
 
 pub with_sets-append : (sets xs ys : List (List ℕ)) → with_sets sets (xs ++ ys) ≡ with_sets (with_sets sets xs) ys
 with_sets-append sets [] ys = refl
@@ -17,15 +15,19 @@ with_sets-append sets (x ∷ xs) ys = with_sets-append (with_set sets x) xs ys
 
 module _ {X : Type 0} (k : X → List (List ℕ)) (h : List X → List (List ℕ)) where
   -- the sets of one more element are added
-  pub sets_step : ((x : X) (xs : List X) → h (x ∷ xs) ≡ k x ++ h xs) → (sets new : List (List ℕ)) (items : List X) (i : ℕ) (x : X) → i < length items → x ≡ get_or items i x → new ≡ with_sets sets (k x) → with_sets new (h (drop (i + 1) items)) ≡ with_sets sets (h (drop i items))
-  sets_step cons sets new items i x within is e =
-      ap (λ s. with_sets s (h (drop (i + 1) items))) e
-      ∙ sym (with_sets-append sets (k x) (h (drop (i + 1) items)))
-      ∙ sym (ap (with_sets sets) (ap h (drop-cons items i x within ∙ ap (λ y. y ∷ drop (suc i) items) (sym is)) ∙ cons x (drop (suc i) items) ∙ ap (λ j. k x ++ h (drop j items)) (sym (add-one i))))
+  pub sets_step : ((x : X) (xs : List X) → h (x ∷ xs) ≡ k x ++ h xs) → (s new : SetsOfKinds) (items : List X) (i : ℕ) (x : X) → i < length items → x ≡ get_or items i x → new ≡ with_each s (k x) → with_each new (h (drop (i + 1) items)) ≡ with_each s (h (drop i items))
+  sets_step cons s new items i x within is e =
+      ap (λ (u : SetsOfKinds). with_each u (h (drop (i + 1) items))) e
+      ∙ ap (grown s)
+      (sym (with_sets-append s.sets (k x) (h (drop (i + 1) items)))
+      ∙ sym (ap (with_sets s.sets) (ap h (drop-cons items i x within ∙ ap (λ y. y ∷ drop (suc i) items) (sym is)) ∙ cons x (drop (suc i) items) ∙ ap (λ j. k x ++ h (drop j items)) (sym (add-one i)))))
+    where
+      grown : SetsOfKinds → List (List ℕ) → SetsOfKinds
+      grown s sets = record { all = s.all; sets = sets }
 
   -- all are added
-  pub sets_end : h [] ≡ [] → (sets : List (List ℕ)) (items : List X) (i : ℕ) → length items ≤ i → with_sets sets (h (drop i items)) ≡ sets
-  sets_end nil sets items i past = ap (λ l. with_sets sets (h l)) (drop_all i items past) ∙ ap (with_sets sets) nil
+  pub sets_end : h [] ≡ [] → (s : SetsOfKinds) (items : List X) (i : ℕ) → length items ≤ i → with_each s (h (drop i items)) ≡ s
+  sets_end nil s items i past = ap (λ l. with_each s (h l)) (drop_all i items past) ∙ ap (with_each s) nil
 
 -- the set isn't among the sets
 abbrev is_new : List (List ℕ) → List ℕ → Bool
@@ -84,18 +86,8 @@ filter_all [] = refl
 filter_all (x ∷ xs) = ap (λ l. x ∷ l) (filter_all xs)
 
 -- the sets, each once
-pub with_all : (kss : List (List ℕ)) → with_sets [] kss ≡ distinct kss
-with_all kss = with_sets_are kss [] ∙ filter_all (distinct kss)
-
--- a set that is read is found
-pub is_found : (sets : List (Vec ℕ)) (kinds : List ℕ) (i : ℕ) (set : Vec ℕ) → i < length sets → set ≡ get_or sets i set → same_text set.items kinds ≡ true → list_any (λ other. same_text other kinds) (map set_form sets) ≡ true
-is_found [] kinds i set within is same = absurd (omega (arith, within))
-is_found (s ∷ sets) kinds zero set within is same =
-    let here : same_text s.items kinds ≡ true = ap (λ v. same_text v.items kinds) (sym is) ∙ same in
-    ap (λ b. b || list_any (λ other. same_text other kinds) (map set_form sets)) here
-is_found (s ∷ sets) kinds (suc i) set within is same =
-    or_true (same_text s.items kinds) (is_found sets kinds i set (omega (arith, within)) is same)
+pub with_all : (all : List ℕ) (kss : List (List ℕ)) → with_each (no_sets all) kss ≡ record { all = all; sets = distinct kss }
+with_all all kss = ap (of_kinds all) (with_sets_are kss [] ∙ filter_all (distinct kss))
   where
-    or_true : (b : Bool) → list_any (λ other. same_text other kinds) (map set_form sets) ≡ true → (b || list_any (λ other. same_text other kinds) (map set_form sets)) ≡ true
-    or_true true e = refl
-    or_true false e = e
+    of_kinds : List ℕ → List (List ℕ) → SetsOfKinds
+    of_kinds all sets = record { all = all; sets = sets }

@@ -4,6 +4,7 @@ pub use Rattle.grammar_tree.specs.Derives
 pub use Rattle.grammar_tree.specs.Corners
 pub use Rattle.grammar_tree.specs.Checked
 pub use Rattle.grammar_tree.specs.Laws as GrammarLaws
+pub mod Sets
 pub mod Form
 pub mod NormalDerives
 pub mod Numbering

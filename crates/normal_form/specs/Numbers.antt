@@ -1,15 +1,13 @@
 -- What the code of this crate looks up while it makes a normal form.
-use Rattle.std.specs.Prelude.{◌≡◌, ℕ, ◌+◌, ◌<◌, ◌^◌, Bool, true, false, if◌then◌else◌, List, [], ◌∷◌, ◌++◌, length, map, slice_index, nat_eq, Option, Some, None}
-use Rattle.std.specs.List.{list_any}
-use Rattle.std.specs.Global.{Vec}
+use Rattle.std.specs.Prelude.{◌≡◌, ℕ, ◌+◌, ◌<◌, ◌^◌, Bool, true, false, List, [], ◌∷◌, length, slice_index, nat_eq, Option, Some, None}
 use Rattle.grammar_tree.specs.Written.{WrittenTerm, WrittenSeq, WrittenAlts, WrittenGrammar}
-use Rattle.grammar_tree.specs.Kinds.{name_kind, rule_number, same_text}
+use Rattle.grammar_tree.specs.Kinds.{any_kinds, name_kind, rule_number}
 use Rattle.grammar_tree.specs.Corners.{group_size}
 use Rattle.grammar_tree.specs.Derives.{Alts, Term, bodies}
 use Rattle.normal_form.specs.declared.normal.Sym.{Sym}
 use Rattle.normal_form.specs.declared.normal.Sym.TheVariants.{Kind, Set, Rule}
 use Rattle.normal_form.specs.NormalOf.{numbering, place, sets_of}
-use Rattle.normal_form.specs.View.{set_form}
+use Rattle.normal_form.specs.Sets.{SetsOfKinds}
 
 -- how many new rules a term as it is written makes
 abbrev mutual
@@ -32,21 +30,13 @@ abbrev mutual
   alts_count WrittenAlts.none = 0
   alts_count (WrittenAlts.or s a) = seq_count s + alts_count a
 
--- the sets with one more, unless it is one of them
-abbrev pub with_set : List (List ℕ) → List ℕ → List (List ℕ)
-with_set sets ks = if list_any (λ other. same_text other ks) sets then sets else sets ++ ks ∷ []
-
--- the sets with each of these
-abbrev pub with_sets : List (List ℕ) → List (List ℕ) → List (List ℕ)
-with_sets sets [] = sets
-with_sets sets (ks ∷ more) = with_sets (with_set sets ks) more
-
 -- The places are those of the parser rules' own rules, and the sets those of the grammar.
-pub record AreNumbersOf (G : WrittenGrammar) (places : List ℕ) (sets : List (Vec ℕ)) : Type 0 where
+pub record AreNumbersOf (G : WrittenGrammar) (places : List ℕ) (sets : SetsOfKinds) : Type 0 where
   pub known : length places ≡ length (bodies G)
   pub places_are : (r : ℕ) → r < length (bodies G) → slice_index places r ≡ place (bodies G) r
-  pub sets_are : map set_form sets ≡ sets_of (bodies G)
-  pub few_sets : length sets < 2 ^ 32
+  pub all_are : sets.all ≡ any_kinds G
+  pub sets_are : sets.sets ≡ sets_of (bodies G)
+  pub few_sets : length sets.sets < 2 ^ 32
 
 -- what a kind that may be missing stands for, and what a name does
 abbrev pub token_symbol : WrittenGrammar → Option ℕ → Sym

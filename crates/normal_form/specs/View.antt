@@ -13,10 +13,6 @@ use Rattle.normal_form.specs.Form.{RuleForm, NormalForm}
 abbrev pub alts_form : List (Vec Sym) → List (List Sym)
 alts_form = map (λ alt. alt.items)
 
--- the kinds of a set
-abbrev pub set_form : Vec ℕ → List ℕ
-set_form set = set.items
-
 abbrev pub rule_form : NormalRule → RuleForm
 rule_form (NormalRule.Regular alts) = RuleForm.regular (alts_form alts.items)
 rule_form (NormalRule.Star s) = RuleForm.star s
@@ -24,8 +20,8 @@ rule_form (NormalRule.Plus s) = RuleForm.plus s
 rule_form (NormalRule.Opt s) = RuleForm.opt s
 
 -- the normal form with these parts
-abbrev pub normal_form : List NormalRule → List (List ℕ) → List (Vec ℕ) → ℕ → NormalForm
-normal_form rules names sets start = record { rules = map rule_form rules; names = names; sets = map set_form sets; start = start }
+abbrev pub normal_form : List NormalRule → List (List ℕ) → List (List ℕ) → ℕ → NormalForm
+normal_form rules names sets start = record { rules = map rule_form rules; names = names; sets = sets; start = start }
 
 -- a parser rule that is lent
 abbrev pub parser_rule : ParserRuleRef → ParserRule

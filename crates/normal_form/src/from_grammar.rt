@@ -56,8 +56,7 @@ fn all_rules(
 /// The normal form of the grammar: each parser rule gives one rule of its own name, directly
 /// followed by its new rules. A block gives a regular rule, a suffix an optional, star or plus, and
 /// `EOF` is left out. A rule `e` with directly recursive alternatives is `e#1 e#2`: its bases, and
-/// any number of its rests. It takes time near linear in the grammar's size, but that each set is
-/// compared with the sets before it.
+/// any number of its rests. It takes time near linear in the grammar's size.
 pub fn normalise(alloc: Global, checked: &Checked) -> Result<Normal, Memory>
     ensures form { IfOk result (λ normal. normal ≡ normal_of checked.now) }
     ensures equal_languages { IfOk result (λ normal. HasEqualLanguages checked.now normal) }

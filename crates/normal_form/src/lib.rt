@@ -13,8 +13,10 @@
 
 mod counts;
 mod form_laws;
+mod found_sets;
 mod from_grammar;
 mod groups;
+mod kind_sets;
 mod laws;
 mod normal;
 mod numbers;
@@ -32,6 +34,7 @@ pub use form_laws::{
     no_left_recursion, normal_derives_by_form, sets_are_visible_kinds, symbols_are_known,
 };
 pub use from_grammar::normalise;
+pub use kind_sets::KindSets;
 pub use laws::{equal_languages, rules_are_few};
 pub use normal::{Normal, NormalRule, Sym};
 pub use print::normal_text;

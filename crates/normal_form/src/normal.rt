@@ -2,8 +2,9 @@
 
 ghost use Rattle.std.specs.Prelude.{◌≡◌, IfOk, map};
 ghost use Rattle.normal_form.specs.NormalOf.{IsNormal};
-ghost use Rattle.normal_form.specs.View.{alts_form, normal_form, rule_form, set_form};
+ghost use Rattle.normal_form.specs.View.{alts_form, normal_form, rule_form};
 
+use crate::kind_sets::KindSets;
 use faults::Memory;
 use grammar_tree::Text;
 use std::alloc::Global;
@@ -43,7 +44,7 @@ pub enum NormalRule {
 pub struct Normal {
     rules: Vec<NormalRule>,
     names: Vec<Text>,
-    sets: Vec<Vec<u32>>,
+    sets: KindSets,
     start: u32,
 }
 
@@ -57,18 +58,18 @@ impl Model for Normal {
 
     ghost use Rattle.std.specs.Prelude.{map};
     ghost use Rattle.normal_form.specs.NormalOf.{IsNormal};
-    ghost use Rattle.normal_form.specs.View.{rule_form, set_form};
+    ghost use Rattle.normal_form.specs.View.{rule_form};
 
-    ghost view = { λ n. record { rules = map rule_form n.rules.items; names = n.names.items; sets = map set_form n.sets.items; start = n.start } };
+    ghost view = { λ n. record { rules = map rule_form n.rules.items; names = n.names.items; sets = n.sets.sets; start = n.start } };
 
-    ghost invariant = { λ n. IsNormal (record { rules = map rule_form n.rules.items; names = n.names.items; sets = map set_form n.sets.items; start = n.start }) };
+    ghost invariant = { λ n. IsNormal (record { rules = map rule_form n.rules.items; names = n.names.items; sets = n.sets.sets; start = n.start }) };
 }
 
 impl Normal {
     /// A normal form with these parts, in the order of their numbers.
-    pub fn new(rules: Vec<NormalRule>, names: Vec<Text>, sets: Vec<Vec<u32>>, start: u32) -> Normal
-        requires { IsNormal (normal_form rules.items names.items sets.items start) }
-        ensures { result ≡ normal_form rules.items names.items sets.items start }
+    pub fn new(rules: Vec<NormalRule>, names: Vec<Text>, sets: KindSets, start: u32) -> Normal
+        requires { IsNormal (normal_form rules.items names.items sets.sets start) }
+        ensures { result ≡ normal_form rules.items names.items sets.sets start }
     {
         Normal {
             rules,
@@ -93,11 +94,11 @@ impl Normal {
         self.names.as_slice()
     }
 
-    /// The sets of kinds, each at its number, with its kinds rising.
-    pub fn sets(&self) -> &[Vec<u32>]
-        ensures { map set_form result.now ≡ self.now.sets }
+    /// The sets of kinds, by their numbers.
+    pub fn sets(&self) -> &KindSets
+        ensures { result.now.sets ≡ self.now.sets }
     {
-        self.sets.as_slice()
+        &self.sets
     }
 
     /// The number of the start rule.
@@ -121,7 +122,7 @@ impl Normal {
         Ok(Normal {
             rules: copy_rules(alloc, &self.rules)?,
             names: copy_names(alloc, &self.names)?,
-            sets: copy_sets(alloc, &self.sets)?,
+            sets: self.sets.copy(alloc)?,
             start: self.start,
         })
     }
@@ -167,16 +168,6 @@ fn copy_names(alloc: Global, names: &[Text]) -> Result<Vec<Text>, Memory>
     let mut copies = Vec::new(alloc);
     for name in names {
         copies.push(name.copy()?)?;
-    }
-    Ok(copies)
-}
-
-fn copy_sets(alloc: Global, sets: &[Vec<u32>]) -> Result<Vec<Vec<u32>>, Memory>
-    ensures { IfOk result (λ copies. map set_form copies.items ≡ map set_form sets.now) }
-{
-    let mut copies = Vec::new(alloc);
-    for set in sets {
-        copies.push(Vec::from_slice(alloc, set)?)?;
     }
     Ok(copies)
 }

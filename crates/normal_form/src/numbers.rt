@@ -1,13 +1,16 @@
 //! The numbers of the rules and sets of a normal form.
 
-ghost use Rattle.std.specs.Prelude.{◌≡◌, ◌+◌, ◌<◌, ◌^◌, IfOk, length, map};
+ghost use Rattle.std.specs.Prelude.{◌≡◌, IfOk};
 ghost use Rattle.grammar_tree.specs.Derives.{bodies, resolved};
+ghost use Rattle.grammar_tree.specs.Kinds.{any_kinds};
 ghost use Rattle.grammar_tree.specs.View.{parser_term};
+ghost use Rattle.grammar_names.specs.KindLists.{IsPartOf, lacking};
 ghost use Rattle.normal_form.specs.Numbering.{symbol};
-ghost use Rattle.normal_form.specs.NormalOf.{numbering, set_number, sets_of};
+ghost use Rattle.normal_form.specs.NormalOf.{numbering, sets_of};
 ghost use Rattle.normal_form.specs.Numbers.{AreNumbersOf, named_symbol, token_symbol};
-ghost use Rattle.normal_form.specs.View.{set_form};
 
+use crate::found_sets::FoundSets;
+use crate::kind_sets::KindSets;
 use crate::normal::Sym;
 use faults::Memory;
 use grammar_names::Names;
@@ -22,7 +25,7 @@ pub(crate) struct Numbers<'a> {
 
     /// The number of each parser rule's own rule.
     places: Vec<u32>,
-    sets: Vec<Vec<u32>>,
+    sets: FoundSets,
 }
 
 impl<'a> Model for Numbers<'a> {
@@ -37,7 +40,7 @@ impl<'a> Model for Numbers<'a> {
 
     ghost view = { λ n. n.names };
 
-    ghost invariant = { λ n. AreNumbersOf n.names n.places.items n.sets.items };
+    ghost invariant = { λ n. AreNumbersOf n.names n.places.items n.sets };
 }
 
 impl<'a> Numbers<'a> {
@@ -49,10 +52,10 @@ impl<'a> Numbers<'a> {
         match term {
             ParserTerm::Literal(text) => Ok(self.token(self.names.literal_kind(text))),
             ParserTerm::Name(name) => Ok(self.named(name)),
-            ParserTerm::Any => Ok(self.set(self.names.any_kinds())),
+            ParserTerm::Any => Ok(self.set(&[])),
             ParserTerm::Not(tokens) => {
-                let kinds = self.names.other_kinds(alloc, tokens)?;
-                Ok(self.set(kinds.as_slice()))
+                let missing = self.names.named_kinds(alloc, tokens)?;
+                Ok(self.set(missing.as_slice()))
             }
             ParserTerm::Block(_) => Ok(Sym::Rule(next)),
             ParserTerm::Opt(_) => Ok(Sym::Rule(next)),
@@ -63,8 +66,8 @@ impl<'a> Numbers<'a> {
     }
 
     /// The numbers of the grammar with these names.
-    pub(crate) fn new(names: Names<'a>, places: Vec<u32>, sets: Vec<Vec<u32>>) -> Numbers<'a>
-        requires { AreNumbersOf names places.items sets.items }
+    pub(crate) fn new(names: Names<'a>, places: Vec<u32>, sets: FoundSets) -> Numbers<'a>
+        requires { AreNumbersOf names places.items sets }
         ensures { result ≡ names.entry }
     {
         Numbers {
@@ -75,15 +78,15 @@ impl<'a> Numbers<'a> {
     }
 
     /// The sets, each at its number.
-    pub(crate) fn into_sets(self) -> Vec<Vec<u32>>
-        ensures { map set_form result.items ≡ sets_of (bodies self.entry) }
+    pub(crate) fn into_sets(self) -> KindSets
+        ensures { result.sets ≡ sets_of (bodies self.entry) }
     {
         let Numbers {
             names: _,
             places: _,
             sets,
         } = self;
-        sets
+        sets.into_sets()
     }
 
     /// The names of the grammar.
@@ -109,27 +112,19 @@ impl<'a> Numbers<'a> {
     {
         match kind {
             Some(kind) => Sym::Kind(kind),
-            None => self.set(&[]),
+            None => self.set(self.names.any_kinds()),
         }
     }
 
-    /// The symbol of a set, which has a number.
-    fn set(&self, kinds: &[u32]) -> Sym
-        ensures { result ≡ Sym.Set ((numbering (bodies self.now)).set_of kinds.now) }
+    /// The symbol of the set of all kinds but these, which has a number. It takes time logarithmic in
+    /// the number of sets, and linear in how many kinds are missing.
+    fn set(&self, missing: &[u32]) -> Sym
+        requires { IsPartOf (any_kinds self.now) missing.now }
+        ensures { result ≡ Sym.Set ((numbering (bodies self.now)).set_of (lacking (any_kinds self.now) missing.now)) }
     {
-        Sym::Set(set_number(&self.sets, kinds))
-    }
-}
-
-/// The number of the set among the sets.
-fn set_number(sets: &[Vec<u32>], kinds: &[u32]) -> u32
-    requires { length sets.now < 2 ^ 32 }
-    ensures { result ≡ set_number (map set_form sets.now) kinds.now }
-{
-    for (number, set) in sets.iter().enumerate() {
-        if set.as_slice() == kinds {
-            return number as u32;
+        match self.sets.number(missing) {
+            Some(number) => Sym::Set(number as u32),
+            None => Sym::Set(0),
         }
     }
-    0
 }

@@ -6,13 +6,13 @@ ghost use Rattle.std.specs.List.{flat_map, join_by};
 ghost use Rattle.grammar_tree.specs.GrammarView.{kind_of};
 ghost use Rattle.normal_form.specs.Print.{body_text, but_text, code_of, escaped, kind_text, lines_from, numbered_kind_text, printed, set_text};
 ghost use Rattle.normal_form.specs.Printing.{kind_bytes, symbol_bytes};
-ghost use Rattle.grammar_tree.specs.Kinds.{visible_from};
-ghost use Rattle.normal_form.specs.View.{alts_form, rule_form, set_form};
+ghost use Rattle.normal_form.specs.View.{alts_form, rule_form};
 
+use crate::kind_sets::KindSets;
 use crate::laws::rules_are_few;
 use crate::normal::{Normal, NormalRule, Sym};
 use faults::Memory;
-use grammar_names::{visible_kinds, without};
+use grammar_names::visible_kinds;
 use grammar_tree::{Checked, Kind, KindSource, Text, counts_fit};
 use std::alloc::Global;
 
@@ -124,26 +124,25 @@ fn push_but(text: &mut String, alloc: Global, kinds: &[Kind], missing: &[u32]) -
     Ok(())
 }
 
-/// The text of a set.
-fn set_text(alloc: Global, kinds: &[Kind], visible: &[u32], set: &[u32]) -> Result<String, Memory>
-    requires { visible.now ≡ visible_from 0 (map kind_of kinds.now) }
-    ensures { IfOk result (λ text. string_bytes text ≡ encode_utf8_all (set_text (map kind_of kinds.now) set.now)) }
+/// The text of a set that misses these kinds.
+fn set_text(alloc: Global, kinds: &[Kind], missing: &[u32]) -> Result<String, Memory>
+    ensures { IfOk result (λ text. string_bytes text ≡ encode_utf8_all (but_text (numbered_kind_text (map kind_of kinds.now)) missing.now)) }
 {
-    let missing = without(alloc, visible, set)?;
     let mut text = String::new(alloc);
-    push_but(&mut text, alloc, kinds, &missing)?;
+    push_but(&mut text, alloc, kinds, missing)?;
     Ok(text)
 }
 
-/// The texts of the sets. Each set is compared with all kinds.
-fn set_texts(alloc: Global, kinds: &[Kind], sets: &[Vec<u32>]) -> Result<Vec<String>, Memory>
+/// The texts of the sets. It takes time linear in the texts where the sets are of these kinds.
+fn set_texts(alloc: Global, kinds: &[Kind], sets: &KindSets) -> Result<Vec<String>, Memory>
     requires { length kinds.now < 2 ^ 32 }
-    ensures { IfOk result (λ texts. map string_bytes texts.items ≡ map (λ set. encode_utf8_all (set_text (map kind_of kinds.now) set)) (map set_form sets.now)) }
+    ensures { IfOk result (λ texts. map string_bytes texts.items ≡ map (λ set. encode_utf8_all (set_text (map kind_of kinds.now) set)) sets.now.sets) }
 {
     let visible = visible_kinds(alloc, kinds)?;
+    let missing = sets.missing_of(alloc, &visible)?;
     let mut texts = Vec::new(alloc);
-    for set in sets {
-        texts.push(set_text(alloc, kinds, &visible, set)?)?;
+    for list in &missing {
+        texts.push(set_text(alloc, kinds, list)?)?;
     }
     Ok(texts)
 }
@@ -285,7 +284,8 @@ fn push_lines(
     Ok(())
 }
 
-/// The printed normal form, as bytes: one line for each rule, in the order of their numbers.
+/// The printed normal form, as bytes: one line for each rule, in the order of their numbers. Where
+/// the form is that of the checked grammar, it takes time linear in the print and in the grammar.
 pub fn normal_text(alloc: Global, checked: &Checked, normal: &Normal) -> Result<Vec<u8>, Memory>
     ensures { IfOk result (λ bytes. bytes.items ≡ encode_utf8_all (printed checked.now.kinds normal.now)) }
 {

@@ -1,136 +1,124 @@
 //! The sets of kinds in a grammar's parser rules.
 
-ghost use Rattle.std.specs.Prelude.{◌≡◌, OnOk, IfOk, map};
-ghost use Rattle.std.specs.List.{flat_map, list_any};
+ghost use Rattle.std.specs.Prelude.{◌≡◌, ◌∷◌, [], IfOk};
 ghost use Rattle.grammar_tree.specs.Derives.{resolved, resolved_alts, resolved_seq};
-ghost use Rattle.grammar_tree.specs.Kinds.{name_kind, rule_number, same_text};
+ghost use Rattle.grammar_tree.specs.Kinds.{any_kinds, name_kind, rule_number};
 ghost use Rattle.grammar_tree.specs.View.{parser_alts, parser_term, parser_terms};
 ghost use Rattle.grammar_tree.specs.Written.{written_alts, written_seq};
 ghost use Rattle.normal_form.specs.NormalOf.{alts_sets, seq_sets, sets_of, term_sets};
-ghost use Rattle.normal_form.specs.Numbers.{name_sets, token_sets, with_set, with_sets};
-ghost use Rattle.normal_form.specs.View.{bodies_of, set_form};
+ghost use Rattle.normal_form.specs.Numbers.{name_sets, token_sets};
+ghost use Rattle.normal_form.specs.Sets.{with_each};
+ghost use Rattle.normal_form.specs.View.{bodies_of};
 
+use crate::found_sets::FoundSets;
 use crate::parser_rule::ParserRuleRef;
 use faults::Memory;
 use grammar_names::Names;
 use grammar_tree::{ParserAlts, ParserTerm, ParserTerms, Text};
 use std::alloc::Global;
 
-/// Whether a set is among the sets.
-fn is_known(sets: &[Vec<u32>], kinds: &[u32]) -> bool
-    ensures { result ≡ list_any (λ other. same_text other kinds.now) (map set_form sets.now) }
-{
-    for set in sets {
-        if set.as_slice() == kinds {
-            return true;
-        }
-    }
-    false
-}
-
-/// Adds the set, unless it is one of them.
-fn add_set(alloc: Global, sets: &mut Vec<Vec<u32>>, kinds: &[u32]) -> Result<(), Memory>
-    ensures { OnOk result (map set_form sets.new.items ≡ with_set (map set_form sets.old.items) kinds.now) }
-{
-    if is_known(sets, kinds) {
-        return Ok(());
-    }
-    sets.push(Vec::from_slice(alloc, kinds)?)?;
-    Ok(())
-}
-
-/// Adds the empty set for a token that stands for no kind.
-fn add_token(alloc: Global, sets: &mut Vec<Vec<u32>>, kind: Option<u32>) -> Result<(), Memory>
-    ensures { OnOk result (map set_form sets.new.items ≡ with_sets (map set_form sets.old.items) (token_sets kind)) }
-{
-    match kind {
-        Some(_) => Ok(()),
-        None => add_set(alloc, sets, &[]),
-    }
-}
-
-/// Adds the empty set for a name that stands for nothing.
-fn add_name(
+/// With the empty set, where a token stands for no kind.
+fn with_token(
     alloc: Global,
     names: &Names<'_>,
-    sets: &mut Vec<Vec<u32>>,
-    name: &Text,
-) -> Result<(), Memory>
-    ensures { OnOk result (map set_form sets.new.items ≡ with_sets (map set_form sets.old.items) (name_sets (rule_number names.now name.now) (name_kind names.now name.now))) }
+    sets: FoundSets,
+    kind: Option<u32>,
+) -> Result<FoundSets, Memory>
+    requires { sets.all ≡ any_kinds names.now }
+    ensures { IfOk result (λ found. found ≡ with_each sets (token_sets kind)) }
 {
-    match names.rule_number(name) {
-        Some(_) => Ok(()),
-        None => add_token(alloc, sets, names.name_kind(name)),
+    match kind {
+        Some(_) => Ok(sets),
+        None => sets.with(alloc, Vec::from_slice(alloc, names.any_kinds())?),
     }
 }
 
-/// Adds the sets of the term.
+/// With the empty set, where a name stands for nothing.
+fn with_name(
+    alloc: Global,
+    names: &Names<'_>,
+    sets: FoundSets,
+    name: &Text,
+) -> Result<FoundSets, Memory>
+    requires { sets.all ≡ any_kinds names.now }
+    ensures { IfOk result (λ found. found ≡ with_each sets (name_sets (rule_number names.now name.now) (name_kind names.now name.now))) }
+{
+    match names.rule_number(name) {
+        Some(_) => Ok(sets),
+        None => with_token(alloc, names, sets, names.name_kind(name)),
+    }
+}
+
+/// With the sets of the term.
 #[cycle(sets)]
-fn add_term(
+fn with_term(
     term: &ParserTerm,
     alloc: Global,
     names: &Names<'_>,
-    sets: &mut Vec<Vec<u32>>,
-) -> Result<(), Memory>
-    ensures { OnOk result (map set_form sets.new.items ≡ with_sets (map set_form sets.old.items) (term_sets (resolved names.now (parser_term term.now)))) }
+    sets: FoundSets,
+) -> Result<FoundSets, Memory>
+    requires { sets.all ≡ any_kinds names.now }
+    ensures { IfOk result (λ found. found ≡ with_each sets (term_sets (resolved names.now (parser_term term.now)))) }
 {
     match term {
-        ParserTerm::Literal(text) => add_token(alloc, sets, names.literal_kind(text)),
-        ParserTerm::Name(name) => add_name(alloc, names, sets, name),
-        ParserTerm::Any => add_set(alloc, sets, names.any_kinds()),
-        ParserTerm::Not(tokens) => {
-            let kinds = names.other_kinds(alloc, tokens)?;
-            add_set(alloc, sets, kinds.as_slice())
-        }
-        ParserTerm::Block(alts) => add_alts(alts, alloc, names, sets),
-        ParserTerm::Opt(term) => add_term(term, alloc, names, sets),
-        ParserTerm::Star(term) => add_term(term, alloc, names, sets),
-        ParserTerm::Plus(term) => add_term(term, alloc, names, sets),
-        ParserTerm::Eof => Ok(()),
+        ParserTerm::Literal(text) => with_token(alloc, names, sets, names.literal_kind(text)),
+        ParserTerm::Name(name) => with_name(alloc, names, sets, name),
+        ParserTerm::Any => sets.with(alloc, Vec::new(alloc)),
+        ParserTerm::Not(tokens) => sets.with(alloc, names.named_kinds(alloc, tokens)?),
+        ParserTerm::Block(alts) => with_alts(alts, alloc, names, sets),
+        ParserTerm::Opt(term) => with_term(term, alloc, names, sets),
+        ParserTerm::Star(term) => with_term(term, alloc, names, sets),
+        ParserTerm::Plus(term) => with_term(term, alloc, names, sets),
+        ParserTerm::Eof => Ok(sets),
     }
 }
 
 #[cycle(sets)]
-fn add_terms(
+fn with_terms(
     terms: &ParserTerms,
     alloc: Global,
     names: &Names<'_>,
-    sets: &mut Vec<Vec<u32>>,
-) -> Result<(), Memory>
-    ensures { OnOk result (map set_form sets.new.items ≡ with_sets (map set_form sets.old.items) (seq_sets (resolved_seq names.now (written_seq (parser_terms terms.now))))) }
+    sets: FoundSets,
+) -> Result<FoundSets, Memory>
+    requires { sets.all ≡ any_kinds names.now }
+    ensures { IfOk result (λ found. found ≡ with_each sets (seq_sets (resolved_seq names.now (written_seq (parser_terms terms.now))))) }
 {
+    let mut found = sets;
     for term in terms.items.iter() {
-        add_term(term, alloc, names, sets)?;
+        found = with_term(term, alloc, names, found)?;
     }
-    Ok(())
+    Ok(found)
 }
 
 #[cycle(sets)]
-fn add_alts(
+fn with_alts(
     alts: &ParserAlts,
     alloc: Global,
     names: &Names<'_>,
-    sets: &mut Vec<Vec<u32>>,
-) -> Result<(), Memory>
-    ensures { OnOk result (map set_form sets.new.items ≡ with_sets (map set_form sets.old.items) (alts_sets (resolved_alts names.now (written_alts (parser_alts alts.now))))) }
+    sets: FoundSets,
+) -> Result<FoundSets, Memory>
+    requires { sets.all ≡ any_kinds names.now }
+    ensures { IfOk result (λ found. found ≡ with_each sets (alts_sets (resolved_alts names.now (written_alts (parser_alts alts.now))))) }
 {
+    let mut found = sets;
     for alt in alts.items.iter() {
-        add_terms(alt, alloc, names, sets)?;
+        found = with_terms(alt, alloc, names, found)?;
     }
-    Ok(())
+    Ok(found)
 }
 
-/// The sets in the order in which they first stand. Each is compared with those before it.
+/// The sets in the order in which they first stand, each once. It takes time near linear in the
+/// rules and in the number of kinds.
 pub(crate) fn sets(
     alloc: Global,
     rules: &[ParserRuleRef<'_>],
     names: &Names<'_>,
-) -> Result<Vec<Vec<u32>>, Memory>
-    ensures { IfOk result (λ sets. map set_form sets.items ≡ sets_of (bodies_of names.now rules.now)) }
+) -> Result<FoundSets, Memory>
+    ensures { IfOk result (λ found. found ≡ record { all = any_kinds names.now; sets = sets_of (bodies_of names.now rules.now) }) }
 {
-    let mut sets = Vec::new(alloc);
+    let mut found = FoundSets::new(alloc, Vec::from_slice(alloc, names.any_kinds())?);
     for rule in rules {
-        add_alts(rule.alts, alloc, names, &mut sets)?;
+        found = with_alts(rule.alts, alloc, names, found)?;
     }
-    Ok(sets)
+    Ok(found)
 }

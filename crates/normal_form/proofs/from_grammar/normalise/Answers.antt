@@ -1,12 +1,14 @@
 -- What the parts are, in the words of the definition.
-use Rattle.std.proofs.Common.{length, map, arith, sym, ap, ◌∙◌}
+use Rattle.std.proofs.Common.{List, length, map, arith, sym, ap, ◌∙◌}
 use Rattle.std.proofs.lemmas.List.{length-map}
-use Rattle.grammar_tree.specs.Derives.{bodies}
-use Rattle.grammar_tree.specs.Kinds.{parser_rules}
+use Rattle.grammar_tree.specs.Corners.{normal_count_from}
+use Rattle.grammar_tree.specs.Derives.{Alts, bodies}
+use Rattle.grammar_tree.specs.Kinds.{any_kinds, parser_rules}
 use Rattle.grammar_tree.specs.GrammarView.{rule_of}
 use Rattle.normal_form.specs.NormalOf.{names_from, sets_of}
+use Rattle.normal_form.specs.Sets.{SetsOfKinds}
 use Rattle.normal_form.specs.View.{bodies_of, parser_rule, rule_form}
-use Rattle.normal_form.proofs.Assembly.{assembled, bodies_are, languages_are, made_are, number_within, numbers_are, place_read, places_known, start_length, start_number}
+use Rattle.normal_form.proofs.Assembly.{assembled, bodies_are, few_rules, languages_are, made_are, number_within, numbers_are, place_read, places_known, start_length, start_number}
 use Rattle.normal_form.proofs.from_grammar.normalise.Goals as goal
 
 pub slice_bounds-count_parser_rules-end : goal.slice_bounds-count_parser_rules-end
@@ -32,7 +34,16 @@ new-numbers-requires c =
     let B = bodies_of c.in_ok-names.names c.deref-2.result.now in
     let all = bodies_are G c.in_ok-names.names c.deref-2.result.now (map rule_of c.deref.result.now) same rules (ap (map parser_rule) c.deref-2.ensures.value ∙ c.in_ok-rules.ensures) in
     let lists = ap (bodies_of c.in_ok-names.names) (c.deref-3.ensures.value ∙ sym c.deref-2.ensures.value) in
-    numbers_are G c.in_ok-names.names c.in_ok-places.places.items c.in_ok-sets.sets.items B same all c.in_ok-places.ensures (c.in_ok-sets.ensures ∙ ap sets_of lists) c.is_checked.ensures.small
+    let of_bodies = λ (l : List Alts). (let s : SetsOfKinds = record { all = any_kinds c.in_ok-names.names; sets = sets_of l } in s) in
+    numbers_are G c.in_ok-names.names c.in_ok-places.places.items c.in_ok-sets.sets B same all c.in_ok-places.ensures (c.in_ok-sets.ensures ∙ ap of_bodies lists) c.is_checked.ensures.small
+
+pub all_rules-requires-clause-few : goal.all_rules-requires-clause-few
+all_rules-requires-clause-few c =
+    let G = c.args.checked.now.grammar in
+    let numbers = c.new-numbers.ensures ∙ c.in_ok-names.ensures ∙ c.grammar-grammar.ensures in
+    let rules = ap (map rule_of) c.deref.ensures.value ∙ ap (λ g. g.rules) c.grammar-grammar.ensures in
+    let made = bodies_are G c.new-numbers.result c.deref-6.result.now (map rule_of c.deref.result.now) numbers rules (ap (map parser_rule) c.deref-6.ensures.value ∙ c.in_ok-rules.ensures) in
+    omega (arith, ap (normal_count_from 0) made, few_rules c.args.checked.now c.is_checked.ensures)
 
 pub all_rules-requires-clause-small : goal.all_rules-requires-clause-small
 all_rules-requires-clause-small c =
@@ -50,7 +61,7 @@ new-requires-2 c =
     let made = bodies_are G c.new-numbers.result c.deref-6.result.now (map rule_of c.deref.result.now) numbers rules (ap (map parser_rule) c.deref-6.ensures.value ∙ c.in_ok-rules.ensures) in
     let all = bodies_are G c.in_ok-names.names c.deref-2.result.now (map rule_of c.deref.result.now) same rules (ap (map parser_rule) c.deref-2.ensures.value ∙ c.in_ok-rules.ensures) in
     let number = start_number c.args.checked.now c.deref-5.result.now c.grammar-grammar.result.now.rules.items c.count_parser_rules.result c.start.result c.deref-5.ensures.value (ap (λ g. g.rules) c.grammar-grammar.ensures) c.start.ensures c.count_parser_rules.ensures in
-    let whole = assembled c.args.checked.now c.in_ok-made.made.items c.in_ok-rule_names.rule_names.items c.into_sets.result.items c.index-start.result.now
+    let whole = assembled c.args.checked.now c.in_ok-made.made.items c.in_ok-rule_names.rule_names.items c.into_sets.result.sets c.index-start.result.now
     (made_are G c.new-numbers.result (bodies_of c.new-numbers.result c.deref-6.result.now) (map rule_form c.in_ok-made.made.items) numbers made c.in_ok-made.ensures)
     (c.in_ok-rule_names.ensures ∙ ap (λ H. names_from H 0 (map parser_rule c.deref-4.result.now)) same ∙ ap (names_from G 0) (ap (map parser_rule) c.deref-4.ensures.value ∙ c.in_ok-rules.ensures ∙ ap parser_rules rules))
     (c.into_sets.ensures ∙ ap (λ H. sets_of (bodies H)) numbers)
@@ -66,7 +77,7 @@ returns c =
     let made = bodies_are G c.new-numbers.result c.deref-6.result.now (map rule_of c.deref.result.now) numbers rules (ap (map parser_rule) c.deref-6.ensures.value ∙ c.in_ok-rules.ensures) in
     let all = bodies_are G c.in_ok-names.names c.deref-2.result.now (map rule_of c.deref.result.now) same rules (ap (map parser_rule) c.deref-2.ensures.value ∙ c.in_ok-rules.ensures) in
     let number = start_number c.args.checked.now c.deref-5.result.now c.grammar-grammar.result.now.rules.items c.count_parser_rules.result c.start.result c.deref-5.ensures.value (ap (λ g. g.rules) c.grammar-grammar.ensures) c.start.ensures c.count_parser_rules.ensures in
-    let whole = assembled c.args.checked.now c.in_ok-made.made.items c.in_ok-rule_names.rule_names.items c.into_sets.result.items c.index-start.result.now
+    let whole = assembled c.args.checked.now c.in_ok-made.made.items c.in_ok-rule_names.rule_names.items c.into_sets.result.sets c.index-start.result.now
     (made_are G c.new-numbers.result (bodies_of c.new-numbers.result c.deref-6.result.now) (map rule_form c.in_ok-made.made.items) numbers made c.in_ok-made.ensures)
     (c.in_ok-rule_names.ensures ∙ ap (λ H. names_from H 0 (map parser_rule c.deref-4.result.now)) same ∙ ap (names_from G 0) (ap (map parser_rule) c.deref-4.ensures.value ∙ c.in_ok-rules.ensures ∙ ap parser_rules rules))
     (c.into_sets.ensures ∙ ap (λ H. sets_of (bodies H)) numbers)

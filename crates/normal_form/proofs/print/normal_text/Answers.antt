@@ -3,7 +3,7 @@ use Rattle.std.specs.Prelude.{encode_utf8_all}
 use Rattle.normal_form.specs.declared.print.Symbols.{Symbols}
 use Rattle.normal_form.specs.Print.{lines_from, set_text}
 use Rattle.normal_form.specs.Printing.{symbol_bytes}
-use Rattle.normal_form.specs.View.{rule_form, set_form}
+use Rattle.normal_form.specs.View.{rule_form}
 use Rattle.normal_form.proofs.PrintedSymbols.{lines_are}
 use Rattle.normal_form.proofs.print.normal_text.Goals as goal
 
@@ -11,7 +11,7 @@ pub returns : goal.returns
 returns c =
     let S : Symbols = record { kinds = c.kinds.result; names = c.names.result; sets = c.in_ok-set_texts.field-0 } in
     let texts = c.in_ok-set_texts.ensures
-    ∙ ap (λ l. map (λ set. encode_utf8_all (set_text l set)) (map set_form c.sets.result.now)) c.kinds-2.ensures
+    ∙ ap (λ l. map (λ set. encode_utf8_all (set_text l set)) c.sets.result.now.sets) c.kinds-2.ensures
     ∙ ap (map (λ set. encode_utf8_all (set_text c.args.checked.now.kinds set))) c.sets.ensures in
     ap (λ v. v.items) c.into_bytes.ensures.value
     ∙ c.in_ok-push_lines.ensures
