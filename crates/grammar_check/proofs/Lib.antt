@@ -8,4 +8,5 @@ pub mod FindForms
 pub mod PlaceForms
 pub mod UnknownForms
 pub mod AnswerForms
+pub mod Table
 pub mod CheckForms

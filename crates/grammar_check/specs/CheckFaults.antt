@@ -1,12 +1,10 @@
--- The faults that a check tells, in the order of their table: where one is told, the grammar has none of an earlier row.
-use Rattle.std.specs.Prelude.{◌≡◌, ℕ, List, Option, Some, None, ⊤}
+-- The faults of a grammar in the order of their table, and the first of them that holds.
+use Rattle.std.specs.Prelude.{◌≡◌, ◌≢◌, ◌⊎◌, ◌<◌, ℕ, List, Option, Some, None}
 use Rattle.grammar_tree.specs.Faults as fault
 use Rattle.grammar_tree.specs.Written.{WrittenGrammar}
-use Rattle.grammar_check.specs.Answer.{IsFirstNamed}
-use Rattle.grammar_analysis.specs.First.{IsFirstOrNone, Nowhere}
+use Rattle.grammar_check.specs.Answer.{name_at}
+use Rattle.grammar_analysis.specs.First.{IsFirstOrNone}
 use Rattle.grammar_check.specs.LexerFaults.{LexerLoopAt}
-use Rattle.grammar_check.specs.Twins.{IsTwinAt}
-use Rattle.grammar_check.specs.Unknown.{IsFirstUnknown, IsUnknownAt}
 use Rattle.grammar_check.specs.declared.fault.Answer.{Answer}
 use Rattle.grammar_check.specs.declared.fault.Answer.TheVariants.{Broken, Fine}
 use Rattle.grammar_check.specs.declared.fault.CheckFault.{CheckFault}
@@ -14,86 +12,65 @@ use Rattle.grammar_check.specs.declared.fault.CheckFault.TheVariants.{TwoRules, 
 use Rattle.grammar_check.specs.declared.lexer_fault.LexerAnswer.{LexerAnswer}
 use Rattle.grammar_check.specs.declared.lexer_fault.LexerAnswer.TheVariants.{Faulty, Sound}
 
--- the fault of a lexer rule, but for empty loops
-abbrev pub IsLexerFault : WrittenGrammar → CheckFault → Type 0
-IsLexerFault G (FragmentLoop name) = IsFirstNamed G (fault.FragmentLoop G) name
-IsLexerFault G (ShortUse name) = Nowhere (fault.FragmentLoop G) × IsFirstNamed G (fault.ShortUse G) name
-IsLexerFault G (EmptyToken name) = Nowhere (fault.FragmentLoop G) × Nowhere (fault.ShortUse G) × IsFirstNamed G (fault.EmptyToken G) name
-IsLexerFault G (TwoRules name) = ⊥
-IsLexerFault G (NoRule name) = ⊥
-IsLexerFault G (NoStart name) = ⊥
-IsLexerFault G (EofPlace name) = ⊥
-IsLexerFault G (NoBase name) = ⊥
-IsLexerFault G (EmptyLoop name) = ⊥
-IsLexerFault G (LeftRecursion name) = ⊥
-IsLexerFault G (TooManyRules count) = ⊥
-IsLexerFault G Memory = ⊥
+-- the row of the table that a fault is in
+abbrev pub row : CheckFault → ℕ
+row (TwoRules name) = 1
+row (NoRule name) = 2
+row (NoStart name) = 3
+row (EofPlace name) = 4
+row (FragmentLoop name) = 5
+row (ShortUse name) = 6
+row (EmptyToken name) = 7
+row (NoBase name) = 8
+row (EmptyLoop name) = 9
+row (LeftRecursion name) = 10
+row (TooManyRules count) = 11
+row Memory = 12
 
--- No lexer rule has a fault, but for empty loops.
-pub record AreLexerRulesSound (G : WrittenGrammar) : Type 0 where
-  pub no_fragment_loop : Nowhere (fault.FragmentLoop G)
-  pub no_short_use : Nowhere (fault.ShortUse G)
-  pub no_empty_token : Nowhere (fault.EmptyToken G)
+-- The rule at this index has this name.
+abbrev pub IsNamedAt : WrittenGrammar → ℕ → List ℕ → Type 0
+IsNamedAt G i name = name_at G (Some i) ≡ Some name
 
-abbrev pub IsLexerAnswer : WrittenGrammar → LexerAnswer → Type 0
-IsLexerAnswer G (Faulty it) = IsLexerFault G it
-IsLexerAnswer G (Sound place) = AreLexerRulesSound G × IsFirstOrNone (LexerLoopAt G) place
+-- The fault, with its name, holds at this index: of the rule, or the use of a name, with this index in written order. A fault of the whole grammar holds at each index, and out of memory at none.
+abbrev pub HoldsAt : WrittenGrammar → Option (List ℕ) → ℕ → CheckFault → Type 0
+HoldsAt G wanted i (TwoRules name) = IsNamedAt G i name × fault.TwoRules G name
+HoldsAt G wanted i (NoRule name) = fault.NoRuleAt G i name
+HoldsAt G wanted i (NoStart name) = fault.NoStart G wanted name
+HoldsAt G wanted i (EofPlace name) = IsNamedAt G i name × ((start : ℕ) × (fault.start_of G wanted ≡ Some start) × fault.EofPlace G start i)
+HoldsAt G wanted i (FragmentLoop name) = IsNamedAt G i name × fault.FragmentLoop G i
+HoldsAt G wanted i (ShortUse name) = IsNamedAt G i name × fault.ShortUse G i
+HoldsAt G wanted i (EmptyToken name) = IsNamedAt G i name × fault.EmptyToken G i
+HoldsAt G wanted i (NoBase name) = IsNamedAt G i name × fault.NoBase G i
+HoldsAt G wanted i (EmptyLoop name) = IsNamedAt G i name × fault.EmptyLoop G i
+HoldsAt G wanted i (LeftRecursion name) = IsNamedAt G i name × fault.LeftRecursion G i
+HoldsAt G wanted i (TooManyRules count) = fault.TooManyRules G count
+HoldsAt G wanted i Memory = ⊥
 
--- the fault of a parser rule, from rules without a base on, or the empty loop of a lexer rule
-abbrev pub IsParserFault : WrittenGrammar → CheckFault → Type 0
-IsParserFault G (NoBase name) = IsFirstNamed G (fault.NoBase G) name
-IsParserFault G (EmptyLoop name) = Nowhere (fault.NoBase G) × IsFirstNamed G (fault.EmptyLoop G) name
-IsParserFault G (LeftRecursion name) = Nowhere (fault.NoBase G) × Nowhere (fault.EmptyLoop G) × IsFirstNamed G (fault.LeftRecursion G) name
-IsParserFault G (TooManyRules count) = Nowhere (fault.NoBase G) × Nowhere (fault.EmptyLoop G) × Nowhere (fault.LeftRecursion G) × fault.TooManyRules G count
-IsParserFault G (TwoRules name) = ⊥
-IsParserFault G (NoRule name) = ⊥
-IsParserFault G (NoStart name) = ⊥
-IsParserFault G (EofPlace name) = ⊥
-IsParserFault G (FragmentLoop name) = ⊥
-IsParserFault G (ShortUse name) = ⊥
-IsParserFault G (EmptyToken name) = ⊥
-IsParserFault G Memory = ⊥
+-- The fault holds, and none holds of an earlier row; nor does one of its row at an earlier index.
+pub record IsFirstInTable (G : WrittenGrammar) (wanted : Option (List ℕ)) (it : CheckFault) : Type 0 where
+  pub index : ℕ
+  pub holds : HoldsAt G wanted index it
+  pub before : (other : CheckFault) (i : ℕ) → (row other < row it) ⊎ ((row other ≡ row it) × (i < index)) → ¬ HoldsAt G wanted i other
 
--- No rule has one of these faults.
-pub record AreParserRulesSound (G : WrittenGrammar) : Type 0 where
-  pub has_bases : Nowhere (fault.NoBase G)
-  pub no_empty_loop : Nowhere (fault.EmptyLoop G)
-  pub no_left_recursion : Nowhere (fault.LeftRecursion G)
-  pub few_rules : Nowhere (fault.TooManyRules G)
-
-abbrev pub IsParserAnswer : WrittenGrammar → Option CheckFault → Type 0
-IsParserAnswer G None = AreParserRulesSound G
-IsParserAnswer G (Some it) = IsParserFault G it
-
--- No two rules have one name, each name that a rule uses names something, the start is there, and `EOF` stands at ends.
-pub record IsStarted (G : WrittenGrammar) (wanted : Option (List ℕ)) (start : ℕ) : Type 0 where
-  pub no_twins : Nowhere (IsTwinAt G)
-  pub no_unknown : Nowhere (IsUnknownAt G)
-  pub found : fault.start_of G wanted ≡ Some start
-  pub eof_at_ends : Nowhere (fault.EofPlace G start)
-
-abbrev InLexer : WrittenGrammar → Option (List ℕ) → CheckFault → Type 0
-InLexer G wanted it = (s : ℕ) × IsStarted G wanted s × IsLexerFault G it
-
-abbrev InParser : WrittenGrammar → Option (List ℕ) → CheckFault → Type 0
-InParser G wanted it = (s : ℕ) × IsStarted G wanted s × AreLexerRulesSound G × IsParserFault G it
-
--- The grammar has this fault, and none of an earlier row of the table; its name is that of the first rule or use that has it. Want of memory says nothing of the grammar.
+-- why a grammar isn't checked: by its first fault, or out of memory, which says nothing of the grammar
 abbrev pub IsFault : WrittenGrammar → Option (List ℕ) → CheckFault → Type 0
-IsFault G wanted (TwoRules name) = IsFirstNamed G (IsTwinAt G) name
-IsFault G wanted (NoRule name) = Nowhere (IsTwinAt G) × IsFirstUnknown G (Some name)
-IsFault G wanted (NoStart name) = Nowhere (IsTwinAt G) × Nowhere (IsUnknownAt G) × fault.NoStart G wanted name
-IsFault G wanted (EofPlace name) = Nowhere (IsTwinAt G) × Nowhere (IsUnknownAt G) × ((s : ℕ) × (fault.start_of G wanted ≡ Some s) × IsFirstNamed G (fault.EofPlace G s) name)
-IsFault G wanted (FragmentLoop name) = InLexer G wanted (FragmentLoop name)
-IsFault G wanted (ShortUse name) = InLexer G wanted (ShortUse name)
-IsFault G wanted (EmptyToken name) = InLexer G wanted (EmptyToken name)
-IsFault G wanted (NoBase name) = InParser G wanted (NoBase name)
-IsFault G wanted (EmptyLoop name) = InParser G wanted (EmptyLoop name)
-IsFault G wanted (LeftRecursion name) = InParser G wanted (LeftRecursion name)
-IsFault G wanted (TooManyRules count) = InParser G wanted (TooManyRules count)
-IsFault G wanted Memory = ⊤
+IsFault G wanted it = it ≢ Memory → IsFirstInTable G wanted it
 
--- the fault that the grammar has first; or the place of its start, where it is well-formed
+-- No fault holds of a row before this one.
+abbrev pub HasNoneBefore : WrittenGrammar → Option (List ℕ) → ℕ → Type 0
+HasNoneBefore G wanted k = (other : CheckFault) (i : ℕ) → row other < k → ¬ HoldsAt G wanted i other
+
+-- of the rows of the lexer: its first fault; or that it has none, and the first empty loop of a lexer rule
+abbrev pub IsLexerAnswer : WrittenGrammar → Option (List ℕ) → LexerAnswer → Type 0
+IsLexerAnswer G wanted (Faulty it) = IsFirstInTable G wanted it
+IsLexerAnswer G wanted (Sound place) = HasNoneBefore G wanted 8 × IsFirstOrNone (LexerLoopAt G) place
+
+-- of the rows of the parser: its first fault, or that it has none
+abbrev pub IsParserAnswer : WrittenGrammar → Option (List ℕ) → Option CheckFault → Type 0
+IsParserAnswer G wanted None = HasNoneBefore G wanted 12
+IsParserAnswer G wanted (Some it) = IsFirstInTable G wanted it
+
+-- the fault that the grammar has first; or the index of its start, where it is well-formed
 abbrev pub IsAnswer : WrittenGrammar → Option (List ℕ) → Answer → Type 0
-IsAnswer G wanted (Broken it) = IsFault G wanted it
+IsAnswer G wanted (Broken it) = IsFirstInTable G wanted it
 IsAnswer G wanted (Fine start) = fault.IsWellFormed G start × (fault.start_of G wanted ≡ Some start)

@@ -10,3 +10,4 @@ pub mod Answer
 pub mod CheckFaults
 pub mod Messages
 pub mod Check
+pub mod Laws

@@ -4,8 +4,8 @@ use grammar_analysis::is_empty_text;
 use grammar_tree::Text;
 use std::fmt;
 
-/// Why a grammar wasn't checked: its first fault in the order in which they stand here, or want of
-/// memory. Where several rules have the fault, the name is that of the first one in written order.
+/// Why a grammar wasn't checked: its first fault in the order in which they are listed here, or out
+/// of memory. Where several rules have the fault, the name is that of the first one in written order.
 #[derive(Debug, Drop)]
 pub enum CheckFault {
     /// Two rules have this name.
@@ -17,8 +17,8 @@ pub enum CheckFault {
     /// No parser rule has this name; it is empty where there is no parser rule at all.
     NoStart { name: Text },
 
-    /// `EOF` stands in this rule other than last in an alternative, or it stands in this rule, which
-    /// isn't the start and is used.
+    /// `EOF` is in this rule other than last in an alternative, or it is in this rule, which isn't
+    /// the start and is used.
     EofPlace { rule: Text },
 
     /// This lexer rule uses itself, directly or through others.
@@ -76,7 +76,7 @@ impl fmt::Display for CheckFault {
 
 impl std::error::Error for CheckFault {}
 
-/// What a check tells: a fault, or the place of the start rule of a grammar without one.
+/// What a check finds: a fault, or the index of the start rule of a grammar without one.
 #[derive(Drop)]
 pub(crate) enum Answer {
     Broken(CheckFault),

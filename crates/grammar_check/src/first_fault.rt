@@ -18,8 +18,8 @@ use grammar_names::Names;
 use grammar_tree::{Grammar, Kind};
 use std::alloc::Global;
 
-/// The fault of a grammar that stands first in the table, or the place of its start rule where it
-/// has none.
+/// The fault of a grammar that is first in the table, or the index of its start rule where it has
+/// none.
 pub(crate) fn first_fault(
     alloc: Global,
     grammar: &Grammar,

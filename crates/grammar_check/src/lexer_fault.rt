@@ -1,8 +1,8 @@
 //! The first fault of the rules of the lexer.
 
-ghost use Rattle.std.specs.Prelude.{◌≡◌, ◌<◌, ◌^◌, List, Option, IfOk, length, map};
+ghost use Rattle.std.specs.Prelude.{◌≡◌, ℕ, ◌<◌, ◌^◌, List, Option, IfOk, length, map};
 ghost use Rattle.grammar_tree.specs.GrammarView.{grammar_of, rule_of};
-ghost use Rattle.grammar_check.specs.CheckFaults.{IsLexerAnswer};
+ghost use Rattle.grammar_check.specs.CheckFaults.{HasNoneBefore, IsLexerAnswer};
 ghost use Rattle.grammar_analysis.specs.Lexer.{OneRule};
 
 use crate::answer::{fragment_loop, name_at};
@@ -14,7 +14,7 @@ use grammar_analysis::{LexerNames, empty_places, lexer_rows};
 use grammar_tree::Grammar;
 use std::alloc::Global;
 
-/// What is told of the rules of the lexer: a fault, or the place of the first empty loop, which is
+/// What is found in the rules of the lexer: a fault, or the index of the first empty loop, which is
 /// a fault only if no rule of the parser has one of an earlier row.
 #[derive(Drop)]
 pub(crate) enum LexerAnswer {
@@ -31,7 +31,7 @@ pub(crate) fn lexer_fault(
     requires small { length grammar.now.rules.items < 2 ^ 32 }
     requires one { OneRule (map rule_of grammar.now.rules.items) }
     requires names { names.now.rules.now ≡ grammar.now.rules.items }
-    ensures { IfOk result (IsLexerAnswer (grammar_of grammar.now)) }
+    ensures { (wanted : Option (List ℕ)) → HasNoneBefore (grammar_of grammar.now) wanted 5 → IfOk result (IsLexerAnswer (grammar_of grammar.now) wanted) }
 {
     let rows = lexer_rows(alloc, names)?;
     if let Some(rule) = fragment_loop(alloc, grammar, &rows)? {

@@ -7,6 +7,7 @@ mod eof;
 mod fault;
 mod first_fault;
 mod kinds;
+mod laws;
 mod lexer_checks;
 mod lexer_fault;
 mod parser_fault;
@@ -17,3 +18,4 @@ mod unknown;
 
 pub use checking::check;
 pub use fault::CheckFault;
+pub use laws::{first_fault_once, no_fault_is_well_formed, well_formed_has_no_fault};

@@ -1,9 +1,9 @@
-//! The first fault of the rules of the parser, once `EOF` stands at ends.
+//! The first fault of the rules of the parser, once `EOF` is at ends.
 
-ghost use Rattle.std.specs.Prelude.{◌≡◌, ◌<◌, ◌^◌, List, Option, IfOk};
+ghost use Rattle.std.specs.Prelude.{◌≡◌, ℕ, ◌<◌, ◌^◌, List, Option, IfOk};
 ghost use Rattle.grammar_tree.specs.GrammarView.{grammar_of};
 ghost use Rattle.grammar_tree.specs.Size.{grammar_size};
-ghost use Rattle.grammar_check.specs.CheckFaults.{IsParserAnswer};
+ghost use Rattle.grammar_check.specs.CheckFaults.{HasNoneBefore, IsParserAnswer};
 ghost use Rattle.grammar_analysis.specs.First.{IsFirstOrNone};
 ghost use Rattle.grammar_check.specs.LexerFaults.{LexerLoopAt};
 
@@ -19,7 +19,7 @@ use grammar_tree::Grammar;
 use std::alloc::Global;
 
 /// The first fault of the rules of the parser, from rules without a base on; the first lexer rule
-/// with an empty loop stands at the given place.
+/// with an empty loop is at the given index.
 pub(crate) fn parser_fault(
     alloc: Global,
     grammar: &Grammar,
@@ -29,7 +29,7 @@ pub(crate) fn parser_fault(
     requires names { names.now ≡ grammar_of grammar.now }
     requires small { grammar_size (grammar_of grammar.now) < 2 ^ 32 }
     requires lexer { IsFirstOrNone (LexerLoopAt (grammar_of grammar.now)) lexer_loop }
-    ensures { IfOk result (IsParserAnswer (grammar_of grammar.now)) }
+    ensures { (wanted : Option (List ℕ)) → HasNoneBefore (grammar_of grammar.now) wanted 8 → IfOk result (IsParserAnswer (grammar_of grammar.now) wanted) }
 {
     let places = parser_places(alloc, &grammar.rules)?;
     let rules = numbered_bodies(alloc, grammar, names)?;
