@@ -1,9 +1,12 @@
--- A table that is sound and complete says exactly which rules can be empty.
-use Rattle.std.proofs.Common.{◌≡◌, ◌⊎◌, inl, inr, ℕ, Bool, true, false, ◌||◌, ◌&&◌, List, [], ◌∷◌, ◌++◌, Some, zero, suc, ◌<◌, length, map, slice_get, slice_index_or, slice_set, get_or-set_other, arith, refl, sym, ap, ◌∙◌, subst, true≢false}
+-- The least table that is closed under the rules says exactly which of them can be empty.
+use Rattle.std.proofs.Common.{◌≡◌, ◌⊎◌, inl, inr, ℕ, Bool, true, false, ◌||◌, ◌&&◌, List, [], ◌∷◌, ◌++◌, Option, Some, None, zero, suc, ◌<◌, length, map, slice_get, slice_index_or, slice_set, get_or-set_other, arith, refl, sym, ap, ◌∙◌, subst, true≢false}
+use Rattle.std.specs.Option.{option_map, option_map_or}
 use Rattle.std.proofs.lemmas.Bool.{cases_eq}
+use Rattle.std.proofs.lemmas.Option.{same_Some, slice_get-map, slice_get_within}
 use Rattle.grammar_tree.specs.Written.{WrittenTerm, WrittenGrammar, written_alts}
 use Rattle.grammar_tree.specs.Derives.{Term, Seq, Alts, Derives, DerivesMany, DerivesSeq, DerivesAlts, bodies, resolved_alts}
-use Rattle.grammar_analysis.specs.Empty.{AreBodies, AreEmptyRules, IsComplete, IsSound, alts_is_empty, flag, is_empty, seq_is_empty}
+use Rattle.grammar_analysis.specs.Empty.{AreBodies, AreEmptyRules, alts_is_empty, body_is_empty, flag, is_empty, seq_is_empty}
+use Rattle.grammar_analysis.specs.Marking.{IsClosedAt, IsMarked}
 
 pub and_both : (b c : Bool) → (b && c) ≡ true → (b ≡ true) × (c ≡ true)
 and_both true c e = (refl, e)
@@ -80,7 +83,15 @@ module _ (G : List Alts) (e : ℕ → Bool) where
     pub found_in_alts : {a : Alts} → DerivesAlts G a [] → alts_is_empty e a ≡ true
     found_in_alts d = alts_found d refl
 
-pub exact : (G : List Alts) (flags : List Bool) → IsSound G flags → IsComplete G flags → AreEmptyRules G flags
+-- The table has no rule that can't be empty.
+abbrev IsSound : List Alts → List Bool → Type 0
+IsSound G flags = (r : ℕ) → flag flags r ≡ true → Derives G (Term.rule r) []
+
+-- The table has each rule that can be empty by the rules in the table.
+abbrev IsComplete : List Alts → List Bool → Type 0
+IsComplete G flags = (r : ℕ) (a : Alts) → slice_get G r ≡ Some a → alts_is_empty (flag flags) a ≡ true → flag flags r ≡ true
+
+exact : (G : List Alts) (flags : List Bool) → IsSound G flags → IsComplete G flags → AreEmptyRules G flags
 exact G flags sound complete = λ r. (sound r, λ d. found G (flag flags) complete d)
 
 -- the alternatives of the rule with a number, where they were read
@@ -94,10 +105,35 @@ body_at {X = X} view G xs e i x lt is = ap (λ bs. slice_get bs i) e ∙ at xs i
     at (y ∷ ys) (suc k) lt is = at ys k (omega arith) is
 
 -- one more rule that can be empty
-pub marked : (G : List Alts) (flags : List Bool) (n : ℕ) (a : Alts) → n < length flags → slice_get G n ≡ Some a → alts_is_empty (flag flags) a ≡ true → IsSound G flags → IsSound G (slice_set flags n true)
-marked G flags n a lt at h sound r e = elim (cases_eq r n) [
+marked : (G : List Alts) (flags : List Bool) (n : ℕ) (a : Alts) → slice_get G n ≡ Some a → alts_is_empty (flag flags) a ≡ true → IsSound G flags → IsSound G (slice_set flags n true)
+marked G flags n a at h sound r e = elim (cases_eq r n) [
   | inl same ↦
       let P : ℕ → Type 0 = λ m. Derives G (Term.rule m) [] in
       subst P (sym same) (Derives.by_rule n a [] at (alts_empty G (flag flags) sound a h))
   | inr differ ↦ sound r (sym (get_or-set_other flags n r true false differ) ∙ e)
 ]
+
+module _ (G : WrittenGrammar) (alts : List (List (List WrittenTerm))) (are : AreBodies G alts) where
+  abbrev body : List (List WrittenTerm) → Alts
+  body a = resolved_alts G (written_alts a)
+
+  at_number : (n : ℕ) (x : List (List WrittenTerm)) → slice_get alts n ≡ Some x → slice_get (bodies G) n ≡ Some (body x)
+  at_number n x at = ap (λ l. slice_get l n) are ∙ slice_get-map body alts n ∙ ap (option_map body) at
+
+  sound_more : (flags : List Bool) (n : ℕ) (o : Option (List (List WrittenTerm))) → slice_get alts n ≡ o → option_map_or (λ a. alts_is_empty (flag flags) (body a)) o false ≡ true → IsSound (bodies G) flags → IsSound (bodies G) (slice_set flags n true)
+  sound_more flags n None at h sound = absurd (true≢false (sym h))
+  sound_more flags n (Some x) at h sound = marked (bodies G) flags n (body x) (at_number n x at) h sound
+
+  are_sound : {flags : List Bool} → IsMarked (body_is_empty G alts) flags → IsSound (bodies G) flags
+  are_sound (IsMarked.by_none flags none) = λ r h. absurd (true≢false (sym h ∙ none r))
+  are_sound (IsMarked.by_one flags n before lt passes) = sound_more flags n (slice_get alts n) refl passes (are_sound before)
+
+  module _ (flags : List Bool) (closed : (n : ℕ) → n < length alts → IsClosedAt (body_is_empty G alts) flags n) where
+    closed_at : (r : ℕ) (a : Alts) (o : Option (List (List WrittenTerm))) → slice_get alts r ≡ o → slice_get (bodies G) r ≡ Some a → alts_is_empty (flag flags) a ≡ true → flag flags r ≡ true
+    closed_at r a None at has h = let x : None ≡ Some a = sym (ap (λ l. slice_get l r) are ∙ slice_get-map body alts r ∙ ap (option_map body) at) ∙ has in cc x
+    closed_at r a (Some x) at has h =
+        let same : body x ≡ a = same_Some (body x) a (sym (at_number r x at) ∙ has) in
+        closed r (slice_get_within alts r x at) (ap (λ o. option_map_or (λ b. alts_is_empty (flag flags) (body b)) o false) at ∙ ap (alts_is_empty (flag flags)) same ∙ h)
+
+    pub are_empty : IsMarked (body_is_empty G alts) flags → AreEmptyRules (bodies G) flags
+    are_empty marks = exact (bodies G) flags (are_sound marks) (λ r a has h. closed_at r a (slice_get alts r) refl has h)

@@ -4,7 +4,7 @@ use Rattle.std.specs.List.{Contains}
 use Rattle.std.specs.Option.{option_map_or}
 use Rattle.std.proofs.lemmas.Bool.{cases_eq, false≢true}
 use Rattle.std.proofs.lemmas.List.Quantifiers.{position-Some}
-use Rattle.std.proofs.lemmas.Option.{slice_get-get_or}
+use Rattle.std.proofs.lemmas.Option.{slice_get-get_or, slice_get_within}
 use Rattle.std.proofs.lemmas.Slice.Eq.{bytes_eq-Decides}
 use Rattle.grammar_tree.specs.Faults.{LexerHasEmptyLoop, LexerHasEmptyLoopSeq, LexerHasEmptyLoopAlts}
 use Rattle.grammar_tree.specs.Kinds.{as_lexer_rule, lexer_rules}
@@ -14,10 +14,19 @@ use Rattle.grammar_tree.specs.Written.{LexerTerm, LexerSeq, LexerAlts, LexerRule
 use Rattle.grammar_tree.proofs.Names.{some_position}
 use Rattle.grammar_tree.proofs.Places.{at_of_contains, contains_at, lexer_place as place_of_rule}
 use Rattle.grammar_analysis.specs.Empty.{flag}
-use Rattle.grammar_analysis.specs.Lexer.{AreEmptyPlaces, HasOnlyEmptyPlaces, IsSettledAt, OneRule, is_nil, lexer_alts_are_empty, lexer_alts_have_loop, lexer_has_loop, lexer_is_empty, lexer_place, lexer_seq_has_loop, lexer_seq_is_empty}
+use Rattle.grammar_analysis.specs.Lexer.{AreEmptyPlaces, OneRule, is_nil, lexer_alts_are_empty, lexer_alts_have_loop, lexer_has_loop, lexer_is_empty, lexer_place, lexer_rule_is_empty, lexer_seq_has_loop, lexer_seq_is_empty, rule_is_empty}
+use Rattle.grammar_analysis.specs.Marking.{IsClosedAt, IsMarked}
 use Rattle.grammar_analysis.specs.Rules.{has_key}
 use Rattle.grammar_analysis.specs.declared.rules.Key.TheVariants.{LexerName}
 use Rattle.grammar_analysis.proofs.EmptyRules.{and_both, from_both, from_first, from_second, nil_parts, or_one}
+
+-- The table has no rule whose alternatives don't match the empty text.
+abbrev HasOnlyEmptyPlaces : List WrittenRule → List Bool → Type 0
+HasOnlyEmptyPlaces rules flags = (i : ℕ) (rule : LexerRule) → slice_get rules i ≡ Some (WrittenRule.lexer_rule rule) → flag flags i ≡ true → MatchesAlts (lexer_rules rules) rule.alts []
+
+-- The table has the rule at this index, where its alternatives match the empty text by the rules in the table.
+abbrev IsSettledAt : List WrittenRule → List Bool → ℕ → Type 0
+IsSettledAt rules flags i = (rule : LexerRule) → slice_get rules i ≡ Some (WrittenRule.lexer_rule rule) → lexer_alts_are_empty (lexer_place rules) (flag flags) rule.alts ≡ true → flag flags i ≡ true
 
 nil_of : (t : List ℕ) → is_nil t ≡ true → t ≡ []
 nil_of [] e = refl
@@ -121,13 +130,13 @@ module _ (rules : List WrittenRule) where
       pub found_in_alts : {a : LexerAlts} → MatchesAlts L a [] → lexer_alts_are_empty f e a ≡ true
       found_in_alts m = alts_found m refl
 
-  pub exact : OneRule rules → (flags : List Bool) → HasOnlyEmptyPlaces rules flags → ((i : ℕ) → IsSettledAt rules flags i) → AreEmptyPlaces rules flags
+  exact : OneRule rules → (flags : List Bool) → HasOnlyEmptyPlaces rules flags → ((i : ℕ) → IsSettledAt rules flags i) → AreEmptyPlaces rules flags
   exact one flags sound settled = λ i rule at. (sound i rule at, λ m. settled i rule at (found_in_alts flags one settled m))
 
   -- one more rule that matches the empty text
-  pub marked : (flags : List Bool) (n : ℕ) (rule : LexerRule) → n < length flags → slice_get rules n ≡ Some (WrittenRule.lexer_rule rule) → lexer_alts_are_empty (lexer_place rules) (flag flags) rule.alts ≡ true →
+  marked : (flags : List Bool) (n : ℕ) (rule : LexerRule) → slice_get rules n ≡ Some (WrittenRule.lexer_rule rule) → lexer_alts_are_empty (lexer_place rules) (flag flags) rule.alts ≡ true →
       HasOnlyEmptyPlaces rules flags → HasOnlyEmptyPlaces rules (slice_set flags n true)
-  marked flags n rule lt at h sound i r at' k = elim (cases_eq i n) [
+  marked flags n rule at h sound i r at' k = elim (cases_eq i n) [
     | inl same ↦
         let P : ℕ → Type 0 = λ m. slice_get rules m ≡ Some (WrittenRule.lexer_rule r) in
         let is : rule ≡ r = lexer_same rule r (sym at ∙ subst P same at') in
@@ -138,6 +147,19 @@ module _ (rules : List WrittenRule) where
     where
       lexer_same : (a b : LexerRule) → Some (WrittenRule.lexer_rule a) ≡ Some (WrittenRule.lexer_rule b) → a ≡ b
       lexer_same a b e' = cc
+
+  sound_more : (flags : List Bool) (n : ℕ) (o : Option WrittenRule) → slice_get rules n ≡ o → option_map_or (rule_is_empty (lexer_place rules) (flag flags)) o false ≡ true → HasOnlyEmptyPlaces rules flags → HasOnlyEmptyPlaces rules (slice_set flags n true)
+  sound_more flags n None at h sound = absurd (false≢true h)
+  sound_more flags n (Some (WrittenRule.parser_rule r)) at h sound = absurd (false≢true h)
+  sound_more flags n (Some (WrittenRule.lexer_rule r)) at h sound = marked flags n r at h sound
+
+  are_sound : {flags : List Bool} → IsMarked (lexer_rule_is_empty rules) flags → HasOnlyEmptyPlaces rules flags
+  are_sound (IsMarked.by_none flags none) = λ i rule at h. absurd (false≢true (sym (none i) ∙ h))
+  are_sound (IsMarked.by_one flags n before lt passes) = sound_more flags n (slice_get rules n) refl passes (are_sound before)
+
+  pub are_empty : OneRule rules → (flags : List Bool) → IsMarked (lexer_rule_is_empty rules) flags → ((i : ℕ) → i < length rules → IsClosedAt (lexer_rule_is_empty rules) flags i) → AreEmptyPlaces rules flags
+  are_empty one flags marks closed = exact one flags (are_sound marks)
+      (λ i rule at h. closed i (slice_get_within rules i (WrittenRule.lexer_rule rule) at) (ap (λ o. option_map_or (rule_is_empty (lexer_place rules) (flag flags)) o false) at ∙ h))
 
   -- from an exact table: what matches the empty text, and loops
   module _ (flags : List Bool) (one : OneRule rules) (are : AreEmptyPlaces rules flags) where

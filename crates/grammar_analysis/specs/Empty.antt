@@ -1,5 +1,6 @@
 -- Which terms can be empty, where it is known which rules can be.
 use Rattle.std.specs.Prelude.{◌≡◌, ℕ, Bool, true, false, ◌&&◌, ◌||◌, List, [], Some, map, slice_get, slice_index_or}
+use Rattle.std.specs.Option.{option_map_or}
 use Rattle.grammar_tree.specs.Written.{WrittenTerm, WrittenGrammar, written_alts}
 use Rattle.grammar_tree.specs.Derives.{Term, Seq, Alts, Derives, bodies, resolved_alts}
 
@@ -27,21 +28,13 @@ abbrev mutual
   alts_is_empty e Alts.none = false
   alts_is_empty e (Alts.or s a) = seq_is_empty e s || alts_is_empty e a
 
+-- whether the alternatives of the rule with this number can be empty, where a table says which rules can; false past the last rule
+abbrev pub body_is_empty : WrittenGrammar → List (List (List WrittenTerm)) → List Bool → ℕ → Bool
+body_is_empty G alts flags r = option_map_or (λ a. alts_is_empty (flag flags) (resolved_alts G (written_alts a))) (slice_get alts r) false
+
 -- The table says exactly which rules derive the empty list.
 abbrev pub AreEmptyRules : List Alts → List Bool → Type 0
 AreEmptyRules G flags = (r : ℕ) → (flag flags r ≡ true → Derives G (Term.rule r) []) × (Derives G (Term.rule r) [] → flag flags r ≡ true)
-
--- The table says of no rule that it can be empty that can't.
-abbrev pub IsSound : List Alts → List Bool → Type 0
-IsSound G flags = (r : ℕ) → flag flags r ≡ true → Derives G (Term.rule r) []
-
--- What the table says of this rule doesn't change by what it says of the others.
-abbrev pub IsSettled : List Alts → List Bool → ℕ → Type 0
-IsSettled G flags r = (a : Alts) → slice_get G r ≡ Some a → alts_is_empty (flag flags) a ≡ true → flag flags r ≡ true
-
--- The table says it of each rule that can be empty by what the table says.
-abbrev pub IsComplete : List Alts → List Bool → Type 0
-IsComplete G flags = (r : ℕ) → IsSettled G flags r
 
 -- These are the alternatives of the parser rules, in the order of their numbers.
 abbrev pub AreBodies : WrittenGrammar → List (List (List WrittenTerm)) → Type 0

@@ -2,6 +2,7 @@ pub use Rattle.grammar_names.specs.Index
 pub mod First
 pub mod Graph
 pub mod Empty
+pub mod Marking
 pub mod Loops
 pub mod Corners
 pub mod Recursion

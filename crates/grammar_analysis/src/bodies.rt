@@ -1,21 +1,17 @@
-//! The alternatives of the parser rules, and which of these can be empty.
+//! The alternatives of the parser rules.
 
-ghost use Rattle.std.specs.Prelude.{◌≡◌, ◌++◌, ℕ, ◌<◌, ◌^◌, ◌∷◌, [], List, IfOk, OnOk, length, map, sum_by, vec_len};
-ghost use Rattle.std.specs.List.{All, filter_map};
-ghost use Rattle.grammar_tree.specs.Derives.{bodies};
+ghost use Rattle.std.specs.Prelude.{◌≡◌, ◌++◌, ◌<◌, ◌^◌, ◌∷◌, [], List, IfOk, OnOk, map, sum_by, vec_len};
+ghost use Rattle.std.specs.List.{filter_map};
 ghost use Rattle.grammar_tree.specs.GrammarView.{grammar_of, rule_of};
 ghost use Rattle.grammar_tree.specs.View.{parser_alts};
 ghost use Rattle.grammar_tree.specs.Written.{written_alts};
 ghost use Rattle.grammar_tree.specs.Size.{alts_size, grammar_size};
-ghost use Rattle.grammar_analysis.specs.Empty.{AreBodies, AreEmptyRules};
+ghost use Rattle.grammar_analysis.specs.Empty.{AreBodies};
 ghost use Rattle.grammar_analysis.specs.Rules.{body_of};
 
-use crate::empty_rules::empty_rules;
-use crate::graph::callees_first;
-use crate::references::add_references;
 use faults::Memory;
 use grammar_names::Names;
-use grammar_tree::{Grammar, ParserAlts, Rule, TokenRef};
+use grammar_tree::{Grammar, ParserAlts, Rule};
 use std::alloc::Global;
 
 /// Adds the alternatives of the rule, where it is a parser rule.
@@ -40,73 +36,6 @@ fn parser_bodies<'a>(alloc: Global, rules: &'a [Rule]) -> Result<Vec<&'a ParserA
         add_body(rule, &mut found)?;
     }
     Ok(found)
-}
-
-/// Adds the rule that the reference names, where it is one of this many rules.
-fn add_use(
-    reference: &TokenRef,
-    names: &Names,
-    rules: usize,
-    row: &mut Vec<u32>,
-) -> Result<(), Memory>
-    requires { All (λ r. r < rules) row.old.items }
-    ensures { OnOk result (All (λ r. r < rules) row.new.items) }
-{
-    let TokenRef::Name(name) = reference else {
-        return Ok(());
-    };
-    match names.rule_number(name) {
-        Some(number) if (number as usize) < rules => {
-            row.push(number)?;
-            Ok(())
-        }
-        _ => Ok(()),
-    }
-}
-
-/// The rules that the alternatives use, of this many rules.
-fn use_row(
-    alloc: Global,
-    alts: &ParserAlts,
-    names: &Names,
-    rules: usize,
-) -> Result<Vec<u32>, Memory>
-    ensures { IfOk result (λ row. All (λ r. r < rules) row.items) }
-{
-    let mut references = Vec::new(alloc);
-    add_references(alts, &mut references)?;
-    let mut row = Vec::new(alloc);
-    for reference in references.iter() {
-        add_use(reference, names, rules, &mut row)?;
-    }
-    Ok(row)
-}
-
-/// For each rule those that it uses.
-fn use_rows(alloc: Global, rules: &[&ParserAlts], names: &Names) -> Result<Vec<Vec<u32>>, Memory>
-    ensures len { IfOk result (λ rows. vec_len rows ≡ length rules.now) }
-    ensures within { IfOk result (λ rows. All (λ row. All (λ r. r < length rules.now) row.items) rows.items) }
-{
-    let mut rows = Vec::new(alloc);
-    for alts in rules {
-        rows.push(use_row(alloc, alts, names, rules.len())?)?;
-    }
-    Ok(rows)
-}
-
-/// Which parser rules can be empty, by their numbers.
-pub fn empty_bodies(
-    alloc: Global,
-    rules: &[&ParserAlts],
-    names: &Names,
-) -> Result<Vec<bool>, Memory>
-    requires small { length rules.now < 2 ^ 32 }
-    requires bodies { AreBodies names.now (map (λ a. parser_alts a.now) rules.now) }
-    ensures { IfOk result (λ flags. AreEmptyRules (bodies names.now) flags.items) }
-{
-    let rows = use_rows(alloc, rules, names)?;
-    let order = callees_first(alloc, &rows)?;
-    empty_rules(alloc, rules, names, &order)
 }
 
 /// The alternatives of the parser rules of a grammar, in the order of their numbers.

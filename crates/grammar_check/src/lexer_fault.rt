@@ -41,7 +41,7 @@ pub(crate) fn lexer_fault(
     if let Some(rule) = name_at(grammar, place)? {
         return Ok(LexerAnswer::Faulty(CheckFault::ShortUse { rule }));
     }
-    let flags = empty_places(alloc, names, &rows)?;
+    let flags = empty_places(alloc, names)?;
     let token = first_empty_token(grammar, &flags);
     if let Some(rule) = name_at(grammar, token)? {
         return Ok(LexerAnswer::Faulty(CheckFault::EmptyToken { rule }));
