@@ -13,7 +13,7 @@ use Rattle.grammar_tree.proofs.LeftRecursion.{leads as front}
 use Rattle.grammar_tree.proofs.Places.{numbers}
 use Rattle.grammar_analysis.specs.Corners.{AreCornerRows, alts_corners, corners, rule_corners, seq_corners}
 use Rattle.grammar_analysis.specs.Empty.{AreEmptyRules, alts_is_empty, flag, is_empty}
-use Rattle.grammar_analysis.specs.Graph.{IsClosed, IsOnCycle}
+use Rattle.graph_cycles.specs.Graph.{IsClosed, IsOnCycle}
 use Rattle.grammar_analysis.proofs.CornerFacts.{leads, reaches}
 
 nothing : (x : ℕ) → Contains [] x → ⊥

@@ -8,7 +8,7 @@ use Rattle.grammar_tree.specs.Kinds.{lexer_rules}
 use Rattle.grammar_tree.specs.Written.{LexerRule, WrittenRule, WrittenGrammar}
 use Rattle.grammar_tree.proofs.Elements.{contains_cases, contains_filter_map, contains_first, contains_later, contains_none}
 use Rattle.grammar_tree.proofs.Places.{at_of_contains, lexer_place as place_of_rule}
-use Rattle.grammar_analysis.specs.Graph.{HasEdge, IsClosed, Reaches}
+use Rattle.graph_cycles.specs.Graph.{HasEdge, IsClosed, Reaches}
 use Rattle.grammar_analysis.specs.Lexer.{OneRule, lexer_place, lexer_row, lexer_rows}
 use Rattle.grammar_analysis.proofs.LexerFacts.{contains_rule, place_of_name, rule_of_place}
 

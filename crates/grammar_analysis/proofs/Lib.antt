@@ -1,5 +1,3 @@
-pub mod Searching
-pub mod Walking
 pub mod Traversed
 pub mod EmptyForms
 pub mod EmptyRules

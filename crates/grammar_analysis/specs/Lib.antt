@@ -1,6 +1,4 @@
 pub use Rattle.grammar_names.specs.Index
-pub mod First
-pub mod Graph
 pub mod Empty
 pub mod Marking
 pub mod Loops

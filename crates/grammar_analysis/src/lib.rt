@@ -1,14 +1,11 @@
-//! What the rules of a grammar use, which of them can be empty, which stand first in others, and
-//! which are on cycles.
+//! What the rules of a grammar use, which of them can be empty, and which can be first in others.
 #![tactic(auto)]
 
 mod bodies;
 mod corners;
 mod count;
-mod cycles;
 mod empty;
 mod empty_rules;
-mod graph;
 mod horn;
 mod lexer_clauses;
 mod lexer_names;
@@ -23,11 +20,9 @@ mod rules;
 
 pub use bodies::numbered_bodies;
 pub use count::normal_count;
-pub use cycles::first_on_cycle;
 pub use empty::is_flagged;
 pub use empty_rules::empty_bodies;
 pub use faults::Memory;
-pub use graph::targets;
 pub use lexer_names::LexerNames;
 pub use lexer_rules::{add_names, is_empty_text, lexer_alts_have_empty_loop, some_is_short};
 pub use lexer_tables::{empty_places, lexer_rows};

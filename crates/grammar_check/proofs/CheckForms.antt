@@ -8,7 +8,7 @@ use Rattle.grammar_tree.specs.Kinds.{parser_rules, rule_name}
 use Rattle.grammar_tree.specs.Written.{WrittenRule, WrittenGrammar}
 use Rattle.grammar_tree.proofs.Counts.{start_is_found}
 use Rattle.grammar_tree.proofs.StartLaws.{there}
-use Rattle.grammar_analysis.specs.First.{IsFirst, Nowhere}
+use Rattle.graph_cycles.specs.First.{IsFirst, Nowhere}
 use Rattle.grammar_check.specs.Answer.{IsFirstNamed}
 use Rattle.grammar_check.specs.CheckFaults.{HasNoneBefore, HoldsAt, IsFirstInTable, IsNamedAt, row}
 use Rattle.grammar_check.specs.Laws.{NoFaultIsWellFormed, WellFormedHasNoFault}
@@ -49,8 +49,8 @@ module _ (G : WrittenGrammar) (wanted : Option (List ℕ)) where
   pub two_rules : (name : List ℕ) → IsFirstNamed G (IsTwinAt G) name → IsFirstInTable G wanted (variant.TwoRules name)
   two_rules name is = first_named G wanted (variant.TwoRules name) (IsTwinAt G) name twins (none_at_all G wanted)
       (λ i at p.
-          let P : List ℕ → Type 0 = λ n. fault.TwoRules G n in
-          (at, subst P (same_Some (rule_name p.0) name (sym (named i p.0 p.1) ∙ at)) p.2)) is
+      let P : List ℕ → Type 0 = λ n. fault.TwoRules G n in
+      (at, subst P (same_Some (rule_name p.0) name (sym (named i p.0 p.1) ∙ at)) p.2)) is
 
   pub no_rule : (name : List ℕ) → Nowhere (IsTwinAt G) → IsFirstUnknown G (Some name) → IsFirstInTable G wanted (variant.NoRule name)
   no_rule name one is = first_at G wanted (variant.NoRule name) (IsUnknownAt G) unknown (before_unknown one) is.0 is.2 is.1.before

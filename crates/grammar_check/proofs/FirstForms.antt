@@ -5,7 +5,7 @@ use Rattle.std.proofs.lemmas.Option.{same_Some}
 use Rattle.grammar_tree.specs.Corners.{HasEmptyLoopAlts, bases, rests}
 use Rattle.grammar_tree.specs.Derives.{Alts, DerivesAlts}
 use Rattle.grammar_analysis.specs.Empty.{AreEmptyRules, alts_is_empty, flag}
-use Rattle.grammar_analysis.specs.First.{IsFirstOrNone, Nowhere}
+use Rattle.graph_cycles.specs.First.{IsFirstOrNone, Nowhere}
 use Rattle.grammar_analysis.specs.Loops.{alts_has_loop}
 use Rattle.grammar_check.specs.ParserFaults.{HasLoopAt, HasNoBaseAt}
 use Rattle.grammar_analysis.specs.Recursion.{has_alternative}

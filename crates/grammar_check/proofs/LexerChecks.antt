@@ -12,8 +12,8 @@ use Rattle.grammar_tree.specs.declared.rule.Rule.{Rule}
 use Rattle.grammar_tree.proofs.MatchForms.{greedily}
 use Rattle.grammar_analysis.specs.Empty.{flag}
 use Rattle.grammar_tree.proofs.Places.{at_of_contains, lexer_place as place_of_rule}
-use Rattle.grammar_analysis.specs.First.{Nowhere}
-use Rattle.grammar_analysis.specs.Graph.{AreTargets}
+use Rattle.graph_cycles.specs.First.{Nowhere}
+use Rattle.graph_cycles.specs.Graph.{AreTargets}
 use Rattle.grammar_analysis.specs.Lexer.{AreEmptyPlaces, OneRule, lexer_place, lexer_rows}
 use Rattle.grammar_check.specs.LexerFaults.{is_empty_token, is_looping_rule, is_short_rule}
 use Rattle.grammar_analysis.proofs.EmptyRules.{and_both, nil_parts}

@@ -8,7 +8,7 @@ use Rattle.grammar_tree.specs.Derives.{Alts, DerivesAlts, bodies, resolved_alts}
 use Rattle.grammar_tree.specs.Kinds.{parser_rules}
 use Rattle.grammar_tree.specs.Faults.{LeftRecursion, NoBase, number_at}
 use Rattle.grammar_tree.specs.Written.{ParserRule, WrittenRule, WrittenGrammar}
-use Rattle.grammar_analysis.specs.First.{IsFirst, IsFirstOrNone, Nowhere}
+use Rattle.graph_cycles.specs.First.{IsFirst, IsFirstOrNone, Nowhere}
 use Rattle.grammar_tree.proofs.Places.{numbers}
 use Rattle.grammar_check.specs.ParserFaults.{HasLoopAt, HasNoBaseAt, LeadsBackAt, ParserLoopAt}
 use Rattle.grammar_check.specs.ParserPlaces.{earlier_place, place_at, places_from}

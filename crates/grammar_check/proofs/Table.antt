@@ -6,7 +6,7 @@ use Rattle.std.proofs.lemmas.Option.{same_Some, none-some}
 use Rattle.grammar_tree.specs.Faults.{NoStart, TooManyRules, name_uses, used_name}
 use Rattle.grammar_tree.specs.Kinds.{parser_rules}
 use Rattle.grammar_tree.specs.Written.{WrittenGrammar}
-use Rattle.grammar_analysis.specs.First.{Nowhere}
+use Rattle.graph_cycles.specs.First.{Nowhere}
 use Rattle.grammar_check.specs.Answer.{IsFirstNamed, name_at}
 use Rattle.grammar_check.specs.CheckFaults.{HasNoneBefore, HoldsAt, IsFirstInTable, IsNamedAt, row}
 use Rattle.grammar_check.specs.Laws.{FirstFaultOnce}

@@ -13,7 +13,7 @@ use Rattle.grammar_tree.proofs.Places.{contains_at, one_name, passes_twice}
 use Rattle.grammar_tree.proofs.Names.{some_position}
 use Rattle.grammar_analysis.specs.Rules.{has_key}
 use Rattle.grammar_analysis.specs.declared.rules.Key.TheVariants.{Name}
-use Rattle.grammar_analysis.specs.First.{IsFirst, Nowhere}
+use Rattle.graph_cycles.specs.First.{IsFirst, Nowhere}
 use Rattle.grammar_analysis.specs.Lexer.{OneRule}
 use Rattle.grammar_check.specs.Twins.{AreFirstSoFar, IsEarliest, IsTwinAt}
 

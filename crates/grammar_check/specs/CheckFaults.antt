@@ -3,7 +3,7 @@ use Rattle.std.specs.Prelude.{◌≡◌, ◌≢◌, ◌⊎◌, ◌<◌, ℕ, Lis
 use Rattle.grammar_tree.specs.Faults as fault
 use Rattle.grammar_tree.specs.Written.{WrittenGrammar}
 use Rattle.grammar_check.specs.Answer.{name_at}
-use Rattle.grammar_analysis.specs.First.{IsFirstOrNone}
+use Rattle.graph_cycles.specs.First.{IsFirstOrNone}
 use Rattle.grammar_check.specs.LexerFaults.{LexerLoopAt}
 use Rattle.grammar_check.specs.declared.fault.Answer.{Answer}
 use Rattle.grammar_check.specs.declared.fault.Answer.TheVariants.{Broken, Fine}

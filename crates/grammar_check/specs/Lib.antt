@@ -1,4 +1,4 @@
-pub use Rattle.grammar_analysis.specs.First
+pub use Rattle.graph_cycles.specs.First
 pub mod Kinds
 pub mod ParserFaults
 pub mod LexerFaults

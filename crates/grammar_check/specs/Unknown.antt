@@ -3,7 +3,7 @@ use Rattle.std.specs.Prelude.{◌≡◌, ℕ, Bool, ◌&&◌, Some, is_none, sli
 use Rattle.grammar_tree.specs.Faults.{IsUnknown, NameUse, NoRuleAt, name_uses}
 use Rattle.grammar_tree.specs.Kinds.{name_kind, rule_number}
 use Rattle.grammar_tree.specs.Written.{WrittenGrammar}
-use Rattle.grammar_analysis.specs.First.{IsFirst, Nowhere}
+use Rattle.graph_cycles.specs.First.{IsFirst, Nowhere}
 use Rattle.grammar_analysis.specs.Lexer.{lexer_place}
 
 -- the name stands for nothing

@@ -12,12 +12,10 @@ use grammar_tree::{Checked, Grammar};
 use std::alloc::Global;
 
 /// The grammar, checked, with its numbered kinds and its start rule: the parser rule of the wanted
-/// name, or the first one where none is wanted. If the grammar isn't well-formed, the fault that
-/// stands first in the table of faults, with the name of the first rule that has it.
+/// name, or the first one where none is wanted. If the grammar isn't well-formed, its first fault in
+/// the order of the table of faults, with the name of the first rule or use that has it.
 ///
-/// It takes time near linear in the grammar's size, but for one step: which rules can be empty is
-/// looked for until nothing changes, which can take many rounds where rules use one another in
-/// cycles.
+/// It takes time near linear in the grammar's size.
 pub fn check(alloc: Global, grammar: Grammar, start: Option<&str>) -> Result<Checked, CheckFault>
     requires { grammar_size (grammar_of grammar) < 2 ^ 32 }
     ensures { IsCheckAnswer (grammar_of grammar) (option_map (λ s. chars s.now) start.entry) result }

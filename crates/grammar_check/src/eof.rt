@@ -9,7 +9,7 @@ ghost use Rattle.grammar_tree.specs.View.{parser_alts, parser_term, parser_terms
 ghost use Rattle.grammar_tree.specs.Written.{written_alts, written_seq};
 ghost use Rattle.grammar_names.specs.Index.{Finds};
 ghost use Rattle.grammar_check.specs.Eof.{is_misplaced_rule, is_misplaced_term};
-ghost use Rattle.grammar_analysis.specs.First.{IsFirstOrNone};
+ghost use Rattle.graph_cycles.specs.First.{IsFirstOrNone};
 ghost use Rattle.grammar_check.specs.Kinds.{seen_in};
 
 use crate::rule_checks::name_of;

@@ -4,13 +4,14 @@ ghost use Rattle.std.specs.Prelude.{◌≡◌, ℕ, ◌<◌, ◌^◌, List, IfOk
 ghost use Rattle.grammar_tree.specs.Faults.{EmptyToken, FragmentLoop};
 ghost use Rattle.grammar_tree.specs.GrammarView.{grammar_of, rule_of};
 ghost use Rattle.grammar_analysis.specs.Empty.{flag};
-ghost use Rattle.grammar_analysis.specs.First.{IsFirstOrNone};
+ghost use Rattle.graph_cycles.specs.First.{IsFirstOrNone};
 ghost use Rattle.grammar_analysis.specs.Lexer.{AreEmptyPlaces, OneRule, lexer_place, lexer_rows};
 ghost use Rattle.grammar_check.specs.LexerFaults.{LexerLoopAt, is_empty_token, is_looping_rule};
 
 use faults::Memory;
-use grammar_analysis::{LexerNames, first_on_cycle, is_flagged, lexer_alts_have_empty_loop};
+use grammar_analysis::{LexerNames, is_flagged, lexer_alts_have_empty_loop};
 use grammar_tree::{Grammar, Rule};
+use graph_cycles::first_on_cycle;
 use std::alloc::Global;
 
 /// The first lexer rule that uses itself, directly or through others.

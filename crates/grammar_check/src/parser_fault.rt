@@ -4,7 +4,7 @@ ghost use Rattle.std.specs.Prelude.{◌≡◌, ℕ, ◌<◌, ◌^◌, List, Opti
 ghost use Rattle.grammar_tree.specs.GrammarView.{grammar_of};
 ghost use Rattle.grammar_tree.specs.Size.{grammar_size};
 ghost use Rattle.grammar_check.specs.CheckFaults.{HasNoneBefore, IsParserAnswer};
-ghost use Rattle.grammar_analysis.specs.First.{IsFirstOrNone};
+ghost use Rattle.graph_cycles.specs.First.{IsFirstOrNone};
 ghost use Rattle.grammar_check.specs.LexerFaults.{LexerLoopAt};
 
 use crate::answer::name_at;

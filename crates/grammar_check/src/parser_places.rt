@@ -6,7 +6,7 @@ ghost use Rattle.grammar_tree.specs.Derives.{bodies};
 ghost use Rattle.grammar_tree.specs.Faults.{EmptyLoop, LeftRecursion, NoBase};
 ghost use Rattle.grammar_tree.specs.View.{parser_alts};
 ghost use Rattle.grammar_analysis.specs.Empty.{AreBodies, AreEmptyRules};
-ghost use Rattle.grammar_analysis.specs.First.{IsFirstOrNone};
+ghost use Rattle.graph_cycles.specs.First.{IsFirstOrNone};
 ghost use Rattle.grammar_check.specs.LexerFaults.{LexerLoopAt};
 ghost use Rattle.grammar_check.specs.ParserFaults.{ParserLoopAt};
 ghost use Rattle.grammar_check.specs.ParserPlaces.{earlier_place, place_at, places_from};

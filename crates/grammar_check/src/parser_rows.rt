@@ -4,15 +4,14 @@ ghost use Rattle.std.specs.Prelude.{ℕ, ◌<◌, ◌^◌, List, IfOk, length, m
 ghost use Rattle.grammar_tree.specs.Derives.{bodies};
 ghost use Rattle.grammar_tree.specs.View.{parser_alts};
 ghost use Rattle.grammar_analysis.specs.Empty.{AreBodies, AreEmptyRules};
-ghost use Rattle.grammar_analysis.specs.First.{IsFirstOrNone};
+ghost use Rattle.graph_cycles.specs.First.{IsFirstOrNone};
 ghost use Rattle.grammar_check.specs.ParserFaults.{HasLoopAt, HasNoBaseAt, LeadsBackAt};
 
 use faults::Memory;
-use grammar_analysis::{
-    alts_have_empty_loop, corner_rows, first_on_cycle, has_base, some_rest_can_be_empty,
-};
+use grammar_analysis::{alts_have_empty_loop, corner_rows, has_base, some_rest_can_be_empty};
 use grammar_names::Names;
 use grammar_tree::ParserAlts;
+use graph_cycles::first_on_cycle;
 use std::alloc::Global;
 
 /// The first rule each of whose alternatives is directly recursive, by its number.

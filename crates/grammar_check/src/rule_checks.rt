@@ -6,15 +6,16 @@ ghost use Rattle.grammar_tree.specs.Faults.{NoStart, FragmentLoop, ShortUse, is_
 ghost use Rattle.grammar_tree.specs.GrammarView.{grammar_of, rule_of};
 ghost use Rattle.grammar_tree.specs.Kinds.{rule_name};
 ghost use Rattle.grammar_names.specs.Index.{Finds};
-ghost use Rattle.grammar_analysis.specs.First.{IsFirstOrNone, Nowhere};
+ghost use Rattle.graph_cycles.specs.First.{IsFirstOrNone, Nowhere};
 ghost use Rattle.grammar_analysis.specs.Lexer.{OneRule, lexer_rows};
 ghost use Rattle.grammar_check.specs.LexerFaults.{is_short_rule};
 ghost use Rattle.grammar_check.specs.Twins.{IsEarliest, IsTwinAt};
 
 use faults::Memory;
-use grammar_analysis::{Key, is_flagged, rules_by, some_is_short, targets};
+use grammar_analysis::{Key, is_flagged, rules_by, some_is_short};
 use grammar_names::Index;
 use grammar_tree::{Grammar, Rule, Text};
+use graph_cycles::targets;
 use std::alloc::Global;
 
 /// The name of a rule.

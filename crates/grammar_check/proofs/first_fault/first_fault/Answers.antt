@@ -130,4 +130,3 @@ returns c =
     let lexer = subst Lexer c.in-Sound.is (c.in_ok-fault.ensures wanted ends) in
     let Parser : Option CheckFault → Type 0 = λ a. IsParserAnswer G wanted a in
     (fine G wanted (subst Parser c.in-None.is (c.in_ok-fault-in-Sound.ensures wanted lexer.0)) c.in-Some-3.start found, found)
-

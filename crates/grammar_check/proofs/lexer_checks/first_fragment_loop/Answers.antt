@@ -1,8 +1,8 @@
 use Rattle.std.proofs.Common.{ℕ, List, IfOk, sym, subst}
 use Rattle.grammar_tree.specs.Faults.{FragmentLoop}
 use Rattle.grammar_tree.specs.GrammarView.{grammar_of}
-use Rattle.grammar_analysis.specs.First.{IsFirstOrNone}
-use Rattle.grammar_analysis.specs.Graph.{IsClosed, IsOnCycle}
+use Rattle.graph_cycles.specs.First.{IsFirstOrNone}
+use Rattle.graph_cycles.specs.Graph.{IsClosed, IsOnCycle}
 use Rattle.grammar_analysis.specs.Lexer.{lexer_rows}
 use Rattle.grammar_check.proofs.FirstForms.{ok_first}
 use Rattle.grammar_analysis.proofs.LexerRows.{closed, loops, uses_itself}

@@ -1,7 +1,7 @@
 use Rattle.std.proofs.Common.{ℕ, Option, sym, ap, ◌∙◌, subst}
 use Rattle.grammar_tree.specs.Derives.{bodies}
 use Rattle.grammar_tree.specs.Faults.{LeftRecursion}
-use Rattle.grammar_analysis.specs.First.{IsFirstOrNone}
+use Rattle.graph_cycles.specs.First.{IsFirstOrNone}
 use Rattle.grammar_check.specs.ParserFaults.{LeadsBackAt}
 use Rattle.grammar_check.specs.ParserPlaces.{place_at}
 use Rattle.grammar_check.proofs.PlaceForms.{recursion_by_place, first_place}

@@ -1,6 +1,6 @@
 use Rattle.std.proofs.Common.{ℕ, Option, sym, ap, ◌∙◌, subst}
 use Rattle.grammar_tree.specs.Derives.{bodies}
-use Rattle.grammar_analysis.specs.First.{IsFirstOrNone}
+use Rattle.graph_cycles.specs.First.{IsFirstOrNone}
 use Rattle.grammar_check.specs.ParserFaults.{HasLoopAt, ParserLoopAt}
 use Rattle.grammar_check.specs.ParserPlaces.{place_at}
 use Rattle.grammar_check.proofs.PlaceForms.{loops_by_place, first_place}

@@ -1,8 +1,8 @@
 use Rattle.std.proofs.Common.{ℕ, List, Vec, Global, IfOk, map, sym, subst}
 use Rattle.grammar_tree.specs.Derives.{bodies}
 use Rattle.grammar_analysis.specs.Empty.{flag}
-use Rattle.grammar_analysis.specs.First.{IsFirstOrNone}
-use Rattle.grammar_analysis.specs.Graph.{IsClosed, IsOnCycle}
+use Rattle.graph_cycles.specs.First.{IsFirstOrNone}
+use Rattle.graph_cycles.specs.Graph.{IsClosed, IsOnCycle}
 use Rattle.grammar_check.specs.ParserFaults.{LeadsBackAt}
 use Rattle.grammar_analysis.proofs.CornerRows.{back_leads, closed, leads_back}
 use Rattle.grammar_check.proofs.FirstForms.{ok_first}

@@ -3,7 +3,7 @@ use Rattle.grammar_tree.specs.Faults.{ShortUse}
 use Rattle.grammar_tree.specs.GrammarView.{grammar_of, rule_of}
 use Rattle.grammar_tree.specs.Written.{WrittenRule}
 use Rattle.grammar_analysis.specs.Empty.{flag}
-use Rattle.grammar_analysis.specs.Graph.{AreTargets, IsClosed}
+use Rattle.graph_cycles.specs.Graph.{AreTargets, IsClosed}
 use Rattle.grammar_check.specs.LexerFaults.{is_short_rule}
 use Rattle.grammar_check.proofs.FirstForms.{not_here, nowhere}
 use Rattle.grammar_check.proofs.LexerChecks.{no_short_use, place_within, rule_at, short_use}

@@ -1,0 +1,8 @@
+//! Graphs whose nodes are numbers from 0: which nodes edges lead to, and which are on cycles.
+#![tactic(auto)]
+
+mod cycles;
+mod graph;
+
+pub use cycles::first_on_cycle;
+pub use graph::targets;
