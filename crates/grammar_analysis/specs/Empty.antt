@@ -1,5 +1,5 @@
 -- Which terms can be empty, where it is known which rules can be.
-use Rattle.std.specs.Prelude.{◌≡◌, ℕ, Bool, true, false, ◌&&◌, ◌||◌, List, [], Some, map, slice_get, slice_index_or}
+use Rattle.std.specs.Prelude.{◌≡◌, ℕ, Bool, true, false, ◌&&◌, ◌||◌, List, [], map, slice_get, slice_index_or}
 use Rattle.std.specs.Option.{option_map_or}
 use Rattle.grammar_tree.specs.Written.{WrittenTerm, WrittenGrammar, written_alts}
 use Rattle.grammar_tree.specs.Derives.{Term, Seq, Alts, Derives, bodies, resolved_alts}

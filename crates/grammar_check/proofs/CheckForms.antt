@@ -1,5 +1,5 @@
 -- The rows of the table of faults, and the grammar that has none of them.
-use Rattle.std.proofs.Common.{◌≡◌, ◌<◌, ℕ, suc, List, [], Option, Some, None, slice_get, refl, sym, ap, ◌∙◌, subst, arith}
+use Rattle.std.proofs.Common.{◌≡◌, ◌<◌, ℕ, List, [], Option, Some, None, slice_get, refl, sym, ap, ◌∙◌, subst, arith}
 use Rattle.std.specs.Prelude.{option_map}
 use Rattle.std.proofs.lemmas.Option.{none-some, same_Some}
 use Rattle.grammar_tree.specs.Faults as fault
@@ -8,7 +8,7 @@ use Rattle.grammar_tree.specs.Kinds.{parser_rules, rule_name}
 use Rattle.grammar_tree.specs.Written.{WrittenRule, WrittenGrammar}
 use Rattle.grammar_tree.proofs.Counts.{start_is_found}
 use Rattle.grammar_tree.proofs.StartLaws.{there}
-use Rattle.graph_cycles.specs.First.{IsFirst, Nowhere}
+use Rattle.graph_cycles.specs.First.{Nowhere}
 use Rattle.grammar_check.specs.Answer.{IsFirstNamed}
 use Rattle.grammar_check.specs.CheckFaults.{HasNoneBefore, HoldsAt, IsFirstInTable, IsNamedAt, row}
 use Rattle.grammar_check.specs.Laws.{NoFaultIsWellFormed, WellFormedHasNoFault}

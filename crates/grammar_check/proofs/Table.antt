@@ -1,13 +1,11 @@
 -- The table of faults, row by row.
-use Rattle.std.proofs.Common.{◌≡◌, ◌⊎◌, inl, inr, ℕ, zero, suc, ◌<◌, List, [], ◌∷◌, Option, Some, None, slice_get, refl, sym, ap, ◌∙◌, subst, arith}
-use Rattle.std.specs.Prelude.{option_map}
+use Rattle.std.proofs.Common.{◌≡◌, inl, inr, ℕ, zero, suc, ◌<◌, List, [], Option, refl, sym, ap, ◌∙◌, subst, arith}
 use Rattle.std.proofs.lemmas.Bool.{cases_lt}
-use Rattle.std.proofs.lemmas.Option.{same_Some, none-some}
-use Rattle.grammar_tree.specs.Faults.{NoStart, TooManyRules, name_uses, used_name}
-use Rattle.grammar_tree.specs.Kinds.{parser_rules}
+use Rattle.std.proofs.lemmas.Option.{same_Some}
+use Rattle.grammar_tree.specs.Faults.{NoStart, used_name}
 use Rattle.grammar_tree.specs.Written.{WrittenGrammar}
 use Rattle.graph_cycles.specs.First.{Nowhere}
-use Rattle.grammar_check.specs.Answer.{IsFirstNamed, name_at}
+use Rattle.grammar_check.specs.Answer.{IsFirstNamed}
 use Rattle.grammar_check.specs.CheckFaults.{HasNoneBefore, HoldsAt, IsFirstInTable, IsNamedAt, row}
 use Rattle.grammar_check.specs.Laws.{FirstFaultOnce}
 use Rattle.grammar_check.specs.declared.fault.CheckFault.{CheckFault}

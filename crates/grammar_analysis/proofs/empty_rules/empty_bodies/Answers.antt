@@ -1,4 +1,4 @@
-use Rattle.std.proofs.Common.{Bor, ℕ, List, map, arith}
+use Rattle.std.proofs.Common.{Bor, List, map, arith}
 use Rattle.std.proofs.lemmas.List.{length-map}
 use Rattle.grammar_tree.specs.View.{parser_alts}
 use Rattle.grammar_tree.specs.Written.{WrittenTerm}

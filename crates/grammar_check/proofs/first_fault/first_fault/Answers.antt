@@ -5,7 +5,7 @@ use Rattle.grammar_tree.specs.Faults.{EofPlace}
 use Rattle.grammar_tree.specs.GrammarView.{grammar_of, rule_of}
 use Rattle.grammar_tree.specs.Written.{WrittenGrammar}
 use Rattle.grammar_tree.proofs.Counts.{counts_fit}
-use Rattle.grammar_check.specs.CheckFaults.{HasNoneBefore, IsLexerAnswer, IsParserAnswer}
+use Rattle.grammar_check.specs.CheckFaults.{IsLexerAnswer, IsParserAnswer}
 use Rattle.grammar_check.specs.Twins.{IsTwinAt}
 use Rattle.grammar_check.specs.Unknown.{IsFirstUnknown}
 use Rattle.grammar_check.specs.declared.fault.CheckFault.{CheckFault}
