@@ -2,13 +2,13 @@
 use Rattle.std.proofs.Common.{◌≡◌, ◌≢◌, ◌<◌, ◌≤◌, ◌⊎◌, inl, inr, ◌↔◌, ℕ, zero, suc, true, nat_eq, List, [], ◌∷◌, ◌++◌, Some, slice_get, length, refl, sym, ap, ◌∙◌, subst, arith, append_assoc, length-append}
 use Rattle.std.proofs.Math.ListN.{set, length-set}
 use Rattle.std.proofs.lemmas.Bool.{cases_lt}
-use Rattle.grammar_tree.specs.Written.{LexerTerm, LexerRule}
+use Rattle.grammar_tree.specs.Written.{LexerTerm, LexerRule, WrittenRule}
 use Rattle.grammar_tree.specs.Matches.{Matches, MatchesMany}
 use Rattle.grammar_tree.specs.Laws.{CutsInto}
 use Rattle.grammar_tree.proofs.MatchForms as forms
 use Rattle.lexer.specs.declared.program.Node.{Node}
 use Rattle.lexer.specs.Program.{Reads, GoesBelow, IsClosed}
-use Rattle.lexer.specs.Compile.{HaveSame, IsAdded}
+use Rattle.lexer.specs.Compile.{HaveSame, Implements, ImplementsAll, IsAdded, MatchesRuleAt}
 use Rattle.lexer.proofs.Nodes.{get_before, get_last, get_within, set_at, set_other, below_more, never_reads, set_reads, char_reads, split_reads}
 
 abbrev Language : Type 1
@@ -24,7 +24,7 @@ cuts_right : (A B C : Language) (w : List ℕ) → CutsInto (CutsInto A B) C w �
 cuts_right A B C w (u, v, e, (x, y, f, a, b), c) = (x, y ++ v, e ∙ ap (λ l. l ++ v) f ∙ append_assoc x y v, a, (y, v, refl, b, c))
 
 -- nothing is added, and nothing is read
-pub added_nothing : (old : List Node) (next : ℕ) → IsClosed old → next < length old → IsAdded (λ w. w ≡ []) old old next next
+pub added_nothing : {R : List WrittenRule} (old : List Node) (next : ℕ) → IsClosed old → next < length old → IsAdded R (λ w. w ≡ []) old old next next
 added_nothing old next closed h =
     record {
       longer = omega arith;
@@ -35,7 +35,7 @@ added_nothing old next closed h =
     }
 
 -- the language may be said in other words
-pub added_as : (A B : Language) (old new : List Node) (entry next : ℕ) → ((w : List ℕ) → A w ↔ B w) → IsAdded A old new entry next → IsAdded B old new entry next
+pub added_as : {R : List WrittenRule} (A B : Language) (old new : List Node) (entry next : ℕ) → ((w : List ℕ) → A w ↔ B w) → IsAdded R A old new entry next → IsAdded R B old new entry next
 added_as A B old new entry next same a =
     record {
       longer = a.longer;
@@ -87,21 +87,21 @@ set_closed old at node closed below n other g = pick (cases_lt n at) (cases_lt a
         goes_below (length (set old at node)) node other is (below_more (length old) (length (set old at node)) node (omega (arith, same)) below)
 
 -- one node is added, and what it reads is known wherever it stands
-pub added_node : (A : Language) (old : List Node) (node : Node) (next : ℕ) → IsClosed old → 0 < length old → GoesBelow (suc (length old)) node →
-    ((P : List Node) (n : ℕ) → 0 < n → slice_get P n ≡ Some node → (w : List ℕ) → Reads P n w ↔ CutsInto A (Reads P next) w) → IsAdded A old (old ++ node ∷ []) (length old) next
+pub added_node : {R : List WrittenRule} (A : Language) (old : List Node) (node : Node) (next : ℕ) → IsClosed old → 0 < length old → GoesBelow (suc (length old)) node →
+    ((P : List Node) (n : ℕ) → 0 < n → Implements R P n node → (w : List ℕ) → Reads P n w ↔ CutsInto A (Reads P next) w) → IsAdded R A old (old ++ node ∷ []) (length old) next
 added_node A old node next closed some below reads =
     record {
       longer = omega (arith, pushed_len old node);
       kept = λ n low high. get_before old (node ∷ []) n high;
       inside = omega (arith, pushed_len old node);
       closed = pushed_closed old node closed below;
-      means = λ P same w. reads P (length old) some (same (length old) (omega arith) (omega (arith, pushed_len old node)) ∙ get_last old node (length old) refl) w;
+      means = λ P same w. reads P (length old) some (same (length old) node (omega arith) (omega (arith, pushed_len old node)) (get_last old node (length old) refl)) w;
     }
 
 nat_eq_true : (m n : ℕ) → nat_eq m n ≡ true → m ≡ n
 nat_eq_true m n e = grind (arith)
 
-pub added_char : (old : List Node) (c next : ℕ) → IsClosed old → next < length old → IsAdded (λ w. w ≡ c ∷ []) old (old ++ Node.Char c next ∷ []) (length old) next
+pub added_char : {R : List WrittenRule} (old : List Node) (c next : ℕ) → IsClosed old → next < length old → IsAdded R (λ w. w ≡ c ∷ []) old (old ++ Node.Char c next ∷ []) (length old) next
 added_char old c next closed h = added_node (λ w. w ≡ c ∷ []) old (Node.Char c next) next closed (omega (arith, h)) (omega (arith, h)) reads
   where
     reads : (P : List Node) (n : ℕ) → 0 < n → slice_get P n ≡ Some (Node.Char c next) → (w : List ℕ) → Reads P n w ↔ CutsInto (λ u. u ≡ c ∷ []) (Reads P next) w
@@ -110,7 +110,7 @@ added_char old c next closed h = added_node (λ w. w ≡ c ∷ []) old (Node.Cha
       λ (u, v, e, one, more). (char_reads P n next c w some at).1 (c, v, e ∙ ap (λ l. l ++ v) one, grind (arith), more),
     )
 
-pub added_set : (G : List LexerRule) (old : List Node) (s : List (ℕ × ℕ)) (next : ℕ) → IsClosed old → next < length old → IsAdded (Matches G (LexerTerm.set s)) old (old ++ Node.Set s next ∷ []) (length old) next
+pub added_set : {R : List WrittenRule} (G : List LexerRule) (old : List Node) (s : List (ℕ × ℕ)) (next : ℕ) → IsClosed old → next < length old → IsAdded R (Matches G (LexerTerm.set s)) old (old ++ Node.Set s next ∷ []) (length old) next
 added_set G old s next closed h = added_node (Matches G (LexerTerm.set s)) old (Node.Set s next) next closed (omega (arith, h)) (omega (arith, h)) reads
   where
     reads : (P : List Node) (n : ℕ) → 0 < n → slice_get P n ≡ Some (Node.Set s next) → (w : List ℕ) → Reads P n w ↔ CutsInto (Matches G (LexerTerm.set s)) (Reads P next) w
@@ -120,40 +120,44 @@ added_set G old s next closed h = added_node (Matches G (LexerTerm.set s)) old (
           let (c, one, test) = ((forms.by_form G).set s u).0 m in (set_reads P n next s w some at).1 (c, v, e ∙ ap (λ l. l ++ v) one, test, more),
     )
 
-pub added_never : (A : Language) (old : List Node) (next : ℕ) → ((w : List ℕ) → ¬ A w) → IsClosed old → 0 < length old → IsAdded A old (old ++ Node.Never ∷ []) (length old) next
+pub added_never : {R : List WrittenRule} (A : Language) (old : List Node) (next : ℕ) → ((w : List ℕ) → ¬ A w) → IsClosed old → 0 < length old → IsAdded R A old (old ++ Node.Never ∷ []) (length old) next
 added_never A old next none closed some =
     added_node A old Node.Never next closed some tt (λ P n h at w. (λ r. absurd (never_reads P n w h at r), λ (u, v, e, a, r). absurd (none u a)))
 
--- what was added before stays where more is added
-same_before : (P mid new : List Node) (low : ℕ) → low ≤ length mid → length mid ≤ length new → HaveSame new mid 0 (length mid) → HaveSame P new low (length new) → HaveSame P mid low (length mid)
-same_before P mid new low h k kept same n from to = same n from (omega (arith, to, k)) ∙ kept n (omega arith) to
+-- a call of a rule
+pub added_call : {R : List WrittenRule} (old : List Node) (rule next : ℕ) → IsClosed old → next < length old → IsAdded R (MatchesRuleAt R rule) old (old ++ Node.Call rule next ∷ []) (length old) next
+added_call {R} old rule next closed h = added_node (MatchesRuleAt R rule) old (Node.Call rule next) next closed (omega (arith, h)) (omega (arith, h)) (λ P n some reads w. reads w)
 
-same_after : (P mid new : List Node) (low : ℕ) → low ≤ length mid → HaveSame P new low (length new) → HaveSame P new (length mid) (length new)
-same_after P mid new low h same n from to = same n (omega (arith, h, from)) to
+-- what was added before stays where more is added
+same_before : (R : List WrittenRule) (P mid new : List Node) (low : ℕ) → low ≤ length mid → length mid ≤ length new → HaveSame new mid 0 (length mid) → ImplementsAll R P new low (length new) → ImplementsAll R P mid low (length mid)
+same_before R P mid new low h k kept same n node from to at = same n node from (omega (arith, to, k)) (kept n (omega arith) to ∙ at)
+
+same_after : (R : List WrittenRule) (P mid new : List Node) (low : ℕ) → low ≤ length mid → ImplementsAll R P new low (length new) → ImplementsAll R P new (length mid) (length new)
+same_after R P mid new low h same n node from to at = same n node (omega (arith, h, from)) to at
 
 kept_both : (old mid new : List Node) → length old ≤ length mid → HaveSame mid old 0 (length old) → HaveSame new mid 0 (length mid) → HaveSame new old 0 (length old)
 kept_both old mid new h first second n low high = second n low (omega (arith, high, h)) ∙ first n low high
 
 -- One after another: what reads the second language is added first.
-pub added_then : (A B : Language) (old mid new : List Node) (entry between next : ℕ) → IsAdded B old mid between next → IsAdded A mid new entry between → IsAdded (CutsInto A B) old new entry next
-added_then A B old mid new entry between next b a =
+pub added_then : {R : List WrittenRule} (A B : Language) (old mid new : List Node) (entry between next : ℕ) → IsAdded R B old mid between next → IsAdded R A mid new entry between → IsAdded R (CutsInto A B) old new entry next
+added_then {R} A B old mid new entry between next b a =
     record {
       longer = omega (arith, b.longer, a.longer);
       kept = kept_both old mid new b.longer b.kept a.kept;
       inside = a.inside;
       closed = a.closed;
       means = λ P same w.
-          let first = a.means P (same_after P mid new (length old) b.longer same) in
-          let second = b.means P (same_before P mid new (length old) b.longer a.longer a.kept same) in (
+          let first = a.means P (same_after R P mid new (length old) b.longer same) in
+          let second = b.means P (same_before R P mid new (length old) b.longer a.longer a.kept same) in (
             λ r. cuts_left A B (Reads P next) w (cuts_map A A (Reads P between) (CutsInto B (Reads P next)) w (λ u x. x) (λ u. (second u).0) ((first w).0 r)),
             λ c. (first w).1 (cuts_map A A (CutsInto B (Reads P next)) (Reads P between) w (λ u x. x) (λ u. (second u).1) (cuts_right A B (Reads P next) w c)),
           );
     }
 
 -- Either: a node goes on at both entries.
-pub added_or : (A B : Language) (old mid new : List Node) (left right next : ℕ) → 0 < length old → IsAdded A old mid left next → IsAdded B mid new right next →
-    IsAdded (λ w. A w ⊎ B w) old (new ++ Node.Split right left ∷ []) (length new) next
-added_or A B old mid new left right next some a b =
+pub added_or : {R : List WrittenRule} (A B : Language) (old mid new : List Node) (left right next : ℕ) → 0 < length old → IsAdded R A old mid left next → IsAdded R B mid new right next →
+    IsAdded R (λ w. A w ⊎ B w) old (new ++ Node.Split right left ∷ []) (length new) next
+added_or {R} A B old mid new left right next some a b =
     record {
       longer = omega (arith, a.longer, b.longer, pushed_len new (Node.Split right left));
       kept = λ n low high. get_before new (Node.Split right left ∷ []) n (omega (arith, high, a.longer, b.longer)) ∙ kept_both old mid new a.longer a.kept b.kept n low high;
@@ -163,10 +167,10 @@ added_or A B old mid new left right next some a b =
           let last = new ++ Node.Split right left ∷ [] in
           let kept : HaveSame last new 0 (length new) = λ n low high. get_before new (Node.Split right left ∷ []) n high in
           let longer : length new ≤ length last = omega (arith, pushed_len new (Node.Split right left)) in
-          let same_new = same_before P new last (length old) (omega (arith, a.longer, b.longer)) longer kept same in
-          let first = a.means P (same_before P mid new (length old) a.longer b.longer b.kept same_new) in
-          let second = b.means P (same_after P mid new (length old) a.longer same_new) in
-          let at : slice_get P (length new) ≡ Some (Node.Split right left) = same (length new) (omega (arith, a.longer, b.longer)) (omega (arith, pushed_len new (Node.Split right left))) ∙ get_last new (Node.Split right left) (length new) refl in
+          let same_new = same_before R P new last (length old) (omega (arith, a.longer, b.longer)) longer kept same in
+          let first = a.means P (same_before R P mid new (length old) a.longer b.longer b.kept same_new) in
+          let second = b.means P (same_after R P mid new (length old) a.longer same_new) in
+          let at : slice_get P (length new) ≡ Some (Node.Split right left) = same (length new) (Node.Split right left) (omega (arith, a.longer, b.longer)) (omega (arith, pushed_len new (Node.Split right left))) (get_last new (Node.Split right left) (length new) refl) in
           let splits = split_reads P (length new) right left w (omega (arith, some, a.longer, b.longer)) at in (
             λ r. to P w (splits.0 r) (first w).0 (second w).0,
             λ c. splits.1 (from P w c (first w).1 (second w).1),
@@ -182,8 +186,8 @@ added_or A B old mid new left right next some a b =
     from P w (u, v, e, inr x, more) f g = inl (g (u, v, e, x, more))
 
 -- Not at all, or once.
-pub added_opt : (G : List LexerRule) (t : LexerTerm) (old new : List Node) (present next : ℕ) → IsClosed old → next < length old → IsAdded (Matches G t) old new present next →
-    IsAdded (Matches G (LexerTerm.opt t)) old (new ++ Node.Split present next ∷ []) (length new) next
+pub added_opt : {R : List WrittenRule} (G : List LexerRule) (t : LexerTerm) (old new : List Node) (present next : ℕ) → IsClosed old → next < length old → IsAdded R (Matches G t) old new present next →
+    IsAdded R (Matches G (LexerTerm.opt t)) old (new ++ Node.Split present next ∷ []) (length new) next
 added_opt G t old new present next closed h a =
     added_as (λ w. (w ≡ []) ⊎ Matches G t w) (Matches G (LexerTerm.opt t)) old (new ++ Node.Split present next ∷ []) (length new) next (λ w. let same = (forms.by_form G).opt t w in (same.1, same.0))
     (added_or (λ w. w ≡ []) (Matches G t) old old new next present next (omega (arith, h)) (added_nothing old next closed h) a)
@@ -220,7 +224,7 @@ star_many : {G : List LexerRule} {t : LexerTerm} {w : List ℕ} → Matches G (L
 star_many (Matches.by_star t w m) = m
 
 -- what the nodes of a loop are, in any program that has them
-module _ (G : List LexerRule) (t : LexerTerm) (some : ¬ Matches G t []) (old mid : List Node) (body next : ℕ) (h : next < length old) (a : IsAdded (Matches G t) (old ++ Node.Never ∷ []) mid body (length old)) where
+module _ {R : List WrittenRule} (G : List LexerRule) (t : LexerTerm) (some : ¬ Matches G t []) (old mid : List Node) (body next : ℕ) (h : next < length old) (a : IsAdded R (Matches G t) (old ++ Node.Never ∷ []) mid body (length old)) where
   abbrev looped : List Node
   looped = set mid (length old) (Node.Split body next)
 
@@ -236,14 +240,14 @@ module _ (G : List LexerRule) (t : LexerTerm) (some : ¬ Matches G t []) (old mi
   closed : IsClosed looped
   closed = set_closed mid (length old) (Node.Split body next) a.closed (a.inside, omega (arith, h, pushed_len old Node.Never, a.longer))
 
-  module _ (P : List Node) (same : HaveSame P looped (length old) (length looped)) where
+  module _ (P : List Node) (same : ImplementsAll R P looped (length old) (length looped)) where
     splits : (v : List ℕ) → Reads P (length old) v ↔ (Reads P body v ⊎ Reads P next v)
-    splits v = split_reads P (length old) body next v (omega (arith, h)) (same (length old) (omega arith) (omega (arith, longer)) ∙ set_at mid (Node.Split body next) (length old) (omega (arith, pushed_len old Node.Never, a.longer)))
+    splits v = split_reads P (length old) body next v (omega (arith, h)) (same (length old) (Node.Split body next) (omega arith) (omega (arith, longer)) (set_at mid (Node.Split body next) (length old) (omega (arith, pushed_len old Node.Never, a.longer))))
 
     reads : (v : List ℕ) → Reads P body v ↔ CutsInto (Matches G t) (Reads P (length old)) v
-    reads = a.means P (λ n low high.
-        same n (omega (arith, low, pushed_len old Node.Never)) (omega (arith, high, length-set mid (length old) (Node.Split body next)))
-        ∙ set_other mid (Node.Split body next) (length old) n (λ e. omega (arith, e, low, pushed_len old Node.Never)))
+    reads = a.means P (λ n node low high at.
+        same n node (omega (arith, low, pushed_len old Node.Never)) (omega (arith, high, length-set mid (length old) (Node.Split body next)))
+        (set_other mid (Node.Split body next) (length old) n (λ e. omega (arith, e, low, pushed_len old Node.Never)) ∙ at))
 
     often : (w : List ℕ) → Reads P (length old) w → CutsInto (Matches G (LexerTerm.star t)) (Reads P next) w
     often w r =
@@ -254,7 +258,7 @@ module _ (G : List LexerRule) (t : LexerTerm) (some : ¬ Matches G t []) (old mi
     again : (u v : List ℕ) → Matches G (LexerTerm.star t) u → Reads P next v → Reads P (length old) (u ++ v)
     again u v m r = often_again G t some P (length old) body next (λ x. (splits x).1) (λ x. (reads x).1) (star_many m) refl v r
 
-  pub added_star : IsAdded (Matches G (LexerTerm.star t)) old looped (length old) next
+  pub added_star : IsAdded R (Matches G (LexerTerm.star t)) old looped (length old) next
   added_star =
       record {
         longer = omega (arith, longer);
@@ -267,7 +271,7 @@ module _ (G : List LexerRule) (t : LexerTerm) (some : ¬ Matches G t []) (old mi
         );
       }
 
-  pub added_plus : IsAdded (Matches G (LexerTerm.plus t)) old looped body next
+  pub added_plus : IsAdded R (Matches G (LexerTerm.plus t)) old looped body next
   added_plus =
       record {
         longer = omega (arith, longer);
@@ -280,10 +284,10 @@ module _ (G : List LexerRule) (t : LexerTerm) (some : ¬ Matches G t []) (old mi
         );
       }
     where
-      first : (P : List Node) → HaveSame P looped (length old) (length looped) → (w : List ℕ) → CutsInto (Matches G t) (Reads P (length old)) w → CutsInto (Matches G (LexerTerm.plus t)) (Reads P next) w
+      first : (P : List Node) → ImplementsAll R P looped (length old) (length looped) → (w : List ℕ) → CutsInto (Matches G t) (Reads P (length old)) w → CutsInto (Matches G (LexerTerm.plus t)) (Reads P next) w
       first P same w (u, v, e, m, r) =
           let (x, y, f, n, q) = often P same v r in
           (u ++ x, y, e ∙ ap (λ l. u ++ l) f ∙ sym (append_assoc u x y), ((forms.by_form G).plus t (u ++ x)).1 (u, x, refl, m, n), q)
 
-      back : (P : List Node) → HaveSame P looped (length old) (length looped) → (u v w : List ℕ) → w ≡ u ++ v → Reads P next v → CutsInto (Matches G t) (Matches G (LexerTerm.star t)) u → CutsInto (Matches G t) (Reads P (length old)) w
+      back : (P : List Node) → ImplementsAll R P looped (length old) (length looped) → (u v w : List ℕ) → w ≡ u ++ v → Reads P next v → CutsInto (Matches G t) (Matches G (LexerTerm.star t)) u → CutsInto (Matches G t) (Reads P (length old)) w
       back P same u v w e r (x, y, f, m, n) = (x, y ++ v, e ∙ ap (λ l. l ++ v) f ∙ append_assoc x y v, m, again P same y v n r)

@@ -89,6 +89,10 @@ pub record IsSoFar (P : List Node) (a : Alternative) (text nodes rest : List ℕ
   pub best : IsBestBelow (IsRead P a) (chars text) (length done) longest
   pub undecided : a.short ≡ true → (u v : List ℕ) → done ≡ u ++ v → v ≢ [] → ¬ Reads P a.start u
 
+pub behind : (done a b : List ℕ) → done ++ a ≡ done ++ b → a ≡ b
+behind [] a b e = e
+behind (x ∷ done) a b e = behind done a b (cc)
+
 module _ (P : List Node) (a : Alternative) (text : List ℕ) where
   pub so_far_none : (nodes : List ℕ) → IsUtf8 text → ((w : List ℕ) → ReadsFrom P nodes w ↔ Reads P a.start w) → IsSoFar P a text nodes text 0 0
   so_far_none nodes utf8 same =
@@ -116,6 +120,14 @@ module _ (P : List Node) (a : Alternative) (text : List ℕ) where
       where
         swap : {A B : Type 0} → A ↔ B → B ↔ A
         swap f = (f.1, f.0)
+
+    pub not_ended : (ended : Bool) → (ended ≡ true) ↔ Reads P a.start s.done → ended ≡ false → ¬ ReadsFrom P nodes []
+    not_ended ended same e r =
+        let Q : List ℕ → Type 0 = λ x. Reads P a.start x in
+        true≢false (sym (same.1 (subst Q (append-nil s.done) ((s.reads []).0 r))) ∙ e)
+
+    pub bytes_left : length text ≡ read + length rest
+    bytes_left = omega (arith, s.count, ap length s.bytes, length-append (encode_utf8_all s.done) rest)
 
     -- the best so far, once it is known whether the characters so far match
     pub tested : (ended : Bool) (now : ℕ) → (ended ≡ true) ↔ Reads P a.start s.done → now ≡ cond ended read longest → IsBestBelow (IsRead P a) (chars text) (suc (length s.done)) now
@@ -149,14 +161,14 @@ module _ (P : List Node) (a : Alternative) (text : List ℕ) where
         let none = m.shortest short s.done x same r in
         omega (arith, h, ap length same, length-append s.done x, ap length none))) best
 
-    -- reading stands nowhere
-    pub at_stop : (now : ℕ) → nodes ≡ [] → IsBestBelow (IsRead P a) (chars text) (suc (length s.done)) now → IsLongestLen (IsRead P a) (chars text) now
-    at_stop now empty best =
+    -- no beginning of the rest is read
+    pub at_stop : (now : ℕ) → ((u v : List ℕ) → chars rest ≡ u ++ v → ¬ ReadsFrom P nodes u) → IsBestBelow (IsRead P a) (chars text) (suc (length s.done)) now → IsLongestLen (IsRead P a) (chars text) now
+    at_stop now stuck best =
         best_all (IsRead P a) (chars text) (suc (length s.done)) now (λ f g e m. below_by f (λ h.
         let (x, same) = longer_by f g e h in
         let Q : List ℕ → Type 0 = λ z. Reads P a.start z in
-        let (n, (k, low, z), r) = (s.reads x).1 (subst Q same m.reads) in
-        omega (arith, low, ap length empty))) best
+        let cut : chars rest ≡ x ++ g = behind s.done (chars rest) (x ++ g) (sym s.cut ∙ e ∙ ap (λ l. l ++ g) same ∙ append_assoc s.done x g) in
+        absurd (stuck x g cut ((s.reads x).1 (subst Q same m.reads))))) best
 
     -- the text is at its end
     pub at_end : (now : ℕ) → length rest ≡ 0 → IsBestBelow (IsRead P a) (chars text) (suc (length s.done)) now → IsLongestLen (IsRead P a) (chars text) now

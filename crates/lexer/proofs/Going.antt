@@ -37,6 +37,7 @@ after_inside size Node.Never c next b e = absurd (cc)
 after_inside size (Node.Char d m) c next b e = omega (arith, b, (cond_some (nat_eq d c) m next e).1)
 after_inside size (Node.Set s m) c next b e = omega (arith, b, (cond_some (has s c) m next e).1)
 after_inside size (Node.Split x y) c next b e = absurd (cc)
+after_inside size (Node.Call rule m) c next b e = absurd (cc)
 
 split_inside : (P : List Node) (n first second : ℕ) → IsClosed P → slice_get P n ≡ Some (Node.Split first second) → (first < length P) × (second < length P)
 split_inside P n first second closed g = closed n (Node.Split first second) g
@@ -150,7 +151,7 @@ module _ (P : List Node) where
       to n r (inl (k, h, f)) = absurd (omega (arith, h, ap length e))
       to n r (inr same) = let Q : ℕ → Type 0 = λ x. Reads P x w in subst Q same r
 
-  read_step : (before : List ℕ) (c : ℕ) (w : List ℕ) → IsFollowed P before → {n : ℕ} {v : List ℕ} → Reads P n v → v ≡ c ∷ w → Contains before n → (next : ℕ) × ComesAfter P before c next × Reads P next w
+  pub read_step : (before : List ℕ) (c : ℕ) (w : List ℕ) → IsFollowed P before → {n : ℕ} {v : List ℕ} → Reads P n v → v ≡ c ∷ w → Contains before n → (next : ℕ) × ComesAfter P before c next × Reads P next w
   read_step before c w followed Reads.at_end e among = absurd (cc)
   read_step before c w followed (Reads.by_char n next node d u at step more) e among =
       let head : d ≡ c = cc in

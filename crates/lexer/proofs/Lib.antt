@@ -5,7 +5,9 @@ pub mod Terms
 pub mod Standing
 pub mod Going
 pub mod Best
-pub mod Depth
+pub mod Traced
+pub mod Checked
+pub mod Expanded
 pub mod Shorts
 pub mod Pushed
 pub mod Listed

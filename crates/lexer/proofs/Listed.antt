@@ -1,5 +1,5 @@
 -- Lists of the alternatives that can begin with a character.
-use Rattle.std.proofs.Common.{◌≡◌, ◌<◌, ◌≤◌, ◌+◌, ◌⊎◌, inl, inr, ℕ, Vec, List, [], ◌∷◌, ◌++◌, Some, slice_get, slice_index_or, length, sym, ap, ◌∙◌, subst, arith, length-append}
+use Rattle.std.proofs.Common.{◌≡◌, ◌<◌, ◌≤◌, ◌+◌, ◌⊎◌, inl, inr, ℕ, zero, suc, Vec, map, take, List, [], ◌∷◌, ◌++◌, Some, slice_get, slice_index_or, length, refl, sym, ap, ap₂, ◌∙◌, subst, arith, length-append}
 use Rattle.std.specs.List.{Contains}
 use Rattle.std.proofs.lemmas.Bool.{cases_lt}
 use Rattle.std.proofs.lemmas.List.Elements.{Contains-push, Contains-push_cases, Contains-append_left}
@@ -7,8 +7,17 @@ use Rattle.std.proofs.lemmas.Option.{slice_get-get_or}
 use Rattle.lexer.specs.declared.program.Node.{Node}
 use Rattle.lexer.specs.declared.reading.Alternative.{Alternative}
 use Rattle.lexer.specs.Program.{Reads}
-use Rattle.lexer.specs.Candidates.{AreCandidates, AreListed}
+use Rattle.lexer.specs.declared.candidates.Beginning.{Beginning}
+use Rattle.lexer.specs.Standing.{ReadsTo}
+use Rattle.lexer.specs.Candidates.{AreBeginnings, AreCandidates, AreListed, IsBeginning}
+use Rattle.std.proofs.lemmas.List.{map-append}
+use Rattle.lexer.proofs.Standing.{index_default}
 use Rattle.lexer.proofs.Nodes.{get_before, get_last, get_within}
+
+take_snoc : (all : List Alternative) (i : ℕ) (d : Alternative) → i < length all → take (suc i) all ≡ take i all ++ slice_index_or all i d ∷ []
+take_snoc [] i d h = absurd (omega (arith, h))
+take_snoc (x ∷ all) zero d h = refl
+take_snoc (x ∷ all) (suc i) d h = ap (λ l. x ∷ l) (take_snoc all i d (omega arith))
 
 module _ (P : List Node) (all : List Alternative) (c : ℕ) where
   abbrev pub Complete : ℕ → List Alternative → Type 0
@@ -51,6 +60,44 @@ module _ (P : List Node) (all : List Alternative) (c : ℕ) where
         among = among;
         complete = λ a w (k, l, e) r. complete k a w (omega (arith, h, l)) (slice_get-get_or all k a l ∙ ap Some e) r;
       }
+
+-- none of the nodes so far reads the character
+abbrev pub Unread : List Node → ℕ → List ℕ → ℕ → Type 0
+Unread P c nodes i = (k next : ℕ) → k < i → ¬ ReadsTo P (slice_index_or nodes k 0) c next
+
+pub unread_more : (P : List Node) (c : ℕ) (nodes : List ℕ) (i : ℕ) → Unread P c nodes i → ((next : ℕ) → ¬ ReadsTo P (slice_index_or nodes i 0) c next) → Unread P c nodes (i + 1)
+unread_more P c nodes i before here k next h r = pick (cases_lt k i)
+  where
+    pick : (k < i) ⊎ (i ≤ k) → ⊥
+    pick (inl l) = before k next l r
+    pick (inr l) =
+        let same : k ≡ i = omega (arith, h, l) in
+        let Q : ℕ → Type 0 = λ x. ReadsTo P (slice_index_or nodes x 0) c next in here next (subst Q same r)
+
+pub unread_all : (P : List Node) (c : ℕ) (nodes : List ℕ) (i : ℕ) → length nodes ≤ i → Unread P c nodes i → (n next : ℕ) → Contains nodes n → ¬ ReadsTo P n c next
+unread_all P c nodes i h all n next (k, inside, e) r =
+    let Q : ℕ → Type 0 = λ x. ReadsTo P x c next in all k next (omega (arith, h, inside)) (subst Q (sym e ∙ index_default nodes k n 0 inside) r)
+
+pub alternative_at : (list : List Beginning) (i : ℕ) (b : Beginning) → i < length list → b ≡ slice_index_or list i b → b.alternative ≡ slice_index_or (map (λ (x : Beginning). x.alternative) list) i b.alternative
+alternative_at [] i b h e = absurd (omega (arith, h))
+alternative_at (x ∷ list) zero b h e = ap (λ (y : Beginning). y.alternative) e
+alternative_at (x ∷ list) (suc i) b h e = alternative_at list i b (omega arith) e
+
+pub alternatives_more : (all : List Alternative) (i : ℕ) (d : Alternative) (list new : List Beginning) (b : Beginning) → i < length all → b.alternative ≡ slice_index_or all i d → new ≡ list ++ b ∷ [] → map (λ (x : Beginning). x.alternative) list ≡ take i all → map (λ (x : Beginning). x.alternative) new ≡ take (i + 1) all
+alternatives_more all i d list new b inside is e before =
+    let f : Beginning → Alternative = λ x. x.alternative in
+    let more : suc i ≡ i + 1 = omega arith in
+    ap (λ l. map f l) e ∙ map-append f list (b ∷ []) ∙ ap₂ ◌++◌ before (ap (λ x. x ∷ []) is) ∙ sym (take_snoc all i d inside) ∙ ap (λ n. take n all) more
+
+pub each_beginning : (P : List Node) (list new : List Beginning) (b : Beginning) → new ≡ list ++ b ∷ [] → IsBeginning P b → ((x : Beginning) → Contains list x → IsBeginning P x) → (x : Beginning) → Contains new x → IsBeginning P x
+each_beginning P list new b e here before x k = let Q : List Beginning → Type 0 = λ l. Contains l x in pick (Contains-push_cases list b x (subst Q e k))
+  where
+    pick : Contains list x ⊎ (b ≡ x) → IsBeginning P x
+    pick (inl k) = before x k
+    pick (inr same) = let Q : Beginning → Type 0 = λ y. IsBeginning P y in subst Q same here
+
+pub candidates_of : (P : List Node) (all : List Alternative) (beginnings : List Beginning) (list : List Alternative) (c : ℕ) → AreBeginnings P all beginnings → AreCandidates P (map (λ (b : Beginning). b.alternative) beginnings) list c → AreCandidates P all list c
+candidates_of P all beginnings list c are h = let Q : List Alternative → Type 0 = λ l. AreCandidates P l list c in subst Q are.alternatives h
 
 pub listed_more : {A : Type 0} (P : List Node) (all : List Alternative) (lists new : List (Vec Alternative A)) (list : Vec Alternative A) (c : ℕ) → new ≡ lists ++ list ∷ [] → length lists ≡ c → AreListed P all lists → AreCandidates P all list.items c → AreListed P all new
 listed_more {A} P all lists new list c e n before here k l g = pick (cases_lt k (length lists))

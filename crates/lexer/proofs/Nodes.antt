@@ -38,6 +38,7 @@ below_more low high Node.Never h b = b
 below_more low high (Node.Char c next) h b = omega (arith, b)
 below_more low high (Node.Set s next) h b = omega (arith, b)
 below_more low high (Node.Split x y) h b = (omega (arith, b.0), omega (arith, b.1))
+below_more low high (Node.Call rule next) h b = omega (arith, b)
 
 two_options : {X : Type 0} (x y : X) → Some x ≡ Some y → x ≡ y
 two_options x y e = cc
@@ -65,6 +66,14 @@ module _ (P : List Node) where
           ⊎ ((a : ℕ) × (b : ℕ) × (next : ℕ) × (Node.Never ≡ Node.Split a b) × ((next ≡ a) ⊎ (next ≡ b)) × Reads P next w) → ⊥
       go (inl (c, v, next, e, none, more)) = absurd (cc)
       go (inr (a, b, next, bad, which, more)) = absurd (cc)
+
+  pub call_reads : (n rule next : ℕ) (w : List ℕ) → 0 < n → slice_get P n ≡ Some (Node.Call rule next) → ¬ Reads P n w
+  call_reads n rule next w h g r = go (reads_in (Node.Call rule next) h g r)
+    where
+      go : ((c : ℕ) × (v : List ℕ) × (m : ℕ) × (w ≡ c ∷ v) × (None ≡ Some m) × Reads P m v)
+          ⊎ ((a : ℕ) × (b : ℕ) × (m : ℕ) × (Node.Call rule next ≡ Node.Split a b) × ((m ≡ a) ⊎ (m ≡ b)) × Reads P m w) → ⊥
+      go (inl (c, v, m, e, none, more)) = absurd (cc)
+      go (inr (a, b, m, bad, which, more)) = absurd (cc)
 
   abbrev pub Consumes : (ℕ → Type 0) → ℕ → List ℕ → Type 0
   Consumes Test next w = (c : ℕ) × (v : List ℕ) × (w ≡ c ∷ v) × Test c × Reads P next v

@@ -1,5 +1,5 @@
 -- The text of one character.
-use Rattle.std.proofs.Common.{◌≡◌, ◌≢◌, ◌↔◌, ℕ, Bool, true, List, [], ◌∷◌, ◌++◌, length, refl, sym, ap, ◌∙◌, subst, arith, length-append}
+use Rattle.std.proofs.Common.{◌≡◌, ◌≢◌, ◌↔◌, ◌<◌, ◌≤◌, ◌⊎◌, inl, inr, Some, None, slice_get, ℕ, Bool, true, List, [], ◌∷◌, ◌++◌, length, refl, sym, ap, ◌∙◌, subst, arith, length-append}
 use Rattle.std.specs.Prelude.{encode_utf8}
 use Rattle.std.specs.Str.{chars, IsUtf8}
 use Rattle.std.proofs.lemmas.List.{append-nil}
@@ -11,7 +11,9 @@ use Rattle.lexer.specs.declared.program.Node.{Node}
 use Rattle.lexer.specs.declared.reading.Alternative.{Alternative}
 use Rattle.lexer.specs.Alternatives.{IsProgramOf}
 use Rattle.lexer.specs.Candidates.{ComesNext, HasNoNext}
-use Rattle.lexer.specs.Tokens.{IsGapText}
+use Rattle.lexer.specs.Tokens.{AreGapFlags, IsGapText}
+use Rattle.std.proofs.lemmas.Bool.{cases_lt}
+use Rattle.lexer.proofs.Nodes.{get_before, get_last, get_within}
 
 pub one_char : (text : List ℕ) (c : ℕ) → IsUtf8 text → text ≡ encode_utf8 c → chars text ≡ c ∷ []
 one_char text c utf8 e = chars_past_char text [] c utf8 (e ∙ sym (append-nil (encode_utf8 c))) ∙ ap (λ l. c ∷ l) chars-nil
@@ -67,3 +69,23 @@ module _ (G : WrittenGrammar) (c : ℕ) where
           let same = one_way G (c ∷ []) (record { kind = other; text = c ∷ [] } ∷ []) (record { kind = kind; text = c ∷ [] } ∷ []) lexes (whole_lexes kind len next) in
           let k : other ≡ kind = ap first_kind same in e ∙ ap (λ x. is_gap_kind G x) (sym k) ∙ gap,
     )
+
+-- no flag, and one more
+pub flags_none : (G : WrittenGrammar) (flags : List Bool) → flags ≡ [] → AreGapFlags G flags
+flags_none G flags e c flag g = let bad : None ≡ Some flag = ap (λ l. slice_get l c) (sym e) ∙ g in absurd (cc)
+
+pub flags_more : (G : WrittenGrammar) (flags new : List Bool) (flag : Bool) (c : ℕ) → new ≡ flags ++ flag ∷ [] → length flags ≡ c → (flag ≡ true) ↔ IsGapText G c → AreGapFlags G flags → AreGapFlags G new
+flags_more G flags new flag c e n here before k other g = pick (cases_lt k (length flags))
+  where
+    at : slice_get (flags ++ flag ∷ []) k ≡ Some other
+    at = ap (λ l. slice_get l k) (sym e) ∙ g
+
+    pick : (k < length flags) ⊎ (length flags ≤ k) → (other ≡ true) ↔ IsGapText G k
+    pick (inl h) = before k other (sym (get_before flags (flag ∷ []) k h) ∙ at)
+    pick (inr h) =
+        let last : k ≡ length flags = omega (arith, h, get_within (flags ++ flag ∷ []) other k at, length-append flags (flag ∷ [])) in
+        let q : Some flag ≡ Some other = sym (get_last flags flag k last) ∙ at in
+        let is : flag ≡ other = cc in
+        let Q : Bool → Type 0 = λ x. (x ≡ true) ↔ IsGapText G k in
+        let R : ℕ → Type 0 = λ x. (flag ≡ true) ↔ IsGapText G x in
+        subst Q is (subst R (sym (last ∙ n)) here)

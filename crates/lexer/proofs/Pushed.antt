@@ -1,5 +1,5 @@
 -- One more alternative of a program.
-use Rattle.std.proofs.Common.{◌≡◌, ◌<◌, ◌≤◌, ◌+◌, ◌-◌, ◌^◌, ◌⊎◌, inl, inr, ◌↔◌, ℕ, zero, suc, Bool, true, false, map, take, List, [], ◌∷◌, ◌++◌, Some, None, slice_get, slice_index_or, length, refl, sym, ap, ◌∙◌, subst, arith, true≢false}
+use Rattle.std.proofs.Common.{◌≡◌, ◌<◌, ◌≤◌, ◌+◌, ◌⊎◌, inl, inr, ◌↔◌, ℕ, zero, suc, Bool, true, false, map, take, List, [], ◌∷◌, ◌++◌, Some, None, slice_get, slice_index_or, length, refl, sym, ap, ◌∙◌, subst, arith, true≢false}
 use Rattle.std.specs.List.{Contains}
 use Rattle.std.proofs.lemmas.List.{append-nil}
 use Rattle.std.proofs.lemmas.List.Elements.{Contains-push, Contains-push_cases, Contains-append_left}
@@ -13,20 +13,18 @@ use Rattle.lexer.specs.declared.program.Node.{Node}
 use Rattle.lexer.specs.declared.reading.Alternative.{Alternative}
 use Rattle.lexer.specs.Program.{Reads, GoesBelow, IsClosed, after}
 use Rattle.lexer.specs.Reading.{IsRead}
-use Rattle.lexer.specs.Compile.{CanAddAlts, HaveSame, IsAdded}
-use Rattle.lexer.specs.Alternatives.{CanAddRules, HasAlternative, IsProgram}
+use Rattle.lexer.specs.Compile.{HaveSame, IsCompiled}
+use Rattle.lexer.specs.Alternatives.{HasAlternative, IsProgram}
 use Rattle.grammar_tree.specs.Written.{TokenKind}
 use Rattle.grammar_tree.specs.Kinds.{kinds_of, lexer_rules}
 use Rattle.grammar_tree.specs.Lexes.{KindMatches, SourceMatches}
-use Rattle.grammar_tree.specs.GrammarView.{kind_of, rule_of, source_of}
+use Rattle.grammar_tree.specs.GrammarView.{kind_of, source_of}
 use Rattle.grammar_tree.specs.declared.rule.KindSource.{KindSource}
 use Rattle.grammar_tree.specs.declared.rule.Kind.{Kind}
-use Rattle.grammar_tree.specs.declared.rule.Rule.{Rule}
 use Rattle.std.specs.Option.{option_map}
 use Rattle.std.proofs.lemmas.Bool.{cases_lt}
 use Rattle.std.proofs.lemmas.Option.{slice_get-map, slice_get_read}
 use Rattle.lexer.proofs.Nodes.{get_within}
-use Rattle.lexer.proofs.Compiled.{lexer_in}
 use Rattle.lexer.proofs.Going.{after_inside}
 use Rattle.lexer.proofs.Terms.{alts_out, take_all, take_at}
 
@@ -61,7 +59,10 @@ end_only P e (Reads.by_char n next node c w at step more) z =
 end_only P e (Reads.by_split n first second next w at which more) z =
     let k : Some Node.Never ≡ Some (Node.Split first second) = sym e ∙ ap (λ x. slice_get P x) (sym z) ∙ at in absurd (cc)
 
-module _ (Language : List ℕ → Type 0) (P Q : List Node) (before : List Alternative) (program : IsProgram P before) (entry : ℕ) (added : IsAdded Language P Q entry 0) (kind : ℕ) (short : Bool) where
+pub some_node : (P : List Node) (before : List Alternative) → IsProgram P before → 0 < length P
+some_node P before program = get_within P Node.Never 0 program.ends
+
+module _ (Language : List ℕ → Type 0) (P Q : List Node) (before : List Alternative) (program : IsProgram P before) (entry : ℕ) (added : IsCompiled Language P Q entry 0) (kind : ℕ) (short : Bool) where
   abbrev pub pushed : Alternative
   pushed = record { kind = kind; short = short; start = entry }
 
@@ -302,21 +303,15 @@ kinds_all G C kinds i k w e h f = (λ c. (f.0 c).1, λ m. f.1 (within m, m))
     within : KindMatches G k w → k < i
     within (kind, at, m) = omega (arith, get_within (kinds_of G) kind k at, ap length e, size kinds, h)
 
--- the rules of the grammar, as they were lent
-pub can_rule : (G : WrittenGrammar) (rules lent again : List Rule) (place : ℕ) (alts : LexerAlts) → lent ≡ rules → again ≡ rules → G.rules ≡ map rule_of rules → CanAddRules G →
-    (rule : LexerRule) × (slice_get (map rule_of lent) place ≡ Some (WrittenRule.lexer_rule rule)) × (rule.alts ≡ alts) → CanAddAlts (lexer_rules (map rule_of again)) (2 ^ 32 - 1) alts
-can_rule G rules lent again place alts e f g can (rule, at, same) =
-    let P : List WrittenRule → Type 0 = λ x. CanAddAlts (lexer_rules x) (2 ^ 32 - 1) alts in
-    let Q : LexerAlts → Type 0 = λ x. CanAddAlts (lexer_rules G.rules) (2 ^ 32 - 1) x in
-    let found : slice_get G.rules place ≡ Some (WrittenRule.lexer_rule rule) = ap (λ x. slice_get x place) (g ∙ ap (λ x. map rule_of x) (sym e)) ∙ at in
-    subst P (g ∙ ap (λ x. map rule_of x) (sym f)) (subst Q same (can rule (lexer_in G.rules place rule found)))
-
-pub moved_rule : (G : WrittenGrammar) (rules lent again : List Rule) (source : KindSource) (place : ℕ) (name w : List ℕ) (alts : LexerAlts) → source ≡ KindSource.Written place → lent ≡ rules → again ≡ rules → G.rules ≡ map rule_of rules →
-    (rule : LexerRule) × (slice_get (map rule_of lent) place ≡ Some (WrittenRule.lexer_rule rule)) × (rule.alts ≡ alts) → MatchesRule (lexer_rules (map rule_of again)) alts w ↔ SourceMatches G (source_of source) name w
-moved_rule G rules lent again source place name w alts e f g h (rule, at, same) =
+-- the rule at an index of a grammar with these rules
+pub moved_rule : (G : WrittenGrammar) (R : List WrittenRule) (source : KindSource) (index : ℕ) (name w : List ℕ) (alts : LexerAlts) → source ≡ KindSource.Written index → G.rules ≡ R →
+    (rule : LexerRule) × (slice_get R index ≡ Some (WrittenRule.lexer_rule rule)) × (rule.alts ≡ alts) → MatchesRule (lexer_rules R) alts w ↔ SourceMatches G (source_of source) name w
+moved_rule G R source index name w alts e f (rule, at, same) =
     let P : List WrittenRule → Type 0 = λ x. MatchesRule (lexer_rules x) alts w ↔ SourceMatches G (source_of source) name w in
-    let found : slice_get G.rules place ≡ Some (WrittenRule.lexer_rule rule) = ap (λ x. slice_get x place) (h ∙ ap (λ x. map rule_of x) (sym f)) ∙ at in
-    subst P (h ∙ ap (λ x. map rule_of x) (sym g)) (source_found G source place name w alts e (rule, found, same))
+    subst P f (source_found G source index name w alts e (rule, ap (λ x. slice_get x index) f ∙ at, same))
+
+pub moved_missing : (G : WrittenGrammar) (R : List WrittenRule) (source : KindSource) (index : ℕ) (name w : List ℕ) → source ≡ KindSource.Written index → G.rules ≡ R → ((rule : LexerRule) → ¬ (slice_get R index ≡ Some (WrittenRule.lexer_rule rule))) → ¬ SourceMatches G (source_of source) name w
+moved_missing G R source index name w e f none = source_missing G source index name w e (λ rule at. none rule (ap (λ x. slice_get x index) (sym f) ∙ at))
 
 pub mapped_len : {X Y : Type 0} (f : X → Y) (xs : List X) → length (map f xs) ≡ length xs
 mapped_len f [] = refl

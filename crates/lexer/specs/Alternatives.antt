@@ -1,12 +1,10 @@
 -- The alternatives of the kinds of a grammar, as a program has them.
-use Rattle.std.specs.Prelude.{◌≡◌, ◌↔◌, ◌<◌, ◌-◌, ◌^◌, ℕ, List, Some, slice_get, length}
+use Rattle.std.specs.Prelude.{◌≡◌, ◌↔◌, ◌<◌, ℕ, List, Some, slice_get, length}
 use Rattle.std.specs.List.{Contains}
-use Rattle.grammar_tree.specs.Written.{LexerRule, WrittenGrammar}
-use Rattle.grammar_tree.specs.Kinds.{lexer_rules}
+use Rattle.grammar_tree.specs.Written.{WrittenGrammar}
 use Rattle.grammar_tree.specs.Lexes.{KindMatches}
 use Rattle.lexer.specs.declared.program.Node.{Node}
 use Rattle.lexer.specs.declared.reading.Alternative.{Alternative}
-use Rattle.lexer.specs.Compile.{CanAddAlts}
 use Rattle.lexer.specs.Program.{IsClosed}
 use Rattle.lexer.specs.Reading.{IsRead}
 
@@ -24,7 +22,3 @@ pub record IsProgram (P : List Node) (alternatives : List Alternative) : Type 0 
 pub record IsProgramOf (G : WrittenGrammar) (P : List Node) (alternatives : List Alternative) : Type 0 where
   pub program : IsProgram P alternatives
   pub exact : (k : ℕ) (w : List ℕ) → HasAlternative P alternatives k w ↔ KindMatches G k w
-
--- each term of each lexer rule can be added
-abbrev pub CanAddRules : WrittenGrammar → Type 0
-CanAddRules G = (rule : LexerRule) → Contains (lexer_rules G.rules) rule → CanAddAlts (lexer_rules G.rules) (2 ^ 32 - 1) rule.alts

@@ -1,9 +1,11 @@
 -- Which alternatives have to be read, and what comes next by them.
-use Rattle.std.specs.Prelude.{◌≡◌, ◌≢◌, ◌<◌, ◌≤◌, ℕ, List, [], ◌∷◌, ◌++◌, Some, slice_get, length, encode_utf8_all, Vec}
+use Rattle.std.specs.Prelude.{◌≡◌, ◌≢◌, ◌<◌, ◌≤◌, ℕ, List, [], ◌∷◌, ◌++◌, Some, slice_get, length, map, encode_utf8_all, Vec}
 use Rattle.std.specs.List.{Contains}
 use Rattle.lexer.specs.declared.program.Node.{Node}
 use Rattle.lexer.specs.declared.reading.Alternative.{Alternative}
+use Rattle.lexer.specs.declared.candidates.Beginning.{Beginning}
 use Rattle.lexer.specs.Program.{Reads}
+use Rattle.lexer.specs.Standing.{ReadsTo}
 use Rattle.lexer.specs.Longest.{IsLongestLen}
 use Rattle.lexer.specs.Reading.{IsRead}
 use Rattle.lexer.specs.Alternatives.{HasAlternative}
@@ -12,6 +14,20 @@ use Rattle.lexer.specs.Alternatives.{HasAlternative}
 pub record AreCandidates (P : List Node) (all some : List Alternative) (c : ℕ) : Type 0 where
   pub among : (a : Alternative) → Contains some a → Contains all a
   pub complete : (a : Alternative) (w : List ℕ) → Contains all a → Reads P a.start (c ∷ w) → Contains some a
+
+-- Each text that is read from the start is read from one of these nodes after its first character.
+abbrev pub AreFirst : List Node → ℕ → List ℕ → Type 0
+AreFirst P start nodes = (c : ℕ) (w : List ℕ) → Reads P start (c ∷ w) → (n : ℕ) × (next : ℕ) × Contains nodes n × ReadsTo P n c next
+
+-- the nodes are in the program, and are the first ones of the alternative
+pub record IsBeginning (P : List Node) (b : Beginning) : Type 0 where
+  pub inside : (n : ℕ) → Contains b.nodes.items n → n < length P
+  pub first : AreFirst P b.alternative.start b.nodes.items
+
+-- each alternative has its beginning, in their order
+pub record AreBeginnings (P : List Node) (all : List Alternative) (list : List Beginning) : Type 0 where
+  pub alternatives : map (λ (b : Beginning). b.alternative) list ≡ all
+  pub each : (b : Beginning) → Contains list b → IsBeginning P b
 
 -- each list has candidates for the character that is its place
 abbrev pub AreListed : {A : Type 0} → List Node → List Alternative → List (Vec Alternative A) → Type 0

@@ -1,8 +1,8 @@
--- What the nodes that are added to a program read, and which terms can be added.
-use Rattle.std.specs.Prelude.{◌≡◌, ◌⊎◌, ◌↔◌, ◌<◌, ◌≤◌, ℕ, zero, suc, List, [], slice_get, length, ⊤}
-use Rattle.std.specs.List.{Contains}
-use Rattle.grammar_tree.specs.Written.{LexerTerm, LexerSeq, LexerAlts, LexerRule}
-use Rattle.grammar_tree.specs.Matches.{Matches}
+-- What the nodes that are added to a program read.
+use Rattle.std.specs.Prelude.{◌≡◌, ◌≢◌, ◌↔◌, ◌<◌, ◌≤◌, ℕ, List, Some, slice_get, length, ⊤}
+use Rattle.grammar_tree.specs.Written.{LexerRule, WrittenRule}
+use Rattle.grammar_tree.specs.Kinds.{lexer_rules}
+use Rattle.grammar_tree.specs.Matches.{MatchesAlts}
 use Rattle.grammar_tree.specs.Laws.{CutsInto}
 use Rattle.lexer.specs.declared.program.Node.{Node}
 use Rattle.lexer.specs.Program.{Reads, IsClosed}
@@ -11,40 +11,57 @@ use Rattle.lexer.specs.Program.{Reads, IsClosed}
 abbrev pub HaveSame : List Node → List Node → ℕ → ℕ → Type 0
 HaveSame P Q low high = (n : ℕ) → low ≤ n → n < high → slice_get P n ≡ slice_get Q n
 
--- The nodes that were added to the old program, which stays, read from the entry on what the language has, and then go on at the node `next`; whatever becomes of the other nodes.
-pub record IsAdded (Language : List ℕ → Type 0) (old new : List Node) (entry next : ℕ) : Type 0 where
+-- the alternatives of the lexer rule at this index among all rules match the text
+abbrev pub MatchesRuleAt : List WrittenRule → ℕ → List ℕ → Type 0
+MatchesRuleAt rules index w = (rule : LexerRule) × (slice_get rules index ≡ Some (WrittenRule.lexer_rule rule)) × MatchesAlts (lexer_rules rules) rule.alts w
+
+-- The program has the node under this number; and instead of a call any nodes that read what the called rule matches.
+abbrev pub Implements : List WrittenRule → List Node → ℕ → Node → Type 0
+Implements rules P n Node.Never = slice_get P n ≡ Some Node.Never
+Implements rules P n (Node.Char c next) = slice_get P n ≡ Some (Node.Char c next)
+Implements rules P n (Node.Set set next) = slice_get P n ≡ Some (Node.Set set next)
+Implements rules P n (Node.Split first second) = slice_get P n ≡ Some (Node.Split first second)
+Implements rules P n (Node.Call rule next) = (w : List ℕ) → Reads P n w ↔ CutsInto (MatchesRuleAt rules rule) (Reads P next) w
+
+-- So it does for each node of the other program, from the low number up to but not including the high one.
+abbrev pub ImplementsAll : List WrittenRule → List Node → List Node → ℕ → ℕ → Type 0
+ImplementsAll rules P Q low high = (n : ℕ) (node : Node) → low ≤ n → n < high → slice_get Q n ≡ Some node → Implements rules P n node
+
+-- The nodes that were added to the old program, which stays, read from the entry on what the language has, and then go on at the node `next`; whatever becomes of the other nodes, and by whatever nodes their calls are replaced.
+pub record IsAdded (rules : List WrittenRule) (Language : List ℕ → Type 0) (old new : List Node) (entry next : ℕ) : Type 0 where
+  pub longer : length old ≤ length new
+  pub kept : HaveSame new old 0 (length old)
+  pub inside : entry < length new
+  pub closed : IsClosed new
+  pub means : (P : List Node) → ImplementsAll rules P new (length old) (length new) → (w : List ℕ) → Reads P entry w ↔ CutsInto Language (Reads P next) w
+
+-- the same of nodes among which no call is
+pub record IsCompiled (Language : List ℕ → Type 0) (old new : List Node) (entry next : ℕ) : Type 0 where
   pub longer : length old ≤ length new
   pub kept : HaveSame new old 0 (length old)
   pub inside : entry < length new
   pub closed : IsClosed new
   pub means : (P : List Node) → HaveSame P new (length old) (length new) → (w : List ℕ) → Reads P entry w ↔ CutsInto Language (Reads P next) w
 
--- the term is one of the sequence
-abbrev pub IsTerm : LexerSeq → LexerTerm → Type 0
-IsTerm LexerSeq.done t = ⊥
-IsTerm (LexerSeq.next u s) t = (t ≡ u) ⊎ IsTerm s t
+abbrev pub IsNoCall : Node → Type 0
+IsNoCall Node.Never = ⊤
+IsNoCall (Node.Char c next) = ⊤
+IsNoCall (Node.Set set next) = ⊤
+IsNoCall (Node.Split first second) = ⊤
+IsNoCall (Node.Call rule next) = ⊥
 
--- the term is one of an alternative
-abbrev pub IsTermOf : LexerAlts → LexerTerm → Type 0
-IsTermOf LexerAlts.none t = ⊥
-IsTermOf (LexerAlts.or s a) t = IsTerm s t ⊎ IsTermOf a t
+-- The node under this number is no call any more. The others stay, and the nodes that were added read what the called rule matches.
+pub record IsExpanded (rules : List WrittenRule) (old new : List Node) (number : ℕ) : Type 0 where
+  pub longer : length old ≤ length new
+  pub closed : IsClosed new
+  pub kept : (n : ℕ) → n < length old → n ≢ number → slice_get new n ≡ slice_get old n
+  pub expanded : (node : Node) → slice_get new number ≡ Some node → IsNoCall node
+  pub means : (low : ℕ) → low ≤ number → (P : List Node) → ImplementsAll rules P new low (length new) → ImplementsAll rules P old low (length old)
 
--- The term, with the rules that it names in their places, is less than so many deep; each name is that of one rule, and no loop is over a term that matches the empty text.
-unfoldable pub CanAdd : List LexerRule → ℕ → LexerTerm → Type 0
-CanAdd G zero t = ⊥
-CanAdd G (suc d) (LexerTerm.literal text) = ⊤
-CanAdd G (suc d) (LexerTerm.set set) = ⊤
-CanAdd G (suc d) (LexerTerm.name name) =
-    (rule : LexerRule) × Contains G rule × (rule.name ≡ name) × ((other : LexerRule) → Contains G other → other.name ≡ name → other ≡ rule) × ((t : LexerTerm) → IsTermOf rule.alts t → CanAdd G d t)
-CanAdd G (suc d) (LexerTerm.block alts) = (t : LexerTerm) → IsTermOf alts t → CanAdd G d t
-CanAdd G (suc d) (LexerTerm.opt t) = CanAdd G d t
-CanAdd G (suc d) (LexerTerm.star t) = (¬ Matches G t []) × CanAdd G d t
-CanAdd G (suc d) (LexerTerm.plus t) = (¬ Matches G t []) × CanAdd G d t
-CanAdd G (suc d) (LexerTerm.short set) = ⊤
-
--- so can each term of the alternatives, and of the sequence
-abbrev pub CanAddAlts : List LexerRule → ℕ → LexerAlts → Type 0
-CanAddAlts G d alts = (t : LexerTerm) → IsTermOf alts t → CanAdd G d t
-
-abbrev pub CanAddSeq : List LexerRule → ℕ → LexerSeq → Type 0
-CanAddSeq G d seq = (t : LexerTerm) → IsTerm seq t → CanAdd G d t
+-- So it is with the nodes from the first number up to but not including the last one.
+pub record AreExpanded (rules : List WrittenRule) (old new : List Node) (first last : ℕ) : Type 0 where
+  pub longer : length old ≤ length new
+  pub closed : IsClosed new
+  pub kept : HaveSame new old 0 first
+  pub expanded : (n : ℕ) (node : Node) → first ≤ n → n < last → slice_get new n ≡ Some node → IsNoCall node
+  pub means : (P : List Node) → ImplementsAll rules P new first (length new) → ImplementsAll rules P old first (length old)

@@ -1,10 +1,13 @@
 pub mod Program
+pub mod Names
 pub mod Compile
 pub mod Standing
 pub mod Longest
+pub mod Dead
 pub mod Reading
 pub mod Alternatives
 pub mod Candidates
 pub mod Tokens
 pub mod FaultText
 pub mod Built
+pub mod Lexer

@@ -9,6 +9,7 @@ after Node.Never c = None
 after (Node.Char d next) c = cond (nat_eq d c) (Some next) None
 after (Node.Set set next) c = cond (has set c) (Some next) None
 after (Node.Split first second) c = None
+after (Node.Call rule next) c = None
 
 -- From the node on, the program reads the text up to its end, which is node 0.
 pub data Reads (P : List Node) : ℕ → List ℕ → Type 0 where
@@ -22,6 +23,7 @@ GoesBelow n Node.Never = ⊤
 GoesBelow n (Node.Char c next) = next < n
 GoesBelow n (Node.Set set next) = next < n
 GoesBelow n (Node.Split first second) = (first < n) × (second < n)
+GoesBelow n (Node.Call rule next) = next < n
 
 -- every node goes on at nodes of the program
 abbrev pub IsClosed : List Node → Type 0

@@ -1,5 +1,5 @@
 -- The tokens of a text, and where reading it stops.
-use Rattle.std.specs.Prelude.{◌≡◌, ℕ, true, List, [], ◌∷◌, ⊤}
+use Rattle.std.specs.Prelude.{◌≡◌, ◌↔◌, ℕ, Bool, true, List, [], ◌∷◌, Some, slice_get, ⊤}
 use Rattle.grammar_tree.specs.Written.{WrittenGrammar}
 use Rattle.grammar_tree.specs.Lexes.{Lexes, Piece, PlacedToken, StopsAt, is_gap_kind, placed_tokens}
 use Rattle.lexer.specs.declared.token.Token.{Token}
@@ -20,3 +20,7 @@ TellsStop G text LexFault.Memory = ⊤
 -- the text of this one character is one piece of a gap kind
 abbrev pub IsGapText : WrittenGrammar → ℕ → Type 0
 IsGapText G c = (kind : ℕ) × Lexes G (c ∷ []) (record { kind = kind; text = c ∷ [] } ∷ []) × (is_gap_kind G kind ≡ true)
+
+-- each flag says whether the text of the character that is its index is one piece of a gap kind
+abbrev pub AreGapFlags : WrittenGrammar → List Bool → Type 0
+AreGapFlags G flags = (c : ℕ) (flag : Bool) → slice_get flags c ≡ Some flag → (flag ≡ true) ↔ IsGapText G c

@@ -1,24 +1,22 @@
 //! The alternatives of the kinds of a grammar.
 
-ghost use Rattle.std.specs.Prelude.{◌≡◌, ◌⊎◌, ◌↔◌, ◌-◌, ◌^◌, ◌∷◌, [], ℕ, List, IfNone, IfSome, OnOk, Some, slice_get, map};
-ghost use Rattle.grammar_tree.specs.GrammarView.{grammar_of, rule_of, source_of};
+ghost use Rattle.std.specs.Prelude.{◌≡◌, ◌⊎◌, ◌↔◌, ◌∷◌, [], ℕ, List, OnOk, map};
+ghost use Rattle.grammar_tree.specs.Faults.{LexerHasEmptyLoopAlts, LexerHasEmptyLoopSeq};
+ghost use Rattle.grammar_tree.specs.GrammarView.{rule_of, source_of};
 ghost use Rattle.grammar_tree.specs.Kinds.{lexer_rules};
 ghost use Rattle.grammar_tree.specs.Lexes.{SourceMatches};
 ghost use Rattle.grammar_tree.specs.Matches.{MatchesAlternative, MatchesRule, any_is_short, has_short, is_short};
 ghost use Rattle.grammar_tree.specs.View.{lex_alts, lex_term, lex_terms};
-ghost use Rattle.grammar_tree.specs.Written.{LexerRule, WrittenRule, lexer_alts, lexer_seq};
-ghost use Rattle.lexer.specs.Alternatives.{CanAddRules, HasAlternative, IsProgram, IsProgramOf};
-ghost use Rattle.lexer.specs.Compile.{CanAddAlts, CanAddSeq};
+ghost use Rattle.grammar_tree.specs.Written.{WrittenGrammar, lexer_alts, lexer_seq};
+ghost use Rattle.lexer.specs.Alternatives.{HasAlternative, IsProgram, IsProgramOf};
 
-use crate::compile::{add_literal, add_terms};
+use crate::compile::{Budget, add_literal, compile};
+use crate::names::NamedRules;
 use crate::program::Node;
 use crate::reading::Alternative;
 use faults::Memory;
-use grammar_tree::{Checked, Grammar, Kind, KindSource, LexAlts, LexTerm, LexTerms, Rule, Text};
-
-/// A checked grammar has fewer than 2^32 terms, and no rule uses itself, so no term is deeper, with
-/// the rules that it names in their places.
-const DEEPEST: u32 = u32::MAX;
+use grammar_tree::{Checked, Kind, KindSource, LexAlts, LexTerm, LexTerms, Text};
+use std::alloc::Global;
 
 /// Whether a non-greedy loop stands in the term.
 #[cycle(short)]
@@ -67,17 +65,18 @@ fn alts_are_short(alts: &LexAlts) -> bool
 fn add_alternative(
     nodes: &mut Vec<Node>,
     alternatives: &mut Vec<Alternative>,
-    rules: &[Rule],
+    names: &NamedRules,
+    budget: &mut Budget,
     kind: u32,
     terms: &LexTerms,
 ) -> Result<(), Memory>
     requires program { IsProgram nodes.old.items alternatives.old.items }
-    requires can_add { CanAddSeq (lexer_rules (map rule_of rules.now)) (2 ^ 32 - 1) (lexer_seq (lex_terms terms.now)) }
+    requires no_loop { ¬ LexerHasEmptyLoopSeq (lexer_rules (map rule_of names.now.rules.now)) (lexer_seq (lex_terms terms.now)) }
     ensures program { OnOk result (IsProgram nodes.new.items alternatives.new.items) }
     ensures added { OnOk result ((k : ℕ) (w : List ℕ) → HasAlternative nodes.new.items alternatives.new.items k w
-        ↔ (HasAlternative nodes.old.items alternatives.old.items k w ⊎ ((k ≡ kind) × MatchesAlternative (lexer_rules (map rule_of rules.now)) (lexer_seq (lex_terms terms.now)) w))) }
+        ↔ (HasAlternative nodes.old.items alternatives.old.items k w ⊎ ((k ≡ kind) × MatchesAlternative (lexer_rules (map rule_of names.now.rules.now)) (lexer_seq (lex_terms terms.now)) w))) }
 {
-    let start = add_terms(nodes, rules, DEEPEST, terms, 0)?;
+    let start = compile(nodes, names, budget, terms, 0)?;
     let short = terms_are_short(terms);
     alternatives.push(Alternative { kind, short, start })?;
     Ok(())
@@ -87,18 +86,19 @@ fn add_alternative(
 fn add_rule(
     nodes: &mut Vec<Node>,
     alternatives: &mut Vec<Alternative>,
-    rules: &[Rule],
+    names: &NamedRules,
+    budget: &mut Budget,
     kind: u32,
     alts: &LexAlts,
 ) -> Result<(), Memory>
     requires program { IsProgram nodes.old.items alternatives.old.items }
-    requires can_add { CanAddAlts (lexer_rules (map rule_of rules.now)) (2 ^ 32 - 1) (lexer_alts (lex_alts alts.now)) }
+    requires no_loop { ¬ LexerHasEmptyLoopAlts (lexer_rules (map rule_of names.now.rules.now)) (lexer_alts (lex_alts alts.now)) }
     ensures program { OnOk result (IsProgram nodes.new.items alternatives.new.items) }
     ensures added { OnOk result ((k : ℕ) (w : List ℕ) → HasAlternative nodes.new.items alternatives.new.items k w
-        ↔ (HasAlternative nodes.old.items alternatives.old.items k w ⊎ ((k ≡ kind) × MatchesRule (lexer_rules (map rule_of rules.now)) (lexer_alts (lex_alts alts.now)) w))) }
+        ↔ (HasAlternative nodes.old.items alternatives.old.items k w ⊎ ((k ≡ kind) × MatchesRule (lexer_rules (map rule_of names.now.rules.now)) (lexer_alts (lex_alts alts.now)) w))) }
 {
     for i in 0..alts.items.len() {
-        add_alternative(nodes, alternatives, rules, kind, &alts.items[i])?;
+        add_alternative(nodes, alternatives, names, budget, kind, &alts.items[i])?;
     }
     Ok(())
 }
@@ -128,50 +128,35 @@ fn add_implicit(
 fn add_kind(
     nodes: &mut Vec<Node>,
     alternatives: &mut Vec<Alternative>,
-    grammar: &Grammar,
+    names: &NamedRules,
+    budget: &mut Budget,
     number: u32,
     kind: &Kind,
 ) -> Result<(), Memory>
     requires program { IsProgram nodes.old.items alternatives.old.items }
-    requires can_add { CanAddRules (grammar_of grammar.now) }
     ensures program { OnOk result (IsProgram nodes.new.items alternatives.new.items) }
-    ensures added { OnOk result ((k : ℕ) (w : List ℕ) → HasAlternative nodes.new.items alternatives.new.items k w
-        ↔ (HasAlternative nodes.old.items alternatives.old.items k w ⊎ ((k ≡ number) × SourceMatches (grammar_of grammar.now) (source_of kind.now.source) kind.now.name w))) }
+    ensures added { (grammar : WrittenGrammar) → grammar.rules ≡ map rule_of names.now.rules.now → OnOk result ((k : ℕ) (w : List ℕ) → HasAlternative nodes.new.items alternatives.new.items k w
+        ↔ (HasAlternative nodes.old.items alternatives.old.items k w ⊎ ((k ≡ number) × SourceMatches grammar (source_of kind.now.source) kind.now.name w))) }
 {
     match kind.source {
         KindSource::Implicit => {
             add_implicit(nodes, alternatives, number, &kind.name)?;
             Ok(())
         }
-        KindSource::Written(place) => {
-            match lexer_rule_at(&grammar.rules, place as usize) {
-                Some(alts) => {
-                    add_rule(nodes, alternatives, &grammar.rules, number, alts)?;
-                    Ok(())
-                }
-                None => Ok(()),
+        KindSource::Written(index) => match names.alternatives(index as usize) {
+            Some(alts) => {
+                add_rule(nodes, alternatives, names, budget, number, alts)?;
+                Ok(())
             }
-        }
+            None => Ok(()),
+        },
         KindSource::Declared => Ok(()),
-    }
-}
-
-/// The alternatives of the lexer rule at a place among all rules.
-fn lexer_rule_at(rules: &[Rule], place: usize) -> Option<&LexAlts>
-    ensures found { IfSome result (λ alts. (rule : LexerRule) × (slice_get (map rule_of rules.now) place ≡ Some (WrittenRule.lexer_rule rule)) × (rule.alts ≡ lexer_alts (lex_alts alts.now))) }
-    ensures missing { IfNone result ((rule : LexerRule) → ¬ (slice_get (map rule_of rules.now) place ≡ Some (WrittenRule.lexer_rule rule))) }
-{
-    if place >= rules.len() {
-        return None;
-    }
-    match &rules[place] {
-        Rule::Lexer { alts, .. } => Some(alts),
-        Rule::Parser { .. } => None,
     }
 }
 
 /// Adds the alternatives of all kinds of the grammar.
 pub(crate) fn add_kinds(
+    alloc: Global,
     nodes: &mut Vec<Node>,
     alternatives: &mut Vec<Alternative>,
     checked: &Checked,
@@ -181,9 +166,18 @@ pub(crate) fn add_kinds(
     ensures { OnOk result (IsProgramOf checked.now.grammar nodes.new.items alternatives.new.items) }
 {
     checked.is_checked();
+    let names = NamedRules::new(alloc, &checked.grammar().rules)?;
+    let mut budget = Budget::new();
     let kinds = checked.kinds();
     for i in 0..kinds.len() {
-        add_kind(nodes, alternatives, checked.grammar(), i as u32, &kinds[i])?;
+        add_kind(
+            nodes,
+            alternatives,
+            &names,
+            &mut budget,
+            i as u32,
+            &kinds[i],
+        )?;
     }
     Ok(())
 }

@@ -11,8 +11,10 @@
 mod alternatives;
 mod candidates;
 mod compile;
+mod dead;
 mod lexer;
 mod live;
+mod names;
 mod pieces;
 mod program;
 mod reading;

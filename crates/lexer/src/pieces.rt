@@ -6,6 +6,7 @@ ghost use Rattle.std.specs.Str.{chars};
 ghost use Rattle.lexer.specs.declared.reading.Alternative.{Alternative};
 ghost use Rattle.lexer.specs.Alternatives.{IsProgram};
 ghost use Rattle.lexer.specs.Candidates.{AreListed, ComesNext, HasNoNext, IsBestOf};
+ghost use Rattle.lexer.specs.Dead.{AreDead, StayDead};
 ghost use Rattle.lexer.specs.Program.{IsClosed};
 ghost use Rattle.lexer.specs.Reading.{IsReady};
 
@@ -47,7 +48,9 @@ fn best_match(
     requires program { IsClosed program.now }
     requires inside { (a : Alternative) → Contains alternatives.now a → a.start < length program.now }
     requires ready { IsReady (length program.now) reading.old }
+    requires dead { AreDead program.now text.now reading.old.dead }
     ensures ready { OnOk result (IsReady (length program.now) reading.new) }
+    ensures dead { OnOk result (StayDead program.now text.now reading.old.dead reading.new.dead) }
     ensures best { IfOk result (λ m. IsBestOf program.now alternatives.now (chars text.now) m.kind m.len) }
 {
     let mut best = Match { kind: 0, len: 0 };
@@ -74,7 +77,9 @@ pub(crate) fn next_match(
     requires program { IsProgram program.now alternatives.now }
     requires listed { AreListed program.now alternatives.now lists.now }
     requires ready { IsReady (length program.now) reading.old }
+    requires dead { AreDead program.now text.now reading.old.dead }
     ensures ready { OnOk result (IsReady (length program.now) reading.new) }
+    ensures dead { OnOk result (StayDead program.now text.now reading.old.dead reading.new.dead) }
     ensures next { IfOk result (λ found. MatchOption found (HasNoNext program.now alternatives.now (chars text.now)) (λ m. ComesNext program.now alternatives.now (chars text.now) m.kind m.len)) }
 {
     let Some(c) = text.chars().next() else {

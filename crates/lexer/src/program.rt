@@ -20,6 +20,10 @@ pub(crate) enum Node {
 
     /// Goes on at either node, and reads no character.
     Split(usize, usize),
+
+    /// Reads what the lexer rule at this index among all rules matches, and goes on at the node. No
+    /// finished program has one: it is replaced by nodes for the rule.
+    Call(usize, usize),
 }
 
 impl Node {

@@ -1,9 +1,10 @@
 //! The rules of a lexer, in the form in which they are read.
 
-ghost use Rattle.std.specs.Prelude.{IfOk, MatchOption, OnOk, length};
+ghost use Rattle.std.specs.Prelude.{ℕ, IfOk, MatchOption, OnOk, length};
 ghost use Rattle.std.specs.Str.{chars};
 ghost use Rattle.lexer.specs.Built.{IsBuilt, IsRunnable};
 ghost use Rattle.lexer.specs.Candidates.{ComesNext, HasNoNext};
+ghost use Rattle.lexer.specs.Dead.{AreDead, HasDead, StayDead};
 ghost use Rattle.lexer.specs.Reading.{IsReady};
 
 use crate::alternatives::add_kinds;
@@ -32,7 +33,7 @@ impl Rules {
     {
         let mut nodes = vec![in alloc; Node::Never]?;
         let mut alternatives = Vec::new(alloc);
-        add_kinds(&mut nodes, &mut alternatives, checked)?;
+        add_kinds(alloc, &mut nodes, &mut alternatives, checked)?;
         let by_first = by_first_character(alloc, &nodes, &alternatives)?;
         Ok(Rules {
             nodes,
@@ -43,7 +44,8 @@ impl Rules {
 
     /// What reading by these rules takes.
     pub(crate) fn reading(&self, alloc: Global) -> Result<Reading, Memory>
-        ensures { IfOk result (λ reading. IsReady (length self.now.nodes.items) reading) }
+        ensures ready { IfOk result (λ reading. IsReady (length self.now.nodes.items) reading) }
+        ensures none { IfOk result (λ reading. (r n : ℕ) → ¬ HasDead reading.dead r n) }
     {
         Reading::new(alloc, self.nodes.len())
     }
@@ -52,7 +54,9 @@ impl Rules {
     pub(crate) fn next(&self, reading: &mut Reading, text: &str) -> Result<Option<Match>, Memory>
         requires runnable { IsRunnable self.now }
         requires ready { IsReady (length self.now.nodes.items) reading.old }
+        requires dead { AreDead self.now.nodes.items text.now reading.old.dead }
         ensures ready { OnOk result (IsReady (length self.now.nodes.items) reading.new) }
+        ensures dead { OnOk result (StayDead self.now.nodes.items text.now reading.old.dead reading.new.dead) }
         ensures next { IfOk result (λ found. MatchOption found (HasNoNext self.now.nodes.items self.now.alternatives.items (chars text.now)) (λ m. ComesNext self.now.nodes.items self.now.alternatives.items (chars text.now) m.kind m.len)) }
     {
         let found = next_match(

@@ -1,13 +1,30 @@
-use Rattle.std.proofs.Common.{◌≡◌, ◌⊎◌, ◌↔◌, map, length, sym, ap, ◌∙◌, subst, arith}
-use Rattle.grammar_tree.specs.Written.{WrittenGrammar}
-use Rattle.grammar_tree.specs.GrammarView.{kind_of, source_of}
+use Rattle.std.proofs.Common.{◌≡◌, List, map, length, sym, ap, ◌∙◌, subst, arith}
+use Rattle.grammar_tree.specs.Written.{WrittenRule}
+use Rattle.grammar_tree.specs.GrammarView.{kind_of, rule_of}
 use Rattle.grammar_tree.specs.Kinds.{kinds_of}
-use Rattle.grammar_tree.specs.Lexes.{SourceMatches}
 use Rattle.grammar_tree.proofs.Counts.{counts_fit}
-use Rattle.lexer.specs.Alternatives.{CanAddRules, HasAlternative}
-use Rattle.lexer.proofs.Depth.{can_add_rules}
+use Rattle.lexer.specs.Alternatives.{HasAlternative}
+use Rattle.lexer.specs.Names.{HaveNoLoops, HaveOneName}
+use Rattle.lexer.proofs.Checked.{has_no_loops, has_one_name, rules_are}
 use Rattle.lexer.proofs.Pushed.{kinds_all, kinds_more, kinds_none, mapped_len, start_program}
 use Rattle.lexer.proofs.alternatives.add_kinds.Goals as goal
+
+pub new-requires-clause-one_name : goal.new-requires-clause-one_name
+new-requires-clause-one_name c =
+    let G = c.args.checked.now.grammar in
+    let P : List WrittenRule → Type 0 = λ x. HaveOneName x in
+    subst P (rules_are G c.grammar.result.now c.deref.result.now c.grammar.ensures c.deref.ensures.value) (has_one_name G c.args.checked.now.start c.is_checked.ensures.well_formed)
+
+pub new-requires-clause-no_loops : goal.new-requires-clause-no_loops
+new-requires-clause-no_loops c =
+    let G = c.args.checked.now.grammar in
+    let P : List WrittenRule → Type 0 = λ x. HaveNoLoops x in
+    subst P (rules_are G c.grammar.result.now c.deref.result.now c.grammar.ensures c.deref.ensures.value) (has_no_loops G c.args.checked.now.start c.is_checked.ensures.well_formed)
+
+pub new-requires-clause-small : goal.new-requires-clause-small
+new-requires-clause-small c =
+    let G = c.args.checked.now.grammar in
+    omega (arith, c.is_checked.ensures.small, (counts_fit G).rules, ap length (rules_are G c.grammar.result.now c.deref.result.now c.grammar.ensures c.deref.ensures.value), mapped_len rule_of c.deref.result.now)
 
 pub loop-i-init : goal.loop-i-init
 loop-i-init c =
@@ -21,25 +38,17 @@ overflow_cast-i c =
     let checked = c.is_checked.ensures in
     omega (arith, checked.small, (counts_fit c.args.checked.now.grammar).kinds, ap length (sym checked.numbered), ap length c.kinds-kinds.ensures, mapped_len kind_of c.kinds-kinds.result.now)
 
-pub add_kind-requires-clause-can_add : goal.add_kind-requires-clause-can_add
-add_kind-requires-clause-can_add c =
-    let checked = c.is_checked.ensures in
-    let P : WrittenGrammar → Type 0 = λ x. CanAddRules x in
-    subst P (sym c.grammar.ensures) (can_add_rules c.args.checked.now.grammar c.args.checked.now.start checked.well_formed checked.small)
-
 pub loop-i-preserved : goal.loop-i-preserved
 loop-i-preserved c =
     let G = c.args.checked.now.grammar in
     let kinds = c.kinds-kinds.result.now in
     let kind = c.index-kinds-i.result in
+    let is : G.rules ≡ map rule_of c.in_ok-names.names.rules.now = rules_are G c.grammar.result.now c.deref.result.now c.grammar.ensures c.deref.ensures.value ∙ ap (λ x. map rule_of x) (sym c.in_ok-names.ensures) in
     let named : kinds_of G ≡ map kind_of kinds = sym c.is_checked.ensures.numbered ∙ sym c.kinds-kinds.ensures in
     record {
       program = c.in_ok-add_kind.ensures.program;
       exact = λ k w.
-          let B = HasAlternative c.loop-i.nodes.items c.loop-i.alternatives.items k w in
-          let C = HasAlternative c.add_kind.new.nodes.items c.add_kind.new.alternatives.items k w in
-          let P : WrittenGrammar → Type 0 = λ x. C ↔ (B ⊎ ((k ≡ c.loop-i.i) × SourceMatches x (source_of kind.source) kind.name w)) in
-          kinds_more G B C kinds c.loop-i.i k kind w named (omega arith) c.index-kinds-i.is (c.loop-i.invariant.exact k w) (subst P c.grammar.ensures (c.in_ok-add_kind.ensures.added k w));
+          kinds_more G (HasAlternative c.loop-i.nodes.items c.loop-i.alternatives.items k w) (HasAlternative c.add_kind.new.nodes.items c.add_kind.new.alternatives.items k w) kinds c.loop-i.i k kind w named (omega arith) c.index-kinds-i.is (c.loop-i.invariant.exact k w) (c.in_ok-add_kind.ensures.added G is k w);
     }
 
 pub returns : goal.returns

@@ -7,13 +7,13 @@ use Rattle.lexer.proofs.Terms.{alts_item}
 use Rattle.lexer.proofs.Pushed.{rule_more, rule_all}
 use Rattle.lexer.proofs.alternatives.add_rule.Goals as goal
 
-pub add_alternative-requires-clause-can_add : goal.add_alternative-requires-clause-can_add
-add_alternative-requires-clause-can_add c t k =
-    c.requires.can_add t (alts_item (lexer_rules (map rule_of c.args.rules.now)) c.args.alts.now c.loop-i.i c.index.result.now (omega (arith, (out-LexAlts c.args.alts.now).items.ok.0)) c.index.ensures t k)
+pub add_alternative-requires-clause-no_loop : goal.add_alternative-requires-clause-no_loop
+add_alternative-requires-clause-no_loop c =
+    alts_item (lexer_rules (map rule_of c.args.names.now.rules.now)) c.args.alts.now c.loop-i.i c.index.result.now (omega (arith, (out-LexAlts c.args.alts.now).items.ok.0)) c.index.ensures c.requires.no_loop
 
 pub loop-i-preserved : goal.loop-i-preserved
 loop-i-preserved c =
-    let G = lexer_rules (map rule_of c.args.rules.now) in
+    let G = lexer_rules (map rule_of c.args.names.now.rules.now) in
     let items = (out-LexAlts c.args.alts.now).items.items in
     record {
       program = c.in_ok-add_alternative.ensures.program;
@@ -24,5 +24,5 @@ loop-i-preserved c =
 
 pub returns-clause-added : goal.returns-clause-added
 returns-clause-added c k w =
-    rule_all (lexer_rules (map rule_of c.args.rules.now)) (HasAlternative c.args.nodes.now.items c.args.alternatives.now.items k w) (HasAlternative c.loop-i.nodes.items c.loop-i.alternatives.items k w) c.args.alts.now c.loop-i.i c.args.kind k w
+    rule_all (lexer_rules (map rule_of c.args.names.now.rules.now)) (HasAlternative c.args.nodes.now.items c.args.alternatives.now.items k w) (HasAlternative c.loop-i.nodes.items c.loop-i.alternatives.items k w) c.args.alts.now c.loop-i.i c.args.kind k w
     (omega (arith, (out-LexAlts c.args.alts.now).items.ok.0)) (c.loop-i.invariant.added k w)

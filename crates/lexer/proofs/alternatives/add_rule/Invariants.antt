@@ -12,5 +12,5 @@ abbrev pub invariant-loop-i : goal.invariant-loop-i
 invariant-loop-i l = record {
   program : IsProgram l.nodes.items l.alternatives.items;
   added : (k : ℕ) (w : List ℕ) → HasAlternative l.nodes.items l.alternatives.items k w
-      ↔ (HasAlternative l.initial.nodes.items l.initial.alternatives.items k w ⊎ ((k ≡ l.kind) × MatchesRule (lexer_rules (map rule_of l.rules)) (lexer_alts (map lex_terms (take l.i (out-LexAlts l.alts).items.items))) w));
+      ↔ (HasAlternative l.initial.nodes.items l.initial.alternatives.items k w ⊎ ((k ≡ l.kind) × MatchesRule (lexer_rules (map rule_of l.names.rules.now)) (lexer_alts (map lex_terms (take l.i (out-LexAlts l.alts).items.items))) w));
 }

@@ -1,38 +1,44 @@
-use Rattle.std.proofs.Common.{List, slice_index_or, false, refl, sym, ap, ◌∙◌, subst, arith}
+use Rattle.std.proofs.Common.{◌≡◌, ◌<◌, List, ℕ, length, map, slice_index_or, sym, ap, ◌∙◌, subst, arith}
 use Rattle.std.specs.List.{Contains}
-use Rattle.std.proofs.lemmas.List.Elements.{Contains-get_or}
+use Rattle.lexer.specs.declared.candidates.Beginning.{Beginning}
 use Rattle.lexer.specs.declared.reading.Alternative.{Alternative}
-use Rattle.lexer.proofs.Listed.{among_more, complete_more, complete_skip, complete_all}
-use Rattle.lexer.proofs.candidates.beginning_with.Goals.{then-branch+in_ok-push, else-branch}
+use Rattle.lexer.proofs.Pushed.{mapped_len}
+use Rattle.lexer.proofs.Listed.{alternative_at, among_more, complete_more, complete_skip, complete_all}
+use Rattle.lexer.proofs.candidates.beginning_with.Goals.{then-is_read+in_ok-push, else-is_read}
 use Rattle.lexer.proofs.candidates.beginning_with.Goals as goal
 
-abbrev none : Alternative
-none = record { kind = 0; short = false; start = 0 }
+pub is_read-requires : goal.is_read-requires
+is_read-requires c =
+    let x = c.beginning-item.result in
+    let is = c.requires x (c.loop-beginning.beginning-index, omega arith, sym c.beginning-item.is) in
+    record { inside = λ n k. let Q : List ℕ → Type 0 = λ l. Contains l n in is.inside n (subst Q c.deref.ensures.value k) }
 
-pub can_begin-requires-clause-start : goal.can_begin-requires-clause-start
-can_begin-requires-clause-start c = c.requires.program.inside _ (Contains-get_or c.args.alternatives.now c.loop-alternative.alternative-index none (omega arith))
-
-pub loop-alternative-preserved : goal.loop-alternative-preserved
-loop-alternative-preserved c =
+pub loop-beginning-preserved : goal.loop-beginning-preserved
+loop-beginning-preserved c =
     let P = c.args.program.now in
-    let all = c.args.alternatives.now in
-    let i = c.loop-alternative.alternative-index in
-    let x = slice_index_or all i none in
-    let list = c.loop-alternative.list.items in
-    let new = c.if-branch.list.items in
-    let before = c.loop-alternative.invariant in
+    let all = map (λ (b : Beginning). b.alternative) c.args.beginnings.now in
+    let i = c.loop-beginning.beginning-index in
+    let item = c.beginning-item.result in
+    let x = item.alternative in
+    let is : x ≡ slice_index_or all i x = alternative_at c.args.beginnings.now i item (omega arith) c.beginning-item.is in
+    let inside : i < length all = omega (arith, mapped_len (λ (b : Beginning). b.alternative) c.args.beginnings.now) in
+    let list = c.loop-beginning.list.items in
+    let new = c.if-is_read.list.items in
+    let before = c.loop-beginning.invariant in
+    let first = (c.requires item (i, omega arith, sym c.beginning-item.is)).first in
     record {
-      ready = c.in_ok-can_begin.ensures.ready;
-      among = elim c.if-branch.branch [
-        | then-branch+in_ok-push w ↦ among_more P all c.args.c list new x (ap (λ v. v.items) w.list-is ∙ w.in_ok-push.ensures.items) (Contains-get_or all i none (omega arith)) before.among
-        | else-branch w ↦ let Q : List Alternative → Type 0 = λ l. (a : Alternative) → Contains l a → Contains all a in subst Q (sym (ap (λ v. v.items) w.list-is)) before.among
+      among = elim c.if-is_read.branch [
+        | then-is_read+in_ok-push w ↦ among_more P all c.args.c list new x (ap (λ v. v.items) w.list-is ∙ w.in_ok-push.ensures.items) (i, inside, sym is) before.among
+        | else-is_read w ↦ let Q : List Alternative → Type 0 = λ l. (a : Alternative) → Contains l a → Contains all a in subst Q (sym (ap (λ v. v.items) w.list-is)) before.among
       ];
-      complete = elim c.if-branch.branch [
-        | then-branch+in_ok-push w ↦ complete_more P all c.args.c i list new x none (omega arith) refl (ap (λ v. v.items) w.list-is ∙ w.in_ok-push.ensures.items) before.complete
-        | else-branch w ↦ complete_skip P all c.args.c i list new x none (omega arith) refl (ap (λ v. v.items) w.list-is) (c.in_ok-can_begin.ensures.cannot w.if-branch.false) before.complete
+      complete = elim c.if-is_read.branch [
+        | then-is_read+in_ok-push w ↦ complete_more P all c.args.c i list new x x inside is (ap (λ v. v.items) w.list-is ∙ w.in_ok-push.ensures.items) before.complete
+        | else-is_read w ↦
+            complete_skip P all c.args.c i list new x x inside is (ap (λ v. v.items) w.list-is)
+            (λ u r. let (n, next, k, step) = first c.args.c u r in let Q : List ℕ → Type 0 = λ l. Contains l n in c.is_read.ensures.not w.if-is_read.false n next (subst Q (sym c.deref.ensures.value) k) step) before.complete
       ];
     }
 
-pub returns-clause-candidates : goal.returns-clause-candidates
-returns-clause-candidates c =
-    complete_all c.args.program.now c.args.alternatives.now c.args.c c.loop-alternative.alternative-index c.loop-alternative.list.items (omega arith) c.loop-alternative.invariant.among c.loop-alternative.invariant.complete
+pub returns : goal.returns
+returns c =
+    complete_all c.args.program.now (map (λ (b : Beginning). b.alternative) c.args.beginnings.now) c.args.c c.loop-beginning.beginning-index c.loop-beginning.list.items (omega (arith, mapped_len (λ (b : Beginning). b.alternative) c.args.beginnings.now)) c.loop-beginning.invariant.among c.loop-beginning.invariant.complete

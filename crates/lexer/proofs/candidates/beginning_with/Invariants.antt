@@ -1,13 +1,12 @@
-use Rattle.std.proofs.Common.{◌≡◌, ◌<◌, ◌∷◌, ℕ, List, Some, length, slice_get}
+use Rattle.std.proofs.Common.{◌≡◌, ◌<◌, ◌∷◌, ℕ, List, Some, map, slice_get}
 use Rattle.std.specs.List.{Contains}
+use Rattle.lexer.specs.declared.candidates.Beginning.{Beginning}
 use Rattle.lexer.specs.declared.reading.Alternative.{Alternative}
 use Rattle.lexer.specs.Program.{Reads}
-use Rattle.lexer.specs.Reading.{IsReady}
 use Rattle.lexer.proofs.candidates.beginning_with.Given as goal
 
-abbrev pub invariant-loop-alternative : goal.invariant-loop-alternative
-invariant-loop-alternative l = record {
-  ready : IsReady (length l.program) l.reading;
-  among : (a : Alternative) → Contains l.list.items a → Contains l.alternatives a;
-  complete : (k : ℕ) (a : Alternative) (w : List ℕ) → k < l.alternative-index → slice_get l.alternatives k ≡ Some a → Reads l.program a.start (l.c ∷ w) → Contains l.list.items a;
+abbrev pub invariant-loop-beginning : goal.invariant-loop-beginning
+invariant-loop-beginning l = record {
+  among : (a : Alternative) → Contains l.list.items a → Contains (map (λ (b : Beginning). b.alternative) l.beginnings) a;
+  complete : (k : ℕ) (a : Alternative) (w : List ℕ) → k < l.beginning-index → slice_get (map (λ (b : Beginning). b.alternative) l.beginnings) k ≡ Some a → Reads l.program a.start (l.c ∷ w) → Contains l.list.items a;
 }

@@ -2,6 +2,7 @@ use Rattle.std.proofs.Common.{◌≡◌, ◌+◌, ◌-◌, ℕ, suc, map, take, 
 use Rattle.grammar_tree.specs.GrammarView.{rule_of}
 use Rattle.grammar_tree.specs.Kinds.{lexer_rules}
 use Rattle.grammar_tree.specs.Matches.{MatchesAlts, MatchesSeq}
+use Rattle.grammar_tree.specs.Size.{lexer_term_size}
 use Rattle.grammar_tree.specs.View.{lex_term, lex_terms, lex_alts}
 use Rattle.grammar_tree.specs.Written.{LexerTerm, lexer_seq, lexer_alts}
 use Rattle.grammar_tree.specs.declared.lex_term.LexAlts.{out-LexAlts}
@@ -9,30 +10,30 @@ use Rattle.grammar_tree.proofs.LexerViews.{lex_term-Literal, lex_term-Set, lex_t
 use Rattle.lexer.specs.declared.program.Node.{Node}
 use Rattle.lexer.specs.Compile.{IsAdded}
 use Rattle.lexer.proofs.Compiled.{grown, pushed_is_closed, star_all, plus_all}
-use Rattle.lexer.proofs.Terms.{can_block, can_name, can_opt, can_star, can_plus, can_term, deep, named_alts, literal_term, as_term, name_term, block_term, opt_term, seq_none, seq_more, alts_none, alts_more, alts_item, alts_all, terms_item}
+use Rattle.lexer.proofs.Terms.{block_no_loop, opt_no_loop, star_no_loop, plus_no_loop, term_no_loop, literal_term, as_term, block_term, opt_term, seq_none, seq_more, alts_none, alts_more, alts_item, alts_item_size, alts_all, terms_item, terms_item_size}
 use Rattle.lexer.proofs.compile.+add.Goals as goal
 
 pub add_alts-loop-i-init : goal.add_alts-loop-i-init
 add_alts-loop-i-init t c =
-    alts_none (lexer_rules (map rule_of c.args.rules.now)) c.args.nodes.now.items c.add.new.nodes.items c.in_ok-entry.entry c.args.next c.requires.closed c.requires.next c.in_ok-entry.ensures.added c.in_ok-entry.ensures.number
+    alts_none (lexer_rules (map rule_of c.args.names.now.rules.now)) c.args.nodes.now.items c.add.new.nodes.items c.in_ok-entry.entry c.args.next c.requires.closed c.requires.next c.in_ok-entry.ensures.added c.in_ok-entry.ensures.number
 
 pub add_alts-add_terms-requires : goal.add_alts-add_terms-requires
 add_alts-add_terms-requires t c = (
-  omega arith,
+  omega (arith, alts_item_size (lexer_rules (map rule_of c.args.names.now.rules.now)) c.args.alts.now c.loop-i.i c.index.result.now (omega (arith, (out-LexAlts c.args.alts.now).items.ok.0)) c.index.ensures),
   (
     c.loop-i.invariant.closed,
     (
       omega (arith, c.loop-i.invariant.longer, c.requires.next),
-      λ u k. c.requires.can_add u (alts_item (lexer_rules (map rule_of c.args.rules.now)) c.args.alts.now c.loop-i.i c.index.result.now (omega (arith, (out-LexAlts c.args.alts.now).items.ok.0)) c.index.ensures u k),
+      alts_item (lexer_rules (map rule_of c.args.names.now.rules.now)) c.args.alts.now c.loop-i.i c.index.result.now (omega (arith, (out-LexAlts c.args.alts.now).items.ok.0)) c.index.ensures c.requires.no_loop,
     ),
   ),
 )
 
 pub add_alts-loop-i-preserved : goal.add_alts-loop-i-preserved
 add_alts-loop-i-preserved t c =
-    let G = lexer_rules (map rule_of c.args.rules.now) in
+    let G = lexer_rules (map rule_of c.args.names.now.rules.now) in
     let items = (out-LexAlts c.args.alts.now).items.items in
-    let P : ℕ → Type 0 = λ n. IsAdded (MatchesAlts G (lexer_alts (map lex_terms (take n items)))) c.args.nodes.now.items c.add-in-loop-i.new.nodes.items c.in_ok-entry-2.entry c.args.next in
+    let P : ℕ → Type 0 = λ n. IsAdded (map rule_of c.args.names.now.rules.now) (MatchesAlts G (lexer_alts (map lex_terms (take n items)))) c.args.nodes.now.items c.add-in-loop-i.new.nodes.items c.in_ok-entry-2.entry c.args.next in
     let more : suc c.loop-i.i ≡ c.loop-i.i + 1 = omega arith in
     subst P more
     (alts_more G items c.loop-i.i c.index.result.now c.args.nodes.now.items c.loop-i.nodes.items c.add_terms.new.nodes.items c.add-in-loop-i.new.nodes.items c.in_ok-first.first c.loop-i.entry c.in_ok-entry-2.entry c.args.next
@@ -40,129 +41,107 @@ add_alts-loop-i-preserved t c =
 
 pub add_alts-returns : goal.add_alts-returns
 add_alts-returns t c =
-    alts_all (lexer_rules (map rule_of c.args.rules.now)) c.args.alts.now c.loop-i.i c.args.nodes.now.items c.loop-i.nodes.items c.loop-i.entry c.args.next (omega (arith, (out-LexAlts c.args.alts.now).items.ok.0)) c.loop-i.invariant
-
-pub add_term-add_alts-requires : goal.add_term-add_alts-requires
-add_term-add_alts-requires t c =
-    let G = lexer_rules (map rule_of c.args.rules.now) in
-    let name = c.in-Name.name in
-    let named = can_name G c.args.depth (lex_term c.args.term.now) name (ap lex_term c.in-Name.is ∙ lex_term-Name name) c.requires.can_add in
-    (omega (arith, deep G c.args.depth (lex_term c.args.term.now) c.requires.can_add), (c.requires.closed, (c.requires.next, named_alts G (c.args.depth - 1) name (lexer_alts (lex_alts c.in-Some.alts.now)) named c.in-Some.ensures.found)))
-
-pub add_term-unreachable-requires : goal.add_term-unreachable-requires
-add_term-unreachable-requires t c =
-    let G = lexer_rules (map rule_of c.args.rules.now) in
-    let name = c.in-Name.name in
-    let (rule, among, same, only, can) = can_name G c.args.depth (lex_term c.args.term.now) name (ap lex_term c.in-Name.is ∙ lex_term-Name name) c.requires.can_add in
-    c.in-None.ensures.missing rule among same
+    alts_all (lexer_rules (map rule_of c.args.names.now.rules.now)) c.args.alts.now c.loop-i.i c.args.nodes.now.items c.loop-i.nodes.items c.loop-i.entry c.args.next (omega (arith, (out-LexAlts c.args.alts.now).items.ok.0)) c.loop-i.invariant
 
 pub add_term-add_term-requires-in-Star : goal.add_term-add_term-requires-in-Star
 add_term-add_term-requires-in-Star t c =
-    let G = lexer_rules (map rule_of c.args.rules.now) in
+    let G = lexer_rules (map rule_of c.args.names.now.rules.now) in
     let u = lex_term c.in-Star.term.value in
     let old = c.args.nodes.now.items in
     let pushed = c.add-in-Star.new.nodes.items in
-    let can = can_star G c.args.depth (lex_term c.args.term.now) u (ap lex_term c.in-Star.is ∙ lex_term-Star c.in-Star.term) c.requires.can_add in
+    let none = star_no_loop G (lex_term c.args.term.now) u (ap lex_term c.in-Star.is ∙ lex_term-Star c.in-Star.term) c.requires.no_loop in
     let made = c.in_ok-again-in-Star.ensures in (
-      omega (arith, deep G c.args.depth (lex_term c.args.term.now) c.requires.can_add),
+      omega (arith, ap lexer_term_size (ap lex_term c.in-Star.is ∙ lex_term-Star c.in-Star.term), ap (λ x. lexer_term_size (lex_term x)) c.deref-in-Star.ensures),
       (
         pushed_is_closed old pushed Node.Never c.requires.closed tt made.added,
-        (omega (arith, grown old pushed Node.Never made.added, made.number), can_term G (c.args.depth - 1) u (lex_term c.deref-in-Star.result.now) (ap lex_term (sym c.deref-in-Star.ensures)) can.1),
+        (omega (arith, grown old pushed Node.Never made.added, made.number), term_no_loop G u (lex_term c.deref-in-Star.result.now) (ap lex_term (sym c.deref-in-Star.ensures)) none.1),
       ),
     )
 
 pub add_term-add_term-requires-in-Plus : goal.add_term-add_term-requires-in-Plus
 add_term-add_term-requires-in-Plus t c =
-    let G = lexer_rules (map rule_of c.args.rules.now) in
+    let G = lexer_rules (map rule_of c.args.names.now.rules.now) in
     let u = lex_term c.in-Plus.term.value in
     let old = c.args.nodes.now.items in
     let pushed = c.add-in-Plus.new.nodes.items in
-    let can = can_plus G c.args.depth (lex_term c.args.term.now) u (ap lex_term c.in-Plus.is ∙ lex_term-Plus c.in-Plus.term) c.requires.can_add in
+    let none = plus_no_loop G (lex_term c.args.term.now) u (ap lex_term c.in-Plus.is ∙ lex_term-Plus c.in-Plus.term) c.requires.no_loop in
     let made = c.in_ok-again-in-Plus.ensures in (
-      omega (arith, deep G c.args.depth (lex_term c.args.term.now) c.requires.can_add),
+      omega (arith, ap lexer_term_size (ap lex_term c.in-Plus.is ∙ lex_term-Plus c.in-Plus.term), ap (λ x. lexer_term_size (lex_term x)) c.deref-in-Plus.ensures),
       (
         pushed_is_closed old pushed Node.Never c.requires.closed tt made.added,
-        (omega (arith, grown old pushed Node.Never made.added, made.number), can_term G (c.args.depth - 1) u (lex_term c.deref-in-Plus.result.now) (ap lex_term (sym c.deref-in-Plus.ensures)) can.1),
+        (omega (arith, grown old pushed Node.Never made.added, made.number), term_no_loop G u (lex_term c.deref-in-Plus.result.now) (ap lex_term (sym c.deref-in-Plus.ensures)) none.1),
       ),
     )
 
 pub add_term-returns-in_ok-entry-in-Literal : goal.add_term-returns-in_ok-entry-in-Literal
 add_term-returns-in_ok-entry-in-Literal t c =
-    literal_term (lexer_rules (map rule_of c.args.rules.now)) (lex_term c.args.term.now) c.in-Literal.text _ c.args.nodes.now.items c.add_literal.new.nodes.items c.in_ok-entry-in-Literal.entry c.args.next
-    (ap lex_term c.in-Literal.is ∙ lex_term-Literal c.in-Literal.text) c.as_str.ensures c.in_ok-entry-in-Literal.ensures
+    literal_term (lexer_rules (map rule_of c.args.names.now.rules.now)) (lex_term c.args.term.now) c.in-Literal.text _ c.args.nodes.now.items c.add_literal.new.nodes.items c.in_ok-entry-in-Literal.entry c.args.next
+    (ap lex_term c.in-Literal.is ∙ lex_term-Literal c.in-Literal.text) c.as_str.ensures (c.in_ok-entry-in-Literal.ensures (map rule_of c.args.names.now.rules.now))
 
 pub add_term-returns-in_ok-entry-in-Set : goal.add_term-returns-in_ok-entry-in-Set
 add_term-returns-in_ok-entry-in-Set t c =
-    let G = lexer_rules (map rule_of c.args.rules.now) in
-    as_term G (lex_term c.args.term.now) (LexerTerm.set c.in-Set.set) c.args.nodes.now.items c.add_set.new.nodes.items c.in_ok-entry-in-Set.entry c.args.next (ap lex_term c.in-Set.is ∙ lex_term-Set c.in-Set.set) (c.in_ok-entry-in-Set.ensures G)
-
-pub add_term-returns-in_ok-entry-in-Some : goal.add_term-returns-in_ok-entry-in-Some
-add_term-returns-in_ok-entry-in-Some t c =
-    let G = lexer_rules (map rule_of c.args.rules.now) in
-    let name = c.in-Name.name in
-    let same = ap lex_term c.in-Name.is ∙ lex_term-Name name in
-    name_term G (c.args.depth - 1) (lex_term c.args.term.now) name (lexer_alts (lex_alts c.in-Some.alts.now)) c.args.nodes.now.items c.add_alts.new.nodes.items c.in_ok-entry-in-Some.entry c.args.next same
-    (can_name G c.args.depth (lex_term c.args.term.now) name same c.requires.can_add) c.in-Some.ensures.found c.in_ok-entry-in-Some.ensures
+    let G = lexer_rules (map rule_of c.args.names.now.rules.now) in
+    as_term G (lex_term c.args.term.now) (LexerTerm.set c.in-Set.set) c.args.nodes.now.items c.add_set.new.nodes.items c.in_ok-entry-in-Set.entry c.args.next (ap lex_term c.in-Set.is ∙ lex_term-Set c.in-Set.set) (c.in_ok-entry-in-Set.ensures (map rule_of c.args.names.now.rules.now))
 
 pub add_term-returns-in_ok-entry-in-Block : goal.add_term-returns-in_ok-entry-in-Block
 add_term-returns-in_ok-entry-in-Block t c =
-    block_term (lexer_rules (map rule_of c.args.rules.now)) (lex_term c.args.term.now) (lexer_alts (lex_alts c.in-Block.alts)) c.args.nodes.now.items c.add_alts-in-Block.new.nodes.items c.in_ok-entry-in-Block.entry c.args.next
+    block_term (lexer_rules (map rule_of c.args.names.now.rules.now)) (lex_term c.args.term.now) (lexer_alts (lex_alts c.in-Block.alts)) c.args.nodes.now.items c.add_alts.new.nodes.items c.in_ok-entry-in-Block.entry c.args.next
     (ap lex_term c.in-Block.is ∙ lex_term-Block c.in-Block.alts) c.in_ok-entry-in-Block.ensures
 
 pub add_term-returns-in_ok-entry-in-Opt : goal.add_term-returns-in_ok-entry-in-Opt
 add_term-returns-in_ok-entry-in-Opt t c =
-    opt_term (lexer_rules (map rule_of c.args.rules.now)) (lex_term c.args.term.now) (lex_term c.in-Opt.term.value) (lex_term c.deref.result.now) c.args.nodes.now.items c.add_term.new.nodes.items c.add.new.nodes.items c.in_ok-present-in-Opt.present c.in_ok-entry-in-Opt.entry c.args.next
+    opt_term (lexer_rules (map rule_of c.args.names.now.rules.now)) (lex_term c.args.term.now) (lex_term c.in-Opt.term.value) (lex_term c.deref.result.now) c.args.nodes.now.items c.add_term.new.nodes.items c.add.new.nodes.items c.in_ok-present-in-Opt.present c.in_ok-entry-in-Opt.entry c.args.next
     (ap lex_term c.in-Opt.is ∙ lex_term-Opt c.in-Opt.term) (ap lex_term c.deref.ensures) c.requires.closed c.requires.next c.in_ok-present-in-Opt.ensures c.in_ok-entry-in-Opt.ensures.added c.in_ok-entry-in-Opt.ensures.number
 
 pub add_term-returns-in_ok-body-in-Star : goal.add_term-returns-in_ok-body-in-Star
 add_term-returns-in_ok-body-in-Star t c =
-    let G = lexer_rules (map rule_of c.args.rules.now) in
+    let G = lexer_rules (map rule_of c.args.names.now.rules.now) in
     let u = lex_term c.in-Star.term.value in
     let same = ap lex_term c.in-Star.is ∙ lex_term-Star c.in-Star.term in
     let made = c.in_ok-again-in-Star.ensures in
     let body = as_term G u (lex_term c.deref-in-Star.result.now) c.add-in-Star.new.nodes.items c.add_term-in-Star.new.nodes.items c.in_ok-body-in-Star.body c.in_ok-again-in-Star.again (ap lex_term (sym c.deref-in-Star.ensures)) c.in_ok-body-in-Star.ensures in
     as_term G (lex_term c.args.term.now) (LexerTerm.star u) c.args.nodes.now.items _ _ c.args.next same
-    (star_all G u (can_star G c.args.depth (lex_term c.args.term.now) u same c.requires.can_add).0 c.args.nodes.now.items c.add-in-Star.new.nodes.items c.add_term-in-Star.new.nodes.items _ c.in_ok-again-in-Star.again c.in_ok-body-in-Star.body c.args.next c.requires.next made.added made.number body refl)
+    (star_all G u (star_no_loop G (lex_term c.args.term.now) u same c.requires.no_loop).0 c.args.nodes.now.items c.add-in-Star.new.nodes.items c.add_term-in-Star.new.nodes.items _ c.in_ok-again-in-Star.again c.in_ok-body-in-Star.body c.args.next c.requires.next made.added made.number body refl)
 
 pub add_term-returns-in_ok-body-in-Plus : goal.add_term-returns-in_ok-body-in-Plus
 add_term-returns-in_ok-body-in-Plus t c =
-    let G = lexer_rules (map rule_of c.args.rules.now) in
+    let G = lexer_rules (map rule_of c.args.names.now.rules.now) in
     let u = lex_term c.in-Plus.term.value in
     let same = ap lex_term c.in-Plus.is ∙ lex_term-Plus c.in-Plus.term in
     let made = c.in_ok-again-in-Plus.ensures in
     let body = as_term G u (lex_term c.deref-in-Plus.result.now) c.add-in-Plus.new.nodes.items c.add_term-in-Plus.new.nodes.items c.in_ok-body-in-Plus.body c.in_ok-again-in-Plus.again (ap lex_term (sym c.deref-in-Plus.ensures)) c.in_ok-body-in-Plus.ensures in
     as_term G (lex_term c.args.term.now) (LexerTerm.plus u) c.args.nodes.now.items _ _ c.args.next same
-    (plus_all G u (can_plus G c.args.depth (lex_term c.args.term.now) u same c.requires.can_add).0 c.args.nodes.now.items c.add-in-Plus.new.nodes.items c.add_term-in-Plus.new.nodes.items _ c.in_ok-again-in-Plus.again c.in_ok-body-in-Plus.body c.args.next c.requires.next made.added made.number body refl)
+    (plus_all G u (plus_no_loop G (lex_term c.args.term.now) u same c.requires.no_loop).0 c.args.nodes.now.items c.add-in-Plus.new.nodes.items c.add_term-in-Plus.new.nodes.items _ c.in_ok-again-in-Plus.again c.in_ok-body-in-Plus.body c.args.next c.requires.next made.added made.number body refl)
 
 pub add_term-returns-in_ok-entry-in-Short : goal.add_term-returns-in_ok-entry-in-Short
 add_term-returns-in_ok-entry-in-Short t c =
-    let G = lexer_rules (map rule_of c.args.rules.now) in
-    as_term G (lex_term c.args.term.now) (LexerTerm.short c.in-Short.set) c.args.nodes.now.items c.add_short.new.nodes.items c.in_ok-entry-in-Short.entry c.args.next (ap lex_term c.in-Short.is ∙ lex_term-Short c.in-Short.set) (c.in_ok-entry-in-Short.ensures G)
+    let G = lexer_rules (map rule_of c.args.names.now.rules.now) in
+    as_term G (lex_term c.args.term.now) (LexerTerm.short c.in-Short.set) c.args.nodes.now.items c.add_short.new.nodes.items c.in_ok-entry-in-Short.entry c.args.next (ap lex_term c.in-Short.is ∙ lex_term-Short c.in-Short.set) (c.in_ok-entry-in-Short.ensures (map rule_of c.args.names.now.rules.now))
 
 pub add_terms-loop-i-init : goal.add_terms-loop-i-init
 add_terms-loop-i-init t c =
     record {
       within = omega (arith, c.len-i.ensures, c.args.terms.now.items.ok.0);
-      added = seq_none (lexer_rules (map rule_of c.args.rules.now)) c.args.terms.now.items.items c.len-i.result c.args.nodes.now.items c.args.next (omega (arith, c.len-i.ensures, c.args.terms.now.items.ok.0)) c.requires.closed c.requires.next;
+      added = seq_none (lexer_rules (map rule_of c.args.names.now.rules.now)) c.args.terms.now.items.items c.len-i.result c.args.nodes.now.items c.args.next (omega (arith, c.len-i.ensures, c.args.terms.now.items.ok.0)) c.requires.closed c.requires.next;
     }
 
 pub add_terms-add_term-requires : goal.add_terms-add_term-requires
 add_terms-add_term-requires t c = (
-  omega arith,
+  omega (arith, terms_item_size (lexer_rules (map rule_of c.args.names.now.rules.now)) c.args.terms.now (c.loop-i.i - 1) c.index.result.now (omega (arith, c.loop-i.invariant.within)) c.index.ensures),
   (
     c.loop-i.invariant.added.closed,
     (
       c.loop-i.invariant.added.inside,
-      c.requires.can_add (lex_term c.index.result.now) (terms_item (lexer_rules (map rule_of c.args.rules.now)) c.args.terms.now (c.loop-i.i - 1) c.index.result.now (omega (arith, c.loop-i.invariant.within)) c.index.ensures),
+      terms_item (lexer_rules (map rule_of c.args.names.now.rules.now)) c.args.terms.now (c.loop-i.i - 1) c.index.result.now (omega (arith, c.loop-i.invariant.within)) c.index.ensures c.requires.no_loop,
     ),
   ),
 )
 
 pub add_terms-loop-i-preserved : goal.add_terms-loop-i-preserved
 add_terms-loop-i-preserved t c =
-    let G = lexer_rules (map rule_of c.args.rules.now) in
+    let G = lexer_rules (map rule_of c.args.names.now.rules.now) in
     let items = c.args.terms.now.items.items in
-    let P : ℕ → Type 0 = λ n. IsAdded (MatchesSeq G (lexer_seq (map lex_term (drop n items)))) c.args.nodes.now.items c.loop-i.nodes.items c.loop-i.entry c.args.next in
+    let P : ℕ → Type 0 = λ n. IsAdded (map rule_of c.args.names.now.rules.now) (MatchesSeq G (lexer_seq (map lex_term (drop n items)))) c.args.nodes.now.items c.loop-i.nodes.items c.loop-i.entry c.args.next in
     let less : c.loop-i.i ≡ suc (c.loop-i.i - 1) = omega arith in
     record {
       within = omega (arith, c.loop-i.invariant.within);
@@ -170,35 +149,25 @@ add_terms-loop-i-preserved t c =
           (omega (arith, c.loop-i.invariant.within)) (sym c.index.ensures) (subst P less c.loop-i.invariant.added) c.in_ok-entry.ensures;
     }
 
-pub add_term-overflow_sub-depth : goal.add_term-overflow_sub-depth
-add_term-overflow_sub-depth t c = omega (arith, deep (lexer_rules (map rule_of c.args.rules.now)) c.args.depth (lex_term c.args.term.now) c.requires.can_add)
-
-pub add_term-overflow_sub-depth-in-Block : goal.add_term-overflow_sub-depth-in-Block
-add_term-overflow_sub-depth-in-Block t c = omega (arith, deep (lexer_rules (map rule_of c.args.rules.now)) c.args.depth (lex_term c.args.term.now) c.requires.can_add)
-
-pub add_term-overflow_sub-depth-in-Opt : goal.add_term-overflow_sub-depth-in-Opt
-add_term-overflow_sub-depth-in-Opt t c = omega (arith, deep (lexer_rules (map rule_of c.args.rules.now)) c.args.depth (lex_term c.args.term.now) c.requires.can_add)
-
-pub add_term-overflow_sub-depth-in-Star : goal.add_term-overflow_sub-depth-in-Star
-add_term-overflow_sub-depth-in-Star t c = omega (arith, deep (lexer_rules (map rule_of c.args.rules.now)) c.args.depth (lex_term c.args.term.now) c.requires.can_add)
-
-pub add_term-overflow_sub-depth-in-Plus : goal.add_term-overflow_sub-depth-in-Plus
-add_term-overflow_sub-depth-in-Plus t c = omega (arith, deep (lexer_rules (map rule_of c.args.rules.now)) c.args.depth (lex_term c.args.term.now) c.requires.can_add)
-
-pub add_term-add_alts-requires-in-Block : goal.add_term-add_alts-requires-in-Block
-add_term-add_alts-requires-in-Block t c =
-    let G = lexer_rules (map rule_of c.args.rules.now) in
+pub add_term-add_alts-requires : goal.add_term-add_alts-requires
+add_term-add_alts-requires t c =
+    let G = lexer_rules (map rule_of c.args.names.now.rules.now) in
     let own = lex_term c.args.term.now in (
-      omega (arith, deep G c.args.depth own c.requires.can_add),
-      (c.requires.closed, (c.requires.next, can_block G c.args.depth own (lexer_alts (lex_alts c.in-Block.alts)) (ap lex_term c.in-Block.is ∙ lex_term-Block c.in-Block.alts) c.requires.can_add)),
+      omega (arith, ap lexer_term_size (ap lex_term c.in-Block.is ∙ lex_term-Block c.in-Block.alts)),
+      (c.requires.closed, (c.requires.next, block_no_loop G own (lexer_alts (lex_alts c.in-Block.alts)) (ap lex_term c.in-Block.is ∙ lex_term-Block c.in-Block.alts) c.requires.no_loop)),
     )
 
 pub add_term-add_term-requires : goal.add_term-add_term-requires
 add_term-add_term-requires t c =
-    let G = lexer_rules (map rule_of c.args.rules.now) in
+    let G = lexer_rules (map rule_of c.args.names.now.rules.now) in
     let own = lex_term c.args.term.now in
     let u = lex_term c.in-Opt.term.value in
-    let can = can_opt G c.args.depth own u (ap lex_term c.in-Opt.is ∙ lex_term-Opt c.in-Opt.term) c.requires.can_add in (
-      omega (arith, deep G c.args.depth own c.requires.can_add),
-      (c.requires.closed, (c.requires.next, can_term G (c.args.depth - 1) u (lex_term c.deref.result.now) (ap lex_term (sym c.deref.ensures)) can)),
+    let none = opt_no_loop G own u (ap lex_term c.in-Opt.is ∙ lex_term-Opt c.in-Opt.term) c.requires.no_loop in (
+      omega (arith, ap lexer_term_size (ap lex_term c.in-Opt.is ∙ lex_term-Opt c.in-Opt.term), ap (λ x. lexer_term_size (lex_term x)) c.deref.ensures),
+      (c.requires.closed, (c.requires.next, term_no_loop G u (lex_term c.deref.result.now) (ap lex_term (sym c.deref.ensures)) none)),
     )
+
+pub add_term-returns-in_ok-entry-in-Name : goal.add_term-returns-in_ok-entry-in-Name
+add_term-returns-in_ok-entry-in-Name t c =
+    let G = lexer_rules (map rule_of c.args.names.now.rules.now) in
+    as_term G (lex_term c.args.term.now) (LexerTerm.name c.in-Name.name) c.args.nodes.now.items c.add_call.new.nodes.items c.in_ok-entry-in-Name.entry c.args.next (ap lex_term c.in-Name.is ∙ lex_term-Name c.in-Name.name) c.in_ok-entry-in-Name.ensures

@@ -1,10 +1,11 @@
 use Rattle.std.proofs.Common.{List, [], refl, arith}
-use Rattle.grammar_tree.specs.Written.{LexerRule}
+use Rattle.grammar_tree.specs.Kinds.{lexer_rules}
+use Rattle.grammar_tree.specs.Written.{WrittenRule}
 use Rattle.lexer.specs.declared.program.Node.{Node}
 use Rattle.lexer.proofs.Compiled.{grown, pushed_is_closed, short_all}
 use Rattle.lexer.proofs.compile.add_short.Goals as goal
 
-abbrev no_rules : List LexerRule
+abbrev no_rules : List WrittenRule
 no_rules = []
 
 pub add_set-requires-clause-closed : goal.add_set-requires-clause-closed
@@ -15,5 +16,5 @@ index_mut-requires c = let a = c.in_ok-body.ensures no_rules in omega (arith, a.
 
 pub returns : goal.returns
 returns c rules =
-    short_all rules c.args.set.now c.args.nodes.now.items c.add.new.nodes.items c.add_set.new.nodes.items _ c.in_ok-again.again c.in_ok-body.body c.args.next
+    short_all (lexer_rules rules) c.args.set.now c.args.nodes.now.items c.add.new.nodes.items c.add_set.new.nodes.items _ c.in_ok-again.again c.in_ok-body.body c.args.next
     c.requires.next c.in_ok-again.ensures.added c.in_ok-again.ensures.number (c.in_ok-body.ensures rules) refl

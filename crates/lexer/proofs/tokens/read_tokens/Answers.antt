@@ -1,19 +1,28 @@
 use Rattle.std.proofs.Common.{◌≡◌, ◌+◌, ◌∷◌, [], ◌++◌, List, map, sym, ap, ◌∙◌, subst, arith}
+use Rattle.std.specs.Prelude.{encode_utf8_all}
 use Rattle.std.specs.Str.{chars}
 use Rattle.grammar_tree.specs.Lexes.{PlacedToken, is_gap_kind}
 use Rattle.lexer.specs.Candidates.{ComesNext, HasNoNext}
 use Rattle.lexer.specs.declared.pieces.Match.{Match}
 use Rattle.lexer.specs.Tokens.{token_of}
 use Rattle.lexer.proofs.Cut.{IsReadTo, found_none, found_some, is_boundary, left_is, map_snoc, fits, nothing_read, read_all, read_gap, read_token, some_read, stops}
+use Rattle.lexer.proofs.Traced.{dead_end, none_dead, whole_ends}
 use Rattle.lexer.proofs.tokens.read_tokens.Goals as goal
 
 pub loop-at-init : goal.loop-at-init
 loop-at-init c =
     let P : List PlacedToken → Type 0 = λ x. IsReadTo c.args.checked.now.grammar c.args.text.now 0 x in
-    record { ready = c.in_ok-reading.ensures; read_to = subst P (ap (λ l. map token_of l) (sym c.new-tokens.ensures.items)) (nothing_read c.args.checked.now.grammar c.args.text.now c.utf8.text) }
+    record { ready = c.in_ok-reading.ensures.ready; dead = none_dead c.args.rules.now.nodes.items c.args.text.now c.in_ok-reading.reading.dead c.in_ok-reading.ensures.none; read_to = subst P (ap (λ l. map token_of l) (sym c.new-tokens.ensures.items)) (nothing_read c.args.checked.now.grammar c.args.text.now c.utf8.text) }
 
 pub range_from-requires : goal.range_from-requires
 range_from-requires c h = is_boundary c.args.checked.now.grammar c.args.text.now c.loop-at.at (map token_of c.loop-at.tokens.items) c.loop-at.invariant.read_to
+
+pub next-requires-clause-dead : goal.next-requires-clause-dead
+next-requires-clause-dead c =
+    let text = c.args.text.now in
+    let s = c.loop-at.invariant.read_to in
+    let rest = c.range_from.result.now in
+    dead_end c.args.rules.now.nodes.items text rest c.loop-at.reading.dead (whole_ends text rest (encode_utf8_all s.before) s.left s.bytes (c.range_from.ensures.value ∙ left_is c.args.checked.now.grammar text c.loop-at.at (map token_of c.loop-at.tokens.items) s)) c.loop-at.invariant.dead
 
 pub returns-in_default-clause-fault : goal.returns-in_default-clause-fault
 returns-in_default-clause-fault c =
@@ -87,7 +96,7 @@ loop-at-preserved-in_ok-push c =
     let named = sym c.is_checked.ensures.numbered ∙ sym c.kinds.ensures in
     let gap : c.is_gap.result ≡ is_gap_kind G m.kind = c.is_gap.ensures G named in
     let pushed : map token_of c.push.new.self.items ≡ tokens ++ record { kind = m.kind; start = at; end = at + m.len } ∷ [] = ap (λ l. map token_of l) c.in_ok-push.ensures.items ∙ map_snoc token_of c.loop-at.tokens.items (record { kind = m.kind; start = at; end = at + m.len }) in
-    record { ready = c.in_ok-found.ensures.ready; read_to = read_token G text at tokens s P all c.requires.built.of_grammar rest m.kind m.len same next (map token_of c.push.new.self.items) pushed (sym gap ∙ c.if-not-is_gap.true) }
+    record { ready = c.in_ok-found.ensures.ready; dead = c.in_ok-found.ensures.dead text (whole_ends text rest (encode_utf8_all s.before) s.left s.bytes same) c.loop-at.invariant.dead; read_to = read_token G text at tokens s P all c.requires.built.of_grammar rest m.kind m.len same next (map token_of c.push.new.self.items) pushed (sym gap ∙ c.if-not-is_gap.true) }
 
 pub loop-at-smaller : goal.loop-at-smaller
 loop-at-smaller c =
@@ -119,7 +128,7 @@ loop-at-preserved c =
     let next : ComesNext P all (chars rest) m.kind m.len = found_some c.in_ok-found.found m (HasNoNext P all (chars rest)) (λ (x : Match). ComesNext P all (chars rest) x.kind x.len) c.in-Some.is c.in_ok-found.ensures.next in
     let named = sym c.is_checked.ensures.numbered ∙ sym c.kinds.ensures in
     let gap : c.is_gap.result ≡ is_gap_kind G m.kind = c.is_gap.ensures G named in
-    record { ready = c.in_ok-found.ensures.ready; read_to = read_gap G text at tokens s P all c.requires.built.of_grammar rest m.kind m.len same next (sym gap ∙ c.if-not-is_gap.false) }
+    record { ready = c.in_ok-found.ensures.ready; dead = c.in_ok-found.ensures.dead text (whole_ends text rest (encode_utf8_all s.before) s.left s.bytes same) c.loop-at.invariant.dead; read_to = read_gap G text at tokens s P all c.requires.built.of_grammar rest m.kind m.len same next (sym gap ∙ c.if-not-is_gap.false) }
 
 pub returns-clause-tokens : goal.returns-clause-tokens
 returns-clause-tokens c =

@@ -1,4 +1,5 @@
 use Rattle.std.proofs.Common.{◌-◌, map, length}
+use Rattle.lexer.specs.Dead.{AreDead}
 use Rattle.lexer.specs.Reading.{IsReady}
 use Rattle.lexer.specs.Tokens.{token_of}
 use Rattle.lexer.proofs.Cut.{IsReadTo}
@@ -7,6 +8,7 @@ use Rattle.lexer.proofs.tokens.read_tokens.Given as goal
 abbrev pub invariant-loop-at : goal.invariant-loop-at
 invariant-loop-at l = record {
   ready : IsReady (length l.rules.nodes.items) l.reading;
+  dead : AreDead l.rules.nodes.items l.text l.reading.dead;
   read_to : IsReadTo l.checked.grammar l.text l.at (map token_of l.tokens.items);
 }
 

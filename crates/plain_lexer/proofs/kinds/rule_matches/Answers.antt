@@ -17,7 +17,7 @@ returns-in_ok-matched-in-Lexer c =
     let rules = c.grammar-grammar.result.now.rules.items in
     let alts = lexer_alts (lex_alts c.in-Lexer.alts) in
     let at = written_at rules c.args.place c.index.result.now (omega arith) c.index.ensures ∙ ap (λ r. Some (rule_of r)) c.in-Lexer.is in
-    let told = moved_rule G rules rules rules (KindSource.Written c.args.place) c.args.place w w alts refl refl refl (ap (λ (g : WrittenGrammar). g.rules) (sym c.grammar-grammar.ensures)) (record { name = c.in-Lexer.name; fragment = c.in-Lexer.fragment; gap = c.in-Lexer.gap; alts = alts }, at, refl) in
+    let told = moved_rule G (map rule_of rules) (KindSource.Written c.args.place) c.args.place w w alts refl (ap (λ (g : WrittenGrammar). g.rules) (sym c.grammar-grammar.ensures)) (record { name = c.in-Lexer.name; fragment = c.in-Lexer.fragment; gap = c.in-Lexer.gap; alts = alts }, at, refl) in
     let Q : List ℕ → Type 0 = λ x. IsTrue c.in_ok-matched-in-Lexer.matched ↔ MatchesRule (lexer_rules (map rule_of rules)) alts x in
     let here = subst Q c.as_str.ensures c.in_ok-matched-in-Lexer.ensures in
     (λ t. told.0 (here.0 t), λ m. here.1 (told.1 m))

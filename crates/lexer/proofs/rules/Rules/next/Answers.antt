@@ -4,6 +4,7 @@ use Rattle.lexer.specs.declared.pieces.Match.{Match}
 use Rattle.lexer.specs.declared.program.Node.{Node}
 use Rattle.lexer.specs.declared.reading.Alternative.{Alternative}
 use Rattle.lexer.specs.Candidates.{ComesNext, HasNoNext}
+use Rattle.lexer.specs.Dead.{StayDead}
 use Rattle.lexer.proofs.rules.Rules.next.Goals as goal
 
 pub returns-clause-next : goal.returns-clause-next
@@ -13,3 +14,8 @@ returns-clause-next c =
     let P : List Node → Type 0 = λ x. MatchOption found (HasNoNext x c.deref-2.result.now text) (λ (m : Match). ComesNext x c.deref-2.result.now text m.kind m.len) in
     let Q : List Alternative → Type 0 = λ x. MatchOption found (HasNoNext c.args.self.now.nodes.items x text) (λ (m : Match). ComesNext c.args.self.now.nodes.items x text m.kind m.len) in
     subst Q c.deref-2.ensures.value (subst P c.deref.ensures.value c.in_ok-found.ensures.next)
+
+pub returns-clause-dead : goal.returns-clause-dead
+returns-clause-dead c =
+    let D : List Node → Type 0 = λ x. StayDead x c.args.text.now c.args.reading.now.dead c.next_match.new.reading.dead in
+    subst D c.deref.ensures.value c.in_ok-found.ensures.dead
