@@ -1,6 +1,9 @@
 pub mod RunLemmas
 pub mod NameLemmas
 pub mod ReduceLemmas
+pub mod FileLemmas
 pub mod FaultLemmas
 pub mod NormalLemmas
-pub mod CallLemmas
+pub mod CommandLemmas
+pub mod ReduceByStatusLemmas
+pub mod NormalByStatusLemmas

@@ -1,8 +1,6 @@
--- Why there is no normal form, and what is told of it.
-use Rattle.std.proofs.Common.{◌≡◌, ◌≢◌, inl, inr, ℕ, List, [], ◌∷◌, Option, Some, None, Err, string_bytes, refl, sym, ◌∙◌, subst, arith}
-use Rattle.std.proofs.lemmas.Bool.{false≢true}
-use Rattle.edge_io.specs.Files.{FileContent}
-use Rattle.edge_io.specs.Sink.{Put}
+-- Why there is no normal form, and how `normal` ends.
+use Rattle.std.proofs.Common.{◌≡◌, ◌≢◌, ◌≤◌, inl, inr, ℕ, List, length, Option, Some, None, Err, refl, sym, subst, Result, Ok, IfOk, IfErr, OnOk, MatchResult, Vec}
+use Rattle.edge_io.specs.Files.{Holds, SameFiles}
 use Rattle.grammar_tree.specs.Faults.{IsWellFormed, start_of}
 use Rattle.grammar_tree.specs.Written.{WrittenGrammar}
 use Rattle.grammar_reader.specs.FaultText.{fault_text as read_text}
@@ -11,83 +9,117 @@ use Rattle.grammar_reader.specs.declared.fault.ReadFault.{ReadFault}
 use Rattle.grammar_reader.specs.declared.fault.ReadFault.TheVariants as read
 use Rattle.grammar_check.specs.Messages.{fault_text as check_text}
 use Rattle.perses_main.specs.declared.status.Refusal.{Refusal}
-use Rattle.perses_main.specs.declared.status.Refusal.TheVariants.{Memory, Usage, CannotRead, CannotWrite, Grammar, NotInteresting, TooLong, Script}
-use Rattle.perses_main.specs.declared.status.Source.{Source}
-use Rattle.perses_main.specs.declared.status.Source.TheVariants as source
-use Rattle.perses_main.specs.Normal.{IsFaultRefusal, IsGrammarText, IsNormalRefusal, IsRuleRefusal, PutsFault}
-use Rattle.perses_main.specs.Status.{IsGrammarRefusal, IsOneOf, PutsLine, line_of, line_of_status, status_of}
+use Rattle.perses_main.specs.declared.status.Refusal.TheVariants.{Memory, CannotRead, Grammar, TooLong}
+use Rattle.perses_main.specs.declared.status.ReadFile.TheVariants as read_file
+use Rattle.perses_main.specs.Normal.{IsFaultRefusal, IsGrammarText, IsNormalOf, IsRuleRefusal, NormalEnds, NormalFails, NormalMustEnd, PrintsNormal}
+use Rattle.perses_main.specs.Normal.NormalEnds.{done, memory, unread as cannot_read, cut, faulty, too_long}
+use Rattle.perses_main.specs.Status.{EndsRefused, EndsWith, IsGrammarRefusal, ReadFails}
+use Rattle.perses_main.specs.World.{IsQuiet, PutsLine, SeenFiles, SeenOut, WasRead}
 use Rattle.perses_main.proofs.FaultLemmas.{has_no_fault}
+use Rattle.perses_main.proofs.FileLemmas.{not_both, not_longer, read_not_over}
 
 -- bytes that the reader refuses for another cause than memory spell no grammar
 pub unread : (bytes : List ℕ) (fault : ReadFault) → fault ≢ read.Memory → IsFaultOf bytes (Err fault) → ((G : WrittenGrammar) → IsProfile bytes G → fault ≡ read.Memory) →
     (refusal : Refusal) → IsGrammarRefusal (read_text fault) refusal → IsFaultRefusal bytes refusal
-unread bytes fault caused here only Memory told = tt
-unread bytes fault caused here only (Grammar line) told =
-    (read_text fault, record { told = inl (record { fault = fault; caused = caused; here = here; told = refl }); refused = λ is. caused (only is.grammar is.spelled) }, told)
-unread bytes fault caused here only Usage told = told
-unread bytes fault caused here only (CannotRead file) told = told
-unread bytes fault caused here only CannotWrite told = told
-unread bytes fault caused here only NotInteresting told = told
-unread bytes fault caused here only (TooLong file) told = told
-unread bytes fault caused here only Script told = told
+unread bytes fault caused here only Memory line = tt
+unread bytes fault caused here only (Grammar line) is =
+    (read_text fault, record { names = inl (record { fault = fault; caused = caused; here = here; names = refl }); refused = λ is. caused (only is.grammar is.spelled) }, is)
+unread bytes fault caused here only _ is = absurd is
 
 -- bytes whose only grammar has a fault spell no well-formed one
 pub unchecked : (bytes : List ℕ) (G : WrittenGrammar) → IsProfile bytes G → ((other : WrittenGrammar) → IsProfile bytes other → G ≡ other) →
     (refusal : Refusal) → IsRuleRefusal G refusal → IsFaultRefusal bytes refusal
 unchecked bytes G spelled only Memory why = tt
-unchecked bytes G spelled only (Grammar line) (fault, caused, here, told) = (
+unchecked bytes G spelled only (Grammar line) (fault, caused, here, is) = (
   check_text fault,
   record {
-    told = inr (record { grammar = G; fault = fault; spelled = spelled; caused = caused; here = here; told = refl });
+    names = inr (record { grammar = G; fault = fault; spelled = spelled; caused = caused; here = here; names = refl });
     refused = λ is.
         let same : is.grammar ≡ G = sym (only is.grammar is.spelled) in
         let first : WrittenGrammar → Type 0 = λ g. start_of g None ≡ Some is.start in
         let well : WrittenGrammar → Type 0 = λ g. IsWellFormed g is.start in
         has_no_fault G None is.start (subst first same is.first) (subst well same is.well_formed) fault caused here;
   },
-  told,
+  is,
 )
-unchecked bytes G spelled only Usage why = why
-unchecked bytes G spelled only (CannotRead file) why = why
-unchecked bytes G spelled only CannotWrite why = why
-unchecked bytes G spelled only NotInteresting why = why
-unchecked bytes G spelled only (TooLong file) why = why
-unchecked bytes G spelled only Script why = why
+unchecked bytes G spelled only _ why = absurd why
 
-module _ (told : Option FileContent) (status : ℕ) (old new : Option Put) (faults faults' : ℕ) where
-  -- a status other than 5 is not that of a grammar's fault
-  not_five : (n : ℕ) → status ≡ n → n ≢ 5 → status ≡ 5 → ⊥
-  not_five n is other five = other (sym is ∙ five)
+module _ (grammar : List ℕ) (files files' : SeenFiles) where
+  -- a grammar that wasn't read ends the command
+  pub fails_read : (refusal : Refusal) → ReadFails 1048576 read_file.Grammar (files.shown grammar) files files' refusal → NormalFails grammar files files' refusal
+  fails_read Memory why = λ out out' put. memory why put
+  fails_read (CannotRead file) why = subst (λ f. NormalFails grammar files files' (CannotRead f)) (sym why.0) (λ out out' put. cannot_read why.1 put)
+  fails_read (TooLong file) why = subst (λ f. NormalFails grammar files files' (TooLong f)) (sym why.0) (λ out out' put. too_long why.1 why.2 put)
+  fails_read _ why = absurd why
 
-  -- the line of status 5 tells the grammar's fault
-  pub puts_fault : (refusal : Refusal) → IsNormalRefusal told refusal → status ≡ status_of refusal → PutsLine (line_of refusal) old new faults faults' →
-      status ≡ 5 → PutsFault told old new faults faults'
-  puts_fault (Grammar line) (text, read, same) is puts five = let P : List ℕ → Type 0 = λ l. PutsLine l old new faults faults' in (text, read, subst P same puts)
-  puts_fault Memory why is puts five = absurd (not_five 1 is (omega arith) five)
-  puts_fault (CannotRead file) why is puts five = absurd (not_five 3 is (omega arith) five)
-  puts_fault (TooLong file) why is puts five = absurd (not_five 10 is (omega arith) five)
-  puts_fault Usage why is puts five = absurd why
-  puts_fault CannotWrite why is puts five = absurd why
-  puts_fault NotInteresting why is puts five = absurd why
-  puts_fault Script why is puts five = absurd why
+  -- so does one that has no normal form
+  fails_fault : (bytes : List ℕ) → Holds bytes (files.shown grammar) → length bytes ≤ 1048576 → IsQuiet files files' → (refusal : Refusal) → IsFaultRefusal bytes refusal → NormalFails grammar files files' refusal
+  fails_fault bytes here within quiet Memory why = λ out out' put. memory quiet put
+  fails_fault bytes here within quiet (Grammar line) why = λ out out' put.
+      faulty why.0 (record { bytes = bytes; read = here; within = within; holds = why.1 }) quiet (subst (λ l. PutsLine l out out') why.2 put)
+  fails_fault bytes here within quiet _ why = absurd why
 
-  -- the lines of the statuses 1, 3 and 10 are those of a grammar's file
-  pub puts_line : (refusal : Refusal) → IsNormalRefusal told refusal → status ≡ status_of refusal → PutsLine (line_of refusal) old new faults faults' →
-      IsOneOf (1 ∷ 3 ∷ 10 ∷ []) status → PutsLine (line_of_status source.Grammar status) old new faults faults'
-  puts_line refusal why is puts one = subst P (sym is) (at refusal why puts (subst (IsOneOf (1 ∷ 3 ∷ 10 ∷ [])) is one))
-    where
-      P : ℕ → Type 0
-      P s = PutsLine (line_of_status source.Grammar s) old new faults faults'
+  pub form_fails : {A : Type 0} (held bytes : List ℕ) (outcome : Result (Vec ℕ A) Refusal) → bytes ≡ held → Holds held (files.shown grammar) → length held ≤ 1048576 → IsQuiet files files' → IfErr outcome (λ refusal. IsFaultRefusal bytes refusal)
+      → IfErr outcome (λ refusal. NormalFails grammar files files' refusal)
+  form_fails held bytes (Ok form) same here within quiet why = tt
+  form_fails held bytes (Err refusal) same here within quiet why = fails_fault held here within quiet refusal (subst (λ b. IsFaultRefusal b refusal) same why)
 
-      of_file : (file : Source) (n : ℕ) → file ≡ source.Grammar → PutsLine (line_of_status file n) old new faults faults' → PutsLine (line_of_status source.Grammar n) old new faults faults'
-      of_file file n same h = let Q : Source → Type 0 = λ f. PutsLine (line_of_status f n) old new faults faults' in subst Q same h
+  module _ (out out' : SeenOut) where
+    -- the end of the command
+    pub normal_ends : {A : Type 0} (outcome : Result (Vec ℕ A) Refusal) (status : ℕ) → IfOk outcome (λ form. WasRead 1048576 (files.shown grammar) (λ bytes. IsNormalOf bytes form.items)) → OnOk outcome (IsQuiet files files')
+        → IfErr outcome (λ refusal. NormalFails grammar files files' refusal)
+        → MatchResult outcome (λ answer. EndsWith answer.items out out' status) (λ refusal. EndsRefused out out' status refusal) → NormalEnds grammar files files' out out' status
+    normal_ends (Ok form) status formed quiet fails (inl (is, put)) = subst (NormalEnds grammar files files' out out') (sym is) (done form.items formed quiet put)
+    normal_ends (Ok form) status formed quiet fails (inr (is, put)) = subst (NormalEnds grammar files files' out out') (sym is) (cut form.items formed quiet put)
+    normal_ends (Err refusal) status formed quiet fails end = subst (NormalEnds grammar files files' out out') (sym end.is) (fails out out' end.reported)
 
-      at : (refusal : Refusal) → IsNormalRefusal told refusal → PutsLine (line_of refusal) old new faults faults' → IsOneOf (1 ∷ 3 ∷ 10 ∷ []) (status_of refusal) → PutsLine (line_of_status source.Grammar (status_of refusal)) old new faults faults'
-      at Memory why puts one = puts
-      at (CannotRead file) why puts one = of_file file 3 why puts
-      at (TooLong file) why puts one = of_file file 10 why.0 puts
-      at (Grammar line) why puts one = absurd (false≢true one)
-      at Usage why puts one = absurd why
-      at CannotWrite why puts one = absurd why
-      at NotInteresting why puts one = absurd why
-      at Script why puts one = absurd why
+    is_grammar : (bytes text : List ℕ) → IsNormalOf bytes text → IsGrammarText bytes
+    is_grammar bytes text is = record { grammar = is.grammar.grammar; start = is.grammar.start; spelled = is.spelled; first = is.first; well_formed = is.checked.well_formed }
+
+    -- which status it has to be
+    normal_must_end : {status : ℕ} → NormalEnds grammar files files' out out' status → NormalMustEnd grammar files files' out out' status
+    normal_must_end (done text is quiet put) = record {
+      over = λ over. absurd (read_not_over is over);
+      faulty = λ shown. absurd (not_both 1048576 (λ bytes. ¬ IsGrammarText bytes) IsGrammarText (λ bytes no yes. no yes) _ shown is.bytes is.read (is_grammar is.bytes text is.holds));
+      complete = λ shown files_fine out_fine. inl refl;
+      files_failed = λ failed. absurd (failed quiet);
+      out_failed = λ failed. absurd (failed put.quiet);
+    }
+    normal_must_end (memory quiet put) = record {
+      over = λ over. inr (inr refl);
+      faulty = λ shown. inr (inr refl);
+      complete = λ shown files_fine out_fine. inr refl;
+      files_failed = λ failed. absurd (failed quiet);
+      out_failed = λ failed is. cc is;
+    }
+    normal_must_end (cannot_read failed put) = record {
+      over = λ over. inr (inl refl);
+      faulty = λ shown. inr (inl refl);
+      complete = λ shown files_fine out_fine. absurd (files_fine failed);
+      files_failed = λ failed. refl;
+      out_failed = λ failed is. cc is;
+    }
+    normal_must_end (cut text is quiet put) = record {
+      over = λ over. absurd (read_not_over is over);
+      faulty = λ shown. absurd (not_both 1048576 (λ bytes. ¬ IsGrammarText bytes) IsGrammarText (λ bytes no yes. no yes) _ shown is.bytes is.read (is_grammar is.bytes text is.holds));
+      complete = λ shown files_fine out_fine. absurd (out_fine put.failed);
+      files_failed = λ failed. absurd (failed quiet);
+      out_failed = λ failed is. cc is;
+    }
+    normal_must_end (faulty text is quiet put) = record {
+      over = λ over. absurd (read_not_over is over);
+      faulty = λ shown. inl refl;
+      complete = λ shown files_fine out_fine. absurd (not_both 1048576 IsGrammarText (λ bytes. ¬ IsGrammarText bytes) (λ bytes yes no. no yes) _ shown is.bytes is.read is.holds.refused);
+      files_failed = λ failed. absurd (failed quiet);
+      out_failed = λ failed is. cc is;
+    }
+    normal_must_end (too_long longer quiet put) = record {
+      over = λ over. inl refl;
+      faulty = λ shown. absurd (not_longer 1048576 _ _ shown longer);
+      complete = λ shown files_fine out_fine. absurd (not_longer 1048576 _ _ shown longer);
+      files_failed = λ failed. absurd (failed quiet);
+      out_failed = λ failed is. cc is;
+    }
+
+    pub prints_normal : {status : ℕ} → NormalEnds grammar files files' out out' status → SameFiles files.shown files'.shown → PrintsNormal grammar files files' out out' status
+    prints_normal ends same = record { ends = ends; must_end = normal_must_end ends; same = same }

@@ -1,29 +1,25 @@
 -- What a run that came to the reducer's end says of the reduction over its records.
-use Rattle.std.proofs.Common.{◌≡◌, ◌≢◌, ℕ, List, [], ◌∷◌, Option, Some, None, IsSome, All, Bool, true, false, refl, sym, ap, ◌∙◌, subst, ◌⊎◌, inl, inr, ⊎_elim, cond, Err}
-use Rattle.std.specs.Prelude.{Result, Ok, IfErr, IfOk, IsErrOf, OnErr, OnOk}
+use Rattle.std.proofs.Common.{◌≡◌, ◌≢◌, ℕ, List, [], ◌∷◌, Option, Some, None, IsSome, All, true, false, refl, sym, ap, ◌∙◌, subst, ◌⊎◌, inl, inr, ⊎_elim}
 use Rattle.std.proofs.lemmas.Bool.{false≢true}
 use Rattle.std.proofs.lemmas.Cmp.{nat_list_eq_equiv}
 use Rattle.std.proofs.lemmas.List.Elements.{All-weaker}
 use Rattle.std.specs.List.{concat}
-use Rattle.std.specs.Str.{bytes_eq}
+use Rattle.script_gate.specs.declared.gate.GateFault.{GateFault}
+use Rattle.script_gate.specs.declared.gate.GateFault.TheVariants.{Failed as GateFailed, Memory as GateMemory}
 use Rattle.script_gate.specs.declared.gate.Verdict.{Verdict}
 use Rattle.script_gate.specs.declared.gate.Verdict.TheVariants.{Yes, No}
 use Rattle.verdict_table.specs.declared.record.Record.{Record}
-use Rattle.verdict_table.specs.Plan.{Plan, StepResult, End, HasEnded, MayAsk, after, asked, follow}
+use Rattle.verdict_table.specs.Plan.{StepResult, End, HasEnded, MayAsk, after, asked, follow}
 use Rattle.verdict_table.specs.TableState.{verdict_in}
 use Rattle.reduce_core.specs.Laws.{FollowsReduction, RefusesAtNo, EndsMinimal, AsksCandidates, result_of}
-use Rattle.reduce_core.specs.LineRun.{LineRun}
 use Rattle.reduce_core.specs.LineMachine.{LineState, Whole, gives, plan_of, after as line_after}
 use Rattle.reduce_core.specs.Minimal.{HasVerdicts, IsCandidate}
 use Rattle.reduce_core.specs.Reduction.{Reduction, reduction, says_yes}
 use Rattle.reduce_core.proofs.LineMachineLemmas.{after-plan, asked-plan, plan-end}
-use Rattle.perses_main.specs.declared.run.RunFault.{RunFault}
-use Rattle.perses_main.specs.declared.run.RunFault.TheVariants.{Script, Memory as OutOfMemory}
-use Rattle.perses_main.specs.declared.status.Refusal.{Refusal}
-use Rattle.perses_main.specs.declared.status.Refusal.TheVariants.{Memory, NotInteresting}
+use Rattle.perses_main.specs.Reduce.{AreOf, BeginsAt, FirstIs, FirstIsNo, IsReductionOf, OnlyNo, ReducesFrom, RunFails}
 use Rattle.perses_main.specs.Run.{BeginsWith, EndsAtFirst}
 use Rattle.perses_main.specs.Status.{refusal_of}
-use Rattle.perses_main.specs.Top.{AreOf, BeginsAt, FirstIs, FirstIsNo, IsReductionOf, OnlyNo}
+use Rattle.perses_main.specs.World.{Failed, IsQuiet, SeenGate}
 
 begins_at : (start : List ℕ) (records : List Record) → BeginsWith (plan_of (Whole start)) records → BeginsAt start records
 begins_at start [] begun = tt
@@ -32,11 +28,11 @@ begins_at start (r ∷ records) begun =
     (cc)
 
 -- what may be asked of a start is some of its lines
-pub are-of : AsksCandidates → (start : List ℕ) (records : List Record) → All (λ r. MayAsk (plan_of (Whole start)) r.text) records → BeginsWith (plan_of (Whole start)) records → AreOf start records
-are-of law start records may begun = record {
-  candidates = All-weaker (λ (r : Record). MayAsk (plan_of (Whole start)) r.text) (λ (r : Record). IsCandidate start r.text) (λ r. law start r.text) records may;
-  first = begins_at start records begun;
-}
+pub are-of : AsksCandidates → (start' start : List ℕ) (records : List Record) → start' ≡ start → All (λ r. MayAsk (plan_of (Whole start')) r.text) records → BeginsWith (plan_of (Whole start')) records → AreOf start records
+are-of law start' start records same may begun = subst (λ s. AreOf s records) same (record {
+  candidates = All-weaker (λ (r : Record). MayAsk (plan_of (Whole start')) r.text) (λ (r : Record). IsCandidate start' r.text) (λ r. law start' r.text) records may;
+  first = begins_at start' records begun;
+})
 
 first_known : (start : List ℕ) (r : Record) (records : List Record) → r.text ≡ start → verdict_in (r ∷ records) start ≡ Some r.verdict
 first_known start r records same = rw (same, nat_list_eq_equiv.refl start) refl
@@ -97,8 +93,8 @@ module _ (follows : FollowsReduction) (refuses : RefusesAtNo) (minimal : EndsMin
       let same : End (gives state) ≡ End (result_of r) = sym run.found ∙ run.followed ∙ (follows V start).ends has in
       (cc)
 
-  pub is-reduction : (gives state).refused ≡ false → IsReductionOf V start (gives state).text
-  is-reduction stays =
+  is_reduction : (gives state).refused ≡ false → IsReductionOf V start (gives state).text
+  is_reduction stays =
       let interesting : r.refused ≡ false = ap (λ (x : StepResult). x.refused) (sym found_is) ∙ stays in
       let well = minimal V start interesting has in
       let text : (gives state).text ≡ concat r.lines = ap (λ (x : StepResult). x.text) found_is in
@@ -110,60 +106,43 @@ module _ (follows : FollowsReduction) (refuses : RefusesAtNo) (minimal : EndsMin
         minimal = well.minimal;
       }
 
-  pub first-yes : (gives state).refused ≡ false → FirstIs start Yes records
-  first-yes stays =
+  first_yes : (gives state).refused ≡ false → FirstIs start Yes records
+  first_yes stays =
       ⊎_elim (λ yes_there. start_is start records Yes (begins_at start records run.begun) yes_there)
       (λ no_there. absurd (false≢true (sym stays ∙ ap (λ (x : StepResult). x.refused) found_is ∙ ((refuses V start).1 no_there).1)))
       (by_verdict (V start) (start_known V start has))
 
-  first-no : (gives state).refused ≡ true → FirstIsNo records
+  -- the reducer's text is the start's reduction, unless it refused the start
+  pub reduces-from : (gives state).refused ≡ false → ReducesFrom start records (gives state).text
+  reduces-from stays = record { first = first_yes stays; reduced = is_reduction stays }
+
+  -- the reducer refuses a start at its no, which is the only record
+  pub first-no : (gives state).refused ≡ true → FirstIs start No records
   first-no refused =
       ⊎_elim (λ yes_there. absurd (false≢true (sym ((refuses V start).0 yes_there) ∙ ap (λ (x : StepResult). x.refused) (sym found_is) ∙ refused)))
-      (λ no_there. no_is_first start records (start_is start records No (begins_at start records run.begun) no_there))
+      (λ no_there. start_is start records No (begins_at start records run.begun) no_there)
       (by_verdict (V start) (start_known V start has))
 
   pub only-no : (gives state).refused ≡ true → OnlyNo records
-  only-no refused = only_no start records run.one (first-no refused)
-
-  pub no-first : FirstIsNo records → (gives state).refused ≡ true
-  no-first no_first =
-      let no_there = first_no_is start records (begins_at start records run.begun) no_first in
-      ap (λ (x : StepResult). x.refused) found_is ∙ ((refuses V start).1 no_there).1
+  only-no refused = only_no start records run.one (no_is_first start records (first-no refused))
 
 -- a run that waits for a verdict doesn't begin with a no
-pub not-waiting : RefusesAtNo → (start : List ℕ) (records : List Record) → BeginsWith (plan_of (Whole start)) records → FirstIsNo records
+not_waiting : RefusesAtNo → (start : List ℕ) (records : List Record) → BeginsWith (plan_of (Whole start)) records → FirstIsNo records
     → asked (follow (verdict_in records) (plan_of (Whole start))) ≢ None → ⊥
-not-waiting refuses start records begun no_first waits =
+not_waiting refuses start records begun no_first waits =
     waits ((refuses (verdict_in records) start).1 (first_no_is start records (begins_at start records begun) no_first)).0
 
--- a fault that isn't the gate's is want of memory
-pub memory-else : {T : Type 0} (fault : RunFault) (refusal : Refusal) → refusal ≡ refusal_of fault → (fault ≡ Script → ⊥)
-    → IsErrOf {T = T} (Err refusal) NotInteresting ⊎ IsErrOf {T = T} (Err refusal) Memory
-memory-else Script refusal is never = absurd (never refl)
-memory-else OutOfMemory refusal is never = inr (ap (λ e. Err e) is)
+-- why a run didn't come to the reducer's end
+pub run-fails : RefusesAtNo → (start' start : List ℕ) (records : List Record) (gate gate' : SeenGate) (fault : GateFault) → start' ≡ start → BeginsWith (plan_of (Whole start')) records
+    → (fault ≡ GateFailed → asked (follow (verdict_in records) (plan_of (Whole start'))) ≢ None) → (fault ≢ GateFailed → IsQuiet gate gate') → (fault ≡ GateFailed → Failed gate gate')
+    → RunFails start records gate gate' (refusal_of fault)
+run-fails refuses start' start records gate gate' GateFailed same begun unfinished quiet failed =
+    (failed refl, λ no_first. not_waiting refuses start' records begun no_first (unfinished refl))
+run-fails refuses start' start records gate gate' GateMemory same begun unfinished quiet failed = quiet (λ is. cc is)
 
--- the same run by other names
-pub came-to-end : (start start' : List ℕ) (records records' : List Record) (state : LineState) → start' ≡ start → records ≡ records'
-    → plan_of state ≡ follow (verdict_in records') (plan_of (Whole start')) → HasEnded (plan_of state) → plan_of state ≡ End (gives state) → BeginsWith (plan_of (Whole start')) records' → EndsAtFirst (plan_of (Whole start')) records'
+-- the same end by another name of the start
+pub came-to-end : (start' start : List ℕ) (records : List Record) (state : LineState) → start' ≡ start
+    → plan_of state ≡ follow (verdict_in records) (plan_of (Whole start')) → HasEnded (plan_of state) → plan_of state ≡ End (gives state) → BeginsWith (plan_of (Whole start')) records → EndsAtFirst (plan_of (Whole start')) records
     → CameToEnd start records state
-came-to-end start start' records records' state same recorded followed ended found begun one =
-    subst (λ s. CameToEnd s records state) same
-    (subst (λ rs. CameToEnd start' rs state) (sym recorded) (record { followed = followed; ended = ended; found = found; begun = begun; one = one }))
-
-pub on-ok : {T E : Type 0} (o : Result T E) {P Q : Type 0} → OnOk o P → (P → Q) → OnOk o Q
-on-ok (Ok x) holds next = next holds
-on-ok (Err e) holds next = tt
-
--- what holds of the reducer holds of the one that was accepted
-pub if-ok : {E : Type 0} (o : Result LineRun E) (run : LineRun) {P : Type 0} (Q : LineRun → Type 0) → IfOk o (λ ended. ended ≡ run) → OnOk o P → (P → Q run) → IfOk o Q
-if-ok (Ok ended) run Q same holds next = subst Q (sym same) (next holds)
-if-ok (Err e) run Q same holds next = tt
-
-pub if-not-interesting : {T : Type 0} (o : Result T Refusal) {P Q : Type 0} → OnErr o P → (P → Q) → IsErrOf o NotInteresting → Q
-if-not-interesting (Ok x) holds next is = absurd (cc is)
-if-not-interesting (Err e) holds next is = next holds
-
--- an accepted reducer's start is interesting, and one that was not has this cause
-pub refused-then : {T : Type 0} (o : Result T Refusal) {P Q : Type 0} → OnOk o P → (P → ⊥) → IfErr o (λ refusal. refusal ≡ NotInteresting) → IsErrOf o NotInteresting ⊎ Q
-refused-then (Ok x) holds never cause = absurd (never holds)
-refused-then (Err e) holds never cause = inl (ap (λ r. Err r) cause)
+came-to-end start' start records state same followed ended found begun one =
+    subst (λ s. CameToEnd s records state) same (record { followed = followed; ended = ended; found = found; begun = begun; one = one })

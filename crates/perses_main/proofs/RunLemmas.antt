@@ -1,10 +1,10 @@
 -- What a run keeps from one answer to the next.
-use Rattle.std.proofs.Common.{◌≡◌, ◌≤◌, ◌<◌, ◌+◌, ℕ, List, [], ◌∷◌, ◌++◌, Option, Some, None, All, option_map, rules, arith, refl, sym, ◌∙◌, subst, inl, inr, ◌⊎◌, cond, Bool, true, false, append_assoc}
+use Rattle.std.proofs.Common.{◌≡◌, ℕ, List, [], ◌∷◌, ◌++◌, Option, Some, None, All, option_map, arith, refl, sym, ◌∙◌, inl, inr, append_assoc}
 use Rattle.std.proofs.lemmas.Grind.{common_steps}
 use Rattle.std.proofs.lemmas.List.Elements.{All-push, All-nil}
 use Rattle.std.proofs.lemmas.Map.Keys.{IsDistinct-push}
 use Rattle.std.proofs.lemmas.Cmp.{nat_list_eq_equiv}
-use Rattle.std.specs.List.{IsDistinct, list_any}
+use Rattle.std.specs.List.{IsDistinct}
 use Rattle.std.specs.Str.{bytes_eq}
 use Rattle.script_gate.specs.declared.gate.Verdict.{Verdict}
 use Rattle.script_gate.specs.declared.log.Log.{Log}
@@ -12,9 +12,9 @@ use Rattle.script_gate.specs.Log.{with_asked}
 use Rattle.verdict_table.specs.declared.record.Record.{Record}
 use Rattle.verdict_table.specs.Plan.{Plan, MayAsk, HasEnded, asked, after, follow}
 use Rattle.verdict_table.specs.TableState.{TableState, Extends, texts_of, verdict_in}
-use Rattle.verdict_table.proofs.PlanLemmas.{asked_may, after_may, follow_after, follow_ended}
+use Rattle.verdict_table.proofs.PlanLemmas.{asked_may, after_may, follow_after}
 use Rattle.verdict_table.proofs.RecordLemmas.{extends_front, extends_back, extends_known, extends_itself, not_among, stays}
-use Rattle.perses_main.specs.Run.{with_all_asked, Learns, Knew, Asks, BeginsWith, EndsAtFirst}
+use Rattle.perses_main.specs.Run.{with_all_asked, Learns, BeginsWith, EndsAtFirst}
 
 -- nothing was asked yet, or the first text was
 abbrev pub Begun : Plan → Plan → List Record → Type 0
@@ -56,59 +56,59 @@ none_one first plan records none = rw none tt
 none_begun : (first plan : Plan) (records : List Record) → first ≡ plan → records ≡ [] → Begun first plan records
 none_begun first plan records same none = rw none (sym same)
 
--- some texts were asked and answered so far
-pub record IsUnderWay {Gate : Type 0} (may_say : List ℕ → Verdict → Type 0) (told : Gate → Option Log) (faults : Gate → ℕ) (gate gate' : Gate) (first plan : Plan) (table : TableState) : Type 0 where
+-- some texts were asked and answered so far, and no call of the gate failed
+pub record IsUnderWay {Gate : Type 0} (may_say : List ℕ → Verdict → Type 0) (log : Gate → Option Log) (faults : Gate → ℕ) (gate gate' : Gate) (first plan : Plan) (table : TableState) : Type 0 where
   pub settled : table.claims ≡ []
   pub distinct : IsDistinct bytes_eq (texts_of table.records)
   pub said : All (λ r. may_say r.text r.verdict) table.records
   pub may_ask : All (λ r. MayAsk first r.text) table.records
-  pub asks : told gate' ≡ option_map (with_all_asked (texts_of table.records)) (told gate)
-  pub count : faults gate ≤ faults gate'
-  pub left : (text : List ℕ) → MayAsk plan text → MayAsk first text
+  pub asks : log gate' ≡ option_map (with_all_asked (texts_of table.records)) (log gate)
+  pub quiet : faults gate' ≡ faults gate
+  pub still_may : (text : List ℕ) → MayAsk plan text → MayAsk first text
   pub begun : Begun first plan table.records
   pub one : OneAtEnd first plan table.records
   pub followed : (V : List ℕ → Option Verdict) → Extends V table.records → follow V first ≡ follow V plan
 
 one_more : (o : Option Log) (texts : List (List ℕ)) (text : List ℕ) → option_map (with_asked text) (option_map (with_all_asked texts) o) ≡ option_map (with_all_asked (texts ++ text ∷ [])) o
 one_more None texts text = refl
-one_more (Some told) texts text = rw append_assoc refl
+one_more (Some log) texts text = rw append_assoc refl
 
 texts_more : (records : List Record) (r : Record) → texts_of (records ++ r ∷ []) ≡ texts_of records ++ r.text ∷ []
 texts_more [] r = refl
 texts_more (q ∷ records) r = λ i. q.text ∷ texts_more records r i
 
 -- an answer, known before or new, keeps what is under way
-pub learned : {Gate : Type 0} (may_say : List ℕ → Verdict → Type 0) (told : Gate → Option Log) (faults : Gate → ℕ) (gate gate' gate'' : Gate) (first plan : Plan) (table table' : TableState) (text : List ℕ) (verdict : Verdict)
-    → IsUnderWay may_say told faults gate gate' first plan table
+pub learned : {Gate : Type 0} (may_say : List ℕ → Verdict → Type 0) (log : Gate → Option Log) (faults : Gate → ℕ) (gate gate' gate'' : Gate) (first plan : Plan) (table table' : TableState) (text : List ℕ) (verdict : Verdict)
+    → IsUnderWay may_say log faults gate gate' first plan table
     → asked plan ≡ Some text
-    → Learns may_say told gate' gate'' table table' text verdict
+    → Learns may_say log gate' gate'' table table' text verdict
     → table'.claims ≡ []
-    → faults gate' ≤ faults gate''
-    → IsUnderWay may_say told faults gate gate'' first (after plan verdict) table'
-learned may_say told faults gate gate' gate'' first plan table table' text verdict way is (inl knew) settled count = record {
+    → faults gate'' ≡ faults gate'
+    → IsUnderWay may_say log faults gate gate'' first (after plan verdict) table'
+learned may_say log faults gate gate' gate'' first plan table table' text verdict way is (inl knew) settled quiet = record {
   settled = settled;
   distinct = rw knew.same way.distinct;
   said = rw knew.same way.said;
   may_ask = rw knew.same way.may_ask;
-  asks = rw (knew.same, knew.told_same) way.asks;
-  count = omega (arith, way.count, count);
-  left = λ t may. way.left t (after_may plan verdict text t is may);
+  asks = rw (knew.same, knew.same_log) way.asks;
+  quiet = quiet ∙ way.quiet;
+  still_may = λ t may. way.still_may t (after_may plan verdict text t is may);
   begun = rw knew.same (begun_known first plan (after plan verdict) table.records text verdict way.begun knew.known);
   one = rw knew.same (one_known first plan (after plan verdict) table.records text way.one is);
   followed = λ V extends. let before : Extends V table.records = rw (← knew.same) extends in
       way.followed V before ∙ follow_after V plan verdict text is (extends_known V table.records text verdict before knew.known);
 }
-learned may_say told faults gate gate' gate'' first plan table table' text verdict way is (inr new) settled count =
+learned may_say log faults gate gate' gate'' first plan table table' text verdict way is (inr new) settled quiet =
     let r : Record = record { text = text; verdict = verdict } in
     let split : texts_of (table'.records) ≡ texts_of table.records ++ text ∷ [] = rw new.recorded (texts_more table.records r) in
     record {
       settled = settled;
       distinct = rw split (IsDistinct-push nat_list_eq_equiv (texts_of table.records) text way.distinct (not_among table.records text new.absent));
       said = rw new.recorded (All-push (λ (q : Record). may_say q.text q.verdict) table.records r way.said new.said);
-      may_ask = rw new.recorded (All-push (λ (q : Record). MayAsk first q.text) table.records r way.may_ask (way.left text (asked_may plan text is)));
-      asks = rw (split, new.asked, way.asks) (one_more (told gate) (texts_of table.records) text);
-      count = omega (arith, way.count, count);
-      left = λ t may. way.left t (after_may plan verdict text t is may);
+      may_ask = rw new.recorded (All-push (λ (q : Record). MayAsk first q.text) table.records r way.may_ask (way.still_may text (asked_may plan text is)));
+      asks = rw (split, new.asked, way.asks) (one_more (log gate) (texts_of table.records) text);
+      quiet = quiet ∙ way.quiet;
+      still_may = λ t may. way.still_may t (after_may plan verdict text t is may);
       begun = rw new.recorded (begun_more first plan (after plan verdict) table.records r way.begun is);
       one = rw new.recorded (one_first first plan table.records r way.begun way.one is);
       followed = λ V extends. let all : Extends V (table.records ++ r ∷ []) = rw (← new.recorded) extends in
@@ -119,22 +119,22 @@ pub none_distinct : (records : List Record) → records ≡ [] → IsDistinct by
 unfolding IsDistinct
 none_distinct records none = rw none tt
 
-none_told : (o : Option Log) → o ≡ option_map (with_all_asked []) o
-none_told None = refl
-none_told (Some told) = grind (arith, common_steps)
+none_asked : (o : Option Log) → o ≡ option_map (with_all_asked []) o
+none_asked None = refl
+none_asked (Some log) = grind (arith, common_steps)
 
 -- nothing was asked yet
-pub starts : {Gate : Type 0} (may_say : List ℕ → Verdict → Type 0) (told : Gate → Option Log) (faults : Gate → ℕ) (gate : Gate) (first plan : Plan) (table : TableState)
+pub starts : {Gate : Type 0} (may_say : List ℕ → Verdict → Type 0) (log : Gate → Option Log) (faults : Gate → ℕ) (gate : Gate) (first plan : Plan) (table : TableState)
     → first ≡ plan → table.records ≡ [] → table.claims ≡ []
-    → IsUnderWay may_say told faults gate gate first plan table
-starts may_say told faults gate first plan table same empty settled = rw same (record {
+    → IsUnderWay may_say log faults gate gate first plan table
+starts may_say log faults gate first plan table same empty settled = rw same (record {
   settled = settled;
   distinct = none_distinct table.records empty;
   said = rw empty (All-nil _);
   may_ask = rw empty (All-nil _);
-  asks = rw empty (none_told (told gate));
-  count = omega arith;
-  left = λ text may. may;
+  asks = rw empty (none_asked (log gate));
+  quiet = refl;
+  still_may = λ text may. may;
   begun = none_begun plan plan table.records refl empty;
   one = none_one plan plan table.records empty;
   followed = λ V extends. refl;

@@ -1,5 +1,9 @@
 pub mod Words
-pub mod Run
+pub mod World
 pub mod Status
+pub mod Run
+pub mod Reduce
 pub mod Normal
-pub mod Top
+pub mod Call
+pub mod ReduceByStatus
+pub mod NormalByStatus

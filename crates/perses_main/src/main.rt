@@ -3,14 +3,18 @@
 //! `perses reduce --mode lines --input F --output F --script F` asks the script for one candidate
 //! after another and writes the lines that are left. `perses normal --grammar F` prints the normal
 //! form of a grammar. The work is done by [`call::perses`], whose contract is the program's; here it
-//! gets the machine's files, processes and standard output.
+//! gets the machine's files, processes and standard output. Read first how `reduce` ends, by its
+//! status: `ReduceEnds` in `specs/Reduce.antt`.
 #![tactic(auto)]
 
+mod args;
 mod call;
+mod end;
+mod file;
+mod laws;
 mod normal;
 #[cfg(test)]
 mod normal_tests;
-mod read;
 mod reduce;
 mod run;
 mod status;
@@ -18,22 +22,12 @@ mod status;
 mod tests;
 mod words;
 
+use args::words_of;
 use call::perses;
 use edge_io::{DiskFiles, StreamSink};
 use script_gate::ProcessGate;
-use std::io::ErrorKind;
+use std::io;
 use std::process::ExitCode;
-use std::rt::Env;
-use std::{env, io};
-
-/// The words of the command line. Words that are no text are no command line, as no words are.
-fn words_of<R: Env + AllocGlobal>(rt: &R) -> io::Result<Vec<String>> {
-    match env::args(rt) {
-        Ok(words) => Ok(words.collect(rt.alloc())?),
-        Err(error) if error.kind() == ErrorKind::OutOfMemory => Err(error),
-        Err(_) => Ok(Vec::new(rt.alloc())),
-    }
-}
 
 /// Runs the program over the machine's files, processes and standard output.
 fn run_program(rt: &HostRuntime) -> io::Result<u8> {

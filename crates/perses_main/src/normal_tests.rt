@@ -1,7 +1,7 @@
 //! The command `normal` over objects in memory, and over the files of the machine.
 
 use crate::call::perses;
-use crate::tests::{ROOM, enter_folder, holds, words_in};
+use crate::tests::{CAPACITY, enter_folder, holds, words_in};
 use edge_io::{DiskFiles, MemFiles, MemSink, Sink, StreamSink};
 use script_gate::{Gate, RuleGate};
 use std::alloc::Global;
@@ -35,23 +35,24 @@ struct Case<'a> {
     grammar: Option<&'a [u8]>,
     /// Which calls of the files fail, counted from 1.
     failing: &'a [u64],
-    /// The bytes that `out` has room for, and which of its puts fail.
-    room: u64,
+    /// The most bytes that `out` takes, and which of its puts fail.
+    capacity: u64,
     failing_puts: &'a [u64],
     status: u8,
-    told: &'a str,
+    /// What is put on `out`.
+    put: &'a str,
 }
 
 /// A case in which nothing fails.
-fn case_of<'a>(grammar: &'a [u8], status: u8, told: &'a str) -> Case<'a> {
+fn case_of<'a>(grammar: &'a [u8], status: u8, put: &'a str) -> Case<'a> {
     Case {
-        shows: told,
+        shows: put,
         grammar: Some(grammar),
         failing: &[],
-        room: ROOM,
+        capacity: CAPACITY,
         failing_puts: &[],
         status,
-        told,
+        put,
     }
 }
 
@@ -75,15 +76,15 @@ fn run_case<R: Abort + AllocGlobal>(rt: &R, case: &Case<'_>) -> Result<(), Fail>
     let mut files = files_of(alloc, case)?;
     let mut gate = RuleGate::<0>::new(alloc, true);
     let failing_puts = Vec::from_slice(alloc, case.failing_puts)?;
-    let mut out = MemSink::new(alloc, case.room, failing_puts)?;
+    let mut out = MemSink::new(alloc, case.capacity, failing_puts)?;
     let ended = perses(alloc, &words, &mut files, &mut gate, &mut out);
     assert_eq!(rt; ended.status, case.status, "{shows}");
     assert!(rt; ended.records.is_empty(), "{shows}");
     assert_eq!(rt; files.content("g"), case.grammar, "{shows}");
-    assert_eq!(rt; out.bytes(), case.told.as_bytes(), "{shows}");
+    assert_eq!(rt; out.bytes(), case.put.as_bytes(), "{shows}");
     let untouched = gate
         .log()
-        .is_some_and(|told| told.opening.is_none() && told.asked.is_empty());
+        .is_some_and(|log| log.opening.is_none() && log.asked.is_empty());
     assert!(rt; untouched, "{shows}");
     Ok(())
 }
@@ -95,7 +96,7 @@ fn prints_the_normal_form(rt: HostRuntime) -> Result<(), Fail> {
 
 #[test]
 fn names_the_fault_of_a_grammar(rt: HostRuntime) -> Result<(), Fail> {
-    for (rules, told) in &[
+    for (rules, fault) in &[
         ("a : 'x' ; a : 'y' ;", "two rules a"),
         ("a : b ;", "no rule b"),
         ("A : 'x' ;", "no start"),
@@ -113,7 +114,7 @@ fn names_the_fault_of_a_grammar(rt: HostRuntime) -> Result<(), Fail> {
         ("a 'x' ;", "syntax at byte 13"),
     ] {
         let grammar = format!(in rt.alloc(); "grammar G; {rules}")?;
-        let line = format!(in rt.alloc(); "perses: grammar: {told}\n")?;
+        let line = format!(in rt.alloc(); "perses: grammar: {fault}\n")?;
         run_case(&rt, &case_of(grammar.as_bytes(), 5, &line))?;
     }
     let line = "perses: grammar: not UTF-8 at byte 0\n";
@@ -124,7 +125,7 @@ fn names_the_fault_of_a_grammar(rt: HostRuntime) -> Result<(), Fail> {
 #[test]
 fn names_what_is_not_supported(rt: HostRuntime) -> Result<(), Fail> {
     let alloc = rt.alloc();
-    for (grammar, told) in &[
+    for (grammar, fault) in &[
         (
             "grammar G; a : 'x' {skip();} ;",
             "unsupported action at byte 19",
@@ -139,7 +140,7 @@ fn names_what_is_not_supported(rt: HostRuntime) -> Result<(), Fail> {
             "nested too deep at byte 79",
         ),
     ] {
-        let line = format!(in alloc; "perses: grammar: {told}\n")?;
+        let line = format!(in alloc; "perses: grammar: {fault}\n")?;
         run_case(&rt, &case_of(grammar.as_bytes(), 5, &line))?;
     }
     Ok(())
@@ -156,7 +157,7 @@ fn counts_the_rules_of_a_normal_form(rt: HostRuntime) -> Result<(), Fail> {
     run_case(&rt, &case_of(grammar.as_bytes(), 5, line))
 }
 
-/// The grammar with blanks behind it, up to this length.
+/// The grammar with blanks after it, up to this length.
 fn padded(alloc: Global, grammar: &str, length: usize) -> Result<Vec<u8>, Fail> {
     let mut bytes = Vec::from_slice(alloc, grammar.as_bytes())?;
     for _ in grammar.len()..length {
@@ -180,7 +181,7 @@ fn reads_no_more_than_the_limit(rt: HostRuntime) -> Result<(), Fail> {
 }
 
 #[test]
-fn tells_what_failed(rt: HostRuntime) -> Result<(), Fail> {
+fn reports_what_failed(rt: HostRuntime) -> Result<(), Fail> {
     let form = case_of(b"grammar G; a : 'x' ;", 0, "a : 'x' ;\n");
     let missing = Case {
         shows: "no grammar",
@@ -191,34 +192,34 @@ fn tells_what_failed(rt: HostRuntime) -> Result<(), Fail> {
         shows: "the read fails",
         failing: &[1],
         status: 3,
-        told: "perses: cannot read grammar\n",
+        put: "perses: cannot read grammar\n",
         ..form
     };
     let fits = Case {
-        shows: "room for the form",
-        room: 10,
+        shows: "the form just fits",
+        capacity: 10,
         ..form
     };
     let full = Case {
-        shows: "room for all but a byte",
-        room: 9,
+        shows: "a byte too little",
+        capacity: 9,
         status: 4,
-        told: "",
+        put: "",
         ..form
     };
     let unput = Case {
         shows: "the put of the form fails, and nothing follows",
         failing_puts: &[1],
         status: 4,
-        told: "",
+        put: "",
         ..form
     };
-    let untold = Case {
+    let unreported = Case {
         shows: "the put of a line fails",
         failing_puts: &[1],
         ..case_of(b"grammar G; a : b ;", 5, "")
     };
-    for case in &[form, missing, unread, fits, full, unput, untold] {
+    for case in &[form, missing, unread, fits, full, unput, unreported] {
         run_case(&rt, case)?;
     }
     Ok(())
@@ -230,7 +231,7 @@ fn prints_over_real_files(rt: HostRuntime) -> Result<(), Fail> {
     let alloc = rt.alloc();
     let folder = enter_folder(&rt)?;
     fs::write(&rt, "g", STATEMENTS)?;
-    for (line, status, told) in &[
+    for (line, status, put) in &[
         (LINE, 0, STATEMENTS_FORM),
         (
             "perses normal --grammar missing",
@@ -242,10 +243,10 @@ fn prints_over_real_files(rt: HostRuntime) -> Result<(), Fail> {
         let mut files = DiskFiles::new(rt.clone()?, alloc);
         let mut gate = RuleGate::<0>::new(alloc, true);
         let mut out = StreamSink::file(rt.clone()?);
-        out.open("told")?;
+        out.open("put")?;
         let ended = perses(alloc, &words, &mut files, &mut gate, &mut out);
         assert_eq!(rt; ended.status, *status, "{line}");
-        assert!(rt; holds(&rt, "told", told.as_bytes())?, "{line}");
+        assert!(rt; holds(&rt, "put", put.as_bytes())?, "{line}");
         assert!(rt; holds(&rt, "g", STATEMENTS.as_bytes())?, "{line}");
     }
     fs::remove_dir_all(&rt, folder.as_path())?;

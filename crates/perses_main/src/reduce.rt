@@ -1,94 +1,138 @@
-//! The reduction of a start, from its bytes to what it came to.
+//! The command `reduce`, step by step.
 
-ghost use Rattle.std.specs.Prelude.{◌≡◌, ◌⊎◌, ◌≤◌, All, IfErr, IfOk, IsErrOf, OnErr, OnOk, false, length, option_map, true};
+ghost use Rattle.std.specs.Prelude.{◌≡◌, ◌≤◌, [], All, IfErr, IfOk, OnErr, OnOk, codes, length, option_map};
 ghost use Rattle.std.specs.List.{IsDistinct};
 ghost use Rattle.std.specs.Str.{bytes_eq};
-ghost use Rattle.faults.specs.Count.{Rose};
-ghost use Rattle.script_gate.specs.declared.gate.Verdict.TheVariants.{Yes};
-ghost use Rattle.verdict_table.specs.Plan.{End, HasEnded};
-ghost use Rattle.verdict_table.specs.TableState.{texts_of, verdict_in};
-ghost use Rattle.reduce_core.specs.LineMachine.{gives, plan_of};
+ghost use Rattle.script_gate.specs.Log.{with_opening};
+ghost use Rattle.verdict_table.specs.TableState.{texts_of};
+ghost use Rattle.reduce_core.specs.LineMachine.{gives};
+ghost use Rattle.perses_main.specs.Reduce.{AreOf, RecordsAreSound, ReduceSteps, Reduces, ReducesFrom, RunFails};
 ghost use Rattle.perses_main.specs.Run.{with_all_asked};
-ghost use Rattle.perses_main.specs.Status.{IsRunRefusal};
-ghost use Rattle.perses_main.specs.Top.{AreOf, FirstIs, FirstIsNo, IsReductionOf, OnlyNo};
+ghost use Rattle.perses_main.specs.Status.{OpenFails};
+ghost use Rattle.perses_main.specs.Words.{file_name_of, paths_of};
+ghost use Rattle.perses_main.specs.World.{IsQuiet, seen};
 
+use crate::end::{Ended, end};
+use crate::file::{read_file, write_file};
 use crate::run::run;
-use crate::status::Refusal;
+use crate::status::{ReadFile, Refusal};
+use crate::words::{ReduceLine, file_name_of};
+use edge_io::{Files, Sink};
 use reduce_core::{LineReducer, asks_candidates, ends_minimal, follows_reduction, refuses_at_no};
 use script_gate::Gate;
 use std::alloc::Global;
-use verdict_table::{Records, Table};
+use verdict_table::Table;
 
-/// What a reduction came to.
-#[derive(Drop)]
-pub struct Reduced {
-    /// The verdicts of the script, in the order in which they came.
-    pub records: Records,
-    /// The reducer at its end, which has the result, or why there is none.
-    pub outcome: Result<LineReducer, Refusal>,
-}
+/// The longest input, in bytes.
+const INPUT_LIMIT: u64 = 262_144;
+
+/// The folder that candidates are written below.
+const WORK_FOLDER: &str = "perses-work";
 
 /// Reduces a start by its lines. The gate is asked once for each text, the start first; a start
 /// whose verdict is no ends the run.
-pub fn reduce<G: Gate>(alloc: Global, start: Vec<u8>, gate: &mut G) -> Reduced
-    requires { length start.items ≤ 1048576 }
-
-    // The records, whatever the outcome.
-    ensures distinct { IsDistinct bytes_eq (texts_of result.records) }
-    ensures said { All (λ r. G.may_say r.text r.verdict) result.records }
-    ensures candidates { AreOf start.items result.records }
-    ensures asked { G.log gate.new ≡ option_map (with_all_asked (texts_of result.records)) (G.log gate.old) }
-
-    // The result.
-    ensures first { OnOk result.outcome (FirstIs start.items Yes result.records) }
-    ensures reduced { IfOk result.outcome (λ reducer.
-        IsReductionOf (verdict_in result.records) start.items (gives reducer.state).text) }
-
-    // Why there is none.
-    ensures not_interesting { IsErrOf result.outcome Refusal.NotInteresting → OnlyNo result.records }
-    ensures first_no { FirstIsNo result.records
-        → IsErrOf result.outcome Refusal.NotInteresting ⊎ IsErrOf result.outcome Refusal.Memory }
-    ensures failed { IsErrOf result.outcome Refusal.Script → Rose (G.faults gate.old) (G.faults gate.new) }
-    ensures causes { IfErr result.outcome (λ refusal. IsRunRefusal refusal) }
-    ensures count { G.faults gate.old ≤ G.faults gate.new }
+fn reduce_lines<G: Gate>(
+    alloc: Global,
+    start: Vec<u8>,
+    gate: &mut G,
+    table: &mut Table,
+) -> Result<LineReducer, Refusal>
+    requires few { length start.items ≤ 1048576 }
+    requires empty { table.old.records ≡ [] }
+    requires settled { table.old.claims ≡ [] }
+    ensures distinct { IsDistinct bytes_eq (texts_of table.new.records) }
+    ensures said { All (λ r. G.may_say r.text r.verdict) table.new.records }
+    ensures candidates { AreOf start.items table.new.records }
+    ensures asked { G.log gate.new ≡ option_map (with_all_asked (texts_of table.new.records)) (G.log gate.old) }
+    ensures reduced { IfOk result (λ reducer. ReducesFrom start.items table.new.records (gives reducer.state).text) }
+    ensures quiet { OnOk result (IsQuiet (seen G.log G.faults gate.old) (seen G.log G.faults gate.new)) }
+    ensures refused { IfErr result (λ refusal. RunFails start.items table.new.records
+        (seen G.log G.faults gate.old) (seen G.log G.faults gate.new) refusal) }
 {
     follows_reduction();
     refuses_at_no();
     ends_minimal();
     asks_candidates();
-    let Ok(mut reducer) = LineReducer::new(alloc, start) else {
-        return Reduced {
-            records: Records::new(alloc),
-            outcome: Err(Refusal::Memory),
-        };
-    };
-    let mut table = Table::new(alloc);
-    let ran = run(&mut reducer, gate, &mut table);
-    let records = table.into_records();
-    if let Err(fault) = ran {
-        return Reduced {
-            records,
-            outcome: Err(Refusal::from(fault)),
-        };
+    let mut reducer = LineReducer::new(alloc, start)?;
+    run(&mut reducer, gate, table)?;
+    if reducer.refused() {
+        return Err(Refusal::NotInteresting);
     }
-    Reduced {
-        records,
-        outcome: accepted(reducer),
-    }
+    Ok(reducer)
 }
 
-/// The reducer at its end, unless it refused the start.
-fn accepted(reducer: LineReducer) -> Result<LineReducer, Refusal>
-    requires { HasEnded (plan_of reducer.state) }
-    ensures same { IfOk result (λ ended. ended ≡ reducer) }
-    ensures interesting { OnOk result ((gives reducer.state).refused ≡ false) }
-    ensures ended { plan_of reducer.state ≡ End (gives reducer.state) }
-    ensures refused { OnErr result ((gives reducer.state).refused ≡ true) }
-    ensures cause { IfErr result (λ refusal. refusal ≡ Refusal.NotInteresting) }
+/// Opens the gate of the only worker.
+fn open_gate<G: Gate>(gate: &mut G, line: ReduceLine<'_>) -> Result<(), Refusal>
+    ensures opened { OnOk result (G.log gate.new ≡ option_map (with_opening (codes "perses-work") line.entry.script.now (file_name_of line.entry.input.now) 1) (G.log gate.old)) }
+    ensures kept { OnErr result (G.log gate.new ≡ G.log gate.old) }
+    ensures quiet { OnOk result (IsQuiet (seen G.log G.faults gate.old) (seen G.log G.faults gate.new)) }
+    ensures refused { IfErr result (λ refusal. OpenFails (seen G.log G.faults gate.old) (seen G.log G.faults gate.new) refusal) }
 {
-    if reducer.refused() {
-        Err(Refusal::NotInteresting)
-    } else {
-        Ok(reducer)
+    gate.open(WORK_FOLDER, line.script, file_name_of(line.input), 1)?;
+    Ok(())
+}
+
+/// Opens the gate and reduces the start.
+fn reduce_start<G: Gate>(
+    alloc: Global,
+    line: ReduceLine<'_>,
+    start: Vec<u8>,
+    gate: &mut G,
+    table: &mut Table,
+) -> Result<LineReducer, Refusal>
+    requires few { length start.items ≤ 1048576 }
+    requires empty { table.old.records ≡ [] }
+    requires settled { table.old.claims ≡ [] }
+    ensures sound { RecordsAreSound (paths_of line.entry) G.may_say table.new.records (seen G.log G.faults gate.old) (seen G.log G.faults gate.new) }
+    ensures candidates { AreOf start.items table.new.records }
+    ensures reduced { IfOk result (λ reducer. ReducesFrom start.items table.new.records (gives reducer.state).text) }
+    ensures quiet { OnOk result (IsQuiet (seen G.log G.faults gate.old) (seen G.log G.faults gate.new)) }
+    ensures refused { IfErr result (λ refusal. RunFails start.items table.new.records
+        (seen G.log G.faults gate.old) (seen G.log G.faults gate.new) refusal) }
+{
+    open_gate(gate, line)?;
+    reduce_lines(alloc, start, gate, table)
+}
+
+/// The steps of `reduce` after the words: the input, the reduction, and the result, which is
+/// written only at the end.
+fn reduce_steps<F: Files, G: Gate>(
+    alloc: Global,
+    line: ReduceLine<'_>,
+    files: &mut F,
+    gate: &mut G,
+    table: &mut Table,
+) -> Result<(), Refusal>
+    requires empty { table.old.records ≡ [] }
+    requires settled { table.old.claims ≡ [] }
+    ensures { ReduceSteps (paths_of line.entry) G.may_say table.new.records
+        (seen F.content F.faults files.old) (seen F.content F.faults files.new)
+        (seen G.log G.faults gate.old) (seen G.log G.faults gate.new) result }
+{
+    let start = read_file(files, line.input, INPUT_LIMIT, ReadFile::Input)?;
+    let reducer = reduce_start(alloc, line, start, gate, table)?;
+    write_file(files, line.output, reducer.result())
+}
+
+/// Reduces a file as the command line says, in this order: the input is read, the gate is opened and
+/// asked, once for each text and on the calling thread, and the result is written. A start whose
+/// verdict is no ends the run at once.
+pub fn reduce<F: Files, G: Gate, O: Sink>(
+    alloc: Global,
+    line: ReduceLine<'_>,
+    files: &mut F,
+    gate: &mut G,
+    out: &mut O,
+) -> Ended
+    ensures { Reduces (paths_of line.entry) G.may_say result.records
+        (record { files = seen F.content F.faults files.old; gate = seen G.log G.faults gate.old; out = seen O.put_so_far O.faults out.old })
+        (record { files = seen F.content F.faults files.new; gate = seen G.log G.faults gate.new; out = seen O.put_so_far O.faults out.new })
+        result.status }
+{
+    let mut table = Table::new(alloc);
+    let outcome = reduce_steps(alloc, line, files, gate, &mut table);
+    Ended {
+        status: end(out, &outcome),
+        records: table.into_records(),
     }
 }

@@ -1,6 +1,6 @@
 //! One reducer answered by one gate, on one thread.
 
-ghost use Rattle.std.specs.Prelude.{◌≡◌, ◌≢◌, ◌≤◌, [], All, IfOk, OnOk, OnErr, IsErrOf, None, option_map};
+ghost use Rattle.std.specs.Prelude.{◌≡◌, ◌≢◌, [], All, IfOk, OnOk, OnErr, IsErrOf, None, option_map};
 ghost use Rattle.std.specs.Str.{bytes_eq};
 ghost use Rattle.std.specs.List.{IsDistinct};
 ghost use Rattle.faults.specs.Count.{Rose};
@@ -8,56 +8,20 @@ ghost use Rattle.verdict_table.specs.Plan.{HasEnded, MayAsk, asked, follow};
 ghost use Rattle.verdict_table.specs.TableState.{texts_of, verdict_in};
 ghost use Rattle.perses_main.specs.Run.{BeginsWith, EndsAtFirst, Learns, with_all_asked};
 
-use faults::Memory;
 use script_gate::{Gate, GateFault, Verdict};
-use thiserror::Error;
 use verdict_table::{Found, Step, Table};
-
-/// Why a run did not come to the reducer's end.
-#[derive(Clone, Copy, Debug, PartialEq, Eq, Error)]
-pub enum RunFault {
-    /// The gate failed.
-    #[error("the script gate failed")]
-    Script,
-    /// Memory ran out.
-    #[error("out of memory")]
-    Memory,
-}
-
-impl From<Memory> for RunFault {
-    ghost use Rattle.perses_main.specs.declared.run.RunFault.TheVariants.{Memory as OutOfMemory};
-
-    ghost from_gives = { λ _ fault. fault ≡ OutOfMemory };
-
-    fn from(_: Memory) -> RunFault {
-        RunFault::Memory
-    }
-}
-
-impl From<GateFault> for RunFault {
-    ghost use Rattle.perses_main.specs.Run.{fault_of};
-
-    ghost from_gives = { λ gate_fault fault. fault ≡ fault_of gate_fault };
-
-    fn from(fault: GateFault) -> RunFault {
-        match fault {
-            GateFault::Failed => RunFault::Script,
-            GateFault::Memory => RunFault::Memory,
-        }
-    }
-}
 
 /// The verdict on a text: the recorded one, or else the gate's, which is recorded. The gate is
 /// asked only for a text that has no record.
-fn learn<G: Gate>(gate: &mut G, table: &mut Table, text: &[u8]) -> Result<Verdict, RunFault>
+fn learn<G: Gate>(gate: &mut G, table: &mut Table, text: &[u8]) -> Result<Verdict, GateFault>
     requires settled { table.old.claims ≡ [] }
     ensures learns { IfOk result (λ verdict. Learns G.may_say G.log gate.old gate.new table.old table.new text.now verdict) }
     ensures settled { OnOk result (table.new.claims ≡ []) }
     ensures records { OnErr result (table.new.records ≡ table.old.records) }
     ensures absent { OnErr result (verdict_in table.old.records text.now ≡ None) }
-    ensures told { OnErr result (G.log gate.new ≡ G.log gate.old) }
-    ensures count { G.faults gate.old ≤ G.faults gate.new }
-    ensures failed { IsErrOf result RunFault.Script → Rose (G.faults gate.old) (G.faults gate.new) }
+    ensures log { OnErr result (G.log gate.new ≡ G.log gate.old) }
+    ensures quiet { (¬ IsErrOf result GateFault.Failed) → G.faults gate.new ≡ G.faults gate.old }
+    ensures failed { IsErrOf result GateFault.Failed → Rose (G.faults gate.old) (G.faults gate.new) }
 {
     match table.find(text) {
         Found::Filled { verdict, .. } => Ok(verdict),
@@ -73,7 +37,7 @@ fn learn<G: Gate>(gate: &mut G, table: &mut Table, text: &[u8]) -> Result<Verdic
 
 /// Asks the gate for what the reducer asks, and answers the reducer, until it asks nothing more.
 /// Each verdict is recorded once.
-pub fn run<S: Step, G: Gate>(step: &mut S, gate: &mut G, table: &mut Table) -> Result<(), RunFault>
+pub fn run<S: Step, G: Gate>(step: &mut S, gate: &mut G, table: &mut Table) -> Result<(), GateFault>
     requires new { S.first step.old ≡ S.plan step.old }
     requires empty { table.old.records ≡ [] }
     requires settled { table.old.claims ≡ [] }
@@ -91,10 +55,10 @@ pub fn run<S: Step, G: Gate>(step: &mut S, gate: &mut G, table: &mut Table) -> R
     ensures ended { OnOk result (HasEnded (S.plan step.new)) }
 
     // The gate fails only where the reducer waits for a verdict that the records have not.
-    ensures unfinished { IsErrOf result RunFault.Script
+    ensures unfinished { IsErrOf result GateFault.Failed
         → asked (follow (verdict_in table.new.records) (S.first step.old)) ≢ None }
-    ensures count { G.faults gate.old ≤ G.faults gate.new }
-    ensures failed { IsErrOf result RunFault.Script → Rose (G.faults gate.old) (G.faults gate.new) }
+    ensures quiet { (¬ IsErrOf result GateFault.Failed) → G.faults gate.new ≡ G.faults gate.old }
+    ensures failed { IsErrOf result GateFault.Failed → Rose (G.faults gate.old) (G.faults gate.new) }
 {
     while let Some(text) = step.asks() {
         let verdict = learn(gate, table, text)?;

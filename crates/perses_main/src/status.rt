@@ -1,24 +1,23 @@
-//! The statuses of the program, and what it tells of each.
+//! The refusals of the program, each with its status and its line.
 
 ghost use Rattle.std.specs.Prelude.{◌≡◌, IfSome};
-ghost use Rattle.perses_main.specs.Status.{IsGrammarRefusal, PutsLine, line_of, status_of};
+ghost use Rattle.perses_main.specs.Status.{IsGrammarRefusal, line_of, status_of};
 
-use crate::run::RunFault;
-use edge_io::Sink;
 use faults::Memory;
+use script_gate::GateFault;
 use std::alloc::Global;
 use std::fmt::Display;
 
 /// A file that the program reads.
 #[derive(Clone, Copy, Debug, PartialEq, Eq)]
-pub enum Source {
+pub enum ReadFile {
     /// The file to be reduced.
     Input,
     /// The file of the grammar.
     Grammar,
 }
 
-/// Why a command came to no end.
+/// Why a command ends without its result.
 #[derive(Drop)]
 pub enum Refusal {
     /// Memory ran out.
@@ -26,15 +25,15 @@ pub enum Refusal {
     /// The words are no command line.
     Usage,
     /// This file can't be read.
-    CannotRead(Source),
+    CannotRead(ReadFile),
     /// The result can't be written.
     CannotWrite,
-    /// The grammar has a fault, which this line tells.
+    /// The grammar has a fault, which this line names.
     Grammar(String),
     /// The script says no to the start.
     NotInteresting,
     /// This file is longer than its limit.
-    TooLong(Source),
+    TooLong(ReadFile),
     /// The script can't be asked.
     Script,
 }
@@ -50,48 +49,24 @@ impl Refusal {
         }
     }
 
-    /// The status that the program ends with.
-    pub fn status(&self) -> u8
-        ensures { result ≡ status_of self.now }
+    /// The status that the program ends with, and the line that it puts on `out`.
+    pub fn ending(&self) -> (u8, &str)
+        ensures status { result.0 ≡ status_of self.now }
+        ensures line { result.1.now ≡ line_of self.now }
     {
         match self {
-            Refusal::Memory => 1,
-            Refusal::Usage => 2,
-            Refusal::CannotRead(_) => 3,
-            Refusal::CannotWrite => 4,
-            Refusal::Grammar(_) => 5,
-            Refusal::NotInteresting => 8,
-            Refusal::TooLong(_) => 10,
-            Refusal::Script => 11,
+            Refusal::Memory => (1, "perses: out of memory\n"),
+            Refusal::Usage => (2, "perses: bad command line\n"),
+            Refusal::CannotRead(ReadFile::Input) => (3, "perses: cannot read input\n"),
+            Refusal::CannotRead(ReadFile::Grammar) => (3, "perses: cannot read grammar\n"),
+            Refusal::CannotWrite => (4, "perses: cannot write\n"),
+            Refusal::Grammar(line) => (5, line.as_str()),
+            Refusal::NotInteresting => (8, "perses: start is not interesting\n"),
+            Refusal::TooLong(ReadFile::Input) => (10, "perses: input is too long\n"),
+            Refusal::TooLong(ReadFile::Grammar) => (10, "perses: grammar is too long\n"),
+            Refusal::Script => (11, "perses: script fault at worker 1\n"),
         }
     }
-
-    /// The line that tells it.
-    pub fn line(&self) -> &str
-        ensures { result.now ≡ line_of self.now }
-    {
-        match self {
-            Refusal::Memory => "perses: out of memory\n",
-            Refusal::Usage => "perses: bad command line\n",
-            Refusal::CannotRead(Source::Input) => "perses: cannot read input\n",
-            Refusal::CannotRead(Source::Grammar) => "perses: cannot read grammar\n",
-            Refusal::CannotWrite => "perses: cannot write\n",
-            Refusal::Grammar(line) => line.as_str(),
-            Refusal::NotInteresting => "perses: start is not interesting\n",
-            Refusal::TooLong(Source::Input) => "perses: input is too long\n",
-            Refusal::TooLong(Source::Grammar) => "perses: grammar is too long\n",
-            Refusal::Script => "perses: script fault at worker 1\n",
-        }
-    }
-}
-
-/// Puts the line of a refusal, and gives its status, which stays where the line can't be put.
-pub fn refuse<O: Sink>(out: &mut O, refusal: &Refusal) -> u8
-    ensures status { result ≡ status_of refusal.now }
-    ensures told { PutsLine (line_of refusal.now) (O.put_so_far out.old) (O.put_so_far out.new) (O.faults out.old) (O.faults out.new) }
-{
-    let _ = out.put(refusal.line().as_bytes());
-    refusal.status()
 }
 
 impl From<Memory> for Refusal {
@@ -104,15 +79,15 @@ impl From<Memory> for Refusal {
     }
 }
 
-impl From<RunFault> for Refusal {
+impl From<GateFault> for Refusal {
     ghost use Rattle.perses_main.specs.Status.{refusal_of};
 
     ghost from_gives = { λ fault refusal. refusal ≡ refusal_of fault };
 
-    fn from(fault: RunFault) -> Refusal {
+    fn from(fault: GateFault) -> Refusal {
         match fault {
-            RunFault::Script => Refusal::Script,
-            RunFault::Memory => Refusal::Memory,
+            GateFault::Failed => Refusal::Script,
+            GateFault::Memory => Refusal::Memory,
         }
     }
 }

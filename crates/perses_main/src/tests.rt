@@ -13,8 +13,8 @@ use std::time::SystemTime;
 use std::{env, fs, process};
 use verdict_table::Records;
 
-/// The bytes that a sink in memory has room for.
-pub const ROOM: u64 = 2_097_152;
+/// The most bytes that a sink in memory takes.
+pub const CAPACITY: u64 = 2_097_152;
 
 /// A run over objects in memory, and what has to come of it.
 #[derive(Clone, Copy)]
@@ -85,7 +85,7 @@ fn run_case<R: Abort + AllocGlobal, G: Gate>(
         "perses reduce --mode lines --input i --output o --script s",
     )?;
     let mut files = files_of(alloc, case)?;
-    let mut out = MemSink::new(alloc, ROOM, Vec::new(alloc))?;
+    let mut out = MemSink::new(alloc, CAPACITY, Vec::new(alloc))?;
     let ended = perses(alloc, &words, &mut files, gate, &mut out);
     assert_eq!(rt; ended.status, case.status, "{shows}");
     assert!(rt; has_records(&ended.records, case.records), "{shows}");
@@ -95,20 +95,20 @@ fn run_case<R: Abort + AllocGlobal, G: Gate>(
     Ok(())
 }
 
-/// The opening that was told, and whether the asks that were told are the texts of the records.
-fn tells(told: Option<&Log>, name: &str, records: &[(&str, Verdict)]) -> bool {
-    let Some(told) = told else {
+/// Whether the log has the opening for a file of this name, and the texts of the records as its asks.
+fn logs(log: Option<&Log>, name: &str, records: &[(&str, Verdict)]) -> bool {
+    let Some(log) = log else {
         return false;
     };
-    let Some(opening) = &told.opening else {
+    let Some(opening) = &log.opening else {
         return false;
     };
     opening.work.as_slice() == b"perses-work".as_slice()
         && opening.script.as_slice() == b"s".as_slice()
         && opening.name.as_slice() == name.as_bytes()
         && opening.number == 1
-        && told.asked.len() == records.len()
-        && told
+        && log.asked.len() == records.len()
+        && log
             .asked
             .as_slice()
             .iter()
@@ -131,7 +131,7 @@ fn keeps_the_line_that_the_rule_needs(rt: HostRuntime) -> Result<(), Fail> {
     };
     let mut gate = RuleGate::<98>::new(rt.alloc(), true);
     run_case(&rt, &case, &mut gate)?;
-    assert!(rt; tells(gate.log(), "i", case.records));
+    assert!(rt; logs(gate.log(), "i", case.records));
     Ok(())
 }
 
@@ -157,7 +157,7 @@ fn removes_all_where_all_is_interesting(rt: HostRuntime) -> Result<(), Fail> {
     for case in &[empty, without_newline, unwritten] {
         let mut gate = RuleGate::<0>::new(rt.alloc(), true);
         run_case(&rt, case, &mut gate)?;
-        assert!(rt; tells(gate.log(), "i", case.records), "{}", case.shows);
+        assert!(rt; logs(gate.log(), "i", case.records), "{}", case.shows);
     }
     Ok(())
 }
@@ -173,7 +173,7 @@ fn refuses_what_the_gate_refuses(rt: HostRuntime) -> Result<(), Fail> {
     };
     let mut rule = RuleGate::<255>::new(alloc, true);
     run_case(&rt, &uninteresting, &mut rule)?;
-    assert!(rt; tells(rule.log(), "i", uninteresting.records));
+    assert!(rt; logs(rule.log(), "i", uninteresting.records));
 
     let failing = Case {
         status: 11,
@@ -184,7 +184,7 @@ fn refuses_what_the_gate_refuses(rt: HostRuntime) -> Result<(), Fail> {
     let answers = vec![in alloc; Said::Yes, Said::Fail]?;
     let mut list = ListGate::new(alloc, answers, Said::Yes);
     run_case(&rt, &failing, &mut list)?;
-    assert!(rt; tells(Some(list.log()), "i", failing.records));
+    assert!(rt; logs(Some(list.log()), "i", failing.records));
     Ok(())
 }
 
@@ -205,14 +205,14 @@ fn opens_no_gate_without_an_input(rt: HostRuntime) -> Result<(), Fail> {
     for case in &[too_long, missing] {
         let mut gate = RuleGate::<0>::new(alloc, true);
         run_case(&rt, case, &mut gate)?;
-        let opening = gate.log().and_then(|told| told.opening.as_ref());
+        let opening = gate.log().and_then(|log| log.opening.as_ref());
         assert!(rt; opening.is_none(), "{}", case.shows);
     }
     Ok(())
 }
 
 #[test]
-fn opens_the_gate_with_the_name_behind_the_last_slash(rt: HostRuntime) -> Result<(), Fail> {
+fn opens_the_gate_with_the_name_after_the_last_slash(rt: HostRuntime) -> Result<(), Fail> {
     let alloc = rt.alloc();
     let words = words_in(
         alloc,
@@ -222,10 +222,10 @@ fn opens_the_gate_with_the_name_behind_the_last_slash(rt: HostRuntime) -> Result
     held.push((String::from_str(alloc, "dir/sub/i")?, Vec::new(alloc)))?;
     let mut files = MemFiles::new(alloc, held, Vec::new(alloc));
     let mut gate = RuleGate::<0>::new(alloc, true);
-    let mut out = MemSink::new(alloc, ROOM, Vec::new(alloc))?;
+    let mut out = MemSink::new(alloc, CAPACITY, Vec::new(alloc))?;
     let ended = perses(alloc, &words, &mut files, &mut gate, &mut out);
     assert_eq!(rt; ended.status, 0);
-    assert!(rt; tells(gate.log(), "i", &[("", Verdict::Yes)]));
+    assert!(rt; logs(gate.log(), "i", &[("", Verdict::Yes)]));
     Ok(())
 }
 
@@ -239,7 +239,7 @@ fn refuses_words<R: Abort + AllocGlobal>(
     let alloc = rt.alloc();
     let mut files = files_of(alloc, &plain_case("", Some(b"a\n")))?;
     let mut gate = RuleGate::<0>::new(alloc, true);
-    let mut out = MemSink::new(alloc, ROOM, Vec::from_slice(alloc, failing_puts)?)?;
+    let mut out = MemSink::new(alloc, CAPACITY, Vec::from_slice(alloc, failing_puts)?)?;
     let ended = perses(alloc, words, &mut files, &mut gate, &mut out);
     Ok(
         ended.status == 2
@@ -252,7 +252,7 @@ fn refuses_words<R: Abort + AllocGlobal>(
 #[test]
 fn refuses_words_that_are_no_command_line(rt: HostRuntime) -> Result<(), Fail> {
     let alloc = rt.alloc();
-    let told = "perses: bad command line\n";
+    let usage = "perses: bad command line\n";
     for line in &[
         "perses",
         "perses reduce",
@@ -283,9 +283,9 @@ fn refuses_words_that_are_no_command_line(rt: HostRuntime) -> Result<(), Fail> {
         "perses normal --grammar i --start a",
     ] {
         let words = words_in(alloc, line)?;
-        assert!(rt; refuses_words(&rt, &words, &[], told)?, "{line}");
+        assert!(rt; refuses_words(&rt, &words, &[], usage)?, "{line}");
     }
-    assert!(rt; refuses_words(&rt, &[], &[], told)?, "no words");
+    assert!(rt; refuses_words(&rt, &[], &[], usage)?, "no words");
     let lonely = words_in(alloc, "perses")?;
     assert!(rt; refuses_words(&rt, &lonely, &[1], "")?, "the put fails");
     Ok(())
@@ -303,7 +303,7 @@ pub fn enter_folder(rt: &HostRuntime) -> Result<PathBuf, Fail> {
     Ok(folder)
 }
 
-/// Runs the program over real files and processes. The file `told` gets what it tells.
+/// Runs the program over real files and processes. The file `line` gets what it puts on `out`.
 fn run_real(rt: &HostRuntime, input: &str, output: &str, script: &str) -> Result<u8, Fail> {
     let alloc = rt.alloc();
     let line = format!(in alloc;
@@ -313,7 +313,7 @@ fn run_real(rt: &HostRuntime, input: &str, output: &str, script: &str) -> Result
     let mut files = DiskFiles::new(rt.clone()?, alloc);
     let mut gate = ProcessGate::new(rt.clone()?, alloc);
     let mut out = StreamSink::file(rt.clone()?);
-    out.open("told")?;
+    out.open("line")?;
     let ended = perses(alloc, &words, &mut files, &mut gate, &mut out);
     Ok(ended.status)
 }
@@ -329,12 +329,12 @@ fn asks_a_real_shell(rt: HostRuntime) -> Result<(), Fail> {
     fs::write(&rt, "yes", "true\nfalse\ntrue\n")?;
     assert_eq!(rt; run_real(&rt, "yes", "o", "/bin/sh")?, 0);
     assert!(rt; holds(&rt, "o", b"")?);
-    assert!(rt; holds(&rt, "told", b"")?);
+    assert!(rt; holds(&rt, "line", b"")?);
 
     fs::write(&rt, "no", "false\n")?;
     assert_eq!(rt; run_real(&rt, "no", "none", "/bin/sh")?, 8);
     assert!(rt; !fs::exists(&rt, "none")?);
-    assert!(rt; holds(&rt, "told", b"perses: start is not interesting\n")?);
+    assert!(rt; holds(&rt, "line", b"perses: start is not interesting\n")?);
     fs::remove_dir_all(&rt, folder.as_path())?;
     Ok(())
 }
@@ -347,7 +347,7 @@ struct RealCase<'a> {
     script: &'a str,
     status: u8,
     /// What the file `o` holds at the end.
-    left: &'a [u8],
+    output_at_end: &'a [u8],
 }
 
 /// What the inputs of the real cases hold.
@@ -394,18 +394,18 @@ fn holds_inputs(rt: &HostRuntime) -> Result<bool, Fail> {
     Ok(true)
 }
 
-fn real_case<'a>(words: [&'a str; 3], status: u8, left: &'a [u8]) -> RealCase<'a> {
+fn real_case<'a>(words: [&'a str; 3], status: u8, output_at_end: &'a [u8]) -> RealCase<'a> {
     let [input, output, script] = words;
     RealCase {
         input,
         output,
         script,
         status,
-        left,
+        output_at_end,
     }
 }
 
-// From the second case on, the folder of the work stands already.
+// From the second case on, the work folder is there already.
 #[test]
 fn ends_by_its_status_over_real_files(rt: HostRuntime) -> Result<(), Fail> {
     let folder = enter_folder(&rt)?;
@@ -426,7 +426,7 @@ fn ends_by_its_status_over_real_files(rt: HostRuntime) -> Result<(), Fail> {
         fs::write(&rt, "o", "old")?;
         let status = run_real(&rt, case.input, case.output, case.script)?;
         assert_eq!(rt; status, case.status, "{shows}");
-        assert!(rt; holds(&rt, "o", case.left)?, "{shows}");
+        assert!(rt; holds(&rt, "o", case.output_at_end)?, "{shows}");
         assert!(rt; holds_inputs(&rt)?, "{shows}");
     }
     fs::remove_dir_all(&rt, folder.as_path())?;

@@ -1,9 +1,9 @@
 ghost use Rattle.std.specs.Prelude.{◌≡◌, None, Some, MatchOption, codes, map, string_bytes};
-ghost use Rattle.perses_main.specs.Words.{command, command_of, is_value, name_of, names_of, normal_line, reduce_line, taken};
+ghost use Rattle.perses_main.specs.Words.{command_of, command_read, file_name_of, first_option, is_value, normal_line, paths_of, reduce_line};
 
-/// The names that a command line of `reduce` gives.
+/// The paths that a command line of `reduce` gives.
 #[derive(Clone, Copy, Debug)]
-pub struct Line<'a> {
+pub struct ReduceLine<'a> {
     /// The file to be reduced.
     pub input: &'a str,
     /// The file that the result is written to.
@@ -16,7 +16,7 @@ pub struct Line<'a> {
 #[derive(Clone, Copy, Debug)]
 pub enum CommandLine<'a> {
     /// `reduce`: a file is reduced.
-    Reduce(Line<'a>),
+    Reduce(ReduceLine<'a>),
     /// `normal`: the normal form of the grammar in this file is printed.
     Normal(&'a str),
 }
@@ -26,7 +26,7 @@ pub enum CommandLine<'a> {
 pub fn read_words(words: &[String]) -> Option<CommandLine<'_>>
     ensures { MatchOption result
         (command_of (map string_bytes words.entry.now) ≡ None)
-        (λ line. command_of (map string_bytes words.entry.now) ≡ Some (command line)) }
+        (λ line. command_of (map string_bytes words.entry.now) ≡ Some (command_read line)) }
 {
     let [_, command, words @ ..] = words else {
         return None;
@@ -40,11 +40,11 @@ pub fn read_words(words: &[String]) -> Option<CommandLine<'_>>
     }
 }
 
-/// The names behind the word `reduce`.
-fn read_reduce(words: &[String]) -> Option<Line<'_>>
+/// The paths after the word `reduce`.
+fn read_reduce(words: &[String]) -> Option<ReduceLine<'_>>
     ensures { MatchOption result
         (reduce_line (map string_bytes words.entry.now) ≡ None)
-        (λ line. reduce_line (map string_bytes words.entry.now) ≡ Some (names_of line)) }
+        (λ line. reduce_line (map string_bytes words.entry.now) ≡ Some (paths_of line)) }
 {
     let (mode, words) = take_option(words, "--mode")?;
     if mode != "lines" {
@@ -56,14 +56,14 @@ fn read_reduce(words: &[String]) -> Option<Line<'_>>
     if !words.is_empty() {
         return None;
     }
-    Some(Line {
+    Some(ReduceLine {
         input,
         output,
         script,
     })
 }
 
-/// The grammar's name behind the word `normal`.
+/// The grammar's path after the word `normal`.
 fn read_normal(words: &[String]) -> Option<&str>
     ensures { MatchOption result
         (normal_line (map string_bytes words.entry.now) ≡ None)
@@ -77,11 +77,11 @@ fn read_normal(words: &[String]) -> Option<&str>
     }
 }
 
-/// The value of the option of this name, where the words begin with it, and the words behind it.
+/// The value of the option of this name, where the words begin with it, and the words after it.
 fn take_option<'a>(words: &'a [String], name: &str) -> Option<(&'a str, &'a [String])>
     ensures { MatchOption result
-        (taken name.now (map string_bytes words.entry.now) ≡ None)
-        (λ t. taken name.now (map string_bytes words.entry.now)
+        (first_option name.now (map string_bytes words.entry.now) ≡ None)
+        (λ t. first_option name.now (map string_bytes words.entry.now)
         ≡ Some (record { value = t.0.now; rest = map string_bytes t.1.now })) }
 {
     let [word, value, rest @ ..] = words else {
@@ -101,9 +101,9 @@ fn is_value(word: &str) -> bool
     !word.is_empty() && !word.starts_with('-')
 }
 
-/// The part of a path behind its last slash, or the whole path.
-pub fn name_of(path: &str) -> &str
-    ensures { result.now ≡ name_of path.entry.now }
+/// The part of a path after its last slash, or the whole path.
+pub fn file_name_of(path: &str) -> &str
+    ensures { result.now ≡ file_name_of path.entry.now }
 {
     match path.rsplit_once('/') {
         Some((_, name)) => name,

@@ -1,5 +1,5 @@
 use Rattle.perses_main.proofs.NameLemmas.{name-split, name-none}
-use Rattle.perses_main.proofs.words.name_of.Goals as goal
+use Rattle.perses_main.proofs.words.file_name_of.Goals as goal
 
 pub returns-in-Some : goal.returns-in-Some
 returns-in-Some c =

@@ -1,7 +1,7 @@
 use Rattle.std.proofs.Common.{rules}
 use Rattle.std.proofs.lemmas.Result.{err_from_is_err_and}
 use Rattle.perses_main.proofs.NormalLemmas.{unchecked}
-use Rattle.perses_main.proofs.normal.form_of.Goals as goal
+use Rattle.perses_main.proofs.normal.form_of_text.Goals as goal
 
 pub returns-in_err-checked-clause-refused : goal.returns-in_err-checked-clause-refused
 returns-in_err-checked-clause-refused c =

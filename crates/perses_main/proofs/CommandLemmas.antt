@@ -1,0 +1,223 @@
+-- How the steps of `reduce` end it.
+use Rattle.std.proofs.Common.{◌≡◌, ◌≢◌, ◌≤◌, inl, inr, ℕ, List, [], ◌∷◌, ◌++◌, All, length, Option, Some, None, option_map, codes, refl, sym, ap, ◌∙◌, subst, Result, Ok, Err, IfErr, MatchResult, OnOk}
+use Rattle.std.proofs.lemmas.List.{append-nil}
+use Rattle.std.proofs.lemmas.List.Elements.{All-nil}
+use Rattle.std.specs.List.{IsDistinct}
+use Rattle.std.specs.Str.{bytes_eq}
+use Rattle.faults.specs.Count.{Rose}
+use Rattle.edge_io.specs.Files.{FileContent, Holds, SameFiles, SameOthers}
+use Rattle.script_gate.specs.declared.gate.Verdict.{Verdict}
+use Rattle.script_gate.specs.declared.gate.Verdict.TheVariants.{Yes}
+use Rattle.script_gate.specs.declared.log.Log.{Log}
+use Rattle.script_gate.specs.Log.{with_opening}
+use Rattle.verdict_table.specs.declared.record.Record.{Record}
+use Rattle.verdict_table.specs.TableState.{texts_of}
+use Rattle.perses_main.specs.declared.status.Refusal.{Refusal}
+use Rattle.perses_main.specs.declared.status.Refusal.TheVariants.{Memory, CannotRead, CannotWrite, NotInteresting, TooLong, Script}
+use Rattle.perses_main.specs.declared.status.ReadFile.TheVariants as read_file
+use Rattle.perses_main.specs.Reduce.{AreCandidates, AreOf, AsksAre, FirstIs, FirstIsNo, OpenedAs, RecordsAreSound, ReducesFrom, RunFails, ReduceEnds, ReduceFails, ReduceMustEnd, ReduceSteps, Reduces, WritesReduced, opening_for}
+use Rattle.perses_main.specs.Reduce.ReduceEnds.{done, memory, unread, unwritten, uninteresting, too_long, script}
+use Rattle.perses_main.specs.Run.{with_all_asked}
+use Rattle.perses_main.specs.Status.{EndsRefused, EndsSilent, OpenFails, ReadFails, WriteFails}
+use Rattle.perses_main.specs.Words.{Paths, file_name_of}
+use Rattle.perses_main.specs.World.{FilesKept, IsQuiet, SeenFiles, SeenGate, SeenOut, Unasked, WasRead, World}
+use Rattle.perses_main.proofs.FileLemmas.{not_longer, read_not_over}
+use Rattle.perses_main.proofs.RunLemmas.{none_distinct}
+
+yes_no : (start : List ℕ) (records : List Record) → FirstIs start Yes records → FirstIsNo records → ⊥
+yes_no start [] first first_no = first
+yes_no start (r ∷ records) first first_no = absurd (cc (sym first.1 ∙ first_no))
+
+none_no : (records : List Record) → records ≡ [] → FirstIsNo records → ⊥
+none_no records none first_no = subst FirstIsNo none first_no
+
+asks_none : (log : Option Log) → AsksAre log log (texts_of [])
+asks_none None = tt
+asks_none (Some log) = sym (append-nil log.asked)
+
+-- a gate that was opened and asked for these texts
+asks_these : (opening : Log → Log) (texts : List (List ℕ)) → ((log : Log) → (opening log).asked ≡ log.asked) → (log : Option Log) → AsksAre log (option_map (with_all_asked texts) (option_map opening log)) texts
+asks_these opening texts same None = tt
+asks_these opening texts same (Some log) = ap (λ asked. asked ++ texts) (same log)
+
+opened_so : (paths : Paths) (texts : List (List ℕ)) (records : List Record) (log : Option Log) →
+    OpenedAs (opening_for paths 1) (option_map (with_all_asked texts) (option_map (with_opening (codes "perses-work") paths.script (file_name_of paths.input) 1) log)) records
+opened_so paths texts [] log = tt
+opened_so paths texts (r ∷ records) None = tt
+opened_so paths texts (r ∷ records) (Some log) = refl
+
+module _ (paths : Paths) (may_say : List ℕ → Verdict → Type 0) where
+  -- no record was made, and the gate's log is the same
+  pub none_sound : (records : List Record) (gate gate' : SeenGate) → records ≡ [] → gate'.shown ≡ gate.shown → RecordsAreSound paths may_say records gate gate'
+  none_sound records gate gate' none same = subst (λ rs. RecordsAreSound paths may_say rs gate gate') (sym none) (record {
+    distinct = none_distinct [] refl;
+    said = All-nil _;
+    asked = subst (λ log. AsksAre gate.shown log (texts_of [])) (sym same) (asks_none gate.shown);
+    opened = tt;
+  })
+
+  -- the gate was opened, and then asked for the records' texts
+  pub asked_sound : (records : List Record) (gate opened gate' : SeenGate) → IsDistinct bytes_eq (texts_of records) → All (λ r. may_say r.text r.verdict) records
+      → opened.shown ≡ option_map (with_opening (codes "perses-work") paths.script (file_name_of paths.input) 1) gate.shown → gate'.shown ≡ option_map (with_all_asked (texts_of records)) opened.shown
+      → RecordsAreSound paths may_say records gate gate'
+  asked_sound records gate opened gate' distinct said is_open is_asked =
+      let is : gate'.shown ≡ option_map (with_all_asked (texts_of records)) (option_map (with_opening (codes "perses-work") paths.script (file_name_of paths.input) 1) gate.shown) =
+      is_asked ∙ ap (option_map (with_all_asked (texts_of records))) is_open in
+      record {
+        distinct = distinct;
+        said = said;
+        asked = subst (λ log. AsksAre gate.shown log (texts_of records)) (sym is) (asks_these (with_opening (codes "perses-work") paths.script (file_name_of paths.input) 1) (texts_of records) (λ log. refl) gate.shown);
+        opened = subst (λ log. OpenedAs (opening_for paths 1) log records) (sym is) (opened_so paths (texts_of records) records gate.shown);
+      }
+
+-- why the gate wasn't opened is why there is no reduction
+pub run_open : (start : List ℕ) (records : List Record) (gate gate' : SeenGate) (refusal : Refusal) → records ≡ [] → OpenFails gate gate' refusal → RunFails start records gate gate' refusal
+run_open start records gate gate' Memory none why = why
+run_open start records gate gate' Script none why = (why, subst (λ rs. ¬ FirstIsNo rs) (sym none) (λ first. first))
+run_open start records gate gate' _ none why = absurd why
+
+-- why there is no reduction, seen from before the gate's opening, in which no call failed
+pub run_later : (start : List ℕ) (records : List Record) (gate opened gate' : SeenGate) (refusal : Refusal) → IsQuiet gate opened → RunFails start records opened gate' refusal → RunFails start records gate gate' refusal
+run_later start records gate opened gate' Memory quiet why = why ∙ quiet
+run_later start records gate opened gate' NotInteresting quiet (only, first, same) = (only, first, same ∙ quiet)
+run_later start records gate opened gate' Script quiet (failed, not_no) = (subst (λ count. Rose count gate'.faults) quiet failed, not_no)
+run_later start records gate opened gate' _ quiet why = absurd why
+
+candidates_of : (input : Option FileContent) (start : List ℕ) (records : List Record) → Holds start input → length start ≤ 262144 → AreOf start records → AreCandidates input records
+candidates_of input start [] here within are = tt
+candidates_of input start (r ∷ records) here within are = record { bytes = start; read = here; within = within; holds = are }
+
+module _ (paths : Paths) (may_say : List ℕ → Verdict → Type 0) (records : List Record) (files files' : SeenFiles) where
+  -- the input wasn't read
+  pub stops_read : (gate : SeenGate) (refusal : Refusal) → records ≡ [] → SameFiles files.shown files'.shown
+      → ReadFails 262144 read_file.Input (files.shown paths.input) files files' refusal
+      → ReduceSteps paths may_say records files files' gate gate (Err refusal)
+  stops_read gate refusal none same why = record {
+    sound = none_sound paths may_say records gate gate none refl;
+    candidates = subst (λ rs. AreCandidates (files.shown paths.input) rs) (sym none) tt;
+    ends = at refusal why;
+  }
+    where
+      untouched : Unasked records gate gate
+      untouched = record { no_records = none; same = refl }
+
+      at : (refusal : Refusal) → ReadFails 262144 read_file.Input (files.shown paths.input) files files' refusal → ReduceFails paths records files files' gate gate refusal
+      at Memory why = λ out out' put. memory (record { same = same; quiet = why }) refl put
+      at (CannotRead file) why = subst (λ f. ReduceFails paths records files files' gate gate (CannotRead f)) (sym why.0)
+          (λ out out' put. unread why.1 same untouched put)
+      at (TooLong file) why = subst (λ f. ReduceFails paths records files files' gate gate (TooLong f)) (sym why.0)
+          (λ out out' put. too_long why.1 (record { same = same; quiet = why.2 }) untouched put)
+      at _ why = absurd why
+
+  module _ (gate gate' : SeenGate) (start : List ℕ) (here : Holds start (files.shown paths.input)) (within : length start ≤ 262144) (sound : RecordsAreSound paths may_say records gate gate') (are : AreOf start records) where
+    was_read : (P : List ℕ → Type 0) → P start → WasRead 262144 (files.shown paths.input) P
+    was_read P holds = record { bytes = start; read = here; within = within; holds = holds }
+
+    -- the start wasn't reduced
+    pub stops_run : (refusal : Refusal) → SameFiles files.shown files'.shown → IsQuiet files files' → RunFails start records gate gate' refusal → ReduceSteps paths may_say records files files' gate gate' (Err refusal)
+    stops_run refusal same quiet why = record { sound = sound; candidates = candidates_of (files.shown paths.input) start records here within are; ends = at refusal why }
+      where
+        kept : FilesKept files files'
+        kept = record { same = same; quiet = quiet }
+
+        at : (refusal : Refusal) → RunFails start records gate gate' refusal → ReduceFails paths records files files' gate gate' refusal
+        at Memory why = λ out out' put. memory kept why put
+        at NotInteresting why = λ out out' put. uninteresting why.0 (was_read _ why.1) kept why.2 put
+        at Script why = λ out out' put. script why.0 why.1 (was_read _ tt) kept put
+        at _ why = absurd why
+
+    -- the result was written, or it wasn't
+    pub stops_write : (read : SeenFiles) (text : List ℕ) (outcome : Result (Unit {0}) Refusal) → SameFiles files.shown read.shown → IsQuiet files read → IsQuiet gate gate' → ReducesFrom start records text
+        → OnOk outcome (Holds text (files'.shown paths.output)) → OnOk outcome (IsQuiet read files') → SameOthers read.shown files'.shown paths.output → IfErr outcome (λ refusal. WriteFails read files' refusal)
+        → ReduceSteps paths may_say records files files' gate gate' outcome
+    stops_write read text outcome same quiet gate_quiet reduces written kept others failed =
+        record { sound = sound; candidates = candidates_of (files.shown paths.input) start records here within are; ends = at outcome written kept failed }
+      where
+        all_others : SameOthers files.shown files'.shown paths.output
+        all_others = λ name other. others name other ∙ same name
+
+        at : (outcome : Result (Unit {0}) Refusal) → OnOk outcome (Holds text (files'.shown paths.output)) → OnOk outcome (IsQuiet read files') → IfErr outcome (λ refusal. WriteFails read files' refusal)
+            → MatchResult outcome (λ _. WritesReduced paths records files files' gate gate') (λ refusal. ReduceFails paths records files files' gate gate' refusal)
+        at (Ok x) written kept failed = record {
+          reduced = record { text = text; reduces = was_read _ reduces; written = written };
+          others = all_others;
+          files_quiet = kept ∙ quiet;
+          gate_quiet = gate_quiet;
+        }
+        at (Err Memory) written kept failed = λ out out' put. memory (record { same = λ name. failed.same name ∙ same name; quiet = failed.quiet ∙ quiet }) gate_quiet put
+        at (Err CannotWrite) written kept failed = λ out out' put. unwritten (subst (λ count. Rose count files'.faults) quiet failed) text (was_read _ reduces) all_others gate_quiet put
+        at (Err _) written kept failed = absurd failed
+
+module _ (paths : Paths) (records : List Record) (old new : World) where
+  -- which status it has to be
+  must_end : {status : ℕ} → ReduceEnds paths records old new status → ReduceMustEnd paths records old new status
+  must_end (done reduced others files_quiet gate_quiet silent) = record {
+    over = λ over. absurd (read_not_over reduced.reduces over);
+    complete = λ within files_fine gate_fine. inl refl;
+    first_no = λ first_no. absurd (yes_no _ records reduced.reduces.holds.first first_no);
+    files_failed = λ failed. absurd (failed files_quiet);
+    gate_failed = λ failed. absurd (failed gate_quiet);
+    out_failed = λ failed. absurd (failed (ap (λ (out : SeenOut). out.faults) silent));
+  }
+  must_end (memory files gate_quiet put) = record {
+    over = λ over. inr (inr refl);
+    complete = λ within files_fine gate_fine. inr (inr refl);
+    first_no = λ first_no. inr refl;
+    files_failed = λ failed. absurd (failed files.quiet);
+    gate_failed = λ failed. absurd (failed gate_quiet);
+    out_failed = λ failed is. cc is;
+  }
+  must_end (unread failed same unasked put) = record {
+    over = λ over. inr (inl refl);
+    complete = λ within files_fine gate_fine. absurd (files_fine failed);
+    first_no = λ first_no. absurd (none_no records unasked.no_records first_no);
+    files_failed = λ failed. inl refl;
+    gate_failed = λ failed. absurd (failed (ap (λ (gate : SeenGate). gate.faults) unasked.same));
+    out_failed = λ failed is. cc is;
+  }
+  must_end (unwritten failed text reduces others gate_quiet put) = record {
+    over = λ over. absurd (read_not_over reduces over);
+    complete = λ within files_fine gate_fine. absurd (files_fine failed);
+    first_no = λ first_no. absurd (yes_no _ records reduces.holds.first first_no);
+    files_failed = λ failed. inr refl;
+    gate_failed = λ failed. absurd (failed gate_quiet);
+    out_failed = λ failed is. cc is;
+  }
+  must_end (uninteresting only read files gate_quiet put) = record {
+    over = λ over. absurd (read_not_over read over);
+    complete = λ within files_fine gate_fine. inr (inl refl);
+    first_no = λ first_no. inl refl;
+    files_failed = λ failed. absurd (failed files.quiet);
+    gate_failed = λ failed. absurd (failed gate_quiet);
+    out_failed = λ failed is. cc is;
+  }
+  must_end (too_long longer files unasked put) = record {
+    over = λ over. inl refl;
+    complete = λ within files_fine gate_fine. absurd (not_longer 262144 _ _ within longer);
+    first_no = λ first_no. absurd (none_no records unasked.no_records first_no);
+    files_failed = λ failed. absurd (failed files.quiet);
+    gate_failed = λ failed. absurd (failed (ap (λ (gate : SeenGate). gate.faults) unasked.same));
+    out_failed = λ failed is. cc is;
+  }
+  must_end (script failed not_no read files put) = record {
+    over = λ over. absurd (read_not_over read over);
+    complete = λ within files_fine gate_fine. absurd (gate_fine failed);
+    first_no = λ first_no. absurd (not_no first_no);
+    files_failed = λ failed. absurd (failed files.quiet);
+    gate_failed = λ failed. refl;
+    out_failed = λ failed is. cc is;
+  }
+
+-- the end of the command
+pub reduce_ends : (paths : Paths) (may_say : List ℕ → Verdict → Type 0) (records : List Record) (old new : World) (outcome : Result (Unit {0}) Refusal) (status : ℕ)
+    → ReduceSteps paths may_say records old.files new.files old.gate new.gate outcome → MatchResult outcome (λ _. EndsSilent old.out new.out status) (λ refusal. EndsRefused old.out new.out status refusal)
+    → Reduces paths may_say records old new status
+reduce_ends paths may_say records old new outcome status steps end =
+    let ends : ReduceEnds paths records old new status = at outcome steps.ends end in
+    record { ends = ends; must_end = must_end paths records old new ends; sound = steps.sound; candidates = steps.candidates }
+  where
+    at : (outcome : Result (Unit {0}) Refusal)
+        → MatchResult outcome (λ _. WritesReduced paths records old.files new.files old.gate new.gate) (λ refusal. ReduceFails paths records old.files new.files old.gate new.gate refusal)
+        → MatchResult outcome (λ _. EndsSilent old.out new.out status) (λ refusal. EndsRefused old.out new.out status refusal) → ReduceEnds paths records old new status
+    at (Ok x) writes end = subst (ReduceEnds paths records old new) (sym end.is) (done writes.reduced writes.others writes.files_quiet writes.gate_quiet end.silent)
+    at (Err refusal) fails end = subst (ReduceEnds paths records old new) (sym end.is) (fails old.out new.out end.reported)

@@ -1,0 +1,62 @@
+-- Each status of `normal`, from how it ends.
+use Rattle.std.proofs.Common.{◌≡◌, ℕ, List, [], ◌∷◌, refl}
+use Rattle.std.proofs.lemmas.Bool.{false≢true}
+use Rattle.edge_io.specs.Files.{IsLonger}
+use Rattle.perses_main.specs.declared.status.ReadFile.TheVariants as read_file
+use Rattle.perses_main.specs.declared.status.Refusal.{Refusal}
+use Rattle.perses_main.specs.declared.status.Refusal.TheVariants.{Memory, CannotRead, TooLong}
+use Rattle.perses_main.specs.Normal.{IsFaultIn, IsNormalOf, NormalEnds}
+use Rattle.perses_main.specs.Normal.NormalEnds.{done, memory, unread, cut, faulty, too_long}
+use Rattle.perses_main.specs.NormalByStatus.{NormalByStatus, NormalMeans}
+use Rattle.perses_main.specs.ReduceByStatus.{IsOneOf}
+use Rattle.perses_main.specs.Status.{fault_line, line_of, status_of}
+use Rattle.perses_main.specs.World.{Cuts, Failed, Puts, PutsLine, SeenFiles, SeenOut, WasRead}
+
+module _ (grammar : List ℕ) (files files' : SeenFiles) (out out' : SeenOut) where
+  abbrev Ends : ℕ → Type 0
+  Ends status = NormalEnds grammar files files' out out' status
+
+  is_done : {status : ℕ} → Ends status → status ≡ 0 → (text : List ℕ) × WasRead 1048576 (files.shown grammar) (λ bytes. IsNormalOf bytes text) × Puts text out out'
+  is_done (done text read quiet put) is = (text, read, put)
+  is_done _ is = absurd (cc is)
+
+  is_unread : {status : ℕ} → Ends status → status ≡ 3 → Failed files files'
+  is_unread (unread failed put) is = failed
+  is_unread _ is = absurd (cc is)
+
+  is_cut : {status : ℕ} → Ends status → status ≡ 4 → (text : List ℕ) × WasRead 1048576 (files.shown grammar) (λ bytes. IsNormalOf bytes text) × Cuts text out out'
+  is_cut (cut text read quiet put) is = (text, read, put)
+  is_cut _ is = absurd (cc is)
+
+  is_faulty : {status : ℕ} → Ends status → status ≡ 5 → (text : List ℕ) × WasRead 1048576 (files.shown grammar) (λ bytes. IsFaultIn bytes text) × PutsLine (fault_line text) out out'
+  is_faulty (faulty text read quiet put) is = (text, read, put)
+  is_faulty _ is = absurd (cc is)
+
+  is_too_long : {status : ℕ} → Ends status → status ≡ 10 → IsLonger 1048576 (files.shown grammar)
+  is_too_long (too_long longer quiet put) is = longer
+  is_too_long _ is = absurd (cc is)
+
+  is_known : {status : ℕ} → Ends status → IsOneOf (0 ∷ 1 ∷ 3 ∷ 4 ∷ 5 ∷ 10 ∷ []) status
+  is_known (done text read quiet put) = refl
+  is_known (memory quiet put) = refl
+  is_known (unread failed put) = refl
+  is_known (cut text read quiet put) = refl
+  is_known (faulty text read quiet put) = refl
+  is_known (too_long longer quiet put) = refl
+
+  puts_line : {status : ℕ} → Ends status → IsOneOf (1 ∷ 3 ∷ 10 ∷ []) status → (refusal : Refusal) × (status ≡ status_of refusal) × PutsLine (line_of refusal) out out'
+  puts_line (memory quiet put) is = (Memory, refl, put)
+  puts_line (unread failed put) is = (CannotRead read_file.Grammar, refl, put)
+  puts_line (too_long longer quiet put) is = (TooLong read_file.Grammar, refl, put)
+  puts_line _ is = absurd (false≢true is)
+
+pub normal_by_status : NormalByStatus
+normal_by_status grammar files files' out out' status ends = record {
+  known = is_known grammar files files' out out' ends;
+  done = is_done grammar files files' out out' ends;
+  read = is_unread grammar files files' out out' ends;
+  cut = is_cut grammar files files' out out' ends;
+  fault = is_faulty grammar files files' out out' ends;
+  too_long = is_too_long grammar files files' out out' ends;
+  reported = puts_line grammar files files' out out' ends;
+}

@@ -1,0 +1,45 @@
+use Rattle.std.proofs.Common.{Err, ap, sym}
+use Rattle.std.proofs.lemmas.Result.{err_from_is_err_and}
+use Rattle.perses_main.specs.World.{seen}
+use Rattle.perses_main.proofs.RunLemmas.{none_distinct}
+use Rattle.perses_main.proofs.ReduceLemmas.{CameToEnd, are-of, came-to-end, first-no, only-no, reduces-from, run-fails}
+use Rattle.perses_main.proofs.reduce.reduce_lines.Goals as goal
+
+pub returns-in_err-reducer-clause-distinct : goal.returns-in_err-reducer-clause-distinct
+returns-in_err-reducer-clause-distinct g c = none_distinct c.args.table.now.records c.requires.empty
+
+pub returns-in_err-run-clause-candidates : goal.returns-in_err-run-clause-candidates
+returns-in_err-run-clause-candidates g c =
+    are-of c.asks_candidates.ensures c.in_ok-reducer.reducer.start c.args.start.items c.run.new.table.records (ap (λ r. r.start) c.in_ok-reducer.ensures) c.in_err-run.ensures.may_ask c.in_err-run.ensures.begun
+
+pub returns-in_err-run-clause-refused : goal.returns-in_err-run-clause-refused
+returns-in_err-run-clause-refused g c =
+    let p = err_from_is_err_and c.from_residual-in_err-run.result c.from_residual-in_err-run.ensures.1 in
+    rw (p.1, p.2)
+    (run-fails c.refuses_at_no.ensures c.in_ok-reducer.reducer.start c.args.start.items c.run.new.table.records (seen g.G.Gate.log g.G.Gate.faults c.args.gate.now) (seen g.G.Gate.log g.G.Gate.faults c.run.new.gate) c.in_err-run.field-0.0
+    (ap (λ r. r.start) c.in_ok-reducer.ensures) c.in_err-run.ensures.begun (λ is. c.in_err-run.ensures.unfinished (ap (λ e. Err e) is)) (λ never. c.in_err-run.ensures.quiet (λ is. never (cc is))) (λ is. c.in_err-run.ensures.failed (ap (λ e. Err e) is)))
+
+pub returns-then-refused-clause-candidates : goal.returns-then-refused-clause-candidates
+returns-then-refused-clause-candidates g c =
+    are-of c.asks_candidates.ensures c.in_ok-reducer.reducer.start c.args.start.items c.run.new.table.records (ap (λ r. r.start) c.in_ok-reducer.ensures) c.in_ok-run.ensures.may_ask c.in_ok-run.ensures.begun
+
+pub returns-then-refused-clause-refused : goal.returns-then-refused-clause-refused
+returns-then-refused-clause-refused g c =
+    let came : CameToEnd c.args.start.items c.run.new.table.records c.run.new.step.state =
+    came-to-end c.in_ok-reducer.reducer.start c.args.start.items c.run.new.table.records c.run.new.step.state (ap (λ r. r.start) c.in_ok-reducer.ensures) c.in_ok-run.ensures.followed c.in_ok-run.ensures.ended
+    (c.refused.ensures.ended c.in_ok-run.ensures.ended) c.in_ok-run.ensures.begun c.in_ok-run.ensures.one in (
+      only-no c.follows_reduction.ensures c.refuses_at_no.ensures c.ends_minimal.ensures c.args.start.items c.run.new.table.records c.run.new.step.state came (sym c.if-refused.ensures.refused),
+      first-no c.follows_reduction.ensures c.refuses_at_no.ensures c.ends_minimal.ensures c.args.start.items c.run.new.table.records c.run.new.step.state came (sym c.if-refused.ensures.refused),
+      c.in_ok-run.ensures.quiet (λ is. cc is),
+    )
+
+pub returns-clause-candidates : goal.returns-clause-candidates
+returns-clause-candidates g c =
+    are-of c.asks_candidates.ensures c.in_ok-reducer.reducer.start c.args.start.items c.run.new.table.records (ap (λ r. r.start) c.in_ok-reducer.ensures) c.in_ok-run.ensures.may_ask c.in_ok-run.ensures.begun
+
+pub returns-clause-reduced : goal.returns-clause-reduced
+returns-clause-reduced g c =
+    let came : CameToEnd c.args.start.items c.run.new.table.records c.run.new.step.state =
+    came-to-end c.in_ok-reducer.reducer.start c.args.start.items c.run.new.table.records c.run.new.step.state (ap (λ r. r.start) c.in_ok-reducer.ensures) c.in_ok-run.ensures.followed c.in_ok-run.ensures.ended
+    (c.refused.ensures.ended c.in_ok-run.ensures.ended) c.in_ok-run.ensures.begun c.in_ok-run.ensures.one in
+    reduces-from c.follows_reduction.ensures c.refuses_at_no.ensures c.ends_minimal.ensures c.args.start.items c.run.new.table.records c.run.new.step.state came (sym c.if-refused.ensures.refused)

@@ -1,0 +1,191 @@
+-- The command `reduce`: how it ends, by its status, and what its records are.
+use Rattle.std.specs.Prelude.{◌≡◌, ◌≢◌, ◌⊎◌, ℕ, List, [], ◌∷◌, ◌++◌, false, Option, Some, None, IfSome, All, MatchResult, Result, codes}
+use Rattle.std.specs.List.{IsDistinct, concat}
+use Rattle.std.specs.Str.{bytes_eq}
+use Rattle.script_gate.specs.declared.gate.Verdict.{Verdict}
+use Rattle.script_gate.specs.declared.gate.Verdict.TheVariants.{Yes, No}
+use Rattle.script_gate.specs.declared.log.Log.{Log}
+use Rattle.script_gate.specs.declared.log.Opening.{Opening}
+use Rattle.edge_io.specs.Files.{FileContent, Holds, IsLonger, SameFiles, SameOthers}
+use Rattle.verdict_table.specs.declared.record.Record.{Record}
+use Rattle.verdict_table.specs.TableState.{texts_of, verdict_in}
+use Rattle.reduce_core.specs.Reduction.{reduction, says_yes}
+use Rattle.reduce_core.specs.Minimal.{HasVerdicts, IsCandidate, IsMinimal}
+use Rattle.perses_main.specs.declared.status.Refusal.{Refusal}
+use Rattle.perses_main.specs.declared.status.Refusal.TheVariants.{Memory, NotInteresting, Script}
+use Rattle.perses_main.specs.Status.{line_of, status_of}
+use Rattle.perses_main.specs.Words.{Paths, file_name_of}
+use Rattle.perses_main.specs.World.{Failed, FilesKept, IsOver, IsQuiet, IsWithin, PutsLine, Reports, SeenFiles, SeenGate, SeenOut, Unasked, WasRead, World}
+
+-- the first record is of this text, with this verdict
+abbrev pub FirstIs : List ℕ → Verdict → List Record → Type 0
+FirstIs text verdict [] = ⊥
+FirstIs text verdict (r ∷ records) = (r.text ≡ text) × (r.verdict ≡ verdict)
+
+-- the only record's verdict is no
+abbrev pub OnlyNo : List Record → Type 0
+OnlyNo [] = ⊥
+OnlyNo (r ∷ records) = (r.verdict ≡ No) × (records ≡ [])
+
+-- the first record's verdict is no
+abbrev pub FirstIsNo : List Record → Type 0
+FirstIsNo [] = ⊥
+FirstIsNo (r ∷ records) = r.verdict ≡ No
+
+-- where there is a record, the first is of this text
+abbrev pub BeginsAt : List ℕ → List Record → Type 0
+BeginsAt text [] = Unit {0}
+BeginsAt text (r ∷ records) = r.text ≡ text
+
+-- The text is what the start is reduced to over a map of verdicts. The map has a verdict for each text that the reduction asks; the start is interesting, and so is the text; and without any one of its lines it is not.
+pub record IsReductionOf (V : List ℕ → Option Verdict) (start text : List ℕ) : Type 0 where
+  pub defined : HasVerdicts V (reduction (says_yes V) start).questions
+  pub interesting : (reduction (says_yes V) start).refused ≡ false
+  pub is_text : text ≡ concat (reduction (says_yes V) start).lines
+  pub yes_at_end : V text ≡ Some Yes
+  pub minimal : IsMinimal V (reduction (says_yes V) start).lines
+
+-- a start reduces to the text over the verdicts of the records, of which the first is the start's yes
+pub record ReducesFrom (start : List ℕ) (records : List Record) (text : List ℕ) : Type 0 where
+  pub first : FirstIs start Yes records
+  pub reduced : IsReductionOf (verdict_in records) start text
+
+-- the input, within its limit, reduces to the text
+abbrev pub ReducesTo : Option FileContent → List Record → List ℕ → Type 0
+ReducesTo input records text = WasRead 262144 input (λ start. ReducesFrom start records text)
+
+-- the output file holds what the input reduces to
+pub record IsReduced (input output : Option FileContent) (records : List Record) : Type 0 where
+  pub text : List ℕ
+  pub reduces : ReducesTo input records text
+  pub written : Holds text output
+
+-- each text is some of the start's lines in their order, and the first is the start
+pub record AreOf (start : List ℕ) (records : List Record) : Type 0 where
+  pub candidates : All (λ r. IsCandidate start r.text) records
+  pub first : BeginsAt start records
+
+-- where there is a record, the texts are those of the input that was read, which is within its limit
+abbrev pub AreCandidates : Option FileContent → List Record → Type 0
+AreCandidates input [] = Unit {0}
+AreCandidates input (r ∷ records) = WasRead 262144 input (λ start. AreOf start (r ∷ records))
+
+-- where the gate's log is visible, its asks grew by these texts
+abbrev pub AsksAre : Option Log → Option Log → List (List ℕ) → Type 0
+AsksAre None new texts = Unit {0}
+AsksAre (Some old) new texts = IfSome new (λ log. log.asked ≡ old.asked ++ texts)
+
+-- the opening of a worker's gate: the work folder, the script, the input's name without its folder, and the worker's number
+abbrev pub opening_for : Paths → ℕ → Opening
+opening_for paths number = record { work = codes "perses-work"; script = paths.script; name = file_name_of paths.input; number = number }
+
+-- where there is a record, a gate whose log is visible was last opened so
+abbrev pub OpenedAs : Opening → Option Log → List Record → Type 0
+OpenedAs opening log [] = Unit {0}
+OpenedAs opening log (r ∷ records) = IfSome log (λ t. t.opening ≡ Some opening)
+
+-- How `reduce` ends, by its status.
+pub data ReduceEnds (paths : Paths) (records : List Record) (old new : World) : ℕ → Type 0 where
+  -- the output file, and no other, has what the input reduces to, and no call failed
+  done : (reduced : IsReduced (old.files.shown paths.input) (new.files.shown paths.output) records)
+      → (others : SameOthers old.files.shown new.files.shown paths.output)
+      → (files_quiet : IsQuiet old.files new.files)
+      → (gate_quiet : IsQuiet old.gate new.gate)
+      → (silent : new.out ≡ old.out)
+      → ReduceEnds paths records old new 0
+  -- memory ran out, before anything was written
+  memory : (files : FilesKept old.files new.files)
+      → (gate_quiet : IsQuiet old.gate new.gate)
+      → (reported : Reports (codes "out of memory") old.out new.out)
+      → ReduceEnds paths records old new 1
+  -- a call of the files failed as the input was read, and the gate was not reached
+  unread : (failed : Failed old.files new.files)
+      → (same : SameFiles old.files.shown new.files.shown)
+      → (unasked : Unasked records old.gate new.gate)
+      → (reported : Reports (codes "cannot read input") old.out new.out)
+      → ReduceEnds paths records old new 3
+  -- the input reduces to some text, but a call of the files failed as that was written to the output file
+  unwritten : (failed : Failed old.files new.files)
+      → (text : List ℕ)
+      → (reduces : ReducesTo (old.files.shown paths.input) records text)
+      → (others : SameOthers old.files.shown new.files.shown paths.output)
+      → (gate_quiet : IsQuiet old.gate new.gate)
+      → (reported : Reports (codes "cannot write") old.out new.out)
+      → ReduceEnds paths records old new 4
+  -- the input was read, the gate said no to it, and wasn't asked again
+  uninteresting : (only : OnlyNo records)
+      → (read : WasRead 262144 (old.files.shown paths.input) (λ start. FirstIs start No records))
+      → (files : FilesKept old.files new.files)
+      → (gate_quiet : IsQuiet old.gate new.gate)
+      → (reported : Reports (codes "start is not interesting") old.out new.out)
+      → ReduceEnds paths records old new 8
+  -- the input is longer than its limit, and the gate was not reached
+  too_long : (longer : IsLonger 262144 (old.files.shown paths.input))
+      → (files : FilesKept old.files new.files)
+      → (unasked : Unasked records old.gate new.gate)
+      → (reported : Reports (codes "input is too long") old.out new.out)
+      → ReduceEnds paths records old new 10
+  -- the input was read, a call of the gate failed, and the gate hadn't said no to the input
+  script : (failed : Failed old.gate new.gate)
+      → (not_no : ¬ FirstIsNo records)
+      → (read : WasRead 262144 (old.files.shown paths.input) (λ start. Unit {0}))
+      → (files : FilesKept old.files new.files)
+      → (reported : Reports (codes "script fault at worker 1") old.out new.out)
+      → ReduceEnds paths records old new 11
+
+-- Which status it has to be. This follows from how `reduce` ends.
+pub record ReduceMustEnd (paths : Paths) (records : List Record) (old new : World) (status : ℕ) : Type 0 where
+  -- an input over its limit is refused
+  pub over : IsOver 262144 (old.files.shown paths.input) → (status ≡ 10) ⊎ ((status ≡ 3) ⊎ (status ≡ 1))
+  -- an input within its limit is reduced, or isn't interesting, where no call failed
+  pub complete : IsWithin 262144 (old.files.shown paths.input) → ¬ Failed old.files new.files → ¬ Failed old.gate new.gate
+      → (status ≡ 0) ⊎ ((status ≡ 8) ⊎ (status ≡ 1))
+  -- a first no ends the run
+  pub first_no : FirstIsNo records → (status ≡ 8) ⊎ (status ≡ 1)
+  -- where a call of the files failed, the input wasn't read or the result wasn't written
+  pub files_failed : ¬ IsQuiet old.files new.files → (status ≡ 3) ⊎ (status ≡ 4)
+  -- where a call of the gate failed, that is the status
+  pub gate_failed : ¬ IsQuiet old.gate new.gate → status ≡ 11
+  -- nothing is put where the command succeeds, so only the put of another status's line can fail
+  pub out_failed : ¬ IsQuiet old.out new.out → status ≢ 0
+
+-- What holds of the records at every status, as the gate sees them: no text is there twice, each verdict is the gate's,
+-- the gate was asked for these texts alone, and it was last opened for this input and script.
+pub record RecordsAreSound (paths : Paths) (may_say : List ℕ → Verdict → Type 0) (records : List Record) (old new : SeenGate) : Type 0 where
+  pub distinct : IsDistinct bytes_eq (texts_of records)
+  pub said : All (λ r. may_say r.text r.verdict) records
+  pub asked : AsksAre old.shown new.shown (texts_of records)
+  pub opened : OpenedAs (opening_for paths 1) new.shown records
+
+-- A run of `reduce` with these paths.
+pub record Reduces (paths : Paths) (may_say : List ℕ → Verdict → Type 0) (records : List Record) (old new : World) (status : ℕ) : Type 0 where
+  pub ends : ReduceEnds paths records old new status
+  pub must_end : ReduceMustEnd paths records old new status
+  pub sound : RecordsAreSound paths may_say records old.gate new.gate
+  pub candidates : AreCandidates (old.files.shown paths.input) records
+
+-- why a start has no reduction
+abbrev pub RunFails : List ℕ → List Record → SeenGate → SeenGate → Refusal → Type 0
+RunFails start records old new Memory = IsQuiet old new
+RunFails start records old new NotInteresting = OnlyNo records × FirstIs start No records × IsQuiet old new
+RunFails start records old new Script = Failed old new × (¬ FirstIsNo records)
+RunFails start records old new _ = ⊥
+
+-- the run ends with this refusal, whatever becomes of its line
+abbrev pub ReduceFails : Paths → List Record → SeenFiles → SeenFiles → SeenGate → SeenGate → Refusal → Type 0
+ReduceFails paths records files files' gate gate' refusal =
+    (out out' : SeenOut) → PutsLine (line_of refusal) out out'
+    → ReduceEnds paths records (record { files = files; gate = gate; out = out }) (record { files = files'; gate = gate'; out = out' }) (status_of refusal)
+
+-- the output file, and no other, has what the input reduces to, and no call failed
+pub record WritesReduced (paths : Paths) (records : List Record) (files files' : SeenFiles) (gate gate' : SeenGate) : Type 0 where
+  pub reduced : IsReduced (files.shown paths.input) (files'.shown paths.output) records
+  pub others : SameOthers files.shown files'.shown paths.output
+  pub files_quiet : IsQuiet files files'
+  pub gate_quiet : IsQuiet gate gate'
+
+-- the steps of `reduce`, but for what is put on `out`
+pub record ReduceSteps (paths : Paths) (may_say : List ℕ → Verdict → Type 0) (records : List Record) (files files' : SeenFiles) (gate gate' : SeenGate) (outcome : Result (Unit {0}) Refusal) : Type 0 where
+  pub sound : RecordsAreSound paths may_say records gate gate'
+  pub candidates : AreCandidates (files.shown paths.input) records
+  pub ends : MatchResult outcome (λ _. WritesReduced paths records files files' gate gate') (λ refusal. ReduceFails paths records files files' gate gate' refusal)

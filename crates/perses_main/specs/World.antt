@@ -1,0 +1,91 @@
+-- What is visible of the files, a gate and `out` at one moment, and what may have become of each since.
+use Rattle.std.specs.Prelude.{◌≡◌, ◌<◌, ◌≤◌, ◌⊎◌, ℕ, List, [], ◌∷◌, ◌++◌, length, Option, IsSomeAnd, option_map, codes}
+use Rattle.faults.specs.Count.{Rose}
+use Rattle.edge_io.specs.Files.{FileContent, Holds, SameFiles}
+use Rattle.edge_io.specs.Sink.{Put, GrewByPrefix, with_piece}
+use Rattle.script_gate.specs.declared.log.Log.{Log}
+use Rattle.verdict_table.specs.declared.record.Record.{Record}
+
+-- what an object shows, and how many of its calls failed
+pub record Seen (T : Type 0) : Type 0 where
+  pub shown : T
+  pub faults : ℕ
+
+-- an object by its members
+abbrev pub seen : {X T : Type 0} → (X → T) → (X → ℕ) → X → Seen T
+seen shown faults x = record { shown = shown x; faults = faults x }
+
+-- the content of each file, the log of a gate, and what was put on `out`, each where it is visible
+abbrev pub SeenFiles : Type 0
+SeenFiles = Seen (List ℕ → Option FileContent)
+
+abbrev pub SeenGate : Type 0
+SeenGate = Seen (Option Log)
+
+abbrev pub SeenOut : Type 0
+SeenOut = Seen (Option Put)
+
+-- all that a command may reach
+pub record World : Type 0 where
+  pub files : SeenFiles
+  pub gate : SeenGate
+  pub out : SeenOut
+
+-- a call of the object failed
+abbrev pub Failed : {T : Type 0} → Seen T → Seen T → Type 0
+Failed old new = Rose old.faults new.faults
+
+-- no call of the object failed
+abbrev pub IsQuiet : {T : Type 0} → Seen T → Seen T → Type 0
+IsQuiet old new = new.faults ≡ old.faults
+
+-- every file is as before, and no call of the files failed
+pub record FilesKept (old new : SeenFiles) : Type 0 where
+  pub same : SameFiles old.shown new.shown
+  pub quiet : IsQuiet old new
+
+-- the gate was not reached: there is no record, and it is as before
+pub record Unasked (records : List Record) (old new : SeenGate) : Type 0 where
+  pub no_records : records ≡ []
+  pub same : new ≡ old
+
+-- the piece was put whole
+pub record Puts (piece : List ℕ) (old new : SeenOut) : Type 0 where
+  pub whole : new.shown ≡ option_map (with_piece piece) old.shown
+  pub quiet : IsQuiet old new
+
+-- some prefix of the piece was put, since the put failed
+pub record Cuts (piece : List ℕ) (old new : SeenOut) : Type 0 where
+  pub prefix : GrewByPrefix piece old.shown new.shown
+  pub failed : Failed old new
+
+-- the line was put, or some prefix of it where the put failed
+abbrev pub PutsLine : List ℕ → SeenOut → SeenOut → Type 0
+PutsLine line old new = Puts line old new ⊎ Cuts line old new
+
+-- a line on `out`: the program's name, the text, and a newline (10)
+abbrev pub line_of_text : List ℕ → List ℕ
+line_of_text text = codes "perses: " ++ (text ++ 10 ∷ [])
+
+-- the line of this text was put, or some prefix of it where the put failed
+abbrev pub Reports : List ℕ → SeenOut → SeenOut → Type 0
+Reports text old new = PutsLine (line_of_text text) old new
+
+-- The file was read whole, within the limit, and the fact holds of its bytes. Where its content isn't visible, the fact holds of some bytes.
+pub record WasRead (limit : ℕ) (content : Option FileContent) (P : List ℕ → Type 0) : Type 0 where
+  pub bytes : List ℕ
+  pub read : Holds bytes content
+  pub within : length bytes ≤ limit
+  pub holds : P bytes
+
+-- the content is visible, the file is there and has at most so many bytes, and the fact holds of them
+abbrev pub IsShownWithin : ℕ → Option FileContent → (List ℕ → Type 0) → Type 0
+IsShownWithin limit content P = IsSomeAnd content (λ file. IsSomeAnd file (λ bytes. (length bytes ≤ limit) × P bytes))
+
+-- the content is visible, the file is there and has at most so many bytes
+abbrev pub IsWithin : ℕ → Option FileContent → Type 0
+IsWithin limit content = IsShownWithin limit content (λ bytes. Unit {0})
+
+-- the content is visible, the file is there and has more bytes than this
+abbrev pub IsOver : ℕ → Option FileContent → Type 0
+IsOver limit content = IsSomeAnd content (λ file. IsSomeAnd file (λ bytes. limit < length bytes))
