@@ -7,8 +7,7 @@ ghost use Rattle.grammar_reader.specs.Reads.{IsProfile};
 ghost use Rattle.grammar_tests.specs.Refused.{IsRefused};
 ghost use Rattle.grammar_tree.specs.Faults.{start_of};
 
-use grammar_check::{CheckFault, check};
-use grammar_reader::{ReadFault, read_grammar};
+use checked_grammar::{GrammarFault, checked_grammar};
 use grammar_tree::Checked;
 use std::alloc::Global;
 
@@ -17,8 +16,7 @@ use std::alloc::Global;
 pub enum Refused {
     /// The text has 2^32 bytes or more.
     TooLong,
-    Unread(ReadFault),
-    Unchecked(CheckFault),
+    Faulty(GrammarFault),
 }
 
 /// The checked grammar that the text spells. Its start is the parser rule of this name, or the first
@@ -31,11 +29,8 @@ pub fn checked(alloc: Global, text: &str, start: Option<&str>) -> Result<Checked
     if text.len() > u32::MAX as usize {
         return Err(Refused::TooLong);
     }
-    match read_grammar(alloc, text.as_bytes()) {
-        Ok(grammar) => match check(alloc, grammar, start) {
-            Ok(checked) => Ok(checked),
-            Err(fault) => Err(Refused::Unchecked(fault)),
-        },
-        Err(fault) => Err(Refused::Unread(fault)),
+    match checked_grammar(alloc, text.as_bytes(), start) {
+        Ok(checked) => Ok(checked),
+        Err(fault) => Err(Refused::Faulty(fault)),
     }
 }

@@ -136,8 +136,7 @@ fn fault_text(alloc: Global, rules: &str, start: &str) -> Result<String, Fail> {
     let wanted = if start.len() == 0 { None } else { Some(start) };
     match checked(alloc, text.as_str(), wanted) {
         Ok(_) => Ok(String::new(alloc)),
-        Err(Refused::Unchecked(fault)) => Ok(format!(in alloc; "{fault}")?),
-        Err(Refused::Unread(fault)) => Ok(format!(in alloc; "{fault:?}")?),
+        Err(Refused::Faulty(fault)) => Ok(format!(in alloc; "{fault}")?),
         Err(Refused::TooLong) => Ok(String::from_str(alloc, "too long")?),
     }
 }
