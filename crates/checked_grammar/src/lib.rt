@@ -1,4 +1,6 @@
 //! Grammars that are read from their texts and checked, in one call.
+//!
+//! Begin with [`checked_grammar`]. Read `Spells` and `IsGrammarFault` in `specs/Answer.antt` first.
 #![tactic(auto)]
 
 mod fault;

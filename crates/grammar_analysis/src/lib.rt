@@ -1,4 +1,7 @@
 //! What the rules of a grammar use, which of them can be empty, and which can be first in others.
+//!
+//! Begin with [`empty_bodies`] for parser rules and [`empty_places`] for lexer rules. Read `is_empty`
+//! in `specs/Empty.antt` first.
 #![tactic(auto)]
 
 mod bodies;

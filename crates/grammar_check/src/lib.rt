@@ -1,4 +1,7 @@
 //! Whether a grammar is well-formed, and if not, its first fault.
+//!
+//! Begin with [`check`]. Read `IsWellFormed` in `grammar_tree/specs/Faults.antt` first, then
+//! `IsFirstInTable` in `specs/CheckFaults.antt`.
 #![tactic(auto)]
 
 mod answer;

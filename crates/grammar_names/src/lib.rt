@@ -1,4 +1,8 @@
-//! What the names and literals of a grammar's parser rules stand for, looked up by text.
+//! What the names and literals of a grammar's parser rules mean, looked up by text.
+//!
+//! Begin with [`Names::new`], and ask it for a rule's number, a token's kind, or the kinds of `.` and
+//! `~`. Read `name_kind`, `literal_kind` and `rule_number` in `grammar_tree/specs/Kinds.antt` and
+//! `Derives.antt` first.
 #![tactic(auto)]
 
 mod index;

@@ -1,10 +1,13 @@
 //! Plain, slow programs that decide what the definitions of `grammar_tree` say, for tests to compare
 //! faster ones with.
 //!
-//! Terms are seen as patterns over lists of numbers, of characters or of kinds. A table tells from
-//! where to where each rule is known to stand in the list; it grows by the rules' bodies until nothing
-//! more is found. For a list of n numbers and r rules at most r (n + 1)^2 rounds find more, each over
-//! all rules and places, so it is for small inputs. It recurses as deep as the terms do.
+//! Begin with [`matches_rule`] (does a lexer rule match this text?) and [`start_derives`] (does the
+//! start derive this list of kinds?). Read `Matches` and `Derives` in `grammar_tree` first.
+//!
+//! Terms are seen as patterns over lists of numbers, of characters or of kinds. A table has from
+//! where to where each rule is known to match in the list; it grows by the rules' bodies until
+//! nothing more is found. For a list of n numbers and r rules at most r (n + 1)^2 rounds find more,
+//! each over all rules and positions, so it is for small inputs. It recurses as deep as the terms do.
 #![tactic(auto)]
 
 mod chart;

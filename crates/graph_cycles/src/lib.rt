@@ -1,4 +1,6 @@
 //! Graphs whose nodes are numbers from 0: which nodes edges lead to, and which are on cycles.
+//!
+//! Begin with [`first_on_cycle`]. Read `IsOnCycle` in `specs/Graph.antt` first.
 #![tactic(auto)]
 
 mod cycles;

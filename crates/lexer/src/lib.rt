@@ -1,11 +1,14 @@
 //! The lexer of a grammar: a text is cut into tokens by longest match.
 //!
-//! [`Lexer::build`] makes of each alternative of each kind a program of nodes (`compile`), which is
-//! read one character after another from the set of nodes at which reading stands (`live`,
-//! `reading`). What comes next in a text is the longest match of the alternatives that can begin
-//! with its first character (`candidates`, `pieces`), and the text is cut so from its beginning on
-//! (`tokens`). The contracts of [`Lexer`] are those of the definitions in `grammar_tree`; what the
-//! nodes mean stands in `specs/` of this crate.
+//! Begin with [`Lexer::build`] and [`Lexer::lex`]. Read `Lexes` in `grammar_tree/specs/Lexes.antt`
+//! first, then `HasTokens` in `specs/Tokens.antt`.
+//!
+//! [`Lexer::build`] makes of each alternative of each kind the nodes of an automaton (Thompson 1968;
+//! `compile`), which is read one character after another from the set of nodes that reading has come
+//! to (`live`, `reading`). What comes next in a text is the longest match of the alternatives that
+//! can begin with its first character (`candidates`, `pieces`), and the text is cut so from its
+//! beginning on (`tokens`). Where a reading went on after its last match and failed, its nodes are
+//! kept as dead (`dead`; Reps 1998). What the nodes mean is defined in `specs/` of this crate.
 #![tactic(auto)]
 
 mod alternatives;

@@ -1,14 +1,14 @@
-//! The normal form of a grammar, on which the reducer's trees stand.
+//! The normal form of a grammar, on which the reducer's trees are built.
 //!
 //! Each rule of a [`Normal`] has alternatives of symbols, or is an optional, a star or a plus of one
 //! symbol. [`normalise`] makes it of a checked grammar, and [`normal_text`] prints it. Each parser
 //! rule derives the same lists of token kinds as its rule in the normal form, direct left recursion
 //! included: that is a clause of [`normalise`].
 //!
-//! The definitions stand in `specs/`: what a normal form is and derives (`Form.antt`,
-//! `NormalDerives.antt`), which rules a grammar's terms give and how they are numbered
-//! (`Numbering.antt`, `NormalOf.antt`), how it is printed (`Print.antt`), and what holds of every
-//! normal form (`Symbols.antt`, `FormLaws.antt`), for trees and a parser.
+//! The definitions are in `specs/`: what a normal form is and derives (`Form.antt`,
+//! `NormalDerives.antt`; read these first), which rules a grammar's terms give and how they are
+//! numbered (`Numbering.antt`, `NormalOf.antt`), how it is printed (`Print.antt`), and what holds of
+//! every normal form (`Symbols.antt`, `FormLaws.antt`), for trees and a parser.
 #![tactic(auto)]
 
 mod counts;

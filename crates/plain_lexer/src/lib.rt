@@ -1,7 +1,8 @@
 //! A plain, slow lexer, for tests to compare the fast one with.
 //!
-//! A text is cut into pieces by the definition of `grammar_tree`: at each place every beginning of
-//! what is left is tried with every kind, by the plain deciders of `grammar_plain`.
+//! Begin with [`lex`]. Read `Lexes` in `grammar_tree/specs/Lexes.antt` first: by that definition a
+//! text is cut into pieces, and here at each position every beginning of the remaining text is tried
+//! with every kind, by the plain deciders of `grammar_plain`.
 #![tactic(auto)]
 
 mod kinds;
