@@ -2,7 +2,6 @@ pub mod RunLemmas
 pub mod NameLemmas
 pub mod ReduceLemmas
 pub mod FileLemmas
-pub mod FaultLemmas
 pub mod NormalLemmas
 pub mod CommandLemmas
 pub mod ReduceByStatusLemmas

@@ -1,48 +1,40 @@
 -- Why there is no normal form, and how `normal` ends.
-use Rattle.std.proofs.Common.{◌≡◌, ◌≢◌, ◌≤◌, inl, inr, ℕ, List, length, Option, Some, None, Err, refl, sym, subst, Result, Ok, IfOk, IfErr, OnOk, MatchResult, Vec}
+use Rattle.std.proofs.Common.{◌≡◌, ◌≢◌, ◌≤◌, arith, inl, inr, ℕ, List, length, Option, None, refl, sym, subst, Result, Ok, Err, IfOk, IfErr, OnOk, MatchResult, Vec}
 use Rattle.edge_io.specs.Files.{Holds, SameFiles}
-use Rattle.grammar_tree.specs.Faults.{IsWellFormed, start_of}
-use Rattle.grammar_tree.specs.Written.{WrittenGrammar}
-use Rattle.grammar_reader.specs.FaultText.{fault_text as read_text}
-use Rattle.grammar_reader.specs.Reads.{IsFaultOf, IsProfile}
-use Rattle.grammar_reader.specs.declared.fault.ReadFault.{ReadFault}
-use Rattle.grammar_reader.specs.declared.fault.ReadFault.TheVariants as read
-use Rattle.grammar_check.specs.Messages.{fault_text as check_text}
+use Rattle.grammar_tree.specs.Kinds.{kinds_of}
+use Rattle.grammar_tree.specs.Written.{CheckedGrammar}
+use Rattle.grammar_reader.proofs.Sizes.{profile_fits}
+use Rattle.checked_grammar.specs.Answer.{IsGrammarFault, Spells}
+use Rattle.checked_grammar.specs.Message.{fault_text}
+use Rattle.checked_grammar.specs.declared.fault.GrammarFault.{GrammarFault}
+use Rattle.checked_grammar.specs.declared.fault.GrammarFault.TheVariants as grammar_fault
 use Rattle.perses_main.specs.declared.status.Refusal.{Refusal}
 use Rattle.perses_main.specs.declared.status.Refusal.TheVariants.{Memory, CannotRead, Grammar, TooLong}
 use Rattle.perses_main.specs.declared.status.ReadFile.TheVariants as read_file
-use Rattle.perses_main.specs.Normal.{IsFaultRefusal, IsGrammarText, IsNormalOf, IsRuleRefusal, NormalEnds, NormalFails, NormalMustEnd, PrintsNormal}
+use Rattle.perses_main.specs.Normal.{IsFaultRefusal, IsGrammarText, IsNormalOf, NormalEnds, NormalFails, NormalMustEnd, PrintsNormal}
 use Rattle.perses_main.specs.Normal.NormalEnds.{done, memory, unread as cannot_read, cut, faulty, too_long}
 use Rattle.perses_main.specs.Status.{EndsRefused, EndsWith, IsGrammarRefusal, ReadFails}
 use Rattle.perses_main.specs.World.{IsQuiet, PutsLine, SeenFiles, SeenOut, WasRead}
-use Rattle.perses_main.proofs.FaultLemmas.{has_no_fault}
 use Rattle.perses_main.proofs.FileLemmas.{not_both, not_longer, read_not_over}
 
--- bytes that the reader refuses for another cause than memory spell no grammar
-pub unread : (bytes : List ℕ) (fault : ReadFault) → fault ≢ read.Memory → IsFaultOf bytes (Err fault) → ((G : WrittenGrammar) → IsProfile bytes G → fault ≡ read.Memory) →
-    (refusal : Refusal) → IsGrammarRefusal (read_text fault) refusal → IsFaultRefusal bytes refusal
-unread bytes fault caused here only Memory line = tt
-unread bytes fault caused here only (Grammar line) is =
-    (read_text fault, record { names = inl (record { fault = fault; caused = caused; here = here; names = refl }); refused = λ is. caused (only is.grammar is.spelled) }, is)
-unread bytes fault caused here only _ is = absurd is
+-- a well-formed grammar that so few bytes spell has its numbered kinds
+is_spelled : (bytes : List ℕ) → length bytes ≤ 1048576 → (is : IsGrammarText bytes) → Spells bytes None (record { grammar = is.grammar; kinds = kinds_of is.grammar; start = is.start })
+is_spelled bytes within is = record {
+  text = is.spelled;
+  start = is.first;
+  checked = record { well_formed = is.well_formed; numbered = refl; small = let fits = profile_fits is.spelled in omega (arith, fits, within) };
+}
 
--- bytes whose only grammar has a fault spell no well-formed one
-pub unchecked : (bytes : List ℕ) (G : WrittenGrammar) → IsProfile bytes G → ((other : WrittenGrammar) → IsProfile bytes other → G ≡ other) →
-    (refusal : Refusal) → IsRuleRefusal G refusal → IsFaultRefusal bytes refusal
-unchecked bytes G spelled only Memory why = tt
-unchecked bytes G spelled only (Grammar line) (fault, caused, here, is) = (
-  check_text fault,
-  record {
-    names = inr (record { grammar = G; fault = fault; spelled = spelled; caused = caused; here = here; names = refl });
-    refused = λ is.
-        let same : is.grammar ≡ G = sym (only is.grammar is.spelled) in
-        let first : WrittenGrammar → Type 0 = λ g. start_of g None ≡ Some is.start in
-        let well : WrittenGrammar → Type 0 = λ g. IsWellFormed g is.start in
-        has_no_fault G None is.start (subst first same is.first) (subst well same is.well_formed) fault caused here;
-  },
+-- bytes with a fault that isn't out of memory spell no well-formed grammar
+pub has_fault : (bytes : List ℕ) (fault : GrammarFault) → length bytes ≤ 1048576 → fault ≢ grammar_fault.Memory → IsGrammarFault bytes None fault
+    → ((it : CheckedGrammar) → Spells bytes None it → fault ≡ grammar_fault.Memory) → (refusal : Refusal) → IsGrammarRefusal (fault_text fault) refusal → IsFaultRefusal bytes refusal
+has_fault bytes fault within caused first only Memory line = tt
+has_fault bytes fault within caused first only (Grammar line) is = (
+  fault_text fault,
+  record { fault = fault; caused = caused; first = first; is_text = refl; refused = λ text. caused (only _ (is_spelled bytes within text)) },
   is,
 )
-unchecked bytes G spelled only _ why = absurd why
+has_fault bytes fault within caused first only _ is = absurd is
 
 module _ (grammar : List ℕ) (files files' : SeenFiles) where
   -- a grammar that wasn't read ends the command
@@ -74,7 +66,7 @@ module _ (grammar : List ℕ) (files files' : SeenFiles) where
     normal_ends (Err refusal) status formed quiet fails end = subst (NormalEnds grammar files files' out out') (sym end.is) (fails out out' end.reported)
 
     is_grammar : (bytes text : List ℕ) → IsNormalOf bytes text → IsGrammarText bytes
-    is_grammar bytes text is = record { grammar = is.grammar.grammar; start = is.grammar.start; spelled = is.spelled; first = is.first; well_formed = is.checked.well_formed }
+    is_grammar bytes text is = record { grammar = is.grammar.grammar; start = is.grammar.start; spelled = is.spelled.text; first = is.spelled.start; well_formed = is.spelled.checked.well_formed }
 
     -- which status it has to be
     normal_must_end : {status : ℕ} → NormalEnds grammar files files' out out' status → NormalMustEnd grammar files files' out out' status

@@ -1,23 +1,20 @@
 -- The command `normal`: the printed normal form of the grammar in a file.
-use Rattle.std.specs.Prelude.{◌≡◌, ◌≢◌, ◌⊎◌, ℕ, List, Option, None, Some, Err, codes, encode_utf8_all, string_bytes}
+use Rattle.std.specs.Prelude.{◌≡◌, ◌≢◌, ◌⊎◌, ℕ, List, None, Some, codes, encode_utf8_all, string_bytes}
 use Rattle.edge_io.specs.Files.{IsLonger, SameFiles}
-use Rattle.grammar_tree.specs.Checked.{IsChecked}
 use Rattle.grammar_tree.specs.Faults.{IsWellFormed, start_of}
 use Rattle.grammar_tree.specs.Written.{CheckedGrammar, WrittenGrammar}
-use Rattle.grammar_reader.specs.Reads.{IsFaultOf, IsProfile}
-use Rattle.grammar_reader.specs.FaultText.{fault_text as read_text}
-use Rattle.grammar_reader.specs.declared.fault.ReadFault.{ReadFault}
-use Rattle.grammar_reader.specs.declared.fault.ReadFault.TheVariants as read
-use Rattle.grammar_check.specs.CheckFaults.{IsFault}
-use Rattle.grammar_check.specs.Messages.{fault_text as check_text}
-use Rattle.grammar_check.specs.declared.fault.CheckFault.{CheckFault}
-use Rattle.grammar_check.specs.declared.fault.CheckFault.TheVariants as check
+use Rattle.checked_grammar.specs.Answer.{IsGrammarFault, Spells}
+use Rattle.checked_grammar.specs.Message.{fault_text}
+use Rattle.checked_grammar.specs.Reads.{IsProfile}
+use Rattle.checked_grammar.specs.declared.fault.GrammarFault.{GrammarFault}
+use Rattle.checked_grammar.specs.declared.fault.GrammarFault.TheVariants as grammar_fault
+use Rattle.normal_form.specs.Laws.{HasEqualLanguages}
 use Rattle.normal_form.specs.NormalOf.{normal_of}
 use Rattle.normal_form.specs.Print.{printed}
 use Rattle.perses_main.specs.declared.status.Refusal.{Refusal}
 use Rattle.perses_main.specs.declared.status.Refusal.TheVariants.{Memory, Grammar}
 use Rattle.perses_main.specs.Status.{fault_line, line_of, status_of}
-use Rattle.perses_main.specs.World.{Cuts, Failed, FilesKept, IsOver, IsQuiet, IsShownWithin, Puts, PutsLine, Reports, SeenFiles, SeenOut, WasRead}
+use Rattle.perses_main.specs.World.{Cuts, Failed, IsOver, IsQuiet, IsShownWithin, Puts, PutsLine, Reports, SeenFiles, SeenOut, WasRead}
 
 -- The bytes spell a grammar that is well-formed for its first parser rule.
 pub record IsGrammarText (bytes : List ℕ) : Type 0 where
@@ -27,33 +24,19 @@ pub record IsGrammarText (bytes : List ℕ) : Type 0 where
   pub first : start_of grammar None ≡ Some start
   pub well_formed : IsWellFormed grammar start
 
--- The text is the printed normal form of the grammar that the bytes spell, with its first parser rule as its start.
+-- The text is the printed normal form of the grammar that the bytes spell, with its first parser rule as its start, and the two have the same languages.
 pub record IsNormalOf (bytes text : List ℕ) : Type 0 where
   pub grammar : CheckedGrammar
-  pub spelled : IsProfile bytes grammar.grammar
-  pub first : start_of grammar.grammar None ≡ Some grammar.start
-  pub checked : IsChecked grammar
+  pub spelled : Spells bytes None grammar
+  pub languages : HasEqualLanguages grammar (normal_of grammar)
   pub printed : text ≡ encode_utf8_all (printed grammar.kinds (normal_of grammar))
 
--- The text is that of the fault of bytes that spell no grammar.
-pub record IsReadFault (bytes text : List ℕ) : Type 0 where
-  pub fault : ReadFault
-  pub caused : fault ≢ read.Memory
-  pub here : IsFaultOf bytes (Err fault)
-  pub names : text ≡ read_text fault
-
--- The text is that of the first fault of the grammar that the bytes spell.
-pub record IsRuleFault (bytes text : List ℕ) : Type 0 where
-  pub grammar : WrittenGrammar
-  pub fault : CheckFault
-  pub spelled : IsProfile bytes grammar
-  pub caused : fault ≢ check.Memory
-  pub here : IsFault grammar None fault
-  pub names : text ≡ check_text fault
-
--- The bytes spell no grammar that is well-formed for its first parser rule, and the text says why.
+-- The bytes spell no grammar that is well-formed for its first parser rule, and the text is that of their first fault.
 pub record IsFaultIn (bytes text : List ℕ) : Type 0 where
-  pub names : IsReadFault bytes text ⊎ IsRuleFault bytes text
+  pub fault : GrammarFault
+  pub caused : fault ≢ grammar_fault.Memory
+  pub first : IsGrammarFault bytes None fault
+  pub is_text : text ≡ fault_text fault
   pub refused : ¬ IsGrammarText bytes
 
 -- How `normal` ends, by its status.
@@ -64,11 +47,11 @@ pub data NormalEnds (grammar : List ℕ) (files files' : SeenFiles) (out out' : 
       → (quiet : IsQuiet files files')
       → (put : Puts text out out')
       → NormalEnds grammar files files' out out' 0
-  -- memory ran out
+  -- out of memory, for which there is no evidence
   memory : (quiet : IsQuiet files files')
       → (reported : Reports (codes "out of memory") out out')
       → NormalEnds grammar files files' out out' 1
-  -- a call of the files failed as the grammar was read
+  -- a call of the files failed, and the line names the grammar
   unread : (failed : Failed files files')
       → (reported : Reports (codes "cannot read grammar") out out')
       → NormalEnds grammar files files' out out' 3
@@ -108,12 +91,6 @@ pub record PrintsNormal (grammar : List ℕ) (files files' : SeenFiles) (out out
   pub ends : NormalEnds grammar files files' out out' status
   pub must_end : NormalMustEnd grammar files files' out out' status
   pub same : SameFiles files.shown files'.shown
-
--- why a grammar wasn't checked
-abbrev pub IsRuleRefusal : WrittenGrammar → Refusal → Type 0
-IsRuleRefusal G Memory = Unit {0}
-IsRuleRefusal G (Grammar line) = (fault : CheckFault) × (fault ≢ check.Memory) × IsFault G None fault × (string_bytes line ≡ fault_line (check_text fault))
-IsRuleRefusal G _ = ⊥
 
 -- why bytes have no normal form
 abbrev pub IsFaultRefusal : List ℕ → Refusal → Type 0

@@ -93,18 +93,18 @@ pub data ReduceEnds (paths : Paths) (records : List Record) (old new : World) : 
       → (gate_quiet : IsQuiet old.gate new.gate)
       → (silent : new.out ≡ old.out)
       → ReduceEnds paths records old new 0
-  -- memory ran out, before anything was written
+  -- out of memory, for which there is no evidence; nothing was written
   memory : (files : FilesKept old.files new.files)
       → (gate_quiet : IsQuiet old.gate new.gate)
       → (reported : Reports (codes "out of memory") old.out new.out)
       → ReduceEnds paths records old new 1
-  -- a call of the files failed as the input was read, and the gate was not reached
+  -- a call of the files failed, the line names the input, and the gate was not reached
   unread : (failed : Failed old.files new.files)
       → (same : SameFiles old.files.shown new.files.shown)
       → (unasked : Unasked records old.gate new.gate)
       → (reported : Reports (codes "cannot read input") old.out new.out)
       → ReduceEnds paths records old new 3
-  -- the input reduces to some text, but a call of the files failed as that was written to the output file
+  -- the input reduces to some text, but a call of the files failed, and the output file may hold anything
   unwritten : (failed : Failed old.files new.files)
       → (text : List ℕ)
       → (reduces : ReducesTo (old.files.shown paths.input) records text)

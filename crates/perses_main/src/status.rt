@@ -1,12 +1,13 @@
 //! The refusals of the program, each with its status and its line.
 
-ghost use Rattle.std.specs.Prelude.{◌≡◌, IfSome};
+ghost use Rattle.std.specs.Prelude.{◌≡◌};
+ghost use Rattle.checked_grammar.specs.Message.{fault_text};
 ghost use Rattle.perses_main.specs.Status.{IsGrammarRefusal, line_of, status_of};
 
+use checked_grammar::GrammarFault;
 use faults::Memory;
 use script_gate::GateFault;
 use std::alloc::Global;
-use std::fmt::Display;
 
 /// A file that the program reads.
 #[derive(Clone, Copy, Debug, PartialEq, Eq)]
@@ -40,8 +41,8 @@ pub enum Refusal {
 
 impl Refusal {
     /// The refusal of a grammar that has this fault; `Memory` where memory runs out.
-    pub fn of_grammar<T: Display>(alloc: Global, fault: &T) -> Refusal
-        ensures { IfSome (T.output fault.now) (λ text. IsGrammarRefusal text result) }
+    pub fn of_grammar(alloc: Global, fault: &GrammarFault) -> Refusal
+        ensures { IsGrammarRefusal (fault_text fault.now) result }
     {
         match format!(in alloc; "perses: grammar: {fault}\n") {
             Ok(line) => Refusal::Grammar(line),
