@@ -3,13 +3,12 @@ use Rattle.std.proofs.Common.{◌≡◌, ℕ, List, [], ◌∷◌, refl}
 use Rattle.std.proofs.lemmas.Bool.{false≢true}
 use Rattle.edge_io.specs.Files.{IsLonger}
 use Rattle.perses_main.specs.declared.status.ReadFile.TheVariants as read_file
-use Rattle.perses_main.specs.declared.status.Refusal.{Refusal}
 use Rattle.perses_main.specs.declared.status.Refusal.TheVariants.{Memory, CannotRead, TooLong}
 use Rattle.perses_main.specs.Normal.{IsFaultIn, IsNormalOf, NormalEnds}
 use Rattle.perses_main.specs.Normal.NormalEnds.{done, memory, unread, cut, faulty, too_long}
 use Rattle.perses_main.specs.NormalByStatus.{NormalByStatus, NormalMeans}
 use Rattle.perses_main.specs.ReduceByStatus.{IsOneOf}
-use Rattle.perses_main.specs.Status.{fault_line, line_of, status_of}
+use Rattle.perses_main.specs.Status.{PutsRefusal, fault_line}
 use Rattle.perses_main.specs.World.{Cuts, Failed, Puts, PutsLine, SeenFiles, SeenOut, WasRead}
 
 module _ (grammar : List ℕ) (files files' : SeenFiles) (out out' : SeenOut) where
@@ -44,17 +43,17 @@ module _ (grammar : List ℕ) (files files' : SeenFiles) (out out' : SeenOut) wh
   is_known (faulty text read quiet put) = refl
   is_known (too_long longer quiet put) = refl
 
-  puts_line : {status : ℕ} → Ends status → IsOneOf (1 ∷ 3 ∷ 10 ∷ []) status → (refusal : Refusal) × (status ≡ status_of refusal) × PutsLine (line_of refusal) out out'
-  puts_line (memory quiet put) is = (Memory, refl, put)
-  puts_line (unread failed put) is = (CannotRead read_file.Grammar, refl, put)
-  puts_line (too_long longer quiet put) is = (TooLong read_file.Grammar, refl, put)
+  puts_line : {status : ℕ} → Ends status → IsOneOf (1 ∷ 3 ∷ 10 ∷ []) status → PutsRefusal read_file.Grammar out out' status
+  puts_line (memory quiet put) is = (Memory, tt, refl, put)
+  puts_line (unread failed put) is = (CannotRead read_file.Grammar, refl, refl, put)
+  puts_line (too_long longer quiet put) is = (TooLong read_file.Grammar, refl, refl, put)
   puts_line _ is = absurd (false≢true is)
 
 pub normal_by_status : NormalByStatus
 normal_by_status grammar files files' out out' status ends = record {
   known = is_known grammar files files' out out' ends;
   done = is_done grammar files files' out out' ends;
-  read = is_unread grammar files files' out out' ends;
+  unread = is_unread grammar files files' out out' ends;
   cut = is_cut grammar files files' out out' ends;
   fault = is_faulty grammar files files' out out' ends;
   too_long = is_too_long grammar files files' out out' ends;

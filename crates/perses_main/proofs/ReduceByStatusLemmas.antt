@@ -77,18 +77,18 @@ module _ (paths : Paths) (records : List Record) (old new : World) where
 
   puts_line : {status : ℕ} → Ends status → PutsItsLine old.out new.out status
   puts_line (done reduced others files_quiet gate_quiet silent) = inl (refl, silent)
-  puts_line (memory files gate_quiet put) = inr (Memory, refl, put)
-  puts_line (unread failed same unasked put) = inr (CannotRead read_file.Input, refl, put)
-  puts_line (unwritten failed text reduces others gate_quiet put) = inr (CannotWrite, refl, put)
-  puts_line (uninteresting only read files gate_quiet put) = inr (NotInteresting, refl, put)
-  puts_line (too_long longer files unasked put) = inr (TooLong read_file.Input, refl, put)
-  puts_line (script failed not_no read files put) = inr (Script, refl, put)
+  puts_line (memory files gate_quiet put) = inr (Memory, tt, refl, put)
+  puts_line (unread failed same unasked put) = inr (CannotRead read_file.Input, refl, refl, put)
+  puts_line (unwritten failed text reduces others gate_quiet put) = inr (CannotWrite, tt, refl, put)
+  puts_line (uninteresting only read files gate_quiet put) = inr (NotInteresting, tt, refl, put)
+  puts_line (too_long longer files unasked put) = inr (TooLong read_file.Input, refl, refl, put)
+  puts_line (script failed not_no read files put) = inr (Script, tt, refl, put)
 
 pub reduce_by_status : ReduceByStatus
 reduce_by_status paths records old new status ends = record {
   known = is_known paths records old new ends;
   done = is_done paths records old new ends;
-  read = is_unread paths records old new ends;
+  unread = is_unread paths records old new ends;
   write = is_unwritten paths records old new ends;
   tried = is_tried paths records old new ends;
   not_interesting = is_uninteresting paths records old new ends;

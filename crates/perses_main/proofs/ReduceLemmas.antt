@@ -2,7 +2,7 @@
 use Rattle.std.proofs.Common.{◌≡◌, ◌≢◌, ℕ, List, [], ◌∷◌, Option, Some, None, IsSome, All, true, false, refl, sym, ap, ◌∙◌, subst, ◌⊎◌, inl, inr, ⊎_elim}
 use Rattle.std.proofs.lemmas.Bool.{false≢true}
 use Rattle.std.proofs.lemmas.Cmp.{nat_list_eq_equiv}
-use Rattle.std.proofs.lemmas.List.Elements.{All-weaker}
+use Rattle.std.proofs.lemmas.List.Elements.{All-nil, All-weaker}
 use Rattle.std.specs.List.{concat}
 use Rattle.script_gate.specs.declared.gate.GateFault.{GateFault}
 use Rattle.script_gate.specs.declared.gate.GateFault.TheVariants.{Failed as GateFailed, Memory as GateMemory}
@@ -27,12 +27,25 @@ begins_at start (r ∷ records) begun =
     let same : Some start ≡ Some r.text = sym (asked-plan (Whole start) tt) ∙ begun in
     (cc)
 
--- what may be asked of a start is some of its lines
-pub are-of : AsksCandidates → (start' start : List ℕ) (records : List Record) → start' ≡ start → All (λ r. MayAsk (plan_of (Whole start')) r.text) records → BeginsWith (plan_of (Whole start')) records → AreOf start records
-are-of law start' start records same may begun = subst (λ s. AreOf s records) same (record {
+-- a start that is refused ends the run at once
+refused_ends : (start : List ℕ) → HasEnded (after (plan_of (Whole start)) No)
+refused_ends start = ap asked (after-plan (Whole start) start No tt refl) ∙ ap asked (plan-end (line_after (Whole start) No) refl)
+
+only_no : (start : List ℕ) (records : List Record) → EndsAtFirst (plan_of (Whole start)) records → FirstIsNo records → OnlyNo records
+only_no start [] one no_first = absurd no_first
+only_no start (r ∷ records) one no_first = (no_first, one (subst (λ verdict. HasEnded (after (plan_of (Whole start)) verdict)) (sym no_first) (refused_ends start)))
+
+-- what may be asked of a start is some of its lines, and nothing after its no
+pub are-of : AsksCandidates → (start' start : List ℕ) (records : List Record) → start' ≡ start → All (λ r. MayAsk (plan_of (Whole start')) r.text) records → BeginsWith (plan_of (Whole start')) records → EndsAtFirst (plan_of (Whole start')) records → AreOf start records
+are-of law start' start records same may begun one = subst (λ s. AreOf s records) same (record {
   candidates = All-weaker (λ (r : Record). MayAsk (plan_of (Whole start')) r.text) (λ (r : Record). IsCandidate start' r.text) (λ r. law start' r.text) records may;
   first = begins_at start' records begun;
+  ends_at_no = only_no start' records one;
 })
+
+-- nothing was asked of the start
+pub are-none : (start : List ℕ) (records : List Record) → records ≡ [] → AreOf start records
+are-none start records none = subst (AreOf start) (sym none) (record { candidates = All-nil _; first = tt; ends_at_no = λ first_no. first_no })
 
 first_known : (start : List ℕ) (r : Record) (records : List Record) → r.text ≡ start → verdict_in (r ∷ records) start ≡ Some r.verdict
 first_known start r records same = rw (same, nat_list_eq_equiv.refl start) refl
@@ -69,14 +82,6 @@ pub record CameToEnd (start : List ℕ) (records : List Record) (state : LineSta
   pub found : plan_of state ≡ End (gives state)
   pub begun : BeginsWith (plan_of (Whole start)) records
   pub one : EndsAtFirst (plan_of (Whole start)) records
-
--- a start that is refused ends the run at once
-refused_ends : (start : List ℕ) → HasEnded (after (plan_of (Whole start)) No)
-refused_ends start = ap asked (after-plan (Whole start) start No tt refl) ∙ ap asked (plan-end (line_after (Whole start) No) refl)
-
-only_no : (start : List ℕ) (records : List Record) → EndsAtFirst (plan_of (Whole start)) records → FirstIsNo records → OnlyNo records
-only_no start [] one no_first = absurd no_first
-only_no start (r ∷ records) one no_first = (no_first, one (subst (λ verdict. HasEnded (after (plan_of (Whole start)) verdict)) (sym no_first) (refused_ends start)))
 
 module _ (follows : FollowsReduction) (refuses : RefusesAtNo) (minimal : EndsMinimal) (start : List ℕ) (records : List Record) (state : LineState) (run : CameToEnd start records state) where
   abbrev V : List ℕ → Option Verdict

@@ -60,10 +60,11 @@ pub record IsReduced (input output : Option FileContent) (records : List Record)
   pub reduces : ReducesTo input records text
   pub written : Holds text output
 
--- each text is some of the start's lines in their order, and the first is the start
+-- each text is some of the start's lines in their order, the first is the start, and after its no nothing was asked
 pub record AreOf (start : List ℕ) (records : List Record) : Type 0 where
   pub candidates : All (λ r. IsCandidate start r.text) records
   pub first : BeginsAt start records
+  pub ends_at_no : FirstIsNo records → OnlyNo records
 
 -- where there is a record, the texts are those of the input that was read, which is within its limit
 abbrev pub AreCandidates : Option FileContent → List Record → Type 0

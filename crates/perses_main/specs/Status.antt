@@ -73,6 +73,16 @@ WriteFails old new Memory = FilesKept old new
 WriteFails old new CannotWrite = Failed old new
 WriteFails old new _ = ⊥
 
+-- a refusal that names a file names this one
+abbrev pub NamesNoOther : ReadFile → Refusal → Type 0
+NamesNoOther file (CannotRead named) = named ≡ file
+NamesNoOther file (TooLong named) = named ≡ file
+NamesNoOther file _ = Unit {0}
+
+-- the line was put of a refusal that has this status and names no file but this one
+abbrev pub PutsRefusal : ReadFile → SeenOut → SeenOut → ℕ → Type 0
+PutsRefusal file out out' status = (refusal : Refusal) × NamesNoOther file refusal × (status ≡ status_of refusal) × PutsLine (line_of refusal) out out'
+
 -- the refusal of a grammar whose fault has this text, or out of memory
 abbrev pub IsGrammarRefusal : List ℕ → Refusal → Type 0
 IsGrammarRefusal text Memory = Unit {0}

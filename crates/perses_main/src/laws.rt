@@ -1,5 +1,5 @@
-//! What the statuses mean, for the proofs of callers. Each law is a function that does nothing, which
-//! a caller calls so that its proof has the law.
+//! What the statuses mean by their numbers. Each law is a function that does nothing, whose clause
+//! follows from how the command ends.
 
 ghost use Rattle.perses_main.specs.NormalByStatus.{NormalByStatus};
 ghost use Rattle.perses_main.specs.ReduceByStatus.{ReduceByStatus};

@@ -2,15 +2,18 @@ use Rattle.std.proofs.Common.{Err, ap, sym}
 use Rattle.std.proofs.lemmas.Result.{err_from_is_err_and}
 use Rattle.perses_main.specs.World.{seen}
 use Rattle.perses_main.proofs.RunLemmas.{none_distinct}
-use Rattle.perses_main.proofs.ReduceLemmas.{CameToEnd, are-of, came-to-end, first-no, only-no, reduces-from, run-fails}
+use Rattle.perses_main.proofs.ReduceLemmas.{CameToEnd, are-none, are-of, came-to-end, first-no, only-no, reduces-from, run-fails}
 use Rattle.perses_main.proofs.reduce.reduce_lines.Goals as goal
 
 pub returns-in_err-reducer-clause-distinct : goal.returns-in_err-reducer-clause-distinct
 returns-in_err-reducer-clause-distinct g c = none_distinct c.args.table.now.records c.requires.empty
 
+pub returns-in_err-reducer-clause-candidates : goal.returns-in_err-reducer-clause-candidates
+returns-in_err-reducer-clause-candidates g c = are-none c.args.start.items c.args.table.now.records c.requires.empty
+
 pub returns-in_err-run-clause-candidates : goal.returns-in_err-run-clause-candidates
 returns-in_err-run-clause-candidates g c =
-    are-of c.asks_candidates.ensures c.in_ok-reducer.reducer.start c.args.start.items c.run.new.table.records (ap (λ r. r.start) c.in_ok-reducer.ensures) c.in_err-run.ensures.may_ask c.in_err-run.ensures.begun
+    are-of c.asks_candidates.ensures c.in_ok-reducer.reducer.start c.args.start.items c.run.new.table.records (ap (λ r. r.start) c.in_ok-reducer.ensures) c.in_err-run.ensures.may_ask c.in_err-run.ensures.begun c.in_err-run.ensures.one
 
 pub returns-in_err-run-clause-refused : goal.returns-in_err-run-clause-refused
 returns-in_err-run-clause-refused g c =
@@ -21,7 +24,7 @@ returns-in_err-run-clause-refused g c =
 
 pub returns-then-refused-clause-candidates : goal.returns-then-refused-clause-candidates
 returns-then-refused-clause-candidates g c =
-    are-of c.asks_candidates.ensures c.in_ok-reducer.reducer.start c.args.start.items c.run.new.table.records (ap (λ r. r.start) c.in_ok-reducer.ensures) c.in_ok-run.ensures.may_ask c.in_ok-run.ensures.begun
+    are-of c.asks_candidates.ensures c.in_ok-reducer.reducer.start c.args.start.items c.run.new.table.records (ap (λ r. r.start) c.in_ok-reducer.ensures) c.in_ok-run.ensures.may_ask c.in_ok-run.ensures.begun c.in_ok-run.ensures.one
 
 pub returns-then-refused-clause-refused : goal.returns-then-refused-clause-refused
 returns-then-refused-clause-refused g c =
@@ -35,7 +38,7 @@ returns-then-refused-clause-refused g c =
 
 pub returns-clause-candidates : goal.returns-clause-candidates
 returns-clause-candidates g c =
-    are-of c.asks_candidates.ensures c.in_ok-reducer.reducer.start c.args.start.items c.run.new.table.records (ap (λ r. r.start) c.in_ok-reducer.ensures) c.in_ok-run.ensures.may_ask c.in_ok-run.ensures.begun
+    are-of c.asks_candidates.ensures c.in_ok-reducer.reducer.start c.args.start.items c.run.new.table.records (ap (λ r. r.start) c.in_ok-reducer.ensures) c.in_ok-run.ensures.may_ask c.in_ok-run.ensures.begun c.in_ok-run.ensures.one
 
 pub returns-clause-reduced : goal.returns-clause-reduced
 returns-clause-reduced g c =
