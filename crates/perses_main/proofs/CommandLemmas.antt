@@ -1,6 +1,5 @@
 -- How the steps of `reduce` end it.
-use Rattle.std.proofs.Common.{◌≡◌, ◌≢◌, ◌≤◌, inl, inr, ℕ, List, [], ◌∷◌, ◌++◌, All, length, Option, Some, None, option_map, codes, refl, sym, ap, ◌∙◌, subst, Result, Ok, Err, IfErr, MatchResult, OnOk}
-use Rattle.std.proofs.lemmas.List.{append-nil}
+use Rattle.std.proofs.Common.{◌≡◌, ◌≤◌, inl, inr, ℕ, List, [], ◌∷◌, ◌++◌, All, length, Option, Some, None, option_map, codes, refl, sym, ap, ◌∙◌, subst, Result, Ok, Err, IfErr, MatchResult, OnOk}
 use Rattle.std.proofs.lemmas.List.Elements.{All-nil}
 use Rattle.std.specs.List.{IsDistinct}
 use Rattle.std.specs.Str.{bytes_eq}
@@ -15,12 +14,12 @@ use Rattle.verdict_table.specs.TableState.{texts_of}
 use Rattle.perses_main.specs.declared.status.Refusal.{Refusal}
 use Rattle.perses_main.specs.declared.status.Refusal.TheVariants.{Memory, CannotRead, CannotWrite, NotInteresting, TooLong, Script}
 use Rattle.perses_main.specs.declared.status.ReadFile.TheVariants as read_file
-use Rattle.perses_main.specs.Reduce.{AreCandidates, AreOf, AsksAre, FirstIs, FirstIsNo, OpenedAs, RecordsAreSound, ReducesFrom, RunFails, ReduceEnds, ReduceFails, ReduceMustEnd, ReduceSteps, Reduces, WritesReduced, opening_for}
+use Rattle.perses_main.specs.Reduce.{AreCandidates, AreOf, FirstIs, FirstIsNo, RecordsAreSound, ReducesFrom, RunFails, ReduceEnds, ReduceFails, ReduceMustEnd, ReduceSteps, Reduces, WritesReduced, opening_for}
 use Rattle.perses_main.specs.Reduce.ReduceEnds.{done, memory, unread, unwritten, uninteresting, too_long, script}
 use Rattle.perses_main.specs.Run.{with_all_asked}
 use Rattle.perses_main.specs.Status.{EndsRefused, EndsSilent, OpenFails, ReadFails, WriteFails}
 use Rattle.perses_main.specs.Words.{Paths, file_name_of}
-use Rattle.perses_main.specs.World.{FilesKept, IsQuiet, SeenFiles, SeenGate, SeenOut, Unasked, WasRead, World}
+use Rattle.perses_main.specs.World.{FilesKept, IsQuiet, SeenFiles, SeenGate, SeenOut, Unasked, WasRead, World, input_limit}
 use Rattle.perses_main.proofs.FileLemmas.{not_longer, read_not_over}
 use Rattle.perses_main.proofs.RunLemmas.{none_distinct}
 
@@ -31,20 +30,12 @@ yes_no start (r ∷ records) first first_no = absurd (cc (sym first.1 ∙ first_
 none_no : (records : List Record) → records ≡ [] → FirstIsNo records → ⊥
 none_no records none first_no = subst FirstIsNo none first_no
 
-asks_none : (log : Option Log) → AsksAre log log (texts_of [])
-asks_none None = tt
-asks_none (Some log) = sym (append-nil log.asked)
-
--- a gate that was opened and asked for these texts
-asks_these : (opening : Log → Log) (texts : List (List ℕ)) → ((log : Log) → (opening log).asked ≡ log.asked) → (log : Option Log) → AsksAre log (option_map (with_all_asked texts) (option_map opening log)) texts
-asks_these opening texts same None = tt
-asks_these opening texts same (Some log) = ap (λ asked. asked ++ texts) (same log)
-
-opened_so : (paths : Paths) (texts : List (List ℕ)) (records : List Record) (log : Option Log) →
-    OpenedAs (opening_for paths 1) (option_map (with_all_asked texts) (option_map (with_opening (codes "perses-work") paths.script (file_name_of paths.input) 1) log)) records
-opened_so paths texts [] log = tt
-opened_so paths texts (r ∷ records) None = tt
-opened_so paths texts (r ∷ records) (Some log) = refl
+-- a gate that was opened and then asked for these texts
+opened_and_asked : (paths : Paths) (texts : List (List ℕ)) (log : Option Log) →
+    option_map (with_all_asked texts) (option_map (with_opening (codes "perses-work") paths.script (file_name_of paths.input) 1) log)
+    ≡ option_map (λ (l : Log). record l { asked = l.asked ++ texts; opening = Some (opening_for paths 1) }) log
+opened_and_asked paths texts None = refl
+opened_and_asked paths texts (Some log) = refl
 
 module _ (paths : Paths) (may_say : List ℕ → Verdict → Type 0) where
   -- no record was made, and the gate's log is the same
@@ -52,23 +43,18 @@ module _ (paths : Paths) (may_say : List ℕ → Verdict → Type 0) where
   none_sound records gate gate' none same = subst (λ rs. RecordsAreSound paths may_say rs gate gate') (sym none) (record {
     distinct = none_distinct [] refl;
     said = All-nil _;
-    asked = subst (λ log. AsksAre gate.shown log (texts_of [])) (sym same) (asks_none gate.shown);
-    opened = tt;
+    used = inl (refl, same);
   })
 
   -- the gate was opened, and then asked for the records' texts
   pub asked_sound : (records : List Record) (gate opened gate' : SeenGate) → IsDistinct bytes_eq (texts_of records) → All (λ r. may_say r.text r.verdict) records
       → opened.shown ≡ option_map (with_opening (codes "perses-work") paths.script (file_name_of paths.input) 1) gate.shown → gate'.shown ≡ option_map (with_all_asked (texts_of records)) opened.shown
       → RecordsAreSound paths may_say records gate gate'
-  asked_sound records gate opened gate' distinct said is_open is_asked =
-      let is : gate'.shown ≡ option_map (with_all_asked (texts_of records)) (option_map (with_opening (codes "perses-work") paths.script (file_name_of paths.input) 1) gate.shown) =
-      is_asked ∙ ap (option_map (with_all_asked (texts_of records))) is_open in
-      record {
-        distinct = distinct;
-        said = said;
-        asked = subst (λ log. AsksAre gate.shown log (texts_of records)) (sym is) (asks_these (with_opening (codes "perses-work") paths.script (file_name_of paths.input) 1) (texts_of records) (λ log. refl) gate.shown);
-        opened = subst (λ log. OpenedAs (opening_for paths 1) log records) (sym is) (opened_so paths (texts_of records) records gate.shown);
-      }
+  asked_sound records gate opened gate' distinct said is_open is_asked = record {
+    distinct = distinct;
+    said = said;
+    used = inr (is_asked ∙ ap (option_map (with_all_asked (texts_of records))) is_open ∙ opened_and_asked paths (texts_of records) gate.shown);
+  }
 
 -- why the gate wasn't opened is why there is no reduction
 pub run_open : (start : List ℕ) (records : List Record) (gate gate' : SeenGate) (refusal : Refusal) → records ≡ [] → OpenFails gate gate' refusal → RunFails start records gate gate' refusal
@@ -83,14 +69,14 @@ run_later start records gate opened gate' NotInteresting quiet (only, first, sam
 run_later start records gate opened gate' Script quiet (failed, not_no) = (subst (λ count. Rose count gate'.faults) quiet failed, not_no)
 run_later start records gate opened gate' _ quiet why = absurd why
 
-candidates_of : (input : Option FileContent) (start : List ℕ) (records : List Record) → Holds start input → length start ≤ 262144 → AreOf start records → AreCandidates input records
+candidates_of : (input : Option FileContent) (start : List ℕ) (records : List Record) → Holds start input → length start ≤ input_limit → AreOf start records → AreCandidates input records
 candidates_of input start [] here within are = tt
 candidates_of input start (r ∷ records) here within are = record { bytes = start; read = here; within = within; holds = are }
 
 module _ (paths : Paths) (may_say : List ℕ → Verdict → Type 0) (records : List Record) (files files' : SeenFiles) where
   -- the input wasn't read
   pub stops_read : (gate : SeenGate) (refusal : Refusal) → records ≡ [] → SameFiles files.shown files'.shown
-      → ReadFails 262144 read_file.Input (files.shown paths.input) files files' refusal
+      → ReadFails input_limit read_file.Input (files.shown paths.input) files files' refusal
       → ReduceSteps paths may_say records files files' gate gate (Err refusal)
   stops_read gate refusal none same why = record {
     sound = none_sound paths may_say records gate gate none refl;
@@ -101,7 +87,7 @@ module _ (paths : Paths) (may_say : List ℕ → Verdict → Type 0) (records : 
       untouched : Unasked records gate gate
       untouched = record { no_records = none; same = refl }
 
-      at : (refusal : Refusal) → ReadFails 262144 read_file.Input (files.shown paths.input) files files' refusal → ReduceFails paths records files files' gate gate refusal
+      at : (refusal : Refusal) → ReadFails input_limit read_file.Input (files.shown paths.input) files files' refusal → ReduceFails paths records files files' gate gate refusal
       at Memory why = λ out out' put. memory (record { same = same; quiet = why }) refl put
       at (CannotRead file) why = subst (λ f. ReduceFails paths records files files' gate gate (CannotRead f)) (sym why.0)
           (λ out out' put. unread why.1 same untouched put)
@@ -109,8 +95,8 @@ module _ (paths : Paths) (may_say : List ℕ → Verdict → Type 0) (records : 
           (λ out out' put. too_long why.1 (record { same = same; quiet = why.2 }) untouched put)
       at _ why = absurd why
 
-  module _ (gate gate' : SeenGate) (start : List ℕ) (here : Holds start (files.shown paths.input)) (within : length start ≤ 262144) (sound : RecordsAreSound paths may_say records gate gate') (are : AreOf start records) where
-    was_read : (P : List ℕ → Type 0) → P start → WasRead 262144 (files.shown paths.input) P
+  module _ (gate gate' : SeenGate) (start : List ℕ) (here : Holds start (files.shown paths.input)) (within : length start ≤ input_limit) (sound : RecordsAreSound paths may_say records gate gate') (are : AreOf start records) where
+    was_read : (P : List ℕ → Type 0) → P start → WasRead input_limit (files.shown paths.input) P
     was_read P holds = record { bytes = start; read = here; within = within; holds = holds }
 
     -- the start wasn't reduced
@@ -151,12 +137,12 @@ module _ (paths : Paths) (may_say : List ℕ → Verdict → Type 0) (records : 
 module _ (paths : Paths) (records : List Record) (old new : World) where
   -- which status it has to be
   must_end : {status : ℕ} → ReduceEnds paths records old new status → ReduceMustEnd paths records old new status
-  must_end (done reduced others files_quiet gate_quiet silent) = record {
-    over = λ over. absurd (read_not_over reduced.reduces over);
+  must_end (done writes silent) = record {
+    over = λ over. absurd (read_not_over writes.reduced.reduces over);
     complete = λ within files_fine gate_fine. inl refl;
-    first_no = λ first_no. absurd (yes_no _ records reduced.reduces.holds.first first_no);
-    files_failed = λ failed. absurd (failed files_quiet);
-    gate_failed = λ failed. absurd (failed gate_quiet);
+    first_no = λ first_no. absurd (yes_no _ records writes.reduced.reduces.holds.first first_no);
+    files_failed = λ failed. absurd (failed writes.files_quiet);
+    gate_failed = λ failed. absurd (failed writes.gate_quiet);
     out_failed = λ failed. absurd (failed (ap (λ (out : SeenOut). out.faults) silent));
   }
   must_end (memory files gate_quiet put) = record {
@@ -193,7 +179,7 @@ module _ (paths : Paths) (records : List Record) (old new : World) where
   }
   must_end (too_long longer files unasked put) = record {
     over = λ over. inl refl;
-    complete = λ within files_fine gate_fine. absurd (not_longer 262144 _ _ within longer);
+    complete = λ within files_fine gate_fine. absurd (not_longer input_limit _ _ within longer);
     first_no = λ first_no. absurd (none_no records unasked.no_records first_no);
     files_failed = λ failed. absurd (failed files.quiet);
     gate_failed = λ failed. absurd (failed (ap (λ (gate : SeenGate). gate.faults) unasked.same));
@@ -219,5 +205,5 @@ reduce_ends paths may_say records old new outcome status steps end =
     at : (outcome : Result (Unit {0}) Refusal)
         → MatchResult outcome (λ _. WritesReduced paths records old.files new.files old.gate new.gate) (λ refusal. ReduceFails paths records old.files new.files old.gate new.gate refusal)
         → MatchResult outcome (λ _. EndsSilent old.out new.out status) (λ refusal. EndsRefused old.out new.out status refusal) → ReduceEnds paths records old new status
-    at (Ok x) writes end = subst (ReduceEnds paths records old new) (sym end.is) (done writes.reduced writes.others writes.files_quiet writes.gate_quiet end.silent)
+    at (Ok x) writes end = subst (ReduceEnds paths records old new) (sym end.is) (done writes end.silent)
     at (Err refusal) fails end = subst (ReduceEnds paths records old new) (sym end.is) (fails old.out new.out end.reported)

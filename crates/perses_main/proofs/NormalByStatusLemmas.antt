@@ -6,16 +6,16 @@ use Rattle.perses_main.specs.declared.status.ReadFile.TheVariants as read_file
 use Rattle.perses_main.specs.declared.status.Refusal.TheVariants.{Memory, CannotRead, TooLong}
 use Rattle.perses_main.specs.Normal.{IsFaultIn, IsNormalOf, NormalEnds}
 use Rattle.perses_main.specs.Normal.NormalEnds.{done, memory, unread, cut, faulty, too_long}
-use Rattle.perses_main.specs.NormalByStatus.{NormalByStatus, NormalMeans}
+use Rattle.perses_main.specs.NormalByStatus.{NormalByStatus}
 use Rattle.perses_main.specs.ReduceByStatus.{IsOneOf}
 use Rattle.perses_main.specs.Status.{PutsRefusal, fault_line}
-use Rattle.perses_main.specs.World.{Cuts, Failed, Puts, PutsLine, SeenFiles, SeenOut, WasRead}
+use Rattle.perses_main.specs.World.{Cuts, Failed, Puts, PutsLine, SeenFiles, SeenOut, WasRead, grammar_limit}
 
 module _ (grammar : List ℕ) (files files' : SeenFiles) (out out' : SeenOut) where
   abbrev Ends : ℕ → Type 0
   Ends status = NormalEnds grammar files files' out out' status
 
-  is_done : {status : ℕ} → Ends status → status ≡ 0 → (text : List ℕ) × WasRead 1048576 (files.shown grammar) (λ bytes. IsNormalOf bytes text) × Puts text out out'
+  is_done : {status : ℕ} → Ends status → status ≡ 0 → (text : List ℕ) × WasRead grammar_limit (files.shown grammar) (λ bytes. IsNormalOf bytes text) × Puts text out out'
   is_done (done text read quiet put) is = (text, read, put)
   is_done _ is = absurd (cc is)
 
@@ -23,15 +23,15 @@ module _ (grammar : List ℕ) (files files' : SeenFiles) (out out' : SeenOut) wh
   is_unread (unread failed put) is = failed
   is_unread _ is = absurd (cc is)
 
-  is_cut : {status : ℕ} → Ends status → status ≡ 4 → (text : List ℕ) × WasRead 1048576 (files.shown grammar) (λ bytes. IsNormalOf bytes text) × Cuts text out out'
+  is_cut : {status : ℕ} → Ends status → status ≡ 4 → (text : List ℕ) × WasRead grammar_limit (files.shown grammar) (λ bytes. IsNormalOf bytes text) × Cuts text out out'
   is_cut (cut text read quiet put) is = (text, read, put)
   is_cut _ is = absurd (cc is)
 
-  is_faulty : {status : ℕ} → Ends status → status ≡ 5 → (text : List ℕ) × WasRead 1048576 (files.shown grammar) (λ bytes. IsFaultIn bytes text) × PutsLine (fault_line text) out out'
+  is_faulty : {status : ℕ} → Ends status → status ≡ 5 → (text : List ℕ) × WasRead grammar_limit (files.shown grammar) (λ bytes. IsFaultIn bytes text) × PutsLine (fault_line text) out out'
   is_faulty (faulty text read quiet put) is = (text, read, put)
   is_faulty _ is = absurd (cc is)
 
-  is_too_long : {status : ℕ} → Ends status → status ≡ 10 → IsLonger 1048576 (files.shown grammar)
+  is_too_long : {status : ℕ} → Ends status → status ≡ 10 → IsLonger grammar_limit (files.shown grammar)
   is_too_long (too_long longer quiet put) is = longer
   is_too_long _ is = absurd (cc is)
 

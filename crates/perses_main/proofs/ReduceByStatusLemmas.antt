@@ -8,14 +8,14 @@ use Rattle.perses_main.specs.Reduce.{IsReduced, OnlyNo, ReduceEnds, ReducesTo}
 use Rattle.perses_main.specs.Reduce.ReduceEnds.{done, memory, unread, unwritten, uninteresting, too_long, script}
 use Rattle.perses_main.specs.ReduceByStatus.{IsOneOf, PutsItsLine, ReduceByStatus}
 use Rattle.perses_main.specs.Words.{Paths}
-use Rattle.perses_main.specs.World.{Failed, Unasked, World}
+use Rattle.perses_main.specs.World.{Failed, Unasked, World, input_limit}
 
 module _ (paths : Paths) (records : List Record) (old new : World) where
   abbrev Ends : ℕ → Type 0
   Ends status = ReduceEnds paths records old new status
 
   is_done : {status : ℕ} → Ends status → status ≡ 0 → IsReduced (old.files.shown paths.input) (new.files.shown paths.output) records
-  is_done (done reduced others files_quiet gate_quiet silent) is = reduced
+  is_done (done writes silent) is = writes.reduced
   is_done _ is = absurd (cc is)
 
   is_unread : {status : ℕ} → Ends status → status ≡ 3 → Failed old.files new.files
@@ -34,7 +34,7 @@ module _ (paths : Paths) (records : List Record) (old new : World) where
   is_uninteresting (uninteresting only read files gate_quiet put) is = only
   is_uninteresting _ is = absurd (cc is)
 
-  is_too_long : {status : ℕ} → Ends status → status ≡ 10 → IsLonger 262144 (old.files.shown paths.input)
+  is_too_long : {status : ℕ} → Ends status → status ≡ 10 → IsLonger input_limit (old.files.shown paths.input)
   is_too_long (too_long longer files unasked put) is = longer
   is_too_long _ is = absurd (cc is)
 
@@ -49,7 +49,7 @@ module _ (paths : Paths) (records : List Record) (old new : World) where
   is_early _ (inr is) = absurd (cc is)
 
   same_others : {status : ℕ} → Ends status → SameOthers old.files.shown new.files.shown paths.output
-  same_others (done reduced others files_quiet gate_quiet silent) = others
+  same_others (done writes silent) = writes.others
   same_others (memory files gate_quiet put) = λ name other. files.same name
   same_others (unread failed same unasked put) = λ name other. same name
   same_others (unwritten failed text reduces others gate_quiet put) = others
@@ -58,7 +58,7 @@ module _ (paths : Paths) (records : List Record) (old new : World) where
   same_others (script failed not_no read files put) = λ name other. files.same name
 
   same_files : {status : ℕ} → Ends status → status ≢ 0 → status ≢ 4 → SameFiles old.files.shown new.files.shown
-  same_files (done reduced others files_quiet gate_quiet silent) not_done not_written = absurd (not_done refl)
+  same_files (done writes silent) not_done not_written = absurd (not_done refl)
   same_files (memory files gate_quiet put) not_done not_written = files.same
   same_files (unread failed same unasked put) not_done not_written = same
   same_files (unwritten failed text reduces others gate_quiet put) not_done not_written = absurd (not_written refl)
@@ -67,7 +67,7 @@ module _ (paths : Paths) (records : List Record) (old new : World) where
   same_files (script failed not_no read files put) not_done not_written = files.same
 
   is_known : {status : ℕ} → Ends status → IsOneOf (0 ∷ 1 ∷ 3 ∷ 4 ∷ 8 ∷ 10 ∷ 11 ∷ []) status
-  is_known (done reduced others files_quiet gate_quiet silent) = refl
+  is_known (done writes silent) = refl
   is_known (memory files gate_quiet put) = refl
   is_known (unread failed same unasked put) = refl
   is_known (unwritten failed text reduces others gate_quiet put) = refl
@@ -76,7 +76,7 @@ module _ (paths : Paths) (records : List Record) (old new : World) where
   is_known (script failed not_no read files put) = refl
 
   puts_line : {status : ℕ} → Ends status → PutsItsLine old.out new.out status
-  puts_line (done reduced others files_quiet gate_quiet silent) = inl (refl, silent)
+  puts_line (done writes silent) = inl (refl, silent)
   puts_line (memory files gate_quiet put) = inr (Memory, tt, refl, put)
   puts_line (unread failed same unasked put) = inr (CannotRead read_file.Input, refl, refl, put)
   puts_line (unwritten failed text reduces others gate_quiet put) = inr (CannotWrite, tt, refl, put)

@@ -1,5 +1,5 @@
 -- The command `reduce`: how it ends, by its status, and what its records are.
-use Rattle.std.specs.Prelude.{◌≡◌, ◌≢◌, ◌⊎◌, ℕ, List, [], ◌∷◌, ◌++◌, false, Option, Some, None, IfSome, All, MatchResult, Result, codes}
+use Rattle.std.specs.Prelude.{◌≡◌, ◌≢◌, ◌⊎◌, ℕ, List, [], ◌∷◌, ◌++◌, false, Option, Some, All, MatchResult, Result, codes, option_map}
 use Rattle.std.specs.List.{IsDistinct, concat}
 use Rattle.std.specs.Str.{bytes_eq}
 use Rattle.script_gate.specs.declared.gate.Verdict.{Verdict}
@@ -15,7 +15,7 @@ use Rattle.perses_main.specs.declared.status.Refusal.{Refusal}
 use Rattle.perses_main.specs.declared.status.Refusal.TheVariants.{Memory, NotInteresting, Script}
 use Rattle.perses_main.specs.Status.{line_of, status_of}
 use Rattle.perses_main.specs.Words.{Paths, file_name_of}
-use Rattle.perses_main.specs.World.{Failed, FilesKept, IsOver, IsQuiet, IsWithin, PutsLine, Reports, SeenFiles, SeenGate, SeenOut, Unasked, WasRead, World}
+use Rattle.perses_main.specs.World.{Failed, FilesKept, IsOver, IsQuiet, IsWithin, PutsLine, Reports, SeenFiles, SeenGate, SeenOut, Unasked, WasRead, World, input_limit}
 
 -- the first record is of this text, with this verdict
 abbrev pub FirstIs : List ℕ → Verdict → List Record → Type 0
@@ -52,7 +52,7 @@ pub record ReducesFrom (start : List ℕ) (records : List Record) (text : List �
 
 -- the input, within its limit, reduces to the text
 abbrev pub ReducesTo : Option FileContent → List Record → List ℕ → Type 0
-ReducesTo input records text = WasRead 262144 input (λ start. ReducesFrom start records text)
+ReducesTo input records text = WasRead input_limit input (λ start. ReducesFrom start records text)
 
 -- the output file holds what the input reduces to
 pub record IsReduced (input output : Option FileContent) (records : List Record) : Type 0 where
@@ -69,29 +69,28 @@ pub record AreOf (start : List ℕ) (records : List Record) : Type 0 where
 -- where there is a record, the texts are those of the input that was read, which is within its limit
 abbrev pub AreCandidates : Option FileContent → List Record → Type 0
 AreCandidates input [] = Unit {0}
-AreCandidates input (r ∷ records) = WasRead 262144 input (λ start. AreOf start (r ∷ records))
-
--- where the gate's log is visible, its asks grew by these texts
-abbrev pub AsksAre : Option Log → Option Log → List (List ℕ) → Type 0
-AsksAre None new texts = Unit {0}
-AsksAre (Some old) new texts = IfSome new (λ log. log.asked ≡ old.asked ++ texts)
+AreCandidates input (r ∷ records) = WasRead input_limit input (λ start. AreOf start (r ∷ records))
 
 -- the opening of a worker's gate: the work folder, the script, the input's name without its folder, and the worker's number
 abbrev pub opening_for : Paths → ℕ → Opening
 opening_for paths number = record { work = codes "perses-work"; script = paths.script; name = file_name_of paths.input; number = number }
 
--- where there is a record, a gate whose log is visible was last opened so
-abbrev pub OpenedAs : Opening → Option Log → List Record → Type 0
-OpenedAs opening log [] = Unit {0}
-OpenedAs opening log (r ∷ records) = IfSome log (λ t. t.opening ≡ Some opening)
+-- the gate was neither opened nor asked, or it was opened so and then asked for these texts, in this order and no others
+abbrev pub GateWasUsed : Opening → List (List ℕ) → Option Log → Option Log → Type 0
+GateWasUsed opening texts old new =
+    ((texts ≡ []) × (new ≡ old)) ⊎ (new ≡ option_map (λ (log : Log). record log { asked = log.asked ++ texts; opening = Some opening }) old)
+
+-- the output file, and no other, has what the input reduces to, and no call failed
+pub record WritesReduced (paths : Paths) (records : List Record) (files files' : SeenFiles) (gate gate' : SeenGate) : Type 0 where
+  pub reduced : IsReduced (files.shown paths.input) (files'.shown paths.output) records
+  pub others : SameOthers files.shown files'.shown paths.output
+  pub files_quiet : IsQuiet files files'
+  pub gate_quiet : IsQuiet gate gate'
 
 -- How `reduce` ends, by its status.
 pub data ReduceEnds (paths : Paths) (records : List Record) (old new : World) : ℕ → Type 0 where
-  -- the output file, and no other, has what the input reduces to, and no call failed
-  done : (reduced : IsReduced (old.files.shown paths.input) (new.files.shown paths.output) records)
-      → (others : SameOthers old.files.shown new.files.shown paths.output)
-      → (files_quiet : IsQuiet old.files new.files)
-      → (gate_quiet : IsQuiet old.gate new.gate)
+  -- the result was written, and nothing was put on `out`
+  done : (writes : WritesReduced paths records old.files new.files old.gate new.gate)
       → (silent : new.out ≡ old.out)
       → ReduceEnds paths records old new 0
   -- out of memory, for which there is no evidence; nothing was written
@@ -115,13 +114,13 @@ pub data ReduceEnds (paths : Paths) (records : List Record) (old new : World) : 
       → ReduceEnds paths records old new 4
   -- the input was read, the gate said no to it, and wasn't asked again
   uninteresting : (only : OnlyNo records)
-      → (read : WasRead 262144 (old.files.shown paths.input) (λ start. FirstIs start No records))
+      → (read : WasRead input_limit (old.files.shown paths.input) (λ start. FirstIs start No records))
       → (files : FilesKept old.files new.files)
       → (gate_quiet : IsQuiet old.gate new.gate)
       → (reported : Reports (codes "start is not interesting") old.out new.out)
       → ReduceEnds paths records old new 8
   -- the input is longer than its limit, and the gate was not reached
-  too_long : (longer : IsLonger 262144 (old.files.shown paths.input))
+  too_long : (longer : IsLonger input_limit (old.files.shown paths.input))
       → (files : FilesKept old.files new.files)
       → (unasked : Unasked records old.gate new.gate)
       → (reported : Reports (codes "input is too long") old.out new.out)
@@ -129,7 +128,7 @@ pub data ReduceEnds (paths : Paths) (records : List Record) (old new : World) : 
   -- the input was read, a call of the gate failed, and the gate hadn't said no to the input
   script : (failed : Failed old.gate new.gate)
       → (not_no : ¬ FirstIsNo records)
-      → (read : WasRead 262144 (old.files.shown paths.input) (λ start. Unit {0}))
+      → (read : WasRead input_limit (old.files.shown paths.input) (λ start. Unit {0}))
       → (files : FilesKept old.files new.files)
       → (reported : Reports (codes "script fault at worker 1") old.out new.out)
       → ReduceEnds paths records old new 11
@@ -137,9 +136,9 @@ pub data ReduceEnds (paths : Paths) (records : List Record) (old new : World) : 
 -- Which status it has to be. This follows from how `reduce` ends.
 pub record ReduceMustEnd (paths : Paths) (records : List Record) (old new : World) (status : ℕ) : Type 0 where
   -- an input over its limit is refused
-  pub over : IsOver 262144 (old.files.shown paths.input) → (status ≡ 10) ⊎ ((status ≡ 3) ⊎ (status ≡ 1))
+  pub over : IsOver input_limit (old.files.shown paths.input) → (status ≡ 10) ⊎ ((status ≡ 3) ⊎ (status ≡ 1))
   -- an input within its limit is reduced, or isn't interesting, where no call failed
-  pub complete : IsWithin 262144 (old.files.shown paths.input) → ¬ Failed old.files new.files → ¬ Failed old.gate new.gate
+  pub complete : IsWithin input_limit (old.files.shown paths.input) → ¬ Failed old.files new.files → ¬ Failed old.gate new.gate
       → (status ≡ 0) ⊎ ((status ≡ 8) ⊎ (status ≡ 1))
   -- a first no ends the run
   pub first_no : FirstIsNo records → (status ≡ 8) ⊎ (status ≡ 1)
@@ -151,12 +150,11 @@ pub record ReduceMustEnd (paths : Paths) (records : List Record) (old new : Worl
   pub out_failed : ¬ IsQuiet old.out new.out → status ≢ 0
 
 -- What holds of the records at every status, as the gate sees them: no text is there twice, each verdict is the gate's,
--- the gate was asked for these texts alone, and it was last opened for this input and script.
+-- and the gate was opened for this input and script and asked for these texts alone, unless it wasn't reached.
 pub record RecordsAreSound (paths : Paths) (may_say : List ℕ → Verdict → Type 0) (records : List Record) (old new : SeenGate) : Type 0 where
   pub distinct : IsDistinct bytes_eq (texts_of records)
   pub said : All (λ r. may_say r.text r.verdict) records
-  pub asked : AsksAre old.shown new.shown (texts_of records)
-  pub opened : OpenedAs (opening_for paths 1) new.shown records
+  pub used : GateWasUsed (opening_for paths 1) (texts_of records) old.shown new.shown
 
 -- A run of `reduce` with these paths.
 pub record Reduces (paths : Paths) (may_say : List ℕ → Verdict → Type 0) (records : List Record) (old new : World) (status : ℕ) : Type 0 where
@@ -177,13 +175,6 @@ abbrev pub ReduceFails : Paths → List Record → SeenFiles → SeenFiles → S
 ReduceFails paths records files files' gate gate' refusal =
     (out out' : SeenOut) → PutsLine (line_of refusal) out out'
     → ReduceEnds paths records (record { files = files; gate = gate; out = out }) (record { files = files'; gate = gate'; out = out' }) (status_of refusal)
-
--- the output file, and no other, has what the input reduces to, and no call failed
-pub record WritesReduced (paths : Paths) (records : List Record) (files files' : SeenFiles) (gate gate' : SeenGate) : Type 0 where
-  pub reduced : IsReduced (files.shown paths.input) (files'.shown paths.output) records
-  pub others : SameOthers files.shown files'.shown paths.output
-  pub files_quiet : IsQuiet files files'
-  pub gate_quiet : IsQuiet gate gate'
 
 -- the steps of `reduce`, but for what is put on `out`
 pub record ReduceSteps (paths : Paths) (may_say : List ℕ → Verdict → Type 0) (records : List Record) (files files' : SeenFiles) (gate gate' : SeenGate) (outcome : Result (Unit {0}) Refusal) : Type 0 where

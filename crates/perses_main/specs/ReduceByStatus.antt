@@ -7,7 +7,7 @@ use Rattle.perses_main.specs.declared.status.ReadFile.TheVariants as read
 use Rattle.perses_main.specs.Reduce.{IsReduced, OnlyNo, ReduceEnds, ReducesTo}
 use Rattle.perses_main.specs.Status.{PutsRefusal}
 use Rattle.perses_main.specs.Words.{Paths}
-use Rattle.perses_main.specs.World.{Failed, SeenOut, Unasked, World}
+use Rattle.perses_main.specs.World.{Failed, SeenOut, Unasked, World, input_limit}
 
 -- the status is one of these
 abbrev pub IsOneOf : List ℕ → ℕ → Type 0
@@ -25,7 +25,7 @@ pub record ReduceMeans (paths : Paths) (records : List Record) (old new : World)
   pub write : status ≡ 4 → Failed old.files new.files
   pub tried : status ≡ 4 → (text : List ℕ) × ReducesTo (old.files.shown paths.input) records text
   pub not_interesting : status ≡ 8 → OnlyNo records
-  pub too_long : status ≡ 10 → IsLonger 262144 (old.files.shown paths.input)
+  pub too_long : status ≡ 10 → IsLonger input_limit (old.files.shown paths.input)
   pub script : status ≡ 11 → Failed old.gate new.gate
   pub early : (status ≡ 3) ⊎ (status ≡ 10) → Unasked records old.gate new.gate
   pub others : SameOthers old.files.shown new.files.shown paths.output

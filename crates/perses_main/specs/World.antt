@@ -71,6 +71,13 @@ line_of_text text = codes "perses: " ++ (text ++ 10 ∷ [])
 abbrev pub Reports : List ℕ → SeenOut → SeenOut → Type 0
 Reports text old new = PutsLine (line_of_text text) old new
 
+-- the most bytes of an input, and of a grammar
+abbrev pub input_limit : ℕ
+input_limit = 262144
+
+abbrev pub grammar_limit : ℕ
+grammar_limit = 1048576
+
 -- The file was read whole, within the limit, and the fact holds of its bytes. Where its content isn't visible, the fact holds of some bytes.
 pub record WasRead (limit : ℕ) (content : Option FileContent) (P : List ℕ → Type 0) : Type 0 where
   pub bytes : List ℕ

@@ -4,7 +4,7 @@ ghost use Rattle.std.specs.Prelude.{◌≡◌, ◌≤◌, IfErr, IfOk, None, OnO
 ghost use Rattle.edge_io.specs.Files.{SameFiles};
 ghost use Rattle.checked_grammar.specs.Answer.{Spells};
 ghost use Rattle.perses_main.specs.Normal.{IsFaultRefusal, IsNormalOf, NormalFails, PrintsNormal};
-ghost use Rattle.perses_main.specs.World.{IsQuiet, WasRead, seen};
+ghost use Rattle.perses_main.specs.World.{IsQuiet, WasRead, grammar_limit, seen};
 
 use crate::end::end_with;
 use crate::file::read_file;
@@ -20,7 +20,7 @@ const GRAMMAR_LIMIT: u64 = 1_048_576;
 
 /// The grammar that a text spells, checked, with its first parser rule as its start.
 fn grammar_of_text(alloc: Global, text: &[u8]) -> Result<Checked, Refusal>
-    requires { length text.now ≤ 1048576 }
+    requires { length text.now ≤ grammar_limit }
     ensures ok { IfOk result (Spells text.now None) }
     ensures refused { IfErr result (λ refusal. IsFaultRefusal text.now refusal) }
 {
@@ -33,7 +33,7 @@ fn grammar_of_text(alloc: Global, text: &[u8]) -> Result<Checked, Refusal>
 
 /// The printed normal form of the grammar that a text spells.
 fn form_of_text(alloc: Global, text: &[u8]) -> Result<Vec<u8>, Refusal>
-    requires { length text.now ≤ 1048576 }
+    requires { length text.now ≤ grammar_limit }
     ensures form { IfOk result (λ form. IsNormalOf text.now form.items) }
     ensures refused { IfErr result (λ refusal. IsFaultRefusal text.now refusal) }
 {
@@ -44,7 +44,7 @@ fn form_of_text(alloc: Global, text: &[u8]) -> Result<Vec<u8>, Refusal>
 
 /// The printed normal form of the grammar in a file.
 fn form_of_file<F: Files>(alloc: Global, grammar: &str, files: &mut F) -> Result<Vec<u8>, Refusal>
-    ensures form { IfOk result (λ form. WasRead 1048576 (F.content files.old grammar.now) (λ bytes. IsNormalOf bytes form.items)) }
+    ensures form { IfOk result (λ form. WasRead grammar_limit (F.content files.old grammar.now) (λ bytes. IsNormalOf bytes form.items)) }
     ensures quiet { OnOk result (IsQuiet (seen F.content F.faults files.old) (seen F.content F.faults files.new)) }
     ensures refused { IfErr result (λ refusal. NormalFails grammar.now (seen F.content F.faults files.old) (seen F.content F.faults files.new) refusal) }
     ensures same { SameFiles (F.content files.old) (F.content files.new) }
