@@ -14,13 +14,14 @@ use Rattle.verdict_table.specs.TableState.{texts_of}
 use Rattle.perses_main.specs.declared.status.Refusal.{Refusal}
 use Rattle.perses_main.specs.declared.status.Refusal.TheVariants.{Memory, CannotRead, CannotWrite, NotInteresting, TooLong, Script}
 use Rattle.perses_main.specs.declared.status.ReadFile.TheVariants as read_file
-use Rattle.perses_main.specs.Reduce.{AreCandidates, AreOf, FirstIs, FirstIsNo, RecordsAreSound, ReducesFrom, RunFails, ReduceEnds, ReduceFails, ReduceMustEnd, ReduceSteps, Reduces, WritesReduced, opening_for}
+use Rattle.perses_main.specs.Reduce.{AreCandidates, AreOf, FirstIs, FirstIsNo, IsUnfinished, RecordsAreSound, ReducesFrom, RunFails, ReduceEnds, ReduceFails, ReduceMustEnd, ReduceSteps, Reduces, WritesReduced, opening_for}
 use Rattle.perses_main.specs.Reduce.ReduceEnds.{done, memory, unread, unwritten, uninteresting, too_long, script}
 use Rattle.perses_main.specs.Run.{with_all_asked}
 use Rattle.perses_main.specs.Status.{EndsRefused, EndsSilent, OpenFails, ReadFails, WriteFails}
 use Rattle.perses_main.specs.Words.{Paths, file_name_of}
 use Rattle.perses_main.specs.World.{FilesKept, IsQuiet, SeenFiles, SeenGate, SeenOut, Unasked, WasRead, World, input_limit}
 use Rattle.perses_main.proofs.FileLemmas.{not_longer, read_not_over}
+use Rattle.perses_main.proofs.ReduceLemmas.{none-unfinished}
 use Rattle.perses_main.proofs.RunLemmas.{none_distinct}
 
 yes_no : (start : List ℕ) (records : List Record) → FirstIs start Yes records → FirstIsNo records → ⊥
@@ -59,14 +60,14 @@ module _ (paths : Paths) (may_say : List ℕ → Verdict → Type 0) where
 -- why the gate wasn't opened is why there is no reduction
 pub run_open : (start : List ℕ) (records : List Record) (gate gate' : SeenGate) (refusal : Refusal) → records ≡ [] → OpenFails gate gate' refusal → RunFails start records gate gate' refusal
 run_open start records gate gate' Memory none why = why
-run_open start records gate gate' Script none why = (why, subst (λ rs. ¬ FirstIsNo rs) (sym none) (λ first. first))
+run_open start records gate gate' Script none why = (why, subst (λ rs. ¬ FirstIsNo rs) (sym none) (λ first. first), subst (IsUnfinished start) (sym none) (none-unfinished start))
 run_open start records gate gate' _ none why = absurd why
 
 -- why there is no reduction, seen from before the gate's opening, in which no call failed
 pub run_later : (start : List ℕ) (records : List Record) (gate opened gate' : SeenGate) (refusal : Refusal) → IsQuiet gate opened → RunFails start records opened gate' refusal → RunFails start records gate gate' refusal
 run_later start records gate opened gate' Memory quiet why = why ∙ quiet
 run_later start records gate opened gate' NotInteresting quiet (only, first, same) = (only, first, same ∙ quiet)
-run_later start records gate opened gate' Script quiet (failed, not_no) = (subst (λ count. Rose count gate'.faults) quiet failed, not_no)
+run_later start records gate opened gate' Script quiet (failed, not_no, unfinished) = (subst (λ count. Rose count gate'.faults) quiet failed, not_no, unfinished)
 run_later start records gate opened gate' _ quiet why = absurd why
 
 candidates_of : (input : Option FileContent) (start : List ℕ) (records : List Record) → Holds start input → length start ≤ input_limit → AreOf start records → AreCandidates input records
@@ -109,7 +110,7 @@ module _ (paths : Paths) (may_say : List ℕ → Verdict → Type 0) (records : 
         at : (refusal : Refusal) → RunFails start records gate gate' refusal → ReduceFails paths records files files' gate gate' refusal
         at Memory why = λ out out' put. memory kept why put
         at NotInteresting why = λ out out' put. uninteresting why.0 (was_read _ why.1) kept why.2 put
-        at Script why = λ out out' put. script why.0 why.1 (was_read _ tt) kept put
+        at Script why = λ out out' put. script why.0 why.1 (was_read _ why.2) kept put
         at _ why = absurd why
 
     -- the result was written, or it wasn't

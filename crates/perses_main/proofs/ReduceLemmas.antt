@@ -16,7 +16,7 @@ use Rattle.reduce_core.specs.LineMachine.{LineState, Whole, gives, plan_of, afte
 use Rattle.reduce_core.specs.Minimal.{HasVerdicts, IsCandidate}
 use Rattle.reduce_core.specs.Reduction.{Reduction, reduction, says_yes}
 use Rattle.reduce_core.proofs.LineMachineLemmas.{after-plan, asked-plan, plan-end}
-use Rattle.perses_main.specs.Reduce.{AreOf, BeginsAt, FirstIs, FirstIsNo, IsReductionOf, OnlyNo, ReducesFrom, RunFails}
+use Rattle.perses_main.specs.Reduce.{AreOf, BeginsAt, FirstIs, FirstIsNo, IsReductionOf, IsUnfinished, OnlyNo, ReducesFrom, RunFails}
 use Rattle.perses_main.specs.Run.{BeginsWith, EndsAtFirst}
 use Rattle.perses_main.specs.Status.{refusal_of}
 use Rattle.perses_main.specs.World.{Failed, IsQuiet, SeenGate}
@@ -69,6 +69,10 @@ no_is_first start (r ∷ records) first = first.1
 start_known : (V : List ℕ → Option Verdict) (start : List ℕ) → HasVerdicts V (reduction (says_yes V) start).questions → IsSome (V start)
 unfolding reduction
 start_known V start has = has.0
+
+-- without a record it waits for the start's verdict
+pub none-unfinished : (start : List ℕ) → IsUnfinished start []
+none-unfinished start has = false≢true (start_known (verdict_in []) start has)
 
 by_verdict : (o : Option Verdict) → IsSome o → (o ≡ Some Yes) ⊎ (o ≡ Some No)
 by_verdict None some = absurd (false≢true some)
@@ -138,12 +142,15 @@ not_waiting refuses start records begun no_first waits =
     waits ((refuses (verdict_in records) start).1 (first_no_is start records (begins_at start records begun) no_first)).0
 
 -- why a run didn't come to the reducer's end
-pub run-fails : RefusesAtNo → (start' start : List ℕ) (records : List Record) (gate gate' : SeenGate) (fault : GateFault) → start' ≡ start → BeginsWith (plan_of (Whole start')) records
+pub run-fails : FollowsReduction → RefusesAtNo → (start' start : List ℕ) (records : List Record) (gate gate' : SeenGate) (fault : GateFault) → start' ≡ start → BeginsWith (plan_of (Whole start')) records
     → (fault ≡ GateFailed → asked (follow (verdict_in records) (plan_of (Whole start'))) ≢ None) → (fault ≢ GateFailed → IsQuiet gate gate') → (fault ≡ GateFailed → Failed gate gate')
     → RunFails start records gate gate' (refusal_of fault)
-run-fails refuses start' start records gate gate' GateFailed same begun unfinished quiet failed =
-    (failed refl, λ no_first. not_waiting refuses start' records begun no_first (unfinished refl))
-run-fails refuses start' start records gate gate' GateMemory same begun unfinished quiet failed = quiet (λ is. cc is)
+run-fails follows refuses start' start records gate gate' GateFailed same begun unfinished quiet failed = (
+  failed refl,
+  λ no_first. not_waiting refuses start' records begun no_first (unfinished refl),
+  subst (λ s. IsUnfinished s records) same (λ has. unfinished refl (ap asked ((follows (verdict_in records) start').ends has))),
+)
+run-fails follows refuses start' start records gate gate' GateMemory same begun unfinished quiet failed = quiet (λ is. cc is)
 
 -- the same end by another name of the start
 pub came-to-end : (start' start : List ℕ) (records : List Record) (state : LineState) → start' ≡ start

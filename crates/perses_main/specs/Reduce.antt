@@ -45,6 +45,10 @@ pub record IsReductionOf (V : List ℕ → Option Verdict) (start text : List �
   pub yes_at_end : V text ≡ Some Yes
   pub minimal : IsMinimal V (reduction (says_yes V) start).lines
 
+-- the reduction of the start asks for a text that has no record
+abbrev pub IsUnfinished : List ℕ → List Record → Type 0
+IsUnfinished start records = ¬ HasVerdicts (verdict_in records) (reduction (says_yes (verdict_in records)) start).questions
+
 -- a start reduces to the text over the verdicts of the records, of which the first is the start's yes
 pub record ReducesFrom (start : List ℕ) (records : List Record) (text : List ℕ) : Type 0 where
   pub first : FirstIs start Yes records
@@ -125,10 +129,10 @@ pub data ReduceEnds (paths : Paths) (records : List Record) (old new : World) : 
       → (unasked : Unasked records old.gate new.gate)
       → (reported : Reports (codes "input is too long") old.out new.out)
       → ReduceEnds paths records old new 10
-  -- the input was read, a call of the gate failed, and the gate hadn't said no to the input
+  -- the input was read, a call of the gate failed, the gate hadn't said no to the input, and its reduction wasn't finished
   script : (failed : Failed old.gate new.gate)
       → (not_no : ¬ FirstIsNo records)
-      → (read : WasRead input_limit (old.files.shown paths.input) (λ start. Unit {0}))
+      → (read : WasRead input_limit (old.files.shown paths.input) (λ start. IsUnfinished start records))
       → (files : FilesKept old.files new.files)
       → (reported : Reports (codes "script fault at worker 1") old.out new.out)
       → ReduceEnds paths records old new 11
@@ -167,7 +171,7 @@ pub record Reduces (paths : Paths) (may_say : List ℕ → Verdict → Type 0) (
 abbrev pub RunFails : List ℕ → List Record → SeenGate → SeenGate → Refusal → Type 0
 RunFails start records old new Memory = IsQuiet old new
 RunFails start records old new NotInteresting = OnlyNo records × FirstIs start No records × IsQuiet old new
-RunFails start records old new Script = Failed old new × (¬ FirstIsNo records)
+RunFails start records old new Script = Failed old new × (¬ FirstIsNo records) × IsUnfinished start records
 RunFails start records old new _ = ⊥
 
 -- the run ends with this refusal, whatever becomes of its line

@@ -19,7 +19,7 @@ pub returns-in_err-run-clause-refused : goal.returns-in_err-run-clause-refused
 returns-in_err-run-clause-refused g c =
     let p = err_from_is_err_and c.from_residual-in_err-run.result c.from_residual-in_err-run.ensures.1 in
     rw (p.1, p.2)
-    (run-fails c.refuses_at_no.ensures c.in_ok-reducer.reducer.start c.args.start.items c.run.new.table.records (seen g.G.Gate.log g.G.Gate.faults c.args.gate.now) (seen g.G.Gate.log g.G.Gate.faults c.run.new.gate) c.in_err-run.field-0.0
+    (run-fails c.follows_reduction.ensures c.refuses_at_no.ensures c.in_ok-reducer.reducer.start c.args.start.items c.run.new.table.records (seen g.G.Gate.log g.G.Gate.faults c.args.gate.now) (seen g.G.Gate.log g.G.Gate.faults c.run.new.gate) c.in_err-run.field-0.0
     (ap (λ r. r.start) c.in_ok-reducer.ensures) c.in_err-run.ensures.begun (λ is. c.in_err-run.ensures.unfinished (ap (λ e. Err e) is)) (λ never. c.in_err-run.ensures.quiet (λ is. never (cc is))) (λ is. c.in_err-run.ensures.failed (ap (λ e. Err e) is)))
 
 pub returns-then-refused-clause-candidates : goal.returns-then-refused-clause-candidates
