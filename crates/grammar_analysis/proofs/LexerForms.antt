@@ -2,7 +2,6 @@
 use Rattle.std.proofs.Common.{◌≡◌, ℕ, Bool, ◌||◌, ◌&&◌, List, [], ◌∷◌, ◌++◌, Option, map, refl, ap, ◌∙◌}
 use Rattle.std.specs.List.{flat_map, list_all, list_any}
 use Rattle.grammar_tree.specs.Faults.{seq_names, term_names, used_names}
-use Rattle.grammar_tree.specs.Matches.{any_is_short, has_short, is_short}
 use Rattle.grammar_tree.specs.View.{lex_alts, lex_alts_node, lex_node, lex_seq_node, lex_term, lex_terms}
 use Rattle.grammar_tree.specs.Written.{LexerTerm, lexer_alts, lexer_seq}
 use Rattle.grammar_tree.specs.declared.lex_term.LexAlts.{LexAlts, out-LexAlts, fold_out-LexAlts}
@@ -45,20 +44,6 @@ module _ (f : List ℕ → Option ℕ) (e : ℕ → Bool) where
 
   pub loop_alts : (a : LexAlts) → lexer_alts_have_loop f e (lexer_alts (lex_alts a)) ≡ list_any (λ s. lexer_seq_has_loop f e (lexer_seq (lex_terms s))) (out-LexAlts a).items.items
   loop_alts a = ap (λ ss. lexer_alts_have_loop f e (lexer_alts ss)) (alts_view a) ∙ loop_seqs (out-LexAlts a).items.items
-
-short_terms : (ts : List LexTerm) → is_short (lexer_seq (map lex_term ts)) ≡ list_any (λ t. has_short (lex_term t)) ts
-short_terms [] = refl
-short_terms (t ∷ ts) = ap (λ x. has_short (lex_term t) || x) (short_terms ts)
-
-pub short_seq : (s : LexTerms) → is_short (lexer_seq (lex_terms s)) ≡ list_any (λ t. has_short (lex_term t)) (out-LexTerms s).items.items
-short_seq s = ap (λ ts. is_short (lexer_seq ts)) (seq_view s) ∙ short_terms (out-LexTerms s).items.items
-
-short_seqs : (ss : List LexTerms) → any_is_short (lexer_alts (map lex_terms ss)) ≡ list_any (λ s. is_short (lexer_seq (lex_terms s))) ss
-short_seqs [] = refl
-short_seqs (s ∷ ss) = ap (λ x. is_short (lexer_seq (lex_terms s)) || x) (short_seqs ss)
-
-pub short_alts : (a : LexAlts) → any_is_short (lexer_alts (lex_alts a)) ≡ list_any (λ s. is_short (lexer_seq (lex_terms s))) (out-LexAlts a).items.items
-short_alts a = ap (λ ss. any_is_short (lexer_alts ss)) (alts_view a) ∙ short_seqs (out-LexAlts a).items.items
 
 names_terms : (ts : List LexTerm) → seq_names (lexer_seq (map lex_term ts)) ≡ flat_map (λ t. term_names (lex_term t)) ts
 names_terms [] = refl

@@ -1,9 +1,8 @@
-//! What stands in lexer rules: terms that match the empty text, loops over these, non-greedy loops
-//! and names.
+//! Facts of lexer rules: terms that match the empty text, loops over these,
+//! and the names in them.
 
 ghost use Rattle.std.specs.Prelude.{◌≡◌, ◌++◌, ℕ, ◌<◌, List, OnOk, map};
 ghost use Rattle.grammar_tree.specs.Faults.{seq_names, term_names, used_names};
-ghost use Rattle.grammar_tree.specs.Matches.{any_is_short, has_short, is_short};
 ghost use Rattle.grammar_tree.specs.View.{lex_alts, lex_term, lex_terms};
 ghost use Rattle.grammar_tree.specs.GrammarView.{rule_of};
 ghost use Rattle.grammar_tree.specs.Written.{LexerTerm, lexer_alts, lexer_seq};
@@ -106,44 +105,6 @@ pub fn lexer_alts_have_empty_loop(alts: &LexAlts, names: &LexerNames, flags: &[b
 {
     for i in 0..alts.items.len() {
         if seq_has_empty_loop(&alts.items[i], names, flags) {
-            return true;
-        }
-    }
-    false
-}
-
-/// Whether a non-greedy loop stands in the term.
-#[cycle(short)]
-fn term_has_short(term: &LexTerm) -> bool
-    ensures { result ≡ has_short (lex_term term.now) }
-{
-    match term {
-        LexTerm::Literal(_) | LexTerm::Set(_) | LexTerm::Name(_) => false,
-        LexTerm::Block(alts) => some_is_short(alts),
-        LexTerm::Opt(term) | LexTerm::Star(term) | LexTerm::Plus(term) => term_has_short(term),
-        LexTerm::Short(_) => true,
-    }
-}
-
-#[cycle(short)]
-fn seq_is_short(terms: &LexTerms) -> bool
-    ensures { result ≡ is_short (lexer_seq (lex_terms terms.now)) }
-{
-    for i in 0..terms.items.len() {
-        if term_has_short(&terms.items[i]) {
-            return true;
-        }
-    }
-    false
-}
-
-/// Whether some alternative is non-greedy.
-#[cycle(short)]
-pub fn some_is_short(alts: &LexAlts) -> bool
-    ensures { result ≡ any_is_short (lexer_alts (lex_alts alts.now)) }
-{
-    for i in 0..alts.items.len() {
-        if seq_is_short(&alts.items[i]) {
             return true;
         }
     }

@@ -27,7 +27,7 @@ pub use empty::is_flagged;
 pub use empty_rules::empty_bodies;
 pub use faults::Memory;
 pub use lexer_names::LexerNames;
-pub use lexer_rules::{add_names, is_empty_text, lexer_alts_have_empty_loop, some_is_short};
+pub use lexer_rules::{add_names, is_empty_text, lexer_alts_have_empty_loop};
 pub use lexer_tables::{empty_places, lexer_rows};
 pub use loops::alts_have_empty_loop;
 pub use recursion::{corner_rows, has_base, some_rest_can_be_empty};

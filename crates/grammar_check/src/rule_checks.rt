@@ -12,7 +12,7 @@ ghost use Rattle.grammar_check.specs.LexerFaults.{is_short_rule};
 ghost use Rattle.grammar_check.specs.Twins.{IsEarliest, IsTwinAt};
 
 use faults::Memory;
-use grammar_analysis::{Key, is_flagged, rules_by, some_is_short};
+use grammar_analysis::{Key, is_flagged, rules_by};
 use grammar_names::Index;
 use grammar_tree::{Grammar, Rule, Text};
 use graph_cycles::targets;
@@ -121,7 +121,7 @@ fn is_used_short(rule: &Rule, used: bool) -> bool
 {
     match rule {
         Rule::Parser { .. } => false,
-        Rule::Lexer { alts, .. } => used && some_is_short(alts),
+        Rule::Lexer { alts, .. } => used && alts.any_is_short(),
     }
 }
 

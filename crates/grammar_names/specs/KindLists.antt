@@ -16,6 +16,6 @@ lacking kinds left_out = filter (λ k. not (is_in left_out k)) kinds
 abbrev pub IsPartOf : List ℕ → List ℕ → Type 0
 IsPartOf kinds some = filter (is_in some) kinds ≡ some
 
--- the kinds that aren't gap kinds and that one of the tokens stands for
+-- the kinds that aren't gap kinds and that one of the tokens means
 abbrev pub named_kinds : WrittenGrammar → List Reference → List ℕ
 named_kinds G refs = filter (is_in (filter_map (reference_kind G) refs)) (any_kinds G)

@@ -11,12 +11,12 @@ abbrev pub is_parser_rule_of : WrittenRule → List ℕ → Bool
 is_parser_rule_of (WrittenRule.parser_rule r) n = same_text r.name n
 is_parser_rule_of (WrittenRule.lexer_rule r) n = false
 
--- the number of the next parser rule, behind the rule
+-- the number of the next parser rule, after the rule
 abbrev pub next_number : WrittenRule → ℕ → ℕ
 next_number (WrittenRule.parser_rule r) number = number + 1
 next_number (WrittenRule.lexer_rule r) number = number
 
--- The literal can stand for the kind: it is this implicit token, or it can name the kind's lexer rule.
+-- The literal can mean the kind: it is this implicit token, or it can name the kind's lexer rule.
 abbrev pub can_stand_for : List WrittenRule → TokenKind → List ℕ → Bool
 can_stand_for rules kind t = from_source kind.source
   where

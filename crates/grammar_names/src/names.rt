@@ -1,4 +1,4 @@
-//! What the names and literals of parser rules stand for.
+//! What the names and literals of parser rules mean.
 
 ghost use Rattle.std.specs.Prelude.{◌≡◌, ℕ, List, ◌+◌, ◌<◌, ◌^◌, false, [], ◌∷◌, slice_get, IfOk, OnOk, length, map, position};
 ghost use Rattle.std.specs.List.{filter_map};
@@ -23,7 +23,7 @@ use grammar_tree::{
 use std::alloc::Global;
 use std::marker::Model;
 
-/// What the names and literals of a grammar's parser rules, `.` and `~` stand for. Contracts see
+/// What the names and literals of a grammar's parser rules, `.` and `~` mean. Contracts see
 /// the grammar.
 #[derive(Drop)]
 pub struct Names<'a> {
@@ -75,14 +75,14 @@ impl<'a> Names<'a> {
         self.rules.get(name)
     }
 
-    /// The number of the kind that a token's name stands for.
+    /// The number of the kind that a token's name means.
     pub fn name_kind(&self, name: &Text) -> Option<u32>
         ensures { result ≡ name_kind self.now name.now }
     {
         self.tokens.get(name)
     }
 
-    /// The number of the kind that a literal in a parser rule stands for.
+    /// The number of the kind that a literal in a parser rule means.
     pub fn literal_kind(&self, literal: &Text) -> Option<u32>
         ensures { result ≡ literal_kind self.now literal.now }
     {
@@ -97,7 +97,7 @@ impl<'a> Names<'a> {
         self.any.as_slice()
     }
 
-    /// The number of the kind that a literal or a token's name stands for.
+    /// The number of the kind that a literal or a token's name means.
     pub fn reference_kind(&self, token: &TokenRef) -> Option<u32>
         ensures { result ≡ reference_kind self.now (token_ref token.now) }
     {
@@ -116,7 +116,7 @@ impl<'a> Names<'a> {
         without(alloc, self.any_kinds(), left_out.as_slice())
     }
 
-    /// The numbers of the kinds that `~` leaves out: those that a token stands for and that aren't
+    /// The numbers of the kinds that `~` leaves out: those that a token means and that aren't
     /// gap kinds, rising. It takes time near linear in the number of tokens.
     pub fn named_kinds(&self, alloc: Global, tokens: &TokenRefs) -> Result<Vec<u32>, Memory>
         ensures { IfOk result (λ kinds. kinds.items ≡ named_kinds self.now (map token_ref tokens.now.items.items)) }
@@ -126,7 +126,7 @@ impl<'a> Names<'a> {
         common(alloc, self.any_kinds(), named.as_slice())
     }
 
-    /// The numbers of the kinds that the tokens stand for.
+    /// The numbers of the kinds that the tokens mean.
     fn reference_kinds(&self, alloc: Global, tokens: &[TokenRef]) -> Result<Vec<u32>, Memory>
         ensures { IfOk result (λ kinds. kinds.items ≡ filter_map (reference_kind self.now) (map token_ref tokens.now)) }
     {
@@ -169,7 +169,7 @@ fn rule_index(alloc: Global, rules: &[Rule]) -> Result<Index, Memory>
     Ok(index)
 }
 
-/// Adds the kind's name with this number, where a name can stand for it.
+/// Adds the kind's name with this number, where a name can mean it.
 fn add_token(alloc: Global, index: &mut Index, kind: &Kind, number: u32) -> Result<(), Memory>
     ensures { OnOk result (IsAdded index.old index.new (λ n. has_name n (kind_of kind.now)) number) }
 {
@@ -180,7 +180,7 @@ fn add_token(alloc: Global, index: &mut Index, kind: &Kind, number: u32) -> Resu
     }
 }
 
-/// The kinds by the names that can stand for them.
+/// The kinds by the names that can mean them.
 fn token_index(alloc: Global, kinds: &[Kind]) -> Result<Index, Memory>
     requires { length kinds.now < 2 ^ 32 }
     ensures { IfOk result (λ index. Finds index (λ n. position (has_name n) (map kind_of kinds.now))) }
@@ -242,7 +242,7 @@ fn literal_at(rules: &[Rule], place: u32) -> Option<&Text>
     }
 }
 
-/// Adds the literal that can stand for the kind, with this number.
+/// Adds the literal that can mean the kind, with this number.
 fn add_literal(
     alloc: Global,
     index: &mut Index,
@@ -262,7 +262,7 @@ fn add_literal(
     }
 }
 
-/// The kinds by the literals that stand for them.
+/// The kinds by the literals that mean them.
 fn literal_index(alloc: Global, rules: &[Rule], kinds: &[Kind]) -> Result<Index, Memory>
     requires { length kinds.now < 2 ^ 32 }
     ensures { IfOk result (λ index. Finds index (λ t. position (λ kind. can_stand_for (map rule_of rules.now) kind t) (map kind_of kinds.now))) }

@@ -7,9 +7,9 @@ ghost use Rattle.std.specs.Prelude.{◌≡◌, ◌↔◌, ◌+◌, ℕ, IsTrue, 
 ghost use Rattle.std.specs.Str.{chars};
 ghost use Rattle.grammar_tree.specs.GrammarView.{grammar_of, rule_of};
 ghost use Rattle.grammar_tree.specs.Kinds.{lexer_rules};
-ghost use Rattle.grammar_tree.specs.Matches.{Matches, MatchesAlternative, MatchesRule, any_is_short, is_short};
+ghost use Rattle.grammar_tree.specs.Matches.{Matches, MatchesAlternative, MatchesRule};
 ghost use Rattle.grammar_tree.specs.View.{lex_alts, lex_term, lex_terms};
-ghost use Rattle.grammar_tree.specs.Written.{LexerSeq, lexer_alts, lexer_seq};
+ghost use Rattle.grammar_tree.specs.Written.{lexer_alts, lexer_seq};
 ghost use Rattle.grammar_plain.specs.Places.{Fit, IsExact, IsIn, Known, Spans};
 ghost use Rattle.grammar_plain.specs.Spelled.{is_lexer_rule_named, named_from, spelled, spelled_alts, spelled_rule, spelled_rules, spelled_seq, spelled_text};
 ghost use Rattle.grammar_plain.specs.View.{pattern};
@@ -84,7 +84,7 @@ fn alternative_matches(
     if !ends[list.len()] {
         return Ok(false);
     }
-    if !seq_is_short(terms) {
+    if !terms.is_short() {
         return Ok(true);
     }
     Ok(!places::is_any_before(&ends, list.len()))
@@ -132,47 +132,6 @@ fn seq_ends(
     let whole = seq_pattern(alloc, rules, terms)?;
     let ends = chart::ends_from_start(alloc, rows, list, &whole)?;
     Ok(ends)
-}
-
-/// Whether a non-greedy loop stands in the term.
-#[cycle(shorts)]
-fn term_is_short(term: &LexTerm) -> bool
-    ensures { result ≡ is_short (LexerSeq.next (lex_term term.now) LexerSeq.done) }
-{
-    match term {
-        LexTerm::Literal(_) => false,
-        LexTerm::Set(_) => false,
-        LexTerm::Name(_) => false,
-        LexTerm::Block(alts) => any_is_short(alts),
-        LexTerm::Opt(part) => term_is_short(part),
-        LexTerm::Star(part) => term_is_short(part),
-        LexTerm::Plus(part) => term_is_short(part),
-        LexTerm::Short(_) => true,
-    }
-}
-
-#[cycle(shorts)]
-fn seq_is_short(terms: &LexTerms) -> bool
-    ensures { result ≡ is_short (lexer_seq (lex_terms terms.now)) }
-{
-    for i in 0..terms.items.len() {
-        if term_is_short(&terms.items[i]) {
-            return true;
-        }
-    }
-    false
-}
-
-#[cycle(shorts)]
-fn any_is_short(alts: &LexAlts) -> bool
-    ensures { result ≡ any_is_short (lexer_alts (lex_alts alts.now)) }
-{
-    for i in 0..alts.items.len() {
-        if seq_is_short(&alts.items[i]) {
-            return true;
-        }
-    }
-    false
 }
 
 /// The pattern of each rule, at its place.

@@ -29,7 +29,7 @@ abbrev pub rests : ℕ → Alts → Alts
 rests r Alts.none = Alts.none
 rests r (Alts.or s a) = and_rest (rest_of r s) (rests r a)
 
--- the rule q can stand first in a term
+-- the rule q can be first in a term
 abbrev mutual
   pub Begins : List Alts → ℕ → Term → Type 0
   Begins G q (Term.kind k) = ⊥
@@ -51,7 +51,7 @@ abbrev mutual
   BeginsAlts G q Alts.none = ⊥
   BeginsAlts G q (Alts.or s a) = BeginsSeq G q s ⊎ BeginsAlts G q a
 
--- The rule q is a left corner of the rule r: it can stand first in one of its bases; or some base can be empty, and it can stand first in a rest.
+-- The rule q is a left corner of the rule r: it can be first in one of its bases; or some base can be empty, and it can be first in a rest.
 pub data IsLeftCorner (G : List Alts) (r q : ℕ) : Type 0 where
   in_base : (a : Alts) → slice_get G r ≡ Some a → BeginsAlts G q (bases r a) → IsLeftCorner G r q
   in_rest : (a : Alts) → slice_get G r ≡ Some a → DerivesAlts G (bases r a) [] → BeginsAlts G q (rests r a) → IsLeftCorner G r q
@@ -61,7 +61,7 @@ pub data LeadsTo (G : List Alts) : ℕ → ℕ → Type 0 where
   by_corner : (r q : ℕ) → IsLeftCorner G r q → LeadsTo G r q
   by_corners : (r m q : ℕ) → IsLeftCorner G r m → LeadsTo G m q → LeadsTo G r q
 
--- a star or plus over a term that can be empty stands in the term
+-- a star or plus over a term that can be empty is in the term
 abbrev mutual
   pub HasEmptyLoop : List Alts → Term → Type 0
   HasEmptyLoop G (Term.kind k) = ⊥

@@ -62,7 +62,7 @@ mutual
     by_first : (s : Seq) (a : Alts) (w : List ℕ) → DerivesSeq G s w → DerivesAlts G (Alts.or s a) w
     by_later : (s : Seq) (a : Alts) (w : List ℕ) → DerivesAlts G a w → DerivesAlts G (Alts.or s a) w
 
--- What a kind that may be missing stands for. A literal or name that stands for nothing derives nothing.
+-- What a kind that may be missing derives. A literal or name that means nothing derives nothing.
 abbrev pub kind_term : Option ℕ → Term
 kind_term None = Term.among []
 kind_term (Some k) = Term.kind k

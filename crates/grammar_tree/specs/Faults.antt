@@ -15,7 +15,7 @@ AtParserRule G i P = (rule : ParserRule) × (slice_get G.rules i ≡ Some (Writt
 abbrev pub AtLexerRule : WrittenGrammar → ℕ → (LexerRule → Type 0) → Type 0
 AtLexerRule G i P = (rule : LexerRule) × (slice_get G.rules i ≡ Some (WrittenRule.lexer_rule rule)) × P rule
 
--- the number of the parser rule at a place: how many parser rules stand before it
+-- the number of the parser rule at a place: how many parser rules are before it
 abbrev pub number_at : WrittenGrammar → ℕ → ℕ
 number_at G i = length (parser_rules (take i G.rules))
 
@@ -23,7 +23,7 @@ number_at G i = length (parser_rules (take i G.rules))
 abbrev pub TwoRules : WrittenGrammar → List ℕ → Type 0
 TwoRules G name = 2 ≤ count_by (λ rule. same_text (rule_name rule) name) G.rules
 
--- the names that stand in a lexer term, in written order
+-- the names in a lexer term, in written order
 abbrev mutual
   pub term_names : LexerTerm → List (List ℕ)
   term_names (LexerTerm.literal t) = []
@@ -92,7 +92,7 @@ NoRuleAt G i name = (it : NameUse) × (slice_get (name_uses G) i ≡ Some it) ×
 abbrev pub NoRule : WrittenGrammar → List ℕ → Type 0
 NoRule G name = (i : ℕ) × NoRuleAt G i name
 
--- No parser rule has the wanted name, or there is no parser rule; the name that the fault tells is then empty.
+-- No parser rule has the wanted name, or there is no parser rule; the fault's name is then empty.
 pub data NoStart (G : WrittenGrammar) : Option (List ℕ) → List ℕ → Type 0 where
   no_parser_rule : (wanted : Option (List ℕ)) → parser_rules G.rules ≡ [] → NoStart G wanted []
   not_there : (name : List ℕ) → parser_rules G.rules ≢ [] → (¬ Contains (map (λ (r : ParserRule). r.name) (parser_rules G.rules)) name) → NoStart G (Some name) name
@@ -110,7 +110,7 @@ abbrev pub start_of : WrittenGrammar → Option (List ℕ) → Option ℕ
 start_of G None = position is_parser_rule G.rules
 start_of G (Some name) = position (is_parser_rule_named name) G.rules
 
--- `EOF` stands in the term
+-- `EOF` is in the term
 abbrev mutual
   pub has_eof : WrittenTerm → Bool
   has_eof (WrittenTerm.literal t) = false
@@ -131,7 +131,7 @@ abbrev mutual
   any_has_eof WrittenAlts.none = false
   any_has_eof (WrittenAlts.or s a) = seq_has_eof s || any_has_eof a
 
--- `EOF` stands in the alternative other than as its last part, without suffix
+-- `EOF` is in the alternative other than as its last part, without suffix
 abbrev pub is_misplaced_in : WrittenSeq → Bool
 is_misplaced_in WrittenSeq.done = false
 is_misplaced_in (WrittenSeq.next WrittenTerm.eof WrittenSeq.done) = false
@@ -141,7 +141,7 @@ abbrev pub is_misplaced : WrittenAlts → Bool
 is_misplaced WrittenAlts.none = false
 is_misplaced (WrittenAlts.or s a) = is_misplaced_in s || is_misplaced a
 
--- `EOF` stands in this rule other than last in a top-level alternative without suffix; or it stands in this rule, the rule isn't the start rule, and some rule uses it.
+-- `EOF` is in this rule other than last in a top-level alternative without suffix; or it is in this rule, the rule isn't the start rule, and some rule uses it.
 abbrev pub EofPlace : WrittenGrammar → ℕ → ℕ → Type 0
 EofPlace G start i = AtParserRule G i (λ rule.
     (is_misplaced rule.alts ≡ true)
@@ -163,7 +163,7 @@ EmptyToken G i = AtLexerRule G i (λ rule. (rule.fragment ≡ false) × MatchesR
 abbrev pub NoBase : WrittenGrammar → ℕ → Type 0
 NoBase G i = AtParserRule G i (λ rule. bases (number_at G i) (resolved_alts G rule.alts) ≡ Alts.none)
 
--- a star or plus over a term that can match the empty text stands in the lexer term
+-- a star or plus over a term that can match the empty text is in the lexer term
 abbrev mutual
   pub LexerHasEmptyLoop : List LexerRule → LexerTerm → Type 0
   LexerHasEmptyLoop G (LexerTerm.literal t) = ⊥

@@ -1,4 +1,4 @@
--- The kinds of tokens of a grammar in the order of their numbers, which count from 0, and what the names and literals of parser rules stand for.
+-- The kinds of tokens of a grammar in the order of their numbers, which count from 0, and what the names and literals of parser rules mean.
 use Rattle.std.specs.Prelude.{ℕ, suc, Bool, true, false, not, ◌&&◌, List, [], ◌∷◌, ◌++◌, map, filter, Option, Some, None, is_none, find, position, nat_eq}
 use Rattle.std.specs.List.{filter_map, flat_map}
 use Rattle.std.specs.Option.{option_map_or}
@@ -62,7 +62,7 @@ as_name (Reference.name n) = Some n
 abbrev pub all_references : List WrittenRule → List Reference
 all_references rules = flat_map (λ (r : ParserRule). references r.alts) (parser_rules rules)
 
--- each of the texts once, in the order in which they first stand
+-- each of the texts once, in the order in which they first occur
 abbrev pub distinct : List (List ℕ) → List (List ℕ)
 distinct [] = []
 distinct (t ∷ ts) = t ∷ filter (λ u. not (same_text t u)) (distinct ts)
@@ -77,7 +77,7 @@ abbrev pub is_named_by : List ℕ → WrittenRule → Bool
 is_named_by t (WrittenRule.parser_rule r) = false
 is_named_by t (WrittenRule.lexer_rule r) = not r.fragment && (not r.gap && is_just t r.alts)
 
--- The literals in parser rules that name no lexer rule, in the order in which they first stand.
+-- The literals in parser rules that name no lexer rule, in the order in which they first occur.
 abbrev pub implicit_literals : List WrittenRule → List (List ℕ)
 implicit_literals rules =
     filter (λ t. is_none (find (is_named_by t) rules)) (distinct (filter_map as_literal (all_references rules)))
@@ -140,11 +140,11 @@ abbrev pub literal_kind : WrittenGrammar → List ℕ → Option ℕ
 literal_kind G t =
     option_map_or (λ place. position (is_written_at place) (kinds_of G)) (position (is_named_by t) G.rules) (position (is_implicit t) (kinds_of G))
 
--- the kind that a token's name stands for: that of a lexer rule or of a declared token
+-- the kind that a token's name means: that of a lexer rule or of a declared token
 abbrev pub name_kind : WrittenGrammar → List ℕ → Option ℕ
 name_kind G n = position (has_name n) (kinds_of G)
 
--- the kind that a literal or a token's name stands for
+-- the kind that a literal or a token's name means
 abbrev pub reference_kind : WrittenGrammar → Reference → Option ℕ
 reference_kind G (Reference.literal t) = literal_kind G t
 reference_kind G (Reference.name n) = name_kind G n

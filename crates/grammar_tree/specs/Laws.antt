@@ -146,7 +146,7 @@ pub record EachFaultCanHold : Type 0 where
   pub empty_star : (G : WrittenGrammar) × (i : ℕ) × AtParserRule G i (λ rule. rests (number_at G i) (resolved_alts G rule.alts) ≡ Alts.none) × EmptyLoop G i
   pub empty_rest : (G : WrittenGrammar) × (i : ℕ) × AtParserRule G i (λ rule. ¬ HasEmptyLoopAlts (bodies G) (resolved_alts G rule.alts)) × EmptyLoop G i
   pub empty_lexer_star : (G : WrittenGrammar) × (i : ℕ) × AtLexerRule G i (λ rule. ⊤) × EmptyLoop G i
-  -- through another rule, and of a rule that is its own left corner: behind a part that can be empty
+  -- through another rule, and of a rule that is its own left corner: after a part that can be empty
   pub left_recursion : (G : WrittenGrammar) × (i : ℕ) × (¬ IsLeftCorner (bodies G) (number_at G i) (number_at G i)) × LeftRecursion G i
   pub hidden_left_recursion : (G : WrittenGrammar) × (i : ℕ) × IsLeftCorner (bodies G) (number_at G i) (number_at G i) × LeftRecursion G i
   pub too_many_rules : (G : WrittenGrammar) × (count : ℕ) × TooManyRules G count

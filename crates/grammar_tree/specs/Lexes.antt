@@ -58,13 +58,13 @@ is_gap_kind G k = option_map_or (λ (kind : TokenKind). kind.gap) (slice_get (ki
 abbrev pub tokens_of : WrittenGrammar → List Piece → List Piece
 tokens_of G pieces = filter (λ (p : Piece). not (is_gap_kind G p.kind)) pieces
 
--- a token in its text: its kind, and the offsets, in bytes, of its first character and behind its last one
+-- a token in its text: its kind, and the offsets, in bytes, of its first character and after its last one
 pub record PlacedToken : Type 0 where
   pub kind : ℕ
   pub start : ℕ
   pub end : ℕ
 
--- The tokens among the pieces as they stand in the text, where the first piece begins at the offset.
+-- The tokens among the pieces as they are in the text, where the first piece begins at the offset.
 abbrev pub placed_tokens : WrittenGrammar → ℕ → List Piece → List PlacedToken
 placed_tokens G at [] = []
 placed_tokens G at (p ∷ pieces) =

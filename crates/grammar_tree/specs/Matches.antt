@@ -11,7 +11,7 @@ mutual
     by_literal : (text : List ℕ) → Matches G (LexerTerm.literal text) text
     -- a set matches one of its characters
     by_set : (set : List (ℕ × ℕ)) (c : ℕ) → has set c ≡ true → Matches G (LexerTerm.set set) (c ∷ [])
-    -- A name matches what the alternatives of its rule do, read greedily. In a well-formed grammar no rule that a name stands for is non-greedy, so that the name matches what its rule does.
+    -- A name matches what the alternatives of its rule do, read greedily. In a well-formed grammar no rule that a name means is non-greedy, so that the name matches what its rule does.
     by_name : (name : List ℕ) (rule : LexerRule) (w : List ℕ) → Contains G rule → rule.name ≡ name → MatchesAlts G rule.alts w → Matches G (LexerTerm.name name) w
     -- a block matches what one of its alternatives does
     by_block : (a : LexerAlts) (w : List ℕ) → MatchesAlts G a w → Matches G (LexerTerm.block a) w
@@ -40,7 +40,7 @@ mutual
     by_first : (s : LexerSeq) (a : LexerAlts) (w : List ℕ) → MatchesSeq G s w → MatchesAlts G (LexerAlts.or s a) w
     by_later : (s : LexerSeq) (a : LexerAlts) (w : List ℕ) → MatchesAlts G a w → MatchesAlts G (LexerAlts.or s a) w
 
--- a non-greedy loop stands in the term
+-- there is a non-greedy loop in the term
 abbrev mutual
   pub has_short : LexerTerm → Bool
   has_short (LexerTerm.literal t) = false
@@ -52,7 +52,7 @@ abbrev mutual
   has_short (LexerTerm.plus t) = has_short t
   has_short (LexerTerm.short s) = true
 
-  -- the alternative is non-greedy: a non-greedy loop stands in it
+  -- the alternative is non-greedy: there is a non-greedy loop in it
   pub is_short : LexerSeq → Bool
   is_short LexerSeq.done = false
   is_short (LexerSeq.next t s) = has_short t || is_short s

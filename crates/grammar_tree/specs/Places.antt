@@ -1,4 +1,4 @@
--- Where the rules of a grammar stand and what their names stand for: what follows from the definitions, for the proofs of other crates.
+-- Where the rules of a grammar are and what their names mean: what follows from the definitions, for the proofs of other crates.
 use Rattle.std.specs.Prelude.{◌≡◌, ◌↔◌, ◌⊎◌, ℕ, ◌<◌, ◌≤◌, false, ⊤, List, Option, Some, None, slice_get, length}
 use Rattle.std.specs.List.{Contains}
 use Rattle.grammar_tree.specs.Written.{Reference, LexerTerm, ParserRule, LexerRule, WrittenRule, WrittenGrammar, Source, TokenKind}
@@ -8,7 +8,7 @@ use Rattle.grammar_tree.specs.Derives.{Alts, bodies, resolved_alts}
 use Rattle.grammar_tree.specs.Faults.{AtLexerRule, AtParserRule, IsWellFormed, NoStart, Uses, number_at, start_of}
 use Rattle.grammar_tree.specs.Size.{grammar_size}
 
--- Each place of a parser rule has a number, under which its alternatives stand; and each number is some place's.
+-- Each place of a parser rule has a number, which finds its alternatives; and each number is some place's.
 pub record PlacesHaveNumbers (G : WrittenGrammar) : Type 0 where
   pub rule : (i : ℕ) (rule : ParserRule) → slice_get G.rules i ≡ Some (WrittenRule.parser_rule rule) → slice_get (parser_rules G.rules) (number_at G i) ≡ Some rule
   pub body : (i : ℕ) (rule : ParserRule) → slice_get G.rules i ≡ Some (WrittenRule.parser_rule rule) → slice_get (bodies G) (number_at G i) ≡ Some (resolved_alts G rule.alts)
@@ -18,11 +18,11 @@ pub record PlacesHaveNumbers (G : WrittenGrammar) : Type 0 where
   -- no number is met twice
   pub one : (i j : ℕ) (a b : ParserRule) → slice_get G.rules i ≡ Some (WrittenRule.parser_rule a) → slice_get G.rules j ≡ Some (WrittenRule.parser_rule b) → number_at G i ≡ number_at G j → i ≡ j
 
--- A lexer rule stands at some place.
+-- A lexer rule is at some place.
 abbrev pub LexerRulesHavePlaces : Type 0
 LexerRulesHavePlaces = (G : WrittenGrammar) (rule : LexerRule) → Contains (lexer_rules G.rules) rule → (i : ℕ) × (slice_get G.rules i ≡ Some (WrittenRule.lexer_rule rule))
 
--- What names and literals stand for in a grammar.
+-- What names and literals mean in a grammar.
 pub record NamesAreKnown (G : WrittenGrammar) : Type 0 where
   -- Two rules of one name are one rule.
   pub one_rule : (i j : ℕ) (a b : WrittenRule) → slice_get G.rules i ≡ Some a → slice_get G.rules j ≡ Some b → rule_name a ≡ rule_name b → i ≡ j
@@ -35,7 +35,7 @@ pub record NamesAreKnown (G : WrittenGrammar) : Type 0 where
   -- a name in a lexer rule is a lexer rule's
   pub lexer_name : (user n : List ℕ) → Uses G user n → (rule : LexerRule) × Contains (lexer_rules G.rules) rule × (rule.name ≡ n)
 
--- In a well-formed grammar each name and literal stands for something, and no name for two rules.
+-- In a well-formed grammar each name and literal means something, and no name for two rules.
 abbrev pub WellFormedNames : Type 0
 WellFormedNames = (G : WrittenGrammar) (start : ℕ) → IsWellFormed G start → NamesAreKnown G
 

@@ -81,18 +81,18 @@ pub fn stops_once()
     ensures { StopsOnce }
 {}
 
-/// Each place of a parser rule has a number, under which its alternatives stand, and each number
+/// Each place of a parser rule has a number, which finds its alternatives, and each number
 /// is some place's.
 pub fn places_have_numbers()
     ensures { (grammar : WrittenGrammar) → PlacesHaveNumbers grammar }
 {}
 
-/// Each lexer rule stands at some place.
+/// Each lexer rule is at some place.
 pub fn lexer_rules_have_places()
     ensures { LexerRulesHavePlaces }
 {}
 
-/// In a well-formed grammar each name and literal stands for something, and no name for two rules.
+/// In a well-formed grammar each name and literal means something, and no name for two rules.
 pub fn well_formed_names()
     ensures { WellFormedNames }
 {}

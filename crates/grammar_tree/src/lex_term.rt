@@ -1,7 +1,9 @@
 //! Terms of lexer rules.
 
 ghost use Rattle.std.specs.Prelude.{◌≡◌, IfOk};
+ghost use Rattle.grammar_tree.specs.Matches.{any_is_short, has_short, is_short};
 ghost use Rattle.grammar_tree.specs.View.{lex_alts, lex_term, lex_terms};
+ghost use Rattle.grammar_tree.specs.Written.{lexer_alts, lexer_seq};
 
 use crate::char_set::CharSet;
 use crate::text::Text;
@@ -60,6 +62,19 @@ impl LexTerm {
             LexTerm::Short(set) => Ok(LexTerm::Short(set.copy()?)),
         }
     }
+
+    /// Whether there is a non-greedy loop in the term.
+    #[cycle(short)]
+    pub fn has_short(&self) -> bool
+        ensures { result ≡ has_short (lex_term self.now) }
+    {
+        match self {
+            LexTerm::Literal(_) | LexTerm::Set(_) | LexTerm::Name(_) => false,
+            LexTerm::Block(alts) => alts.any_is_short(),
+            LexTerm::Opt(term) | LexTerm::Star(term) | LexTerm::Plus(term) => term.has_short(),
+            LexTerm::Short(_) => true,
+        }
+    }
 }
 
 impl LexTerms {
@@ -74,6 +89,19 @@ impl LexTerms {
         }
         Ok(LexTerms { items })
     }
+
+    /// Whether the alternative is non-greedy: there is a non-greedy loop in it.
+    #[cycle(short)]
+    pub fn is_short(&self) -> bool
+        ensures { result ≡ is_short (lexer_seq (lex_terms self.now)) }
+    {
+        for i in 0..self.items.len() {
+            if self.items[i].has_short() {
+                return true;
+            }
+        }
+        false
+    }
 }
 
 impl LexAlts {
@@ -87,5 +115,18 @@ impl LexAlts {
             items.push(self.items[i].copy(alloc)?)?;
         }
         Ok(LexAlts { items })
+    }
+
+    /// Whether one of the alternatives is non-greedy.
+    #[cycle(short)]
+    pub fn any_is_short(&self) -> bool
+        ensures { result ≡ any_is_short (lexer_alts (lex_alts self.now)) }
+    {
+        for i in 0..self.items.len() {
+            if self.items[i].is_short() {
+                return true;
+            }
+        }
+        false
     }
 }

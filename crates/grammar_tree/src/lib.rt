@@ -1,9 +1,10 @@
 //! Grammars in the notation of ANTLR 4: their types, sets of characters, and what a grammar means.
 //!
-//! A [`Grammar`] is what a reader makes of a text. A [`Checked`] is a grammar that no fault holds
-//! of, with its numbered token kinds and its start. Contracts see terms and rules as they are
-//! written in `specs/Written.antt`. What they mean stands beside it: which texts a lexer rule
-//! matches, which lists of token kinds a parser rule derives, and when a grammar is well-formed.
+//! A [`Grammar`] is what a reader makes of a text. A [`Checked`] is a grammar that has no fault,
+//! with its numbered token kinds and its start. Contracts see both as they are written; read
+//! `specs/Written.antt` first, then `specs/Matches.antt` (which texts a lexer rule matches),
+//! `specs/Derives.antt` (which lists of token kinds a parser rule derives) and `specs/Faults.antt`
+//! (when a grammar is well-formed). The rule `s : 'a' s | 'b' ;` derives `b`, `a b`, `a a b`, ..
 #![tactic(auto)]
 
 mod char_set;

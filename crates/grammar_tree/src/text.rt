@@ -8,7 +8,7 @@ use std::alloc::Global;
 use std::fmt;
 use std::marker::Model;
 
-/// A text: a name, or what stands between the quotes of a literal. Contracts see its characters.
+/// A text: a name, or what is between the quotes of a literal. Contracts see its characters.
 #[derive(Debug, Drop)]
 pub struct Text {
     text: String,

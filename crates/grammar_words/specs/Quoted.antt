@@ -1,4 +1,4 @@
--- Literals and sets. What stands between their quotes or brackets is read piece by piece: a piece is one character or one escape.
+-- Literals and sets. What is between their quotes or brackets is read piece by piece: a piece is one character or one escape.
 use Rattle.std.specs.Prelude.{ℕ, zero, suc, ◌+◌, ◌-◌, ◌*◌, Bool, true, false, ◌&&◌, ◌==◌, cond, nat_le, nat_lt, List, [], ◌∷◌, Option, Some, None, length, take, drop}
 use Rattle.std.specs.List.{prefix_len}
 use Rattle.std.specs.Char.{digit_value, is_ascii_hexdigit, is_ascii_alphabetic}
@@ -35,7 +35,7 @@ abbrev pub hex_escape : List ℕ → Option (ℕ × List ℕ)
 hex_escape [] = None
 hex_escape (c ∷ cs) = cond (c == 123) (braced_hex cs) (plain_hex (c ∷ cs))
 
--- the escapes that literals and sets share, by the character behind the `\`: the number that is named and what follows
+-- the escapes that literals and sets share, by the character after the `\`: the number that is named and what follows
 abbrev pub escape_by : ℕ → List ℕ → Option (ℕ × List ℕ)
 escape_by c cs =
     cond (c == 110) (Some (10, cs)) (
@@ -51,7 +51,7 @@ abbrev pub escape : List ℕ → Option (ℕ × List ℕ)
 escape [] = None
 escape (c ∷ cs) = escape_by c cs
 
--- one piece and what follows it; no piece at the closing sign; nothing where neither can stand there
+-- one piece and what follows it; no piece at the closing sign; nothing where neither can be there
 abbrev pub Piece : Type 0 → Type 0
 Piece A = Option (Option A × List ℕ)
 
@@ -68,7 +68,7 @@ literal_piece c cs =
     cond (c == 92) (as_character (escape cs)) (
     Some (Some c, cs))))
 
--- an escape that names a code unit: a surrogate may stand in a set
+-- an escape that names a code unit: a surrogate may be in a set
 abbrev pub as_code : Option (ℕ × List ℕ) → Piece Mark
 as_code None = None
 as_code (Some (v, rest)) = cond (nat_le v 0x10FFFF) (Some (Some (Code v), rest)) None
@@ -137,7 +137,7 @@ last_plain [] = []
 last_plain (m ∷ []) = plain m ∷ []
 last_plain (m ∷ (n ∷ ms)) = m ∷ last_plain (n ∷ ms)
 
--- A `-` that stands first or last in a set is itself.
+-- A `-` that is first or last in a set is itself.
 abbrev pub outer_dashes_plain : List Mark → List Mark
 outer_dashes_plain ms = last_plain (first_plain ms)
 

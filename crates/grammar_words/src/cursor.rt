@@ -31,7 +31,7 @@ impl<'a> Model for Words<'a> {
     ghost view = { λ w. words_left w.is_over w.total (chars w.rest.now) };
 }
 
-/// The text behind blanks and comments.
+/// The text after blanks and comments.
 fn skip_gaps(text: &str) -> &str
     ensures same { (total : ℕ) → words_from total 0 (chars text.now) ≡ words_from total 0 (chars result.now) }
     ensures brace { brace_from 0 (chars text.now) ≡ brace_from 0 (chars result.now) }
@@ -74,7 +74,7 @@ fn settled(word: Word, rest: &str) -> Word
     }
 }
 
-/// The text behind a byte order mark at its start.
+/// The text after a byte order mark at its start.
 fn without_mark(text: &str) -> &str
     ensures same { chars result.now ≡ without_mark (chars text.now) }
     ensures fits { length result.now ≤ length text.now }

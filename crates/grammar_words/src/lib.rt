@@ -1,7 +1,9 @@
 //! The words of a grammar's text.
 //!
-//! [`Words`] goes over them from the left, with the byte at which each begins. The last word is the
-//! end of the text or the first bad word.
+//! Begin with [`Words::new`] and [`Words::next`]: they go over the words from the left, each with the
+//! byte at which it begins. The last word is the end of the text or the first bad word. Of
+//! `A : 'x' ;` they are an upper name at 0, `:` at 2, a literal at 4, `;` at 8 and the end at 9. Read
+//! `words_of` in `specs/Words.antt` first.
 #![tactic(auto)]
 
 mod cursor;

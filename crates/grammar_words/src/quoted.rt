@@ -1,4 +1,4 @@
-//! What stands in literals and sets, read piece by piece.
+//! The content of literals and sets, read piece by piece.
 
 ghost use Rattle.std.specs.Prelude.{◌≡◌, ◌<◌, ◌≤◌, ◌+◌, ◌*◌, ◌^◌, ℕ, IfSome, length, take};
 ghost use Rattle.std.specs.Str.{chars};
@@ -20,7 +20,7 @@ pub enum Mark {
     Property,
 }
 
-/// What stands at a place in a literal or a set, and what follows it.
+/// What is next in a literal or a set, and what follows it.
 #[derive(Drop)]
 pub enum Piece<'a, T> {
     /// Neither a piece nor the closing sign.

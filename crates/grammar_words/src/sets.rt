@@ -70,7 +70,7 @@ fn make_last_plain(marks: &mut [Mark])
     }
 }
 
-/// A `-` that stands first or last is itself.
+/// A `-` that is first or last is itself.
 pub fn make_outer_dashes_plain(marks: &mut [Mark])
     ensures { marks.new ≡ outer_dashes_plain marks.old }
 {
@@ -78,7 +78,7 @@ pub fn make_outer_dashes_plain(marks: &mut [Mark])
     make_last_plain(marks);
 }
 
-/// What the first marks write, and the marks behind them.
+/// What the first marks write, and the marks after them.
 enum Next<'a> {
     End,
     Broken,

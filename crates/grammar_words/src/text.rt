@@ -83,7 +83,7 @@ pub fn hex_len(text: &str) -> usize
     text.chars().take_while(|c| c.is_ascii_hexdigit()).count()
 }
 
-/// How many characters stand before the end of the line.
+/// How many characters are before the end of the line.
 pub fn line_len(text: &str) -> usize
     ensures { result ≡ prefix_len is_on_line (chars text.now) }
 {

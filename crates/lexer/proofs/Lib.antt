@@ -8,7 +8,6 @@ pub mod Best
 pub mod Traced
 pub mod Checked
 pub mod Expanded
-pub mod Shorts
 pub mod Pushed
 pub mod Listed
 pub mod Next

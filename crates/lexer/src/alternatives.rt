@@ -5,8 +5,8 @@ ghost use Rattle.grammar_tree.specs.Faults.{LexerHasEmptyLoopAlts, LexerHasEmpty
 ghost use Rattle.grammar_tree.specs.GrammarView.{rule_of, source_of};
 ghost use Rattle.grammar_tree.specs.Kinds.{lexer_rules};
 ghost use Rattle.grammar_tree.specs.Lexes.{SourceMatches};
-ghost use Rattle.grammar_tree.specs.Matches.{MatchesAlternative, MatchesRule, any_is_short, has_short, is_short};
-ghost use Rattle.grammar_tree.specs.View.{lex_alts, lex_term, lex_terms};
+ghost use Rattle.grammar_tree.specs.Matches.{MatchesAlternative, MatchesRule};
+ghost use Rattle.grammar_tree.specs.View.{lex_alts, lex_terms};
 ghost use Rattle.grammar_tree.specs.Written.{WrittenGrammar, lexer_alts, lexer_seq};
 ghost use Rattle.lexer.specs.Alternatives.{HasAlternative, IsProgram, IsProgramOf};
 
@@ -15,51 +15,8 @@ use crate::names::NamedRules;
 use crate::program::Node;
 use crate::reading::Alternative;
 use faults::Memory;
-use grammar_tree::{Checked, Kind, KindSource, LexAlts, LexTerm, LexTerms, Text};
+use grammar_tree::{Checked, Kind, KindSource, LexAlts, LexTerms, Text};
 use std::alloc::Global;
-
-/// Whether a non-greedy loop stands in the term.
-#[cycle(short)]
-fn term_is_short(term: &LexTerm) -> bool
-    ensures { result ≡ has_short (lex_term term.now) }
-{
-    match term {
-        LexTerm::Literal(_) => false,
-        LexTerm::Set(_) => false,
-        LexTerm::Name(_) => false,
-        LexTerm::Block(alts) => alts_are_short(alts),
-        LexTerm::Opt(term) => term_is_short(term),
-        LexTerm::Star(term) => term_is_short(term),
-        LexTerm::Plus(term) => term_is_short(term),
-        LexTerm::Short(_) => true,
-    }
-}
-
-/// Whether the alternative is non-greedy.
-#[cycle(short)]
-fn terms_are_short(terms: &LexTerms) -> bool
-    ensures { result ≡ is_short (lexer_seq (lex_terms terms.now)) }
-{
-    for i in 0..terms.items.len() {
-        if term_is_short(&terms.items[i]) {
-            return true;
-        }
-    }
-    false
-}
-
-/// Whether one of the alternatives is non-greedy.
-#[cycle(short)]
-fn alts_are_short(alts: &LexAlts) -> bool
-    ensures { result ≡ any_is_short (lexer_alts (lex_alts alts.now)) }
-{
-    for i in 0..alts.items.len() {
-        if terms_are_short(&alts.items[i]) {
-            return true;
-        }
-    }
-    false
-}
 
 /// Adds an alternative of a lexer rule, whose kind has this number.
 fn add_alternative(
@@ -77,7 +34,7 @@ fn add_alternative(
         ↔ (HasAlternative nodes.old.items alternatives.old.items k w ⊎ ((k ≡ kind) × MatchesAlternative (lexer_rules (map rule_of names.now.rules.now)) (lexer_seq (lex_terms terms.now)) w))) }
 {
     let start = compile(nodes, names, budget, terms, 0)?;
-    let short = terms_are_short(terms);
+    let short = terms.is_short();
     alternatives.push(Alternative { kind, short, start })?;
     Ok(())
 }

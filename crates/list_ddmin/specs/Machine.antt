@@ -1,10 +1,10 @@
--- The list step as a machine: it says what it asks, is told the answer, and so goes on.
+-- The list step as a machine: it says what it asks, is given the answer, and so goes on.
 -- The laws at the end tie it to the definition of the list step.
 use Rattle.std.specs.Prelude.{◌≡◌, ℕ, ◌+◌, ◌-◌, ◌*◌, ◌<◌, ◌≤◌, min, max, Bool, true, false, ◌&&◌, nat_lt, zero, suc, ◌++◌, take, drop, slice_range, if◌then◌else◌, List, [], ◌∷◌, length, replicate, Option, Some, None}
 use Rattle.std.specs.List.{AllByRecursion}
 use Rattle.list_ddmin.specs.ListStep.{border, kept_count, kept_of, part, complement, Outcome, ends_with, asks_first, complements_tried, parts_tried, ddmin, list_step, IsOneMinimal}
 
--- Where the list step stands.
+-- Where the list step is.
 -- Nothing: it asks whether all of so many elements may go.
 -- Parts, Complements: it asks for a part, or for the kept elements without it. They have what is kept, the number of parts, and which part is next, from 0.
 -- End: it asks nothing more, and this is kept.

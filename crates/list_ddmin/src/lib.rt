@@ -3,13 +3,16 @@
 //!
 //! A reducer has a list of elements, as the lines of a file or the children of a node. [`Ddmin`]
 //! says which of them the next candidate keeps, the reducer finds out whether that candidate will
-//! do, and tells the machine. At the end the machine has the elements that stay, and no one of them
-//! can go.
+//! do, and answers the machine. At the end the machine has the elements that stay, and no one of
+//! them can go. Of eight elements, of which the third and the seventh are needed, it first asks
+//! whether none will do, then each half, each half again as what the other leaves, each pair, and
+//! then all without the first pair, which is a yes.
 //!
-//! The contracts of [`Ddmin`] are exact over a state (`specs/Machine.antt`). The laws tie that state
-//! to the procedure as it is published (`specs/ListStep.antt`): each is a function that does
-//! nothing, which a caller calls so that its proof has the law. [`plain_list_step`] is the procedure
-//! itself as a plain recursion, with which a test compares the machine.
+//! Read `ddmin` and `list_step` in `specs/ListStep.antt` first: the procedure as it is published. The
+//! contracts of [`Ddmin`] are exact over a state (`specs/Machine.antt`), and laws tie that state to
+//! the procedure: each is a function that does nothing, which a caller calls so that its proof has
+//! the law. [`plain_list_step`] is the procedure itself as a plain recursion, with which a test
+//! compares the machine.
 #![tactic(auto)]
 
 mod laws;

@@ -18,8 +18,8 @@ returns-then-not-index c =
     let e = c.in_ok-ends.ensures.ends in
     (λ t. absurd (true≢false (sym t)), λ a. absurd (true≢false (sym ((seq_matches rules K c.args.rows.now c.requires.exact ends s e).1 a.greedily) ∙ m ∙ c.if-not-index.true)))
 
-pub returns-then-not-seq_is_short : goal.returns-then-not-seq_is_short
-returns-then-not-seq_is_short c =
+pub returns-then-not-is_short : goal.returns-then-not-is_short
+returns-then-not-is_short c =
     let rules = map rule_of c.args.rules.now in
     let s = lexer_seq (lex_terms c.args.terms.now) in
     let K = c.args.list.now in
@@ -27,7 +27,7 @@ returns-then-not-seq_is_short c =
     let h : length K < length ends = omega (arith, c.in_ok-ends.ensures.len, c.in_ok-ends.ends.ok.0) in
     let m = marked_at ends (length K) c.index.result.now h c.index.ensures ∙ c.if-not-index.false in
     let e = c.in_ok-ends.ensures.ends in
-    (λ _. is_alternative rules K c.args.rows.now c.requires.exact ends s e m (λ short _. true≢false (sym short ∙ sym c.seq_is_short.ensures ∙ c.if-not-seq_is_short.true)), λ _. refl)
+    (λ _. is_alternative rules K c.args.rows.now c.requires.exact ends s e m (λ short _. true≢false (sym short ∙ sym c.is_short.ensures ∙ c.if-not-is_short.true)), λ _. refl)
 
 pub returns : goal.returns
 returns c =
@@ -38,7 +38,7 @@ returns c =
     let h : length K < length ends = omega (arith, c.in_ok-ends.ensures.len, c.in_ok-ends.ends.ok.0) in
     let m = marked_at ends (length K) c.index.result.now h c.index.ensures ∙ c.if-not-index.false in
     let e = c.in_ok-ends.ensures.ends in
-    let short = sym c.seq_is_short.ensures ∙ c.if-not-seq_is_short.false in
+    let short = sym c.is_short.ensures ∙ c.if-not-is_short.false in
     let P : List Bool → Type 0 = λ x. (j : ℕ) × (j < length K) × IsIn x j in
     let Q : List Bool → Type 0 = λ x. (j : ℕ) → j < length K → IsIn x j → ⊥ in
     by_answer (Shorter rules K c.args.rows.now c.requires.exact ends s e) c.is_any_before.result (λ t. subst P c.deref.ensures.value (c.is_any_before.ensures.some t))
