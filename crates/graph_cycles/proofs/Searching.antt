@@ -89,6 +89,12 @@ row_front : (row found : List ℕ) (k d : ℕ) → k < length found → slice_in
 row_front [] found k d lt = refl
 row_front (j ∷ row) found k d lt = row_front row (with_new found j) k d (omega (arith, new_length found j)) ∙ new_front found j k d lt
 
+-- a flag that is set is one of the table
+pub flag_within : (flags : List Bool) (j : ℕ) → slice_index_or flags j false ≡ true → j < length flags
+flag_within [] j e = absurd (cc)
+flag_within (f ∷ flags) zero e = omega arith
+flag_within (f ∷ flags) (suc j) e = omega (arith, flag_within flags j e)
+
 -- the row of a node that was read
 pub row_at : {X : Type 0} (items : X → List ℕ) (edges : List X) (i : ℕ) (x : X) (row : List ℕ) → i < length edges → x ≡ slice_index_or edges i x → row ≡ items x → slice_get (map items edges) i ≡ Some row
 row_at items [] i x row lt e f = absurd (omega (arith, lt))

@@ -1,19 +1,21 @@
 //! Cycles of graphs whose nodes are numbers from 0.
 
-ghost use Rattle.std.specs.Prelude.{◌≡◌, ℕ, ◌<◌, ◌^◌, ◌↔◌, List, IfOk, OnOk, IsTrue, length, map, slice_index, true, vec_len};
+ghost use Rattle.std.specs.Prelude.{◌≡◌, ℕ, ◌<◌, ◌^◌, ◌↔◌, List, IfOk, OnOk, IsTrue, false, length, map, slice_index, slice_index_or, true, vec_len};
 ghost use Rattle.std.specs.List.{All, Contains};
 ghost use Rattle.graph_cycles.specs.First.{IsFirstOrNone};
-ghost use Rattle.graph_cycles.specs.Graph.{IsClosed, IsOnCycle, NeverRises};
+ghost use Rattle.graph_cycles.specs.Graph.{IsClosed, IsOnCycle, NeverRises, Reaches};
 
 use crate::graph::{Search, Walk, callees_first, size_of};
 use faults::Memory;
 use std::alloc::Global;
 
-/// Whether a path leads from the node back to it. It takes time linear in the graph's size.
-fn leads_back(alloc: Global, edges: &[Vec<u32>], node: usize) -> Result<bool, Memory>
+/// For each node whether a path of at least one edge leads to it from this one. It takes time linear
+/// in the graph's size.
+pub fn reached_from(alloc: Global, edges: &[Vec<u32>], node: usize) -> Result<Vec<bool>, Memory>
     requires node { node < length edges.now }
     requires closed { IsClosed (map (λ row. row.items) edges.now) }
-    ensures { IfOk result (λ b. IsTrue b ↔ IsOnCycle (map (λ row. row.items) edges.now) node) }
+    ensures len { IfOk result (λ flags. vec_len flags ≡ length edges.now) }
+    ensures reached { IfOk result (λ flags. (j : ℕ) → (slice_index_or flags.items j false ≡ true) ↔ Reaches (map (λ row. row.items) edges.now) node j) }
 {
     let mut search = Search::new(alloc, edges.len())?;
     search.add(&edges[node])?;
@@ -23,7 +25,17 @@ fn leads_back(alloc: Global, edges: &[Vec<u32>], node: usize) -> Result<bool, Me
         search.add(&edges[next as usize])?;
         done += 1;
     }
-    Ok(search.reached[node])
+    Ok(search.reached)
+}
+
+/// Whether a path leads from the node back to it. It takes time linear in the graph's size.
+fn leads_back(alloc: Global, edges: &[Vec<u32>], node: usize) -> Result<bool, Memory>
+    requires node { node < length edges.now }
+    requires closed { IsClosed (map (λ row. row.items) edges.now) }
+    ensures { IfOk result (λ b. IsTrue b ↔ IsOnCycle (map (λ row. row.items) edges.now) node) }
+{
+    let reached = reached_from(alloc, edges, node)?;
+    Ok(reached[node])
 }
 
 /// As many rows as there are nodes, each empty.

@@ -1,6 +1,6 @@
 use Rattle.std.proofs.Common.{◌≡◌, ◌-◌, ◌≤◌, length, map, vec_len}
 use Rattle.graph_cycles.specs.Graph.{IsSearched}
-use Rattle.graph_cycles.proofs.cycles.leads_back.Given as goal
+use Rattle.graph_cycles.proofs.cycles.reached_from.Given as goal
 
 abbrev pub invariant-loop-done : goal.invariant-loop-done
 invariant-loop-done l =

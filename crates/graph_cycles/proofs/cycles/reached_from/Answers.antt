@@ -1,8 +1,8 @@
-use Rattle.std.proofs.Common.{◌≡◌, ◌<◌, ◌+◌, ℕ, false, vec_len, List, Vec, Global, [], length, map, slice_index, sym, ap, ◌∙◌, subst, arith}
-use Rattle.std.proofs.lemmas.List.{get_or_default}
-use Rattle.graph_cycles.specs.Graph.{IsSearched, is_among, with_row}
-use Rattle.graph_cycles.proofs.Searching.{all_found, among_contains, contains_among, next_within, row_at, row_length, row_within, start, step}
-use Rattle.graph_cycles.proofs.cycles.leads_back.Goals as goal
+use Rattle.std.proofs.Common.{◌≡◌, ◌<◌, ◌+◌, ℕ, List, Vec, Global, [], length, map, slice_index, sym, ap, ◌∙◌, subst, arith}
+use Rattle.std.proofs.lemmas.List.{get_or_default, length-map}
+use Rattle.graph_cycles.specs.Graph.{IsSearched, with_row}
+use Rattle.graph_cycles.proofs.Searching.{all_found, among_contains, contains_among, flag_within, next_within, row_at, row_length, row_within, start, step, within}
+use Rattle.graph_cycles.proofs.cycles.reached_from.Goals as goal
 
 abbrev items : Vec ℕ Global → List ℕ
 items v = v.items
@@ -46,17 +46,15 @@ loop-done-preserved c =
     let found : c.add-in-loop-done.new.self.found.items ≡ with_row s.found.items c.deref-in-loop-done.result.now = c.in_ok-add-2.ensures.found in
     (omega (arith, c.loop-done.invariant.0, c.in_ok-add-2.ensures.nodes), omega (arith, row_length c.deref-in-loop-done.result.now s.found.items, ap length found, c.add-in-loop-done.new.self.found.ok.0), subst P (sym found) next)
 
-pub returns : goal.returns
-returns c =
+pub returns-clause-reached : goal.returns-clause-reached
+returns-clause-reached c j =
     let edges = c.args.edges.now in
     let s = c.loop-done.search in
-    let lt : c.args.node < vec_len s.reached = omega (arith, c.loop-done.invariant.0, c.requires.node) in
-    let in_list : c.args.node < length s.reached.items = omega (arith, s.reached.ok.0) in
-    let flag : c.index.result.now ≡ is_among s.found.items c.args.node =
-    c.index.ensures ∙ get_or_default s.reached.items c.args.node c.index.result.now false in_list ∙ s.agree c.args.node lt in
     let P : ℕ → Type 0 = λ n. IsSearched (map items edges) c.args.node s.found.items n in
     let ended : c.loop-done.done ≡ length s.found.items = omega (arith, s.found.ok.0) in
     let whole = subst P ended c.loop-done.invariant.2 in (
-      λ reached. c.loop-done.invariant.2.sound c.args.node (among_contains s.found.items c.args.node (sym flag ∙ reached)),
-      λ cycle. flag ∙ contains_among s.found.items c.args.node (all_found (map items edges) c.args.node s.found.items c.args.node whole cycle),
+      λ flag. whole.sound j (among_contains s.found.items j (sym (s.agree j (omega (arith, flag_within s.reached.items j flag, s.reached.ok.0))) ∙ flag)),
+      λ path.
+          let among = all_found (map items edges) c.args.node s.found.items j whole path in
+          s.agree j (omega (arith, within (map items edges) c.args.node s.found.items c.loop-done.done j c.requires.closed c.loop-done.invariant.2 among, length-map edges items, c.loop-done.invariant.0)) ∙ contains_among s.found.items j among,
     )
