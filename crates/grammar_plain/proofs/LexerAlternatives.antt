@@ -8,7 +8,7 @@ use Rattle.grammar_tree.specs.View.{lex_terms}
 use Rattle.grammar_tree.specs.declared.lex_term.LexTerms.{LexTerms}
 
 module _ (G : List LexerRule) (K : List ℕ) where
-  -- the alternatives from the place i on match
+  -- the alternatives from the position i on match
   abbrev pub From : List LexTerms → ℕ → Type 0
   From items i = MatchesRule G (lexer_alts (map lex_terms (drop i items))) K
 

@@ -3,21 +3,21 @@ use Rattle.std.proofs.Common.{◌≡◌, ◌<◌, ◌+◌, ◌↔◌, ℕ, Bool,
 use Rattle.grammar_tree.specs.Written.{LexerTerm, LexerSeq, WrittenRule}
 use Rattle.grammar_tree.specs.Kinds.{lexer_rules}
 use Rattle.grammar_tree.specs.Matches.{Matches, MatchesAlternative, MatchesSeq, is_short}
-use Rattle.grammar_plain.specs.Places.{IsExact, IsIn, Known, Spans}
+use Rattle.grammar_plain.specs.Positions.{IsExact, IsIn, Known, SpansBy}
 use Rattle.grammar_plain.specs.Spelled.{spelled, spelled_rules, spelled_seq}
 use Rattle.grammar_plain.specs.declared.chart.Row.{Row}
 use Rattle.grammar_plain.proofs.Reading.{front_of, reads_front, reads_whole, whole_of}
 use Rattle.grammar_plain.proofs.LexerMeaning.{term_meaning, seq_meaning}
 
 module _ (rules : List WrittenRule) (K : List ℕ) (rows : List Row) (exact : IsExact rows (spelled_rules rules) K (length K + 1)) (ends : List Bool) where
-  pub term_matches : (t : LexerTerm) → ((j : ℕ) → IsIn ends j ↔ Spans (Known rows) K (spelled rules t) 0 j) → IsIn ends (length K) ↔ Matches (lexer_rules rules) t K
+  pub term_matches : (t : LexerTerm) → ((j : ℕ) → IsIn ends j ↔ SpansBy (Known rows) K (spelled rules t) 0 j) → IsIn ends (length K) ↔ Matches (lexer_rules rules) t K
   term_matches t e = (
     λ h. let x = (term_meaning rules K rows exact t (length K)).0 ((e (length K)).0 h) in
         let P : List ℕ → Type 0 = λ w. Matches (lexer_rules rules) t w in subst P (whole_of K x.0 x.1) x.2,
     λ m. (e (length K)).1 ((term_meaning rules K rows exact t (length K)).1 (K, reads_whole K, m)),
   )
 
-  module _ (s : LexerSeq) (e : (j : ℕ) → IsIn ends j ↔ Spans (Known rows) K (spelled_seq rules s) 0 j) where
+  module _ (s : LexerSeq) (e : (j : ℕ) → IsIn ends j ↔ SpansBy (Known rows) K (spelled_seq rules s) 0 j) where
     pub seq_matches : IsIn ends (length K) ↔ MatchesSeq (lexer_rules rules) s K
     seq_matches = (
       λ h. let x = (seq_meaning rules K rows exact s (length K)).0 ((e (length K)).0 h) in

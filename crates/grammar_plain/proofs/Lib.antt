@@ -5,7 +5,7 @@ pub mod Views
 pub mod LexerViews
 pub mod ParserViews
 pub mod Pairs
-pub mod Standing
+pub mod Spanned
 pub mod Ones
 pub mod Reading
 pub mod LexerMeaning
@@ -13,3 +13,7 @@ pub mod LexerResults
 pub mod LexerAlternatives
 pub mod Lent
 pub mod ParserMeaning
+pub mod Numbered
+pub mod Scalars
+pub mod Beginnings
+pub mod PiecesRead

@@ -1,10 +1,10 @@
--- Rows that are related, place by place, and rows that are added.
+-- Rows that are related, position by position, and rows that are added.
 use Rattle.std.proofs.Common.{◌≡◌, ◌<◌, ◌≤◌, ◌+◌, ◌⊎◌, inl, inr, ℕ, zero, suc, List, [], ◌∷◌, ◌++◌, length, vec_len, get_or, append_assoc, refl, sym, ap, ◌∙◌, subst, arith}
 use Rattle.std.specs.List.{Contains}
 use Rattle.std.proofs.lemmas.List.{append-nil}
 use Rattle.std.proofs.lemmas.Bool.{cases_lt}
 use Rattle.std.proofs.lemmas.List.Elements.{Contains-append_left, Contains-append_right, Contains-append_cases}
-use Rattle.grammar_plain.specs.Places.{AddsRows, AreRows, IsBlank, IsIn, Pairs, SameEnds}
+use Rattle.grammar_plain.specs.Positions.{AddsRows, AreRows, IsBlank, IsIn, Pairs, SameEnds}
 use Rattle.grammar_plain.specs.declared.chart.Row.{Row}
 use Rattle.grammar_plain.proofs.Marks.{unmarked}
 use Rattle.grammar_plain.proofs.Rows.{contains_only}
@@ -72,7 +72,7 @@ pairs_new R (a ∷ xs) (b ∷ ys) x h c = go (cases x a xs c) (pairs_new R xs ys
     go (inl e) f = let P : Row → Type 0 = λ z. R z b in (b, here b ys, subst P (sym e) h.0)
     go (inr d) f = let z = f d in (z.0, there z.0 b ys z.1, z.2)
 
--- how many places the rows leave unmarked
+-- how many positions the rows leave unmarked
 abbrev pub total : List Row → ℕ
 total [] = 0
 total (x ∷ xs) = unmarked x.ends.items + total xs
@@ -99,13 +99,13 @@ split i n k = go (cases_lt i n)
     go (inr h) = inr (omega (arith, k, h))
 
 pub adds_none : (rows : List Row) (rule count : ℕ) → AddsRows rows rows rule count 0
-adds_none rows rule count = record { added = []; behind = sym (append-nil rows); blank = λ row c. absurd (in_none row c); all = λ i h. absurd (omega (arith, h)) }
+adds_none rows rule count = record { added = []; appended = sym (append-nil rows); blank = λ row c. absurd (in_none row c); all = λ i h. absurd (omega (arith, h)) }
 
 pub adds_more : (old rows : List Row) (rule count done : ℕ) (row : Row) → AddsRows old rows rule count done → row.rule ≡ rule → vec_len row.ends ≡ count → row.start ≡ done → done < count →
     ((j : ℕ) → IsIn row.ends.items j → ⊥) → AddsRows old (rows ++ row ∷ []) rule count (done + 1)
 adds_more old rows rule count done row a r l s h none = record {
   added = a.added ++ row ∷ [];
-  behind = ap (λ x. x ++ row ∷ []) a.behind ∙ append_assoc old a.added (row ∷ []);
+  appended = ap (λ x. x ++ row ∷ []) a.appended ∙ append_assoc old a.added (row ∷ []);
   blank = λ x c. blank x (Contains-append_cases a.added (row ∷ []) x c);
   all = λ i k. all i k;
 }
@@ -127,7 +127,7 @@ pub rows_none : (count : ℕ) → AreRows [] 0 count
 rows_none count = record { fit = λ row c. absurd (in_none row c); within = λ row c. absurd (in_none row c); all = λ r i h k. absurd (omega (arith, h)) }
 
 pub rows_more : (old new : List Row) (rule count : ℕ) → AreRows old rule count → AddsRows old new rule count count → AreRows new (rule + 1) count
-rows_more old new rule count o a = let P : List Row → Type 0 = λ l. AreRows l (rule + 1) count in subst P (sym a.behind) (record {
+rows_more old new rule count o a = let P : List Row → Type 0 = λ l. AreRows l (rule + 1) count in subst P (sym a.appended) (record {
   fit = λ row c. fit row (Contains-append_cases old a.added row c);
   within = λ row c. within row (Contains-append_cases old a.added row c);
   all = λ r i h k. all r i (split r rule h) k;
@@ -149,7 +149,7 @@ pub blank_none : IsBlank []
 blank_none row c = absurd (in_none row c)
 
 pub blank_more : (old new : List Row) (rule count : ℕ) → IsBlank old → AddsRows old new rule count count → IsBlank new
-blank_more old new rule count o a = let P : List Row → Type 0 = λ l. IsBlank l in subst P (sym a.behind) (λ row c. blank row (Contains-append_cases old a.added row c))
+blank_more old new rule count o a = let P : List Row → Type 0 = λ l. IsBlank l in subst P (sym a.appended) (λ row c. blank row (Contains-append_cases old a.added row c))
   where
     blank : (row : Row) → Contains old row ⊎ Contains a.added row → (j : ℕ) → IsIn row.ends.items j → ⊥
     blank row (inl c) = o row c

@@ -1,10 +1,10 @@
--- Which part of a list stands between two places.
+-- Which part of a list is between two positions.
 use Rattle.std.proofs.Common.{◌≡◌, ◌+◌, ℕ, suc, List, [], ◌∷◌, ◌++◌, Some, slice_get, length, drop, refl, sym, ap, ◌∙◌, subst, arith, append_assoc, length-append}
 use Rattle.std.proofs.Math.Seq.{drop-cons}
 use Rattle.std.proofs.lemmas.List.{append-nil}
 use Rattle.std.proofs.lemmas.Option.{slice_get_within, get_or_from_slice_get}
 
--- w stands in the list from the place i up to the place j
+-- w is in the list from the position i up to the position j
 abbrev pub Reads : List ℕ → ℕ → ℕ → List ℕ → Type 0
 Reads K i j [] = i ≡ j
 Reads K i j (c ∷ w) = (slice_get K i ≡ Some c) × Reads K (suc i) j w
@@ -32,7 +32,7 @@ reads_after K f (c ∷ u) b e = (
       subst P l (subst Q (omega (arith, l)) g),
 )
 
--- a front of a list stands from its start
+-- a front of a list is at its start
 pub reads_front : (K u v : List ℕ) → K ≡ u ++ v → Reads K 0 (length u) u
 reads_front K u v e =
     let P : ℕ → Type 0 = λ n. Reads K 0 n u in subst P (omega arith) (reads_after K [] u v e)
@@ -47,7 +47,7 @@ rest_of K i j (c ∷ u) (e, h) =
     let d = drop-cons K i c (slice_get_within K i c e) in
     (d ∙ ap (λ z. z ∷ drop (suc i) K) (get_or_from_slice_get K i c c e) ∙ ap (λ l. c ∷ l) x.0, omega (arith, x.1))
 
--- what stands from the start up to a place is a front of the list
+-- what is from the start up to a position is a front of the list
 pub front_of : (K : List ℕ) (j : ℕ) (u : List ℕ) → Reads K 0 j u → (v : List ℕ) × (K ≡ u ++ v) × (length u ≡ j)
 front_of K j u h = let x = rest_of K 0 j u h in (drop j K, x.0, omega (arith, x.1))
 
@@ -55,7 +55,7 @@ pub nothing_left : (u v : List ℕ) → length u ≡ length (u ++ v) → v ≡ [
 nothing_left u [] e = refl
 nothing_left u (c ∷ v) e = absurd (omega (arith, e, length-append u (c ∷ v)))
 
--- what stands from the start up to the end is the list
+-- what is from the start up to the end is the list
 pub whole_of : (K : List ℕ) (u : List ℕ) → Reads K 0 (length K) u → u ≡ K
 whole_of K u h =
     let x = front_of K (length K) u h in

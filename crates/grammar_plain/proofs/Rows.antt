@@ -1,9 +1,9 @@
--- What rows tell.
+-- What rows say.
 use Rattle.std.proofs.Common.{◌≡◌, ◌<◌, ◌+◌, ◌⊎◌, ◌↔◌, inl, inr, ℕ, zero, suc, Bool, List, [], ◌∷◌, length, get_or, take, refl, sym, ◌∙◌, subst, arith}
 use Rattle.std.specs.List.{Contains}
 use Rattle.std.proofs.lemmas.List.{take_more}
 use Rattle.std.proofs.lemmas.List.Elements.{Contains-append_left, Contains-append_right, Contains-append_cases}
-use Rattle.grammar_plain.specs.Places.{IsIn, Known}
+use Rattle.grammar_plain.specs.Positions.{IsIn, Known}
 use Rattle.grammar_plain.specs.declared.chart.Row.{Row}
 
 module _ {X : Type 0} where
@@ -33,7 +33,7 @@ module _ {X : Type 0} where
       let at : Contains (get_or xs i y ∷ []) y = (0, omega arith, sym e) in
       subst P (sym (take_more xs i y h)) (Contains-append_right (take i xs) (get_or xs i y ∷ []) y at)
 
--- what one more row tells
+-- what one more row says
 pub known_more : (rows : List Row) (i : ℕ) (row : Row) (r a j : ℕ) → i < length rows → row ≡ get_or rows i row →
     Known (take (i + 1) rows) r a j ↔ (Known (take i rows) r a j ⊎ ((row.rule ≡ r) × (row.start ≡ a) × IsIn row.ends.items j))
 known_more rows i row r a j h e = (into, back)
@@ -49,7 +49,7 @@ known_more rows i row r a j h e = (into, back)
     back (inl (other, c, p, q, m)) = (other, contains_before rows i other row h e c, p, q, m)
     back (inr (p, q, m)) = (row, contains_last rows i row h e, p, q, m)
 
--- `to` marks where the rule is known to stand up to, from the places in `from`
+-- `to` marks where the rule is known to span up to, from the positions in `from`
 abbrev pub Reached : List Row → ℕ → List Bool → List Bool → Type 0
 Reached rows r from to = (j : ℕ) → IsIn to j ↔ ((i : ℕ) × IsIn from i × Known rows r i j)
 

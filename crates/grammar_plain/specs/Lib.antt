@@ -1,5 +1,7 @@
 pub mod Patterns
 pub mod View
-pub mod Places
+pub mod Positions
 pub mod Spelled
 pub mod Resolved
+pub mod Next
+pub mod Pieces

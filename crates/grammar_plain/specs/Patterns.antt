@@ -1,4 +1,4 @@
--- Patterns over lists of numbers, and where in a list they stand.
+-- Patterns over lists of numbers, and the parts of a list that they span.
 use Rattle.std.specs.Prelude.{◌≡◌, ℕ, suc, true, List, Some, slice_get}
 use Rattle.grammar_tree.specs.Chars.{has}
 
@@ -12,13 +12,13 @@ pub data Pattern : Type 0 where
   alt : Pattern → Pattern → Pattern
   plus : Pattern → Pattern
 
--- The least relation: in the list the pattern stands from the place i up to the place j, where the rules have these bodies. Places count from 0, and the place i is before the element i.
-pub data Stands (bodies : List Pattern) (list : List ℕ) : Pattern → ℕ → ℕ → Type 0 where
-  by_empty : (i : ℕ) → Stands bodies list Pattern.empty i i
-  by_one : (ranges : List (ℕ × ℕ)) (k i : ℕ) → slice_get list i ≡ Some k → has ranges k ≡ true → Stands bodies list (Pattern.one ranges) i (suc i)
-  by_rule : (r : ℕ) (p : Pattern) (i j : ℕ) → slice_get bodies r ≡ Some p → Stands bodies list p i j → Stands bodies list (Pattern.rule r) i j
-  by_seq : (p q : Pattern) (i m j : ℕ) → Stands bodies list p i m → Stands bodies list q m j → Stands bodies list (Pattern.seq p q) i j
-  by_left : (p q : Pattern) (i j : ℕ) → Stands bodies list p i j → Stands bodies list (Pattern.alt p q) i j
-  by_right : (p q : Pattern) (i j : ℕ) → Stands bodies list q i j → Stands bodies list (Pattern.alt p q) i j
-  by_last : (p : Pattern) (i j : ℕ) → Stands bodies list p i j → Stands bodies list (Pattern.plus p) i j
-  by_more : (p : Pattern) (i m j : ℕ) → Stands bodies list p i m → Stands bodies list (Pattern.plus p) m j → Stands bodies list (Pattern.plus p) i j
+-- The least relation: in the list the pattern spans from the position i up to the position j, where the rules have these bodies. Positions count from 0, and the position i is before the element i.
+pub data Spans (bodies : List Pattern) (list : List ℕ) : Pattern → ℕ → ℕ → Type 0 where
+  by_empty : (i : ℕ) → Spans bodies list Pattern.empty i i
+  by_one : (ranges : List (ℕ × ℕ)) (k i : ℕ) → slice_get list i ≡ Some k → has ranges k ≡ true → Spans bodies list (Pattern.one ranges) i (suc i)
+  by_rule : (r : ℕ) (p : Pattern) (i j : ℕ) → slice_get bodies r ≡ Some p → Spans bodies list p i j → Spans bodies list (Pattern.rule r) i j
+  by_seq : (p q : Pattern) (i m j : ℕ) → Spans bodies list p i m → Spans bodies list q m j → Spans bodies list (Pattern.seq p q) i j
+  by_left : (p q : Pattern) (i j : ℕ) → Spans bodies list p i j → Spans bodies list (Pattern.alt p q) i j
+  by_right : (p q : Pattern) (i j : ℕ) → Spans bodies list q i j → Spans bodies list (Pattern.alt p q) i j
+  by_last : (p : Pattern) (i j : ℕ) → Spans bodies list p i j → Spans bodies list (Pattern.plus p) i j
+  by_more : (p : Pattern) (i m j : ℕ) → Spans bodies list p i m → Spans bodies list (Pattern.plus p) m j → Spans bodies list (Pattern.plus p) i j

@@ -22,7 +22,7 @@ abbrev pub named_from : ℕ → List WrittenRule → List ℕ → Pattern
 named_from i [] n = Pattern.never
 named_from i (rule ∷ rules) n = or_rule (is_lexer_rule_named rule n) (Pattern.rule i) (named_from (suc i) rules n)
 
--- a term among these rules, whose numbers are their places
+-- a term among these rules, whose numbers are their positions
 abbrev mutual
   pub spelled : List WrittenRule → LexerTerm → Pattern
   spelled rules (LexerTerm.literal t) = spelled_text t
@@ -42,7 +42,7 @@ abbrev mutual
   spelled_alts rules LexerAlts.none = Pattern.never
   spelled_alts rules (LexerAlts.or s a) = Pattern.alt (spelled_seq rules s) (spelled_alts rules a)
 
--- what a lexer rule stands for; a parser rule stands nowhere in a text
+-- what a lexer rule spans; a parser rule spans nothing in a text
 abbrev pub spelled_rule : List WrittenRule → WrittenRule → Pattern
 spelled_rule rules (WrittenRule.parser_rule r) = Pattern.never
 spelled_rule rules (WrittenRule.lexer_rule r) = spelled_alts rules r.alts

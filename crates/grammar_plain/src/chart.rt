@@ -1,15 +1,15 @@
-//! Where the rules stand.
+//! Where the rules span.
 
 ghost use Rattle.std.specs.Prelude.{◌≡◌, ◌⊎◌, ◌↔◌, ◌<◌, ◌+◌, ◌++◌, ℕ, suc, true, false, IfOk, OnOk, length, vec_len, map, Some, slice_get};
-ghost use Rattle.grammar_plain.specs.Places.{AddsRows, AreRows, Fit, Grows, IsBlank, IsExact, IsIn, Known, Pairs, SameEnds, SameLength, Spans};
+ghost use Rattle.grammar_plain.specs.Positions.{AddsRows, AreRows, Fit, Grows, IsBlank, IsExact, IsIn, Known, Pairs, SameEnds, SameLength, SpansBy};
 ghost use Rattle.grammar_plain.specs.View.{pattern};
 
 use crate::pattern::Pattern;
-use crate::places;
+use crate::positions;
 use faults::Memory;
 use std::alloc::Global;
 
-/// Up to which places a rule is known to stand from one place.
+/// Up to which positions a rule is known to span from one position.
 #[derive(Drop)]
 pub struct Row {
     pub rule: usize,
@@ -17,7 +17,7 @@ pub struct Row {
     pub ends: Vec<bool>,
 }
 
-/// The places up to which the rule is known to stand from a marked place.
+/// The positions up to which the rule is known to span from a marked position.
 pub fn known_ends(
     alloc: Global,
     rows: &[Row],
@@ -28,16 +28,16 @@ pub fn known_ends(
     ensures len { IfOk result (λ to. vec_len to ≡ length from.now) }
     ensures marks { IfOk result (λ to. (j : ℕ) → IsIn to.items j ↔ ((i : ℕ) × IsIn from.now i × Known rows.now rule i j)) }
 {
-    let mut to = places::none(alloc, from.len())?;
+    let mut to = positions::none(alloc, from.len())?;
     for row in rows {
         if row.rule == rule && from[row.start] {
-            to = places::union(alloc, &to, &row.ends)?;
+            to = positions::union(alloc, &to, &row.ends)?;
         }
     }
     Ok(to)
 }
 
-/// Up to which places the pattern stands from the list's start, given what the rows tell.
+/// Up to which positions the pattern spans from the list's start, given what the rows say.
 pub fn ends_from_start(
     alloc: Global,
     rows: &[Row],
@@ -46,15 +46,15 @@ pub fn ends_from_start(
 ) -> Result<Vec<bool>, Memory>
     requires { Fit rows.now (length list.now + 1) }
     ensures len { IfOk result (λ ends. vec_len ends ≡ length list.now + 1) }
-    ensures ends { IfOk result (λ ends. (j : ℕ) → IsIn ends.items j ↔ Spans (Known rows.now) list.now (pattern whole.now) 0 j) }
+    ensures ends { IfOk result (λ ends. (j : ℕ) → IsIn ends.items j ↔ SpansBy (Known rows.now) list.now (pattern whole.now) 0 j) }
 {
-    let from = places::only(alloc, list.len() + 1, 0)?;
+    let from = positions::only(alloc, list.len() + 1, 0)?;
     let ends = whole.ends(alloc, rows, list, &from)?;
     Ok(ends)
 }
 
-/// Where the rules with these bodies stand in the list. Rows grow from what is known of the rules
-/// until nothing more is found; each time takes the rows of all rules and places, and looks each
+/// Where the rules with these bodies span in the list. Rows grow from what is known of the rules
+/// until nothing more is found; each time takes the rows of all rules and positions, and looks each
 /// name up in all rows.
 pub fn closed_rows(alloc: Global, bodies: &[Pattern], list: &[u32]) -> Result<Vec<Row>, Memory>
     ensures fit { IfOk result (λ rows. Fit rows.items (length list.now + 1)) }
@@ -70,7 +70,7 @@ pub fn closed_rows(alloc: Global, bodies: &[Pattern], list: &[u32]) -> Result<Ve
     }
 }
 
-/// A row for each of so many rules and each of so many places, which marks nothing.
+/// A row for each of so many rules and each of so many positions, which marks nothing.
 fn blank_rows(alloc: Global, rules: usize, count: usize) -> Result<Vec<Row>, Memory>
     ensures rows { IfOk result (λ rows. AreRows rows.items rules count) }
     ensures blank { IfOk result (λ rows. IsBlank rows.items) }
@@ -82,7 +82,7 @@ fn blank_rows(alloc: Global, rules: usize, count: usize) -> Result<Vec<Row>, Mem
     Ok(rows)
 }
 
-/// Adds a row for each of so many places, which marks nothing.
+/// Adds a row for each of so many positions, which marks nothing.
 fn add_blank_rows(
     alloc: Global,
     rows: &mut Vec<Row>,
@@ -92,13 +92,13 @@ fn add_blank_rows(
     ensures { OnOk result (AddsRows rows.old.items rows.new.items rule count count) }
 {
     for start in 0..count {
-        let ends = places::none(alloc, count)?;
+        let ends = positions::none(alloc, count)?;
         rows.push(Row { rule, start, ends })?;
     }
     Ok(())
 }
 
-/// The rows, each with the places that its rule's body stands up to, given what the rows tell.
+/// The rows, each with the positions that its rule's body spans up to, given what the rows say.
 fn grown_rows(
     alloc: Global,
     bodies: &[Pattern],
@@ -110,12 +110,12 @@ fn grown_rows(
 {
     let mut next = Vec::new(alloc);
     for row in rows {
-        let from = places::only(alloc, list.len() + 1, row.start)?;
+        let from = positions::only(alloc, list.len() + 1, row.start)?;
         let more = body_of(bodies, row.rule).ends(alloc, rows, list, &from)?;
         next.push(Row {
             rule: row.rule,
             start: row.start,
-            ends: places::union(alloc, &row.ends, &more)?,
+            ends: positions::union(alloc, &row.ends, &more)?,
         })?;
     }
     Ok(next)
@@ -128,14 +128,14 @@ fn body_of(bodies: &[Pattern], rule: usize) -> &Pattern
     &bodies[rule]
 }
 
-/// Whether the rows mark the same places.
+/// Whether the rows mark the same positions.
 fn have_same_ends(old: &[Row], new: &[Row]) -> bool
     requires { Pairs SameLength old.now new.now }
     ensures same { result ≡ true → Pairs SameEnds old.now new.now }
     ensures other { result ≡ false → ¬ Pairs SameEnds old.now new.now }
 {
     for i in 0..old.len() {
-        if !places::are_same(&old[i].ends, &new[i].ends) {
+        if !positions::are_same(&old[i].ends, &new[i].ends) {
             return false;
         }
     }

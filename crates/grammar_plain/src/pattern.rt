@@ -2,11 +2,11 @@
 
 ghost use Rattle.std.specs.Prelude.{◌≡◌, ◌+◌, ℕ, [], ◌∷◌, IfOk, length, vec_len};
 ghost use Rattle.grammar_plain.specs.Patterns as plain;
-ghost use Rattle.grammar_plain.specs.Places.{AreEnds, Fit, Known};
+ghost use Rattle.grammar_plain.specs.Positions.{AreEnds, Fit, Known};
 ghost use Rattle.grammar_plain.specs.View.{pattern};
 
 use crate::chart::{self, Row};
-use crate::places;
+use crate::positions;
 use faults::Memory;
 use std::alloc::Global;
 
@@ -16,12 +16,12 @@ pub enum Pattern {
     /// Nowhere.
     Never,
 
-    /// Nothing, at each place.
+    /// Nothing, at each position.
     Empty,
 
     /// One number that lies in one of the ranges, both ends included.
     One(Vec<(u32, u32)>),
-    /// What the rule with this number, from 0, stands for.
+    /// What the body of the rule with this number, from 0, spans.
     Rule(usize),
 
     /// The first, and then the second.
@@ -71,7 +71,7 @@ impl Pattern {
         Ok(whole)
     }
 
-    /// The places up to which the pattern stands from a marked place.
+    /// The positions up to which the pattern spans from a marked position.
     pub fn ends(
         &self,
         alloc: Global,
@@ -79,14 +79,14 @@ impl Pattern {
         list: &[u32],
         from: &[bool],
     ) -> Result<Vec<bool>, Memory>
-        requires places { length from.now ≡ length list.now + 1 }
+        requires positions { length from.now ≡ length list.now + 1 }
         requires rows { Fit rows.now (length list.now + 1) }
         ensures len { IfOk result (λ to. vec_len to ≡ length from.now) }
         ensures ends { IfOk result (λ to. AreEnds (Known rows.now) list.now (pattern self.now) from.now to.items) }
     {
         match self {
             Pattern::Never => {
-                let to = places::none(alloc, from.len())?;
+                let to = positions::none(alloc, from.len())?;
                 Ok(to)
             }
             Pattern::Empty => {
@@ -94,7 +94,7 @@ impl Pattern {
                 Ok(to)
             }
             Pattern::One(ranges) => {
-                let to = places::steps(alloc, ranges, list, from)?;
+                let to = positions::steps(alloc, ranges, list, from)?;
                 Ok(to)
             }
             Pattern::Rule(rule) => {
@@ -109,15 +109,15 @@ impl Pattern {
             Pattern::Alt(first, second) => {
                 let left = first.ends(alloc, rows, list, from)?;
                 let right = second.ends(alloc, rows, list, from)?;
-                let to = places::union(alloc, &left, &right)?;
+                let to = positions::union(alloc, &left, &right)?;
                 Ok(to)
             }
             Pattern::Plus(part) => {
                 let mut all = part.ends(alloc, rows, list, from)?;
                 loop {
                     let more = part.ends(alloc, rows, list, &all)?;
-                    let next = places::union(alloc, &all, &more)?;
-                    if places::are_same(&next, &all) {
+                    let next = positions::union(alloc, &all, &more)?;
+                    if positions::are_same(&next, &all) {
                         return Ok(all);
                     }
                     all = next;

@@ -2,7 +2,7 @@
 
 use super::*;
 use crate::pattern::Pattern;
-use crate::{chart, places};
+use crate::{chart, positions};
 use grammar_tree::{CharSet, Grammar, LexAlts, LexTerm, LexTerms, Rule, Text};
 use std::alloc::Global;
 use std::test::Fail;
@@ -325,9 +325,9 @@ fn a_name_matches_what_its_rules_do(rt: HostRuntime) -> Result<(), Fail> {
     Ok(())
 }
 
-/// Whether the rule with this number and among these bodies stands in each of the lists and in none
+/// Whether the rule with this number and among these bodies spans in each of the lists and in none
 /// of the others.
-fn stands_just(
+fn spans_just(
     alloc: Global,
     bodies: &[Pattern],
     rule: usize,
@@ -335,19 +335,19 @@ fn stands_just(
     others: &[&[u32]],
 ) -> Result<bool, Memory> {
     for list in lists {
-        if !stands(alloc, bodies, rule, list)? {
+        if !spans(alloc, bodies, rule, list)? {
             return Ok(false);
         }
     }
     for other in others {
-        if stands(alloc, bodies, rule, other)? {
+        if spans(alloc, bodies, rule, other)? {
             return Ok(false);
         }
     }
     Ok(true)
 }
 
-fn stands(alloc: Global, bodies: &[Pattern], rule: usize, list: &[u32]) -> Result<bool, Memory> {
+fn spans(alloc: Global, bodies: &[Pattern], rule: usize, list: &[u32]) -> Result<bool, Memory> {
     let rows = chart::closed_rows(alloc, bodies, list)?;
     let ends = chart::ends_from_start(alloc, &rows, list, &Pattern::Rule(rule))?;
     Ok(ends[list.len()])
@@ -382,7 +382,7 @@ fn left_recursion_is_taken_as_written(rt: HostRuntime) -> Result<(), Fail> {
     let alloc = rt.alloc();
     let bodies = sums(alloc)?;
     assert!(rt;
-        stands_just(
+        spans_just(
             alloc,
             &bodies,
             0,
@@ -391,7 +391,7 @@ fn left_recursion_is_taken_as_written(rt: HostRuntime) -> Result<(), Fail> {
         )?
     );
     assert!(rt;
-        stands_just(alloc, &bodies, 2, &[], &[&[], &[0]])?,
+        spans_just(alloc, &bodies, 2, &[], &[&[], &[0]])?,
         "no rule has the number"
     );
     Ok(())
@@ -420,7 +420,7 @@ fn rules_use_each_other(rt: HostRuntime) -> Result<(), Fail> {
     let alloc = rt.alloc();
     let bodies = five_rules(alloc)?;
     assert!(rt;
-        stands_just(
+        spans_just(
             alloc,
             &bodies,
             0,
@@ -429,7 +429,7 @@ fn rules_use_each_other(rt: HostRuntime) -> Result<(), Fail> {
         )?
     );
     assert!(rt;
-        stands_just(
+        spans_just(
             alloc,
             &bodies,
             1,
@@ -444,9 +444,9 @@ fn rules_use_each_other(rt: HostRuntime) -> Result<(), Fail> {
 fn a_rule_may_derive_only_the_empty_list_or_nothing(rt: HostRuntime) -> Result<(), Fail> {
     let alloc = rt.alloc();
     let bodies = five_rules(alloc)?;
-    assert!(rt; stands_just(alloc, &bodies, 2, &[&[]], &[&[0]])?);
+    assert!(rt; spans_just(alloc, &bodies, 2, &[&[]], &[&[0]])?);
     assert!(rt;
-        stands_just(
+        spans_just(
             alloc,
             &bodies,
             3,
@@ -454,6 +454,6 @@ fn a_rule_may_derive_only_the_empty_list_or_nothing(rt: HostRuntime) -> Result<(
             &[&[], &[1], &[0, 1]]
         )?
     );
-    assert!(rt; stands_just(alloc, &bodies, 4, &[], &[&[], &[0]])?);
+    assert!(rt; spans_just(alloc, &bodies, 4, &[], &[&[], &[0]])?);
     Ok(())
 }

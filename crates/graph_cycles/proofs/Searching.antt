@@ -114,7 +114,7 @@ module _ (rows : List (List ℕ)) (node : ℕ) where
       }
 
   -- a path and one more edge
-  further : {i m : ℕ} → Reaches rows i m → (j : ℕ) → HasEdge rows m j → Reaches rows i j
+  pub further : {i m : ℕ} → Reaches rows i m → (j : ℕ) → HasEdge rows m j → Reaches rows i j
   further (Reaches.by_edge i m edge) j more = Reaches.by_edges i m j edge (Reaches.by_edge m j more)
   further (Reaches.by_edges i k m edge path) j more = Reaches.by_edges i k j edge (further path j more)
 

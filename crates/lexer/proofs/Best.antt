@@ -5,13 +5,13 @@ use Rattle.std.proofs.lemmas.Bool.{cases_lt}
 use Rattle.std.proofs.lemmas.Str.{chars_past_char, IsUtf8-past_char, encodes-append, chars-nil}
 use Rattle.std.specs.Prelude.{encode_utf8, encode_utf8_all}
 use Rattle.std.specs.Str.{chars, IsUtf8}
-use Rattle.lexer.specs.declared.program.Node.{Node}
+use Rattle.lexer.specs.declared.nfa.State.{State}
 use Rattle.lexer.specs.declared.reading.Alternative.{Alternative}
 use Rattle.lexer.specs.Longest.{IsLongestLen}
-use Rattle.lexer.specs.Program.{Reads}
+use Rattle.lexer.specs.Nfa.{Reads}
 use Rattle.lexer.specs.Reading.{IsRead}
-use Rattle.lexer.specs.Standing.{AreMarked, IsFollowed, ReadsFrom}
-use Rattle.lexer.proofs.Going.{both_ways, end_reads}
+use Rattle.lexer.specs.StateSets.{AreMarked, IsFollowed, ReadsFrom}
+use Rattle.lexer.proofs.Steps.{both_ways, end_reads}
 
 -- two beginnings of a text: the shorter one begins the longer one
 pub begins : (u v f g : List ℕ) → u ++ v ≡ f ++ g → length u ≤ length f → (x : List ℕ) × (f ≡ u ++ x)
@@ -79,23 +79,23 @@ module _ (M : List ℕ → Type 0) (text : List ℕ) where
       inr (front, back, record { cut = best.cut; some = best.some; belongs = best.belongs; longest = λ f g e m. best.longest f g e (below f g e m) m }, len)
 
 -- What is known after some characters were read, and those from `rest` on weren't. Both are bytes.
-pub record IsSoFar (P : List Node) (a : Alternative) (text nodes rest : List ℕ) (read longest : ℕ) : Type 0 where
+pub record IsSoFar (P : List State) (a : Alternative) (text states rest : List ℕ) (read longest : ℕ) : Type 0 where
   pub done : List ℕ
   pub bytes : text ≡ encode_utf8_all done ++ rest
   pub cut : chars text ≡ done ++ chars rest
   pub utf8 : IsUtf8 rest
   pub count : read ≡ length (encode_utf8_all done)
-  pub reads : (w : List ℕ) → ReadsFrom P nodes w ↔ Reads P a.start (done ++ w)
+  pub reads : (w : List ℕ) → ReadsFrom P states w ↔ Reads P a.start (done ++ w)
   pub best : IsBestBelow (IsRead P a) (chars text) (length done) longest
   pub undecided : a.short ≡ true → (u v : List ℕ) → done ≡ u ++ v → v ≢ [] → ¬ Reads P a.start u
 
-pub behind : (done a b : List ℕ) → done ++ a ≡ done ++ b → a ≡ b
-behind [] a b e = e
-behind (x ∷ done) a b e = behind done a b (cc)
+pub same_back : (done a b : List ℕ) → done ++ a ≡ done ++ b → a ≡ b
+same_back [] a b e = e
+same_back (x ∷ done) a b e = same_back done a b (cc)
 
-module _ (P : List Node) (a : Alternative) (text : List ℕ) where
-  pub so_far_none : (nodes : List ℕ) → IsUtf8 text → ((w : List ℕ) → ReadsFrom P nodes w ↔ Reads P a.start w) → IsSoFar P a text nodes text 0 0
-  so_far_none nodes utf8 same =
+module _ (P : List State) (a : Alternative) (text : List ℕ) where
+  pub so_far_none : (states : List ℕ) → IsUtf8 text → ((w : List ℕ) → ReadsFrom P states w ↔ Reads P a.start w) → IsSoFar P a text states text 0 0
+  so_far_none states utf8 same =
       record {
         done = [];
         bytes = refl;
@@ -111,17 +111,17 @@ module _ (P : List Node) (a : Alternative) (text : List ℕ) where
       nothing [] v e s = s (sym e)
       nothing (c ∷ u) v e s = absurd (cc)
 
-  module _ (nodes rest : List ℕ) (read longest : ℕ) (s : IsSoFar P a text nodes rest read longest) where
+  module _ (states rest : List ℕ) (read longest : ℕ) (s : IsSoFar P a text states rest read longest) where
     -- the end is reached exactly where the characters so far can be read
-    pub ended_reads : (marks : List Bool) (ended : Bool) → AreMarked nodes marks → IsFollowed P nodes → ended ≡ slice_index_or marks 0 false → (ended ≡ true) ↔ Reads P a.start s.done
+    pub ended_reads : (marks : List Bool) (ended : Bool) → AreMarked states marks → IsFollowed P states → ended ≡ slice_index_or marks 0 false → (ended ≡ true) ↔ Reads P a.start s.done
     ended_reads marks ended exact followed e =
         let Q : List ℕ → Type 0 = λ x. Reads P a.start x in
-        both_ways (λ t. sym e ∙ t, λ t. e ∙ t) (both_ways (exact 0) (both_ways (swap (end_reads P nodes followed)) (both_ways (s.reads []) (λ r. subst Q (append-nil s.done) r, λ r. subst Q (sym (append-nil s.done)) r))))
+        both_ways (λ t. sym e ∙ t, λ t. e ∙ t) (both_ways (exact 0) (both_ways (swap (end_reads P states followed)) (both_ways (s.reads []) (λ r. subst Q (append-nil s.done) r, λ r. subst Q (sym (append-nil s.done)) r))))
       where
         swap : {A B : Type 0} → A ↔ B → B ↔ A
         swap f = (f.1, f.0)
 
-    pub not_ended : (ended : Bool) → (ended ≡ true) ↔ Reads P a.start s.done → ended ≡ false → ¬ ReadsFrom P nodes []
+    pub not_ended : (ended : Bool) → (ended ≡ true) ↔ Reads P a.start s.done → ended ≡ false → ¬ ReadsFrom P states []
     not_ended ended same e r =
         let Q : List ℕ → Type 0 = λ x. Reads P a.start x in
         true≢false (sym (same.1 (subst Q (append-nil s.done) ((s.reads []).0 r))) ∙ e)
@@ -162,12 +162,12 @@ module _ (P : List Node) (a : Alternative) (text : List ℕ) where
         omega (arith, h, ap length same, length-append s.done x, ap length none))) best
 
     -- no beginning of the rest is read
-    pub at_stop : (now : ℕ) → ((u v : List ℕ) → chars rest ≡ u ++ v → ¬ ReadsFrom P nodes u) → IsBestBelow (IsRead P a) (chars text) (suc (length s.done)) now → IsLongestLen (IsRead P a) (chars text) now
+    pub at_stop : (now : ℕ) → ((u v : List ℕ) → chars rest ≡ u ++ v → ¬ ReadsFrom P states u) → IsBestBelow (IsRead P a) (chars text) (suc (length s.done)) now → IsLongestLen (IsRead P a) (chars text) now
     at_stop now stuck best =
         best_all (IsRead P a) (chars text) (suc (length s.done)) now (λ f g e m. below_by f (λ h.
         let (x, same) = longer_by f g e h in
         let Q : List ℕ → Type 0 = λ z. Reads P a.start z in
-        let cut : chars rest ≡ x ++ g = behind s.done (chars rest) (x ++ g) (sym s.cut ∙ e ∙ ap (λ l. l ++ g) same ∙ append_assoc s.done x g) in
+        let cut : chars rest ≡ x ++ g = same_back s.done (chars rest) (x ++ g) (sym s.cut ∙ e ∙ ap (λ l. l ++ g) same ∙ append_assoc s.done x g) in
         absurd (stuck x g cut ((s.reads x).1 (subst Q same m.reads))))) best
 
     -- the text is at its end
@@ -186,7 +186,7 @@ module _ (P : List Node) (a : Alternative) (text : List ℕ) where
     fits_more c left e = omega (arith, s.count, ap length s.bytes, length-append (encode_utf8_all s.done) rest, ap length e, length-append (encode_utf8 c) left)
 
     -- one character more
-    pub so_far_more : (c : ℕ) (left new : List ℕ) (size now : ℕ) (ended : Bool) → rest ≡ encode_utf8 c ++ left → size ≡ length (encode_utf8 c) → ((w : List ℕ) → ReadsFrom P new w ↔ ReadsFrom P nodes (c ∷ w)) →
+    pub so_far_more : (c : ℕ) (left new : List ℕ) (size now : ℕ) (ended : Bool) → rest ≡ encode_utf8 c ++ left → size ≡ length (encode_utf8 c) → ((w : List ℕ) → ReadsFrom P new w ↔ ReadsFrom P states (c ∷ w)) →
         (ended ≡ true) ↔ Reads P a.start s.done → (a.short ≡ true → ended ≡ false) → IsBestBelow (IsRead P a) (chars text) (suc (length s.done)) now → IsSoFar P a text new left (read + size) now
     so_far_more c left new size now ended e n step same closed best =
         let Q : ℕ → Type 0 = λ x. IsBestBelow (IsRead P a) (chars text) x now in

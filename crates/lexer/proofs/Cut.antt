@@ -7,9 +7,9 @@ use Rattle.std.proofs.lemmas.List.{append-nil}
 use Rattle.std.proofs.lemmas.Str.{IsCharBoundary-at_seam, encodes-append, encodes-chars, chars-encodes, scalars-chars, length-le-encodes, chars-nil}
 use Rattle.grammar_tree.specs.Written.{WrittenGrammar}
 use Rattle.grammar_tree.specs.Lexes.{IsNext, Lexes, LexesTo, Piece, PlacedToken, StopsAt, is_gap_kind, placed_tokens}
-use Rattle.lexer.specs.declared.program.Node.{Node}
+use Rattle.lexer.specs.declared.nfa.State.{State}
 use Rattle.lexer.specs.declared.reading.Alternative.{Alternative}
-use Rattle.lexer.specs.Alternatives.{IsProgramOf}
+use Rattle.lexer.specs.Alternatives.{IsNfaOf}
 use Rattle.lexer.specs.Candidates.{ComesNext, HasNoNext}
 
 module _ (G : WrittenGrammar) where
@@ -102,7 +102,7 @@ module _ (G : WrittenGrammar) (text : List ℕ) where
         none [] e = chars-nil
         none (c ∷ l) e = absurd (omega (arith, e))
 
-    module _ (P : List Node) (all : List Alternative) (of : IsProgramOf G P all) where
+    module _ (P : List State) (all : List Alternative) (of : IsNfaOf G P all) where
       -- no rule matches
       pub stops : (rest : List ℕ) → rest ≡ s.left → at < length text → HasNoNext P all (chars rest) → StopsAt G (chars text) at
       stops rest e h none =
@@ -137,7 +137,7 @@ module _ (G : WrittenGrammar) (text : List ℕ) where
               least = λ other m. next.least other ((of.exact other next.front).1 m);
             }
 
-        -- what stands behind the piece
+        -- what comes after the piece
         left_bytes : s.left ≡ encode_utf8_all next.front ++ encode_utf8_all next.back
         left_bytes = sym (encodes-chars s.left s.utf8) ∙ ap encode_utf8_all piece_cut ∙ encodes-append next.front next.back
 

@@ -1,9 +1,9 @@
-pub mod Nodes
+pub mod States
 pub mod Added
 pub mod Compiled
 pub mod Terms
-pub mod Standing
-pub mod Going
+pub mod StateSets
+pub mod Steps
 pub mod Best
 pub mod Traced
 pub mod Checked
@@ -12,4 +12,6 @@ pub mod Pushed
 pub mod Listed
 pub mod Next
 pub mod Cut
-pub mod OneChar
+pub mod Order
+pub mod EmptyTexts
+pub mod Singles

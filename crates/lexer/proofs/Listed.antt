@@ -4,22 +4,24 @@ use Rattle.std.specs.List.{Contains}
 use Rattle.std.proofs.lemmas.Bool.{cases_lt}
 use Rattle.std.proofs.lemmas.List.Elements.{Contains-push, Contains-push_cases, Contains-append_left}
 use Rattle.std.proofs.lemmas.Option.{slice_get-get_or}
-use Rattle.lexer.specs.declared.program.Node.{Node}
+use Rattle.lexer.specs.declared.nfa.State.{State}
 use Rattle.lexer.specs.declared.reading.Alternative.{Alternative}
-use Rattle.lexer.specs.Program.{Reads}
+use Rattle.lexer.specs.Nfa.{Reads}
 use Rattle.lexer.specs.declared.candidates.Beginning.{Beginning}
-use Rattle.lexer.specs.Standing.{ReadsTo}
-use Rattle.lexer.specs.Candidates.{AreBeginnings, AreCandidates, AreListed, IsBeginning}
+use Rattle.lexer.specs.Order.{NeverFall}
+use Rattle.lexer.specs.StateSets.{ReadsTo}
+use Rattle.lexer.specs.Candidates.{AreCandidates, AreListed, IsBeginning}
 use Rattle.std.proofs.lemmas.List.{map-append}
-use Rattle.lexer.proofs.Standing.{index_default}
-use Rattle.lexer.proofs.Nodes.{get_before, get_last, get_within}
+use Rattle.lexer.proofs.Pushed.{mapped_len}
+use Rattle.lexer.proofs.StateSets.{index_default}
+use Rattle.lexer.proofs.States.{get_before, get_last, get_within}
 
 take_snoc : (all : List Alternative) (i : ℕ) (d : Alternative) → i < length all → take (suc i) all ≡ take i all ++ slice_index_or all i d ∷ []
 take_snoc [] i d h = absurd (omega (arith, h))
 take_snoc (x ∷ all) zero d h = refl
 take_snoc (x ∷ all) (suc i) d h = ap (λ l. x ∷ l) (take_snoc all i d (omega arith))
 
-module _ (P : List Node) (all : List Alternative) (c : ℕ) where
+module _ (P : List State) (all : List Alternative) (c : ℕ) where
   abbrev pub Complete : ℕ → List Alternative → Type 0
   Complete i list = (k : ℕ) (a : Alternative) (w : List ℕ) → k < i → slice_get all k ≡ Some a → Reads P a.start (c ∷ w) → Contains list a
 
@@ -61,22 +63,22 @@ module _ (P : List Node) (all : List Alternative) (c : ℕ) where
         complete = λ a w (k, l, e) r. complete k a w (omega (arith, h, l)) (slice_get-get_or all k a l ∙ ap Some e) r;
       }
 
--- none of the nodes so far reads the character
-abbrev pub Unread : List Node → ℕ → List ℕ → ℕ → Type 0
-Unread P c nodes i = (k next : ℕ) → k < i → ¬ ReadsTo P (slice_index_or nodes k 0) c next
+-- none of the states so far reads the character
+abbrev pub Unread : List State → ℕ → List ℕ → ℕ → Type 0
+Unread P c states i = (k next : ℕ) → k < i → ¬ ReadsTo P (slice_index_or states k 0) c next
 
-pub unread_more : (P : List Node) (c : ℕ) (nodes : List ℕ) (i : ℕ) → Unread P c nodes i → ((next : ℕ) → ¬ ReadsTo P (slice_index_or nodes i 0) c next) → Unread P c nodes (i + 1)
-unread_more P c nodes i before here k next h r = pick (cases_lt k i)
+pub unread_more : (P : List State) (c : ℕ) (states : List ℕ) (i : ℕ) → Unread P c states i → ((next : ℕ) → ¬ ReadsTo P (slice_index_or states i 0) c next) → Unread P c states (i + 1)
+unread_more P c states i before here k next h r = pick (cases_lt k i)
   where
     pick : (k < i) ⊎ (i ≤ k) → ⊥
     pick (inl l) = before k next l r
     pick (inr l) =
         let same : k ≡ i = omega (arith, h, l) in
-        let Q : ℕ → Type 0 = λ x. ReadsTo P (slice_index_or nodes x 0) c next in here next (subst Q same r)
+        let Q : ℕ → Type 0 = λ x. ReadsTo P (slice_index_or states x 0) c next in here next (subst Q same r)
 
-pub unread_all : (P : List Node) (c : ℕ) (nodes : List ℕ) (i : ℕ) → length nodes ≤ i → Unread P c nodes i → (n next : ℕ) → Contains nodes n → ¬ ReadsTo P n c next
-unread_all P c nodes i h all n next (k, inside, e) r =
-    let Q : ℕ → Type 0 = λ x. ReadsTo P x c next in all k next (omega (arith, h, inside)) (subst Q (sym e ∙ index_default nodes k n 0 inside) r)
+pub unread_all : (P : List State) (c : ℕ) (states : List ℕ) (i : ℕ) → length states ≤ i → Unread P c states i → (n next : ℕ) → Contains states n → ¬ ReadsTo P n c next
+unread_all P c states i h all n next (k, inside, e) r =
+    let Q : ℕ → Type 0 = λ x. ReadsTo P x c next in all k next (omega (arith, h, inside)) (subst Q (sym e ∙ index_default states k n 0 inside) r)
 
 pub alternative_at : (list : List Beginning) (i : ℕ) (b : Beginning) → i < length list → b ≡ slice_index_or list i b → b.alternative ≡ slice_index_or (map (λ (x : Beginning). x.alternative) list) i b.alternative
 alternative_at [] i b h e = absurd (omega (arith, h))
@@ -89,17 +91,14 @@ alternatives_more all i d list new b inside is e before =
     let more : suc i ≡ i + 1 = omega arith in
     ap (λ l. map f l) e ∙ map-append f list (b ∷ []) ∙ ap₂ ◌++◌ before (ap (λ x. x ∷ []) is) ∙ sym (take_snoc all i d inside) ∙ ap (λ n. take n all) more
 
-pub each_beginning : (P : List Node) (list new : List Beginning) (b : Beginning) → new ≡ list ++ b ∷ [] → IsBeginning P b → ((x : Beginning) → Contains list x → IsBeginning P x) → (x : Beginning) → Contains new x → IsBeginning P x
+pub each_beginning : (P : List State) (list new : List Beginning) (b : Beginning) → new ≡ list ++ b ∷ [] → IsBeginning P b → ((x : Beginning) → Contains list x → IsBeginning P x) → (x : Beginning) → Contains new x → IsBeginning P x
 each_beginning P list new b e here before x k = let Q : List Beginning → Type 0 = λ l. Contains l x in pick (Contains-push_cases list b x (subst Q e k))
   where
     pick : Contains list x ⊎ (b ≡ x) → IsBeginning P x
     pick (inl k) = before x k
     pick (inr same) = let Q : Beginning → Type 0 = λ y. IsBeginning P y in subst Q same here
 
-pub candidates_of : (P : List Node) (all : List Alternative) (beginnings : List Beginning) (list : List Alternative) (c : ℕ) → AreBeginnings P all beginnings → AreCandidates P (map (λ (b : Beginning). b.alternative) beginnings) list c → AreCandidates P all list c
-candidates_of P all beginnings list c are h = let Q : List Alternative → Type 0 = λ l. AreCandidates P l list c in subst Q are.alternatives h
-
-pub listed_more : {A : Type 0} (P : List Node) (all : List Alternative) (lists new : List (Vec Alternative A)) (list : Vec Alternative A) (c : ℕ) → new ≡ lists ++ list ∷ [] → length lists ≡ c → AreListed P all lists → AreCandidates P all list.items c → AreListed P all new
+pub listed_more : {A : Type 0} (P : List State) (all : List Alternative) (lists new : List (Vec Alternative A)) (list : Vec Alternative A) (c : ℕ) → new ≡ lists ++ list ∷ [] → length lists ≡ c → AreListed P all lists → AreCandidates P all list.items c → AreListed P all new
 listed_more {A} P all lists new list c e n before here k l g = pick (cases_lt k (length lists))
   where
     at : slice_get (lists ++ list ∷ []) k ≡ Some l
@@ -114,3 +113,15 @@ listed_more {A} P all lists new list c e n before here k l g = pick (cases_lt k 
         let Q : Vec Alternative A → Type 0 = λ x. AreCandidates P all x.items k in
         let R : ℕ → Type 0 = λ x. AreCandidates P all list.items x in
         subst Q is (subst R (sym (last ∙ n)) here)
+
+index_mapped : (list : List Beginning) (i : ℕ) (d : Beginning) → slice_index_or (map (λ (b : Beginning). b.alternative) list) i d.alternative ≡ (slice_index_or list i d).alternative
+index_mapped [] i d = refl
+index_mapped (x ∷ list) zero d = refl
+index_mapped (x ∷ list) (suc i) d = index_mapped list i d
+
+-- beginnings are in the order of their alternatives
+pub beginnings_order : (list : List Beginning) (all : List Alternative) → map (λ (b : Beginning). b.alternative) list ≡ all → NeverFall (λ (a : Alternative). a.kind) all → NeverFall (λ (b : Beginning). b.alternative.kind) list
+beginnings_order list all e never i j d before within =
+    let Q : List Alternative → Type 0 = λ l. NeverFall (λ (a : Alternative). a.kind) l in
+    let inside : j < length (map (λ (b : Beginning). b.alternative) list) = omega (arith, within, mapped_len (λ (b : Beginning). b.alternative) list) in
+    omega (arith, subst Q (sym e) never i j d.alternative before inside, ap (λ (a : Alternative). a.kind) (index_mapped list i d), ap (λ (a : Alternative). a.kind) (index_mapped list j d))

@@ -6,10 +6,10 @@ use Rattle.std.proofs.lemmas.Bool.{cases_lt}
 use Rattle.std.proofs.lemmas.Option.{slice_get-get_or}
 use Rattle.std.specs.Str.{chars, IsUtf8}
 use Rattle.std.proofs.lemmas.Str.{chars_past_char, encodes-append, length-le-encodes}
-use Rattle.lexer.specs.declared.program.Node.{Node}
+use Rattle.lexer.specs.declared.nfa.State.{State}
 use Rattle.lexer.specs.declared.reading.Alternative.{Alternative}
 use Rattle.lexer.specs.declared.pieces.Match.{Match}
-use Rattle.lexer.specs.Program.{Reads}
+use Rattle.lexer.specs.Nfa.{Reads}
 use Rattle.lexer.specs.Longest.{HasNone, IsLongestLen}
 use Rattle.lexer.specs.Reading.{IsRead}
 use Rattle.lexer.specs.Alternatives.{HasAlternative}
@@ -34,7 +34,7 @@ bytes_order f b g d e h = pick (cases_lt (length g) (length f))
         let more : 0 < length x = omega (arith, l, ap length is, length-append g x) in
         absurd (omega (arith, h, some_bytes x more, ap (λ y. length (encode_utf8_all y)) is, ap length (encodes-append g x), length-append (encode_utf8_all g) (encode_utf8_all x)))
 
-module _ (P : List Node) (text : List ℕ) where
+module _ (P : List State) (text : List ℕ) where
   abbrev pub IsLen : Alternative → ℕ → Type 0
   IsLen a n = IsLongestLen (IsRead P a) text n
 

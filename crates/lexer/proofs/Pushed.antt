@@ -1,4 +1,4 @@
--- One more alternative of a program.
+-- One more alternative of an NFA.
 use Rattle.std.proofs.Common.{◌≡◌, ◌<◌, ◌≤◌, ◌+◌, ◌⊎◌, inl, inr, ◌↔◌, ℕ, zero, suc, Bool, true, false, map, take, List, [], ◌∷◌, ◌++◌, Some, None, slice_get, slice_index_or, length, refl, sym, ap, ◌∙◌, subst, arith, true≢false}
 use Rattle.std.specs.List.{Contains}
 use Rattle.std.proofs.lemmas.List.{append-nil}
@@ -9,12 +9,12 @@ use Rattle.grammar_tree.proofs.MatchForms as forms
 use Rattle.grammar_tree.specs.View.{lex_terms, lex_alts}
 use Rattle.grammar_tree.specs.declared.lex_term.LexAlts.{LexAlts, out-LexAlts}
 use Rattle.grammar_tree.specs.declared.lex_term.LexTerms.{LexTerms}
-use Rattle.lexer.specs.declared.program.Node.{Node}
+use Rattle.lexer.specs.declared.nfa.State.{State}
 use Rattle.lexer.specs.declared.reading.Alternative.{Alternative}
-use Rattle.lexer.specs.Program.{Reads, GoesBelow, IsClosed, after}
+use Rattle.lexer.specs.Nfa.{Reads, GoesBelow, IsClosed, after}
 use Rattle.lexer.specs.Reading.{IsRead}
 use Rattle.lexer.specs.Compile.{HaveSame, IsCompiled}
-use Rattle.lexer.specs.Alternatives.{HasAlternative, IsProgram}
+use Rattle.lexer.specs.Alternatives.{HasAlternative, IsNfa}
 use Rattle.grammar_tree.specs.Written.{TokenKind}
 use Rattle.grammar_tree.specs.Kinds.{kinds_of, lexer_rules}
 use Rattle.grammar_tree.specs.Lexes.{KindMatches, SourceMatches}
@@ -24,25 +24,25 @@ use Rattle.grammar_tree.specs.declared.rule.Kind.{Kind}
 use Rattle.std.specs.Option.{option_map}
 use Rattle.std.proofs.lemmas.Bool.{cases_lt}
 use Rattle.std.proofs.lemmas.Option.{slice_get-map, slice_get_read}
-use Rattle.lexer.proofs.Nodes.{get_within}
-use Rattle.lexer.proofs.Going.{after_inside}
+use Rattle.lexer.proofs.States.{get_within}
+use Rattle.lexer.proofs.Steps.{after_inside}
 use Rattle.lexer.proofs.Terms.{alts_out, take_all, take_at}
 
--- what a closed program reads stays the same where nodes come behind it
-reads_more : (P Q : List Node) → HaveSame Q P 0 (length P) → {n : ℕ} {w : List ℕ} → Reads P n w → Reads Q n w
+-- what a closed NFA reads stays the same where states come after it
+reads_more : (P Q : List State) → HaveSame Q P 0 (length P) → {n : ℕ} {w : List ℕ} → Reads P n w → Reads Q n w
 reads_more P Q same Reads.at_end = Reads.at_end
-reads_more P Q same (Reads.by_char n next node c w at step more) = Reads.by_char n next node c w (same n (omega arith) (get_within P node n at) ∙ at) step (reads_more P Q same more)
+reads_more P Q same (Reads.by_char n next state c w at step more) = Reads.by_char n next state c w (same n (omega arith) (get_within P state n at) ∙ at) step (reads_more P Q same more)
 reads_more P Q same (Reads.by_split n first second next w at which more) =
-    Reads.by_split n first second next w (same n (omega arith) (get_within P (Node.Split first second) n at) ∙ at) which (reads_more P Q same more)
+    Reads.by_split n first second next w (same n (omega arith) (get_within P (State.Split first second) n at) ∙ at) which (reads_more P Q same more)
 
-reads_less : (P Q : List Node) → IsClosed P → HaveSame Q P 0 (length P) → {n : ℕ} {w : List ℕ} → Reads Q n w → n < length P → Reads P n w
+reads_less : (P Q : List State) → IsClosed P → HaveSame Q P 0 (length P) → {n : ℕ} {w : List ℕ} → Reads Q n w → n < length P → Reads P n w
 reads_less P Q closed same Reads.at_end h = Reads.at_end
-reads_less P Q closed same (Reads.by_char n next node c w at step more) h =
-    let here : slice_get P n ≡ Some node = sym (same n (omega arith) h) ∙ at in
-    Reads.by_char n next node c w here step (reads_less P Q closed same more (after_inside (length P) node c next (closed n node here) step))
+reads_less P Q closed same (Reads.by_char n next state c w at step more) h =
+    let here : slice_get P n ≡ Some state = sym (same n (omega arith) h) ∙ at in
+    Reads.by_char n next state c w here step (reads_less P Q closed same more (after_inside (length P) state c next (closed n state here) step))
 reads_less P Q closed same (Reads.by_split n first second next w at which more) h =
-    let here : slice_get P n ≡ Some (Node.Split first second) = sym (same n (omega arith) h) ∙ at in
-    let below = closed n (Node.Split first second) here in
+    let here : slice_get P n ≡ Some (State.Split first second) = sym (same n (omega arith) h) ∙ at in
+    let below = closed n (State.Split first second) here in
     Reads.by_split n first second next w here which (reads_less P Q closed same more (pick below which))
   where
     pick : (first < length P) × (second < length P) → (next ≡ first) ⊎ (next ≡ second) → next < length P
@@ -50,27 +50,27 @@ reads_less P Q closed same (Reads.by_split n first second next w at which more) 
     pick b (inr e) = omega (arith, b.1, e)
 
 -- from the end nothing more is read
-end_only : (P : List Node) → slice_get P 0 ≡ Some Node.Never → {n : ℕ} {w : List ℕ} → Reads P n w → n ≡ 0 → w ≡ []
+end_only : (P : List State) → slice_get P 0 ≡ Some State.Never → {n : ℕ} {w : List ℕ} → Reads P n w → n ≡ 0 → w ≡ []
 end_only P e Reads.at_end z = refl
-end_only P e (Reads.by_char n next node c w at step more) z =
-    let k : Some Node.Never ≡ Some node = sym e ∙ ap (λ x. slice_get P x) (sym z) ∙ at in
-    let is : Node.Never ≡ node = cc in
+end_only P e (Reads.by_char n next state c w at step more) z =
+    let k : Some State.Never ≡ Some state = sym e ∙ ap (λ x. slice_get P x) (sym z) ∙ at in
+    let is : State.Never ≡ state = cc in
     let bad : None ≡ Some next = ap (λ x. after x c) is ∙ step in absurd (cc)
 end_only P e (Reads.by_split n first second next w at which more) z =
-    let k : Some Node.Never ≡ Some (Node.Split first second) = sym e ∙ ap (λ x. slice_get P x) (sym z) ∙ at in absurd (cc)
+    let k : Some State.Never ≡ Some (State.Split first second) = sym e ∙ ap (λ x. slice_get P x) (sym z) ∙ at in absurd (cc)
 
-pub some_node : (P : List Node) (before : List Alternative) → IsProgram P before → 0 < length P
-some_node P before program = get_within P Node.Never 0 program.ends
+pub some_state : (P : List State) (before : List Alternative) → IsNfa P before → 0 < length P
+some_state P before nfa = get_within P State.Never 0 nfa.ends
 
-module _ (Language : List ℕ → Type 0) (P Q : List Node) (before : List Alternative) (program : IsProgram P before) (entry : ℕ) (added : IsCompiled Language P Q entry 0) (kind : ℕ) (short : Bool) where
+module _ (Language : List ℕ → Type 0) (P Q : List State) (before : List Alternative) (nfa : IsNfa P before) (entry : ℕ) (added : IsCompiled Language P Q entry 0) (kind : ℕ) (short : Bool) where
   abbrev pub pushed : Alternative
   pushed = record { kind = kind; short = short; start = entry }
 
   some : 0 < length P
-  some = get_within P Node.Never 0 program.ends
+  some = get_within P State.Never 0 nfa.ends
 
-  ends : slice_get Q 0 ≡ Some Node.Never
-  ends = added.kept 0 (omega arith) some ∙ program.ends
+  ends : slice_get Q 0 ≡ Some State.Never
+  ends = added.kept 0 (omega arith) some ∙ nfa.ends
 
   entry_reads : (w : List ℕ) → Reads Q entry w ↔ Language w
   entry_reads w =
@@ -93,17 +93,17 @@ module _ (Language : List ℕ → Type 0) (P Q : List Node) (before : List Alter
   old_read : (a : Alternative) (w : List ℕ) → a.start < length P → IsRead Q a w ↔ IsRead P a w
   old_read a w h = (
     λ r. record {
-      reads = reads_less P Q program.closed added.kept r.reads h;
+      reads = reads_less P Q nfa.closed added.kept r.reads h;
       shortest = λ s u v e q. r.shortest s u v e (reads_more P Q added.kept q);
     },
     λ r. record {
       reads = reads_more P Q added.kept r.reads;
-      shortest = λ s u v e q. r.shortest s u v e (reads_less P Q program.closed added.kept q h);
+      shortest = λ s u v e q. r.shortest s u v e (reads_less P Q nfa.closed added.kept q h);
     },
   )
 
-  pub pushed_program : (after : List Alternative) → after ≡ before ++ pushed ∷ [] → IsProgram Q after
-  pushed_program all e =
+  pub pushed_nfa : (after : List Alternative) → after ≡ before ++ pushed ∷ [] → IsNfa Q after
+  pushed_nfa all e =
       record {
         closed = added.closed;
         ends = ends;
@@ -111,7 +111,7 @@ module _ (Language : List ℕ → Type 0) (P Q : List Node) (before : List Alter
       }
     where
       pick : (a : Alternative) → Contains before a ⊎ (pushed ≡ a) → a.start < length Q
-      pick a (inl c) = omega (arith, program.inside a c, added.longer)
+      pick a (inl c) = omega (arith, nfa.inside a c, added.longer)
       pick a (inr same) = omega (arith, added.inside, ap (λ (x : Alternative). x.start) same)
 
   pub pushed_exact : (after : List Alternative) → after ≡ before ++ pushed ∷ [] → (k : ℕ) (w : List ℕ) → HasAlternative Q after k w ↔ (HasAlternative P before k w ⊎ ((k ≡ kind) × Shortest w))
@@ -121,7 +121,7 @@ module _ (Language : List ℕ → Type 0) (P Q : List Node) (before : List Alter
   )
     where
       to : (a : Alternative) → a.kind ≡ k → IsRead Q a w → Contains before a ⊎ (pushed ≡ a) → HasAlternative P before k w ⊎ ((k ≡ kind) × Shortest w)
-      to a n r (inl c) = inl (a, c, n, (old_read a w (program.inside a c)).0 r)
+      to a n r (inl c) = inl (a, c, n, (old_read a w (nfa.inside a c)).0 r)
       to a n r (inr same) =
           let R : Alternative → Type 0 = λ x. IsRead Q x w in
           inr (sym n ∙ ap (λ (x : Alternative). x.kind) (sym same), (new_read w).0 (subst R (sym same) r))
@@ -129,7 +129,7 @@ module _ (Language : List ℕ → Type 0) (P Q : List Node) (before : List Alter
       from : HasAlternative P before k w ⊎ ((k ≡ kind) × Shortest w) → HasAlternative Q all k w
       from (inl (a, c, n, r)) =
           let R : List Alternative → Type 0 = λ x. Contains x a in
-          (a, subst R (sym e) (Contains-append_left before (pushed ∷ []) a c), n, (old_read a w (program.inside a c)).1 r)
+          (a, subst R (sym e) (Contains-append_left before (pushed ∷ []) a c), n, (old_read a w (nfa.inside a c)).1 r)
       from (inr (n, s)) =
           let R : List Alternative → Type 0 = λ x. Contains x pushed in
           (pushed, subst R (sym e) (Contains-push before pushed), sym n, (new_read w).1 s)
@@ -156,7 +156,7 @@ sum_right {A} {B} {C} {D} f g = (λ a. to (f.0 a), λ s. f.1 (from s))
     from (inl b) = inl b
     from (inr d) = inr (g.1 d)
 
--- a rule with one alternative more behind the others
+-- a rule with one alternative more after the others
 rule_snoc : (G : List LexerRule) (ss : List (List LexerTerm)) (s : List LexerTerm) (w : List ℕ) → MatchesRule G (lexer_alts (ss ++ s ∷ [])) w ↔ (MatchesRule G (lexer_alts ss) w ⊎ MatchesAlternative G (lexer_seq s) w)
 rule_snoc G [] s w = let same = (forms.rule_by_form G).or (lexer_seq s) LexerAlts.none w in (λ m. flip (same.0 m), λ m. same.1 (back m))
   where
@@ -183,8 +183,8 @@ rule_snoc G (u ∷ ss) s w =
     from f g (inr m) = inr (f (inr m))
     from f g (inl m) = elim (g m) [ inl k ↦ inl k | inr k ↦ inr (f (inl k)) ]
 
--- the rule up to a place, and with the alternative there
-pub rule_none : (G : List LexerRule) (P : List Node) (before : List Alternative) (kind k : ℕ) (w : List ℕ) → HasAlternative P before k w ↔ (HasAlternative P before k w ⊎ ((k ≡ kind) × MatchesRule G LexerAlts.none w))
+-- the rule up to an index, and with the alternative there
+pub rule_none : (G : List LexerRule) (P : List State) (before : List Alternative) (kind k : ℕ) (w : List ℕ) → HasAlternative P before k w ↔ (HasAlternative P before k w ⊎ ((k ≡ kind) × MatchesRule G LexerAlts.none w))
 rule_none G P before kind k w = (λ h. inl h, pick)
   where
     pick : HasAlternative P before k w ⊎ ((k ≡ kind) × MatchesRule G LexerAlts.none w) → HasAlternative P before k w
@@ -252,16 +252,16 @@ pub with_same : {B C : Type 0} (k kind : ℕ) → B ↔ C → ((k ≡ kind) × B
 with_same k kind f = (λ (e, b). (e, f.0 b), λ (e, c). (e, f.1 c))
 
 -- no kind is there yet, and the next one is
-pub start_program : (P : List Node) (before : List Alternative) → P ≡ Node.Never ∷ [] → before ≡ [] → IsProgram P before
-start_program P before e f =
-    let Q : List Node → Type 0 = λ x. IsProgram x before in
+pub start_nfa : (P : List State) (before : List Alternative) → P ≡ State.Never ∷ [] → before ≡ [] → IsNfa P before
+start_nfa P before e f =
+    let Q : List State → Type 0 = λ x. IsNfa x before in
     subst Q (sym e) (record { closed = one; ends = refl; inside = λ a (k, h, g). absurd (omega (arith, h, ap length f)) })
   where
-    one : (n : ℕ) (node : Node) → slice_get (Node.Never ∷ []) n ≡ Some node → GoesBelow (length (Node.Never ∷ [])) node
-    one zero node e = let is : Node.Never ≡ node = cc in let Q : Node → Type 0 = λ x. GoesBelow (length (Node.Never ∷ [])) x in subst Q is tt
-    one (suc n) node e = absurd (cc)
+    one : (n : ℕ) (state : State) → slice_get (State.Never ∷ []) n ≡ Some state → GoesBelow (length (State.Never ∷ [])) state
+    one zero state e = let is : State.Never ≡ state = cc in let Q : State → Type 0 = λ x. GoesBelow (length (State.Never ∷ [])) x in subst Q is tt
+    one (suc n) state e = absurd (cc)
 
-pub kinds_none : (G : WrittenGrammar) (P : List Node) (before : List Alternative) (k : ℕ) (w : List ℕ) → before ≡ [] → HasAlternative P before k w ↔ ((k < 0) × KindMatches G k w)
+pub kinds_none : (G : WrittenGrammar) (P : List State) (before : List Alternative) (k : ℕ) (w : List ℕ) → before ≡ [] → HasAlternative P before k w ↔ ((k < 0) × KindMatches G k w)
 kinds_none G P before k w e = (λ (a, (j, h, g), n, r). absurd (omega (arith, h, ap length e)), λ (h, m). absurd (omega (arith, h)))
 
 kind_at : (G : WrittenGrammar) (kinds : List Kind) (i : ℕ) (kind : Kind) (w : List ℕ) → kinds_of G ≡ map kind_of kinds → i < length kinds → kind ≡ slice_index_or kinds i kind → KindMatches G i w ↔ SourceMatches G (source_of kind.source) kind.name w

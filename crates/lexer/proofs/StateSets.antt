@@ -1,10 +1,10 @@
--- Sets of nodes that are lists with marks.
+-- Sets of states that are lists with marks.
 use Rattle.std.proofs.Common.{◌≡◌, ◌≢◌, ◌<◌, ◌≤◌, ◌+◌, ◌⊎◌, inl, inr, ℕ, zero, suc, Bool, true, false, List, [], ◌∷◌, ◌++◌, slice_index_or, length, refl, sym, ap, ◌∙◌, subst, arith, length-append}
 use Rattle.std.specs.List.{Contains}
 use Rattle.std.proofs.Math.ListN.{set, length-set}
 use Rattle.std.proofs.lemmas.Bool.{cases_lt}
 use Rattle.std.proofs.lemmas.List.Elements.{Contains-push, Contains-push_cases, Contains-append_left}
-use Rattle.lexer.specs.Standing.{AreMarked, HasGrown, unmarked}
+use Rattle.lexer.specs.StateSets.{AreMarked, HasGrown, unmarked}
 
 pub index_within : (marks : List Bool) (n : ℕ) → slice_index_or marks n false ≡ true → n < length marks
 index_within [] n e = absurd (cc)
@@ -40,7 +40,7 @@ index_default [] k d f h = absurd (omega (arith, h))
 index_default (x ∷ xs) zero d f h = refl
 index_default (x ∷ xs) (suc k) d f h = index_default xs k d f (omega arith)
 
-eq_or_not : (m n : ℕ) → (m ≡ n) ⊎ (m ≢ n)
+pub eq_or_not : (m n : ℕ) → (m ≡ n) ⊎ (m ≢ n)
 eq_or_not m n = pick (cases_lt m n) (cases_lt n m)
   where
     pick : (m < n) ⊎ (n ≤ m) → (n < m) ⊎ (m ≤ n) → (m ≡ n) ⊎ (m ≢ n)
@@ -48,31 +48,31 @@ eq_or_not m n = pick (cases_lt m n) (cases_lt n m)
     pick (inr h) (inl k) = inr (λ e. omega (arith, e, k))
     pick (inr h) (inr k) = inl (omega (arith, h, k))
 
--- a node that isn't marked is pushed and marked
-pub push_marks : (nodes : List ℕ) (marks : List Bool) (node : ℕ) → node < length marks → slice_index_or marks node false ≡ false → AreMarked nodes marks → HasGrown nodes (nodes ++ node ∷ []) marks (set marks node true)
-push_marks nodes marks node h fresh exact =
+-- a state that isn't marked is pushed and marked
+pub push_marks : (states : List ℕ) (marks : List Bool) (state : ℕ) → state < length marks → slice_index_or marks state false ≡ false → AreMarked states marks → HasGrown states (states ++ state ∷ []) marks (set marks state true)
+push_marks states marks state h fresh exact =
     record {
-      size = length-set marks node true;
-      exact = λ n. (to n (eq_or_not n node), back n (eq_or_not n node));
-      longer = omega (arith, length-append nodes (node ∷ []));
-      kept = λ k below. index_before nodes (node ∷ []) 0 k below;
-      room = omega (arith, mark_counts marks node h fresh, length-append nodes (node ∷ []));
+      size = length-set marks state true;
+      exact = λ n. (to n (eq_or_not n state), back n (eq_or_not n state));
+      longer = omega (arith, length-append states (state ∷ []));
+      kept = λ k below. index_before states (state ∷ []) 0 k below;
+      in_all = omega (arith, mark_counts marks state h fresh, length-append states (state ∷ []));
     }
   where
-    to : (n : ℕ) → (n ≡ node) ⊎ (n ≢ node) → slice_index_or (set marks node true) n false ≡ true → Contains (nodes ++ node ∷ []) n
-    to n (inl e) m = let P : ℕ → Type 0 = λ x. Contains (nodes ++ node ∷ []) x in subst P (sym e) (Contains-push nodes node)
-    to n (inr d) m = Contains-append_left nodes (node ∷ []) n ((exact n).0 (sym (index_set_other marks true false node n d) ∙ m))
+    to : (n : ℕ) → (n ≡ state) ⊎ (n ≢ state) → slice_index_or (set marks state true) n false ≡ true → Contains (states ++ state ∷ []) n
+    to n (inl e) m = let P : ℕ → Type 0 = λ x. Contains (states ++ state ∷ []) x in subst P (sym e) (Contains-push states state)
+    to n (inr d) m = Contains-append_left states (state ∷ []) n ((exact n).0 (sym (index_set_other marks true false state n d) ∙ m))
 
-    back : (n : ℕ) → (n ≡ node) ⊎ (n ≢ node) → Contains (nodes ++ node ∷ []) n → slice_index_or (set marks node true) n false ≡ true
-    back n (inl e) c = ap (λ x. slice_index_or (set marks node true) x false) e ∙ index_set_at marks true false node h
-    back n (inr d) c = index_set_other marks true false node n d ∙ (exact n).1 (old (Contains-push_cases nodes node n c))
+    back : (n : ℕ) → (n ≡ state) ⊎ (n ≢ state) → Contains (states ++ state ∷ []) n → slice_index_or (set marks state true) n false ≡ true
+    back n (inl e) c = ap (λ x. slice_index_or (set marks state true) x false) e ∙ index_set_at marks true false state h
+    back n (inr d) c = index_set_other marks true false state n d ∙ (exact n).1 (old (Contains-push_cases states state n c))
       where
-        old : Contains nodes n ⊎ (node ≡ n) → Contains nodes n
+        old : Contains states n ⊎ (state ≡ n) → Contains states n
         old (inl k) = k
         old (inr e) = absurd (d (sym e))
 
-pub grown_not : (nodes : List ℕ) (marks : List Bool) → AreMarked nodes marks → HasGrown nodes nodes marks marks
-grown_not nodes marks exact = record { size = refl; exact = exact; longer = omega arith; kept = λ k h. refl; room = refl }
+pub grown_not : (states : List ℕ) (marks : List Bool) → AreMarked states marks → HasGrown states states marks marks
+grown_not states marks exact = record { size = refl; exact = exact; longer = omega arith; kept = λ k h. refl; in_all = refl }
 
 pub grown_both : (a b c : List ℕ) (x y z : List Bool) → HasGrown a b x y → HasGrown b c y z → HasGrown a c x z
 grown_both a b c x y z f g =
@@ -81,7 +81,7 @@ grown_both a b c x y z f g =
       exact = g.exact;
       longer = omega (arith, f.longer, g.longer);
       kept = λ k h. g.kept k (omega (arith, h, f.longer)) ∙ f.kept k h;
-      room = g.room ∙ f.room;
+      in_all = g.in_all ∙ f.in_all;
     }
 
 pub grown_keeps : (a b : List ℕ) (x y : List Bool) → HasGrown a b x y → (n : ℕ) → Contains a n → Contains b n
@@ -90,7 +90,7 @@ grown_keeps a b x y g n (k, h, e) = (k, omega (arith, h, g.longer), same (omega 
     same : k < length b → slice_index_or b k n ≡ n
     same l = index_default b k n 0 l ∙ g.kept k h ∙ sym (index_default a k n 0 h) ∙ e
 
-pub popped_inside : (first nodes rest : List ℕ) (marks : List Bool) (node size : ℕ) → AreMarked first marks → ((n : ℕ) → Contains nodes n → Contains first n) → nodes ≡ rest ++ node ∷ [] → size ≡ length marks → node < size
-popped_inside first nodes rest marks node size exact inside e same =
-    let P : List ℕ → Type 0 = λ x. Contains x node in
-    omega (arith, same, index_within marks node ((exact node).1 (inside node (subst P (sym e) (Contains-push rest node)))))
+pub popped_inside : (first states rest : List ℕ) (marks : List Bool) (state size : ℕ) → AreMarked first marks → ((n : ℕ) → Contains states n → Contains first n) → states ≡ rest ++ state ∷ [] → size ≡ length marks → state < size
+popped_inside first states rest marks state size exact inside e same =
+    let P : List ℕ → Type 0 = λ x. Contains x state in
+    omega (arith, same, index_within marks state ((exact state).1 (inside state (subst P (sym e) (Contains-push rest state)))))

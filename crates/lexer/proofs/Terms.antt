@@ -1,4 +1,4 @@
--- Each form of term, when its nodes are added: what can be added, and what its nodes read.
+-- Each form of term, when its states are added: what can be added, and what its states read.
 use Rattle.std.proofs.Common.{◌≡◌, ◌<◌, ◌≤◌, ◌⊎◌, inl, inr, ◌↔◌, ℕ, zero, suc, map, take, drop, List, [], ◌∷◌, ◌++◌, slice_index_or, length, refl, sym, ap, ◌∙◌, subst, arith}
 use Rattle.grammar_tree.specs.Written.{LexerTerm, LexerSeq, LexerAlts, LexerRule, WrittenRule, lexer_seq, lexer_alts}
 use Rattle.grammar_tree.specs.Faults.{LexerHasEmptyLoop, LexerHasEmptyLoopSeq, LexerHasEmptyLoopAlts}
@@ -10,8 +10,8 @@ use Rattle.grammar_tree.specs.declared.lex_term.LexAlts.{LexAlts, out-LexAlts, f
 use Rattle.grammar_tree.specs.declared.lex_term.LexTerms.{LexTerms, out-LexTerms, fold_out-LexTerms}
 use Rattle.grammar_tree.specs.declared.lex_term.LexTerm.{LexTerm}
 use Rattle.grammar_tree.proofs.MatchForms as forms
-use Rattle.lexer.specs.declared.program.Node.{Node}
-use Rattle.lexer.specs.Program.{IsClosed}
+use Rattle.lexer.specs.declared.nfa.State.{State}
+use Rattle.lexer.specs.Nfa.{IsClosed}
 use Rattle.lexer.specs.Compile.{IsAdded}
 use Rattle.lexer.proofs.Added.{added_as, added_nothing, added_never, added_opt, added_or, added_then}
 use Rattle.lexer.proofs.Compiled.{added_to}
@@ -39,28 +39,28 @@ module _ (G : List LexerRule) where
   pub term_no_loop : (t u : LexerTerm) → t ≡ u → ¬ LexerHasEmptyLoop G t → ¬ LexerHasEmptyLoop G u
   term_no_loop t u e h = let P : LexerTerm → Type 0 = λ x. ¬ LexerHasEmptyLoop G x in subst P e h
 
-  pub as_term : {R : List WrittenRule} (t u : LexerTerm) (old new : List Node) (entry next : ℕ) → t ≡ u → IsAdded R (Matches G u) old new entry next → IsAdded R (Matches G t) old new entry next
+  pub as_term : {R : List WrittenRule} (t u : LexerTerm) (old new : List State) (entry next : ℕ) → t ≡ u → IsAdded R (Matches G u) old new entry next → IsAdded R (Matches G t) old new entry next
   as_term {R} t u old new entry next e a = let P : LexerTerm → Type 0 = λ x. IsAdded R (Matches G x) old new entry next in subst P (sym e) a
 
-  pub literal_term : {R : List WrittenRule} (t : LexerTerm) (text cs : List ℕ) (old new : List Node) (entry next : ℕ) → t ≡ LexerTerm.literal text → cs ≡ text → IsAdded R (λ w. w ≡ cs) old new entry next → IsAdded R (Matches G t) old new entry next
+  pub literal_term : {R : List WrittenRule} (t : LexerTerm) (text cs : List ℕ) (old new : List State) (entry next : ℕ) → t ≡ LexerTerm.literal text → cs ≡ text → IsAdded R (λ w. w ≡ cs) old new entry next → IsAdded R (Matches G t) old new entry next
   literal_term {R} t text cs old new entry next e same a =
       as_term t (LexerTerm.literal text) old new entry next e
       (added_as (λ w. w ≡ cs) (Matches G (LexerTerm.literal text)) old new entry next (λ w. let m = (forms.by_form G).literal text w in (λ h. m.1 (h ∙ same), λ h. m.0 h ∙ sym same)) a)
 
-  pub block_term : {R : List WrittenRule} (t : LexerTerm) (alts : LexerAlts) (old new : List Node) (entry next : ℕ) → t ≡ LexerTerm.block alts → IsAdded R (MatchesAlts G alts) old new entry next → IsAdded R (Matches G t) old new entry next
+  pub block_term : {R : List WrittenRule} (t : LexerTerm) (alts : LexerAlts) (old new : List State) (entry next : ℕ) → t ≡ LexerTerm.block alts → IsAdded R (MatchesAlts G alts) old new entry next → IsAdded R (Matches G t) old new entry next
   block_term {R} t alts old new entry next e a =
       as_term t (LexerTerm.block alts) old new entry next e
       (added_as (MatchesAlts G alts) (Matches G (LexerTerm.block alts)) old new entry next (λ w. let same = (forms.by_form G).block alts w in (same.1, same.0)) a)
 
-  pub opt_term : {R : List WrittenRule} (t u v : LexerTerm) (old mid new : List Node) (present entry next : ℕ) → t ≡ LexerTerm.opt u → v ≡ u → IsClosed old → next < length old → IsAdded R (Matches G v) old mid present next →
-      new ≡ mid ++ Node.Split present next ∷ [] → entry ≡ length mid → IsAdded R (Matches G t) old new entry next
+  pub opt_term : {R : List WrittenRule} (t u v : LexerTerm) (old mid new : List State) (present entry next : ℕ) → t ≡ LexerTerm.opt u → v ≡ u → IsClosed old → next < length old → IsAdded R (Matches G v) old mid present next →
+      new ≡ mid ++ State.Split present next ∷ [] → entry ≡ length mid → IsAdded R (Matches G t) old new entry next
   opt_term {R} t u v old mid new present entry next e same closed h a made n =
       as_term t (LexerTerm.opt u) old new entry next e
-      (added_to (Matches G (LexerTerm.opt u)) old (mid ++ Node.Split present next ∷ []) new (length mid) entry next made n
+      (added_to (Matches G (LexerTerm.opt u)) old (mid ++ State.Split present next ∷ []) new (length mid) entry next made n
       (added_opt G u old mid present next closed h (as_term u v old mid present next (sym same) a)))
 
   -- nothing of the sequence is there yet
-  pub seq_none : {R : List WrittenRule} (xs : List LexTerm) (i : ℕ) (old : List Node) (next : ℕ) → i ≡ length xs → IsClosed old → next < length old → IsAdded R (MatchesSeq G (lexer_seq (map lex_term (drop i xs)))) old old next next
+  pub seq_none : {R : List WrittenRule} (xs : List LexTerm) (i : ℕ) (old : List State) (next : ℕ) → i ≡ length xs → IsClosed old → next < length old → IsAdded R (MatchesSeq G (lexer_seq (map lex_term (drop i xs)))) old old next next
   seq_none {R} [] zero old next e closed h =
       added_as (λ w. w ≡ []) (MatchesSeq G LexerSeq.done) old old next next (λ w. let same = (forms.by_form G).done w in (same.1, same.0)) (added_nothing old next closed h)
   seq_none {R} [] (suc i) old next e closed h = absurd (omega (arith, e))
@@ -73,7 +73,7 @@ module _ (G : List LexerRule) where
   drop_at (y ∷ xs) (suc i) x h e = drop_at xs i x (omega arith) e
 
   -- one term more, in front of those that were added
-  pub seq_more : {R : List WrittenRule} (xs : List LexTerm) (i : ℕ) (x : LexTerm) (old mid new : List Node) (entry between next : ℕ) → i < length xs → slice_index_or xs i x ≡ x →
+  pub seq_more : {R : List WrittenRule} (xs : List LexTerm) (i : ℕ) (x : LexTerm) (old mid new : List State) (entry between next : ℕ) → i < length xs → slice_index_or xs i x ≡ x →
       IsAdded R (MatchesSeq G (lexer_seq (map lex_term (drop (suc i) xs)))) old mid between next → IsAdded R (Matches G (lex_term x)) mid new entry between →
       IsAdded R (MatchesSeq G (lexer_seq (map lex_term (drop i xs)))) old new entry next
   seq_more {R} xs i x old mid new entry between next h e b a =
@@ -94,12 +94,12 @@ module _ (G : List LexerRule) where
   alts_loop (u ∷ ss) (suc i) s h e l = inr (alts_loop ss i s (omega arith) e l)
 
   -- no alternative is there yet
-  pub alts_none : {R : List WrittenRule} (old new : List Node) (entry next : ℕ) → IsClosed old → next < length old → new ≡ old ++ Node.Never ∷ [] → entry ≡ length old → IsAdded R (MatchesAlts G LexerAlts.none) old new entry next
+  pub alts_none : {R : List WrittenRule} (old new : List State) (entry next : ℕ) → IsClosed old → next < length old → new ≡ old ++ State.Never ∷ [] → entry ≡ length old → IsAdded R (MatchesAlts G LexerAlts.none) old new entry next
   alts_none {R} old new entry next closed h e n =
-      added_to (MatchesAlts G LexerAlts.none) old (old ++ Node.Never ∷ []) new (length old) entry next e n
+      added_to (MatchesAlts G LexerAlts.none) old (old ++ State.Never ∷ []) new (length old) entry next e n
       (added_never (MatchesAlts G LexerAlts.none) old next (forms.by_form G).none closed (omega (arith, h)))
 
-  -- alternatives with one more behind them
+  -- alternatives with one more after them
   alts_snoc : (ss : List (List LexerTerm)) (s : List LexerTerm) (w : List ℕ) → MatchesAlts G (lexer_alts (ss ++ s ∷ [])) w ↔ (MatchesAlts G (lexer_alts ss) w ⊎ MatchesSeq G (lexer_seq s) w)
   alts_snoc [] s w =
       let same = (forms.by_form G).or (lexer_seq s) LexerAlts.none w in
@@ -136,18 +136,18 @@ module _ (G : List LexerRule) where
   take_at (y ∷ xs) zero x h e = ap (λ z. lex_terms z ∷ []) e
   take_at (y ∷ xs) (suc i) x h e = ap (λ l. lex_terms y ∷ l) (take_at xs i x (omega arith) e)
 
-  -- one alternative more, behind those that were added
-  pub alts_more : {R : List WrittenRule} (xs : List LexTerms) (i : ℕ) (x : LexTerms) (old mid last new : List Node) (first entry number next : ℕ) → i < length xs → slice_index_or xs i x ≡ x → 0 < length old →
+  -- one alternative more, after those that were added
+  pub alts_more : {R : List WrittenRule} (xs : List LexTerms) (i : ℕ) (x : LexTerms) (old mid last new : List State) (first entry number next : ℕ) → i < length xs → slice_index_or xs i x ≡ x → 0 < length old →
       IsAdded R (MatchesAlts G (lexer_alts (map lex_terms (take i xs)))) old mid entry next → IsAdded R (MatchesSeq G (lexer_seq (lex_terms x))) mid last first next →
-      new ≡ last ++ Node.Split first entry ∷ [] → number ≡ length last →
+      new ≡ last ++ State.Split first entry ∷ [] → number ≡ length last →
       IsAdded R (MatchesAlts G (lexer_alts (map lex_terms (take (suc i) xs)))) old new number next
   alts_more {R} xs i x old mid last new first entry number next h e some a b made n =
       let P : List (List LexerTerm) → Type 0 = λ l. IsAdded R (MatchesAlts G (lexer_alts l)) old new number next in
       let before = map lex_terms (take i xs) in
       let whole = MatchesAlts G (lexer_alts (before ++ lex_terms x ∷ [])) in
       subst P (sym (take_at xs i x h e))
-      (added_to (MatchesAlts G (lexer_alts (before ++ lex_terms x ∷ []))) old (last ++ Node.Split first entry ∷ []) new (length last) number next made n
-      (added_as (λ w. MatchesAlts G (lexer_alts before) w ⊎ MatchesSeq G (lexer_seq (lex_terms x)) w) (MatchesAlts G (lexer_alts (before ++ lex_terms x ∷ []))) old (last ++ Node.Split first entry ∷ []) (length last) next
+      (added_to (MatchesAlts G (lexer_alts (before ++ lex_terms x ∷ []))) old (last ++ State.Split first entry ∷ []) new (length last) number next made n
+      (added_as (λ w. MatchesAlts G (lexer_alts before) w ⊎ MatchesSeq G (lexer_seq (lex_terms x)) w) (MatchesAlts G (lexer_alts (before ++ lex_terms x ∷ []))) old (last ++ State.Split first entry ∷ []) (length last) next
       (λ w. let same = alts_snoc before (lex_terms x) w in (same.1, same.0))
       (added_or (MatchesAlts G (lexer_alts before)) (MatchesSeq G (lexer_seq (lex_terms x))) old mid last entry first next some a b)))
 
@@ -200,7 +200,7 @@ module _ (G : List LexerRule) where
   take_all (x ∷ xs) zero h = absurd (omega (arith, h))
   take_all (x ∷ xs) (suc i) h = ap (λ l. x ∷ l) (take_all xs i (omega arith))
 
-  pub alts_all : {R : List WrittenRule} (a : LexAlts) (i : ℕ) (old new : List Node) (entry next : ℕ) → length (out-LexAlts a).items.items ≤ i →
+  pub alts_all : {R : List WrittenRule} (a : LexAlts) (i : ℕ) (old new : List State) (entry next : ℕ) → length (out-LexAlts a).items.items ≤ i →
       IsAdded R (MatchesAlts G (lexer_alts (map lex_terms (take i (out-LexAlts a).items.items)))) old new entry next → IsAdded R (MatchesAlts G (lexer_alts (lex_alts a))) old new entry next
   alts_all {R} a i old new entry next h x =
       let P : List (List LexerTerm) → Type 0 = λ l. IsAdded R (MatchesAlts G (lexer_alts l)) old new entry next in

@@ -1,15 +1,17 @@
 -- What a lexer is made of.
 use Rattle.grammar_tree.specs.Written.{CheckedGrammar}
 use Rattle.lexer.specs.declared.rules.Rules.{Rules}
-use Rattle.lexer.specs.Alternatives.{IsProgram, IsProgramOf}
+use Rattle.lexer.specs.Alternatives.{IsNfa, IsNfaOf}
 use Rattle.lexer.specs.Candidates.{AreListed}
+use Rattle.lexer.specs.Gaps.{AreGapChars}
 
 -- each rule can be read, and each list has the candidates for its first character
 pub record IsRunnable (r : Rules) : Type 0 where
-  pub program : IsProgram r.nodes.items r.alternatives.items
-  pub listed : AreListed r.nodes.items r.alternatives.items r.by_first.items
+  pub nfa : IsNfa r.states.items r.alternatives.items
+  pub listed : AreListed r.states.items r.alternatives.items r.by_first.items
 
--- the rules are those of the grammar
+-- the rules are those of the grammar, and the characters those that are gap text by themselves
 pub record IsBuilt (c : CheckedGrammar) (r : Rules) : Type 0 where
-  pub of_grammar : IsProgramOf c.grammar r.nodes.items r.alternatives.items
+  pub of_grammar : IsNfaOf c.grammar r.states.items r.alternatives.items
   pub runnable : IsRunnable r
+  pub gaps : AreGapChars c.grammar r.gaps

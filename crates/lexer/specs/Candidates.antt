@@ -1,44 +1,44 @@
 -- Which alternatives have to be read, and what comes next by them.
-use Rattle.std.specs.Prelude.{◌≡◌, ◌≢◌, ◌<◌, ◌≤◌, ℕ, List, [], ◌∷◌, ◌++◌, Some, slice_get, length, map, encode_utf8_all, Vec}
+use Rattle.std.specs.Prelude.{◌≡◌, ◌≢◌, ◌↔◌, ◌<◌, ◌≤◌, ℕ, List, [], ◌∷◌, ◌++◌, Some, slice_get, length, map, encode_utf8_all, Vec}
 use Rattle.std.specs.List.{Contains}
-use Rattle.lexer.specs.declared.program.Node.{Node}
+use Rattle.lexer.specs.declared.nfa.State.{State}
 use Rattle.lexer.specs.declared.reading.Alternative.{Alternative}
 use Rattle.lexer.specs.declared.candidates.Beginning.{Beginning}
-use Rattle.lexer.specs.Program.{Reads}
-use Rattle.lexer.specs.Standing.{ReadsTo}
+use Rattle.lexer.specs.Nfa.{Reads}
+use Rattle.lexer.specs.StateSets.{ReadsTo}
 use Rattle.lexer.specs.Longest.{IsLongestLen}
 use Rattle.lexer.specs.Reading.{IsRead}
 use Rattle.lexer.specs.Alternatives.{HasAlternative}
 
 -- Some of the alternatives, with all that can read a text which begins with the character.
-pub record AreCandidates (P : List Node) (all some : List Alternative) (c : ℕ) : Type 0 where
+pub record AreCandidates (P : List State) (all some : List Alternative) (c : ℕ) : Type 0 where
   pub among : (a : Alternative) → Contains some a → Contains all a
   pub complete : (a : Alternative) (w : List ℕ) → Contains all a → Reads P a.start (c ∷ w) → Contains some a
 
--- Each text that is read from the start is read from one of these nodes after its first character.
-abbrev pub AreFirst : List Node → ℕ → List ℕ → Type 0
-AreFirst P start nodes = (c : ℕ) (w : List ℕ) → Reads P start (c ∷ w) → (n : ℕ) × (next : ℕ) × Contains nodes n × ReadsTo P n c next
+-- The texts that are read from the start are those of which one of these states reads the first character, and goes on at a state that reads the rest.
+abbrev pub AreFirst : List State → ℕ → List ℕ → Type 0
+AreFirst P start states = (c : ℕ) (w : List ℕ) → Reads P start (c ∷ w) ↔ ((n : ℕ) × (next : ℕ) × Contains states n × ReadsTo P n c next × Reads P next w)
 
--- the nodes are in the program, and are the first ones of the alternative
-pub record IsBeginning (P : List Node) (b : Beginning) : Type 0 where
-  pub inside : (n : ℕ) → Contains b.nodes.items n → n < length P
-  pub first : AreFirst P b.alternative.start b.nodes.items
+-- the states are in the NFA, and are the first ones of the alternative
+pub record IsBeginning (P : List State) (b : Beginning) : Type 0 where
+  pub inside : (n : ℕ) → Contains b.states.items n → n < length P
+  pub first : AreFirst P b.alternative.start b.states.items
 
 -- each alternative has its beginning, in their order
-pub record AreBeginnings (P : List Node) (all : List Alternative) (list : List Beginning) : Type 0 where
+pub record AreBeginnings (P : List State) (all : List Alternative) (list : List Beginning) : Type 0 where
   pub alternatives : map (λ (b : Beginning). b.alternative) list ≡ all
   pub each : (b : Beginning) → Contains list b → IsBeginning P b
 
--- each list has candidates for the character that is its place
-abbrev pub AreListed : {A : Type 0} → List Node → List Alternative → List (Vec Alternative A) → Type 0
+-- each list has candidates for the character that is its index
+abbrev pub AreListed : {A : Type 0} → List State → List Alternative → List (Vec Alternative A) → Type 0
 AreListed {A} P all lists = (c : ℕ) (list : Vec Alternative A) → slice_get lists c ≡ Some list → AreCandidates P all list.items c
 
 -- no alternative matches a beginning of at least one character
-abbrev pub HasNoNext : List Node → List Alternative → List ℕ → Type 0
+abbrev pub HasNoNext : List State → List Alternative → List ℕ → Type 0
 HasNoNext P all text = (k : ℕ) (front back : List ℕ) → text ≡ front ++ back → front ≢ [] → ¬ HasAlternative P all k front
 
 -- The text begins with a match of the kind, which has so many bytes. No alternative has a longer one, and none of a lesser kind has the same.
-pub record ComesNext (P : List Node) (all : List Alternative) (text : List ℕ) (kind len : ℕ) : Type 0 where
+pub record ComesNext (P : List State) (all : List Alternative) (text : List ℕ) (kind len : ℕ) : Type 0 where
   pub front : List ℕ
   pub back : List ℕ
   pub cut : text ≡ front ++ back
@@ -48,7 +48,7 @@ pub record ComesNext (P : List Node) (all : List Alternative) (text : List ℕ) 
   pub least : (other : ℕ) → HasAlternative P all other front → kind ≤ other
   pub bytes : len ≡ length (encode_utf8_all front)
 
--- The best match of the alternatives: the longest one, and that of the least kind on a tie. The length 0 stands for none.
-pub record IsBestOf (P : List Node) (list : List Alternative) (text : List ℕ) (kind len : ℕ) : Type 0 where
+-- The best match of the alternatives: the longest one, and that of the least kind on a tie. The length 0 means none.
+pub record IsBestOf (P : List State) (list : List Alternative) (text : List ℕ) (kind len : ℕ) : Type 0 where
   pub each : (a : Alternative) → Contains list a → (n : ℕ) × IsLongestLen (IsRead P a) text n × (n ≤ len) × (n ≡ len → 0 < len → kind ≤ a.kind)
   pub some : 0 < len → (a : Alternative) × Contains list a × (a.kind ≡ kind) × IsLongestLen (IsRead P a) text len

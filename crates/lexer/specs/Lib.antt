@@ -1,13 +1,14 @@
-pub mod Program
+pub mod Order
+pub mod Nfa
 pub mod Names
 pub mod Compile
-pub mod Standing
+pub mod StateSets
 pub mod Longest
 pub mod Dead
 pub mod Reading
 pub mod Alternatives
 pub mod Candidates
 pub mod Tokens
+pub mod Gaps
 pub mod FaultText
 pub mod Built
-pub mod Lexer

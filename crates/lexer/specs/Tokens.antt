@@ -1,5 +1,5 @@
 -- The tokens of a text, and where reading it stops.
-use Rattle.std.specs.Prelude.{◌≡◌, ◌↔◌, ℕ, Bool, true, List, [], ◌∷◌, Some, slice_get, ⊤}
+use Rattle.std.specs.Prelude.{◌≡◌, ℕ, true, List, [], ◌∷◌, ⊤}
 use Rattle.grammar_tree.specs.Written.{WrittenGrammar}
 use Rattle.grammar_tree.specs.Lexes.{Lexes, Piece, PlacedToken, StopsAt, is_gap_kind, placed_tokens}
 use Rattle.lexer.specs.declared.token.Token.{Token}
@@ -12,15 +12,11 @@ token_of t = record { kind = t.kind; start = t.start; end = t.end }
 abbrev pub HasTokens : WrittenGrammar → List ℕ → List PlacedToken → Type 0
 HasTokens G text tokens = (pieces : List Piece) × Lexes G text pieces × (tokens ≡ placed_tokens G 0 pieces)
 
--- the fault tells the offset at which the reading stops
-abbrev pub TellsStop : WrittenGrammar → List ℕ → LexFault → Type 0
-TellsStop G text (LexFault.NoToken offset) = StopsAt G text offset
-TellsStop G text LexFault.Memory = ⊤
+-- the fault reports the offset at which the reading stops
+abbrev pub ReportsStop : WrittenGrammar → List ℕ → LexFault → Type 0
+ReportsStop G text (LexFault.NoToken offset) = StopsAt G text offset
+ReportsStop G text LexFault.Memory = ⊤
 
 -- the text of this one character is one piece of a gap kind
 abbrev pub IsGapText : WrittenGrammar → ℕ → Type 0
 IsGapText G c = (kind : ℕ) × Lexes G (c ∷ []) (record { kind = kind; text = c ∷ [] } ∷ []) × (is_gap_kind G kind ≡ true)
-
--- each flag says whether the text of the character that is its index is one piece of a gap kind
-abbrev pub AreGapFlags : WrittenGrammar → List Bool → Type 0
-AreGapFlags G flags = (c : ℕ) (flag : Bool) → slice_get flags c ≡ Some flag → (flag ≡ true) ↔ IsGapText G c

@@ -8,11 +8,11 @@ ghost use Rattle.grammar_tree.specs.Lexes.{SourceMatches};
 ghost use Rattle.grammar_tree.specs.Matches.{MatchesAlternative, MatchesRule};
 ghost use Rattle.grammar_tree.specs.View.{lex_alts, lex_terms};
 ghost use Rattle.grammar_tree.specs.Written.{WrittenGrammar, lexer_alts, lexer_seq};
-ghost use Rattle.lexer.specs.Alternatives.{HasAlternative, IsProgram, IsProgramOf};
+ghost use Rattle.lexer.specs.Alternatives.{HasAlternative, IsNfa, IsNfaOf, KindsAreUpTo};
 
 use crate::compile::{Budget, add_literal, compile};
 use crate::names::NamedRules;
-use crate::program::Node;
+use crate::nfa::State;
 use crate::reading::Alternative;
 use faults::Memory;
 use grammar_tree::{Checked, Kind, KindSource, LexAlts, LexTerms, Text};
@@ -20,20 +20,21 @@ use std::alloc::Global;
 
 /// Adds an alternative of a lexer rule, whose kind has this number.
 fn add_alternative(
-    nodes: &mut Vec<Node>,
+    states: &mut Vec<State>,
     alternatives: &mut Vec<Alternative>,
     names: &NamedRules,
     budget: &mut Budget,
     kind: u32,
     terms: &LexTerms,
 ) -> Result<(), Memory>
-    requires program { IsProgram nodes.old.items alternatives.old.items }
+    requires nfa { IsNfa states.old.items alternatives.old.items }
     requires no_loop { ¬ LexerHasEmptyLoopSeq (lexer_rules (map rule_of names.now.rules.now)) (lexer_seq (lex_terms terms.now)) }
-    ensures program { OnOk result (IsProgram nodes.new.items alternatives.new.items) }
-    ensures added { OnOk result ((k : ℕ) (w : List ℕ) → HasAlternative nodes.new.items alternatives.new.items k w
-        ↔ (HasAlternative nodes.old.items alternatives.old.items k w ⊎ ((k ≡ kind) × MatchesAlternative (lexer_rules (map rule_of names.now.rules.now)) (lexer_seq (lex_terms terms.now)) w))) }
+    ensures nfa { OnOk result (IsNfa states.new.items alternatives.new.items) }
+    ensures added { OnOk result ((k : ℕ) (w : List ℕ) → HasAlternative states.new.items alternatives.new.items k w
+        ↔ (HasAlternative states.old.items alternatives.old.items k w ⊎ ((k ≡ kind) × MatchesAlternative (lexer_rules (map rule_of names.now.rules.now)) (lexer_seq (lex_terms terms.now)) w))) }
+    ensures order { KindsAreUpTo alternatives.old.items kind → OnOk result (KindsAreUpTo alternatives.new.items kind) }
 {
-    let start = compile(nodes, names, budget, terms, 0)?;
+    let start = compile(states, names, budget, terms, 0)?;
     let short = terms.is_short();
     alternatives.push(Alternative { kind, short, start })?;
     Ok(())
@@ -41,38 +42,40 @@ fn add_alternative(
 
 /// Adds the alternatives of a lexer rule, whose kind has this number.
 fn add_rule(
-    nodes: &mut Vec<Node>,
+    states: &mut Vec<State>,
     alternatives: &mut Vec<Alternative>,
     names: &NamedRules,
     budget: &mut Budget,
     kind: u32,
     alts: &LexAlts,
 ) -> Result<(), Memory>
-    requires program { IsProgram nodes.old.items alternatives.old.items }
+    requires nfa { IsNfa states.old.items alternatives.old.items }
     requires no_loop { ¬ LexerHasEmptyLoopAlts (lexer_rules (map rule_of names.now.rules.now)) (lexer_alts (lex_alts alts.now)) }
-    ensures program { OnOk result (IsProgram nodes.new.items alternatives.new.items) }
-    ensures added { OnOk result ((k : ℕ) (w : List ℕ) → HasAlternative nodes.new.items alternatives.new.items k w
-        ↔ (HasAlternative nodes.old.items alternatives.old.items k w ⊎ ((k ≡ kind) × MatchesRule (lexer_rules (map rule_of names.now.rules.now)) (lexer_alts (lex_alts alts.now)) w))) }
+    ensures nfa { OnOk result (IsNfa states.new.items alternatives.new.items) }
+    ensures added { OnOk result ((k : ℕ) (w : List ℕ) → HasAlternative states.new.items alternatives.new.items k w
+        ↔ (HasAlternative states.old.items alternatives.old.items k w ⊎ ((k ≡ kind) × MatchesRule (lexer_rules (map rule_of names.now.rules.now)) (lexer_alts (lex_alts alts.now)) w))) }
+    ensures order { KindsAreUpTo alternatives.old.items kind → OnOk result (KindsAreUpTo alternatives.new.items kind) }
 {
     for i in 0..alts.items.len() {
-        add_alternative(nodes, alternatives, names, budget, kind, &alts.items[i])?;
+        add_alternative(states, alternatives, names, budget, kind, &alts.items[i])?;
     }
     Ok(())
 }
 
 /// Adds the alternative of an implicit token, whose kind has this number.
 fn add_implicit(
-    nodes: &mut Vec<Node>,
+    states: &mut Vec<State>,
     alternatives: &mut Vec<Alternative>,
     kind: u32,
     text: &Text,
 ) -> Result<(), Memory>
-    requires program { IsProgram nodes.old.items alternatives.old.items }
-    ensures program { OnOk result (IsProgram nodes.new.items alternatives.new.items) }
-    ensures added { OnOk result ((k : ℕ) (w : List ℕ) → HasAlternative nodes.new.items alternatives.new.items k w
-        ↔ (HasAlternative nodes.old.items alternatives.old.items k w ⊎ ((k ≡ kind) × (w ≡ text.now)))) }
+    requires nfa { IsNfa states.old.items alternatives.old.items }
+    ensures nfa { OnOk result (IsNfa states.new.items alternatives.new.items) }
+    ensures added { OnOk result ((k : ℕ) (w : List ℕ) → HasAlternative states.new.items alternatives.new.items k w
+        ↔ (HasAlternative states.old.items alternatives.old.items k w ⊎ ((k ≡ kind) × (w ≡ text.now)))) }
+    ensures order { KindsAreUpTo alternatives.old.items kind → OnOk result (KindsAreUpTo alternatives.new.items kind) }
 {
-    let start = add_literal(nodes, text.as_str(), 0)?;
+    let start = add_literal(states, text.as_str(), 0)?;
     alternatives.push(Alternative {
         kind,
         short: false,
@@ -83,26 +86,27 @@ fn add_implicit(
 
 /// Adds the alternatives of a kind, which has this number.
 fn add_kind(
-    nodes: &mut Vec<Node>,
+    states: &mut Vec<State>,
     alternatives: &mut Vec<Alternative>,
     names: &NamedRules,
     budget: &mut Budget,
     number: u32,
     kind: &Kind,
 ) -> Result<(), Memory>
-    requires program { IsProgram nodes.old.items alternatives.old.items }
-    ensures program { OnOk result (IsProgram nodes.new.items alternatives.new.items) }
-    ensures added { (grammar : WrittenGrammar) → grammar.rules ≡ map rule_of names.now.rules.now → OnOk result ((k : ℕ) (w : List ℕ) → HasAlternative nodes.new.items alternatives.new.items k w
-        ↔ (HasAlternative nodes.old.items alternatives.old.items k w ⊎ ((k ≡ number) × SourceMatches grammar (source_of kind.now.source) kind.now.name w))) }
+    requires nfa { IsNfa states.old.items alternatives.old.items }
+    ensures nfa { OnOk result (IsNfa states.new.items alternatives.new.items) }
+    ensures added { (grammar : WrittenGrammar) → grammar.rules ≡ map rule_of names.now.rules.now → OnOk result ((k : ℕ) (w : List ℕ) → HasAlternative states.new.items alternatives.new.items k w
+        ↔ (HasAlternative states.old.items alternatives.old.items k w ⊎ ((k ≡ number) × SourceMatches grammar (source_of kind.now.source) kind.now.name w))) }
+    ensures order { KindsAreUpTo alternatives.old.items number → OnOk result (KindsAreUpTo alternatives.new.items number) }
 {
     match kind.source {
         KindSource::Implicit => {
-            add_implicit(nodes, alternatives, number, &kind.name)?;
+            add_implicit(states, alternatives, number, &kind.name)?;
             Ok(())
         }
         KindSource::Written(index) => match names.alternatives(index as usize) {
             Some(alts) => {
-                add_rule(nodes, alternatives, names, budget, number, alts)?;
+                add_rule(states, alternatives, names, budget, number, alts)?;
                 Ok(())
             }
             None => Ok(()),
@@ -114,13 +118,13 @@ fn add_kind(
 /// Adds the alternatives of all kinds of the grammar.
 pub(crate) fn add_kinds(
     alloc: Global,
-    nodes: &mut Vec<Node>,
+    states: &mut Vec<State>,
     alternatives: &mut Vec<Alternative>,
     checked: &Checked,
 ) -> Result<(), Memory>
-    requires nodes { nodes.old.items ≡ Node.Never ∷ [] }
+    requires states { states.old.items ≡ State.Never ∷ [] }
     requires none { alternatives.old.items ≡ [] }
-    ensures { OnOk result (IsProgramOf checked.now.grammar nodes.new.items alternatives.new.items) }
+    ensures { OnOk result (IsNfaOf checked.now.grammar states.new.items alternatives.new.items) }
 {
     checked.is_checked();
     let names = NamedRules::new(alloc, &checked.grammar().rules)?;
@@ -128,7 +132,7 @@ pub(crate) fn add_kinds(
     let kinds = checked.kinds();
     for i in 0..kinds.len() {
         add_kind(
-            nodes,
+            states,
             alternatives,
             &names,
             &mut budget,

@@ -2,14 +2,14 @@
 
 ghost use Rattle.std.specs.Prelude.{◌≡◌, ◌<◌, ℕ, List, false, IfOk, OnOk, length, map};
 ghost use Rattle.std.specs.List.{Contains};
-ghost use Rattle.lexer.specs.Alternatives.{IsProgram};
+ghost use Rattle.lexer.specs.Alternatives.{IsNfa};
 ghost use Rattle.lexer.specs.declared.candidates.Beginning.{Beginning};
-ghost use Rattle.lexer.specs.declared.program.Node.{Node};
+ghost use Rattle.lexer.specs.declared.nfa.State.{State};
 ghost use Rattle.lexer.specs.Candidates.{AreBeginnings, AreCandidates, AreListed, IsBeginning};
 ghost use Rattle.lexer.specs.Reading.{IsReady};
-ghost use Rattle.lexer.specs.Standing.{ReadsTo};
+ghost use Rattle.lexer.specs.StateSets.{ReadsTo};
 
-use crate::program::Node;
+use crate::nfa::State;
 use crate::reading::{Alternative, Reading};
 use faults::Memory;
 use std::alloc::Global;
@@ -18,51 +18,54 @@ use std::alloc::Global;
 /// is none, and all alternatives are read for each text.
 const MOST_LISTED: usize = 1_000_000;
 
-/// An alternative, and the nodes of which one reads the first character of each text that it
+/// An alternative, and the states of which one reads the first character of each text that it
 /// matches.
 #[derive(Drop)]
 pub(crate) struct Beginning {
     pub(crate) alternative: Alternative,
-    pub(crate) nodes: Vec<usize>,
+    pub(crate) states: Vec<usize>,
 }
 
 /// How each of the alternatives begins.
-fn beginnings(
+pub(crate) fn beginnings(
     alloc: Global,
-    program: &[Node],
+    nfa: &[State],
     alternatives: &[Alternative],
 ) -> Result<Vec<Beginning>, Memory>
-    requires { IsProgram program.now alternatives.now }
-    ensures { IfOk result (λ list. AreBeginnings program.now alternatives.now list.items) }
+    requires { IsNfa nfa.now alternatives.now }
+    ensures { IfOk result (λ list. AreBeginnings nfa.now alternatives.now list.items) }
 {
-    let mut reading = Reading::new(alloc, program.len())?;
+    let mut reading = Reading::new(alloc, nfa.len())?;
     let mut list = Vec::new(alloc);
     for alternative in alternatives {
         let alternative = *alternative;
-        let nodes = reading.first_nodes(alloc, program, alternative.start)?;
-        list.push(Beginning { alternative, nodes })?;
+        let states = reading.first_states(alloc, nfa, alternative.start)?;
+        list.push(Beginning {
+            alternative,
+            states,
+        })?;
     }
     Ok(list)
 }
 
-/// Whether the node reads the character.
-fn reads(program: &[Node], node: usize, c: char) -> bool
-    requires inside { node < length program.now }
-    ensures not { result ≡ false → (next : ℕ) → ¬ ReadsTo program.now node c next }
+/// Whether the state reads the character.
+fn reads(nfa: &[State], state: usize, c: char) -> bool
+    requires inside { state < length nfa.now }
+    ensures not { result ≡ false → (next : ℕ) → ¬ ReadsTo nfa.now state c next }
 {
-    match program[node].after(c) {
+    match nfa[state].after(c) {
         Some(_) => true,
         None => false,
     }
 }
 
-/// Whether one of the nodes reads the character.
-fn is_read(program: &[Node], nodes: &[usize], c: char) -> bool
-    requires inside { (n : ℕ) → Contains nodes.now n → n < length program.now }
-    ensures not { result ≡ false → (n next : ℕ) → Contains nodes.now n → ¬ ReadsTo program.now n c next }
+/// Whether one of the states reads the character.
+fn is_read(nfa: &[State], states: &[usize], c: char) -> bool
+    requires inside { (n : ℕ) → Contains states.now n → n < length nfa.now }
+    ensures not { result ≡ false → (n next : ℕ) → Contains states.now n → ¬ ReadsTo nfa.now n c next }
 {
-    for node in nodes {
-        if reads(program, *node, c) {
+    for state in states {
+        if reads(nfa, *state, c) {
             return true;
         }
     }
@@ -72,16 +75,16 @@ fn is_read(program: &[Node], nodes: &[usize], c: char) -> bool
 /// The alternatives that can match a text which begins with the character.
 fn beginning_with(
     alloc: Global,
-    program: &[Node],
+    nfa: &[State],
     beginnings: &[Beginning],
     c: char,
 ) -> Result<Vec<Alternative>, Memory>
-    requires { (b : Beginning) → Contains beginnings.now b → IsBeginning program.now b }
-    ensures { IfOk result (λ list. AreCandidates program.now (map (λ (b : Beginning). b.alternative) beginnings.now) list.items c) }
+    requires { (b : Beginning) → Contains beginnings.now b → IsBeginning nfa.now b }
+    ensures { IfOk result (λ list. AreCandidates nfa.now (map (λ (b : Beginning). b.alternative) beginnings.now) list.items c) }
 {
     let mut list = Vec::new(alloc);
     for beginning in beginnings {
-        if is_read(program, &beginning.nodes, c) {
+        if is_read(nfa, &beginning.states, c) {
             list.push(beginning.alternative)?;
         }
     }
@@ -92,21 +95,20 @@ fn beginning_with(
 /// these lists would be too long.
 pub(crate) fn by_first_character(
     alloc: Global,
-    program: &[Node],
-    alternatives: &[Alternative],
+    nfa: &[State],
+    beginnings: &[Beginning],
 ) -> Result<Vec<Vec<Alternative>>, Memory>
-    requires { IsProgram program.now alternatives.now }
-    ensures { IfOk result (λ lists. AreListed program.now alternatives.now lists.items) }
+    requires { (b : Beginning) → Contains beginnings.now b → IsBeginning nfa.now b }
+    ensures { IfOk result (λ lists. AreListed nfa.now (map (λ (b : Beginning). b.alternative) beginnings.now) lists.items) }
 {
-    let beginnings = beginnings(alloc, program, alternatives)?;
     let mut lists = Vec::new(alloc);
-    let mut listed_left = MOST_LISTED;
+    let mut entries_left = MOST_LISTED;
     for c in 0..128u8 {
-        let list = beginning_with(alloc, program, &beginnings, c as char)?;
-        if list.len() > listed_left {
+        let list = beginning_with(alloc, nfa, beginnings, c as char)?;
+        if list.len() > entries_left {
             return Ok(Vec::new(alloc));
         }
-        listed_left -= list.len();
+        entries_left -= list.len();
         lists.push(list)?;
     }
     Ok(lists)
@@ -119,7 +121,7 @@ pub(crate) fn candidates<'a>(
     alternatives: &'a [Alternative],
     c: char,
 ) -> &'a [Alternative]
-    ensures { (P : List Node) → AreListed P alternatives.now lists.now → AreCandidates P alternatives.now result.now c }
+    ensures { (P : List State) → AreListed P alternatives.now lists.now → AreCandidates P alternatives.now result.now c }
 {
     let at = c as usize;
     if at >= lists.len() {

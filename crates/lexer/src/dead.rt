@@ -1,4 +1,4 @@
-//! Nodes from which nothing is read any more.
+//! States from which nothing is read any more.
 //!
 //! A text such as `/* /* /* ..`, in which many tokens begin that never end, is read in time linear
 //! in its length, since what a reading found out is kept for those that come after it: Thomas Reps,
@@ -11,49 +11,49 @@ use faults::Memory;
 use std::alloc::Global;
 use std::collections::BTreeSet;
 
-/// So many nodes are kept at most. It bounds the memory, and no result depends on it.
+/// So many states are kept at most. It bounds the memory, and no result depends on it.
 const MOST_KEPT: usize = 1_048_576;
 
-/// A node, at the position at which so many bytes of the text remain.
+/// A state, at the position at which so many bytes of the text remain.
 #[derive(Clone, Copy)]
-pub(crate) struct NodeAt {
+pub(crate) struct StateAt {
     pub(crate) remaining: usize,
-    pub(crate) node: usize,
+    pub(crate) state: usize,
 }
 
-/// Nodes at positions of a text, from which nothing is read within the rest of the text.
+/// States at positions of a text, from which nothing is read within the rest of the text.
 #[derive(Drop)]
-pub(crate) struct DeadNodes {
-    /// How many bytes of the text remain, and the number of the node.
+pub(crate) struct DeadStates {
+    /// How many bytes of the text remain, and the number of the state.
     pairs: BTreeSet<(usize, usize)>,
 }
 
-impl DeadNodes {
-    /// No node is known to be dead.
-    pub(crate) fn new(alloc: Global) -> DeadNodes
-        ensures { (remaining node : ℕ) → ¬ HasDead result remaining node }
+impl DeadStates {
+    /// No state is known to be dead.
+    pub(crate) fn new(alloc: Global) -> DeadStates
+        ensures { (remaining state : ℕ) → ¬ HasDead result remaining state }
     {
-        DeadNodes {
+        DeadStates {
             pairs: BTreeSet::new(alloc),
         }
     }
 
-    /// Whether it is known that nothing is read from the node where so many bytes remain.
-    pub(crate) fn has(&self, remaining: usize, node: usize) -> bool
-        ensures { IsTrue result ↔ HasDead self.now remaining node }
+    /// Whether it is known that nothing is read from the state where so many bytes remain.
+    pub(crate) fn has(&self, remaining: usize, state: usize) -> bool
+        ensures { IsTrue result ↔ HasDead self.now remaining state }
     {
-        self.pairs.contains(&(remaining, node))
+        self.pairs.contains(&(remaining, state))
     }
 
-    /// Keeps that nothing is read from the node there, unless so many are kept already.
-    pub(crate) fn add(&mut self, dead: NodeAt) -> Result<(), Memory>
+    /// Keeps that nothing is read from the state there, unless so many are kept already.
+    pub(crate) fn add(&mut self, dead: StateAt) -> Result<(), Memory>
         ensures kept { OnOk result ((r n : ℕ) → HasDead self.old r n → HasDead self.new r n) }
-        ensures added { OnOk result ((r n : ℕ) → HasDead self.new r n → HasDead self.old r n ⊎ ((r ≡ dead.remaining) × (n ≡ dead.node))) }
+        ensures added { OnOk result ((r n : ℕ) → HasDead self.new r n → HasDead self.old r n ⊎ ((r ≡ dead.remaining) × (n ≡ dead.state))) }
     {
         if self.pairs.len() >= MOST_KEPT {
             return Ok(());
         }
-        self.pairs.insert((dead.remaining, dead.node))?;
+        self.pairs.insert((dead.remaining, dead.state))?;
         Ok(())
     }
 }

@@ -3,25 +3,28 @@
 //! Begin with [`Lexer::build`] and [`Lexer::lex`]. Read `Lexes` in `grammar_tree/specs/Lexes.antt`
 //! first, then `HasTokens` in `specs/Tokens.antt`.
 //!
-//! [`Lexer::build`] makes of each alternative of each kind the nodes of an automaton (Thompson 1968;
-//! `compile`), which is read one character after another from the set of nodes that reading has come
-//! to (`live`, `reading`). What comes next in a text is the longest match of the alternatives that
+//! [`Lexer::build`] makes of each alternative of each kind the states of an NFA (Thompson 1968; `nfa`,
+//! `compile`), which is read one character after another from the set of states that it has reached
+//! (`state_set`, `reading`). What comes next in a text is the longest match of the alternatives that
 //! can begin with its first character (`candidates`, `pieces`), and the text is cut so from its
-//! beginning on (`tokens`). Where a reading went on after its last match and failed, its nodes are
-//! kept as dead (`dead`; Reps 1998). What the nodes mean is defined in `specs/` of this crate.
+//! beginning on (`tokens`). Where a reading went on after its last match and failed, its states are
+//! kept as dead (`dead`; Reps 1998). Which characters are gap text by themselves is found when the
+//! lexer is built (`empty`, `gaps`). What the states mean is defined in `specs/` of this crate.
 #![tactic(auto)]
 
 mod alternatives;
 mod candidates;
 mod compile;
 mod dead;
+mod empty;
+mod gaps;
 mod lexer;
-mod live;
 mod names;
+mod nfa;
 mod pieces;
-mod program;
 mod reading;
 mod rules;
+mod state_set;
 mod token;
 mod tokens;
 

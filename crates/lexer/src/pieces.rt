@@ -4,19 +4,19 @@ ghost use Rattle.std.specs.Prelude.{◌≡◌, ◌⊎◌, ◌<◌, ◌≤◌, �
 ghost use Rattle.std.specs.List.{Contains};
 ghost use Rattle.std.specs.Str.{chars};
 ghost use Rattle.lexer.specs.declared.reading.Alternative.{Alternative};
-ghost use Rattle.lexer.specs.Alternatives.{IsProgram};
+ghost use Rattle.lexer.specs.Alternatives.{IsNfa};
 ghost use Rattle.lexer.specs.Candidates.{AreListed, ComesNext, HasNoNext, IsBestOf};
 ghost use Rattle.lexer.specs.Dead.{AreDead, StayDead};
-ghost use Rattle.lexer.specs.Program.{IsClosed};
+ghost use Rattle.lexer.specs.Nfa.{IsClosed};
 ghost use Rattle.lexer.specs.Reading.{IsReady};
 
 use crate::candidates::candidates;
-use crate::program::Node;
+use crate::nfa::State;
 use crate::reading::{Alternative, Reading};
 use faults::Memory;
 
 /// A match at the beginning of a text: the number of its kind, and its length in bytes. The length
-/// 0 stands for none.
+/// 0 means none.
 #[derive(Clone, Copy)]
 pub(crate) struct Match {
     pub(crate) kind: u32,
@@ -40,23 +40,23 @@ fn better(best: Match, other: Match) -> Match
 
 /// The best match of the alternatives.
 fn best_match(
-    program: &[Node],
+    nfa: &[State],
     alternatives: &[Alternative],
     reading: &mut Reading,
     text: &str,
 ) -> Result<Match, Memory>
-    requires program { IsClosed program.now }
-    requires inside { (a : Alternative) → Contains alternatives.now a → a.start < length program.now }
-    requires ready { IsReady (length program.now) reading.old }
-    requires dead { AreDead program.now text.now reading.old.dead }
-    ensures ready { OnOk result (IsReady (length program.now) reading.new) }
-    ensures dead { OnOk result (StayDead program.now text.now reading.old.dead reading.new.dead) }
-    ensures best { IfOk result (λ m. IsBestOf program.now alternatives.now (chars text.now) m.kind m.len) }
+    requires nfa { IsClosed nfa.now }
+    requires inside { (a : Alternative) → Contains alternatives.now a → a.start < length nfa.now }
+    requires ready { IsReady (length nfa.now) reading.old }
+    requires dead { AreDead nfa.now text.now reading.old.dead }
+    ensures ready { OnOk result (IsReady (length nfa.now) reading.new) }
+    ensures dead { OnOk result (StayDead nfa.now text.now reading.old.dead reading.new.dead) }
+    ensures best { IfOk result (λ m. IsBestOf nfa.now alternatives.now (chars text.now) m.kind m.len) }
 {
     let mut best = Match { kind: 0, len: 0 };
     for alternative in alternatives {
         let alternative = *alternative;
-        let len = reading.longest(program, alternative, text)?;
+        let len = reading.longest(nfa, alternative, text)?;
         let other = Match {
             kind: alternative.kind,
             len,
@@ -68,25 +68,25 @@ fn best_match(
 
 /// What comes next in the text. None where no alternative matches at least one character.
 pub(crate) fn next_match(
-    program: &[Node],
+    nfa: &[State],
     alternatives: &[Alternative],
     lists: &[Vec<Alternative>],
     reading: &mut Reading,
     text: &str,
 ) -> Result<Option<Match>, Memory>
-    requires program { IsProgram program.now alternatives.now }
-    requires listed { AreListed program.now alternatives.now lists.now }
-    requires ready { IsReady (length program.now) reading.old }
-    requires dead { AreDead program.now text.now reading.old.dead }
-    ensures ready { OnOk result (IsReady (length program.now) reading.new) }
-    ensures dead { OnOk result (StayDead program.now text.now reading.old.dead reading.new.dead) }
-    ensures next { IfOk result (λ found. MatchOption found (HasNoNext program.now alternatives.now (chars text.now)) (λ m. ComesNext program.now alternatives.now (chars text.now) m.kind m.len)) }
+    requires nfa { IsNfa nfa.now alternatives.now }
+    requires listed { AreListed nfa.now alternatives.now lists.now }
+    requires ready { IsReady (length nfa.now) reading.old }
+    requires dead { AreDead nfa.now text.now reading.old.dead }
+    ensures ready { OnOk result (IsReady (length nfa.now) reading.new) }
+    ensures dead { OnOk result (StayDead nfa.now text.now reading.old.dead reading.new.dead) }
+    ensures next { IfOk result (λ found. MatchOption found (HasNoNext nfa.now alternatives.now (chars text.now)) (λ m. ComesNext nfa.now alternatives.now (chars text.now) m.kind m.len)) }
 {
     let Some(c) = text.chars().next() else {
         return Ok(None);
     };
     let list = candidates(lists, alternatives, c);
-    let best = best_match(program, list, reading, text)?;
+    let best = best_match(nfa, list, reading, text)?;
     if best.len == 0 {
         return Ok(None);
     }

@@ -3,21 +3,21 @@
 ghost use Rattle.std.specs.Prelude.{◌≡◌, ◌⊎◌, ◌↔◌, ◌<◌, ◌∷◌, [], ℕ, List, true, false, IfOk, OnOk, length, slice_index_or};
 ghost use Rattle.std.specs.List.{Contains};
 ghost use Rattle.std.specs.Str.{chars};
-ghost use Rattle.lexer.specs.declared.dead.NodeAt.{NodeAt};
+ghost use Rattle.lexer.specs.declared.dead.StateAt.{StateAt};
 ghost use Rattle.lexer.specs.Candidates.{AreFirst};
-ghost use Rattle.lexer.specs.Dead.{AreDead, EndsWith, HasDead, IsDead, StayDead, node_at};
+ghost use Rattle.lexer.specs.Dead.{AreDead, EndsWith, HasDead, IsDead, StayDead, state_at};
 ghost use Rattle.lexer.specs.Longest.{IsLongestLen};
-ghost use Rattle.lexer.specs.Program.{IsClosed, Reads};
+ghost use Rattle.lexer.specs.Nfa.{IsClosed, Reads};
 ghost use Rattle.lexer.specs.Reading.{IsRead, IsReady};
-ghost use Rattle.lexer.specs.Standing.{IsFollowed, ReadsFrom};
+ghost use Rattle.lexer.specs.StateSets.{IsFollowed, ReadsFrom};
 
-use crate::dead::{DeadNodes, NodeAt};
-use crate::live::Live;
-use crate::program::Node;
+use crate::dead::{DeadStates, StateAt};
+use crate::nfa::State;
+use crate::state_set::StateSet;
 use faults::Memory;
 use std::alloc::Global;
 
-/// An alternative of a kind: the number of its kind, whether it is non-greedy, and the node at
+/// An alternative of a kind: the number of its kind, whether it is non-greedy, and the state at
 /// which it begins.
 #[derive(Clone, Copy)]
 pub(crate) struct Alternative {
@@ -26,7 +26,7 @@ pub(crate) struct Alternative {
     pub(crate) start: usize,
 }
 
-/// The nodes that are kept as dead are those at the first position in each so many bytes, counted
+/// The states that are kept as dead are those at the first position in each so many bytes, counted
 /// from the end of the text. So a reading ends at most so many bytes after the position at which it
 /// could have.
 const SPACING: usize = 16;
@@ -36,139 +36,139 @@ fn is_checkpoint(before: usize, remaining: usize) -> bool {
     before / SPACING != remaining / SPACING
 }
 
-/// What reading takes: the nodes at which it stands before a character, and those behind it.
+/// What reading takes: the states that it has reached before a character, and those after it.
 #[derive(Drop)]
 pub(crate) struct Reading {
-    pub(crate) live: Live,
-    pub(crate) next: Live,
+    pub(crate) current: StateSet,
+    pub(crate) next: StateSet,
 
-    /// The nodes that were live at checkpoints since the last match.
-    pub(crate) trace: Vec<NodeAt>,
+    /// The states that were current at checkpoints since the last match.
+    pub(crate) trace: Vec<StateAt>,
 
-    /// Nodes from which nothing is read within the text, as earlier readings found out.
-    pub(crate) dead: DeadNodes,
+    /// States from which nothing is read within the text, as earlier readings found out.
+    pub(crate) dead: DeadStates,
 }
 
 impl Reading {
-    /// For a program with so many nodes.
+    /// For an NFA with so many states.
     pub(crate) fn new(alloc: Global, size: usize) -> Result<Reading, Memory>
         ensures ready { IfOk result (λ reading. IsReady size reading) }
         ensures none { IfOk result (λ reading. (r n : ℕ) → ¬ HasDead reading.dead r n) }
     {
-        let live = Live::new(alloc, size)?;
-        let next = Live::new(alloc, size)?;
+        let current = StateSet::new(alloc, size)?;
+        let next = StateSet::new(alloc, size)?;
         Ok(Reading {
-            live,
+            current,
             next,
             trace: Vec::new(alloc),
-            dead: DeadNodes::new(alloc),
+            dead: DeadStates::new(alloc),
         })
     }
 
     /// Begins with another text, of which nothing is known.
     pub(crate) fn forget(&mut self, alloc: Global)
-        ensures live { self.new.live ≡ self.old.live }
+        ensures current { self.new.current ≡ self.old.current }
         ensures next { self.new.next ≡ self.old.next }
         ensures none { (r n : ℕ) → ¬ HasDead self.new.dead r n }
     {
-        self.dead = DeadNodes::new(alloc);
+        self.dead = DeadStates::new(alloc);
     }
 
     /// Goes on after the character.
-    fn step(&mut self, program: &[Node], c: char) -> Result<(), Memory>
-        requires program { IsClosed program.now }
-        requires ready { IsReady (length program.now) self.old }
-        requires followed { IsFollowed program.now self.old.live.nodes.items }
-        ensures ready { OnOk result (IsReady (length program.now) self.new) }
-        ensures followed { OnOk result (IsFollowed program.now self.new.live.nodes.items) }
+    fn step(&mut self, nfa: &[State], c: char) -> Result<(), Memory>
+        requires nfa { IsClosed nfa.now }
+        requires ready { IsReady (length nfa.now) self.old }
+        requires followed { IsFollowed nfa.now self.old.current.states.items }
+        ensures ready { OnOk result (IsReady (length nfa.now) self.new) }
+        ensures followed { OnOk result (IsFollowed nfa.now self.new.current.states.items) }
         ensures trace { OnOk result (self.new.trace ≡ self.old.trace) }
         ensures dead { OnOk result (self.new.dead ≡ self.old.dead) }
-        ensures reads { OnOk result ((w : List ℕ) → ReadsFrom program.now self.new.live.nodes.items w ↔ ReadsFrom program.now self.old.live.nodes.items (c ∷ w)) }
+        ensures reads { OnOk result ((w : List ℕ) → ReadsFrom nfa.now self.new.current.states.items w ↔ ReadsFrom nfa.now self.old.current.states.items (c ∷ w)) }
     {
-        self.next.step(program, &self.live, c)?;
-        std::mem::swap(&mut self.live, &mut self.next);
+        self.next.step(nfa, &self.current, c)?;
+        std::mem::swap(&mut self.current, &mut self.next);
         Ok(())
     }
 
-    /// The nodes of which one reads the first character of each text that is read from the node
+    /// The states of which one reads the first character of each text that is read from the state
     /// `start` on.
-    pub(crate) fn first_nodes(
+    pub(crate) fn first_states(
         &mut self,
         alloc: Global,
-        program: &[Node],
+        nfa: &[State],
         start: usize,
     ) -> Result<Vec<usize>, Memory>
-        requires program { IsClosed program.now }
-        requires ready { IsReady (length program.now) self.old }
-        requires start { start < length program.now }
-        ensures ready { OnOk result (IsReady (length program.now) self.new) }
-        ensures inside { IfOk result (λ nodes. (n : ℕ) → Contains nodes.items n → n < length program.now) }
-        ensures reads { IfOk result (λ nodes. AreFirst program.now start nodes.items) }
+        requires nfa { IsClosed nfa.now }
+        requires ready { IsReady (length nfa.now) self.old }
+        requires start { start < length nfa.now }
+        ensures ready { OnOk result (IsReady (length nfa.now) self.new) }
+        ensures inside { IfOk result (λ states. (n : ℕ) → Contains states.items n → n < length nfa.now) }
+        ensures reads { IfOk result (λ states. AreFirst nfa.now start states.items) }
     {
-        self.live.begin(program, start)?;
-        Ok(Vec::from_slice(alloc, &self.live.nodes)?)
+        self.current.begin(nfa, start)?;
+        Ok(Vec::from_slice(alloc, &self.current.states)?)
     }
 
-    /// Whether the text that was read so far is matched. What was live before it is no longer of
+    /// Whether the text that was read so far is matched. What was current before it is no longer of
     /// use then.
     fn has_ended(&mut self) -> bool
-        requires inside { 0 < length self.old.live.marks.items }
-        ensures ended { result ≡ slice_index_or self.old.live.marks.items 0 false }
+        requires inside { 0 < length self.old.current.marks.items }
+        ensures ended { result ≡ slice_index_or self.old.current.marks.items 0 false }
         ensures none { result ≡ true → self.new.trace.items ≡ [] }
         ensures same { result ≡ false → self.new.trace.items ≡ self.old.trace.items }
-        ensures live { self.new.live ≡ self.old.live }
+        ensures current { self.new.current ≡ self.old.current }
         ensures next { self.new.next ≡ self.old.next }
         ensures dead { self.new.dead ≡ self.old.dead }
     {
-        let ended = self.live.has(0);
+        let ended = self.current.has(0);
         if ended {
             self.trace.clear();
         }
         ended
     }
 
-    /// Adds the node to the trace, unless it is known to be dead. Whether it was added.
-    fn trace_node(&mut self, at: NodeAt) -> Result<bool, Memory>
-        ensures live { OnOk result (self.new.live ≡ self.old.live) }
+    /// Adds the state to the trace, unless it is known to be dead. Whether it was added.
+    fn trace_state(&mut self, at: StateAt) -> Result<bool, Memory>
+        ensures current { OnOk result (self.new.current ≡ self.old.current) }
         ensures next { OnOk result (self.new.next ≡ self.old.next) }
         ensures dead { OnOk result (self.new.dead ≡ self.old.dead) }
-        ensures known { IfOk result (λ added. added ≡ false → HasDead self.old.dead at.remaining at.node) }
-        ensures traced { OnOk result ((p : NodeAt) → Contains self.new.trace.items p → Contains self.old.trace.items p ⊎ (p ≡ at)) }
+        ensures known { IfOk result (λ added. added ≡ false → HasDead self.old.dead at.remaining at.state) }
+        ensures traced { OnOk result ((p : StateAt) → Contains self.new.trace.items p → Contains self.old.trace.items p ⊎ (p ≡ at)) }
     {
-        if self.dead.has(at.remaining, at.node) {
+        if self.dead.has(at.remaining, at.state) {
             return Ok(false);
         }
         self.trace.push(at)?;
         Ok(true)
     }
 
-    /// Adds the live nodes that aren't known to be dead to the trace. False where all of them are.
-    fn trace_live(&mut self, remaining: usize) -> Result<bool, Memory>
-        ensures live { OnOk result (self.new.live ≡ self.old.live) }
+    /// Adds the current states that aren't known to be dead to the trace. False where all of them are.
+    fn trace_current(&mut self, remaining: usize) -> Result<bool, Memory>
+        ensures current { OnOk result (self.new.current ≡ self.old.current) }
         ensures next { OnOk result (self.new.next ≡ self.old.next) }
         ensures dead { OnOk result (self.new.dead ≡ self.old.dead) }
-        ensures stuck { IfOk result (λ alive. alive ≡ false → (n : ℕ) → Contains self.old.live.nodes.items n → HasDead self.old.dead remaining n) }
-        ensures traced { OnOk result ((p : NodeAt) → Contains self.new.trace.items p → Contains self.old.trace.items p ⊎ ((p.remaining ≡ remaining) × Contains self.old.live.nodes.items p.node)) }
+        ensures stuck { IfOk result (λ alive. alive ≡ false → (n : ℕ) → Contains self.old.current.states.items n → HasDead self.old.dead remaining n) }
+        ensures traced { OnOk result ((p : StateAt) → Contains self.new.trace.items p → Contains self.old.trace.items p ⊎ ((p.remaining ≡ remaining) × Contains self.old.current.states.items p.state)) }
     {
         let mut alive = false;
-        for i in 0..self.live.nodes.len() {
-            let node = self.live.nodes[i];
-            let added = self.trace_node(NodeAt { remaining, node })?;
+        for i in 0..self.current.states.len() {
+            let state = self.current.states[i];
+            let added = self.trace_state(StateAt { remaining, state })?;
             alive |= added;
         }
         Ok(alive)
     }
 
-    /// Whether the reading goes on: not from no node, and not, at a checkpoint that isn't the end of
-    /// a match, from nodes alone that are known to be dead.
+    /// Whether the reading goes on: not from no state, and not, at a checkpoint that isn't the end of
+    /// a match, from states alone that are known to be dead.
     fn goes_on(&mut self, remaining: usize, checkpoint: bool, ended: bool) -> Result<bool, Memory>
-        ensures live { OnOk result (self.new.live ≡ self.old.live) }
+        ensures current { OnOk result (self.new.current ≡ self.old.current) }
         ensures next { OnOk result (self.new.next ≡ self.old.next) }
         ensures dead { OnOk result (self.new.dead ≡ self.old.dead) }
-        ensures stuck { IfOk result (λ on. on ≡ false → (n : ℕ) → Contains self.old.live.nodes.items n → HasDead self.old.dead remaining n) }
-        ensures traced { OnOk result ((p : NodeAt) → Contains self.new.trace.items p → Contains self.old.trace.items p ⊎ ((ended ≡ false) × (p.remaining ≡ remaining) × Contains self.old.live.nodes.items p.node)) }
+        ensures stuck { IfOk result (λ on. on ≡ false → (n : ℕ) → Contains self.old.current.states.items n → HasDead self.old.dead remaining n) }
+        ensures traced { OnOk result ((p : StateAt) → Contains self.new.trace.items p → Contains self.old.trace.items p ⊎ ((ended ≡ false) × (p.remaining ≡ remaining) × Contains self.old.current.states.items p.state)) }
     {
-        if self.live.is_empty() {
+        if self.current.is_empty() {
             return Ok(false);
         }
         if ended {
@@ -177,15 +177,15 @@ impl Reading {
         if !checkpoint {
             return Ok(true);
         }
-        let alive = self.trace_live(remaining)?;
+        let alive = self.trace_current(remaining)?;
         Ok(alive)
     }
 
-    /// Keeps the nodes of the trace as dead.
+    /// Keeps the states of the trace as dead.
     fn keep_dead(&mut self) -> Result<(), Memory>
-        ensures live { OnOk result (self.new.live ≡ self.old.live) }
+        ensures current { OnOk result (self.new.current ≡ self.old.current) }
         ensures next { OnOk result (self.new.next ≡ self.old.next) }
-        ensures added { OnOk result ((r n : ℕ) → HasDead self.new.dead r n → HasDead self.old.dead r n ⊎ Contains self.old.trace.items (node_at r n)) }
+        ensures added { OnOk result ((r n : ℕ) → HasDead self.new.dead r n → HasDead self.old.dead r n ⊎ Contains self.old.trace.items (state_at r n)) }
     {
         while let Some(dead) = self.trace.pop() {
             self.dead.add(dead)?;
@@ -193,23 +193,23 @@ impl Reading {
         Ok(())
     }
 
-    /// The same as `longest`, and the nodes of the trace are dead.
+    /// The same as `longest`, and the states of the trace are dead.
     fn read_longest(
         &mut self,
-        program: &[Node],
+        nfa: &[State],
         alternative: Alternative,
         text: &str,
     ) -> Result<usize, Memory>
-        requires program { IsClosed program.now }
-        requires ready { IsReady (length program.now) self.old }
-        requires start { alternative.start < length program.now }
-        requires dead { AreDead program.now text.now self.old.dead }
-        ensures ready { OnOk result (IsReady (length program.now) self.new) }
-        ensures longest { IfOk result (λ len. IsLongestLen (IsRead program.now alternative) (chars text.now) len) }
+        requires nfa { IsClosed nfa.now }
+        requires ready { IsReady (length nfa.now) self.old }
+        requires start { alternative.start < length nfa.now }
+        requires dead { AreDead nfa.now text.now self.old.dead }
+        ensures ready { OnOk result (IsReady (length nfa.now) self.new) }
+        ensures longest { IfOk result (λ len. IsLongestLen (IsRead nfa.now alternative) (chars text.now) len) }
         ensures same { OnOk result (self.new.dead ≡ self.old.dead) }
-        ensures traced { OnOk result ((whole : List ℕ) → EndsWith whole text.now → (p : NodeAt) → Contains self.new.trace.items p → IsDead program.now whole p.remaining p.node) }
+        ensures traced { OnOk result ((whole : List ℕ) → EndsWith whole text.now → (p : StateAt) → Contains self.new.trace.items p → IsDead nfa.now whole p.remaining p.state) }
     {
-        self.live.begin(program, alternative.start)?;
+        self.current.begin(nfa, alternative.start)?;
         self.trace.clear();
         let mut longest = 0;
         let mut read = 0;
@@ -230,7 +230,7 @@ impl Reading {
             let Some(c) = rest.next() else {
                 return Ok(longest);
             };
-            self.step(program, c)?;
+            self.step(nfa, c)?;
             read += c.len_utf8();
             checkpoint = is_checkpoint(remaining, text.len() - read);
         }
@@ -239,25 +239,24 @@ impl Reading {
     /// The length, in bytes, of the longest beginning of the text, of at least one character, that
     /// the alternative matches. 0 where it matches none.
     ///
-    /// Where a reading went on after the last match and failed, no later one of the same text goes
-    /// on from the same nodes at the same position. So all readings of a text together take time in
-    /// proportion to what they match and, where they match nothing more, to the text's length and
-    /// the square of the number of nodes.
+    /// A reading ends at the latest at the first checkpoint after its last match at which all its
+    /// states are kept as dead. Where it goes on further and fails, its states at the checkpoints
+    /// since that match are kept as dead for the later readings of the same text, up to a bound.
     pub(crate) fn longest(
         &mut self,
-        program: &[Node],
+        nfa: &[State],
         alternative: Alternative,
         text: &str,
     ) -> Result<usize, Memory>
-        requires program { IsClosed program.now }
-        requires ready { IsReady (length program.now) self.old }
-        requires start { alternative.start < length program.now }
-        requires dead { AreDead program.now text.now self.old.dead }
-        ensures ready { OnOk result (IsReady (length program.now) self.new) }
-        ensures longest { IfOk result (λ len. IsLongestLen (IsRead program.now alternative) (chars text.now) len) }
-        ensures dead { OnOk result (StayDead program.now text.now self.old.dead self.new.dead) }
+        requires nfa { IsClosed nfa.now }
+        requires ready { IsReady (length nfa.now) self.old }
+        requires start { alternative.start < length nfa.now }
+        requires dead { AreDead nfa.now text.now self.old.dead }
+        ensures ready { OnOk result (IsReady (length nfa.now) self.new) }
+        ensures longest { IfOk result (λ len. IsLongestLen (IsRead nfa.now alternative) (chars text.now) len) }
+        ensures dead { OnOk result (StayDead nfa.now text.now self.old.dead self.new.dead) }
     {
-        let longest = self.read_longest(program, alternative, text)?;
+        let longest = self.read_longest(nfa, alternative, text)?;
         self.keep_dead()?;
         Ok(longest)
     }

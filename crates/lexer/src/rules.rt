@@ -8,22 +8,26 @@ ghost use Rattle.lexer.specs.Dead.{AreDead, HasDead, StayDead};
 ghost use Rattle.lexer.specs.Reading.{IsReady};
 
 use crate::alternatives::add_kinds;
-use crate::candidates::by_first_character;
+use crate::candidates::{beginnings, by_first_character};
+use crate::gaps::gap_characters;
+use crate::nfa::State;
 use crate::pieces::{Match, next_match};
-use crate::program::Node;
 use crate::reading::{Alternative, Reading};
 use faults::Memory;
-use grammar_tree::Checked;
+use grammar_tree::{CharSet, Checked};
 use std::alloc::Global;
 
-/// The rules of a lexer: their nodes, and the alternatives of their kinds.
+/// The rules of a lexer: their states, and the alternatives of their kinds.
 #[derive(Drop)]
 pub(crate) struct Rules {
-    pub(crate) nodes: Vec<Node>,
+    pub(crate) states: Vec<State>,
     pub(crate) alternatives: Vec<Alternative>,
 
     /// By its first character, for each below 128, the alternatives that can match a text.
     pub(crate) by_first: Vec<Vec<Alternative>>,
+
+    /// The characters that are gap text by themselves.
+    pub(crate) gaps: CharSet,
 }
 
 impl Rules {
@@ -31,36 +35,40 @@ impl Rules {
     pub(crate) fn build(alloc: Global, checked: &Checked) -> Result<Rules, Memory>
         ensures { IfOk result (λ rules. IsBuilt checked.now rules) }
     {
-        let mut nodes = vec![in alloc; Node::Never]?;
+        let mut states = vec![in alloc; State::Never]?;
         let mut alternatives = Vec::new(alloc);
-        add_kinds(alloc, &mut nodes, &mut alternatives, checked)?;
-        let by_first = by_first_character(alloc, &nodes, &alternatives)?;
+        add_kinds(alloc, &mut states, &mut alternatives, checked)?;
+        let beginnings = beginnings(alloc, &states, &alternatives)?;
+        let by_first = by_first_character(alloc, &states, &beginnings)?;
+        checked.is_checked();
+        let gaps = gap_characters(alloc, checked.kinds(), &states, &beginnings)?;
         Ok(Rules {
-            nodes,
+            states,
             alternatives,
             by_first,
+            gaps,
         })
     }
 
     /// What reading by these rules takes.
     pub(crate) fn reading(&self, alloc: Global) -> Result<Reading, Memory>
-        ensures ready { IfOk result (λ reading. IsReady (length self.now.nodes.items) reading) }
+        ensures ready { IfOk result (λ reading. IsReady (length self.now.states.items) reading) }
         ensures none { IfOk result (λ reading. (r n : ℕ) → ¬ HasDead reading.dead r n) }
     {
-        Reading::new(alloc, self.nodes.len())
+        Reading::new(alloc, self.states.len())
     }
 
     /// What comes next in the text. None where no rule matches at least one character.
     pub(crate) fn next(&self, reading: &mut Reading, text: &str) -> Result<Option<Match>, Memory>
         requires runnable { IsRunnable self.now }
-        requires ready { IsReady (length self.now.nodes.items) reading.old }
-        requires dead { AreDead self.now.nodes.items text.now reading.old.dead }
-        ensures ready { OnOk result (IsReady (length self.now.nodes.items) reading.new) }
-        ensures dead { OnOk result (StayDead self.now.nodes.items text.now reading.old.dead reading.new.dead) }
-        ensures next { IfOk result (λ found. MatchOption found (HasNoNext self.now.nodes.items self.now.alternatives.items (chars text.now)) (λ m. ComesNext self.now.nodes.items self.now.alternatives.items (chars text.now) m.kind m.len)) }
+        requires ready { IsReady (length self.now.states.items) reading.old }
+        requires dead { AreDead self.now.states.items text.now reading.old.dead }
+        ensures ready { OnOk result (IsReady (length self.now.states.items) reading.new) }
+        ensures dead { OnOk result (StayDead self.now.states.items text.now reading.old.dead reading.new.dead) }
+        ensures next { IfOk result (λ found. MatchOption found (HasNoNext self.now.states.items self.now.alternatives.items (chars text.now)) (λ m. ComesNext self.now.states.items self.now.alternatives.items (chars text.now) m.kind m.len)) }
     {
         let found = next_match(
-            &self.nodes,
+            &self.states,
             &self.alternatives,
             &self.by_first,
             reading,

@@ -1,90 +1,90 @@
-//! Where the reading of a text stands.
+//! The states that the reading of a text has reached.
 
 ghost use Rattle.std.specs.Prelude.{◌≡◌, ◌⊎◌, ◌↔◌, ◌<◌, ◌∷◌, [], ℕ, List, Some, false, true, IfOk, OnOk, length, slice_get, slice_index_or};
 ghost use Rattle.std.specs.List.{Contains};
-ghost use Rattle.lexer.specs.Program.{IsClosed, Reads};
-ghost use Rattle.lexer.specs.Standing.{AreMarked, ComesAfter, GoesTo, HasGrown, IsFollowed, ReadsFrom, ReadsTo};
+ghost use Rattle.lexer.specs.Nfa.{IsClosed, Reads};
+ghost use Rattle.lexer.specs.StateSets.{AreMarked, ComesAfter, GoesTo, HasGrown, IsFollowed, ReadsFrom, ReadsTo};
 
-use crate::program::Node;
+use crate::nfa::State;
 use faults::Memory;
 use std::alloc::Global;
 
-/// The nodes at which reading stands, which are some of the nodes of a program.
+/// The states that reading has reached, which are some of the states of an NFA.
 #[derive(Drop)]
-pub(crate) struct Live {
-    /// The nodes, each once.
-    pub(crate) nodes: Vec<usize>,
+pub(crate) struct StateSet {
+    /// The states, each once.
+    pub(crate) states: Vec<usize>,
 
-    /// By the number of a node, whether it is one of them.
+    /// By the number of a state, whether it is one of them.
     pub(crate) marks: Vec<bool>,
 }
 
-impl Live {
-    /// No node, in a program with so many.
-    pub(crate) fn new(alloc: Global, size: usize) -> Result<Live, Memory>
-        ensures none { IfOk result (λ live. live.nodes.items ≡ []) }
-        ensures size { IfOk result (λ live. length live.marks.items ≡ size) }
-        ensures marked { IfOk result (λ live. AreMarked live.nodes.items live.marks.items) }
+impl StateSet {
+    /// No state, in an NFA with so many.
+    pub(crate) fn new(alloc: Global, size: usize) -> Result<StateSet, Memory>
+        ensures none { IfOk result (λ current. current.states.items ≡ []) }
+        ensures size { IfOk result (λ current. length current.marks.items ≡ size) }
+        ensures marked { IfOk result (λ current. AreMarked current.states.items current.marks.items) }
     {
-        Ok(Live {
-            nodes: Vec::new(alloc),
+        Ok(StateSet {
+            states: Vec::new(alloc),
             marks: vec![in alloc; false; size]?,
         })
     }
 
-    /// Whether reading stands at the node.
-    pub(crate) fn has(&self, node: usize) -> bool
-        requires inside { node < length self.now.marks.items }
-        ensures { result ≡ slice_index_or self.now.marks.items node false }
+    /// Whether the state is in the set.
+    pub(crate) fn has(&self, state: usize) -> bool
+        requires inside { state < length self.now.marks.items }
+        ensures { result ≡ slice_index_or self.now.marks.items state false }
     {
-        self.marks[node]
+        self.marks[state]
     }
 
-    /// Whether reading stands nowhere.
+    /// Whether no state is in the set.
     pub(crate) fn is_empty(&self) -> bool
-        ensures empty { result ≡ true → self.now.nodes.items ≡ [] }
-        ensures some { result ≡ false → Contains self.now.nodes.items (slice_index_or self.now.nodes.items 0 0) }
+        ensures empty { result ≡ true → self.now.states.items ≡ [] }
+        ensures some { result ≡ false → Contains self.now.states.items (slice_index_or self.now.states.items 0 0) }
     {
-        self.nodes.is_empty()
+        self.states.is_empty()
     }
 
-    fn add(&mut self, node: usize) -> Result<(), Memory>
-        requires inside { node < length self.old.marks.items }
-        requires marked { AreMarked self.old.nodes.items self.old.marks.items }
-        ensures grown { OnOk result (HasGrown self.old.nodes.items self.new.nodes.items self.old.marks.items self.new.marks.items) }
-        ensures members { OnOk result ((n : ℕ) → Contains self.new.nodes.items n ↔ (Contains self.old.nodes.items n ⊎ (n ≡ node))) }
+    fn add(&mut self, state: usize) -> Result<(), Memory>
+        requires inside { state < length self.old.marks.items }
+        requires marked { AreMarked self.old.states.items self.old.marks.items }
+        ensures grown { OnOk result (HasGrown self.old.states.items self.new.states.items self.old.marks.items self.new.marks.items) }
+        ensures members { OnOk result ((n : ℕ) → Contains self.new.states.items n ↔ (Contains self.old.states.items n ⊎ (n ≡ state))) }
     {
-        if self.marks[node] {
+        if self.marks[state] {
             return Ok(());
         }
-        self.nodes.push(node)?;
-        self.marks[node] = true;
+        self.states.push(state)?;
+        self.marks[state] = true;
         Ok(())
     }
 
-    /// Leaves no node.
+    /// Leaves no state.
     fn clear(&mut self)
-        requires marked { AreMarked self.old.nodes.items self.old.marks.items }
-        ensures none { self.new.nodes.items ≡ [] }
+        requires marked { AreMarked self.old.states.items self.old.marks.items }
+        ensures none { self.new.states.items ≡ [] }
         ensures size { length self.new.marks.items ≡ length self.old.marks.items }
-        ensures marked { AreMarked self.new.nodes.items self.new.marks.items }
+        ensures marked { AreMarked self.new.states.items self.new.marks.items }
     {
-        while let Some(node) = self.nodes.pop() {
-            self.marks[node] = false;
+        while let Some(state) = self.states.pop() {
+            self.marks[state] = false;
         }
     }
 
-    /// Adds the nodes at which this node goes on without reading a character.
-    fn add_splits(&mut self, program: &[Node], node: usize) -> Result<(), Memory>
-        requires program { IsClosed program.now }
-        requires size { length self.old.marks.items ≡ length program.now }
-        requires marked { AreMarked self.old.nodes.items self.old.marks.items }
-        requires inside { node < length program.now }
-        ensures grown { OnOk result (HasGrown self.old.nodes.items self.new.nodes.items self.old.marks.items self.new.marks.items) }
-        ensures members { OnOk result ((n : ℕ) → Contains self.new.nodes.items n ↔ (Contains self.old.nodes.items n ⊎ GoesTo program.now node n)) }
+    /// Adds the states at which this state goes on without reading a character.
+    fn add_splits(&mut self, nfa: &[State], state: usize) -> Result<(), Memory>
+        requires nfa { IsClosed nfa.now }
+        requires size { length self.old.marks.items ≡ length nfa.now }
+        requires marked { AreMarked self.old.states.items self.old.marks.items }
+        requires inside { state < length nfa.now }
+        ensures grown { OnOk result (HasGrown self.old.states.items self.new.states.items self.old.marks.items self.new.marks.items) }
+        ensures members { OnOk result ((n : ℕ) → Contains self.new.states.items n ↔ (Contains self.old.states.items n ⊎ GoesTo nfa.now state n)) }
     {
-        match &program[node] {
-            Node::Split(first, second) => {
+        match &nfa[state] {
+            State::Split(first, second) => {
                 self.add(*first)?;
                 self.add(*second)?;
                 Ok(())
@@ -93,17 +93,17 @@ impl Live {
         }
     }
 
-    /// Adds the node at which this node goes on after the character, if it reads it.
-    fn add_next(&mut self, program: &[Node], node: usize, c: char) -> Result<(), Memory>
-        requires program { IsClosed program.now }
-        requires size { length self.old.marks.items ≡ length program.now }
-        requires marked { AreMarked self.old.nodes.items self.old.marks.items }
-        requires inside { node < length program.now }
+    /// Adds the state at which this state goes on after the character, if it reads it.
+    fn add_next(&mut self, nfa: &[State], state: usize, c: char) -> Result<(), Memory>
+        requires nfa { IsClosed nfa.now }
+        requires size { length self.old.marks.items ≡ length nfa.now }
+        requires marked { AreMarked self.old.states.items self.old.marks.items }
+        requires inside { state < length nfa.now }
         ensures size { OnOk result (length self.new.marks.items ≡ length self.old.marks.items) }
-        ensures marked { OnOk result (AreMarked self.new.nodes.items self.new.marks.items) }
-        ensures members { OnOk result ((n : ℕ) → Contains self.new.nodes.items n ↔ (Contains self.old.nodes.items n ⊎ ReadsTo program.now node c n)) }
+        ensures marked { OnOk result (AreMarked self.new.states.items self.new.marks.items) }
+        ensures members { OnOk result ((n : ℕ) → Contains self.new.states.items n ↔ (Contains self.old.states.items n ⊎ ReadsTo nfa.now state c n)) }
     {
-        match program[node].after(c) {
+        match nfa[state].after(c) {
             Some(next) => {
                 self.add(next)?;
                 Ok(())
@@ -112,75 +112,76 @@ impl Live {
         }
     }
 
-    /// Adds the nodes at which those that are there go on without reading a character.
-    fn follow(&mut self, program: &[Node]) -> Result<(), Memory>
-        requires program { IsClosed program.now }
-        requires size { length self.old.marks.items ≡ length program.now }
-        requires marked { AreMarked self.old.nodes.items self.old.marks.items }
-        ensures marked { OnOk result (AreMarked self.new.nodes.items self.new.marks.items) }
+    /// Adds the states at which those that are there go on without reading a character.
+    fn follow(&mut self, nfa: &[State]) -> Result<(), Memory>
+        requires nfa { IsClosed nfa.now }
+        requires size { length self.old.marks.items ≡ length nfa.now }
+        requires marked { AreMarked self.old.states.items self.old.marks.items }
+        ensures marked { OnOk result (AreMarked self.new.states.items self.new.marks.items) }
         ensures size { OnOk result (length self.new.marks.items ≡ length self.old.marks.items) }
-        ensures followed { OnOk result (IsFollowed program.now self.new.nodes.items) }
-        ensures same { OnOk result ((w : List ℕ) → ReadsFrom program.now self.new.nodes.items w ↔ ReadsFrom program.now self.old.nodes.items w) }
+        ensures followed { OnOk result (IsFollowed nfa.now self.new.states.items) }
+        ensures same { OnOk result ((w : List ℕ) → ReadsFrom nfa.now self.new.states.items w ↔ ReadsFrom nfa.now self.old.states.items w) }
     {
-        let mut place = 0;
-        while place < self.nodes.len() {
-            let node = self.nodes[place];
-            self.add_splits(program, node)?;
-            place += 1;
+        let mut index = 0;
+        while index < self.states.len() {
+            let state = self.states[index];
+            self.add_splits(nfa, state)?;
+            index += 1;
         }
         Ok(())
     }
 
-    /// Stands at the node alone, and where it goes on without reading a character.
-    pub(crate) fn begin(&mut self, program: &[Node], node: usize) -> Result<(), Memory>
-        requires program { IsClosed program.now }
-        requires size { length self.old.marks.items ≡ length program.now }
-        requires marked { AreMarked self.old.nodes.items self.old.marks.items }
-        requires node { node < length program.now }
-        ensures marked { OnOk result (AreMarked self.new.nodes.items self.new.marks.items) }
+    /// Becomes the set of the state, and of the states at which it goes on without reading a
+    /// character.
+    pub(crate) fn begin(&mut self, nfa: &[State], state: usize) -> Result<(), Memory>
+        requires nfa { IsClosed nfa.now }
+        requires size { length self.old.marks.items ≡ length nfa.now }
+        requires marked { AreMarked self.old.states.items self.old.marks.items }
+        requires state { state < length nfa.now }
+        ensures marked { OnOk result (AreMarked self.new.states.items self.new.marks.items) }
         ensures size { OnOk result (length self.new.marks.items ≡ length self.old.marks.items) }
-        ensures followed { OnOk result (IsFollowed program.now self.new.nodes.items) }
-        ensures reads { OnOk result ((w : List ℕ) → ReadsFrom program.now self.new.nodes.items w ↔ Reads program.now node w) }
+        ensures followed { OnOk result (IsFollowed nfa.now self.new.states.items) }
+        ensures reads { OnOk result ((w : List ℕ) → ReadsFrom nfa.now self.new.states.items w ↔ Reads nfa.now state w) }
     {
         self.clear();
-        self.add(node)?;
-        self.follow(program)?;
+        self.add(state)?;
+        self.follow(nfa)?;
         Ok(())
     }
 
-    /// Adds where the nodes of `before` go on after the character.
-    fn add_after(&mut self, program: &[Node], before: &[usize], c: char) -> Result<(), Memory>
-        requires program { IsClosed program.now }
-        requires size { length self.old.marks.items ≡ length program.now }
-        requires marked { AreMarked self.old.nodes.items self.old.marks.items }
-        requires none { self.old.nodes.items ≡ [] }
-        requires before { (n : ℕ) → Contains before.now n → n < length program.now }
-        ensures marked { OnOk result (AreMarked self.new.nodes.items self.new.marks.items) }
+    /// Adds where the states of `before` go on after the character.
+    fn add_after(&mut self, nfa: &[State], before: &[usize], c: char) -> Result<(), Memory>
+        requires nfa { IsClosed nfa.now }
+        requires size { length self.old.marks.items ≡ length nfa.now }
+        requires marked { AreMarked self.old.states.items self.old.marks.items }
+        requires none { self.old.states.items ≡ [] }
+        requires before { (n : ℕ) → Contains before.now n → n < length nfa.now }
+        ensures marked { OnOk result (AreMarked self.new.states.items self.new.marks.items) }
         ensures size { OnOk result (length self.new.marks.items ≡ length self.old.marks.items) }
-        ensures after { OnOk result ((n : ℕ) → Contains self.new.nodes.items n ↔ ComesAfter program.now before.now c n) }
+        ensures after { OnOk result ((n : ℕ) → Contains self.new.states.items n ↔ ComesAfter nfa.now before.now c n) }
     {
-        for node in before {
-            self.add_next(program, *node, c)?;
+        for state in before {
+            self.add_next(nfa, *state, c)?;
         }
         Ok(())
     }
 
-    /// Stands where the nodes of `before` go on after the character.
-    pub(crate) fn step(&mut self, program: &[Node], before: &Live, c: char) -> Result<(), Memory>
-        requires program { IsClosed program.now }
-        requires size { length self.old.marks.items ≡ length program.now }
-        requires marked { AreMarked self.old.nodes.items self.old.marks.items }
-        requires before_size { length before.now.marks.items ≡ length program.now }
-        requires before_marked { AreMarked before.now.nodes.items before.now.marks.items }
-        requires before_followed { IsFollowed program.now before.now.nodes.items }
-        ensures marked { OnOk result (AreMarked self.new.nodes.items self.new.marks.items) }
+    /// Becomes the set of the states at which those of `before` go on after the character.
+    pub(crate) fn step(&mut self, nfa: &[State], before: &StateSet, c: char) -> Result<(), Memory>
+        requires nfa { IsClosed nfa.now }
+        requires size { length self.old.marks.items ≡ length nfa.now }
+        requires marked { AreMarked self.old.states.items self.old.marks.items }
+        requires before_size { length before.now.marks.items ≡ length nfa.now }
+        requires before_marked { AreMarked before.now.states.items before.now.marks.items }
+        requires before_followed { IsFollowed nfa.now before.now.states.items }
+        ensures marked { OnOk result (AreMarked self.new.states.items self.new.marks.items) }
         ensures size { OnOk result (length self.new.marks.items ≡ length self.old.marks.items) }
-        ensures followed { OnOk result (IsFollowed program.now self.new.nodes.items) }
-        ensures reads { OnOk result ((w : List ℕ) → ReadsFrom program.now self.new.nodes.items w ↔ ReadsFrom program.now before.now.nodes.items (c ∷ w)) }
+        ensures followed { OnOk result (IsFollowed nfa.now self.new.states.items) }
+        ensures reads { OnOk result ((w : List ℕ) → ReadsFrom nfa.now self.new.states.items w ↔ ReadsFrom nfa.now before.now.states.items (c ∷ w)) }
     {
         self.clear();
-        self.add_after(program, &before.nodes, c)?;
-        self.follow(program)?;
+        self.add_after(nfa, &before.states, c)?;
+        self.follow(nfa)?;
         Ok(())
     }
 }

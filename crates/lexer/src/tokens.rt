@@ -1,19 +1,16 @@
 //! How a text is cut into tokens.
 
-ghost use Rattle.std.specs.Prelude.{◌≡◌, ◌↔◌, ◌<◌, ◌^◌, IfErr, IfOk, IsTrue, OnOk, length, map};
+ghost use Rattle.std.specs.Prelude.{◌≡◌, ◌<◌, ◌^◌, IfErr, IfOk, length, map};
 ghost use Rattle.std.specs.Str.{chars};
 ghost use Rattle.grammar_tree.specs.GrammarView.{kind_of};
 ghost use Rattle.grammar_tree.specs.Kinds.{kinds_of};
 ghost use Rattle.grammar_tree.specs.Lexes.{is_gap_kind};
 ghost use Rattle.grammar_tree.specs.Written.{WrittenGrammar};
 ghost use Rattle.lexer.specs.Built.{IsBuilt};
-ghost use Rattle.lexer.specs.Reading.{IsReady};
-ghost use Rattle.lexer.specs.Tokens.{AreGapFlags, HasTokens, IsGapText, TellsStop, token_of};
+ghost use Rattle.lexer.specs.Tokens.{HasTokens, ReportsStop, token_of};
 
-use crate::reading::Reading;
 use crate::rules::Rules;
 use crate::token::{LexFault, Token};
-use faults::Memory;
 use grammar_tree::{Checked, Kind};
 use std::alloc::Global;
 
@@ -38,7 +35,7 @@ pub(crate) fn read_tokens(
     requires built { IsBuilt checked.now rules.now }
     requires small { length text.now < 2 ^ 32 }
     ensures tokens { IfOk result (λ tokens. HasTokens checked.now.grammar (chars text.now) (map token_of tokens.items)) }
-    ensures fault { IfErr result (TellsStop checked.now.grammar (chars text.now)) }
+    ensures fault { IfErr result (ReportsStop checked.now.grammar (chars text.now)) }
 {
     let mut reading = rules.reading(alloc)?;
     let mut tokens = Vec::new(alloc);
@@ -60,49 +57,4 @@ pub(crate) fn read_tokens(
         at = end;
     }
     Ok(tokens)
-}
-
-/// Whether the text of this one character is one piece of a gap kind.
-pub(crate) fn is_gap_char(
-    alloc: Global,
-    checked: &Checked,
-    rules: &Rules,
-    reading: &mut Reading,
-    c: char,
-) -> Result<bool, Memory>
-    requires built { IsBuilt checked.now rules.now }
-    requires ready { IsReady (length rules.now.nodes.items) reading.old }
-    ensures ready { OnOk result (IsReady (length rules.now.nodes.items) reading.new) }
-    ensures gap { IfOk result (λ skipped. IsTrue skipped ↔ IsGapText checked.now.grammar c) }
-{
-    reading.forget(alloc);
-    let mut buffer = [0; 4];
-    let text = c.encode_utf8(&mut buffer);
-    checked.is_checked();
-    match rules.next(reading, text)? {
-        Some(next) => Ok(is_gap(checked.kinds(), next.kind)),
-        None => Ok(false),
-    }
-}
-
-/// For each character below 128 whether its text is one piece of a gap kind. Empty where there are
-/// no lists of the alternatives that can begin with them: it would take too long.
-pub(crate) fn gap_flags(
-    alloc: Global,
-    checked: &Checked,
-    rules: &Rules,
-) -> Result<Vec<bool>, Memory>
-    requires { IsBuilt checked.now rules.now }
-    ensures { IfOk result (λ flags. AreGapFlags checked.now.grammar flags.items) }
-{
-    let mut flags = Vec::new(alloc);
-    if rules.by_first.is_empty() {
-        return Ok(flags);
-    }
-    let mut reading = rules.reading(alloc)?;
-    for c in 0..128u8 {
-        let flag = is_gap_char(alloc, checked, rules, &mut reading, c as char)?;
-        flags.push(flag)?;
-    }
-    Ok(flags)
 }

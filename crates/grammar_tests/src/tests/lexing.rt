@@ -2,9 +2,9 @@
 
 use crate::checked;
 use crate::grammars::{JOINED, MINI, STATEMENTS};
+use grammar_plain::Piece;
 use grammar_tree::Checked;
 use lexer::{LexFault, Lexer, Token};
-use plain_lexer::Piece;
 use std::alloc::Global;
 use std::process::Abort;
 use std::test::Fail;
@@ -76,7 +76,7 @@ fn lexed(rt: &impl Abort, alloc: Global, lexer: &Lexer, text: &str) -> Result<St
 
 /// What the plain one makes of it.
 fn plainly_lexed(alloc: Global, checked: &Checked, text: &str) -> Result<String, Fail> {
-    match plain_lexer::lex(alloc, checked, text) {
+    match grammar_plain::lex(alloc, checked, text) {
         Ok(pieces) => pieces_text(alloc, checked, &pieces),
         Err(fault) => fault_text(alloc, fault),
     }
@@ -231,7 +231,7 @@ fn characters(alloc: Global) -> Result<Vec<char>, Fail> {
 /// Whether the plain lexer makes one piece of gap text of the character.
 fn is_skipped_plainly(alloc: Global, checked: &Checked, c: char) -> Result<bool, Fail> {
     let text = format!(in alloc; "{c}")?;
-    match plain_lexer::lex(alloc, checked, text.as_str()) {
+    match grammar_plain::lex(alloc, checked, text.as_str()) {
         Ok(pieces) => Ok(pieces.len() == 1 && pieces_text(alloc, checked, &pieces)?.len() == 0),
         Err(_) => Ok(false),
     }

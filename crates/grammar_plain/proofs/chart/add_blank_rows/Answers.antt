@@ -1,5 +1,5 @@
 use Rattle.std.proofs.Common.{◌+◌, List, refl, sym, true≢false, ◌∙◌, subst}
-use Rattle.grammar_plain.specs.Places.{AddsRows}
+use Rattle.grammar_plain.specs.Positions.{AddsRows}
 use Rattle.grammar_plain.specs.declared.chart.Row.{Row}
 use Rattle.grammar_plain.proofs.Pairs.{adds_more}
 use Rattle.grammar_plain.proofs.chart.add_blank_rows.Goals as goal

@@ -1,4 +1,4 @@
-use Rattle.grammar_plain.specs.Places.{AddsRows}
+use Rattle.grammar_plain.specs.Positions.{AddsRows}
 use Rattle.grammar_plain.proofs.chart.add_blank_rows.Given as goal
 
 abbrev pub invariant-loop-start : goal.invariant-loop-start

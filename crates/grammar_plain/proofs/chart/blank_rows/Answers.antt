@@ -1,4 +1,4 @@
-use Rattle.grammar_plain.specs.Places.{AddsRows}
+use Rattle.grammar_plain.specs.Positions.{AddsRows}
 use Rattle.grammar_plain.proofs.Pairs.{rows_more, blank_more}
 use Rattle.grammar_plain.proofs.chart.blank_rows.Goals as goal
 

@@ -1,4 +1,4 @@
-use Rattle.grammar_plain.specs.Places.{AreRows, IsBlank}
+use Rattle.grammar_plain.specs.Positions.{AreRows, IsBlank}
 use Rattle.grammar_plain.proofs.chart.blank_rows.Given as goal
 
 abbrev pub invariant-loop-rule : goal.invariant-loop-rule

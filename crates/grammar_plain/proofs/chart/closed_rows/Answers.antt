@@ -1,10 +1,10 @@
 use Rattle.std.proofs.Common.{◌≡◌, ◌+◌, ℕ, List, map, length, refl, sym, subst}
 use Rattle.std.proofs.lemmas.List.{length-map}
-use Rattle.grammar_plain.specs.Places.{AreRows, Grows, Known, Pairs, SameEnds, SameLength}
+use Rattle.grammar_plain.specs.Positions.{AreRows, Grows, Known, Pairs, SameEnds, SameLength}
 use Rattle.grammar_plain.specs.View.{pattern}
 use Rattle.grammar_plain.specs.declared.chart.Row.{Row}
 use Rattle.grammar_plain.proofs.Pairs.{pairs_map}
-use Rattle.grammar_plain.proofs.Standing.{grown_are_rows, grown_sound, grown_exact, grown_fewer}
+use Rattle.grammar_plain.proofs.Spanned.{grown_are_rows, grown_sound, grown_exact, grown_fewer}
 use Rattle.grammar_plain.proofs.chart.closed_rows.Goals as goal
 
 -- the relation of old rows and new ones, at the rows themselves and not where they are lent

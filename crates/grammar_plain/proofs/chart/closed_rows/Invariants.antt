@@ -1,8 +1,8 @@
 use Rattle.std.proofs.Common.{◌+◌, length, map}
-use Rattle.grammar_plain.specs.Places.{AreRows, Known}
+use Rattle.grammar_plain.specs.Positions.{AreRows, Known}
 use Rattle.grammar_plain.specs.View.{pattern}
 use Rattle.grammar_plain.proofs.Pairs.{total}
-use Rattle.grammar_plain.proofs.Standing.{Sound}
+use Rattle.grammar_plain.proofs.Spanned.{Sound}
 use Rattle.grammar_plain.proofs.chart.closed_rows.Given as goal
 
 abbrev pub invariant-loop-rows : goal.invariant-loop-rows

@@ -1,5 +1,5 @@
 use Rattle.std.proofs.Common.{Bool, List, subst}
-use Rattle.grammar_plain.specs.Places.{AreEnds, Known, Spans}
+use Rattle.grammar_plain.specs.Positions.{AreEnds, Known, SpansBy}
 use Rattle.grammar_plain.specs.View.{pattern}
 use Rattle.grammar_plain.proofs.Marks.{from_first}
 use Rattle.grammar_plain.proofs.chart.ends_from_start.Goals as goal
@@ -8,4 +8,4 @@ pub returns-clause-ends : goal.returns-clause-ends
 returns-clause-ends c =
     let p = pattern c.args.whole.now in
     let Q : List Bool → Type 0 = λ z. AreEnds (Known c.args.rows.now) c.args.list.now p z c.in_ok-ends.ends.items in
-    from_first (Spans (Known c.args.rows.now) c.args.list.now p) c.in_ok-from.from.items c.in_ok-ends.ends.items c.in_ok-from.ensures.only (subst Q c.deref.ensures.value c.in_ok-ends.ensures.ends)
+    from_first (SpansBy (Known c.args.rows.now) c.args.list.now p) c.in_ok-from.from.items c.in_ok-ends.ends.items c.in_ok-from.ensures.only (subst Q c.deref.ensures.value c.in_ok-ends.ensures.ends)

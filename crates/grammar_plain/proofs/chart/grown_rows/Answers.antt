@@ -1,7 +1,7 @@
 use Rattle.std.proofs.Common.{◌≡◌, ◌↔◌, ◌+◌, ◌⊎◌, inl, inr, ◌++◌, ℕ, Bool, List, [], ◌∷◌, Some, slice_get, map, take, length, vec_len, refl, sym, ap, ◌∙◌, subst, arith}
 use Rattle.std.proofs.lemmas.List.{take_more}
 use Rattle.grammar_plain.specs.Patterns as plain
-use Rattle.grammar_plain.specs.Places.{AreEnds, BodySpans, Grows, IsIn, Known, Pairs, Spans}
+use Rattle.grammar_plain.specs.Positions.{AreEnds, BodySpans, Grows, IsIn, Known, Pairs, SpansBy}
 use Rattle.grammar_plain.specs.View.{pattern}
 use Rattle.grammar_plain.specs.declared.chart.Row.{Row}
 use Rattle.grammar_plain.proofs.Marks.{IsUnion, in_union}
@@ -28,12 +28,12 @@ grows known bodies list p old new from more at only e u r s l = record { rule = 
     into : (j : ℕ) → IsIn old.ends.items j ⊎ IsIn more j → IsIn old.ends.items j ⊎ BodySpans known bodies list old.rule old.start j
     into j (inl h) = inl h
     into j (inr h) =
-        let x = (e j).0 h in let P : ℕ → Type 0 = λ n. Spans known list p n j in inr (p, at, subst P ((only x.0).0 x.1) x.2)
+        let x = (e j).0 h in let P : ℕ → Type 0 = λ n. SpansBy known list p n j in inr (p, at, subst P ((only x.0).0 x.1) x.2)
 
     back : (j : ℕ) → IsIn old.ends.items j ⊎ BodySpans known bodies list old.rule old.start j → IsIn old.ends.items j ⊎ IsIn more j
     back j (inl h) = inl h
     back j (inr (q, b, h)) =
-        let same : q ≡ p = cc in let P : plain.Pattern → Type 0 = λ x. Spans known list x old.start j in
+        let same : q ≡ p = cc in let P : plain.Pattern → Type 0 = λ x. SpansBy known list x old.start j in
         inr ((e j).1 (old.start, (only old.start).1 refl, subst P same h))
 
 pub loop-row-preserved : goal.loop-row-preserved

@@ -1,5 +1,5 @@
 use Rattle.std.proofs.Common.{map, take}
-use Rattle.grammar_plain.specs.Places.{Grows, Known, Pairs}
+use Rattle.grammar_plain.specs.Positions.{Grows, Known, Pairs}
 use Rattle.grammar_plain.specs.View.{pattern}
 use Rattle.grammar_plain.proofs.chart.grown_rows.Given as goal
 

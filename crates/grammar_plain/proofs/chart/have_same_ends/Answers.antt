@@ -1,6 +1,6 @@
 use Rattle.std.proofs.Common.{◌≡◌, ◌<◌, ◌≤◌, ◌+◌, ℕ, List, ◌++◌, [], ◌∷◌, vec_len, get_or, take, length, sym, ap, ◌∙◌, subst, arith}
 use Rattle.std.proofs.lemmas.List.{take_all, take_more}
-use Rattle.grammar_plain.specs.Places.{Pairs, SameEnds, SameLength}
+use Rattle.grammar_plain.specs.Positions.{Pairs, SameEnds, SameLength}
 use Rattle.grammar_plain.specs.declared.chart.Row.{Row}
 use Rattle.grammar_plain.proofs.Pairs.{pairs_length, pairs_more, pairs_at}
 use Rattle.grammar_plain.proofs.chart.have_same_ends.Goals as goal

@@ -1,5 +1,5 @@
 use Rattle.std.proofs.Common.{take}
-use Rattle.grammar_plain.specs.Places.{Pairs, SameEnds}
+use Rattle.grammar_plain.specs.Positions.{Pairs, SameEnds}
 use Rattle.grammar_plain.proofs.chart.have_same_ends.Given as goal
 
 abbrev pub invariant-loop-i : goal.invariant-loop-i

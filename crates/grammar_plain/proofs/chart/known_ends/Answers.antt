@@ -1,6 +1,6 @@
 use Rattle.std.proofs.Common.{◌≡◌, ◌<◌, ◌≤◌, ◌+◌, ℕ, Bool, slice_index_or, List, length, vec_len, take, sym, ap, ◌∙◌, subst, true≢false, arith}
 use Rattle.std.proofs.lemmas.List.{take_all}
-use Rattle.grammar_plain.specs.Places.{IsIn}
+use Rattle.grammar_plain.specs.Positions.{IsIn}
 use Rattle.grammar_plain.specs.declared.chart.Row.{Row}
 use Rattle.grammar_plain.proofs.Marks.{IsUnion, in_union}
 use Rattle.grammar_plain.proofs.Rows.{Reached, reached_more, reached_same}

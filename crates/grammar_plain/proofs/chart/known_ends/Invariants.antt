@@ -1,5 +1,5 @@
 use Rattle.std.proofs.Common.{◌≡◌, ◌↔◌, ℕ, length, vec_len, take}
-use Rattle.grammar_plain.specs.Places.{IsIn, Known}
+use Rattle.grammar_plain.specs.Positions.{IsIn, Known}
 use Rattle.grammar_plain.proofs.chart.known_ends.Given as goal
 
 abbrev pub invariant-loop-row : goal.invariant-loop-row

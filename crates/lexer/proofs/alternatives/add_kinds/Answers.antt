@@ -1,13 +1,18 @@
-use Rattle.std.proofs.Common.{◌≡◌, List, map, length, sym, ap, ◌∙◌, subst, arith}
+use Rattle.std.proofs.Common.{◌≡◌, ◌+◌, ℕ, List, map, length, sym, ap, ◌∙◌, subst, arith}
 use Rattle.grammar_tree.specs.Written.{WrittenRule}
 use Rattle.grammar_tree.specs.GrammarView.{kind_of, rule_of}
 use Rattle.grammar_tree.specs.Kinds.{kinds_of}
 use Rattle.grammar_tree.proofs.Counts.{counts_fit}
 use Rattle.lexer.specs.Alternatives.{HasAlternative}
+use Rattle.lexer.specs.declared.reading.Alternative.{Alternative}
+use Rattle.lexer.proofs.Order.{up_to_more, up_to_none}
 use Rattle.lexer.specs.Names.{HaveNoLoops, HaveOneName}
 use Rattle.lexer.proofs.Checked.{has_no_loops, has_one_name, rules_are}
-use Rattle.lexer.proofs.Pushed.{kinds_all, kinds_more, kinds_none, mapped_len, start_program}
+use Rattle.lexer.proofs.Pushed.{kinds_all, kinds_more, kinds_none, mapped_len, start_nfa}
 use Rattle.lexer.proofs.alternatives.add_kinds.Goals as goal
+
+abbrev kind_number : Alternative → ℕ
+kind_number a = a.kind
 
 pub new-requires-clause-one_name : goal.new-requires-clause-one_name
 new-requires-clause-one_name c =
@@ -29,8 +34,9 @@ new-requires-clause-small c =
 pub loop-i-init : goal.loop-i-init
 loop-i-init c =
     record {
-      program = start_program c.args.nodes.now.items c.args.alternatives.now.items c.requires.nodes c.requires.none;
-      exact = λ k w. kinds_none c.args.checked.now.grammar c.args.nodes.now.items c.args.alternatives.now.items k w c.requires.none;
+      nfa = start_nfa c.args.states.now.items c.args.alternatives.now.items c.requires.states c.requires.none;
+      exact = λ k w. kinds_none c.args.checked.now.grammar c.args.states.now.items c.args.alternatives.now.items k w c.requires.none;
+      order = up_to_none kind_number c.args.alternatives.now.items 0 c.requires.none;
     }
 
 pub overflow_cast-i : goal.overflow_cast-i
@@ -46,9 +52,10 @@ loop-i-preserved c =
     let is : G.rules ≡ map rule_of c.in_ok-names.names.rules.now = rules_are G c.grammar.result.now c.deref.result.now c.grammar.ensures c.deref.ensures.value ∙ ap (λ x. map rule_of x) (sym c.in_ok-names.ensures) in
     let named : kinds_of G ≡ map kind_of kinds = sym c.is_checked.ensures.numbered ∙ sym c.kinds-kinds.ensures in
     record {
-      program = c.in_ok-add_kind.ensures.program;
+      nfa = c.in_ok-add_kind.ensures.nfa;
       exact = λ k w.
-          kinds_more G (HasAlternative c.loop-i.nodes.items c.loop-i.alternatives.items k w) (HasAlternative c.add_kind.new.nodes.items c.add_kind.new.alternatives.items k w) kinds c.loop-i.i k kind w named (omega arith) c.index-kinds-i.is (c.loop-i.invariant.exact k w) (c.in_ok-add_kind.ensures.added G is k w);
+          kinds_more G (HasAlternative c.loop-i.states.items c.loop-i.alternatives.items k w) (HasAlternative c.add_kind.new.states.items c.add_kind.new.alternatives.items k w) kinds c.loop-i.i k kind w named (omega arith) c.index-kinds-i.is (c.loop-i.invariant.exact k w) (c.in_ok-add_kind.ensures.added G is k w);
+      order = up_to_more kind_number c.add_kind.new.alternatives.items c.loop-i.i (c.loop-i.i + 1) (omega arith) (c.in_ok-add_kind.ensures.order c.loop-i.invariant.order);
     }
 
 pub returns : goal.returns
@@ -57,6 +64,7 @@ returns c =
     let kinds = c.kinds-kinds.result.now in
     let named : kinds_of G ≡ map kind_of kinds = sym c.is_checked.ensures.numbered ∙ sym c.kinds-kinds.ensures in
     record {
-      program = c.loop-i.invariant.program;
-      exact = λ k w. kinds_all G (HasAlternative c.loop-i.nodes.items c.loop-i.alternatives.items k w) kinds c.loop-i.i k w named (omega arith) (c.loop-i.invariant.exact k w);
+      nfa = c.loop-i.invariant.nfa;
+      exact = λ k w. kinds_all G (HasAlternative c.loop-i.states.items c.loop-i.alternatives.items k w) kinds c.loop-i.i k w named (omega arith) (c.loop-i.invariant.exact k w);
+      order = c.loop-i.invariant.order.never_fall;
     }

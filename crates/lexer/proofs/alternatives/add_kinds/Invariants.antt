@@ -1,10 +1,11 @@
 use Rattle.std.proofs.Common.{◌<◌, ◌↔◌, ℕ, List}
 use Rattle.grammar_tree.specs.Lexes.{KindMatches}
-use Rattle.lexer.specs.Alternatives.{HasAlternative, IsProgram}
+use Rattle.lexer.specs.Alternatives.{HasAlternative, IsNfa, KindsAreUpTo}
 use Rattle.lexer.proofs.alternatives.add_kinds.Given as goal
 
 abbrev pub invariant-loop-i : goal.invariant-loop-i
 invariant-loop-i l = record {
-  program : IsProgram l.nodes.items l.alternatives.items;
-  exact : (k : ℕ) (w : List ℕ) → HasAlternative l.nodes.items l.alternatives.items k w ↔ ((k < l.i) × KindMatches l.checked.grammar k w);
+  nfa : IsNfa l.states.items l.alternatives.items;
+  exact : (k : ℕ) (w : List ℕ) → HasAlternative l.states.items l.alternatives.items k w ↔ ((k < l.i) × KindMatches l.checked.grammar k w);
+  order : KindsAreUpTo l.alternatives.items l.i;
 }

@@ -5,12 +5,13 @@ use Rattle.grammar_tree.specs.Matches.{MatchesRule}
 use Rattle.grammar_tree.specs.View.{lex_terms}
 use Rattle.grammar_tree.specs.Written.{lexer_alts}
 use Rattle.grammar_tree.specs.declared.lex_term.LexAlts.{out-LexAlts}
-use Rattle.lexer.specs.Alternatives.{HasAlternative, IsProgram}
+use Rattle.lexer.specs.Alternatives.{HasAlternative, IsNfa, KindsAreUpTo}
 use Rattle.lexer.proofs.alternatives.add_rule.Given as goal
 
 abbrev pub invariant-loop-i : goal.invariant-loop-i
 invariant-loop-i l = record {
-  program : IsProgram l.nodes.items l.alternatives.items;
-  added : (k : ℕ) (w : List ℕ) → HasAlternative l.nodes.items l.alternatives.items k w
-      ↔ (HasAlternative l.initial.nodes.items l.initial.alternatives.items k w ⊎ ((k ≡ l.kind) × MatchesRule (lexer_rules (map rule_of l.names.rules.now)) (lexer_alts (map lex_terms (take l.i (out-LexAlts l.alts).items.items))) w));
+  nfa : IsNfa l.states.items l.alternatives.items;
+  added : (k : ℕ) (w : List ℕ) → HasAlternative l.states.items l.alternatives.items k w
+      ↔ (HasAlternative l.initial.states.items l.initial.alternatives.items k w ⊎ ((k ≡ l.kind) × MatchesRule (lexer_rules (map rule_of l.names.rules.now)) (lexer_alts (map lex_terms (take l.i (out-LexAlts l.alts).items.items))) w));
+  order : KindsAreUpTo l.initial.alternatives.items l.kind → KindsAreUpTo l.alternatives.items l.kind;
 }

@@ -15,7 +15,7 @@ is_read-requires c =
 
 pub loop-beginning-preserved : goal.loop-beginning-preserved
 loop-beginning-preserved c =
-    let P = c.args.program.now in
+    let P = c.args.nfa.now in
     let all = map (λ (b : Beginning). b.alternative) c.args.beginnings.now in
     let i = c.loop-beginning.beginning-index in
     let item = c.beginning-item.result in
@@ -35,10 +35,10 @@ loop-beginning-preserved c =
         | then-is_read+in_ok-push w ↦ complete_more P all c.args.c i list new x x inside is (ap (λ v. v.items) w.list-is ∙ w.in_ok-push.ensures.items) before.complete
         | else-is_read w ↦
             complete_skip P all c.args.c i list new x x inside is (ap (λ v. v.items) w.list-is)
-            (λ u r. let (n, next, k, step) = first c.args.c u r in let Q : List ℕ → Type 0 = λ l. Contains l n in c.is_read.ensures.not w.if-is_read.false n next (subst Q (sym c.deref.ensures.value) k) step) before.complete
+            (λ u r. let (n, next, k, step, rest) = (first c.args.c u).0 r in let Q : List ℕ → Type 0 = λ l. Contains l n in c.is_read.ensures.not w.if-is_read.false n next (subst Q (sym c.deref.ensures.value) k) step) before.complete
       ];
     }
 
 pub returns : goal.returns
 returns c =
-    complete_all c.args.program.now (map (λ (b : Beginning). b.alternative) c.args.beginnings.now) c.args.c c.loop-beginning.beginning-index c.loop-beginning.list.items (omega (arith, mapped_len (λ (b : Beginning). b.alternative) c.args.beginnings.now)) c.loop-beginning.invariant.among c.loop-beginning.invariant.complete
+    complete_all c.args.nfa.now (map (λ (b : Beginning). b.alternative) c.args.beginnings.now) c.args.c c.loop-beginning.beginning-index c.loop-beginning.list.items (omega (arith, mapped_len (λ (b : Beginning). b.alternative) c.args.beginnings.now)) c.loop-beginning.invariant.among c.loop-beginning.invariant.complete

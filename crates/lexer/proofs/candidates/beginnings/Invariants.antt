@@ -7,7 +7,7 @@ use Rattle.lexer.proofs.candidates.beginnings.Given as goal
 
 abbrev pub invariant-loop-alternative : goal.invariant-loop-alternative
 invariant-loop-alternative l = record {
-  ready : IsReady (length l.program) l.reading;
+  ready : IsReady (length l.nfa) l.reading;
   alternatives : map (λ (b : Beginning). b.alternative) l.list.items ≡ take l.alternative-index l.alternatives;
-  each : (b : Beginning) → Contains l.list.items b → IsBeginning l.program b;
+  each : (b : Beginning) → Contains l.list.items b → IsBeginning l.nfa b;
 }

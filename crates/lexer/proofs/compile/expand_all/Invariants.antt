@@ -6,7 +6,7 @@ use Rattle.lexer.proofs.compile.expand_all.Given as goal
 abbrev pub invariant-loop-number : goal.invariant-loop-number
 invariant-loop-number l = record {
   from : l.first ≤ l.number;
-  expanded : AreExpanded (map rule_of l.names.rules.now) l.initial.nodes.items l.nodes.items l.first l.number;
+  expanded : AreExpanded (map rule_of l.names.rules.now) l.initial.states.items l.states.items l.first l.number;
 }
 
 abbrev pub decreases-loop-number : goal.decreases-loop-number

@@ -17,7 +17,7 @@ longest-requires-clause-dead c = c.loop-alternative.invariant.dead c.args.text.n
 
 pub loop-alternative-preserved : goal.loop-alternative-preserved
 loop-alternative-preserved c =
-    let P = c.args.program.now in
+    let P = c.args.nfa.now in
     let text = chars c.args.text.now in
     let list = c.args.alternatives.now in
     let i = c.loop-alternative.alternative-index in
@@ -35,4 +35,4 @@ loop-alternative-preserved c =
 
 pub returns-clause-best : goal.returns-clause-best
 returns-clause-best c =
-    each_all c.args.program.now (chars c.args.text.now) c.args.alternatives.now c.loop-alternative.alternative-index c.loop-alternative.best.kind c.loop-alternative.best.len (omega arith) c.loop-alternative.invariant.each c.loop-alternative.invariant.some
+    each_all c.args.nfa.now (chars c.args.text.now) c.args.alternatives.now c.loop-alternative.alternative-index c.loop-alternative.best.kind c.loop-alternative.best.len (omega arith) c.loop-alternative.invariant.each c.loop-alternative.invariant.some

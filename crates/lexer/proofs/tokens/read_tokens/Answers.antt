@@ -12,7 +12,7 @@ use Rattle.lexer.proofs.tokens.read_tokens.Goals as goal
 pub loop-at-init : goal.loop-at-init
 loop-at-init c =
     let P : List PlacedToken → Type 0 = λ x. IsReadTo c.args.checked.now.grammar c.args.text.now 0 x in
-    record { ready = c.in_ok-reading.ensures.ready; dead = none_dead c.args.rules.now.nodes.items c.args.text.now c.in_ok-reading.reading.dead c.in_ok-reading.ensures.none; read_to = subst P (ap (λ l. map token_of l) (sym c.new-tokens.ensures.items)) (nothing_read c.args.checked.now.grammar c.args.text.now c.utf8.text) }
+    record { ready = c.in_ok-reading.ensures.ready; dead = none_dead c.args.rules.now.states.items c.args.text.now c.in_ok-reading.reading.dead c.in_ok-reading.ensures.none; read_to = subst P (ap (λ l. map token_of l) (sym c.new-tokens.ensures.items)) (nothing_read c.args.checked.now.grammar c.args.text.now c.utf8.text) }
 
 pub range_from-requires : goal.range_from-requires
 range_from-requires c h = is_boundary c.args.checked.now.grammar c.args.text.now c.loop-at.at (map token_of c.loop-at.tokens.items) c.loop-at.invariant.read_to
@@ -22,7 +22,7 @@ next-requires-clause-dead c =
     let text = c.args.text.now in
     let s = c.loop-at.invariant.read_to in
     let rest = c.range_from.result.now in
-    dead_end c.args.rules.now.nodes.items text rest c.loop-at.reading.dead (whole_ends text rest (encode_utf8_all s.before) s.left s.bytes (c.range_from.ensures.value ∙ left_is c.args.checked.now.grammar text c.loop-at.at (map token_of c.loop-at.tokens.items) s)) c.loop-at.invariant.dead
+    dead_end c.args.rules.now.states.items text rest c.loop-at.reading.dead (whole_ends text rest (encode_utf8_all s.before) s.left s.bytes (c.range_from.ensures.value ∙ left_is c.args.checked.now.grammar text c.loop-at.at (map token_of c.loop-at.tokens.items) s)) c.loop-at.invariant.dead
 
 pub returns-in_default-clause-fault : goal.returns-in_default-clause-fault
 returns-in_default-clause-fault c =
@@ -32,8 +32,8 @@ returns-in_default-clause-fault c =
     let tokens = map token_of c.loop-at.tokens.items in
     let s = c.loop-at.invariant.read_to in
     let rest = c.range_from.result.now in
-    let none : HasNoNext c.args.rules.now.nodes.items c.args.rules.now.alternatives.items (chars rest) = found_none c.in_ok-found.found _ _ c.in_default.is c.in_ok-found.ensures.next in
-    stops G text at tokens s c.args.rules.now.nodes.items c.args.rules.now.alternatives.items c.requires.built.of_grammar rest (c.range_from.ensures.value ∙ left_is G text at tokens s) c.loop-at-test.true none
+    let none : HasNoNext c.args.rules.now.states.items c.args.rules.now.alternatives.items (chars rest) = found_none c.in_ok-found.found _ _ c.in_default.is c.in_ok-found.ensures.next in
+    stops G text at tokens s c.args.rules.now.states.items c.args.rules.now.alternatives.items c.requires.built.of_grammar rest (c.range_from.ensures.value ∙ left_is G text at tokens s) c.loop-at-test.true none
 
 pub overflow_add-end : goal.overflow_add-end
 overflow_add-end c =
@@ -42,7 +42,7 @@ overflow_add-end c =
     let at = c.loop-at.at in
     let tokens = map token_of c.loop-at.tokens.items in
     let s = c.loop-at.invariant.read_to in
-    let P = c.args.rules.now.nodes.items in
+    let P = c.args.rules.now.states.items in
     let all = c.args.rules.now.alternatives.items in
     let rest = c.range_from.result.now in
     let m = c.in-Some.next in
@@ -57,7 +57,7 @@ overflow_cast-end c =
     let at = c.loop-at.at in
     let tokens = map token_of c.loop-at.tokens.items in
     let s = c.loop-at.invariant.read_to in
-    let P = c.args.rules.now.nodes.items in
+    let P = c.args.rules.now.states.items in
     let all = c.args.rules.now.alternatives.items in
     let rest = c.range_from.result.now in
     let m = c.in-Some.next in
@@ -72,7 +72,7 @@ loop-at-smaller-in_ok-push c =
     let at = c.loop-at.at in
     let tokens = map token_of c.loop-at.tokens.items in
     let s = c.loop-at.invariant.read_to in
-    let P = c.args.rules.now.nodes.items in
+    let P = c.args.rules.now.states.items in
     let all = c.args.rules.now.alternatives.items in
     let rest = c.range_from.result.now in
     let m = c.in-Some.next in
@@ -87,7 +87,7 @@ loop-at-preserved-in_ok-push c =
     let at = c.loop-at.at in
     let tokens = map token_of c.loop-at.tokens.items in
     let s = c.loop-at.invariant.read_to in
-    let P = c.args.rules.now.nodes.items in
+    let P = c.args.rules.now.states.items in
     let all = c.args.rules.now.alternatives.items in
     let rest = c.range_from.result.now in
     let m = c.in-Some.next in
@@ -105,7 +105,7 @@ loop-at-smaller c =
     let at = c.loop-at.at in
     let tokens = map token_of c.loop-at.tokens.items in
     let s = c.loop-at.invariant.read_to in
-    let P = c.args.rules.now.nodes.items in
+    let P = c.args.rules.now.states.items in
     let all = c.args.rules.now.alternatives.items in
     let rest = c.range_from.result.now in
     let m = c.in-Some.next in
@@ -120,7 +120,7 @@ loop-at-preserved c =
     let at = c.loop-at.at in
     let tokens = map token_of c.loop-at.tokens.items in
     let s = c.loop-at.invariant.read_to in
-    let P = c.args.rules.now.nodes.items in
+    let P = c.args.rules.now.states.items in
     let all = c.args.rules.now.alternatives.items in
     let rest = c.range_from.result.now in
     let m = c.in-Some.next in

@@ -7,8 +7,8 @@ use Rattle.lexer.proofs.tokens.read_tokens.Given as goal
 
 abbrev pub invariant-loop-at : goal.invariant-loop-at
 invariant-loop-at l = record {
-  ready : IsReady (length l.rules.nodes.items) l.reading;
-  dead : AreDead l.rules.nodes.items l.text l.reading.dead;
+  ready : IsReady (length l.rules.states.items) l.reading;
+  dead : AreDead l.rules.states.items l.text l.reading.dead;
   read_to : IsReadTo l.checked.grammar l.text l.at (map token_of l.tokens.items);
 }
 

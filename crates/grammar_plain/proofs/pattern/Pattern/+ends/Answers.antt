@@ -1,7 +1,7 @@
 use Rattle.std.proofs.Common.{◌≡◌, ◌&&◌, false, slice_index_or, ◌<◌, ◌+◌, ◌⊎◌, ℕ, Bool, List, length, inl, inr, sym, ap, refl, ◌∙◌, subst, arith}
 use Rattle.grammar_tree.specs.Chars.{has}
 use Rattle.grammar_plain.specs.Patterns as plain
-use Rattle.grammar_plain.specs.Places.{AreEnds, Known}
+use Rattle.grammar_plain.specs.Positions.{AreEnds, Known}
 use Rattle.grammar_plain.specs.View.{pattern}
 use Rattle.grammar_plain.proofs.Views.{pattern-One, pattern-Plus}
 use Rattle.grammar_plain.proofs.Marks.{IsUnion, fewer, in_union, unmarked}
@@ -74,4 +74,4 @@ returns-in_ok-to-in-One-clause-ends t c =
     let P : List (ℕ × ℕ) → Type 0 = λ l. (k : ℕ) → k < length K → slice_index_or to (k + 1) false ≡ (slice_index_or from k false && has l (slice_index_or K k 0)) in
     let rest = subst P c.deref.ensures.value c.in_ok-to-in-One.ensures.rest in
     as_pattern (Known c.args.rows.now) K (pattern c.args.self.now) (plain.Pattern.one c.in-One.ranges.items) from from to (ap pattern c.in-One.is ∙ pattern-One c.in-One.ranges) refl
-    (ends_one (Known c.args.rows.now) K c.in-One.ranges.items from to c.requires.places (omega (arith, c.in_ok-to-in-One.ensures.len, c.in_ok-to-in-One.to.ok.0)) c.in_ok-to-in-One.ensures.first rest)
+    (ends_one (Known c.args.rows.now) K c.in-One.ranges.items from to c.requires.positions (omega (arith, c.in_ok-to-in-One.ensures.len, c.in_ok-to-in-One.to.ok.0)) c.in_ok-to-in-One.ensures.first rest)

@@ -1,5 +1,5 @@
 use Rattle.std.proofs.Common.{◌≡◌, length, vec_len}
-use Rattle.grammar_plain.specs.Places.{Begun, Known}
+use Rattle.grammar_plain.specs.Positions.{Begun, Known}
 use Rattle.grammar_plain.proofs.Marks.{unmarked}
 use Rattle.grammar_plain.specs.View.{pattern}
 use Rattle.grammar_plain.proofs.pattern.Pattern.+ends.Given as goal

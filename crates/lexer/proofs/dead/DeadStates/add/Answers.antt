@@ -2,7 +2,7 @@ use Rattle.std.proofs.Common.{◌≡◌, ◌⊎◌, inl, inr, ℕ, Bool, true, f
 use Rattle.std.specs.Ordering.{nat_cmp}
 use Rattle.std.proofs.lemmas.Map.Lookups.{exact_pairs, exact_unsigned}
 use Rattle.std.proofs.lemmas.Map.Views.{tells_apart}
-use Rattle.lexer.proofs.dead.DeadNodes.add.Goals as goal
+use Rattle.lexer.proofs.dead.DeadStates.add.Goals as goal
 
 either : (b x : Bool) → cond b true x ≡ true → (b ≡ true) ⊎ (x ≡ true)
 either true x e = inl refl
@@ -20,6 +20,6 @@ returns-clause-added c r n h =
     elim (either _ _ (sym (c.in_ok-insert.ensures.updates.0 (r, n)) ∙ h)) [
       | inr old ↦ inl old
       | inl here ↦
-          let same = tells_apart (exact_pairs nat_cmp nat_cmp exact_unsigned exact_unsigned) (c.args.dead.remaining, c.args.dead.node) (r, n) here in
+          let same = tells_apart (exact_pairs nat_cmp nat_cmp exact_unsigned exact_unsigned) (c.args.dead.remaining, c.args.dead.state) (r, n) here in
           inr (sym (ap (λ (p : ℕ × ℕ). p.0) same), sym (ap (λ (p : ℕ × ℕ). p.1) same))
     ]

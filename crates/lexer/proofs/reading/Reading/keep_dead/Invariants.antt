@@ -1,15 +1,15 @@
 use Rattle.std.proofs.Common.{◌≡◌, ◌⊎◌, ℕ, length}
 use Rattle.std.specs.List.{Contains}
-use Rattle.lexer.specs.declared.dead.NodeAt.{NodeAt}
-use Rattle.lexer.specs.Dead.{HasDead, node_at}
+use Rattle.lexer.specs.declared.dead.StateAt.{StateAt}
+use Rattle.lexer.specs.Dead.{HasDead, state_at}
 use Rattle.lexer.proofs.reading.Reading.keep_dead.Given as goal
 
 abbrev pub invariant-loop-dead : goal.invariant-loop-dead
 invariant-loop-dead l = record {
-  live : l.self.live ≡ l.initial.self.live;
+  current : l.self.current ≡ l.initial.self.current;
   next : l.self.next ≡ l.initial.self.next;
-  among : (p : NodeAt) → Contains l.self.trace.items p → Contains l.initial.self.trace.items p;
-  added : (r n : ℕ) → HasDead l.self.dead r n → HasDead l.initial.self.dead r n ⊎ Contains l.initial.self.trace.items (node_at r n);
+  among : (p : StateAt) → Contains l.self.trace.items p → Contains l.initial.self.trace.items p;
+  added : (r n : ℕ) → HasDead l.self.dead r n → HasDead l.initial.self.dead r n ⊎ Contains l.initial.self.trace.items (state_at r n);
 }
 
 abbrev pub decreases-loop-dead : goal.decreases-loop-dead

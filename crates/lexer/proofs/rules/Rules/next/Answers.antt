@@ -1,7 +1,7 @@
 use Rattle.std.proofs.Common.{List, MatchOption, subst}
 use Rattle.std.specs.Str.{chars}
 use Rattle.lexer.specs.declared.pieces.Match.{Match}
-use Rattle.lexer.specs.declared.program.Node.{Node}
+use Rattle.lexer.specs.declared.nfa.State.{State}
 use Rattle.lexer.specs.declared.reading.Alternative.{Alternative}
 use Rattle.lexer.specs.Candidates.{ComesNext, HasNoNext}
 use Rattle.lexer.specs.Dead.{StayDead}
@@ -11,11 +11,11 @@ pub returns-clause-next : goal.returns-clause-next
 returns-clause-next c =
     let text = chars c.args.text.now in
     let found = c.in_ok-found.found in
-    let P : List Node → Type 0 = λ x. MatchOption found (HasNoNext x c.deref-2.result.now text) (λ (m : Match). ComesNext x c.deref-2.result.now text m.kind m.len) in
-    let Q : List Alternative → Type 0 = λ x. MatchOption found (HasNoNext c.args.self.now.nodes.items x text) (λ (m : Match). ComesNext c.args.self.now.nodes.items x text m.kind m.len) in
+    let P : List State → Type 0 = λ x. MatchOption found (HasNoNext x c.deref-2.result.now text) (λ (m : Match). ComesNext x c.deref-2.result.now text m.kind m.len) in
+    let Q : List Alternative → Type 0 = λ x. MatchOption found (HasNoNext c.args.self.now.states.items x text) (λ (m : Match). ComesNext c.args.self.now.states.items x text m.kind m.len) in
     subst Q c.deref-2.ensures.value (subst P c.deref.ensures.value c.in_ok-found.ensures.next)
 
 pub returns-clause-dead : goal.returns-clause-dead
 returns-clause-dead c =
-    let D : List Node → Type 0 = λ x. StayDead x c.args.text.now c.args.reading.now.dead c.next_match.new.reading.dead in
+    let D : List State → Type 0 = λ x. StayDead x c.args.text.now c.args.reading.now.dead c.next_match.new.reading.dead in
     subst D c.deref.ensures.value c.in_ok-found.ensures.dead

@@ -1,0 +1,202 @@
+//! Which lists of kinds parser rules derive.
+
+ghost use Rattle.std.specs.Prelude.{◌≡◌, ◌↔◌, ◌+◌, ℕ, IsTrue, IfOk, length, vec_len, map, take};
+ghost use Rattle.grammar_tree.specs.Checked.{StartDerives};
+ghost use Rattle.grammar_tree.specs.Derives.{RuleDerives, resolved, resolved_alts, resolved_seq};
+ghost use Rattle.grammar_tree.specs.Faults.{is_parser_rule};
+ghost use Rattle.grammar_tree.specs.GrammarView.{rule_of};
+ghost use Rattle.grammar_tree.specs.Kinds.{name_kind, parser_rules, rule_number};
+ghost use Rattle.grammar_tree.specs.View.{parser_alts, parser_term, parser_terms};
+ghost use Rattle.grammar_tree.specs.Written.{written_alts, written_seq};
+ghost use Rattle.grammar_plain.specs.Positions.{Fit, IsExact, IsIn, Known};
+ghost use Rattle.grammar_plain.specs.Resolved as plain;
+ghost use Rattle.grammar_plain.specs.View.{pattern};
+
+use crate::chart::{self, Row};
+use crate::pattern::Pattern;
+use crate::positions;
+use faults::Memory;
+use grammar_names::Names;
+use grammar_tree::{Checked, ParserAlts, ParserTerm, ParserTerms, Rule, Text};
+use std::alloc::Global;
+
+/// Whether the parser rule with this number, which counts the parser rules alone from 0, derives
+/// the list of kinds. A number that no rule has derives nothing.
+pub fn derives(alloc: Global, checked: &Checked, rule: usize, kinds: &[u32]) -> Result<bool, Memory>
+    ensures { IfOk result (λ b. IsTrue b ↔ RuleDerives checked.now.grammar rule kinds.now) }
+{
+    let rows = rule_rows(alloc, checked, kinds)?;
+    let ends = rule_ends(alloc, &rows, kinds, rule)?;
+    Ok(ends[kinds.len()])
+}
+
+/// Up to which positions the rule is known to span from the list's start.
+fn rule_ends(alloc: Global, rows: &[Row], list: &[u32], rule: usize) -> Result<Vec<bool>, Memory>
+    requires { Fit rows.now (length list.now + 1) }
+    ensures len { IfOk result (λ ends. vec_len ends ≡ length list.now + 1) }
+    ensures ends { IfOk result (λ ends. (j : ℕ) → IsIn ends.items j ↔ Known rows.now rule 0 j) }
+{
+    let from = positions::only(alloc, list.len() + 1, 0)?;
+    let ends = chart::known_ends(alloc, rows, rule, &from)?;
+    Ok(ends)
+}
+
+/// Whether the start rule derives the list of kinds.
+pub fn start_derives(alloc: Global, checked: &Checked, kinds: &[u32]) -> Result<bool, Memory>
+    ensures { IfOk result (λ b. IsTrue b ↔ StartDerives checked.now kinds.now) }
+{
+    let number = number_at(&checked.grammar().rules, checked.start() as usize);
+    let derived = derives(alloc, checked, number, kinds)?;
+    Ok(derived)
+}
+
+/// How many parser rules come before the index.
+fn number_at(rules: &[Rule], index: usize) -> usize
+    ensures { result ≡ length (parser_rules (take index (map rule_of rules.now))) }
+{
+    let mut number = 0;
+    for i in 0..rules.len().min(index) {
+        if is_parser_rule(&rules[i]) {
+            number += 1;
+        }
+    }
+    number
+}
+
+fn is_parser_rule(rule: &Rule) -> bool
+    ensures { result ≡ is_parser_rule (rule_of rule.now) }
+{
+    match rule {
+        Rule::Parser { .. } => true,
+        Rule::Lexer { .. } => false,
+    }
+}
+
+/// Where the parser rules, each under its number, span in the list.
+fn rule_rows(alloc: Global, checked: &Checked, list: &[u32]) -> Result<Vec<Row>, Memory>
+    ensures fit { IfOk result (λ rows. Fit rows.items (length list.now + 1)) }
+    ensures exact { IfOk result (λ rows. IsExact rows.items (plain.body_patterns checked.now.grammar) list.now (length list.now + 1)) }
+{
+    checked.is_checked();
+    let names = Names::new(alloc, checked.grammar(), checked.kinds())?;
+    let bodies = rule_patterns(alloc, &names, &checked.grammar().rules)?;
+    let rows = chart::closed_rows(alloc, &bodies, list)?;
+    Ok(rows)
+}
+
+/// The patterns of the parser rules among these rules, in written order.
+fn rule_patterns(alloc: Global, names: &Names<'_>, rules: &[Rule]) -> Result<Vec<Pattern>, Memory>
+    ensures { IfOk result (λ patterns. map pattern patterns.items ≡ plain.rule_patterns names.now (map rule_of rules.now)) }
+{
+    let mut patterns = Vec::new(alloc);
+    for rule in rules {
+        if let Rule::Parser { alts, .. } = rule {
+            patterns.push(alts_pattern(alloc, names, alts)?)?;
+        }
+    }
+    Ok(patterns)
+}
+
+#[cycle(patterns)]
+fn term_pattern(alloc: Global, names: &Names<'_>, term: &ParserTerm) -> Result<Pattern, Memory>
+    ensures { IfOk result (λ p. pattern p ≡ plain.term_pattern (resolved names.now (parser_term term.now))) }
+{
+    match term {
+        ParserTerm::Literal(text) => {
+            let whole = kind_pattern(alloc, names.literal_kind(text))?;
+            Ok(whole)
+        }
+        ParserTerm::Name(name) => {
+            let whole = name_pattern(alloc, names, name)?;
+            Ok(whole)
+        }
+        ParserTerm::Any => {
+            let whole = among(alloc, names.any_kinds())?;
+            Ok(whole)
+        }
+        ParserTerm::Not(tokens) => {
+            let others = names.other_kinds(alloc, tokens)?;
+            let whole = among(alloc, &others)?;
+            Ok(whole)
+        }
+        ParserTerm::Block(alts) => {
+            let whole = alts_pattern(alloc, names, alts)?;
+            Ok(whole)
+        }
+        ParserTerm::Opt(part) => {
+            let whole = Pattern::optional(alloc, term_pattern(alloc, names, part)?)?;
+            Ok(whole)
+        }
+        ParserTerm::Star(part) => {
+            let some = Pattern::repeated(alloc, term_pattern(alloc, names, part)?)?;
+            let whole = Pattern::optional(alloc, some)?;
+            Ok(whole)
+        }
+        ParserTerm::Plus(part) => {
+            let whole = Pattern::repeated(alloc, term_pattern(alloc, names, part)?)?;
+            Ok(whole)
+        }
+        ParserTerm::Eof => Ok(Pattern::Empty),
+    }
+}
+
+#[cycle(patterns)]
+fn seq_pattern(alloc: Global, names: &Names<'_>, terms: &ParserTerms) -> Result<Pattern, Memory>
+    ensures { IfOk result (λ p. pattern p ≡ plain.seq_pattern (resolved_seq names.now (written_seq (parser_terms terms.now)))) }
+{
+    let mut whole = Pattern::Empty;
+    for i in (0..terms.items.len()).rev() {
+        let first = term_pattern(alloc, names, &terms.items[i])?;
+        whole = Pattern::then(alloc, first, whole)?;
+    }
+    Ok(whole)
+}
+
+#[cycle(patterns)]
+fn alts_pattern(alloc: Global, names: &Names<'_>, alts: &ParserAlts) -> Result<Pattern, Memory>
+    ensures { IfOk result (λ p. pattern p ≡ plain.alts_pattern (resolved_alts names.now (written_alts (parser_alts alts.now)))) }
+{
+    let mut whole = Pattern::Never;
+    for i in (0..alts.items.len()).rev() {
+        let first = seq_pattern(alloc, names, &alts.items[i])?;
+        whole = Pattern::either(alloc, first, whole)?;
+    }
+    Ok(whole)
+}
+
+/// A parser rule, or else the kind of a token.
+fn name_pattern(alloc: Global, names: &Names<'_>, name: &Text) -> Result<Pattern, Memory>
+    ensures { IfOk result (λ p. pattern p ≡ plain.or_token (rule_number names.now name.now) (name_kind names.now name.now)) }
+{
+    match names.rule_number(name) {
+        Some(number) => Ok(Pattern::Rule(number as usize)),
+        None => {
+            let whole = kind_pattern(alloc, names.name_kind(name))?;
+            Ok(whole)
+        }
+    }
+}
+
+/// One kind, and nothing where it is missing.
+fn kind_pattern(alloc: Global, kind: Option<u32>) -> Result<Pattern, Memory>
+    ensures { IfOk result (λ p. pattern p ≡ plain.or_nothing kind) }
+{
+    match kind {
+        Some(kind) => {
+            let whole = Pattern::number(alloc, kind)?;
+            Ok(whole)
+        }
+        None => Ok(Pattern::One(Vec::new(alloc))),
+    }
+}
+
+/// One of the kinds.
+fn among(alloc: Global, kinds: &[u32]) -> Result<Pattern, Memory>
+    ensures { IfOk result (λ p. pattern p ≡ plain.among kinds.now) }
+{
+    let mut ranges = Vec::new(alloc);
+    for kind in kinds {
+        ranges.push((*kind, *kind))?;
+    }
+    Ok(Pattern::One(ranges))
+}

@@ -1,4 +1,0 @@
-pub mod Reading
-pub mod Beginnings
-pub mod Numbered
-pub mod Scalars
