@@ -1,6 +1,4 @@
 //! Expected values are worked out by hand from the definitions.
 
 mod checks;
-mod forms;
-mod kinds;
-mod lexing;
+mod copies;

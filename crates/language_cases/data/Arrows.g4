@@ -1,0 +1,1 @@
+grammar A; tokens { T } s : '<' '<<' '<<=' T ;

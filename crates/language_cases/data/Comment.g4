@@ -1,0 +1,1 @@
+grammar W; s : 'x' ; A : 'y' -> skip | 'z' .*? 'z' -> skip ; B : '(' [a-c]* ')'? -> skip ; C : [a-c] D? -> skip ; fragment D : 'd' ; E : [b-e] ;

@@ -1,0 +1,1 @@
+grammar A; s : ID ; ID : L (L | D)* ; fragment L : [a-z] ; fragment D : [0-9] ;

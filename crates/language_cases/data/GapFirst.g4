@@ -1,0 +1,1 @@
+grammar A; s : B ; A : 'a' -> skip ; B : 'a'+ ;

@@ -1,0 +1,1 @@
+grammar W; s : 'x' ; A : 'aa' | 'b'+ ; B : [a-c] -> skip ; C : 'c' ; F : ('e' | 'f' 'g'?)+ -> skip ;

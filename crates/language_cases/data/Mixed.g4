@@ -1,0 +1,1 @@
+grammar G; tokens { F, B, T, T } a : 'x' 'y' ~('z' | 'y') 'w' 'v' B ; A : 'x' -> skip ; B : 'y' ; fragment F : 'z' ; C : 'w' | 'u' ; D : 'v' ; E : 'v' ;

@@ -1,0 +1,1 @@
+grammar A; s : 'if' 'else' ID ; ID : [a-z]+ ; IF : 'if' ;

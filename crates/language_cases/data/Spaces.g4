@@ -1,0 +1,1 @@
+grammar W; s : 'x' '\u{A0}' ; A : [\u0080-\u009F] ; WS : [ \t\n\u0080-\u{2FFF}]+ -> skip ; LAST : ~[\u{E000}]  -> channel(HIDDEN) ;

@@ -1,0 +1,1 @@
+grammar S; a : . ~'x' ~('y' | 'x') ~WS b* c+ (b | c)? e EOF ; b : 'x' ; c : 'z' ~Z ; e : | ('y') ; Z : 'z' ; WS : ' ' -> skip ;

@@ -1,0 +1,1 @@
+grammar A; s : B ; B : 'a' ; A : 'a'+ -> channel(HIDDEN) ;

@@ -1,0 +1,19 @@
+//! The first faults of grammars.
+
+use anyhow::Result;
+use grammar_tests::{Refused, checked};
+use std::alloc::Global;
+
+/// The fault of a grammar with these rules, which come after the name of its start and `=>`. Where no
+/// name is given, the start is the first parser rule.
+pub(crate) fn fault_shown(alloc: Global, text: &str) -> Result<String> {
+    let (start, rules) = text.split_once("=> ").unwrap_or(("", text));
+    let start = start.trim();
+    let grammar = format!(in alloc; "grammar G; {rules}")?;
+    let wanted = if start.len() == 0 { None } else { Some(start) };
+    match checked(alloc, grammar.as_str(), wanted) {
+        Ok(_) => Ok(String::from_str(alloc, "no fault")?),
+        Err(Refused::Faulty(fault)) => Ok(fault.to_string(alloc)?),
+        Err(Refused::TooLong) => Ok(String::from_str(alloc, "too long")?),
+    }
+}

@@ -1,0 +1,41 @@
+//! Printed normal forms, and lists of kinds that rules derive.
+
+use anyhow::Result;
+use grammar_plain::{derives, start_derives};
+use grammar_tree::Checked;
+use normal_form::{normal_text, normalise};
+use std::alloc::Global;
+
+/// The normal form of the grammar, and that its copy prints the same.
+pub(crate) fn form_shown(alloc: Global, checked: &Checked) -> Result<String> {
+    let normal = normalise(alloc, checked)?;
+    let text = normal_text(alloc, checked, &normal)?;
+    let copied = normal_text(alloc, checked, &normal.copy(alloc)?)?;
+    if text.as_slice() != copied.as_slice() {
+        return Ok(String::from_str(alloc, "the copy prints another text")?);
+    }
+    Ok(String::from_utf8(text)?)
+}
+
+/// The numbers in the text.
+fn numbers(alloc: Global, text: &str) -> Result<Vec<u32>> {
+    let mut all = Vec::new(alloc);
+    for word in text.split_whitespace() {
+        all.push(word.parse::<u32>()?)?;
+    }
+    Ok(all)
+}
+
+/// Whether a rule derives the list of kinds. The text has the rule's number, `=>` and the kinds.
+pub(crate) fn derived_shown(alloc: Global, checked: &Checked, text: &str) -> Result<String> {
+    let (rule, kinds) = text.split_once("=>").unwrap_or((text, ""));
+    let rule = rule.trim().parse::<u32>()?;
+    let derived = derives(alloc, checked, rule as usize, &numbers(alloc, kinds)?)?;
+    Ok(derived.to_string(alloc)?)
+}
+
+/// Whether the start derives the list of kinds.
+pub(crate) fn start_shown(alloc: Global, checked: &Checked, text: &str) -> Result<String> {
+    let derived = start_derives(alloc, checked, &numbers(alloc, text)?)?;
+    Ok(derived.to_string(alloc)?)
+}
