@@ -16,8 +16,8 @@ use Rattle.grammar_tree.specs.Size.{alts_size, seq_size, term_size, grammar_size
 use Rattle.grammar_tree.specs.Checked.{IsChecked}
 use Rattle.normal_form.proofs.Resolving.{kind_term, name_term}
 use Rattle.normal_form.specs.declared.parser_rule.ParserRuleRef.{ParserRuleRef}
-use Rattle.normal_form.specs.NormalOf.{alts_sets, names_from, normal_of, numbering, place, seq_sets, sets_of, term_sets}
-use Rattle.normal_form.specs.Numbers.{AreNumbersOf, places_from}
+use Rattle.normal_form.specs.NormalOf.{alts_sets, names_from, normal_of, numbering, own_rule, seq_sets, sets_of, term_sets}
+use Rattle.normal_form.specs.Numbers.{AreNumbersOf, own_rules_from}
 use Rattle.normal_form.specs.Sets.{SetsOfKinds}
 use Rattle.normal_form.specs.View.{bodies_of, normal_form, parser_rule, rule_form}
 use Rattle.normal_form.specs.Form.{RuleForm, NormalForm}
@@ -32,17 +32,17 @@ pub bodies_are : (G H : WrittenGrammar) (found : List ParserRuleRef) (rules : Li
 bodies_are G H found rules e is f =
     ap (λ K. bodies_of K found) e ∙ ap (map (λ (r : ParserRule). resolved_alts G r.alts)) (f ∙ ap parser_rules is)
 
--- The places.
-places_length : (n r : ℕ) (G : List Alts) → length (places_from n r G) ≡ length G
-places_length n r [] = refl
-places_length n r (a ∷ G) = ap suc (places_length (n + group_size r a) (r + 1) G)
+-- The numbers of the parser rules' own rules.
+own_rules_length : (n r : ℕ) (G : List Alts) → length (own_rules_from n r G) ≡ length G
+own_rules_length n r [] = refl
+own_rules_length n r (a ∷ G) = ap suc (own_rules_length (n + group_size r a) (r + 1) G)
 
-place_at : (n r : ℕ) (G : List Alts) (k : ℕ) → k < length G → get_or (places_from n r G) k 0 ≡ n + normal_count_from r (take k G)
-place_at n r [] k h = absurd (omega (arith, h))
-place_at n r (a ∷ G) zero h = omega arith
-place_at n r (a ∷ G) (suc k) h =
+own_rule_at : (n r : ℕ) (G : List Alts) (k : ℕ) → k < length G → get_or (own_rules_from n r G) k 0 ≡ n + normal_count_from r (take k G)
+own_rule_at n r [] k h = absurd (omega (arith, h))
+own_rule_at n r (a ∷ G) zero h = omega arith
+own_rule_at n r (a ∷ G) (suc k) h =
     let next : normal_count_from (r + 1) (take k G) ≡ normal_count_from (suc r) (take k G) = ap (λ q. normal_count_from q (take k G)) (omega arith) in
-    place_at (n + group_size r a) (r + 1) G k (omega (arith, h)) ∙ omega (arith, next)
+    own_rule_at (n + group_size r a) (r + 1) G k (omega (arith, h)) ∙ omega (arith, next)
 
 -- The sets are fewer than the terms.
 cond_shorter : (x : List ℕ) (xs ys : List (List ℕ)) → length xs ≤ length ys → (b : Bool) → length (cond b (x ∷ xs) xs) ≤ length (x ∷ ys)
@@ -101,19 +101,19 @@ unfolding grammar_size
 few_sets G = omega (arith, distinct_shorter (flat_map alts_sets (bodies G)), rules_fit G G.rules)
 
 -- what is looked up is the grammar's
-pub numbers_are : (G H : WrittenGrammar) (places : List ℕ) (sets : SetsOfKinds) (B : List Alts) → H ≡ G → B ≡ bodies G → places ≡ places_from 0 0 B → sets ≡ record { all = any_kinds H; sets = sets_of B } → grammar_size G < 2 ^ 32 → AreNumbersOf H places sets
-numbers_are G H places sets B e b p s small =
-    let at_B : places ≡ places_from 0 0 (bodies G) = p ∙ ap (places_from 0 0) b in
+pub numbers_are : (G H : WrittenGrammar) (own_rules : List ℕ) (sets : SetsOfKinds) (B : List Alts) → H ≡ G → B ≡ bodies G → own_rules ≡ own_rules_from 0 0 B → sets ≡ record { all = any_kinds H; sets = sets_of B } → grammar_size G < 2 ^ 32 → AreNumbersOf H own_rules sets
+numbers_are G H own_rules sets B e b p s small =
+    let at_B : own_rules ≡ own_rules_from 0 0 (bodies G) = p ∙ ap (own_rules_from 0 0) b in
     let sets_G : sets.sets ≡ sets_of (bodies G) = ap (λ (t : SetsOfKinds). t.sets) s ∙ ap sets_of b in
-    let all : AreNumbersOf G places sets =
+    let all : AreNumbersOf G own_rules sets =
     (record {
-      known = ap length at_B ∙ places_length 0 0 (bodies G);
-      places_are = λ r h. ap (λ l. get_or l r 0) at_B ∙ place_at 0 0 (bodies G) r h ∙ omega arith;
+      known = ap length at_B ∙ own_rules_length 0 0 (bodies G);
+      own_rules_are = λ r h. ap (λ l. get_or l r 0) at_B ∙ own_rule_at 0 0 (bodies G) r h ∙ omega arith;
       all_are = ap (λ (t : SetsOfKinds). t.all) s ∙ ap any_kinds e;
       sets_are = sets_G;
       few_sets = omega (arith, few_sets G, small, ap length sets_G);
     }) in
-    let P : WrittenGrammar → Type 0 = λ K. AreNumbersOf K places sets in subst P (sym e) all
+    let P : WrittenGrammar → Type 0 = λ K. AreNumbersOf K own_rules sets in subst P (sym e) all
 
 -- The start.
 pub start_within : (c : CheckedGrammar) → IsChecked c → c.start < length c.grammar.rules
@@ -143,19 +143,19 @@ pub start_length : (c : CheckedGrammar) → IsChecked c → (items rules : List 
 start_length c checked items rules start e is s =
     omega (arith, start_within c checked, s, length-take start items, ap length is, length-map rules rule_of, ap length e)
 
--- how many places there are
-pub places_known : (G H : WrittenGrammar) (places : List ℕ) (B : List Alts) → B ≡ bodies G → places ≡ places_from 0 0 B → length places ≡ length (bodies G)
-places_known G H places B b p = ap length (p ∙ ap (places_from 0 0) b) ∙ places_length 0 0 (bodies G)
+-- how many own rules there are
+pub own_rules_known : (G H : WrittenGrammar) (own_rules : List ℕ) (B : List Alts) → B ≡ bodies G → own_rules ≡ own_rules_from 0 0 B → length own_rules ≡ length (bodies G)
+own_rules_known G H own_rules B b p = ap length (p ∙ ap (own_rules_from 0 0) b) ∙ own_rules_length 0 0 (bodies G)
 
--- the place that is read
-pub place_read : (G : WrittenGrammar) (places : List ℕ) (B : List Alts) (k m : ℕ) (x : ℕ) → B ≡ bodies G → places ≡ places_from 0 0 B → k ≡ m → m < length (bodies G) → x ≡ get_or places k x → x ≡ place (bodies G) m
-place_read G places B k m x b p e h is =
-    let at : places ≡ places_from 0 0 (bodies G) = p ∙ ap (places_from 0 0) b in
-    let within : m < length places = omega (arith, h, ap length at, places_length 0 0 (bodies G)) in
-    is ∙ ap (λ j. get_or places j x) e ∙ get_or_default places m x 0 within ∙ ap (λ l. get_or l m 0) at ∙ place_at 0 0 (bodies G) m h ∙ omega arith
+-- the own rule that is read
+pub own_rule_read : (G : WrittenGrammar) (own_rules : List ℕ) (B : List Alts) (k m : ℕ) (x : ℕ) → B ≡ bodies G → own_rules ≡ own_rules_from 0 0 B → k ≡ m → m < length (bodies G) → x ≡ get_or own_rules k x → x ≡ own_rule (bodies G) m
+own_rule_read G own_rules B k m x b p e h is =
+    let at : own_rules ≡ own_rules_from 0 0 (bodies G) = p ∙ ap (own_rules_from 0 0) b in
+    let within : m < length own_rules = omega (arith, h, ap length at, own_rules_length 0 0 (bodies G)) in
+    is ∙ ap (λ j. get_or own_rules j x) e ∙ get_or_default own_rules m x 0 within ∙ ap (λ l. get_or l m 0) at ∙ own_rule_at 0 0 (bodies G) m h ∙ omega arith
 
 -- the whole
-pub assembled : (c : CheckedGrammar) (made : List NormalRule) (names : List (List ℕ)) (sets : List (List ℕ)) (start : ℕ) → map rule_form made ≡ groups (numbering (bodies c.grammar)) 0 0 (bodies c.grammar) → names ≡ names_from c.grammar 0 (parser_rules c.grammar.rules) → sets ≡ sets_of (bodies c.grammar) → start ≡ place (bodies c.grammar) (number_at c.grammar c.start) → normal_form made names sets start ≡ normal_of c
+pub assembled : (c : CheckedGrammar) (made : List NormalRule) (names : List (List ℕ)) (sets : List (List ℕ)) (start : ℕ) → map rule_form made ≡ groups (numbering (bodies c.grammar)) 0 0 (bodies c.grammar) → names ≡ names_from c.grammar 0 (parser_rules c.grammar.rules) → sets ≡ sets_of (bodies c.grammar) → start ≡ own_rule (bodies c.grammar) (number_at c.grammar c.start) → normal_form made names sets start ≡ normal_of c
 unfolding normal_of
 assembled c made names sets start m n s k =
     let G = bodies c.grammar in

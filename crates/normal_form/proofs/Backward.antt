@@ -1,4 +1,4 @@
--- What a symbol derives, each term that it stands for derives.
+-- What a symbol derives, each term that it represents derives.
 use Rattle.std.proofs.Common.{◌≡◌, ℕ, ◌⊎◌, inl, inr, List, [], ◌∷◌, ◌++◌, Option, Some, None, slice_get, refl, sym, ap, ◌∙◌, subst, append_assoc}
 use Rattle.std.proofs.lemmas.List.{append-nil}
 use Rattle.std.specs.List.{Contains}
@@ -8,26 +8,26 @@ use Rattle.normal_form.specs.declared.normal.Sym.{Sym}
 use Rattle.normal_form.specs.declared.normal.Sym.TheVariants.{Kind, Set, Rule}
 use Rattle.normal_form.specs.Form.{RuleForm, NormalForm}
 use Rattle.normal_form.specs.NormalDerives.{NormalDerives, NormalDerivesSeq, NormalDerivesMany, of_kind, of_set, of_regular, of_absent, of_present, of_star, of_plus, of_done, of_next, of_end, of_more}
-use Rattle.normal_form.proofs.Stands.{Stands, StandSeq, StandAlts, StandsPlain, StandsLeft, Fits}
+use Rattle.normal_form.proofs.Represents.{Represents, RepresentsSeq, RepresentsAlts, IsPlainRule, IsRecursiveRule, HasEachRule}
 use Rattle.normal_form.proofs.Lists.{Contains-nil, Contains-cases, Contains-only}
 use Rattle.normal_form.proofs.Forward.{rest_is}
 
--- each seq that the symbols stand for derives the list
+-- each sequence that the symbols represent derives the list
 abbrev pub GivenSeq : List Alts → NormalForm → (ℕ → ℕ) → List Sym → List ℕ → Type 0
-GivenSeq G N place ss w = (s : Seq) → StandSeq G N place ss s → DerivesSeq G s w
+GivenSeq G N own_rule ss w = (s : Seq) → RepresentsSeq G N own_rule ss s → DerivesSeq G s w
 
 abbrev pub Given : List Alts → NormalForm → (ℕ → ℕ) → Sym → List ℕ → Type 0
-Given G N place s w = (t : Term) → Stands G N place s t → Derives G t w
+Given G N own_rule s w = (t : Term) → Represents G N own_rule s t → Derives G t w
 
-alts_first : {G : List Alts} {N : NormalForm} (place : ℕ → ℕ) (s : Seq) (a : Alts) (ss : List Sym) (more : List (List Sym)) (alt : List Sym) (w : List ℕ) → StandSeq G N place ss s → GivenSeq G N place alt w → (Contains more alt → DerivesAlts G a w) → (alt ≡ ss) ⊎ Contains more alt → DerivesAlts G (or s a) w
-alts_first {G = G} {N = N} place s a ss more alt w st h k (inl same) = let Q : List Sym → Type 0 = λ x. StandSeq G N place x s in by_first s a w (h s (subst Q (sym same) st))
-alts_first place s a ss more alt w st h k (inr c) = by_later s a w (k c)
+alts_first : {G : List Alts} {N : NormalForm} (own_rule : ℕ → ℕ) (s : Seq) (a : Alts) (ss : List Sym) (more : List (List Sym)) (alt : List Sym) (w : List ℕ) → RepresentsSeq G N own_rule ss s → GivenSeq G N own_rule alt w → (Contains more alt → DerivesAlts G a w) → (alt ≡ ss) ⊎ Contains more alt → DerivesAlts G (or s a) w
+alts_first {G = G} {N = N} own_rule s a ss more alt w st h k (inl same) = let Q : List Sym → Type 0 = λ x. RepresentsSeq G N own_rule x s in by_first s a w (h s (subst Q (sym same) st))
+alts_first own_rule s a ss more alt w st h k (inr c) = by_later s a w (k c)
 
-alts_back : {G : List Alts} {N : NormalForm} (place : ℕ → ℕ) (a : Alts) (alts : List (List Sym)) (alt : List Sym) (w : List ℕ) → StandAlts G N place alts a → Contains alts alt → GivenSeq G N place alt w → DerivesAlts G a w
-alts_back place none alts alt w e c h = let P : List (List Sym) → Type 0 = λ x. Contains x alt in absurd (Contains-nil alt (subst P e c))
-alts_back {G = G} {N = N} place (or s a) alts alt w (ss, more, e, st, later) c h =
+alts_back : {G : List Alts} {N : NormalForm} (own_rule : ℕ → ℕ) (a : Alts) (alts : List (List Sym)) (alt : List Sym) (w : List ℕ) → RepresentsAlts G N own_rule alts a → Contains alts alt → GivenSeq G N own_rule alt w → DerivesAlts G a w
+alts_back own_rule none alts alt w e c h = let P : List (List Sym) → Type 0 = λ x. Contains x alt in absurd (Contains-nil alt (subst P e c))
+alts_back {G = G} {N = N} own_rule (or s a) alts alt w (ss, more, e, st, later) c h =
     let P : List (List Sym) → Type 0 = λ x. Contains x alt in
-    alts_first {N = N} place s a ss more alt w st h (λ c'. alts_back place a more alt w later c' h) (Contains-cases alt ss more (subst P e c))
+    alts_first {N = N} own_rule s a ss more alt w st h (λ c'. alts_back own_rule a more alt w later c' h) (Contains-cases alt ss more (subst P e c))
 
 -- A base is an alternative.
 bases_first : {G : List Alts} (s : Seq) (a b : Alts) (w : List ℕ) → (DerivesAlts G b w → DerivesAlts G a w) → (o : Option Seq) → DerivesAlts G (and_base s o b) w → DerivesAlts G (or s a) w
@@ -111,134 +111,134 @@ unrolled_back {G = G} r a w at d =
     subst P (ap (λ l. x.0 ++ l) (sym e) ∙ sym x.2) (left_many r a at x.0 (star_inverse_many (block (rests r a)) y.3 refl) refl base)
 
 -- The seq of one alternative.
-seq_end : (G : List Alts) (N : NormalForm) (place : ℕ → ℕ) (ss : List Sym) → ss ≡ [] → GivenSeq G N place ss []
-seq_end G N place ss e done st = by_done
-seq_end G N place ss e (next t s) (inl (is, st)) =
-    let P : Term → Type 0 = λ x. DerivesSeq G (next x s) [] in subst P (sym is) (by_next eof s [] [] by_eof (seq_end G N place ss e s st))
-seq_end G N place ss e (next t s) (inr (x, more, is, st, later)) = absurd (cc)
+seq_end : (G : List Alts) (N : NormalForm) (own_rule : ℕ → ℕ) (ss : List Sym) → ss ≡ [] → GivenSeq G N own_rule ss []
+seq_end G N own_rule ss e done st = by_done
+seq_end G N own_rule ss e (next t s) (inl (is, st)) =
+    let P : Term → Type 0 = λ x. DerivesSeq G (next x s) [] in subst P (sym is) (by_next eof s [] [] by_eof (seq_end G N own_rule ss e s st))
+seq_end G N own_rule ss e (next t s) (inr (x, more, is, st, later)) = absurd (cc)
 
-seq_step : {G : List Alts} {N : NormalForm} (place : ℕ → ℕ) (s : Sym) (ss : List Sym) (u v : List ℕ) → Given G N place s u → GivenSeq G N place ss v → (all : List Sym) → all ≡ s ∷ ss → GivenSeq G N place all (u ++ v)
-seq_step place s ss u v h k all e done st = absurd (cc)
-seq_step {G = G} place s ss u v h k all e (next t q) (inl (is, st)) =
-    let P : Term → Type 0 = λ x. DerivesSeq G (next x q) (u ++ v) in subst P (sym is) (by_next eof q [] (u ++ v) by_eof (seq_step place s ss u v h k all e q st))
-seq_step {G = G} {N = N} place s ss u v h k all e (next t q) (inr (x, more, is, st, later)) =
+seq_step : {G : List Alts} {N : NormalForm} (own_rule : ℕ → ℕ) (s : Sym) (ss : List Sym) (u v : List ℕ) → Given G N own_rule s u → GivenSeq G N own_rule ss v → (all : List Sym) → all ≡ s ∷ ss → GivenSeq G N own_rule all (u ++ v)
+seq_step own_rule s ss u v h k all e done st = absurd (cc)
+seq_step {G = G} own_rule s ss u v h k all e (next t q) (inl (is, st)) =
+    let P : Term → Type 0 = λ x. DerivesSeq G (next x q) (u ++ v) in subst P (sym is) (by_next eof q [] (u ++ v) by_eof (seq_step own_rule s ss u v h k all e q st))
+seq_step {G = G} {N = N} own_rule s ss u v h k all e (next t q) (inr (x, more, is, st, later)) =
     let first : x ≡ s = cc in
     let rest : more ≡ ss = cc in
-    let P : Sym → Type 0 = λ y. Stands G N place y t in
-    let Q : List Sym → Type 0 = λ y. StandSeq G N place y q in by_next t q u v (h t (subst P first st)) (k q (subst Q rest later))
+    let P : Sym → Type 0 = λ y. Represents G N own_rule y t in
+    let Q : List Sym → Type 0 = λ y. RepresentsSeq G N own_rule y q in by_next t q u v (h t (subst P first st)) (k q (subst Q rest later))
 
--- the symbols of a rule with bases and rests stand for them
-left_stands : {G : List Alts} {N : NormalForm} {place : ℕ → ℕ} (r : ℕ) (a : Alts) (p : StandsLeft G N place r a) → StandSeq G N place (Rule p.base ∷ Rule p.many ∷ []) (unrolled r a)
-left_stands r a p =
+-- the symbols of a rule with bases and rests represent them
+recursive_represented : {G : List Alts} {N : NormalForm} {own_rule : ℕ → ℕ} (r : ℕ) (a : Alts) (p : IsRecursiveRule G N own_rule r a) → RepresentsSeq G N own_rule (Rule p.base ∷ Rule p.many ∷ []) (unrolled r a)
+recursive_represented r a p =
     inr (
       Rule p.base,
       Rule p.many ∷ [],
       refl,
-      (p.base, p.base_alts, refl, p.base_at, p.bases_stand),
-      inr (Rule p.many, [], refl, (p.many, Rule p.rest, refl, p.many_at, (p.rest, p.rest_alts, refl, p.rest_at, p.rests_stand)), refl),
+      (p.base, p.base_alts, refl, p.base_at, p.bases_are),
+      inr (Rule p.many, [], refl, (p.many, Rule p.rest, refl, p.many_at, (p.rest, p.rest_alts, refl, p.rest_at, p.rests_are)), refl),
     )
 
-rule_back : {G : List Alts} {N : NormalForm} {place : ℕ → ℕ} (r : ℕ) (a : Alts) (alts : List (List Sym)) (alt : List Sym) (w : List ℕ) → slice_get G r ≡ Some a → slice_get N.rules (place r) ≡ Some (RuleForm.regular alts) → Contains alts alt → GivenSeq G N place alt w → StandsPlain G N place r a ⊎ StandsLeft G N place r a → Derives G (rule r) w
-rule_back {G = G} {N = N} {place = place} r a alts alt w known at c h (inl p) =
+rule_back : {G : List Alts} {N : NormalForm} {own_rule : ℕ → ℕ} (r : ℕ) (a : Alts) (alts : List (List Sym)) (alt : List Sym) (w : List ℕ) → slice_get G r ≡ Some a → slice_get N.rules (own_rule r) ≡ Some (RuleForm.regular alts) → Contains alts alt → GivenSeq G N own_rule alt w → IsPlainRule G N own_rule r a ⊎ IsRecursiveRule G N own_rule r a → Derives G (rule r) w
+rule_back {G = G} {N = N} {own_rule = own_rule} r a alts alt w known at c h (inl p) =
     let same : p.alts ≡ alts = cc (p.at, at) in
-    let P : List (List Sym) → Type 0 = λ x. StandAlts G N place x a in by_rule r a w known (alts_back place a alts alt w (subst P same p.stand) c h)
-rule_back {G = G} {N = N} {place = place} r a alts alt w known at c h (inr p) =
+    let P : List (List Sym) → Type 0 = λ x. RepresentsAlts G N own_rule x a in by_rule r a w known (alts_back own_rule a alts alt w (subst P same p.represented) c h)
+rule_back {G = G} {N = N} {own_rule = own_rule} r a alts alt w known at c h (inr p) =
     let same : alts ≡ (Rule p.base ∷ Rule p.many ∷ []) ∷ [] = cc (p.at, at) in
     let P : List (List Sym) → Type 0 = λ x. Contains x alt in
     let one : alt ≡ Rule p.base ∷ Rule p.many ∷ [] = Contains-only alt (Rule p.base ∷ Rule p.many ∷ []) (subst P same c) in
-    let Q : List Sym → Type 0 = λ x. StandSeq G N place x (unrolled r a) in
-    unrolled_back r a w known (h (unrolled r a) (subst Q (sym one) (left_stands r a p)))
+    let Q : List Sym → Type 0 = λ x. RepresentsSeq G N own_rule x (unrolled r a) in
+    unrolled_back r a w known (h (unrolled r a) (subst Q (sym one) (recursive_represented r a p)))
 
-regular_back : {G : List Alts} {N : NormalForm} {place : ℕ → ℕ} → Fits G N place → (n : ℕ) (alts : List (List Sym)) (alt : List Sym) (w : List ℕ) → slice_get N.rules n ≡ Some (RuleForm.regular alts) → Contains alts alt → GivenSeq G N place alt w → Given G N place (Rule n) w
-regular_back fits n alts alt w at c h (kind k) e = absurd (cc)
-regular_back fits n alts alt w at c h (among ks) (i, e, x) = absurd (cc)
-regular_back {N = N} {place = place} fits n alts alt w at c h (rule r) (e, (a, known)) =
-    let same : n ≡ place r = cc in
-    let P : ℕ → Type 0 = λ x. slice_get N.rules x ≡ Some (RuleForm.regular alts) in rule_back r a alts alt w known (subst P same at) c h (fits r a known)
-regular_back {G = G} {N = N} {place = place} fits n alts alt w at c h (block a) (m, alts', e, at', st) =
+regular_back : {G : List Alts} {N : NormalForm} {own_rule : ℕ → ℕ} → HasEachRule G N own_rule → (n : ℕ) (alts : List (List Sym)) (alt : List Sym) (w : List ℕ) → slice_get N.rules n ≡ Some (RuleForm.regular alts) → Contains alts alt → GivenSeq G N own_rule alt w → Given G N own_rule (Rule n) w
+regular_back has_each n alts alt w at c h (kind k) e = absurd (cc)
+regular_back has_each n alts alt w at c h (among ks) (i, e, x) = absurd (cc)
+regular_back {N = N} {own_rule = own_rule} has_each n alts alt w at c h (rule r) (e, (a, known)) =
+    let same : n ≡ own_rule r = cc in
+    let P : ℕ → Type 0 = λ x. slice_get N.rules x ≡ Some (RuleForm.regular alts) in rule_back r a alts alt w known (subst P same at) c h (has_each r a known)
+regular_back {G = G} {N = N} {own_rule = own_rule} has_each n alts alt w at c h (block a) (m, alts', e, at', st) =
     let same : alts' ≡ alts = cc in
-    let P : List (List Sym) → Type 0 = λ x. StandAlts G N place x a in by_block a w (alts_back place a alts alt w (subst P same st) c h)
-regular_back fits n alts alt w at c h (opt t) (m, of, e, at', st) = absurd (cc)
-regular_back fits n alts alt w at c h (star t) (m, of, e, at', st) = absurd (cc)
-regular_back fits n alts alt w at c h (plus t) (m, of, e, at', st) = absurd (cc)
-regular_back fits n alts alt w at c h eof st = absurd st
+    let P : List (List Sym) → Type 0 = λ x. RepresentsAlts G N own_rule x a in by_block a w (alts_back own_rule a alts alt w (subst P same st) c h)
+regular_back has_each n alts alt w at c h (opt t) (m, of, e, at', st) = absurd (cc)
+regular_back has_each n alts alt w at c h (star t) (m, of, e, at', st) = absurd (cc)
+regular_back has_each n alts alt w at c h (plus t) (m, of, e, at', st) = absurd (cc)
+regular_back has_each n alts alt w at c h eof st = absurd st
 
--- a rule of the grammar stands as a regular rule
-rule_regular : {G : List Alts} {N : NormalForm} {place : ℕ → ℕ} (r : ℕ) (a : Alts) (n : ℕ) → StandsPlain G N place r a ⊎ StandsLeft G N place r a → Rule n ≡ Rule (place r) → (x : RuleForm) → slice_get N.rules n ≡ Some x → (alts : List (List Sym)) × (x ≡ RuleForm.regular alts)
-rule_regular {place = place} r a n (inl p) e x at = let same : n ≡ place r = cc in let h : Some x ≡ Some (RuleForm.regular p.alts) = cc (p.at, at, same) in (p.alts, cc)
-rule_regular {place = place} r a n (inr p) e x at = ((Rule p.base ∷ Rule p.many ∷ []) ∷ [], let same : n ≡ place r = cc in let h : Some x ≡ Some (RuleForm.regular ((Rule p.base ∷ Rule p.many ∷ []) ∷ [])) = cc (p.at, at, same) in cc)
+-- a rule of the grammar is a regular rule
+rule_regular : {G : List Alts} {N : NormalForm} {own_rule : ℕ → ℕ} (r : ℕ) (a : Alts) (n : ℕ) → IsPlainRule G N own_rule r a ⊎ IsRecursiveRule G N own_rule r a → Rule n ≡ Rule (own_rule r) → (x : RuleForm) → slice_get N.rules n ≡ Some x → (alts : List (List Sym)) × (x ≡ RuleForm.regular alts)
+rule_regular {own_rule = own_rule} r a n (inl p) e x at = let same : n ≡ own_rule r = cc in let h : Some x ≡ Some (RuleForm.regular p.alts) = cc (p.at, at, same) in (p.alts, cc)
+rule_regular {own_rule = own_rule} r a n (inr p) e x at = ((Rule p.base ∷ Rule p.many ∷ []) ∷ [], let same : n ≡ own_rule r = cc in let h : Some x ≡ Some (RuleForm.regular ((Rule p.base ∷ Rule p.many ∷ []) ∷ [])) = cc (p.at, at, same) in cc)
 
-star_back : {G : List Alts} {N : NormalForm} {place : ℕ → ℕ} (n : ℕ) (of : Sym) (w : List ℕ) → slice_get N.rules n ≡ Some (RuleForm.star of) → ((t : Term) → Stands G N place of t → DerivesMany G t w) → Fits G N place → Given G N place (Rule n) w
-star_back n of w at h fits (kind k) e = absurd (cc)
-star_back n of w at h fits (among ks) (i, e, x) = absurd (cc)
-star_back n of w at h fits (rule r) (e, (a, known)) = let x = rule_regular r a n (fits r a known) e (RuleForm.star of) at in absurd (cc (x.1))
-star_back n of w at h fits (block a) (m, alts', e, at', st) = absurd (cc)
-star_back n of w at h fits (opt t) (m, of', e, at', st) = absurd (cc)
-star_back {G = G} {N = N} {place = place} n of w at h fits (star t) (m, of', e, at', st) =
+star_back : {G : List Alts} {N : NormalForm} {own_rule : ℕ → ℕ} (n : ℕ) (of : Sym) (w : List ℕ) → slice_get N.rules n ≡ Some (RuleForm.star of) → ((t : Term) → Represents G N own_rule of t → DerivesMany G t w) → HasEachRule G N own_rule → Given G N own_rule (Rule n) w
+star_back n of w at h has_each (kind k) e = absurd (cc)
+star_back n of w at h has_each (among ks) (i, e, x) = absurd (cc)
+star_back n of w at h has_each (rule r) (e, (a, known)) = let x = rule_regular r a n (has_each r a known) e (RuleForm.star of) at in absurd (cc (x.1))
+star_back n of w at h has_each (block a) (m, alts', e, at', st) = absurd (cc)
+star_back n of w at h has_each (opt t) (m, of', e, at', st) = absurd (cc)
+star_back {G = G} {N = N} {own_rule = own_rule} n of w at h has_each (star t) (m, of', e, at', st) =
     let same : of' ≡ of = cc in
-    let P : Sym → Type 0 = λ x. Stands G N place x t in by_star t w (h t (subst P same st))
-star_back n of w at h fits (plus t) (m, of', e, at', st) = absurd (cc)
-star_back n of w at h fits eof st = absurd st
+    let P : Sym → Type 0 = λ x. Represents G N own_rule x t in by_star t w (h t (subst P same st))
+star_back n of w at h has_each (plus t) (m, of', e, at', st) = absurd (cc)
+star_back n of w at h has_each eof st = absurd st
 
-plus_back : {G : List Alts} {N : NormalForm} {place : ℕ → ℕ} (n : ℕ) (of : Sym) (u v : List ℕ) → slice_get N.rules n ≡ Some (RuleForm.plus of) → Given G N place of u → ((t : Term) → Stands G N place of t → DerivesMany G t v) → Fits G N place → Given G N place (Rule n) (u ++ v)
-plus_back n of u v at k h fits (kind j) e = absurd (cc)
-plus_back n of u v at k h fits (among ks) (i, e, x) = absurd (cc)
-plus_back n of u v at k h fits (rule r) (e, (a, known)) = let x = rule_regular r a n (fits r a known) e (RuleForm.plus of) at in absurd (cc (x.1))
-plus_back n of u v at k h fits (block a) (m, alts', e, at', st) = absurd (cc)
-plus_back n of u v at k h fits (opt t) (m, of', e, at', st) = absurd (cc)
-plus_back {G = G} {N = N} {place = place} n of u v at k h fits (plus t) (m, of', e, at', st) =
+plus_back : {G : List Alts} {N : NormalForm} {own_rule : ℕ → ℕ} (n : ℕ) (of : Sym) (u v : List ℕ) → slice_get N.rules n ≡ Some (RuleForm.plus of) → Given G N own_rule of u → ((t : Term) → Represents G N own_rule of t → DerivesMany G t v) → HasEachRule G N own_rule → Given G N own_rule (Rule n) (u ++ v)
+plus_back n of u v at k h has_each (kind j) e = absurd (cc)
+plus_back n of u v at k h has_each (among ks) (i, e, x) = absurd (cc)
+plus_back n of u v at k h has_each (rule r) (e, (a, known)) = let x = rule_regular r a n (has_each r a known) e (RuleForm.plus of) at in absurd (cc (x.1))
+plus_back n of u v at k h has_each (block a) (m, alts', e, at', st) = absurd (cc)
+plus_back n of u v at k h has_each (opt t) (m, of', e, at', st) = absurd (cc)
+plus_back {G = G} {N = N} {own_rule = own_rule} n of u v at k h has_each (plus t) (m, of', e, at', st) =
     let same : of' ≡ of = cc in
-    let P : Sym → Type 0 = λ x. Stands G N place x t in by_plus t u v (k t (subst P same st)) (h t (subst P same st))
-plus_back n of u v at k h fits (star t) (m, of', e, at', st) = absurd (cc)
-plus_back n of u v at k h fits eof st = absurd st
+    let P : Sym → Type 0 = λ x. Represents G N own_rule x t in by_plus t u v (k t (subst P same st)) (h t (subst P same st))
+plus_back n of u v at k h has_each (star t) (m, of', e, at', st) = absurd (cc)
+plus_back n of u v at k h has_each eof st = absurd st
 
-opt_back : {G : List Alts} {N : NormalForm} {place : ℕ → ℕ} (n : ℕ) (of : Sym) (w : List ℕ) → slice_get N.rules n ≡ Some (RuleForm.opt of) → ((t : Term) → Stands G N place of t → Derives G (opt t) w) → Fits G N place → Given G N place (Rule n) w
-opt_back n of w at h fits (kind j) e = absurd (cc)
-opt_back n of w at h fits (among ks) (i, e, x) = absurd (cc)
-opt_back n of w at h fits (rule r) (e, (a, known)) = let x = rule_regular r a n (fits r a known) e (RuleForm.opt of) at in absurd (cc (x.1))
-opt_back n of w at h fits (block a) (m, alts', e, at', st) = absurd (cc)
-opt_back {G = G} {N = N} {place = place} n of w at h fits (opt t) (m, of', e, at', st) =
+opt_back : {G : List Alts} {N : NormalForm} {own_rule : ℕ → ℕ} (n : ℕ) (of : Sym) (w : List ℕ) → slice_get N.rules n ≡ Some (RuleForm.opt of) → ((t : Term) → Represents G N own_rule of t → Derives G (opt t) w) → HasEachRule G N own_rule → Given G N own_rule (Rule n) w
+opt_back n of w at h has_each (kind j) e = absurd (cc)
+opt_back n of w at h has_each (among ks) (i, e, x) = absurd (cc)
+opt_back n of w at h has_each (rule r) (e, (a, known)) = let x = rule_regular r a n (has_each r a known) e (RuleForm.opt of) at in absurd (cc (x.1))
+opt_back n of w at h has_each (block a) (m, alts', e, at', st) = absurd (cc)
+opt_back {G = G} {N = N} {own_rule = own_rule} n of w at h has_each (opt t) (m, of', e, at', st) =
     let same : of' ≡ of = cc in
-    let P : Sym → Type 0 = λ x. Stands G N place x t in h t (subst P same st)
-opt_back n of w at h fits (plus t) (m, of', e, at', st) = absurd (cc)
-opt_back n of w at h fits (star t) (m, of', e, at', st) = absurd (cc)
-opt_back n of w at h fits eof st = absurd st
+    let P : Sym → Type 0 = λ x. Represents G N own_rule x t in h t (subst P same st)
+opt_back n of w at h has_each (plus t) (m, of', e, at', st) = absurd (cc)
+opt_back n of w at h has_each (star t) (m, of', e, at', st) = absurd (cc)
+opt_back n of w at h has_each eof st = absurd st
 
-kind_back : {G : List Alts} (N : NormalForm) (place : ℕ → ℕ) (k : ℕ) → Given G N place (Kind k) (k ∷ [])
-kind_back {G = G} N place k (kind j) e = let same : k ≡ j = cc in let P : ℕ → Type 0 = λ x. Derives G (kind x) (k ∷ []) in subst P same (by_kind k)
-kind_back N place k (among ks) (i, e, x) = absurd (cc)
-kind_back N place k (rule r) (e, x) = absurd (cc)
-kind_back N place k (block a) (m, alts, e, at, st) = absurd (cc)
-kind_back N place k (opt t) (m, of, e, at, st) = absurd (cc)
-kind_back N place k (star t) (m, of, e, at, st) = absurd (cc)
-kind_back N place k (plus t) (m, of, e, at, st) = absurd (cc)
-kind_back N place k eof st = absurd st
+kind_back : {G : List Alts} (N : NormalForm) (own_rule : ℕ → ℕ) (k : ℕ) → Given G N own_rule (Kind k) (k ∷ [])
+kind_back {G = G} N own_rule k (kind j) e = let same : k ≡ j = cc in let P : ℕ → Type 0 = λ x. Derives G (kind x) (k ∷ []) in subst P same (by_kind k)
+kind_back N own_rule k (among ks) (i, e, x) = absurd (cc)
+kind_back N own_rule k (rule r) (e, x) = absurd (cc)
+kind_back N own_rule k (block a) (m, alts, e, at, st) = absurd (cc)
+kind_back N own_rule k (opt t) (m, of, e, at, st) = absurd (cc)
+kind_back N own_rule k (star t) (m, of, e, at, st) = absurd (cc)
+kind_back N own_rule k (plus t) (m, of, e, at, st) = absurd (cc)
+kind_back N own_rule k eof st = absurd st
 
-set_back : {G : List Alts} (N : NormalForm) (place : ℕ → ℕ) (i k : ℕ) (ks : List ℕ) → slice_get N.sets i ≡ Some ks → Contains ks k → Given G N place (Set i) (k ∷ [])
-set_back N place i k ks at c (kind j) e = absurd (cc)
-set_back {G = G} N place i k ks at c (among ls) (j, e, x) =
+set_back : {G : List Alts} (N : NormalForm) (own_rule : ℕ → ℕ) (i k : ℕ) (ks : List ℕ) → slice_get N.sets i ≡ Some ks → Contains ks k → Given G N own_rule (Set i) (k ∷ [])
+set_back N own_rule i k ks at c (kind j) e = absurd (cc)
+set_back {G = G} N own_rule i k ks at c (among ls) (j, e, x) =
     let same : ks ≡ ls = cc in let P : List ℕ → Type 0 = λ x. Contains x k in by_among ls k (subst P same c)
-set_back N place i k ks at c (rule r) (e, x) = absurd (cc)
-set_back N place i k ks at c (block a) (m, alts, e, at', st) = absurd (cc)
-set_back N place i k ks at c (opt t) (m, of, e, at', st) = absurd (cc)
-set_back N place i k ks at c (star t) (m, of, e, at', st) = absurd (cc)
-set_back N place i k ks at c (plus t) (m, of, e, at', st) = absurd (cc)
-set_back N place i k ks at c eof st = absurd st
+set_back N own_rule i k ks at c (rule r) (e, x) = absurd (cc)
+set_back N own_rule i k ks at c (block a) (m, alts, e, at', st) = absurd (cc)
+set_back N own_rule i k ks at c (opt t) (m, of, e, at', st) = absurd (cc)
+set_back N own_rule i k ks at c (star t) (m, of, e, at', st) = absurd (cc)
+set_back N own_rule i k ks at c (plus t) (m, of, e, at', st) = absurd (cc)
+set_back N own_rule i k ks at c eof st = absurd st
 
 mutual
-  pub backward : {G : List Alts} {N : NormalForm} {place : ℕ → ℕ} → Fits G N place → {s : Sym} {w : List ℕ} → NormalDerives N s w → Given G N place s w
-  backward {N = N} {place = place} fits (of_kind k) = kind_back N place k
-  backward {N = N} {place = place} fits (of_set i k ks at c) = set_back N place i k ks at c
-  backward fits (of_regular n alts alt w at c d) = regular_back fits n alts alt w at c (backward_all fits d)
-  backward fits (of_absent n s at) = opt_back n s [] at (λ t st. by_absent t) fits
-  backward fits (of_present n s w at d) = opt_back n s w at (λ t st. by_present t w (backward fits d t st)) fits
-  backward fits (of_star n s w at m) = star_back n s w at (backward_many fits m) fits
-  backward fits (of_plus n s u v at d m) = plus_back n s u v at (backward fits d) (backward_many fits m) fits
+  pub backward : {G : List Alts} {N : NormalForm} {own_rule : ℕ → ℕ} → HasEachRule G N own_rule → {s : Sym} {w : List ℕ} → NormalDerives N s w → Given G N own_rule s w
+  backward {N = N} {own_rule = own_rule} has_each (of_kind k) = kind_back N own_rule k
+  backward {N = N} {own_rule = own_rule} has_each (of_set i k ks at c) = set_back N own_rule i k ks at c
+  backward has_each (of_regular n alts alt w at c d) = regular_back has_each n alts alt w at c (backward_all has_each d)
+  backward has_each (of_absent n s at) = opt_back n s [] at (λ t st. by_absent t) has_each
+  backward has_each (of_present n s w at d) = opt_back n s w at (λ t st. by_present t w (backward has_each d t st)) has_each
+  backward has_each (of_star n s w at m) = star_back n s w at (backward_many has_each m) has_each
+  backward has_each (of_plus n s u v at d m) = plus_back n s u v at (backward has_each d) (backward_many has_each m) has_each
 
-  pub backward_all : {G : List Alts} {N : NormalForm} {place : ℕ → ℕ} → Fits G N place → {ss : List Sym} {w : List ℕ} → NormalDerivesSeq N ss w → GivenSeq G N place ss w
-  backward_all {G = G} {N = N} {place = place} fits of_done = seq_end G N place [] refl
-  backward_all {G = G} {N = N} {place = place} fits (of_next s ss u v d h) = seq_step place s ss u v (backward fits d) (backward_all fits h) (s ∷ ss) refl
+  pub backward_all : {G : List Alts} {N : NormalForm} {own_rule : ℕ → ℕ} → HasEachRule G N own_rule → {ss : List Sym} {w : List ℕ} → NormalDerivesSeq N ss w → GivenSeq G N own_rule ss w
+  backward_all {G = G} {N = N} {own_rule = own_rule} has_each of_done = seq_end G N own_rule [] refl
+  backward_all {G = G} {N = N} {own_rule = own_rule} has_each (of_next s ss u v d h) = seq_step own_rule s ss u v (backward has_each d) (backward_all has_each h) (s ∷ ss) refl
 
-  pub backward_many : {G : List Alts} {N : NormalForm} {place : ℕ → ℕ} → Fits G N place → {s : Sym} {w : List ℕ} → NormalDerivesMany N s w → (t : Term) → Stands G N place s t → DerivesMany G t w
-  backward_many fits (of_end s) t st = by_end t
-  backward_many fits (of_more s u v d m) t st = by_more t u v (backward fits d t st) (backward_many fits m t st)
+  pub backward_many : {G : List Alts} {N : NormalForm} {own_rule : ℕ → ℕ} → HasEachRule G N own_rule → {s : Sym} {w : List ℕ} → NormalDerivesMany N s w → (t : Term) → Represents G N own_rule s t → DerivesMany G t w
+  backward_many has_each (of_end s) t st = by_end t
+  backward_many has_each (of_more s u v d m) t st = by_more t u v (backward has_each d t st) (backward_many has_each m t st)

@@ -14,7 +14,7 @@ use Rattle.grammar_tree.specs.Derives.{Term, Seq, Alts, bodies, resolved, resolv
 use Rattle.grammar_tree.specs.Faults.{IsWellFormed, is_misplaced, is_misplaced_in}
 use Rattle.normal_form.specs.NormalOf.{term_sets, seq_sets, alts_sets}
 
--- Each rule that a term names is there, each of its sets is known, and `EOF` stands under no suffix.
+-- Each rule that a term names is there, each of its sets is known, and `EOF` is under no suffix.
 abbrev mutual
   pub IsClosed : List Alts → (List ℕ → Type 0) → Term → Type 0
   IsClosed G K (Term.kind k) = Unit {0}
@@ -34,7 +34,7 @@ abbrev mutual
   IsClosedAlts G K Alts.none = Unit {0}
   IsClosedAlts G K (Alts.or s a) = IsClosedSeq G K s × IsClosedAlts G K a
 
--- `EOF` stands in the term, as the definition of well-formed grammars has it
+-- `EOF` is in the term, as the definition of well-formed grammars has it
 abbrev mutual
   has_eof : WrittenTerm → Bool
   has_eof (WrittenTerm.literal t) = false
@@ -78,7 +78,7 @@ closed_name : (G : List Alts) (K : List ℕ → Type 0) (o token : Option ℕ) �
 closed_name G K (Some r) token there h = there r refl
 closed_name G K None token there h = closed_kind G K token h
 
--- the rule that a name stands for is there
+-- the rule that a name means is there
 rule_is_there : (G : WrittenGrammar) (n : List ℕ) (r : ℕ) → rule_number G n ≡ Some r → (a : Alts) × (slice_get (bodies G) r ≡ Some a)
 rule_is_there G n r e =
     let any : ParserRule = record { name = []; alts = WrittenAlts.none } in
@@ -117,7 +117,7 @@ module _ (G : WrittenGrammar) (K : List ℕ → Type 0) where
           closed_alts a no.1 (Each-right K (seq_sets (resolved_seq G s)) (alts_sets (resolved_alts G a)) h),
         )
 
-  -- `EOF` may stand last in a top-level alternative
+  -- `EOF` may be last in a top-level alternative
   closed_next : (t : WrittenTerm) (s : WrittenSeq) → (has_eof t || is_misplaced_in s) ≡ false → (is_misplaced_in s ≡ false → IsClosedSeq (bodies G) K (resolved_seq G s)) → Each K (seq_sets (resolved_seq G (WrittenSeq.next t s))) → IsClosedSeq (bodies G) K (resolved_seq G (WrittenSeq.next t s))
   closed_next t s e more h =
       let no = neither (has_eof t) (is_misplaced_in s) e in
@@ -152,16 +152,16 @@ module _ (G : WrittenGrammar) (K : List ℕ → Type 0) where
         closed_body a no.1 (Each-right K (seq_sets (resolved_seq G s)) (alts_sets (resolved_alts G a)) h),
       )
 
--- a parser rule is at some place
+-- a parser rule is at some position
 at_number : (rules : List WrittenRule) (r : ℕ) (rule : ParserRule) → slice_get (parser_rules rules) r ≡ Some rule → (i : ℕ) × (slice_get rules i ≡ Some (WrittenRule.parser_rule rule))
 at_number [] r rule e = absurd (cc)
 at_number (WrittenRule.lexer_rule x ∷ rules) r rule e = let h = at_number rules r rule e in (suc h.0, h.1)
 at_number (WrittenRule.parser_rule x ∷ rules) zero rule e = (0, let same : x ≡ rule = cc in ap (λ y. Some (WrittenRule.parser_rule y)) same)
 at_number (WrittenRule.parser_rule x ∷ rules) (suc r) rule e = let h = at_number rules r rule e in (suc h.0, h.1)
 
-tells : (b : Bool) → ¬ (b ≡ true) → b ≡ false
-tells false h = refl
-tells true h = absurd (h refl)
+is_false : (b : Bool) → ¬ (b ≡ true) → b ≡ false
+is_false false h = refl
+is_false true h = absurd (h refl)
 
 -- the rule whose alternatives are the r-th
 rule_at : (G : WrittenGrammar) (rules : List ParserRule) (r : ℕ) (a : Alts) → slice_get (map (λ (p : ParserRule). resolved_alts G p.alts) rules) r ≡ Some a → (rule : ParserRule) × (slice_get rules r ≡ Some rule) × (resolved_alts G rule.alts ≡ a)
@@ -173,7 +173,7 @@ rule_at G (x ∷ rules) (suc r) a e = rule_at G rules r a e
 pub bodies_closed : (G : WrittenGrammar) (start : ℕ) (K : List ℕ → Type 0) → IsWellFormed G start → ((a : Alts) (r : ℕ) → slice_get (bodies G) r ≡ Some a → (ks : List ℕ) → Contains (alts_sets a) ks → K ks) → (r : ℕ) (a : Alts) → slice_get (bodies G) r ≡ Some a → IsClosedAlts (bodies G) K a
 bodies_closed G start K well known r a e =
     let found = rule_at G (parser_rules G.rules) r a e in
-    let place = at_number G.rules r found.0 found.1 in
+    let position = at_number G.rules r found.0 found.1 in
     let P : Alts → Type 0 = λ x. IsClosedAlts (bodies G) K x in
     let Q : Alts → Type 0 = λ x. Each K (alts_sets x) in
-    subst P found.2 (closed_body G K found.0.alts (tells (is_misplaced found.0.alts) (λ h. well.eof_at_ends place.0 (found.0, place.1, inl h))) (subst Q (sym found.2) (known a r e)))
+    subst P found.2 (closed_body G K found.0.alts (is_false (is_misplaced found.0.alts) (λ h. well.eof_at_ends position.0 (found.0, position.1, inl h))) (subst Q (sym found.2) (known a r e)))

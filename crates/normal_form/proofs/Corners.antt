@@ -16,7 +16,7 @@ use Rattle.normal_form.proofs.Named.{rules_length}
 use Rattle.normal_form.proofs.Origins.{Origin, RuleAt, left_alts, plain_alts, rules_of, size_is}
 use Rattle.normal_form.proofs.Parts.{Setting, Known, KnownAlts, of_block, of_opt, of_plus, of_star}
 use Rattle.normal_form.proofs.Positions.{AltAt, alt_of, base_of, both_nil, nil_has_none, part_of, rest_alt}
-use Rattle.normal_form.proofs.Stands.{Fits}
+use Rattle.normal_form.proofs.Represents.{HasEachRule}
 
 -- What is known of a term is known from its own number on.
 known_from : (S : Setting) (low high n : ℕ) (t : Term) → Known S low high n t → Known S n high n t
@@ -36,9 +36,9 @@ pub data State (S : Setting) (r : ℕ) (a : Alts) (n : ℕ) (B : ℕ → Type 0)
 -- A left corner of the rule m: a rule of the same group with a greater number, or the own rule of a parser rule among B.
 pub data Next (S : Setting) (r : ℕ) (a : Alts) (n : ℕ) (B : ℕ → Type 0) (m b : ℕ) : Type 0 where
   within : m < b → State S r a n B b → Next S r a n B m b
-  leaves : (q : ℕ) (body : Alts) → slice_get S.bodies q ≡ Some body → S.numbers.place q ≡ b → B q → Next S r a n B m b
+  leaves : (q : ℕ) (body : Alts) → slice_get S.bodies q ≡ Some body → S.numbers.own_rule q ≡ b → B q → Next S r a n B m b
 
-module _ (S : Setting) (fits : Fits S.bodies S.form S.numbers.place) (r : ℕ) (a : Alts) (n : ℕ) (B : ℕ → Type 0) where
+module _ (S : Setting) (has_each : HasEachRule S.bodies S.form S.numbers.own_rule) (r : ℕ) (a : Alts) (n : ℕ) (B : ℕ → Type 0) where
   abbrev high : ℕ
   high = n + group_size r a
 
@@ -53,7 +53,7 @@ module _ (S : Setting) (fits : Fits S.bodies S.form S.numbers.place) (r : ℕ) (
   of_symbol : (low k : ℕ) (t : Term) (m b : ℕ) → Known S low high k t → symbol S.numbers k t ≡ Rule b → n < k → m < k → ((q : ℕ) → Begins S.bodies q t → B q) → Next S r a n B m b
   of_symbol low k (kind _) m b known e above less first = absurd (cc)
   of_symbol low k (among _) m b known e above less first = absurd (cc)
-  of_symbol low k (rule q) m b known e above less first = let at : S.numbers.place q ≡ b = cc in Next.leaves q known.closed.0 known.closed.1 at (first q refl)
+  of_symbol low k (rule q) m b known e above less first = let at : S.numbers.own_rule q ≡ b = cc in Next.leaves q known.closed.0 known.closed.1 at (first q refl)
   of_symbol low k (block x) m b known e above less first = new_rule low k (block x) _ _ m b known refl e above less first
   of_symbol low k (opt t) m b known e above less first = new_rule low k (opt t) _ _ m b known refl e above less first
   of_symbol low k (star t) m b known e above less first = new_rule low k (star t) _ _ m b known refl e above less first
@@ -63,7 +63,7 @@ module _ (S : Setting) (fits : Fits S.bodies S.form S.numbers.place) (r : ℕ) (
   -- a symbol of an alternative, after symbols that can be empty
   of_alt : (low : ℕ) (target : Alts) (m b : ℕ) (before after : List Sym) → n < low → m < low → AltAt S low high target (before ++ Rule b ∷ after) → NormalDerivesSeq S.form before [] → ((q : ℕ) → BeginsAlts S.bodies q target → B q) → Next S r a n B m b
   of_alt low target m b before after above less it empty first =
-      let found = part_of S fits low high it.number it.seq (Rule b) before after it.known (sym it.is) in
+      let found = part_of S has_each low high it.number it.seq (Rule b) before after it.known (sym it.is) in
       let from : low ≤ found.number = found.known.above in
       of_symbol low found.number found.term m b found.known (sym found.is) (omega (arith, above, from)) (omega (arith, less, from)) (λ q h. first q (it.begins q (found.begins empty q h)))
 
@@ -98,7 +98,7 @@ module _ (S : Setting) (fits : Fits S.bodies S.form S.numbers.place) (r : ℕ) (
         let nothing = both_nil cut.0 cut.1 (sym cut.2) in
         let P : Sym → Type 0 = λ y. NormalDerives S.form y cut.0 in
         let Q : List ℕ → Type 0 = λ w. NormalDerives S.form (Rule (n + 1)) w in
-        move n (n + 2) b at (omega arith) (State.many s c e (second (base_derives S fits r a n s c [] known e (subst Q nothing.0 (subst P one cut.3)))))
+        move n (n + 2) b at (omega arith) (State.many s c e (second (base_derives S has_each r a n s c [] known e (subst Q nothing.0 (subst P one cut.3)))))
     of_two b (x ∷ y ∷ before) after s c e is empty first second = let end : [] ≡ before ++ Rule b ∷ after = cc in absurd (nil_has_none before (Rule b) after end)
 
     of_own : (b : ℕ) (x : Alts) → rests r a ≡ x → ((q : ℕ) → BeginsAlts S.bodies q (bases r a) → B q) → (DerivesAlts S.bodies (bases r a) [] → (q : ℕ) → BeginsAlts S.bodies q (rests r a) → B q) → IsNormalCorner S.form n b → Next S r a n B n b

@@ -1,4 +1,4 @@
--- How many new rules terms make, told by the terms as they are written.
+-- How many new rules terms make, by the terms as they are written.
 use Rattle.std.proofs.Common.{◌≡◌, ℕ, ◌+◌, ◌<◌, Bool, true, false, cond, Option, Some, None, refl, sym, arith, true≢false}
 use Rattle.grammar_tree.specs.Written.{WrittenTerm, WrittenSeq, WrittenAlts, WrittenGrammar}
 use Rattle.grammar_tree.specs.Kinds.{literal_kind, name_kind, rule_number}
@@ -37,22 +37,22 @@ module _ (G : WrittenGrammar) where
     alts_counted (WrittenAlts.or s a) = omega (arith, seq_counted s, alts_counted a)
 
 -- how many rules a parser rule with these rests makes of its own
-abbrev own_rules : Alts → ℕ
-own_rules Alts.none = 1
-own_rules (Alts.or s a) = 4
+abbrev pub head_count : Alts → ℕ
+head_count Alts.none = 1
+head_count (Alts.or s a) = 4
 
-own_is : (a : Alts) (b : Bool) → b ≡ is_or a → own_rules a ≡ cond b 4 1
-own_is Alts.none false e = refl
-own_is Alts.none true e = absurd (true≢false e)
-own_is (Alts.or s a) true e = refl
-own_is (Alts.or s a) false e = absurd (true≢false (sym e))
+head_is : (a : Alts) (b : Bool) → b ≡ is_or a → head_count a ≡ cond b 4 1
+head_is Alts.none false e = refl
+head_is Alts.none true e = absurd (true≢false e)
+head_is (Alts.or s a) true e = refl
+head_is (Alts.or s a) false e = absurd (true≢false (sym e))
 
 pub group_counted : (G : WrittenGrammar) (r : ℕ) (a : WrittenAlts) (b : Bool) → b ≡ is_or (rests r (resolved_alts G a)) → group_size r (resolved_alts G a) ≡ cond b 4 1 + alts_count a
-group_counted G r a b e = omega (arith, own_is (rests r (resolved_alts G a)) b e, alts_counted G a)
+group_counted G r a b e = omega (arith, head_is (rests r (resolved_alts G a)) b e, alts_counted G a)
 
-own_positive : (a : Alts) → 0 < own_rules a
-own_positive Alts.none = omega arith
-own_positive (Alts.or s a) = omega arith
+head_positive : (a : Alts) → 0 < head_count a
+head_positive Alts.none = omega arith
+head_positive (Alts.or s a) = omega arith
 
 pub group_positive : (r : ℕ) (a : Alts) → 0 < group_size r a
-group_positive r a = omega (arith, own_positive (rests r a))
+group_positive r a = omega (arith, head_positive (rests r a))

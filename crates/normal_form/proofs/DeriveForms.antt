@@ -1,5 +1,6 @@
 -- How the symbols of a normal form derive, by their form.
-use Rattle.std.proofs.Common.{◌≡◌, ◌⊎◌, inl, inr, ℕ, List, [], ◌∷◌, Some, None, slice_get, refl, sym, ◌∙◌, subst}
+use Rattle.std.proofs.Common.{◌≡◌, ◌⊎◌, inl, inr, ℕ, List, [], ◌∷◌, ◌++◌, Some, None, slice_get, refl, sym, ap, ◌∙◌, subst, append_assoc}
+use Rattle.std.proofs.lemmas.List.{append-nil}
 use Rattle.std.proofs.lemmas.Option.{none-some}
 use Rattle.std.specs.List.{Contains}
 use Rattle.grammar_tree.specs.Laws.{CutsInto}
@@ -8,6 +9,8 @@ use Rattle.normal_form.specs.declared.normal.Sym.TheVariants.{Kind, Set, Rule}
 use Rattle.normal_form.specs.Form.{RuleForm, NormalForm}
 use Rattle.normal_form.specs.NormalDerives.{NormalDerives, NormalDerivesSeq, NormalDerivesMany, of_kind, of_set, of_regular, of_absent, of_present, of_star, of_plus, of_done, of_next, of_end, of_more}
 use Rattle.normal_form.specs.FormLaws.{NormalDerivesByForm}
+use Rattle.grammar_tree.proofs.Places.{at_of_contains, contains_at}
+use Rattle.normal_form.proofs.Lists.{Contains-nil}
 use Rattle.normal_form.proofs.Forward.{OneOf, all_inverse, regular_inverse, star_inverse}
 
 module _ (N : NormalForm) where
@@ -78,6 +81,45 @@ module _ (N : NormalForm) where
   next_of : (s : Sym) (ss : List Sym) (w : List ℕ) → CutsInto (NormalDerives N s) (NormalDerivesSeq N ss) w → NormalDerivesSeq N (s ∷ ss) w
   next_of s ss w (u, v, e, d, h) = let P : List ℕ → Type 0 = λ x. NormalDerivesSeq N (s ∷ ss) x in subst P (sym e) (of_next s ss u v d h)
 
+  one_in : (s : Sym) (w : List ℕ) → NormalDerivesSeq N (s ∷ []) w → NormalDerives N s w
+  one_in s w d =
+      let (u, v, e, h, k) = all_inverse s [] d refl in
+      let P : List ℕ → Type 0 = λ x. NormalDerives N s x in subst P (sym (e ∙ ap (λ x. u ++ x) (done_in v k) ∙ append-nil u)) h
+
+  one_of : (s : Sym) (w : List ℕ) → NormalDerives N s w → NormalDerivesSeq N (s ∷ []) w
+  one_of s w d = let P : List ℕ → Type 0 = λ x. NormalDerivesSeq N (s ∷ []) x in subst P (append-nil w) (of_next s [] w [] d of_done)
+
+  append_in : (ss ts : List Sym) (w : List ℕ) → NormalDerivesSeq N (ss ++ ts) w → CutsInto (NormalDerivesSeq N ss) (NormalDerivesSeq N ts) w
+  append_in [] ts w d = ([], w, refl, of_done, d)
+  append_in (s ∷ ss) ts w d =
+      let (u, v, e, h, k) = all_inverse s (ss ++ ts) d refl in
+      let (a, b, f, p, q) = append_in ss ts v k in (u ++ a, b, e ∙ ap (λ x. u ++ x) f ∙ sym (append_assoc u a b), of_next s ss u a h p, q)
+
+  append_of : (ss ts : List Sym) (w : List ℕ) → CutsInto (NormalDerivesSeq N ss) (NormalDerivesSeq N ts) w → NormalDerivesSeq N (ss ++ ts) w
+  append_of [] ts w (u, v, e, p, q) =
+      let P : List ℕ → Type 0 = λ x. NormalDerivesSeq N ts x in subst P (sym (e ∙ ap (λ x. x ++ v) (done_in u p))) q
+  append_of (s ∷ ss) ts w (u, v, e, p, q) =
+      let (a, b, f, h, k) = all_inverse s ss p refl in
+      let P : List ℕ → Type 0 = λ x. NormalDerivesSeq N (s ∷ (ss ++ ts)) x in
+      subst P (sym (e ∙ ap (λ x. x ++ v) f ∙ append_assoc a b v)) (of_next s (ss ++ ts) a (b ++ v) h (append_of ss ts (b ++ v) (b, v, refl, k, q)))
+
+  many_append : (s : Sym) (u v : List ℕ) → NormalDerivesMany N s u → NormalDerivesMany N s v → NormalDerivesMany N s (u ++ v)
+  many_append s u v (of_end s') k = k
+  many_append s u v (of_more s' a b d m) k =
+      let P : List ℕ → Type 0 = λ x. NormalDerivesMany N s x in subst P (sym (append_assoc a b v)) (of_more s a (b ++ v) d (many_append s b v m k))
+
+  abbrev Numbered : List (List Sym) → List ℕ → Type 0
+  Numbered alts w = (a : ℕ) × (alt : List Sym) × (slice_get alts a ≡ Some alt) × NormalDerivesSeq N alt w
+
+  numbered_in : (alts : List (List Sym)) (w : List ℕ) → OneOf N alts w → Numbered alts w
+  numbered_in alts w (alt, c, d) = let it = at_of_contains alts alt c in (it.0, alt, it.1, d)
+
+  numbered_of : (alts : List (List Sym)) (w : List ℕ) → Numbered alts w → OneOf N alts w
+  numbered_of alts w (a, alt, at, d) = (alt, contains_at alts a alt at, d)
+
+  no_alternative : (r : ℕ) (w : List ℕ) → slice_get N.rules r ≡ Some (RuleForm.regular []) → NormalDerives N (Rule r) w → ⊥
+  no_alternative r w at d = let it = regular_inverse r [] at d refl in Contains-nil it.0 it.1
+
 pub by_form : (N : NormalForm) → NormalDerivesByForm N
 by_form N =
     record {
@@ -85,10 +127,15 @@ by_form N =
       set = λ i w. (set_in N i w, set_of N i w);
       no_rule = no_rule N;
       regular = λ r alts w at. (λ d. regular_inverse r alts at d refl, regular_of N r alts w at);
+      numbered = λ r alts w at. (λ d. numbered_in N alts w (regular_inverse r alts at d refl), λ it. regular_of N r alts w at (numbered_of N alts w it));
+      no_alternative = no_alternative N;
       opt = λ r s w at. (opt_in N r s w at, opt_of N r s w at);
       star = λ r s w at. (λ d. star_inverse r s at d refl, of_star r s w at);
       plus = λ r s w at. (plus_in N r s w at, plus_of N r s w at);
       many = λ s w. (many_in N s w, many_of N s w);
+      many_append = many_append N;
       done = λ w. (done_in N w, done_of N w);
+      one = λ s w. (one_in N s w, one_of N s w);
       next = λ s ss w. (λ d. all_inverse s ss d refl, next_of N s ss w);
+      append = λ ss ts w. (append_in N ss ts w, append_of N ss ts w);
     }

@@ -10,7 +10,7 @@ use Rattle.grammar_tree.proofs.Places.{numbers}
 use Rattle.normal_form.specs.Form.{NormalForm}
 use Rattle.normal_form.specs.Numbering.{Numbering, group, groups}
 use Rattle.normal_form.specs.NormalOf.{group_names, names_from, new_names, normal_of, numbering}
-use Rattle.normal_form.specs.Laws.{HasFewRules, RulesAreFew}
+use Rattle.normal_form.specs.FormLaws.{HasFewRules, RulesAreFew}
 use Rattle.normal_form.proofs.Assembly.{few_rules, number_within}
 use Rattle.normal_form.proofs.Counted.{group_positive}
 use Rattle.normal_form.proofs.Named.{group_length}
@@ -33,11 +33,11 @@ names_length G r (rule ∷ rules) =
     length-append (group_names rule.name size) (names_from G (r + 1) rules)
     ∙ omega (arith, new_length rule.name 1 (size - 1), group_positive r (resolved_alts G rule.alts), names_length G (r + 1) rules, next)
 
--- a place lies before the end
-place_below : (r : ℕ) (G : List Alts) (k : ℕ) → k < length G → normal_count_from r (take k G) < normal_count_from r G
-place_below r [] k h = absurd (omega (arith, h))
-place_below r (a ∷ G) zero h = omega (arith, group_positive r a)
-place_below r (a ∷ G) (suc k) h = omega (arith, place_below (suc r) G k (omega (arith, h)))
+-- an own rule is before the end
+own_rule_below : (r : ℕ) (G : List Alts) (k : ℕ) → k < length G → normal_count_from r (take k G) < normal_count_from r G
+own_rule_below r [] k h = absurd (omega (arith, h))
+own_rule_below r (a ∷ G) zero h = omega (arith, group_positive r a)
+own_rule_below r (a ∷ G) (suc k) h = omega (arith, own_rule_below (suc r) G k (omega (arith, h)))
 
 few : (c : CheckedGrammar) → IsChecked c → HasFewRules (normal_of c)
 unfolding normal_of
@@ -47,7 +47,7 @@ few c checked =
     record {
       few = omega (arith, count, few_rules c checked);
       named = names_length c.grammar 0 (parser_rules c.grammar.rules) ∙ sym count;
-      start_is_there = omega (arith, count, place_below 0 G (number_at c.grammar c.start) (number_within c checked (numbers c.grammar)));
+      start_is_there = omega (arith, count, own_rule_below 0 G (number_at c.grammar c.start) (number_within c checked (numbers c.grammar)));
     }
 
 pub rules_are_few : RulesAreFew

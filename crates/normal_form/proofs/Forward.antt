@@ -1,4 +1,4 @@
--- What a term derives, the symbol that stands for it derives.
+-- What a term derives, the symbol that represents it derives.
 use Rattle.std.proofs.Common.{◌≡◌, ℕ, ◌⊎◌, inl, inr, true, false, cond, List, [], ◌∷◌, ◌++◌, Option, Some, None, slice_get, refl, sym, ap, ◌∙◌, subst, append_assoc}
 use Rattle.std.specs.Prelude.{nat_eq}
 use Rattle.std.proofs.lemmas.List.{append-nil}
@@ -10,7 +10,7 @@ use Rattle.normal_form.specs.declared.normal.Sym.{Sym}
 use Rattle.normal_form.specs.declared.normal.Sym.TheVariants.{Rule}
 use Rattle.normal_form.specs.Form.{RuleForm, NormalForm}
 use Rattle.normal_form.specs.NormalDerives.{NormalDerives, NormalDerivesSeq, NormalDerivesMany, of_kind, of_set, of_regular, of_absent, of_present, of_star, of_plus, of_done, of_next, of_end, of_more}
-use Rattle.normal_form.proofs.Stands.{Stands, StandSeq, StandAlts, StandsPlain, StandsLeft, Fits}
+use Rattle.normal_form.proofs.Represents.{Represents, RepresentsSeq, RepresentsAlts, IsPlainRule, IsRecursiveRule, HasEachRule}
 use Rattle.normal_form.proofs.Lists.{Contains-here, Contains-there, Contains-only}
 
 -- one of the alternatives derives the list
@@ -29,17 +29,17 @@ Splits N e base_alts rest_alts w = OneOf N base_alts w ⊎ ((u : List ℕ) × (v
 
 -- a list that a symbol for the term derives
 abbrev pub Reached : List Alts → NormalForm → (ℕ → ℕ) → Term → List ℕ → Type 0
-Reached G N place t w = (s : Sym) → Stands G N place s t → NormalDerives N s w
+Reached G N own_rule t w = (s : Sym) → Represents G N own_rule s t → NormalDerives N s w
 
 abbrev pub ReachedSeq : List Alts → NormalForm → (ℕ → ℕ) → Seq → List ℕ → Type 0
-ReachedSeq G N place t w = (ss : List Sym) → StandSeq G N place ss t → NormalDerivesSeq N ss w
+ReachedSeq G N own_rule t w = (ss : List Sym) → RepresentsSeq G N own_rule ss t → NormalDerivesSeq N ss w
 
 abbrev pub ReachedAlts : List Alts → NormalForm → (ℕ → ℕ) → Alts → List ℕ → Type 0
-ReachedAlts G N place t w = (alts : List (List Sym)) → StandAlts G N place alts t → OneOf N alts w
+ReachedAlts G N own_rule t w = (alts : List (List Sym)) → RepresentsAlts G N own_rule alts t → OneOf N alts w
 
 -- the same with the alternatives of the rule r sorted into bases and rests
 abbrev pub ReachedSplit : List Alts → NormalForm → (ℕ → ℕ) → Alts → List ℕ → Type 0
-ReachedSplit G N place a w = (r : ℕ) (known : Alts) → slice_get G r ≡ Some known → (base_alts rest_alts : List (List Sym)) → StandAlts G N place base_alts (bases r a) → StandAlts G N place rest_alts (rests r a) → Splits N (Rule (place r)) base_alts rest_alts w
+ReachedSplit G N own_rule a w = (r : ℕ) (known : Alts) → slice_get G r ≡ Some known → (base_alts rest_alts : List (List Sym)) → RepresentsAlts G N own_rule base_alts (bases r a) → RepresentsAlts G N own_rule rest_alts (rests r a) → Splits N (Rule (own_rule r)) base_alts rest_alts w
 
 -- a plain rule has no rests, and its bases are its alternatives
 bases_go : (r : ℕ) (s : Seq) (a : Alts) (o : Option Seq) → (rests r a ≡ none → bases r a ≡ a) → and_rest o (rests r a) ≡ none → and_base s o (bases r a) ≡ or s a
@@ -110,20 +110,20 @@ left_build {N = N} at_rule base many rest u v at many_at d m =
     let P : List ℕ → Type 0 = λ x. NormalDerivesSeq N (Rule many ∷ []) x in
     of_regular at_rule ((Rule base ∷ Rule many ∷ []) ∷ []) (Rule base ∷ Rule many ∷ []) (u ++ v) at (Contains-here (Rule base ∷ Rule many ∷ []) []) (of_next (Rule base) (Rule many ∷ []) u v d (subst P (append-nil v) last))
 
-splits_rule : {G : List Alts} {N : NormalForm} {place : ℕ → ℕ} (r : ℕ) (a : Alts) (w : List ℕ) → slice_get G r ≡ Some a → StandsPlain G N place r a ⊎ StandsLeft G N place r a → ReachedAlts G N place a w → ReachedSplit G N place a w → NormalDerives N (Rule (place r)) w
-splits_rule {G = G} {N = N} {place = place} r a w known (inl p) h k =
-    let d : OneOf N p.alts w = h p.alts p.stand in of_regular (place r) p.alts d.0 w p.at d.1 d.2
-splits_rule {G = G} {N = N} {place = place} r a w known (inr p) h k = go (k r a known p.base_alts p.rest_alts p.bases_stand p.rests_stand)
+splits_rule : {G : List Alts} {N : NormalForm} {own_rule : ℕ → ℕ} (r : ℕ) (a : Alts) (w : List ℕ) → slice_get G r ≡ Some a → IsPlainRule G N own_rule r a ⊎ IsRecursiveRule G N own_rule r a → ReachedAlts G N own_rule a w → ReachedSplit G N own_rule a w → NormalDerives N (Rule (own_rule r)) w
+splits_rule {G = G} {N = N} {own_rule = own_rule} r a w known (inl p) h k =
+    let d : OneOf N p.alts w = h p.alts p.represented in of_regular (own_rule r) p.alts d.0 w p.at d.1 d.2
+splits_rule {G = G} {N = N} {own_rule = own_rule} r a w known (inr p) h k = go (k r a known p.base_alts p.rest_alts p.bases_are p.rests_are)
   where
-    go : Splits N (Rule (place r)) p.base_alts p.rest_alts w → NormalDerives N (Rule (place r)) w
+    go : Splits N (Rule (own_rule r)) p.base_alts p.rest_alts w → NormalDerives N (Rule (own_rule r)) w
     go (inl b) =
-        let Q : List ℕ → Type 0 = λ x. NormalDerives N (Rule (place r)) x in
-        subst Q (append-nil w) (left_build (place r) p.base p.many p.rest w [] p.at p.many_at (of_regular p.base p.base_alts b.0 w p.base_at b.1 b.2) (of_end (Rule p.rest)))
+        let Q : List ℕ → Type 0 = λ x. NormalDerives N (Rule (own_rule r)) x in
+        subst Q (append-nil w) (left_build (own_rule r) p.base p.many p.rest w [] p.at p.many_at (of_regular p.base p.base_alts b.0 w p.base_at b.1 b.2) (of_end (Rule p.rest)))
     go (inr (u, v, d, b, e)) =
-        let Q : List ℕ → Type 0 = λ x. NormalDerives N (Rule (place r)) x in
-        let i = left_inverse (place r) p.base p.many p.rest u p.at p.many_at d in
+        let Q : List ℕ → Type 0 = λ x. NormalDerives N (Rule (own_rule r)) x in
+        let i = left_inverse (own_rule r) p.base p.many p.rest u p.at p.many_at d in
         let m = many_snoc v i.4 (of_regular p.rest p.rest_alts b.0 v p.rest_at b.1 b.2) in
-        subst Q (sym (append_assoc i.0 i.1 v) ∙ ap (λ x. x ++ v) (sym i.2) ∙ sym e) (left_build (place r) p.base p.many p.rest i.0 (i.1 ++ v) p.at p.many_at i.3 m)
+        subst Q (sym (append_assoc i.0 i.1 v) ∙ ap (λ x. x ++ v) (sym i.2) ∙ sym e) (left_build (own_rule r) p.base p.many p.rest i.0 (i.1 ++ v) p.at p.many_at i.3 m)
 
 -- What a seq with a rest is.
 pub rest_is : (r : ℕ) (s rest : Seq) → rest_of r s ≡ Some rest → s ≡ next (rule r) rest
@@ -145,47 +145,47 @@ one_there alts more alt w e (x, c, d) = let P : List (List Sym) → Type 0 = λ 
 
 -- An alternative that begins with the rule is derived by the rule and then the rest.
 abbrev pub Begins : List Alts → NormalForm → (ℕ → ℕ) → Seq → List ℕ → Type 0
-Begins G N place s w = (r : ℕ) (known : Alts) → slice_get G r ≡ Some known → (rest : Seq) → s ≡ next (rule r) rest → (u : List ℕ) × (v : List ℕ) × NormalDerives N (Rule (place r)) u × ReachedSeq G N place rest v × (w ≡ u ++ v)
+Begins G N own_rule s w = (r : ℕ) (known : Alts) → slice_get G r ≡ Some known → (rest : Seq) → s ≡ next (rule r) rest → (u : List ℕ) × (v : List ℕ) × NormalDerives N (Rule (own_rule r)) u × ReachedSeq G N own_rule rest v × (w ≡ u ++ v)
 
 -- One alternative in front of others, sorted.
-split_first : {G : List Alts} {N : NormalForm} {place : ℕ → ℕ} (s : Seq) (a : Alts) (w : List ℕ) → ReachedSeq G N place s w → Begins G N place s w → ReachedSplit G N place (or s a) w
-split_first {G = G} {N = N} {place = place} s a w h k r known at base_alts rest_alts = go (rest_of r s) refl
+split_first : {G : List Alts} {N : NormalForm} {own_rule : ℕ → ℕ} (s : Seq) (a : Alts) (w : List ℕ) → ReachedSeq G N own_rule s w → Begins G N own_rule s w → ReachedSplit G N own_rule (or s a) w
+split_first {G = G} {N = N} {own_rule = own_rule} s a w h k r known at base_alts rest_alts = go (rest_of r s) refl
   where
-    go : (o : Option Seq) → rest_of r s ≡ o → StandAlts G N place base_alts (and_base s o (bases r a)) → StandAlts G N place rest_alts (and_rest o (rests r a)) → Splits N (Rule (place r)) base_alts rest_alts w
+    go : (o : Option Seq) → rest_of r s ≡ o → RepresentsAlts G N own_rule base_alts (and_base s o (bases r a)) → RepresentsAlts G N own_rule rest_alts (and_rest o (rests r a)) → Splits N (Rule (own_rule r)) base_alts rest_alts w
     go None e (ss, more, is, st, later) hr = inl (one_here base_alts more ss w is (h ss st))
     go (Some rest) e hb (ss, more, is, st, later) =
         let x = k r known at rest (rest_is r s rest e) in inr (x.0, x.1, x.2, one_here rest_alts more ss x.1 is (x.3 ss st), x.4)
 
 -- One of the others.
-split_later : (G : List Alts) {N : NormalForm} (place : ℕ → ℕ) (s : Seq) (a : Alts) (w : List ℕ) → ReachedSplit G N place a w → ReachedSplit G N place (or s a) w
-split_later G {N = N} place s a w h r known at base_alts rest_alts = go (rest_of r s)
+split_later : (G : List Alts) {N : NormalForm} (own_rule : ℕ → ℕ) (s : Seq) (a : Alts) (w : List ℕ) → ReachedSplit G N own_rule a w → ReachedSplit G N own_rule (or s a) w
+split_later G {N = N} own_rule s a w h r known at base_alts rest_alts = go (rest_of r s)
   where
-    weaker_base : (ss : List Sym) (more : List (List Sym)) → base_alts ≡ ss ∷ more → Splits N (Rule (place r)) more rest_alts w → Splits N (Rule (place r)) base_alts rest_alts w
+    weaker_base : (ss : List Sym) (more : List (List Sym)) → base_alts ≡ ss ∷ more → Splits N (Rule (own_rule r)) more rest_alts w → Splits N (Rule (own_rule r)) base_alts rest_alts w
     weaker_base ss more is (inl x) = inl (one_there base_alts more ss w is x)
     weaker_base ss more is (inr x) = inr x
 
-    weaker_rest : (ss : List Sym) (more : List (List Sym)) → rest_alts ≡ ss ∷ more → Splits N (Rule (place r)) base_alts more w → Splits N (Rule (place r)) base_alts rest_alts w
+    weaker_rest : (ss : List Sym) (more : List (List Sym)) → rest_alts ≡ ss ∷ more → Splits N (Rule (own_rule r)) base_alts more w → Splits N (Rule (own_rule r)) base_alts rest_alts w
     weaker_rest ss more is (inl x) = inl x
     weaker_rest ss more is (inr (u, v, d, x, e)) = inr (u, v, d, one_there rest_alts more ss v is x, e)
 
-    go : (o : Option Seq) → StandAlts G N place base_alts (and_base s o (bases r a)) → StandAlts G N place rest_alts (and_rest o (rests r a)) → Splits N (Rule (place r)) base_alts rest_alts w
+    go : (o : Option Seq) → RepresentsAlts G N own_rule base_alts (and_base s o (bases r a)) → RepresentsAlts G N own_rule rest_alts (and_rest o (rests r a)) → Splits N (Rule (own_rule r)) base_alts rest_alts w
     go None (ss, more, is, st, later) hr = weaker_base ss more is (h r known at more rest_alts later hr)
     go (Some rest) hb (ss, more, is, st, later) = weaker_rest ss more is (h r known at base_alts more hb later)
 
-begins_done : (G : List Alts) (N : NormalForm) (place : ℕ → ℕ) → Begins G N place done []
-begins_done G N place r known at rest e = absurd (cc)
+begins_done : (G : List Alts) (N : NormalForm) (own_rule : ℕ → ℕ) → Begins G N own_rule done []
+begins_done G N own_rule r known at rest e = absurd (cc)
 
-begins_next : (G : List Alts) {N : NormalForm} (place : ℕ → ℕ) (t : Term) (s : Seq) (u v : List ℕ) → Reached G N place t u → ReachedSeq G N place s v → Begins G N place (next t s) (u ++ v)
-begins_next G {N = N} place t s u v h k r known at rest e =
+begins_next : (G : List Alts) {N : NormalForm} (own_rule : ℕ → ℕ) (t : Term) (s : Seq) (u v : List ℕ) → Reached G N own_rule t u → ReachedSeq G N own_rule s v → Begins G N own_rule (next t s) (u ++ v)
+begins_next G {N = N} own_rule t s u v h k r known at rest e =
     let same : t ≡ rule r = cc in
     let more : s ≡ rest = cc in
-    let P : Term → Type 0 = λ x. Reached G N place x u in
-    let Q : Seq → Type 0 = λ x. ReachedSeq G N place x v in (u, v, subst P same h (Rule (place r)) (refl, (known, at)), subst Q more k, refl)
+    let P : Term → Type 0 = λ x. Reached G N own_rule x u in
+    let Q : Seq → Type 0 = λ x. ReachedSeq G N own_rule x v in (u, v, subst P same h (Rule (own_rule r)) (refl, (known, at)), subst Q more k, refl)
 
-seq_next : (G : List Alts) {N : NormalForm} (place : ℕ → ℕ) (t : Term) (s : Seq) (u v : List ℕ) → Reached G N place t u → (t ≡ eof → u ≡ []) → ReachedSeq G N place s v → ReachedSeq G N place (next t s) (u ++ v)
-seq_next G {N = N} place t s u v h z k ss (inl (e, st)) =
+seq_next : (G : List Alts) {N : NormalForm} (own_rule : ℕ → ℕ) (t : Term) (s : Seq) (u v : List ℕ) → Reached G N own_rule t u → (t ≡ eof → u ≡ []) → ReachedSeq G N own_rule s v → ReachedSeq G N own_rule (next t s) (u ++ v)
+seq_next G {N = N} own_rule t s u v h z k ss (inl (e, st)) =
     let P : List ℕ → Type 0 = λ x. NormalDerivesSeq N ss (x ++ v) in subst P (sym (z e)) (k ss st)
-seq_next G {N = N} place t s u v h z k ss (inr (x, more, e, st, later)) =
+seq_next G {N = N} own_rule t s u v h z k ss (inr (x, more, e, st, later)) =
     let P : List (List Sym) → Type 0 = λ y. Unit {0} in
     let Q : List Sym → Type 0 = λ y. NormalDerivesSeq N y (u ++ v) in subst Q (sym e) (of_next x more u v (h x st) (k more later))
 
@@ -201,35 +201,35 @@ eof_empty (by_star t w m) e = absurd (cc)
 eof_empty (by_plus t u v d m) e = absurd (cc)
 
 mutual
-  pub forward : {G : List Alts} {N : NormalForm} {place : ℕ → ℕ} → Fits G N place → {t : Term} {w : List ℕ} → Derives G t w → Reached G N place t w
-  forward {N = N} {place = place} fits (by_kind k) s e = let P : Sym → Type 0 = λ x. NormalDerives N x (k ∷ []) in subst P (sym e) (of_kind k)
-  forward {N = N} fits (by_among ks k c) s (i, e, h) = let P : Sym → Type 0 = λ x. NormalDerives N x (k ∷ []) in subst P (sym e) (of_set i k ks h c)
-  forward {N = N} {place = place} fits (by_rule r a w at d) s (e, known) =
-      let P : Sym → Type 0 = λ x. NormalDerives N x w in subst P (sym e) (splits_rule r a w at (fits r a at) (forward_alts fits d) (forward_split fits d))
-  forward {N = N} fits (by_block a w d) s (n, alts, e, at, st) =
+  pub forward : {G : List Alts} {N : NormalForm} {own_rule : ℕ → ℕ} → HasEachRule G N own_rule → {t : Term} {w : List ℕ} → Derives G t w → Reached G N own_rule t w
+  forward {N = N} {own_rule = own_rule} has_each (by_kind k) s e = let P : Sym → Type 0 = λ x. NormalDerives N x (k ∷ []) in subst P (sym e) (of_kind k)
+  forward {N = N} has_each (by_among ks k c) s (i, e, h) = let P : Sym → Type 0 = λ x. NormalDerives N x (k ∷ []) in subst P (sym e) (of_set i k ks h c)
+  forward {N = N} {own_rule = own_rule} has_each (by_rule r a w at d) s (e, known) =
+      let P : Sym → Type 0 = λ x. NormalDerives N x w in subst P (sym e) (splits_rule r a w at (has_each r a at) (forward_alts has_each d) (forward_split has_each d))
+  forward {N = N} has_each (by_block a w d) s (n, alts, e, at, st) =
       let P : Sym → Type 0 = λ x. NormalDerives N x w in
-      let f : OneOf N alts w = forward_alts fits d alts st in subst P (sym e) (of_regular n alts f.0 w at f.1 f.2)
-  forward {N = N} fits (by_absent t) s (n, of, e, at, st) = let P : Sym → Type 0 = λ x. NormalDerives N x [] in subst P (sym e) (of_absent n of at)
-  forward {N = N} fits (by_present t w d) s (n, of, e, at, st) =
-      let P : Sym → Type 0 = λ x. NormalDerives N x w in subst P (sym e) (of_present n of w at (forward fits d of st))
-  forward {N = N} fits (by_star t w m) s (n, of, e, at, st) = let P : Sym → Type 0 = λ x. NormalDerives N x w in subst P (sym e) (of_star n of w at (forward_many fits m of st))
-  forward {N = N} fits (by_plus t u v d m) s (n, of, e, at, st) =
-      let P : Sym → Type 0 = λ x. NormalDerives N x (u ++ v) in subst P (sym e) (of_plus n of u v at (forward fits d of st) (forward_many fits m of st))
-  forward fits by_eof s e = absurd e
+      let f : OneOf N alts w = forward_alts has_each d alts st in subst P (sym e) (of_regular n alts f.0 w at f.1 f.2)
+  forward {N = N} has_each (by_absent t) s (n, of, e, at, st) = let P : Sym → Type 0 = λ x. NormalDerives N x [] in subst P (sym e) (of_absent n of at)
+  forward {N = N} has_each (by_present t w d) s (n, of, e, at, st) =
+      let P : Sym → Type 0 = λ x. NormalDerives N x w in subst P (sym e) (of_present n of w at (forward has_each d of st))
+  forward {N = N} has_each (by_star t w m) s (n, of, e, at, st) = let P : Sym → Type 0 = λ x. NormalDerives N x w in subst P (sym e) (of_star n of w at (forward_many has_each m of st))
+  forward {N = N} has_each (by_plus t u v d m) s (n, of, e, at, st) =
+      let P : Sym → Type 0 = λ x. NormalDerives N x (u ++ v) in subst P (sym e) (of_plus n of u v at (forward has_each d of st) (forward_many has_each m of st))
+  forward has_each by_eof s e = absurd e
 
-  pub forward_many : {G : List Alts} {N : NormalForm} {place : ℕ → ℕ} → Fits G N place → {t : Term} {w : List ℕ} → DerivesMany G t w → (of : Sym) → Stands G N place of t → NormalDerivesMany N of w
-  forward_many fits (by_end t) of st = of_end of
-  forward_many fits (by_more t u v d m) of st = of_more of u v (forward fits d of st) (forward_many fits m of st)
+  pub forward_many : {G : List Alts} {N : NormalForm} {own_rule : ℕ → ℕ} → HasEachRule G N own_rule → {t : Term} {w : List ℕ} → DerivesMany G t w → (of : Sym) → Represents G N own_rule of t → NormalDerivesMany N of w
+  forward_many has_each (by_end t) of st = of_end of
+  forward_many has_each (by_more t u v d m) of st = of_more of u v (forward has_each d of st) (forward_many has_each m of st)
 
-  pub forward_seq : {G : List Alts} {N : NormalForm} {place : ℕ → ℕ} → Fits G N place → {s : Seq} {w : List ℕ} → DerivesSeq G s w → ReachedSeq G N place s w
-  forward_seq {N = N} fits by_done ss e = let P : List Sym → Type 0 = λ x. NormalDerivesSeq N x [] in subst P (sym e) of_done
-  forward_seq {G = G} {place = place} fits (by_next t s u v d h) ss st = seq_next G place t s u v (forward fits d) (eof_empty d) (forward_seq fits h) ss st
+  pub forward_seq : {G : List Alts} {N : NormalForm} {own_rule : ℕ → ℕ} → HasEachRule G N own_rule → {s : Seq} {w : List ℕ} → DerivesSeq G s w → ReachedSeq G N own_rule s w
+  forward_seq {N = N} has_each by_done ss e = let P : List Sym → Type 0 = λ x. NormalDerivesSeq N x [] in subst P (sym e) of_done
+  forward_seq {G = G} {own_rule = own_rule} has_each (by_next t s u v d h) ss st = seq_next G own_rule t s u v (forward has_each d) (eof_empty d) (forward_seq has_each h) ss st
 
-  pub forward_alts : {G : List Alts} {N : NormalForm} {place : ℕ → ℕ} → Fits G N place → {a : Alts} {w : List ℕ} → DerivesAlts G a w → ReachedAlts G N place a w
-  forward_alts fits (by_first s a w d) alts (ss, more, e, st, later) = one_here alts more ss w e (forward_seq fits d ss st)
-  forward_alts fits (by_later s a w d) alts (ss, more, e, st, later) = one_there alts more ss w e (forward_alts fits d more later)
+  pub forward_alts : {G : List Alts} {N : NormalForm} {own_rule : ℕ → ℕ} → HasEachRule G N own_rule → {a : Alts} {w : List ℕ} → DerivesAlts G a w → ReachedAlts G N own_rule a w
+  forward_alts has_each (by_first s a w d) alts (ss, more, e, st, later) = one_here alts more ss w e (forward_seq has_each d ss st)
+  forward_alts has_each (by_later s a w d) alts (ss, more, e, st, later) = one_there alts more ss w e (forward_alts has_each d more later)
 
-  pub forward_split : {G : List Alts} {N : NormalForm} {place : ℕ → ℕ} → Fits G N place → {a : Alts} {w : List ℕ} → DerivesAlts G a w → ReachedSplit G N place a w
-  forward_split {G = G} {N = N} {place = place} fits (by_first s a w by_done) = split_first done a [] (forward_seq fits by_done) (begins_done G N place)
-  forward_split {G = G} {place = place} fits (by_first s a w (by_next t rest u v d h)) = split_first (next t rest) a (u ++ v) (seq_next G place t rest u v (forward fits d) (eof_empty d) (forward_seq fits h)) (begins_next G place t rest u v (forward fits d) (forward_seq fits h))
-  forward_split {G = G} {place = place} fits (by_later s a w d) = split_later G place s a w (forward_split fits d)
+  pub forward_split : {G : List Alts} {N : NormalForm} {own_rule : ℕ → ℕ} → HasEachRule G N own_rule → {a : Alts} {w : List ℕ} → DerivesAlts G a w → ReachedSplit G N own_rule a w
+  forward_split {G = G} {N = N} {own_rule = own_rule} has_each (by_first s a w by_done) = split_first done a [] (forward_seq has_each by_done) (begins_done G N own_rule)
+  forward_split {G = G} {own_rule = own_rule} has_each (by_first s a w (by_next t rest u v d h)) = split_first (next t rest) a (u ++ v) (seq_next G own_rule t rest u v (forward has_each d) (eof_empty d) (forward_seq has_each h)) (begins_next G own_rule t rest u v (forward has_each d) (forward_seq has_each h))
+  forward_split {G = G} {own_rule = own_rule} has_each (by_later s a w d) = split_later G own_rule s a w (forward_split has_each d)

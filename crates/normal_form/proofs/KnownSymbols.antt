@@ -1,37 +1,48 @@
 -- Each symbol of a normal form is one of its kinds, sets and rules.
-use Rattle.std.proofs.Common.{◌≡◌, ◌⊎◌, inl, inr, ℕ, ◌+◌, List, [], ◌∷◌, length, Some, slice_get, refl, sym, ◌∙◌, subst, arith}
+use Rattle.std.proofs.Common.{◌≡◌, ◌⊎◌, inl, inr, ℕ, ◌+◌, ◌<◌, List, [], ◌∷◌, length, Some, slice_get, refl, sym, ◌∙◌, subst, arith}
 use Rattle.std.specs.List.{Contains}
 use Rattle.std.proofs.lemmas.Option.{slice_get_within}
 use Rattle.grammar_tree.specs.Derives.{Term, Alts, bodies, kind, among, rule, block, opt, star, plus, eof, or}
 use Rattle.grammar_tree.specs.Corners.{group_size}
 use Rattle.normal_form.specs.declared.normal.Sym.{Sym}
-use Rattle.normal_form.specs.declared.normal.Sym.TheVariants.{Rule}
+use Rattle.normal_form.specs.declared.normal.Sym.TheVariants.{Kind, Set, Rule}
 use Rattle.normal_form.specs.Form.{RuleForm, NormalForm}
 use Rattle.normal_form.specs.FormLaws.{SymbolsAreKnown}
-use Rattle.normal_form.specs.NormalOf.{place}
+use Rattle.normal_form.specs.NormalOf.{IsNormal, own_rule}
 use Rattle.normal_form.specs.Symbols.{HasSymbol, IsSymbolOf}
 use Rattle.normal_form.specs.Numbering.{symbol, seq_symbols, alts_symbols, rest_symbols, term_rules}
-use Rattle.normal_form.proofs.Stands.{Fits, StandsPlain, StandsLeft}
+use Rattle.normal_form.proofs.Represents.{HasEachRule, IsPlainRule, IsRecursiveRule}
 use Rattle.normal_form.proofs.Lists.{Contains-only, Contains-cases}
 use Rattle.normal_form.proofs.Parts.{Setting, Known, of_block, of_opt, of_plus, of_star}
 use Rattle.normal_form.proofs.Positions.{AltAt, alt_of, base_of, part_of, rest_alt, split_at}
-use Rattle.normal_form.proofs.Languages.{fits}
+use Rattle.normal_form.proofs.Languages.{has_each}
 use Rattle.normal_form.proofs.Settings.{origin_of_rule, setting}
 use Rattle.normal_form.proofs.Origins.{Origin, RuleAt, left_alts, plain_alts, rules_of}
 
-module _ (S : Setting) (fits : Fits S.bodies S.form S.numbers.place) where
-  abbrev IsOne : Sym → Type 0
-  IsOne = IsSymbolOf S.kinds S.form
+-- the symbol is one of so many kinds, or one of the sets or rules of the form
+abbrev IsWithin : ℕ → NormalForm → Sym → Type 0
+IsWithin kinds N (Kind k) = k < kinds
+IsWithin kinds N (Set i) = i < length N.sets
+IsWithin kinds N (Rule r) = r < length N.rules
 
-  rule_is_there : (r : ℕ) (a : Alts) → StandsPlain S.bodies S.form S.numbers.place r a ⊎ StandsLeft S.bodies S.form S.numbers.place r a → IsOne (Rule (S.numbers.place r))
-  rule_is_there r a (inl h) = slice_get_within S.form.rules (S.numbers.place r) (RuleForm.regular h.alts) h.at
-  rule_is_there r a (inr h) = slice_get_within S.form.rules (S.numbers.place r) (RuleForm.regular ((Rule h.base ∷ Rule h.many ∷ []) ∷ [])) h.at
+is_symbol : (kinds : ℕ) (N : NormalForm) (s : Sym) → IsWithin kinds N s → IsSymbolOf N s
+is_symbol kinds N (Kind k) h = tt
+is_symbol kinds N (Set i) h = h
+is_symbol kinds N (Rule r) h = h
+
+module _ (S : Setting) (has_each : HasEachRule S.bodies S.form S.numbers.own_rule) where
+  abbrev IsOne : Sym → Type 0
+  IsOne = IsWithin S.kinds S.form
+
+  rule_is_there : (r : ℕ) (a : Alts) → IsPlainRule S.bodies S.form S.numbers.own_rule r a ⊎ IsRecursiveRule S.bodies S.form S.numbers.own_rule r a → IsOne (Rule (S.numbers.own_rule r))
+  rule_is_there r a (inl h) = slice_get_within S.form.rules (S.numbers.own_rule r) (RuleForm.regular h.alts) h.at
+  rule_is_there r a (inr h) = slice_get_within S.form.rules (S.numbers.own_rule r) (RuleForm.regular ((Rule h.base ∷ Rule h.many ∷ []) ∷ [])) h.at
 
   module _ (low high : ℕ) where
     pub symbol_is_there : (n : ℕ) (t : Term) → Known S low high n t → IsOne (symbol S.numbers n t)
     symbol_is_there n (kind k) h = h.kinds
     symbol_is_there n (among ks) h = slice_get_within S.form.sets (S.numbers.set_of ks) ks h.closed
-    symbol_is_there n (rule r) h = rule_is_there r h.closed.0 (fits r h.closed.0 h.closed.1)
+    symbol_is_there n (rule r) h = rule_is_there r h.closed.0 (has_each r h.closed.0 h.closed.1)
     symbol_is_there n (block a) h = slice_get_within S.form.rules n (RuleForm.regular (alts_symbols S.numbers (n + 1) a)) h.at.0
     symbol_is_there n (opt t) h = slice_get_within S.form.rules n (RuleForm.opt (symbol S.numbers (n + 1) t)) h.at.0
     symbol_is_there n (star t) h = slice_get_within S.form.rules n (RuleForm.star (symbol S.numbers (n + 1) t)) h.at.0
@@ -43,7 +54,7 @@ module _ (S : Setting) (fits : Fits S.bodies S.form S.numbers.place) where
     in_alt a alt s it c =
         let P : List Sym → Type 0 = λ x. Contains x s in
         let cut = split_at (seq_symbols S.numbers it.number it.seq) s (subst P it.is c) in
-        let found = part_of S fits low high it.number it.seq s cut.0 cut.1 it.known cut.2 in
+        let found = part_of S has_each low high it.number it.seq s cut.0 cut.1 it.known cut.2 in
         let Q : Sym → Type 0 = IsOne in subst Q (sym found.is) (symbol_is_there found.number found.term found.known)
 
     -- the symbol of a suffix
@@ -98,10 +109,17 @@ module _ (S : Setting) (fits : Fits S.bodies S.form S.numbers.place) where
       let high = n + group_size r a in in_alt (n + 1) high _ alt s (rest_alt S (n + 1) high r (n + 4) a alt (left_alts S r a n known s' b e) c) d
   of_origin r a n m f s known (Origin.part m' f' h) c = of_begun (n + 1) (n + group_size r a) m h.term f h.more s h.known h.rules c
 
-pub symbols_are_known : SymbolsAreKnown
-symbols_are_known N normal r form s at h =
+within : (N : NormalForm) (normal : IsNormal N) (r : ℕ) (form : RuleForm) (s : Sym) → slice_get N.rules r ≡ Some form → HasSymbol form s → IsWithin (length normal.grammar.kinds) N s
+within N normal r form s at h =
     let c = normal.grammar in
     let P : NormalForm → Type 0 = λ M. slice_get M.rules r ≡ Some form in
     let it = origin_of_rule c normal.checked r form (subst P normal.is at) in
-    let Q : NormalForm → Type 0 = λ M. IsSymbolOf (length c.kinds) M s in
-    subst Q (sym normal.is) (of_origin (setting c) (fits c normal.checked) it.rule it.alts (place (bodies c.grammar) it.rule) r form s it.known it.origin h)
+    let Q : NormalForm → Type 0 = λ M. IsWithin (length c.kinds) M s in
+    subst Q (sym normal.is) (of_origin (setting c) (has_each c normal.checked) it.rule it.alts (own_rule (bodies c.grammar) it.rule) r form s it.known it.origin h)
+
+pub symbols_are_known : SymbolsAreKnown
+symbols_are_known N normal =
+    record {
+      known = λ r form s at h. is_symbol (length normal.grammar.kinds) N s (within N normal r form s at h);
+      kinds = λ other r form k at h. within N other r form (Kind k) at h;
+    }

@@ -96,15 +96,17 @@ all_part all = filter_agree_on (is_in all) (λ _. true) all (λ k h. h) ∙ keep
 pub lacks_all : (all : List ℕ) → lacking all all ≡ []
 lacks_all all = filter_agree_on (λ k. not (is_in all k)) (λ _. false) all (λ k h. ap not h) ∙ keep_none all
 
--- and `~` the kinds that are named
 pub and_in : (b c : Bool) → c ≡ true → (b && c) ≡ b
 and_in true c e = e
 and_in false c e = refl
 
+-- what a test keeps of all is part of all
+pub kept_part : (p : ℕ → Bool) (all : List ℕ) → IsPartOf all (filter p all)
+kept_part p all = filter_agree_on (is_in (filter p all)) p all (λ k h. in_filter p all k ∙ and_in (p k) (is_in all k) h)
+
+-- and `~` lacks the kinds that are named
 pub named_part : (G : WrittenGrammar) (refs : List Reference) → IsPartOf (any_kinds G) (named_kinds G refs)
-named_part G refs =
-    let named = is_in (filter_map (reference_kind G) refs) in
-    filter_agree_on (is_in (named_kinds G refs)) named (any_kinds G) (λ k h. in_filter named (any_kinds G) k ∙ and_in (named k) (is_in (any_kinds G) k) h)
+named_part G refs = kept_part (is_in (filter_map (reference_kind G) refs)) (any_kinds G)
 
 pub lacks_named : (G : WrittenGrammar) (refs : List Reference) → lacking (any_kinds G) (named_kinds G refs) ≡ other_kinds G refs
 lacks_named G refs =

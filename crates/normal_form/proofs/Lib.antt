@@ -1,6 +1,6 @@
 pub mod Resolving
 pub mod Lists
-pub mod Stands
+pub mod Represents
 pub mod Closed
 pub mod Forward
 pub mod Backward
@@ -25,9 +25,8 @@ pub mod Positions
 pub mod Origins
 pub mod Settings
 pub mod KnownSymbols
-pub mod FewAlternatives
+pub mod SmallNumbers
 pub mod Elements
 pub mod Corners
 pub mod NoLeftRecursion
 pub mod ShortChains
-pub mod SomeAlternative

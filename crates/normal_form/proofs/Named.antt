@@ -7,11 +7,12 @@ use Rattle.normal_form.specs.declared.normal.Sym.TheVariants.{Rule}
 use Rattle.normal_form.specs.Form.{RuleForm, NormalForm}
 use Rattle.normal_form.specs.Numbering.{Numbering, symbol, and_symbol, seq_symbols, alts_symbols, term_rules, seq_rules, alts_rules, tail, base_symbols, rest_symbols, group_of, group, groups}
 use Rattle.normal_form.specs.Numbering as numbers
-use Rattle.normal_form.proofs.Stands.{Stands, StandSeq, StandAlts, StandsPlain, StandsLeft}
+use Rattle.normal_form.proofs.Represents.{Represents, RepresentsSeq, RepresentsAlts, IsPlainRule, IsRecursiveRule}
+use Rattle.normal_form.proofs.Counted.{head_count}
 use Rattle.normal_form.proofs.Closed.{IsClosed, IsClosedSeq, IsClosedAlts}
 use Rattle.normal_form.proofs.Forward.{rest_is}
 
--- these rules stand at this place and after it
+-- these rules are at this number and after it
 abbrev pub At : NormalForm → ℕ → List RuleForm → Type 0
 At N n [] = Unit {0}
 At N n (x ∷ xs) = (slice_get N.rules n ≡ Some x) × At N (n + 1) xs
@@ -64,73 +65,73 @@ abbrev pub IsThere : NormalForm → Numbering → List ℕ → Type 0
 IsThere N M ks = slice_get N.sets (M.set_of ks) ≡ Some ks
 
 module _ (G : List Alts) (N : NormalForm) (M : Numbering) where
-  stand_next : (n : ℕ) (t : Term) (s : Seq) (ss : List Sym) → (t ≡ eof) ⊎ IsClosed G (IsThere N M) t → (IsClosed G (IsThere N M) t → Stands G N M.place (symbol M n t) t) → StandSeq G N M.place ss s → StandSeq G N M.place (and_symbol t (symbol M n t) ss) (next t s)
-  stand_next n t s ss (inl e) h k =
-      let P : Term → Type 0 = λ x. StandSeq G N M.place (and_symbol x (symbol M n x) ss) (next x s) in subst P (sym e) (inl (refl, k))
-  stand_next n t s ss (inr c) h k =
-      let P : List Sym → Type 0 = λ x. StandSeq G N M.place x (next t s) in
+  represents_next : (n : ℕ) (t : Term) (s : Seq) (ss : List Sym) → (t ≡ eof) ⊎ IsClosed G (IsThere N M) t → (IsClosed G (IsThere N M) t → Represents G N M.own_rule (symbol M n t) t) → RepresentsSeq G N M.own_rule ss s → RepresentsSeq G N M.own_rule (and_symbol t (symbol M n t) ss) (next t s)
+  represents_next n t s ss (inl e) h k =
+      let P : Term → Type 0 = λ x. RepresentsSeq G N M.own_rule (and_symbol x (symbol M n x) ss) (next x s) in subst P (sym e) (inl (refl, k))
+  represents_next n t s ss (inr c) h k =
+      let P : List Sym → Type 0 = λ x. RepresentsSeq G N M.own_rule x (next t s) in
       subst P (sym (closed_part G (IsThere N M) t (symbol M n t) ss c)) (inr (symbol M n t, ss, refl, h c, k))
 
   mutual
-    pub stands : (n : ℕ) (t : Term) → IsClosed G (IsThere N M) t → At N n (term_rules M n t) → Stands G N M.place (symbol M n t) t
-    stands n (kind k) c h = refl
-    stands n (among ks) c h = (M.set_of ks, refl, c)
-    stands n (rule r) c h = (refl, c)
-    stands n (block a) c h = (n, alts_symbols M (n + 1) a, refl, h.0, stands_alts (n + 1) a c h.1)
-    stands n (opt t) c h = (n, symbol M (n + 1) t, refl, h.0, stands (n + 1) t c h.1)
-    stands n (star t) c h = (n, symbol M (n + 1) t, refl, h.0, stands (n + 1) t c h.1)
-    stands n (plus t) c h = (n, symbol M (n + 1) t, refl, h.0, stands (n + 1) t c h.1)
-    stands n eof c h = absurd c
+    pub represents : (n : ℕ) (t : Term) → IsClosed G (IsThere N M) t → At N n (term_rules M n t) → Represents G N M.own_rule (symbol M n t) t
+    represents n (kind k) c h = refl
+    represents n (among ks) c h = (M.set_of ks, refl, c)
+    represents n (rule r) c h = (refl, c)
+    represents n (block a) c h = (n, alts_symbols M (n + 1) a, refl, h.0, represents_alts (n + 1) a c h.1)
+    represents n (opt t) c h = (n, symbol M (n + 1) t, refl, h.0, represents (n + 1) t c h.1)
+    represents n (star t) c h = (n, symbol M (n + 1) t, refl, h.0, represents (n + 1) t c h.1)
+    represents n (plus t) c h = (n, symbol M (n + 1) t, refl, h.0, represents (n + 1) t c h.1)
+    represents n eof c h = absurd c
 
-    pub stands_seq : (n : ℕ) (s : Seq) → IsClosedSeq G (IsThere N M) s → At N n (seq_rules M n s) → StandSeq G N M.place (seq_symbols M n s) s
-    stands_seq n done c h = refl
-    stands_seq n (next t s) (c, d) h =
-        stand_next n t s (seq_symbols M (n + new_rules t) s) c (λ b. stands n t b (At_left N n (term_rules M n t) (seq_rules M (n + new_rules t) s) h))
-        (stands_seq (n + new_rules t) s d (At_right N n (term_rules M n t) (seq_rules M (n + new_rules t) s) (n + new_rules t) (ap (λ k. n + k) (rules_length M n t)) h))
+    pub represents_seq : (n : ℕ) (s : Seq) → IsClosedSeq G (IsThere N M) s → At N n (seq_rules M n s) → RepresentsSeq G N M.own_rule (seq_symbols M n s) s
+    represents_seq n done c h = refl
+    represents_seq n (next t s) (c, d) h =
+        represents_next n t s (seq_symbols M (n + new_rules t) s) c (λ b. represents n t b (At_left N n (term_rules M n t) (seq_rules M (n + new_rules t) s) h))
+        (represents_seq (n + new_rules t) s d (At_right N n (term_rules M n t) (seq_rules M (n + new_rules t) s) (n + new_rules t) (ap (λ k. n + k) (rules_length M n t)) h))
 
-    pub stands_alts : (n : ℕ) (a : Alts) → IsClosedAlts G (IsThere N M) a → At N n (alts_rules M n a) → StandAlts G N M.place (alts_symbols M n a) a
-    stands_alts n none c h = refl
-    stands_alts n (or s a) (c, d) h = (
+    pub represents_alts : (n : ℕ) (a : Alts) → IsClosedAlts G (IsThere N M) a → At N n (alts_rules M n a) → RepresentsAlts G N M.own_rule (alts_symbols M n a) a
+    represents_alts n none c h = refl
+    represents_alts n (or s a) (c, d) h = (
       seq_symbols M n s,
       alts_symbols M (n + seq_new_rules s) a,
       refl,
-      stands_seq n s c (At_left N n (seq_rules M n s) (alts_rules M (n + seq_new_rules s) a) h),
-      stands_alts (n + seq_new_rules s) a d (At_right N n (seq_rules M n s) (alts_rules M (n + seq_new_rules s) a) (n + seq_new_rules s) (ap (λ k. n + k) (seq_length M n s)) h),
+      represents_seq n s c (At_left N n (seq_rules M n s) (alts_rules M (n + seq_new_rules s) a) h),
+      represents_alts (n + seq_new_rules s) a d (At_right N n (seq_rules M n s) (alts_rules M (n + seq_new_rules s) a) (n + seq_new_rules s) (ap (λ k. n + k) (seq_length M n s)) h),
     )
 
   -- The bases.
-  base_first : (o : Option Seq) (s : Seq) (b : Alts) (ss : List Sym) (more : List (List Sym)) → StandSeq G N M.place ss s → StandAlts G N M.place more b → StandAlts G N M.place (numbers.with_base o ss more) (and_base s o b)
+  base_first : (o : Option Seq) (s : Seq) (b : Alts) (ss : List Sym) (more : List (List Sym)) → RepresentsSeq G N M.own_rule ss s → RepresentsAlts G N M.own_rule more b → RepresentsAlts G N M.own_rule (numbers.with_base o ss more) (and_base s o b)
   base_first None s b ss more h k = (ss, more, refl, h, k)
   base_first (Some rest) s b ss more h k = k
 
-  base_stands : (r n : ℕ) (a : Alts) → IsClosedAlts G (IsThere N M) a → At N n (alts_rules M n a) → StandAlts G N M.place (base_symbols M r n a) (bases r a)
-  base_stands r n none c h = refl
-  base_stands r n (or s a) (c, d) h =
-      base_first (rest_of r s) s (bases r a) (seq_symbols M n s) (base_symbols M r (n + seq_new_rules s) a) (stands_seq n s c (At_left N n (seq_rules M n s) (alts_rules M (n + seq_new_rules s) a) h))
-      (base_stands r (n + seq_new_rules s) a d (At_right N n (seq_rules M n s) (alts_rules M (n + seq_new_rules s) a) (n + seq_new_rules s) (ap (λ k. n + k) (seq_length M n s)) h))
+  base_represented : (r n : ℕ) (a : Alts) → IsClosedAlts G (IsThere N M) a → At N n (alts_rules M n a) → RepresentsAlts G N M.own_rule (base_symbols M r n a) (bases r a)
+  base_represented r n none c h = refl
+  base_represented r n (or s a) (c, d) h =
+      base_first (rest_of r s) s (bases r a) (seq_symbols M n s) (base_symbols M r (n + seq_new_rules s) a) (represents_seq n s c (At_left N n (seq_rules M n s) (alts_rules M (n + seq_new_rules s) a) h))
+      (base_represented r (n + seq_new_rules s) a d (At_right N n (seq_rules M n s) (alts_rules M (n + seq_new_rules s) a) (n + seq_new_rules s) (ap (λ k. n + k) (seq_length M n s)) h))
 
   -- The rests.
-  tail_stands : (r : ℕ) (rest : Seq) (ss : List Sym) → StandSeq G N M.place ss (next (rule r) rest) → StandSeq G N M.place (tail ss) rest
-  tail_stands r rest ss (inl (e, h)) = absurd (cc)
-  tail_stands r rest ss (inr (s, more, e, h, k)) =
-      let P : List Sym → Type 0 = λ x. StandSeq G N M.place x rest in subst P (sym (ap tail e)) k
+  tail_represented : (r : ℕ) (rest : Seq) (ss : List Sym) → RepresentsSeq G N M.own_rule ss (next (rule r) rest) → RepresentsSeq G N M.own_rule (tail ss) rest
+  tail_represented r rest ss (inl (e, h)) = absurd (cc)
+  tail_represented r rest ss (inr (s, more, e, h, k)) =
+      let P : List Sym → Type 0 = λ x. RepresentsSeq G N M.own_rule x rest in subst P (sym (ap tail e)) k
 
-  rest_first : (r : ℕ) (o : Option Seq) (s : Seq) (b : Alts) (ss : List Sym) (more : List (List Sym)) → rest_of r s ≡ o → StandSeq G N M.place ss s → StandAlts G N M.place more b → StandAlts G N M.place (numbers.with_rest o ss more) (and_rest o b)
+  rest_first : (r : ℕ) (o : Option Seq) (s : Seq) (b : Alts) (ss : List Sym) (more : List (List Sym)) → rest_of r s ≡ o → RepresentsSeq G N M.own_rule ss s → RepresentsAlts G N M.own_rule more b → RepresentsAlts G N M.own_rule (numbers.with_rest o ss more) (and_rest o b)
   rest_first r None s b ss more e h k = k
   rest_first r (Some rest) s b ss more e h k =
-      let P : Seq → Type 0 = λ x. StandSeq G N M.place ss x in (tail ss, more, refl, tail_stands r rest ss (subst P (rest_is r s rest e) h), k)
+      let P : Seq → Type 0 = λ x. RepresentsSeq G N M.own_rule ss x in (tail ss, more, refl, tail_represented r rest ss (subst P (rest_is r s rest e) h), k)
 
-  rest_stands : (r n : ℕ) (a : Alts) → IsClosedAlts G (IsThere N M) a → At N n (alts_rules M n a) → StandAlts G N M.place (rest_symbols M r n a) (rests r a)
-  rest_stands r n none c h = refl
-  rest_stands r n (or s a) (c, d) h =
-      rest_first r (rest_of r s) s (rests r a) (seq_symbols M n s) (rest_symbols M r (n + seq_new_rules s) a) refl (stands_seq n s c (At_left N n (seq_rules M n s) (alts_rules M (n + seq_new_rules s) a) h))
-      (rest_stands r (n + seq_new_rules s) a d (At_right N n (seq_rules M n s) (alts_rules M (n + seq_new_rules s) a) (n + seq_new_rules s) (ap (λ k. n + k) (seq_length M n s)) h))
+  rest_represented : (r n : ℕ) (a : Alts) → IsClosedAlts G (IsThere N M) a → At N n (alts_rules M n a) → RepresentsAlts G N M.own_rule (rest_symbols M r n a) (rests r a)
+  rest_represented r n none c h = refl
+  rest_represented r n (or s a) (c, d) h =
+      rest_first r (rest_of r s) s (rests r a) (seq_symbols M n s) (rest_symbols M r (n + seq_new_rules s) a) refl (represents_seq n s c (At_left N n (seq_rules M n s) (alts_rules M (n + seq_new_rules s) a) h))
+      (rest_represented r (n + seq_new_rules s) a d (At_right N n (seq_rules M n s) (alts_rules M (n + seq_new_rules s) a) (n + seq_new_rules s) (ap (λ k. n + k) (seq_length M n s)) h))
 
-  pub group_stands : (r n : ℕ) (a : Alts) → M.place r ≡ n → IsClosedAlts G (IsThere N M) a → (b : Alts) → rests r a ≡ b → At N n (group_of M n r a b) → StandsPlain G N M.place r a ⊎ StandsLeft G N M.place r a
-  group_stands r n a p c none e h =
+  pub group_represented : (r n : ℕ) (a : Alts) → M.own_rule r ≡ n → IsClosedAlts G (IsThere N M) a → (b : Alts) → rests r a ≡ b → At N n (group_of M n r a b) → IsPlainRule G N M.own_rule r a ⊎ IsRecursiveRule G N M.own_rule r a
+  group_represented r n a p c none e h =
       let P : ℕ → Type 0 = λ k. slice_get N.rules k ≡ Some (RuleForm.regular (alts_symbols M (n + 1) a)) in
-      inl (record { plain = e; alts = alts_symbols M (n + 1) a; at = subst P (sym p) h.0; stand = stands_alts (n + 1) a c h.1 })
-  group_stands r n a p c (or s b) e h =
+      inl (record { plain = e; alts = alts_symbols M (n + 1) a; at = subst P (sym p) h.0; represented = represents_alts (n + 1) a c h.1 })
+  group_represented r n a p c (or s b) e h =
       let P : ℕ → Type 0 = λ k. slice_get N.rules k ≡ Some (RuleForm.regular ((Rule (n + 1) ∷ Rule (n + 2) ∷ []) ∷ [])) in
       let new : At N (n + 4) (alts_rules M (n + 4) a) = At_move N (n + 1 + 1 + 1 + 1) (n + 4) (alts_rules M (n + 4) a) (omega arith) h.1.1.1.1 in
       inr (record {
@@ -143,23 +144,18 @@ module _ (G : List Alts) (N : NormalForm) (M : Numbering) where
         base_at = h.1.0;
         many_at = get_move N (n + 1 + 1) (n + 2) (RuleForm.star (Rule (n + 3))) (omega arith) h.1.1.0;
         rest_at = get_move N (n + 1 + 1 + 1) (n + 3) (RuleForm.regular (rest_symbols M r (n + 4) a)) (omega arith) h.1.1.1.0;
-        bases_stand = base_stands r (n + 4) a c new;
-        rests_stand = rest_stands r (n + 4) a c new;
+        bases_are = base_represented r (n + 4) a c new;
+        rests_are = rest_represented r (n + 4) a c new;
       })
 
--- how many rules a parser rule with these rests makes of its own
-abbrev pub own_rules : Alts → ℕ
-own_rules none = 1
-own_rules (or s a) = 4
-
-group_of_length : (M : Numbering) (n r : ℕ) (a b : Alts) → length (group_of M n r a b) ≡ own_rules b + alts_new_rules a
+group_of_length : (M : Numbering) (n r : ℕ) (a b : Alts) → length (group_of M n r a b) ≡ head_count b + alts_new_rules a
 group_of_length M n r a none = omega (arith, alts_length M (n + 1) a)
 group_of_length M n r a (or s b) = omega (arith, alts_length M (n + 4) a)
 
 pub group_length : (M : Numbering) (n r : ℕ) (a : Alts) → length (group M n r a) ≡ group_size r a
 group_length M n r a = group_of_length M n r a (rests r a)
 
--- each group stands where it begins
+-- each group is where it begins
 pub group_at : (N : NormalForm) (M : Numbering) (n r : ℕ) (G : List Alts) (k : ℕ) (a : Alts) → At N n (groups M n r G) → slice_get G k ≡ Some a → (m q : ℕ) → n + normal_count_from r (take k G) ≡ m → r + k ≡ q → At N m (group M m q a)
 group_at N M n r [] k a h e m q em eq = absurd (cc)
 group_at N M n r (b ∷ G) zero a h e m q em eq =

@@ -6,13 +6,14 @@ use Rattle.normal_form.specs.declared.normal.Sym.TheVariants.{Rule}
 use Rattle.normal_form.specs.Form.{RuleForm}
 use Rattle.normal_form.specs.Numbering.{Numbering, alts_symbols, alts_rules, base_symbols, rest_symbols, group_of, group, groups}
 use Rattle.normal_form.proofs.Closed.{IsClosedAlts}
-use Rattle.normal_form.proofs.Named.{At, IsThere, group_length, own_rules}
+use Rattle.normal_form.proofs.Counted.{head_count}
+use Rattle.normal_form.proofs.Named.{At, IsThere, group_length}
 use Rattle.normal_form.proofs.Parts.{Setting, KnownAlts, HasKindsAlts, Begun, alts_size, get_append, in_alts}
 
 -- A parser rule, whose own rule has the number n, with its rules in the form; and what the check of the grammar says of it.
 pub record RuleAt (S : Setting) (r : ℕ) (a : Alts) (n : ℕ) : Type 0 where
   pub body : slice_get S.bodies r ≡ Some a
-  pub is : S.numbers.place r ≡ n
+  pub is : S.numbers.own_rule r ≡ n
   pub at : At S.form n (group S.numbers n r a)
   pub closed : IsClosedAlts S.bodies (IsThere S.form S.numbers) a
   pub no_loop : ¬ HasEmptyLoopAlts S.bodies a
@@ -29,8 +30,8 @@ pub data Origin (S : Setting) (r : ℕ) (a : Alts) (n : ℕ) : ℕ → RuleForm 
   rest : (s : Seq) (b : Alts) → rests r a ≡ or s b → Origin S r a n (n + 3) (RuleForm.regular (rest_symbols S.numbers r (n + 4) a))
   part : (m : ℕ) (f : RuleForm) → Begun S (n + 1) (n + group_size r a) m f → Origin S r a n m f
 
-pub size_is : (r : ℕ) (a b : Alts) → rests r a ≡ b → group_size r a ≡ own_rules b + alts_new_rules a
-size_is r a b e = ap (λ x. own_rules x + alts_new_rules a) e
+pub size_is : (r : ℕ) (a b : Alts) → rests r a ≡ b → group_size r a ≡ head_count b + alts_new_rules a
+size_is r a b e = ap (λ x. head_count x + alts_new_rules a) e
 
 module _ (S : Setting) (r : ℕ) (a : Alts) (n : ℕ) (known : RuleAt S r a n) where
   pub rules_of : (b : Alts) → rests r a ≡ b → At S.form n (group_of S.numbers n r a b)

@@ -10,9 +10,9 @@ use Rattle.normal_form.specs.Numbering as numbers
 use Rattle.normal_form.proofs.Backward.{backward, backward_all}
 use Rattle.normal_form.proofs.Forward.{all_inverse, rest_is}
 use Rattle.normal_form.proofs.Lists.{Contains-nil, Contains-cases}
-use Rattle.normal_form.proofs.Named.{closed_part, stands, stands_seq}
+use Rattle.normal_form.proofs.Named.{closed_part, represents, represents_seq}
 use Rattle.normal_form.proofs.Parts.{Setting, Known, KnownSeq, KnownAlts, first_of_alts, first_of_seq, rest_of_alts, rest_of_seq}
-use Rattle.normal_form.proofs.Stands.{Fits}
+use Rattle.normal_form.proofs.Represents.{HasEachRule}
 
 -- an element of a list, with what is before and after it
 pub split_at : {X : Type 0} (xs : List X) (x : X) → Contains xs x → (before : List X) × (after : List X) × (xs ≡ before ++ x ∷ after)
@@ -47,9 +47,9 @@ pub record AltAt (S : Setting) (low high : ℕ) (a : Alts) (alt : List Sym) : Ty
   pub begins : (q : ℕ) → BeginsSeq S.bodies q seq → BeginsAlts S.bodies q a
   pub derives : (w : List ℕ) → DerivesSeq S.bodies seq w → DerivesAlts S.bodies a w
 
-module _ (S : Setting) (fits : Fits S.bodies S.form S.numbers.place) (low high : ℕ) where
+module _ (S : Setting) (has_each : HasEachRule S.bodies S.form S.numbers.own_rule) (low high : ℕ) where
   pub can_be_empty : (n : ℕ) (t : Term) → Known S low high n t → NormalDerives S.form (symbol S.numbers n t) [] → CanBeEmpty S.bodies t
-  can_be_empty n t k d = backward fits d t (stands S.bodies S.form S.numbers n t k.closed k.at)
+  can_be_empty n t k d = backward has_each d t (represents S.bodies S.form S.numbers n t k.closed k.at)
 
   -- the first symbol of a sequence, or one after it
   part_next : (n : ℕ) (t : Term) (s : Seq) (x : Sym) (after : List Sym) → Known S low high n t →
@@ -91,10 +91,10 @@ module _ (S : Setting) (fits : Fits S.bodies S.form S.numbers.place) (low high :
       part_first n t s x before after (first_of_seq S low high n t s known) (λ b h. part_of (n + new_rules t) s x b after (rest_of_seq S low high n t s known) h) e
 
 -- what an alternative of the form derives, one of the alternatives of the grammar derives
-pub alt_derives : (S : Setting) (fits : Fits S.bodies S.form S.numbers.place) (low high : ℕ) (a : Alts) (alt : List Sym) (w : List ℕ) → AltAt S low high a alt → NormalDerivesSeq S.form alt w → DerivesAlts S.bodies a w
-alt_derives S fits low high a alt w it d =
+pub alt_derives : (S : Setting) (has_each : HasEachRule S.bodies S.form S.numbers.own_rule) (low high : ℕ) (a : Alts) (alt : List Sym) (w : List ℕ) → AltAt S low high a alt → NormalDerivesSeq S.form alt w → DerivesAlts S.bodies a w
+alt_derives S has_each low high a alt w it d =
     let P : List Sym → Type 0 = λ x. NormalDerivesSeq S.form x w in
-    it.derives w (backward_all fits (subst P it.is d) it.seq (stands_seq S.bodies S.form S.numbers it.number it.seq it.known.closed it.known.at))
+    it.derives w (backward_all has_each (subst P it.is d) it.seq (represents_seq S.bodies S.form S.numbers it.number it.seq it.known.closed it.known.at))
 
 module _ (S : Setting) (low high : ℕ) where
   later_alt : (s : Seq) (a : Alts) (alt : List Sym) → AltAt S low high a alt → AltAt S low high (or s a) alt

@@ -1,4 +1,4 @@
--- A rule that is put in its place once the rules behind it are known.
+-- A rule that is replaced once the rules after it are known.
 use Rattle.std.proofs.Common.{◌≡◌, ℕ, ◌+◌, ◌-◌, arith, List, [], ◌∷◌, ◌++◌, length, map, slice_set, refl, sym, ap, ◌∙◌, append_assoc}
 use Rattle.std.proofs.lemmas.List.{map-append, map-set, length-map, set-append_right}
 use Rattle.std.proofs.Math.Seq.{set-append_seam}
@@ -18,8 +18,8 @@ replaced old pushed new first own n more e is all =
     ∙ ap (λ l. set l n (rule_form own)) (all ∙ ap (λ l. map rule_form l ++ more) is ∙ ap (λ l. l ++ more) (map-append rule_form old (first ∷ [])) ∙ append_assoc (map rule_form old) (rule_form first ∷ []) more)
     ∙ set_seam (map rule_form old) (rule_form first) (rule_form own) more n (e ∙ sym (length-map old rule_form))
 
-set_behind : (xs ys : List RuleForm) (n i k : ℕ) (y : RuleForm) → length xs ≡ n → n + k ≡ i → set (xs ++ ys) i y ≡ xs ++ set ys k y
-set_behind xs ys n i k y e is =
+set_after : (xs ys : List RuleForm) (n i k : ℕ) (y : RuleForm) → length xs ≡ n → n + k ≡ i → set (xs ++ ys) i y ≡ xs ++ set ys k y
+set_after xs ys n i k y e is =
     let back : i - n ≡ k = omega (arith, is) in set-append_right xs ys n i y e (omega (arith, is)) ∙ ap (λ j. xs ++ set ys j y) back
 
 -- the bases and the rests are put in
@@ -30,9 +30,9 @@ replaced_head old pushed new bases rests base rest n more e is all b r =
     let first : map rule_form (slice_set new (n + 1) bases) ≡ xs ++ (head_of n base [] ++ more) =
     map-set rule_form new (n + 1) bases
     ∙ ap (λ l. set l (n + 1) (rule_form bases)) (all ∙ ap (λ l. l ++ more) is ∙ append_assoc xs (head_of n [] []) more)
-    ∙ set_behind xs (head_of n [] [] ++ more) n (n + 1) 1 (rule_form bases) len refl
+    ∙ set_after xs (head_of n [] [] ++ more) n (n + 1) 1 (rule_form bases) len refl
     ∙ ap (λ f. xs ++ set (head_of n [] [] ++ more) 1 f) b in
     map-set rule_form (slice_set new (n + 1) bases) (n + 3) rests
     ∙ ap (λ l. set l (n + 3) (rule_form rests)) first
-    ∙ set_behind xs (head_of n base [] ++ more) n (n + 3) 3 (rule_form rests) len refl
+    ∙ set_after xs (head_of n base [] ++ more) n (n + 3) 3 (rule_form rests) len refl
     ∙ ap (λ f. xs ++ set (head_of n base [] ++ more) 3 f) r

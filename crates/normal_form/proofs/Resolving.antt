@@ -1,4 +1,4 @@
--- What names and literals that may stand for nothing resolve to, as the definition of resolved terms has it.
+-- What names and literals that may mean nothing resolve to, as the definition of resolved terms has it.
 use Rattle.std.proofs.Common.{ℕ, [], Option, Some, None}
 use Rattle.grammar_tree.specs.Derives.{Term}
 

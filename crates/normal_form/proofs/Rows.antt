@@ -1,5 +1,5 @@
 -- The normal forms of small grammars, worked by hand.
-use Rattle.std.proofs.Common.{◌≡◌, ℕ, true, false, List, [], ◌∷◌, Some, length, slice_get, refl, arith}
+use Rattle.std.proofs.Common.{◌≡◌, ℕ, true, false, List, [], ◌∷◌, Some, slice_get, refl, arith}
 use Rattle.std.specs.Prelude.{codes, map}
 use Rattle.std.specs.Fmt as fmt
 use Rattle.grammar_tree.specs.Written.{Reference, WrittenTerm, LexerTerm, LexerSeq, LexerAlts, WrittenAlts, WrittenRule, WrittenGrammar, written_alts}
@@ -90,7 +90,7 @@ recursive_prints : text_of (grammar (
 unfolding kinds_of normal_of printed fmt.digits
 recursive_prints = refl
 
--- a : ~A . ~(A | B) ~WS ~A ; with the sets in the order in which they first stand, and b : ; behind it
+-- a : ~A . ~(A | B) ~WS ~A ; with the sets in the order in which they first occur, and b : ; after it
 sets_print : text_of (grammar (
     rule (codes "a") (
     (WrittenTerm.but (Reference.name (codes "A") ∷ []) ∷ WrittenTerm.any ∷ WrittenTerm.but (Reference.name (codes "A") ∷ Reference.name (codes "B") ∷ []) ∷ WrittenTerm.but (Reference.name (codes "WS") ∷ []) ∷ WrittenTerm.but (Reference.name (codes "A") ∷ []) ∷ [])
@@ -111,7 +111,7 @@ escapes_print : text_of (grammar (rule (codes "a") ((literal (39 ∷ 92 ∷ []) 
 unfolding kinds_of normal_of printed fmt.digits
 escapes_print = refl
 
--- a small language like C; of the lexer rules, in which a normal form has no part, one character stands
+-- a small language like C; its lexer rules, which are no part of a normal form, have one character each
 abbrev C : WrittenGrammar
 C =
     grammar (
@@ -164,7 +164,7 @@ C_prints = refl
 abbrev form_of_E : NormalForm
 form_of_E = normal_of (record { grammar = E; kinds = kinds_of E; start = 0 })
 
--- `expr` begins with a base, and a base with a kind; what comes behind a base is no left corner unless the base can be empty
+-- `expr` begins with a base, and a base with a kind; what comes after a base is no left corner unless the base can be empty
 bases_come_first : IsNormalCorner form_of_E 4 5
 unfolding kinds_of normal_of
 bases_come_first = (RuleForm.regular ((Rule 5 ∷ Rule 6 ∷ []) ∷ []), refl, ([], Rule 6 ∷ [], Contains-here (Rule 5 ∷ Rule 6 ∷ []) [], of_done))
@@ -174,7 +174,7 @@ unfolding kinds_of normal_of
 rests_come_first = (RuleForm.star (Rule 7), refl, refl)
 
 -- the rule of the rests is `'+' expr`, whose symbols are the kind 4 and the rule 4
-rest_has_expr : (slice_get form_of_E.rules 7 ≡ Some (RuleForm.regular ((Kind 4 ∷ Rule 4 ∷ []) ∷ []))) × IsSymbolOf (length (kinds_of E)) form_of_E (Kind 4)
+rest_has_expr : (slice_get form_of_E.rules 7 ≡ Some (RuleForm.regular ((Kind 4 ∷ Rule 4 ∷ []) ∷ []))) × IsSymbolOf form_of_E (Rule 4)
 unfolding kinds_of normal_of
 rest_has_expr = (refl, omega arith)
 

@@ -17,7 +17,7 @@ use Rattle.grammar_tree.specs.Checked.{IsChecked}
 use Rattle.grammar_tree.proofs.Places.{numbers}
 use Rattle.normal_form.specs.Form.{RuleForm}
 use Rattle.normal_form.specs.Numbering.{group, groups}
-use Rattle.normal_form.specs.NormalOf.{alts_sets, normal_of, numbering, place}
+use Rattle.normal_form.specs.NormalOf.{alts_sets, normal_of, numbering, own_rule}
 use Rattle.normal_form.proofs.Closed.{bodies_closed}
 use Rattle.normal_form.proofs.Languages.{sets_among}
 use Rattle.normal_form.proofs.Named.{At_all, IsThere, group_at}
@@ -106,7 +106,7 @@ module _ (G : WrittenGrammar) where
       omega (arith, alts_fit rule.alts, one, ap rule_size same)
 
 -- A parser rule of a checked grammar is in its normal form.
-pub rule_at : (c : CheckedGrammar) → IsChecked c → (r : ℕ) (a : Alts) → slice_get (bodies c.grammar) r ≡ Some a → RuleAt (setting c) r a (place (bodies c.grammar) r)
+pub rule_at : (c : CheckedGrammar) → IsChecked c → (r : ℕ) (a : Alts) → slice_get (bodies c.grammar) r ≡ Some a → RuleAt (setting c) r a (own_rule (bodies c.grammar) r)
 unfolding normal_of
 rule_at c checked r a body =
     let G = bodies c.grammar in
@@ -128,7 +128,7 @@ rule_at c checked r a body =
     record {
       body = body;
       is = refl;
-      at = group_at N M 0 0 G r a (At_all N (groups M 0 0 G) refl) body (place G r) r (omega arith) (omega arith);
+      at = group_at N M 0 0 G r a (At_all N (groups M 0 0 G) refl) body (own_rule G r) r (omega arith) (omega arith);
       closed = bodies_closed c.grammar c.start (IsThere N M) checked.well_formed (λ b q h ks k. set_is_there (flat_map alts_sets G) ks (sets_among G q b h ks k)) r a body;
       no_loop = λ h. no_loop (inl (subst Loops (sym same) h));
       rests_move = λ h. no_loop (inr (subst Rule (sym same) (subst Number (sym found.1) h)));
@@ -140,8 +140,8 @@ rule_at c checked r a body =
 pub record MadeRule (c : CheckedGrammar) (m : ℕ) (f : RuleForm) : Type 0 where
   pub rule : ℕ
   pub alts : Alts
-  pub known : RuleAt (setting c) rule alts (place (bodies c.grammar) rule)
-  pub origin : Origin (setting c) rule alts (place (bodies c.grammar) rule) m f
+  pub known : RuleAt (setting c) rule alts (own_rule (bodies c.grammar) rule)
+  pub origin : Origin (setting c) rule alts (own_rule (bodies c.grammar) rule) m f
 
 pub origin_of_rule : (c : CheckedGrammar) → IsChecked c → (m : ℕ) (f : RuleForm) → slice_get (normal_of c).rules m ≡ Some f → MadeRule c m f
 unfolding normal_of
@@ -149,7 +149,7 @@ origin_of_rule c checked m f at =
     let G = bodies c.grammar in
     let it = in_groups (numbering G) G 0 0 m f at in
     let known = rule_at c checked it.rule it.alts it.body in
-    let number : it.number ≡ place G it.rule = omega (arith, it.number_is) in
+    let number : it.number ≡ own_rule G it.rule = omega (arith, it.number_is) in
     let rule : 0 + it.rule ≡ it.rule = omega arith in
     let P : ℕ → ℕ → Type 0 = λ n q. slice_get (group (numbering G) n q it.alts) it.k ≡ Some f in
     let Q : ℕ → Type 0 = λ n. P n it.rule in
@@ -158,5 +158,5 @@ origin_of_rule c checked m f at =
       rule = it.rule;
       alts = it.alts;
       known = known;
-      origin = origin (setting c) it.rule it.alts (place G it.rule) known it.k m f (omega (arith, it.is, number)) (subst Q number (subst R rule it.at));
+      origin = origin (setting c) it.rule it.alts (own_rule G it.rule) known it.k m f (omega (arith, it.is, number)) (subst Q number (subst R rule it.at));
     }

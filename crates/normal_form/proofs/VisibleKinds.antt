@@ -1,18 +1,19 @@
 -- The kinds of the sets of a normal form.
-use Rattle.std.proofs.Common.{◌≡◌, ◌⊎◌, inl, inr, ℕ, zero, suc, ◌+◌, ◌<◌, Bool, true, false, List, [], ◌∷◌, Option, Some, None, slice_get, slice_index, refl, sym, ap, ◌∙◌, subst, arith}
+use Rattle.std.proofs.Common.{◌≡◌, ◌⊎◌, inl, inr, ℕ, zero, suc, ◌+◌, ◌<◌, Bool, true, false, List, [], ◌∷◌, Option, Some, None, slice_get, slice_index, refl, sym, ap, ◌∙◌, subst, arith, true≢false}
 use Rattle.std.specs.List.{Contains, flat_map}
 use Rattle.std.specs.List.Sorted.{IsStrictlyIncreasing}
 use Rattle.std.specs.Prelude.{filter, not}
 use Rattle.std.proofs.lemmas.List.Elements.{Contains-append_cases, Contains-get_or}
-use Rattle.std.proofs.lemmas.List.Kept.{IsStrictlyIncreasing-filter}
 use Rattle.grammar_tree.specs.Written.{WrittenTerm, WrittenSeq, WrittenAlts, ParserRule, WrittenGrammar, Source, TokenKind}
 use Rattle.grammar_tree.specs.Kinds.{any_kinds, distinct, kinds_of, literal_kind, name_kind, other_kinds, parser_rules, rule_number, same_text, visible_from}
 use Rattle.grammar_tree.specs.Derives.{Alts, bodies, resolved, resolved_seq, resolved_alts}
 use Rattle.grammar_tree.proofs.Elements.{contains_none, contains_first, contains_later, contains_cases, filtered, flat_mapped, mapped}
 use Rattle.grammar_tree.proofs.Places.{contains_at}
+use Rattle.grammar_names.specs.KindLists.{IsPartOf, is_in}
 use Rattle.normal_form.specs.NormalOf.{alts_sets, normal_of, seq_sets, sets_of, term_sets}
 use Rattle.normal_form.specs.Form.{NormalForm}
-use Rattle.normal_form.specs.FormLaws.{AreVisibleKinds, SetsAreVisibleKinds}
+use Rattle.normal_form.specs.FormLaws.{AreVisibleKinds, PartsAreVisible, PartsAreVisibleKinds, SetsAreVisibleKinds}
+use Rattle.normal_form.proofs.Lacking.{all_part, kept_part, none_part, part_rises}
 use Rattle.normal_form.proofs.Lists.{Contains-only}
 use Rattle.normal_form.proofs.Resolving.{kind_term, name_term}
 
@@ -53,62 +54,73 @@ visible_rise : (n : ℕ) (kinds : List TokenKind) → IsStrictlyIncreasing (visi
 visible_rise n [] k within = absurd (omega (arith, within))
 visible_rise n (kind ∷ kinds) k within = first_rises n kind.name kind.gap kind.source kinds (visible_rise (suc n) kinds) k within
 
+-- and each such kind is there
+visible_first : (n : ℕ) (name : List ℕ) (gap : Bool) (source : Source) (kinds : List TokenKind) → gap ≡ false → Contains (visible_from n (record { name = name; gap = gap; source = source } ∷ kinds)) n
+visible_first n name true source kinds e = absurd (true≢false e)
+visible_first n name false source kinds e = contains_first n (visible_from (suc n) kinds) n refl
+
+visible_later : (n k : ℕ) (name : List ℕ) (gap : Bool) (source : Source) (kinds : List TokenKind) → Contains (visible_from (suc n) kinds) k → Contains (visible_from n (record { name = name; gap = gap; source = source } ∷ kinds)) k
+visible_later n k name true source kinds c = c
+visible_later n k name false source kinds c = contains_later n (visible_from (suc n) kinds) k c
+
+is_visible : (n i k : ℕ) (kinds : List TokenKind) (kind : TokenKind) → k ≡ n + i → slice_get kinds i ≡ Some kind → kind.gap ≡ false → Contains (visible_from n kinds) k
+is_visible n i k [] kind e at h = absurd (cc)
+is_visible n zero k (x ∷ kinds) kind e at h =
+    let same : x ≡ kind = cc in
+    let P : ℕ → Type 0 = λ j. Contains (visible_from n (x ∷ kinds)) j in
+    let first : n ≡ k = omega (arith, e) in
+    subst P first (visible_first n x.name x.gap x.source kinds (ap (λ (y : TokenKind). y.gap) same ∙ h))
+is_visible n (suc i) k (x ∷ kinds) kind e at h = visible_later n k x.name x.gap x.source kinds (is_visible (suc n) i k kinds kind (omega (arith, e)) at h)
+
 module _ (G : WrittenGrammar) where
-  abbrev AreVisible : List ℕ → Type 0
-  AreVisible = AreVisibleKinds (kinds_of G)
+  abbrev IsPart : List ℕ → Type 0
+  IsPart = IsPartOf (any_kinds G)
 
-  nothing : AreVisible []
-  nothing = record { rising = λ k within. absurd (omega (arith, within)); visible = λ k c. absurd (contains_none k c) }
-
-  any : AreVisible (any_kinds G)
-  any =
+  visible_part : (ks : List ℕ) → IsPart ks → AreVisibleKinds (kinds_of G) ks
+  visible_part ks h =
       record {
-        rising = visible_rise 0 (kinds_of G);
+        rising = part_rises (any_kinds G) ks (visible_rise 0 (kinds_of G)) h;
         visible = λ k c.
-            let it = visible_is 0 (kinds_of G) k c in
+            let P : List ℕ → Type 0 = λ l. Contains l k in
+            let it = visible_is 0 (kinds_of G) k (filtered (is_in ks) (any_kinds G) k (subst P (sym h) c)).0 in
             let same : it.0 ≡ k = omega (arith, it.1) in
             (it.2.0, ap (slice_get (kinds_of G)) (sym same) ∙ it.2.1, it.2.2);
       }
 
-  -- some of them
-  kept : (p : ℕ → Bool) (ks : List ℕ) → AreVisible ks → AreVisible (filter p ks)
-  kept p ks h =
-      record {
-        rising = IsStrictlyIncreasing-filter p ks h.rising;
-        visible = λ k c. h.visible k (filtered p ks k c).0;
-      }
+  pub parts_are_visible : PartsAreVisible G
+  parts_are_visible = record { part = visible_part; all = λ k kind at h. is_visible 0 k k (kinds_of G) kind (omega arith) at h }
 
-  only : (ks ls : List ℕ) → AreVisible ls → Contains (ls ∷ []) ks → AreVisible ks
-  only ks ls h c = let P : List ℕ → Type 0 = AreVisible in subst P (sym (Contains-only ks ls c)) h
+  only : (ks ls : List ℕ) → IsPart ls → Contains (ls ∷ []) ks → IsPart ks
+  only ks ls h c = let P : List ℕ → Type 0 = IsPart in subst P (sym (Contains-only ks ls c)) h
 
-  of_kind : (o : Option ℕ) (ks : List ℕ) → Contains (term_sets (kind_term o)) ks → AreVisible ks
-  of_kind None ks c = only ks [] nothing c
+  of_kind : (o : Option ℕ) (ks : List ℕ) → Contains (term_sets (kind_term o)) ks → IsPart ks
+  of_kind None ks c = only ks [] (none_part (any_kinds G)) c
   of_kind (Some k) ks c = absurd (contains_none ks c)
 
-  of_name : (o token : Option ℕ) (ks : List ℕ) → Contains (term_sets (name_term o token)) ks → AreVisible ks
+  of_name : (o token : Option ℕ) (ks : List ℕ) → Contains (term_sets (name_term o token)) ks → IsPart ks
   of_name (Some r) token ks c = absurd (contains_none ks c)
   of_name None token ks c = of_kind token ks c
 
   mutual
-    of_term : (t : WrittenTerm) (ks : List ℕ) → Contains (term_sets (resolved G t)) ks → AreVisible ks
+    of_term : (t : WrittenTerm) (ks : List ℕ) → Contains (term_sets (resolved G t)) ks → IsPart ks
     of_term (WrittenTerm.literal t) ks c = of_kind (literal_kind G t) ks c
     of_term (WrittenTerm.name n) ks c = of_name (rule_number G n) (name_kind G n) ks c
-    of_term WrittenTerm.any ks c = only ks (any_kinds G) any c
-    of_term (WrittenTerm.but refs) ks c = only ks (other_kinds G refs) (kept _ (any_kinds G) any) c
+    of_term WrittenTerm.any ks c = only ks (any_kinds G) (all_part (any_kinds G)) c
+    of_term (WrittenTerm.but refs) ks c = only ks (other_kinds G refs) (kept_part _ (any_kinds G)) c
     of_term (WrittenTerm.block a) ks c = of_alts a ks c
     of_term (WrittenTerm.opt t) ks c = of_term t ks c
     of_term (WrittenTerm.star t) ks c = of_term t ks c
     of_term (WrittenTerm.plus t) ks c = of_term t ks c
     of_term WrittenTerm.eof ks c = absurd (contains_none ks c)
 
-    of_seq : (s : WrittenSeq) (ks : List ℕ) → Contains (seq_sets (resolved_seq G s)) ks → AreVisible ks
+    of_seq : (s : WrittenSeq) (ks : List ℕ) → Contains (seq_sets (resolved_seq G s)) ks → IsPart ks
     of_seq WrittenSeq.done ks c = absurd (contains_none ks c)
     of_seq (WrittenSeq.next t s) ks c = elim (Contains-append_cases (term_sets (resolved G t)) (seq_sets (resolved_seq G s)) ks c) [
       | inl d ↦ of_term t ks d
       | inr d ↦ of_seq s ks d
     ]
 
-    of_alts : (a : WrittenAlts) (ks : List ℕ) → Contains (alts_sets (resolved_alts G a)) ks → AreVisible ks
+    of_alts : (a : WrittenAlts) (ks : List ℕ) → Contains (alts_sets (resolved_alts G a)) ks → IsPart ks
     of_alts WrittenAlts.none ks c = absurd (contains_none ks c)
     of_alts (WrittenAlts.or s a) ks c = elim (Contains-append_cases (seq_sets (resolved_seq G s)) (alts_sets (resolved_alts G a)) ks c) [
       | inl d ↦ of_seq s ks d
@@ -116,7 +128,7 @@ module _ (G : WrittenGrammar) where
     ]
 
   -- a set of the grammar
-  of_grammar : (ks : List ℕ) → Contains (flat_map alts_sets (bodies G)) ks → AreVisible ks
+  of_grammar : (ks : List ℕ) → Contains (flat_map alts_sets (bodies G)) ks → IsPart ks
   of_grammar ks c =
       let body = flat_mapped alts_sets (bodies G) ks c in
       let rule = mapped (λ (r : ParserRule). resolved_alts G r.alts) (parser_rules G.rules) body.0 body.1 in
@@ -138,5 +150,7 @@ sets_are_visible_kinds N normal i ks at =
     let sets : N.sets ≡ sets_of (bodies c.grammar) = ap (λ (M : NormalForm). M.sets) normal.is in
     let here : slice_get (sets_of (bodies c.grammar)) i ≡ Some ks = ap (λ l. slice_get l i) (sym sets) ∙ at in
     let among = of_distinct (flat_map alts_sets (bodies c.grammar)) ks (contains_at (sets_of (bodies c.grammar)) i ks here) in
-    let P : List TokenKind → Type 0 = λ kinds. AreVisibleKinds kinds ks in
-    subst P (sym normal.checked.numbered) (of_grammar c.grammar ks among)
+    of_grammar c.grammar ks among
+
+pub parts_are_visible_kinds : PartsAreVisibleKinds
+parts_are_visible_kinds = parts_are_visible

@@ -12,8 +12,8 @@ use Rattle.normal_form.specs.Form.{NormalForm}
 use Rattle.normal_form.specs.Numbering.{Numbering, groups}
 
 -- The number of the normal form's rule that has the name of the parser rule r: how many rules the parser rules before it make.
-abbrev pub place : List Alts → ℕ → ℕ
-place G r = normal_count (take r G)
+abbrev pub own_rule : List Alts → ℕ → ℕ
+own_rule G r = normal_count (take r G)
 
 -- the sets of kinds in a term, in written order
 abbrev mutual
@@ -35,7 +35,7 @@ abbrev mutual
   alts_sets Alts.none = []
   alts_sets (Alts.or s a) = seq_sets s ++ alts_sets a
 
--- The sets in the order in which they first stand; equal sets are one.
+-- The sets in the order in which they first occur; equal sets are one.
 abbrev pub sets_of : List Alts → List (List ℕ)
 sets_of G = distinct (flat_map alts_sets G)
 
@@ -44,7 +44,7 @@ abbrev pub set_number : List (List ℕ) → List ℕ → ℕ
 set_number sets ks = unwrap_or (position (λ other. same_text other ks) sets) 0
 
 abbrev pub numbering : List Alts → Numbering
-numbering G = record { place = place G; set_of = set_number (sets_of G) }
+numbering G = record { own_rule = own_rule G; set_of = set_number (sets_of G) }
 
 -- the names of so many new rules: the name of their parser rule, `#`, and a number from k on
 abbrev pub new_names : List ℕ → ℕ → ℕ → List (List ℕ)
@@ -68,7 +68,7 @@ normal_of c =
       rules = groups (numbering G) 0 0 G;
       names = names_from c.grammar 0 (parser_rules c.grammar.rules);
       sets = sets_of G;
-      start = place G (number_at c.grammar c.start);
+      start = own_rule G (number_at c.grammar c.start);
     }
 
 -- The form is the normal form of some checked grammar.

@@ -8,14 +8,14 @@ use Rattle.normal_form.specs.Form.{RuleForm}
 
 -- The numbers of the rules that have the parser rules' own names, and of the sets.
 pub record Numbering : Type 0 where
-  pub place : ℕ → ℕ
+  pub own_rule : ℕ → ℕ
   pub set_of : List ℕ → ℕ
 
 -- The symbol of a term. A block or a suffix is the new rule that it makes, which has the number n.
 abbrev pub symbol : Numbering → ℕ → Term → Sym
 symbol M n (Term.kind k) = Kind k
 symbol M n (Term.among ks) = Set (M.set_of ks)
-symbol M n (Term.rule r) = Rule (M.place r)
+symbol M n (Term.rule r) = Rule (M.own_rule r)
 symbol M n (Term.block a) = Rule n
 symbol M n (Term.opt t) = Rule n
 symbol M n (Term.star t) = Rule n

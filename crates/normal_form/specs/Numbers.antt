@@ -6,7 +6,7 @@ use Rattle.grammar_tree.specs.Corners.{group_size}
 use Rattle.grammar_tree.specs.Derives.{Alts, Term, bodies}
 use Rattle.normal_form.specs.declared.normal.Sym.{Sym}
 use Rattle.normal_form.specs.declared.normal.Sym.TheVariants.{Kind, Set, Rule}
-use Rattle.normal_form.specs.NormalOf.{numbering, place, sets_of}
+use Rattle.normal_form.specs.NormalOf.{numbering, own_rule, sets_of}
 use Rattle.normal_form.specs.Sets.{SetsOfKinds}
 
 -- how many new rules a term as it is written makes
@@ -30,21 +30,21 @@ abbrev mutual
   alts_count WrittenAlts.none = 0
   alts_count (WrittenAlts.or s a) = seq_count s + alts_count a
 
--- The places are those of the parser rules' own rules, and the sets those of the grammar.
-pub record AreNumbersOf (G : WrittenGrammar) (places : List ℕ) (sets : SetsOfKinds) : Type 0 where
-  pub known : length places ≡ length (bodies G)
-  pub places_are : (r : ℕ) → r < length (bodies G) → slice_index places r ≡ place (bodies G) r
+-- The numbers are those of the parser rules' own rules, and the sets those of the grammar.
+pub record AreNumbersOf (G : WrittenGrammar) (own_rules : List ℕ) (sets : SetsOfKinds) : Type 0 where
+  pub known : length own_rules ≡ length (bodies G)
+  pub own_rules_are : (r : ℕ) → r < length (bodies G) → slice_index own_rules r ≡ own_rule (bodies G) r
   pub all_are : sets.all ≡ any_kinds G
   pub sets_are : sets.sets ≡ sets_of (bodies G)
   pub few_sets : length sets.sets < 2 ^ 32
 
--- what a kind that may be missing stands for, and what a name does
+-- the symbol of a kind that may be missing, and that of a name
 abbrev pub token_symbol : WrittenGrammar → Option ℕ → Sym
 token_symbol G None = Set ((numbering (bodies G)).set_of [])
 token_symbol G (Some k) = Kind k
 
 abbrev pub rule_symbol : WrittenGrammar → Option ℕ → Option ℕ → Sym
-rule_symbol G (Some r) token = Rule (place (bodies G) r)
+rule_symbol G (Some r) token = Rule (own_rule (bodies G) r)
 rule_symbol G None token = token_symbol G token
 
 abbrev pub named_symbol : WrittenGrammar → List ℕ → Sym
@@ -60,12 +60,12 @@ abbrev pub is_rule_term : ℕ → Term → Bool
 is_rule_term r (Term.rule q) = nat_eq q r
 is_rule_term r _ = false
 
--- the places of the rules of these parser rules, of which the first has the number r and its own rule the number n
-abbrev pub places_from : ℕ → ℕ → List Alts → List ℕ
-places_from n r [] = []
-places_from n r (a ∷ G) = n ∷ places_from (n + group_size r a) (r + 1) G
+-- the numbers of the own rules of these parser rules, of which the first has the number r and its own rule the number n
+abbrev pub own_rules_from : ℕ → ℕ → List Alts → List ℕ
+own_rules_from n r [] = []
+own_rules_from n r (a ∷ G) = n ∷ own_rules_from (n + group_size r a) (r + 1) G
 
--- the sets of a token that may stand for no kind, and of a name
+-- the sets of a token that may mean no kind, and of a name
 abbrev pub token_sets : Option ℕ → List (List ℕ)
 token_sets None = [] ∷ []
 token_sets (Some k) = []

@@ -30,7 +30,7 @@ kind_text kind = from_source kind.source kind.name
   where
     from_source : Source → List ℕ → List ℕ
     from_source Source.implicit name = codes "'" ++ (flat_map escaped name ++ codes "'")
-    from_source (Source.written place) name = name
+    from_source (Source.written position) name = name
     from_source Source.declared name = name
 
 -- the text of the kind with this number
@@ -56,7 +56,7 @@ symbol_text kinds N (Kind k) = numbered_kind_text kinds k
 symbol_text kinds N (Set i) = option_map_or (set_text kinds) (slice_get N.sets i) []
 symbol_text kinds N (Rule r) = option_map_or (λ name. name) (slice_get N.names r) []
 
--- The alternatives of a regular rule stand with ` | ` between them, and the symbols of each with a space. The others are their symbol directly followed by `?`, `*` or `+`.
+-- The alternatives of a regular rule have ` | ` between them, and the symbols of each a space. The others are their symbol directly followed by `?`, `*` or `+`.
 abbrev pub body_text : (Sym → List ℕ) → RuleForm → List ℕ
 body_text text (RuleForm.regular alts) = join_by (join_by text (codes " ")) (codes " | ") alts
 body_text text (RuleForm.star s) = text s ++ codes "*"

@@ -1,15 +1,15 @@
 -- The symbols of a normal form.
-use Rattle.std.specs.Prelude.{◌≡◌, ℕ, ◌<◌, List, length}
+use Rattle.std.specs.Prelude.{◌≡◌, ◌<◌, ⊤, List, length}
 use Rattle.std.specs.List.{Contains}
 use Rattle.normal_form.specs.declared.normal.Sym.{Sym}
 use Rattle.normal_form.specs.declared.normal.Sym.TheVariants.{Kind, Set, Rule}
 use Rattle.normal_form.specs.Form.{RuleForm, NormalForm}
 
--- The symbol is the number of one of so many kinds, of a set of the form or of a rule of the form.
-abbrev pub IsSymbolOf : ℕ → NormalForm → Sym → Type 0
-IsSymbolOf kinds N (Kind k) = k < kinds
-IsSymbolOf kinds N (Set i) = i < length N.sets
-IsSymbolOf kinds N (Rule r) = r < length N.rules
+-- The symbol is a kind, or the number of a set or of a rule of the form. A kind has no bound here: which kinds there are is the grammar's matter and not the form's.
+abbrev pub IsSymbolOf : NormalForm → Sym → Type 0
+IsSymbolOf N (Kind k) = ⊤
+IsSymbolOf N (Set i) = i < length N.sets
+IsSymbolOf N (Rule r) = r < length N.rules
 
 -- The rule has the symbol in one of its alternatives, or it is a star, plus or optional of the symbol.
 abbrev pub HasSymbol : RuleForm → Sym → Type 0

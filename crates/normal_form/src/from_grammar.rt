@@ -14,8 +14,8 @@ use crate::groups::push_group;
 use crate::laws::equal_languages;
 use crate::normal::{Normal, NormalRule};
 use crate::numbers::Numbers;
+use crate::own_rules::own_rules;
 use crate::parser_rule::{ParserRuleRef, parser_rules};
-use crate::places::places;
 use crate::rule_names::rule_names;
 use crate::sets::sets;
 use faults::Memory;
@@ -68,11 +68,11 @@ pub fn normalise(alloc: Global, checked: &Checked) -> Result<Normal, Memory>
     let grammar = checked.grammar();
     let names = Names::new(alloc, grammar, checked.kinds())?;
     let rules = parser_rules(alloc, &grammar.rules)?;
-    let places = places(alloc, &rules, &names)?;
+    let own_rules = own_rules(alloc, &rules, &names)?;
     let sets = sets(alloc, &rules, &names)?;
     let rule_names = rule_names(alloc, &rules, &names)?;
-    let start = places[count_parser_rules(&grammar.rules[..checked.start() as usize])];
-    let numbers = Numbers::new(names, places, sets);
+    let start = own_rules[count_parser_rules(&grammar.rules[..checked.start() as usize])];
+    let numbers = Numbers::new(names, own_rules, sets);
     let made = all_rules(alloc, &rules, &numbers)?;
     Ok(Normal::new(made, rule_names, numbers.into_sets(), start))
 }

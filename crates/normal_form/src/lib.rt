@@ -1,4 +1,4 @@
-//! The normal form of a grammar, on which the reducer's trees are built.
+//! The normal form of a grammar, over which the reducer's trees are built.
 //!
 //! Each rule of a [`Normal`] has alternatives of symbols, or is an optional, a star or a plus of one
 //! symbol. [`normalise`] makes it of a checked grammar, and [`normal_text`] prints it. Each parser
@@ -20,8 +20,8 @@ mod kind_sets;
 mod laws;
 mod normal;
 mod numbers;
+mod own_rules;
 mod parser_rule;
-mod places;
 mod print;
 mod recursion;
 mod rule_names;
@@ -30,11 +30,12 @@ mod sets;
 
 pub use faults::Memory;
 pub use form_laws::{
-    alternatives_are_few, alternatives_are_there, corners_are_few, elements_are_not_empty,
-    no_left_recursion, normal_derives_by_form, sets_are_visible_kinds, symbols_are_known,
+    all_corners_end, corner_chains_are_short, elements_are_not_empty, no_left_recursion,
+    normal_derives_by_form, numbers_are_small, parts_are_visible_kinds, rules_are_few,
+    sets_are_visible_kinds, symbols_are_known,
 };
 pub use from_grammar::normalise;
 pub use kind_sets::KindSets;
-pub use laws::{equal_languages, rules_are_few};
+pub use laws::equal_languages;
 pub use normal::{Normal, NormalRule, Sym};
 pub use print::normal_text;

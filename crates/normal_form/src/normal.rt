@@ -86,7 +86,7 @@ impl Normal {
         self.rules.as_slice()
     }
 
-    /// The names of the rules: that of a parser rule, and behind it `#` and a number from 1 where
+    /// The names of the rules: that of a parser rule, and after it `#` and a number from 1 where
     /// the rule is a new one.
     pub fn names(&self) -> &[Text]
         ensures { result.now ≡ self.now.names }

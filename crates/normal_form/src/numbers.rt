@@ -24,7 +24,7 @@ pub(crate) struct Numbers<'a> {
     names: Names<'a>,
 
     /// The number of each parser rule's own rule.
-    places: Vec<u32>,
+    own_rules: Vec<u32>,
     sets: FoundSets,
 }
 
@@ -40,7 +40,7 @@ impl<'a> Model for Numbers<'a> {
 
     ghost view = { λ n. n.names };
 
-    ghost invariant = { λ n. AreNumbersOf n.names n.places.items n.sets };
+    ghost invariant = { λ n. AreNumbersOf n.names n.own_rules.items n.sets };
 }
 
 impl<'a> Numbers<'a> {
@@ -66,13 +66,13 @@ impl<'a> Numbers<'a> {
     }
 
     /// The numbers of the grammar with these names.
-    pub(crate) fn new(names: Names<'a>, places: Vec<u32>, sets: FoundSets) -> Numbers<'a>
-        requires { AreNumbersOf names places.items sets }
+    pub(crate) fn new(names: Names<'a>, own_rules: Vec<u32>, sets: FoundSets) -> Numbers<'a>
+        requires { AreNumbersOf names own_rules.items sets }
         ensures { result ≡ names.entry }
     {
         Numbers {
             names,
-            places,
+            own_rules,
             sets,
         }
     }
@@ -83,7 +83,7 @@ impl<'a> Numbers<'a> {
     {
         let Numbers {
             names: _,
-            places: _,
+            own_rules: _,
             sets,
         } = self;
         sets.into_sets()
@@ -96,17 +96,17 @@ impl<'a> Numbers<'a> {
         &self.names
     }
 
-    /// The symbol of what a name stands for: a parser rule, or else a token.
+    /// The symbol of what a name means: a parser rule, or else a token.
     fn named(&self, name: &Text) -> Sym
         ensures { result ≡ named_symbol self.now name.now }
     {
         match self.names.rule_number(name) {
-            Some(rule) => Sym::Rule(self.places[rule as usize]),
+            Some(rule) => Sym::Rule(self.own_rules[rule as usize]),
             None => self.token(self.names.name_kind(name)),
         }
     }
 
-    /// The symbol of a token. What stands for no kind derives nothing, as the empty set does.
+    /// The symbol of a token. What means no kind derives nothing, as the empty set does.
     fn token(&self, kind: Option<u32>) -> Sym
         ensures { result ≡ token_symbol self.now kind }
     {

@@ -8,8 +8,8 @@ ghost use Rattle.normal_form.specs.Print.{body_text, but_text, code_of, escaped,
 ghost use Rattle.normal_form.specs.Printing.{kind_bytes, symbol_bytes};
 ghost use Rattle.normal_form.specs.View.{alts_form, rule_form};
 
+use crate::form_laws::rules_are_few;
 use crate::kind_sets::KindSets;
-use crate::laws::rules_are_few;
 use crate::normal::{Normal, NormalRule, Sym};
 use faults::Memory;
 use grammar_names::visible_kinds;

@@ -5,8 +5,8 @@ ghost use Rattle.grammar_tree.specs.Corners.{normal_count_from};
 ghost use Rattle.normal_form.specs.NormalOf.{group_names, names_from};
 ghost use Rattle.normal_form.specs.View.{bodies_of, parser_rule};
 
+use crate::own_rules::group_size;
 use crate::parser_rule::ParserRuleRef;
-use crate::places::group_size;
 use faults::Memory;
 use grammar_names::Names;
 use grammar_tree::Text;

@@ -69,7 +69,7 @@ fn push_term(
     }
 }
 
-/// Adds the regular rule of the alternatives, and behind it their new rules.
+/// Adds the regular rule of the alternatives, and after it their new rules.
 #[cycle(rules)]
 pub(crate) fn push_block(
     alts: &ParserAlts,

@@ -17,7 +17,7 @@ use grammar_names::Names;
 use grammar_tree::{ParserAlts, ParserTerm, ParserTerms, Text};
 use std::alloc::Global;
 
-/// With the empty set, where a token stands for no kind.
+/// With the empty set, where a token means no kind.
 fn with_token(
     alloc: Global,
     names: &Names<'_>,
@@ -33,7 +33,7 @@ fn with_token(
     }
 }
 
-/// With the empty set, where a name stands for nothing.
+/// With the empty set, where a name means nothing.
 fn with_name(
     alloc: Global,
     names: &Names<'_>,
@@ -107,7 +107,7 @@ fn with_alts(
     Ok(found)
 }
 
-/// The sets in the order in which they first stand, each once. It takes time near linear in the
+/// The sets in the order in which they first occur, each once. It takes time near linear in the
 /// rules and in the number of kinds.
 pub(crate) fn sets(
     alloc: Global,

@@ -8,7 +8,7 @@ use Rattle.grammar_tree.specs.GrammarView.{rule_of}
 use Rattle.normal_form.specs.NormalOf.{names_from, sets_of}
 use Rattle.normal_form.specs.Sets.{SetsOfKinds}
 use Rattle.normal_form.specs.View.{bodies_of, parser_rule, rule_form}
-use Rattle.normal_form.proofs.Assembly.{assembled, bodies_are, few_rules, languages_are, made_are, number_within, numbers_are, place_read, places_known, start_length, start_number}
+use Rattle.normal_form.proofs.Assembly.{assembled, bodies_are, few_rules, languages_are, made_are, number_within, numbers_are, own_rule_read, own_rules_known, start_length, start_number}
 use Rattle.normal_form.proofs.from_grammar.normalise.Goals as goal
 
 pub slice_bounds-count_parser_rules-end : goal.slice_bounds-count_parser_rules-end
@@ -22,7 +22,7 @@ index-start-requires c =
     let rules = ap (map rule_of) c.deref.ensures.value ∙ ap (λ g. g.rules) c.grammar-grammar.ensures in
     let found = ap (map parser_rule) c.deref-2.ensures.value ∙ c.in_ok-rules.ensures in
     let all = bodies_are G c.in_ok-names.names c.deref-2.result.now (map rule_of c.deref.result.now) same rules found in
-    let known = places_known G c.in_ok-names.names c.in_ok-places.places.items (bodies_of c.in_ok-names.names c.deref-2.result.now) all c.in_ok-places.ensures in
+    let known = own_rules_known G c.in_ok-names.names c.in_ok-own_rules.own_rules.items (bodies_of c.in_ok-names.names c.deref-2.result.now) all c.in_ok-own_rules.ensures in
     let number = start_number c.args.checked.now c.deref-5.result.now c.grammar-grammar.result.now.rules.items c.count_parser_rules.result c.start.result c.deref-5.ensures.value (ap (λ g. g.rules) c.grammar-grammar.ensures) c.start.ensures c.count_parser_rules.ensures in
     omega (arith, number, known, number_within c.args.checked.now c.is_checked.ensures (c.places_have_numbers.ensures G))
 
@@ -35,7 +35,7 @@ new-numbers-requires c =
     let all = bodies_are G c.in_ok-names.names c.deref-2.result.now (map rule_of c.deref.result.now) same rules (ap (map parser_rule) c.deref-2.ensures.value ∙ c.in_ok-rules.ensures) in
     let lists = ap (bodies_of c.in_ok-names.names) (c.deref-3.ensures.value ∙ sym c.deref-2.ensures.value) in
     let of_bodies = λ (l : List Alts). (let s : SetsOfKinds = record { all = any_kinds c.in_ok-names.names; sets = sets_of l } in s) in
-    numbers_are G c.in_ok-names.names c.in_ok-places.places.items c.in_ok-sets.sets B same all c.in_ok-places.ensures (c.in_ok-sets.ensures ∙ ap of_bodies lists) c.is_checked.ensures.small
+    numbers_are G c.in_ok-names.names c.in_ok-own_rules.own_rules.items c.in_ok-sets.sets B same all c.in_ok-own_rules.ensures (c.in_ok-sets.ensures ∙ ap of_bodies lists) c.is_checked.ensures.small
 
 pub all_rules-requires-clause-few : goal.all_rules-requires-clause-few
 all_rules-requires-clause-few c =
@@ -65,7 +65,7 @@ new-requires-2 c =
     (made_are G c.new-numbers.result (bodies_of c.new-numbers.result c.deref-6.result.now) (map rule_form c.in_ok-made.made.items) numbers made c.in_ok-made.ensures)
     (c.in_ok-rule_names.ensures ∙ ap (λ H. names_from H 0 (map parser_rule c.deref-4.result.now)) same ∙ ap (names_from G 0) (ap (map parser_rule) c.deref-4.ensures.value ∙ c.in_ok-rules.ensures ∙ ap parser_rules rules))
     (c.into_sets.ensures ∙ ap (λ H. sets_of (bodies H)) numbers)
-    (place_read G c.in_ok-places.places.items (bodies_of c.in_ok-names.names c.deref-2.result.now) c.count_parser_rules.result _ c.index-start.result.now all c.in_ok-places.ensures number (number_within c.args.checked.now c.is_checked.ensures (c.places_have_numbers.ensures G)) c.index-start.ensures) in
+    (own_rule_read G c.in_ok-own_rules.own_rules.items (bodies_of c.in_ok-names.names c.deref-2.result.now) c.count_parser_rules.result _ c.index-start.result.now all c.in_ok-own_rules.ensures number (number_within c.args.checked.now c.is_checked.ensures (c.places_have_numbers.ensures G)) c.index-start.ensures) in
     record { grammar = c.args.checked.now; checked = c.is_checked.ensures; is = whole }
 
 pub returns : goal.returns
@@ -81,6 +81,6 @@ returns c =
     (made_are G c.new-numbers.result (bodies_of c.new-numbers.result c.deref-6.result.now) (map rule_form c.in_ok-made.made.items) numbers made c.in_ok-made.ensures)
     (c.in_ok-rule_names.ensures ∙ ap (λ H. names_from H 0 (map parser_rule c.deref-4.result.now)) same ∙ ap (names_from G 0) (ap (map parser_rule) c.deref-4.ensures.value ∙ c.in_ok-rules.ensures ∙ ap parser_rules rules))
     (c.into_sets.ensures ∙ ap (λ H. sets_of (bodies H)) numbers)
-    (place_read G c.in_ok-places.places.items (bodies_of c.in_ok-names.names c.deref-2.result.now) c.count_parser_rules.result _ c.index-start.result.now all c.in_ok-places.ensures number (number_within c.args.checked.now c.is_checked.ensures (c.places_have_numbers.ensures G)) c.index-start.ensures) in
+    (own_rule_read G c.in_ok-own_rules.own_rules.items (bodies_of c.in_ok-names.names c.deref-2.result.now) c.count_parser_rules.result _ c.index-start.result.now all c.in_ok-own_rules.ensures number (number_within c.args.checked.now c.is_checked.ensures (c.places_have_numbers.ensures G)) c.index-start.ensures) in
     let form = c.new-2.ensures ∙ whole in
     record { form = form; equal_languages = languages_are c.args.checked.now c.new-2.result c.equal_languages.ensures c.is_checked.ensures form }

@@ -1,14 +1,18 @@
--- How many alternatives the rules of a normal form have, and how many symbols these.
-use Rattle.std.proofs.Common.{◌≡◌, ℕ, suc, ◌+◌, ◌<◌, ◌≤◌, ◌^◌, List, [], ◌∷◌, length, Option, Some, None, slice_get, refl, ap, subst, arith}
+-- How many alternatives the rules of a normal form have, and how many symbols these; and how many sets and kinds there are.
+use Rattle.std.proofs.Common.{◌≡◌, ℕ, suc, ◌+◌, ◌<◌, ◌≤◌, ◌^◌, List, [], ◌∷◌, length, Option, Some, None, slice_get, refl, sym, ap, subst, arith}
 use Rattle.std.specs.List.{Contains}
+use Rattle.grammar_tree.specs.Written.{CheckedGrammar}
+use Rattle.grammar_tree.specs.Checked.{IsChecked}
 use Rattle.grammar_tree.specs.Derives.{Term, Seq, Alts, bodies, kind, among, rule, block, opt, star, plus, eof, done, next, none, or}
 use Rattle.grammar_tree.specs.Corners.{group_size, new_rules, rest_of, seq_new_rules}
 use Rattle.normal_form.specs.declared.normal.Sym.{Sym}
 use Rattle.normal_form.specs.declared.normal.Sym.TheVariants.{Rule}
 use Rattle.normal_form.specs.Form.{RuleForm, NormalForm}
-use Rattle.normal_form.specs.FormLaws.{AlternativesAreFew}
-use Rattle.normal_form.specs.NormalOf.{IsNormal, place}
+use Rattle.normal_form.specs.FormLaws.{NumbersAreSmall}
+use Rattle.normal_form.specs.NormalOf.{IsNormal, normal_of, own_rule}
 use Rattle.normal_form.specs.Numbering.{Numbering, and_symbol, symbol, seq_symbols, alts_symbols, base_symbols, rest_symbols, term_rules, with_base, with_rest}
+use Rattle.grammar_tree.proofs.Counts.{counts_fit}
+use Rattle.normal_form.proofs.Assembly.{few_sets}
 use Rattle.normal_form.proofs.Lists.{Contains-only}
 use Rattle.normal_form.proofs.Origins.{Origin, RuleAt, left_alts, plain_alts}
 use Rattle.normal_form.proofs.Parts.{Setting, Known, KnownAlts, alts_size, of_block, seq_size, size}
@@ -96,11 +100,20 @@ few_at N normal r alts at =
     let c = normal.grammar in
     let P : NormalForm → Type 0 = λ M. slice_get M.rules r ≡ Some (RuleForm.regular alts) in
     let it = origin_of_rule c normal.checked r (RuleForm.regular alts) (subst P normal.is at) in
-    of_origin (setting c) it.rule it.alts (place (bodies c.grammar) it.rule) r (RuleForm.regular alts) alts it.known it.origin refl
+    of_origin (setting c) it.rule it.alts (own_rule (bodies c.grammar) it.rule) r (RuleForm.regular alts) alts it.known it.origin refl
 
-pub alternatives_are_few : AlternativesAreFew
-alternatives_are_few N normal =
+few_sets_of : (c : CheckedGrammar) → IsChecked c → length (normal_of c).sets < 2 ^ 32
+unfolding normal_of
+few_sets_of c checked = omega (arith, few_sets c.grammar, checked.small)
+
+few_kinds : (c : CheckedGrammar) → IsChecked c → length c.kinds < 2 ^ 32
+few_kinds c checked = omega (arith, ap length checked.numbered, (counts_fit c.grammar).kinds, checked.small)
+
+pub numbers_are_small : NumbersAreSmall
+numbers_are_small N normal =
     record {
       alternatives = λ r alts at. (few_at N normal r alts at).count;
       symbols = λ r alts alt at. (few_at N normal r alts at).each alt;
+      sets = let P : NormalForm → Type 0 = λ M. length M.sets < 2 ^ 32 in subst P (sym normal.is) (few_sets_of normal.grammar normal.checked);
+      kinds = λ other. few_kinds other.grammar other.checked;
     }

@@ -2,7 +2,7 @@ use Rattle.std.proofs.Common.{arith}
 use Rattle.grammar_tree.specs.View.{parser_alts}
 use Rattle.grammar_tree.specs.Written.{written_alts}
 use Rattle.normal_form.proofs.Counted.{group_counted}
-use Rattle.normal_form.proofs.places.group_size.Goals as goal
+use Rattle.normal_form.proofs.own_rules.group_size.Goals as goal
 
 pub count_alts-requires : goal.count_alts-requires
 count_alts-requires c = omega (arith, c.requires, group_counted c.args.names.now c.args.rule (written_alts (parser_alts c.args.alts.now)) _ c.if-has_rests.ensures)

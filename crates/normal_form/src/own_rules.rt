@@ -5,7 +5,7 @@ ghost use Rattle.grammar_tree.specs.Corners.{group_size, normal_count_from};
 ghost use Rattle.grammar_tree.specs.Derives.{resolved_alts};
 ghost use Rattle.grammar_tree.specs.View.{parser_alts};
 ghost use Rattle.grammar_tree.specs.Written.{written_alts};
-ghost use Rattle.normal_form.specs.Numbers.{places_from};
+ghost use Rattle.normal_form.specs.Numbers.{own_rules_from};
 ghost use Rattle.normal_form.specs.View.{bodies_of};
 
 use crate::counts::count_alts;
@@ -29,20 +29,20 @@ pub(crate) fn group_size(alts: &ParserAlts, names: &Names<'_>, rule: u32) -> u32
 }
 
 /// The number of each parser rule's own rule.
-pub(crate) fn places(
+pub(crate) fn own_rules(
     alloc: Global,
     rules: &[ParserRuleRef<'_>],
     names: &Names<'_>,
 ) -> Result<Vec<u32>, Memory>
     requires few { normal_count_from 0 (bodies_of names.now rules.now) < 2 ^ 32 }
     requires small { length rules.now < 2 ^ 32 }
-    ensures { IfOk result (λ places. places.items ≡ places_from 0 0 (bodies_of names.now rules.now)) }
+    ensures { IfOk result (λ own_rules. own_rules.items ≡ own_rules_from 0 0 (bodies_of names.now rules.now)) }
 {
-    let mut places = Vec::new(alloc);
+    let mut own_rules = Vec::new(alloc);
     let mut next = 0;
     for (number, rule) in rules.iter().enumerate() {
-        places.push(next)?;
+        own_rules.push(next)?;
         next += group_size(rule.alts, names, number as u32);
     }
-    Ok(places)
+    Ok(own_rules)
 }
