@@ -155,12 +155,12 @@ module _ (G : List Alts) (flags : List Bool) (exact : AreEmptyRules G flags) whe
     looped_alts (Alts.or s a) (inl h) = from_first (seq_has_loop e s) (alts_has_loop e a) (looped_seq s h)
     looped_alts (Alts.or s a) (inr h) = from_second (seq_has_loop e s) (alts_has_loop e a) (looped_alts a h)
 
-  -- The rows are those of the rules, in the order of their numbers.
-  module _ (rows : List (List ℕ)) (are : (r : ℕ) (row : List ℕ) → slice_get rows r ≡ Some row → (a : Alts) × (slice_get G r ≡ Some a) × (row ≡ rule_corners e r a))
-      (has : (r : ℕ) (a : Alts) → slice_get G r ≡ Some a → slice_get rows r ≡ Some (rule_corners e r a)) where
-    edge_corner : (r q : ℕ) → HasEdge rows r q → IsLeftCorner G r q
-    edge_corner r q (row, at, c) =
-        let it = are r row at in
+  -- The edges are those of the rules, in the order of their numbers.
+  module _ (edges : List (List ℕ)) (are : (r : ℕ) (successors : List ℕ) → slice_get edges r ≡ Some successors → (a : Alts) × (slice_get G r ≡ Some a) × (successors ≡ rule_corners e r a))
+      (has : (r : ℕ) (a : Alts) → slice_get G r ≡ Some a → slice_get edges r ≡ Some (rule_corners e r a)) where
+    edge_corner : (r q : ℕ) → HasEdge edges r q → IsLeftCorner G r q
+    edge_corner r q (successors, at, c) =
+        let it = are r successors at in
         let P : List ℕ → Type 0 = λ l. Contains l q in
         is_corner r q it.0 it.1 (subst P it.2 c)
 
@@ -168,13 +168,13 @@ module _ (G : List Alts) (flags : List Bool) (exact : AreEmptyRules G flags) whe
     body_of (IsLeftCorner.in_base a at h) = (a, at)
     body_of (IsLeftCorner.in_rest a at d h) = (a, at)
 
-    corner_edge : (r q : ℕ) → IsLeftCorner G r q → HasEdge rows r q
+    corner_edge : (r q : ℕ) → IsLeftCorner G r q → HasEdge edges r q
     corner_edge r q c = let it = body_of c in (rule_corners e r it.0, has r it.0 it.1, corner_of r q it.0 it.1 c)
 
-    pub leads : {r q : ℕ} → Reaches rows r q → LeadsTo G r q
+    pub leads : {r q : ℕ} → Reaches edges r q → LeadsTo G r q
     leads (Reaches.by_edge r q c) = LeadsTo.by_corner r q (edge_corner r q c)
     leads (Reaches.by_edges r m q c path) = LeadsTo.by_corners r m q (edge_corner r m c) (leads path)
 
-    pub reaches : {r q : ℕ} → LeadsTo G r q → Reaches rows r q
+    pub reaches : {r q : ℕ} → LeadsTo G r q → Reaches edges r q
     reaches (LeadsTo.by_corner r q c) = Reaches.by_edge r q (corner_edge r q c)
     reaches (LeadsTo.by_corners r m q c path) = Reaches.by_edges r m q (corner_edge r m c) (reaches path)

@@ -1,4 +1,4 @@
--- Sizes and new rules of sequences and alternatives, as sums over their parts.
+-- Sums over lists, and the count of the rules of the normal form.
 use Rattle.std.proofs.Common.{◌≡◌, ℕ, zero, suc, Some, drop, slice_get, ◌+◌, ◌<◌, ◌≤◌, List, [], ◌∷◌, length, map, sum_by, take, take_all, slice_index_or, refl, sym, ap, ◌∙◌, subst, arith}
 use Rattle.std.proofs.lemmas.List.Sums.{sum_by-cons, sum_by_more, sum_by_more_le}
 use Rattle.std.proofs.lemmas.Option.{none-some, same_Some}
@@ -11,50 +11,6 @@ use Rattle.grammar_tree.specs.declared.parser_term.ParserAlts.{ParserAlts, out-P
 use Rattle.grammar_tree.specs.declared.parser_term.ParserTerm.{ParserTerm}
 use Rattle.grammar_tree.specs.declared.parser_term.ParserTerms.{ParserTerms, out-ParserTerms}
 use Rattle.grammar_analysis.proofs.Traversed.{alts_view, seq_view}
-
-abbrev pub size_of_term : ParserTerm → ℕ
-size_of_term t = term_size (parser_term t)
-
-abbrev pub size_of_seq : ParserTerms → ℕ
-size_of_seq s = seq_size (written_seq (parser_terms s)) + 1
-
-abbrev pub new_of_term : WrittenGrammar → ParserTerm → ℕ
-new_of_term G t = new_rules (resolved G (parser_term t))
-
-abbrev pub new_of_seq : WrittenGrammar → ParserTerms → ℕ
-new_of_seq G s = seq_new_rules (resolved_seq G (written_seq (parser_terms s)))
-
-terms_sum : (ts : List ParserTerm) → seq_size (written_seq (map parser_term ts)) ≡ sum_by size_of_term ts
-terms_sum [] = refl
-terms_sum (t ∷ ts) = ap (λ n. size_of_term t + n) (terms_sum ts) ∙ sym (sum_by-cons size_of_term t ts)
-
-pub seq_sum : (s : ParserTerms) → seq_size (written_seq (parser_terms s)) ≡ sum_by size_of_term (out-ParserTerms s).items.items
-seq_sum s = ap (λ ts. seq_size (written_seq ts)) (seq_view s) ∙ terms_sum (out-ParserTerms s).items.items
-
-seqs_sum : (ss : List ParserTerms) → alts_size (written_alts (map parser_terms ss)) ≡ sum_by size_of_seq ss
-seqs_sum [] = refl
-seqs_sum (s ∷ ss) =
-    let rest = seqs_sum ss in
-    let whole = sum_by-cons size_of_seq s ss in
-    omega (arith, rest, whole)
-
-pub alts_sum : (a : ParserAlts) → alts_size (written_alts (parser_alts a)) ≡ sum_by size_of_seq (out-ParserAlts a).items.items
-alts_sum a = ap (λ ss. alts_size (written_alts ss)) (alts_view a) ∙ seqs_sum (out-ParserAlts a).items.items
-
-module _ (G : WrittenGrammar) where
-  terms_new : (ts : List ParserTerm) → seq_new_rules (resolved_seq G (written_seq (map parser_term ts))) ≡ sum_by (new_of_term G) ts
-  terms_new [] = refl
-  terms_new (t ∷ ts) = ap (λ n. new_of_term G t + n) (terms_new ts) ∙ sym (sum_by-cons (new_of_term G) t ts)
-
-  pub seq_new : (s : ParserTerms) → seq_new_rules (resolved_seq G (written_seq (parser_terms s))) ≡ sum_by (new_of_term G) (out-ParserTerms s).items.items
-  seq_new s = ap (λ ts. seq_new_rules (resolved_seq G (written_seq ts))) (seq_view s) ∙ terms_new (out-ParserTerms s).items.items
-
-  seqs_new : (ss : List ParserTerms) → alts_new_rules (resolved_alts G (written_alts (map parser_terms ss))) ≡ sum_by (new_of_seq G) ss
-  seqs_new [] = refl
-  seqs_new (s ∷ ss) = ap (λ n. new_of_seq G s + n) (seqs_new ss) ∙ sym (sum_by-cons (new_of_seq G) s ss)
-
-  pub alts_new : (a : ParserAlts) → alts_new_rules (resolved_alts G (written_alts (parser_alts a))) ≡ sum_by (new_of_seq G) (out-ParserAlts a).items.items
-  alts_new a = ap (λ ss. alts_new_rules (resolved_alts G (written_alts ss))) (alts_view a) ∙ seqs_new (out-ParserAlts a).items.items
 
 module _ {X : Type 0} (f : X → ℕ) (xs : List X) (i : ℕ) where
   -- the first parts and the next are no more than the whole
@@ -78,8 +34,8 @@ one_counted G r a at =
     drop_is (b ∷ H) zero at = ap (λ x. x ∷ H) (same_Some b a at)
     drop_is (b ∷ H) (suc i) at = drop_is H i at
 
-pub none_left : (G : List Alts) (r : ℕ) → length G ≤ r → normal_count_from r (drop r G) ≡ 0
-none_left G r le = ap (normal_count_from r) (nothing G r le)
+pub none_remain : (G : List Alts) (r : ℕ) → length G ≤ r → normal_count_from r (drop r G) ≡ 0
+none_remain G r le = ap (normal_count_from r) (nothing G r le)
   where
     nothing : (H : List Alts) (i : ℕ) → length H ≤ i → drop i H ≡ []
     nothing [] zero le = refl

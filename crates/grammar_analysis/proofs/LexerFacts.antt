@@ -12,21 +12,21 @@ use Rattle.grammar_tree.proofs.Elements.{contains_filter_map}
 use Rattle.grammar_tree.specs.Matches.{Matches, MatchesAlts, MatchesMany, MatchesSeq}
 use Rattle.grammar_tree.specs.Written.{LexerTerm, LexerSeq, LexerAlts, LexerRule, WrittenAlts, WrittenRule}
 use Rattle.grammar_tree.proofs.Names.{some_position}
-use Rattle.grammar_tree.proofs.Places.{at_of_contains, contains_at, lexer_place as place_of_rule}
+use Rattle.grammar_tree.proofs.Places.{at_of_contains, contains_at, lexer_place as index_of_rule}
 use Rattle.grammar_analysis.specs.Empty.{flag}
-use Rattle.grammar_analysis.specs.Lexer.{AreEmptyPlaces, OneRule, is_nil, lexer_alts_are_empty, lexer_alts_have_loop, lexer_has_loop, lexer_is_empty, lexer_place, lexer_rule_is_empty, lexer_seq_has_loop, lexer_seq_is_empty, rule_is_empty}
+use Rattle.grammar_analysis.specs.Lexer.{AreEmptyLexerRules, OneRule, is_nil, lexer_alts_are_empty, lexer_alts_have_loop, lexer_has_loop, lexer_is_empty, lexer_index, lexer_rule_is_empty, lexer_seq_has_loop, lexer_seq_is_empty, rule_is_empty}
 use Rattle.grammar_analysis.specs.Marking.{IsClosedAt, IsMarked}
 use Rattle.grammar_analysis.specs.Rules.{has_key}
 use Rattle.grammar_analysis.specs.declared.rules.Key.TheVariants.{LexerName}
 use Rattle.grammar_analysis.proofs.EmptyRules.{and_both, from_both, from_first, from_second, nil_parts, or_one}
 
 -- The table has no rule whose alternatives don't match the empty text.
-abbrev HasOnlyEmptyPlaces : List WrittenRule → List Bool → Type 0
-HasOnlyEmptyPlaces rules flags = (i : ℕ) (rule : LexerRule) → slice_get rules i ≡ Some (WrittenRule.lexer_rule rule) → flag flags i ≡ true → MatchesAlts (lexer_rules rules) rule.alts []
+abbrev HasOnlyEmptyLexerRules : List WrittenRule → List Bool → Type 0
+HasOnlyEmptyLexerRules rules flags = (i : ℕ) (rule : LexerRule) → slice_get rules i ≡ Some (WrittenRule.lexer_rule rule) → flag flags i ≡ true → MatchesAlts (lexer_rules rules) rule.alts []
 
 -- The table has the rule at this index, where its alternatives match the empty text by the rules in the table.
 abbrev IsSettledAt : List WrittenRule → List Bool → ℕ → Type 0
-IsSettledAt rules flags i = (rule : LexerRule) → slice_get rules i ≡ Some (WrittenRule.lexer_rule rule) → lexer_alts_are_empty (lexer_place rules) (flag flags) rule.alts ≡ true → flag flags i ≡ true
+IsSettledAt rules flags i = (rule : LexerRule) → slice_get rules i ≡ Some (WrittenRule.lexer_rule rule) → lexer_alts_are_empty (lexer_index rules) (flag flags) rule.alts ≡ true → flag flags i ≡ true
 
 nil_of : (t : List ℕ) → is_nil t ≡ true → t ≡ []
 nil_of [] e = refl
@@ -39,23 +39,23 @@ module _ (rules : List WrittenRule) where
   abbrev L : List LexerRule
   L = lexer_rules rules
 
-  -- a place that a name has is a lexer rule's of this name
+  -- an index that a name has is a lexer rule's of this name
   named_key : (n : List ℕ) (rule : WrittenRule) → has_key LexerName n rule ≡ true → (r : LexerRule) × (rule ≡ WrittenRule.lexer_rule r) × (r.name ≡ n)
   named_key n (WrittenRule.parser_rule r) e = absurd (false≢true e)
   named_key n (WrittenRule.lexer_rule r) e = (r, refl, (bytes_eq-Decides r.name n).0 e)
 
-  pub rule_of_place : (n : List ℕ) (i : ℕ) → lexer_place rules n ≡ Some i → (r : LexerRule) × (slice_get rules i ≡ Some (WrittenRule.lexer_rule r)) × (r.name ≡ n)
-  rule_of_place n i e =
+  pub rule_of_index : (n : List ℕ) (i : ℕ) → lexer_index rules n ≡ Some i → (r : LexerRule) × (slice_get rules i ≡ Some (WrittenRule.lexer_rule r)) × (r.name ≡ n)
+  rule_of_index n i e =
       let none = WrittenRule.parser_rule (record { name = []; alts = WrittenAlts.none }) in
       let found = position-Some (has_key LexerName n) rules i none e in
       let it = named_key n (slice_index_or rules i none) found.1 in
       (it.0, slice_get-get_or rules i none found.0 ∙ ap Some it.1, it.2)
 
-  -- the place of a lexer rule is what its name has
-  pub place_of_name : OneRule rules → (i : ℕ) (r : LexerRule) → slice_get rules i ≡ Some (WrittenRule.lexer_rule r) → lexer_place rules r.name ≡ Some i
-  place_of_name one i r at =
+  -- the index of a lexer rule is what its name has
+  pub index_of_name : OneRule rules → (i : ℕ) (r : LexerRule) → slice_get rules i ≡ Some (WrittenRule.lexer_rule r) → lexer_index rules r.name ≡ Some i
+  index_of_name one i r at =
       let found = some_position (has_key LexerName r.name) rules (WrittenRule.lexer_rule r) (contains_at rules i (WrittenRule.lexer_rule r) at) ((bytes_eq-Decides r.name r.name).1 refl) in
-      let it = rule_of_place r.name found.0 found.1 in
+      let it = rule_of_index r.name found.0 found.1 in
       found.1 ∙ ap Some (one found.0 i (WrittenRule.lexer_rule it.0) (WrittenRule.lexer_rule r) it.1 at it.2)
 
   pub contains_rule : (i : ℕ) (r : LexerRule) → slice_get rules i ≡ Some (WrittenRule.lexer_rule r) → Contains L r
@@ -63,16 +63,16 @@ module _ (rules : List WrittenRule) where
 
   module _ (flags : List Bool) where
     abbrev f : List ℕ → Option ℕ
-    f = lexer_place rules
+    f = lexer_index rules
 
     abbrev e : ℕ → Bool
     e = flag flags
 
-    module _ (sound : HasOnlyEmptyPlaces rules flags) where
+    module _ (sound : HasOnlyEmptyLexerRules rules flags) where
       name_empty : (n : List ℕ) (o : Option ℕ) → f n ≡ o → option_map_or e o false ≡ true → Matches L (LexerTerm.name n) []
       name_empty n None h k = absurd (false≢true k)
       name_empty n (Some i) h k =
-          let it = rule_of_place n i h in
+          let it = rule_of_index n i h in
           Matches.by_name n it.0 [] (contains_rule i it.0 it.1) it.2 (sound i it.0 it.1 k)
 
       mutual
@@ -109,9 +109,9 @@ module _ (rules : List WrittenRule) where
         is_found (Matches.by_set s c k) h = absurd cc
         is_found (Matches.by_name n rule w c name m) h =
             let it = at_of_contains L rule c in
-            let at = place_of_rule rules it.0 rule it.1 in
-            let place : f n ≡ Some at.0 = ap f (sym name) ∙ place_of_name one at.0 rule at.1 in
-            name_found n at.0 place (settled at.0 rule at.1 (alts_found m h))
+            let at = index_of_rule rules it.0 rule it.1 in
+            let index : f n ≡ Some at.0 = ap f (sym name) ∙ index_of_name one at.0 rule at.1 in
+            name_found n at.0 index (settled at.0 rule at.1 (alts_found m h))
         is_found (Matches.by_block a w m) h = alts_found m h
         is_found (Matches.by_absent t) h = refl
         is_found (Matches.by_present t w m) h = refl
@@ -130,12 +130,12 @@ module _ (rules : List WrittenRule) where
       pub found_in_alts : {a : LexerAlts} → MatchesAlts L a [] → lexer_alts_are_empty f e a ≡ true
       found_in_alts m = alts_found m refl
 
-  exact : OneRule rules → (flags : List Bool) → HasOnlyEmptyPlaces rules flags → ((i : ℕ) → IsSettledAt rules flags i) → AreEmptyPlaces rules flags
+  exact : OneRule rules → (flags : List Bool) → HasOnlyEmptyLexerRules rules flags → ((i : ℕ) → IsSettledAt rules flags i) → AreEmptyLexerRules rules flags
   exact one flags sound settled = λ i rule at. (sound i rule at, λ m. settled i rule at (found_in_alts flags one settled m))
 
   -- one more rule that matches the empty text
-  marked : (flags : List Bool) (n : ℕ) (rule : LexerRule) → slice_get rules n ≡ Some (WrittenRule.lexer_rule rule) → lexer_alts_are_empty (lexer_place rules) (flag flags) rule.alts ≡ true →
-      HasOnlyEmptyPlaces rules flags → HasOnlyEmptyPlaces rules (slice_set flags n true)
+  marked : (flags : List Bool) (n : ℕ) (rule : LexerRule) → slice_get rules n ≡ Some (WrittenRule.lexer_rule rule) → lexer_alts_are_empty (lexer_index rules) (flag flags) rule.alts ≡ true →
+      HasOnlyEmptyLexerRules rules flags → HasOnlyEmptyLexerRules rules (slice_set flags n true)
   marked flags n rule at h sound i r at' k = elim (cases_eq i n) [
     | inl same ↦
         let P : ℕ → Type 0 = λ m. slice_get rules m ≡ Some (WrittenRule.lexer_rule r) in
@@ -148,68 +148,68 @@ module _ (rules : List WrittenRule) where
       lexer_same : (a b : LexerRule) → Some (WrittenRule.lexer_rule a) ≡ Some (WrittenRule.lexer_rule b) → a ≡ b
       lexer_same a b e' = cc
 
-  sound_more : (flags : List Bool) (n : ℕ) (o : Option WrittenRule) → slice_get rules n ≡ o → option_map_or (rule_is_empty (lexer_place rules) (flag flags)) o false ≡ true → HasOnlyEmptyPlaces rules flags → HasOnlyEmptyPlaces rules (slice_set flags n true)
+  sound_more : (flags : List Bool) (n : ℕ) (o : Option WrittenRule) → slice_get rules n ≡ o → option_map_or (rule_is_empty (lexer_index rules) (flag flags)) o false ≡ true → HasOnlyEmptyLexerRules rules flags → HasOnlyEmptyLexerRules rules (slice_set flags n true)
   sound_more flags n None at h sound = absurd (false≢true h)
   sound_more flags n (Some (WrittenRule.parser_rule r)) at h sound = absurd (false≢true h)
   sound_more flags n (Some (WrittenRule.lexer_rule r)) at h sound = marked flags n r at h sound
 
-  are_sound : {flags : List Bool} → IsMarked (lexer_rule_is_empty rules) flags → HasOnlyEmptyPlaces rules flags
+  are_sound : {flags : List Bool} → IsMarked (lexer_rule_is_empty rules) flags → HasOnlyEmptyLexerRules rules flags
   are_sound (IsMarked.by_none flags none) = λ i rule at h. absurd (false≢true (sym (none i) ∙ h))
   are_sound (IsMarked.by_one flags n before lt passes) = sound_more flags n (slice_get rules n) refl passes (are_sound before)
 
-  pub are_empty : OneRule rules → (flags : List Bool) → IsMarked (lexer_rule_is_empty rules) flags → ((i : ℕ) → i < length rules → IsClosedAt (lexer_rule_is_empty rules) flags i) → AreEmptyPlaces rules flags
+  pub are_empty : OneRule rules → (flags : List Bool) → IsMarked (lexer_rule_is_empty rules) flags → ((i : ℕ) → i < length rules → IsClosedAt (lexer_rule_is_empty rules) flags i) → AreEmptyLexerRules rules flags
   are_empty one flags marks closed = exact one flags (are_sound marks)
-      (λ i rule at h. closed i (slice_get_within rules i (WrittenRule.lexer_rule rule) at) (ap (λ o. option_map_or (rule_is_empty (lexer_place rules) (flag flags)) o false) at ∙ h))
+      (λ i rule at h. closed i (slice_get_within rules i (WrittenRule.lexer_rule rule) at) (ap (λ o. option_map_or (rule_is_empty (lexer_index rules) (flag flags)) o false) at ∙ h))
 
   -- from an exact table: what matches the empty text, and loops
-  module _ (flags : List Bool) (one : OneRule rules) (are : AreEmptyPlaces rules flags) where
-    sound : HasOnlyEmptyPlaces rules flags
+  module _ (flags : List Bool) (one : OneRule rules) (are : AreEmptyLexerRules rules flags) where
+    sound : HasOnlyEmptyLexerRules rules flags
     sound i rule at = (are i rule at).0
 
     settled : (i : ℕ) → IsSettledAt rules flags i
     settled i rule at h = (are i rule at).1 (alts_empty flags sound rule.alts h)
 
-    is_empty : (t : LexerTerm) → Matches L t [] → lexer_is_empty (lexer_place rules) (flag flags) t ≡ true
+    is_empty : (t : LexerTerm) → Matches L t [] → lexer_is_empty (lexer_index rules) (flag flags) t ≡ true
     is_empty t m = is_found flags one settled m refl
 
     mutual
-      loop : (t : LexerTerm) → lexer_has_loop (lexer_place rules) (flag flags) t ≡ true → LexerHasEmptyLoop L t
+      loop : (t : LexerTerm) → lexer_has_loop (lexer_index rules) (flag flags) t ≡ true → LexerHasEmptyLoop L t
       loop (LexerTerm.literal t) h = false≢true h
       loop (LexerTerm.set s) h = false≢true h
       loop (LexerTerm.name n) h = false≢true h
       loop (LexerTerm.block a) h = loop_alts a h
       loop (LexerTerm.opt t) h = loop t h
-      loop (LexerTerm.star t) h = elim (or_one (lexer_is_empty (lexer_place rules) (flag flags) t) (lexer_has_loop (lexer_place rules) (flag flags) t) h) [ inl x ↦ inl (empty flags sound t x) | inr y ↦ inr (loop t y) ]
-      loop (LexerTerm.plus t) h = elim (or_one (lexer_is_empty (lexer_place rules) (flag flags) t) (lexer_has_loop (lexer_place rules) (flag flags) t) h) [ inl x ↦ inl (empty flags sound t x) | inr y ↦ inr (loop t y) ]
+      loop (LexerTerm.star t) h = elim (or_one (lexer_is_empty (lexer_index rules) (flag flags) t) (lexer_has_loop (lexer_index rules) (flag flags) t) h) [ inl x ↦ inl (empty flags sound t x) | inr y ↦ inr (loop t y) ]
+      loop (LexerTerm.plus t) h = elim (or_one (lexer_is_empty (lexer_index rules) (flag flags) t) (lexer_has_loop (lexer_index rules) (flag flags) t) h) [ inl x ↦ inl (empty flags sound t x) | inr y ↦ inr (loop t y) ]
       loop (LexerTerm.short s) h = false≢true h
 
-      loop_seq : (s : LexerSeq) → lexer_seq_has_loop (lexer_place rules) (flag flags) s ≡ true → LexerHasEmptyLoopSeq L s
+      loop_seq : (s : LexerSeq) → lexer_seq_has_loop (lexer_index rules) (flag flags) s ≡ true → LexerHasEmptyLoopSeq L s
       loop_seq LexerSeq.done h = false≢true h
-      loop_seq (LexerSeq.next t s) h = elim (or_one (lexer_has_loop (lexer_place rules) (flag flags) t) (lexer_seq_has_loop (lexer_place rules) (flag flags) s) h) [ inl x ↦ inl (loop t x) | inr y ↦ inr (loop_seq s y) ]
+      loop_seq (LexerSeq.next t s) h = elim (or_one (lexer_has_loop (lexer_index rules) (flag flags) t) (lexer_seq_has_loop (lexer_index rules) (flag flags) s) h) [ inl x ↦ inl (loop t x) | inr y ↦ inr (loop_seq s y) ]
 
-      pub loop_alts : (a : LexerAlts) → lexer_alts_have_loop (lexer_place rules) (flag flags) a ≡ true → LexerHasEmptyLoopAlts L a
+      pub loop_alts : (a : LexerAlts) → lexer_alts_have_loop (lexer_index rules) (flag flags) a ≡ true → LexerHasEmptyLoopAlts L a
       loop_alts LexerAlts.none h = false≢true h
-      loop_alts (LexerAlts.or s a) h = elim (or_one (lexer_seq_has_loop (lexer_place rules) (flag flags) s) (lexer_alts_have_loop (lexer_place rules) (flag flags) a) h) [ inl x ↦ inl (loop_seq s x) | inr y ↦ inr (loop_alts a y) ]
+      loop_alts (LexerAlts.or s a) h = elim (or_one (lexer_seq_has_loop (lexer_index rules) (flag flags) s) (lexer_alts_have_loop (lexer_index rules) (flag flags) a) h) [ inl x ↦ inl (loop_seq s x) | inr y ↦ inr (loop_alts a y) ]
 
     mutual
-      looped : (t : LexerTerm) → LexerHasEmptyLoop L t → lexer_has_loop (lexer_place rules) (flag flags) t ≡ true
+      looped : (t : LexerTerm) → LexerHasEmptyLoop L t → lexer_has_loop (lexer_index rules) (flag flags) t ≡ true
       looped (LexerTerm.literal t) h = absurd h
       looped (LexerTerm.set s) h = absurd h
       looped (LexerTerm.name n) h = absurd h
       looped (LexerTerm.block a) h = looped_alts a h
       looped (LexerTerm.opt t) h = looped t h
-      looped (LexerTerm.star t) (inl h) = from_first (lexer_is_empty (lexer_place rules) (flag flags) t) (lexer_has_loop (lexer_place rules) (flag flags) t) (is_empty t h)
-      looped (LexerTerm.star t) (inr h) = from_second (lexer_is_empty (lexer_place rules) (flag flags) t) (lexer_has_loop (lexer_place rules) (flag flags) t) (looped t h)
-      looped (LexerTerm.plus t) (inl h) = from_first (lexer_is_empty (lexer_place rules) (flag flags) t) (lexer_has_loop (lexer_place rules) (flag flags) t) (is_empty t h)
-      looped (LexerTerm.plus t) (inr h) = from_second (lexer_is_empty (lexer_place rules) (flag flags) t) (lexer_has_loop (lexer_place rules) (flag flags) t) (looped t h)
+      looped (LexerTerm.star t) (inl h) = from_first (lexer_is_empty (lexer_index rules) (flag flags) t) (lexer_has_loop (lexer_index rules) (flag flags) t) (is_empty t h)
+      looped (LexerTerm.star t) (inr h) = from_second (lexer_is_empty (lexer_index rules) (flag flags) t) (lexer_has_loop (lexer_index rules) (flag flags) t) (looped t h)
+      looped (LexerTerm.plus t) (inl h) = from_first (lexer_is_empty (lexer_index rules) (flag flags) t) (lexer_has_loop (lexer_index rules) (flag flags) t) (is_empty t h)
+      looped (LexerTerm.plus t) (inr h) = from_second (lexer_is_empty (lexer_index rules) (flag flags) t) (lexer_has_loop (lexer_index rules) (flag flags) t) (looped t h)
       looped (LexerTerm.short s) h = absurd h
 
-      looped_seq : (s : LexerSeq) → LexerHasEmptyLoopSeq L s → lexer_seq_has_loop (lexer_place rules) (flag flags) s ≡ true
+      looped_seq : (s : LexerSeq) → LexerHasEmptyLoopSeq L s → lexer_seq_has_loop (lexer_index rules) (flag flags) s ≡ true
       looped_seq LexerSeq.done h = absurd h
-      looped_seq (LexerSeq.next t s) (inl h) = from_first (lexer_has_loop (lexer_place rules) (flag flags) t) (lexer_seq_has_loop (lexer_place rules) (flag flags) s) (looped t h)
-      looped_seq (LexerSeq.next t s) (inr h) = from_second (lexer_has_loop (lexer_place rules) (flag flags) t) (lexer_seq_has_loop (lexer_place rules) (flag flags) s) (looped_seq s h)
+      looped_seq (LexerSeq.next t s) (inl h) = from_first (lexer_has_loop (lexer_index rules) (flag flags) t) (lexer_seq_has_loop (lexer_index rules) (flag flags) s) (looped t h)
+      looped_seq (LexerSeq.next t s) (inr h) = from_second (lexer_has_loop (lexer_index rules) (flag flags) t) (lexer_seq_has_loop (lexer_index rules) (flag flags) s) (looped_seq s h)
 
-      pub looped_alts : (a : LexerAlts) → LexerHasEmptyLoopAlts L a → lexer_alts_have_loop (lexer_place rules) (flag flags) a ≡ true
+      pub looped_alts : (a : LexerAlts) → LexerHasEmptyLoopAlts L a → lexer_alts_have_loop (lexer_index rules) (flag flags) a ≡ true
       looped_alts LexerAlts.none h = absurd h
-      looped_alts (LexerAlts.or s a) (inl h) = from_first (lexer_seq_has_loop (lexer_place rules) (flag flags) s) (lexer_alts_have_loop (lexer_place rules) (flag flags) a) (looped_seq s h)
-      looped_alts (LexerAlts.or s a) (inr h) = from_second (lexer_seq_has_loop (lexer_place rules) (flag flags) s) (lexer_alts_have_loop (lexer_place rules) (flag flags) a) (looped_alts a h)
+      looped_alts (LexerAlts.or s a) (inl h) = from_first (lexer_seq_has_loop (lexer_index rules) (flag flags) s) (lexer_alts_have_loop (lexer_index rules) (flag flags) a) (looped_seq s h)
+      looped_alts (LexerAlts.or s a) (inr h) = from_second (lexer_seq_has_loop (lexer_index rules) (flag flags) s) (lexer_alts_have_loop (lexer_index rules) (flag flags) a) (looped_alts a h)

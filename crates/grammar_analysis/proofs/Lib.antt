@@ -6,9 +6,9 @@ pub mod CornerForms
 pub mod RecursionForms
 pub mod CornerFacts
 pub mod ReferenceForms
-pub mod CornerRows
+pub mod CornerEdges
 pub mod CountForms
 pub mod LexerForms
 pub mod LexerFacts
-pub mod LexerRows
+pub mod LexerEdges
 pub mod BodyForms

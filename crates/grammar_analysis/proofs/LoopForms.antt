@@ -1,4 +1,4 @@
--- Whether an empty loop stands in sequences and alternatives, by their parts.
+-- Whether an empty loop is in sequences and alternatives, by their parts.
 use Rattle.std.proofs.Common.{◌≡◌, ℕ, Bool, ◌||◌, List, [], ◌∷◌, map, refl, ap, ◌∙◌}
 use Rattle.std.specs.List.{list_any}
 use Rattle.grammar_tree.specs.Derives.{resolved, resolved_alts, resolved_seq}

@@ -11,22 +11,14 @@ use Rattle.grammar_tree.specs.declared.parser_term.ParserTerm.{ParserTerm}
 use Rattle.grammar_tree.specs.declared.parser_term.ParserTerms.{ParserTerms, out-ParserTerms}
 use Rattle.grammar_analysis.specs.Corners.{alts_corners, seq_corners}
 use Rattle.grammar_analysis.specs.Empty.{alts_is_empty, is_empty, seq_is_empty}
-use Rattle.grammar_analysis.specs.Recursion.{has_alternative, is_empty_base}
+use Rattle.grammar_analysis.specs.Recursion.{is_empty_base}
 use Rattle.grammar_analysis.proofs.CornerForms.{drop_at, drop_end}
 use Rattle.grammar_analysis.proofs.Traversed.{alts_view, seq_view}
 
 module _ (s : Seq) (a : Alts) where
-  base_has : (o : Option Seq) → has_alternative (and_base s o a) ≡ (not (is_some o) || has_alternative a)
-  base_has None = refl
-  base_has (Some rest) = refl
-
   base_empty : (e : ℕ → Bool) (o : Option Seq) → alts_is_empty e (and_base s o a) ≡ ((not (is_some o) && seq_is_empty e s) || alts_is_empty e a)
   base_empty e None = refl
   base_empty e (Some rest) = refl
-
-  rest_has : (o : Option Seq) → has_alternative (and_rest o a) ≡ (is_some o || has_alternative a)
-  rest_has None = refl
-  rest_has (Some rest) = refl
 
   rest_empty : (e : ℕ → Bool) (o : Option Seq) → alts_is_empty e (and_rest o a) ≡ (option_map_or (seq_is_empty e) o false || alts_is_empty e a)
   rest_empty e None = refl
@@ -55,20 +47,6 @@ module _ (G : WrittenGrammar) (r : ℕ) where
 
   alts_are : (a : ParserAlts) → alts a ≡ body (items a)
   alts_are a = ap (λ ss. resolved_alts G (written_alts ss)) (alts_view a)
-
-  bases_have : (ss : List ParserTerms) → has_alternative (bases r (body ss)) ≡ list_any (λ s. not (is_some (rest_of r (seq s)))) ss
-  bases_have [] = refl
-  bases_have (s ∷ ss) = base_has (seq s) (bases r (body ss)) (rest_of r (seq s)) ∙ ap (λ b. not (is_some (rest_of r (seq s))) || b) (bases_have ss)
-
-  pub has_base_by_any : (a : ParserAlts) → has_alternative (bases r (alts a)) ≡ list_any (λ s. not (is_some (rest_of r (seq s)))) (items a)
-  has_base_by_any a = ap (λ b. has_alternative (bases r b)) (alts_are a) ∙ bases_have (items a)
-
-  rests_have : (ss : List ParserTerms) → has_alternative (rests r (body ss)) ≡ list_any (λ s. is_some (rest_of r (seq s))) ss
-  rests_have [] = refl
-  rests_have (s ∷ ss) = rest_has (seq s) (rests r (body ss)) (rest_of r (seq s)) ∙ ap (λ b. is_some (rest_of r (seq s)) || b) (rests_have ss)
-
-  pub has_rest_by_any : (a : ParserAlts) → has_alternative (rests r (alts a)) ≡ list_any (λ s. is_some (rest_of r (seq s))) (items a)
-  has_rest_by_any a = ap (λ b. has_alternative (rests r b)) (alts_are a) ∙ rests_have (items a)
 
   module _ (e : ℕ → Bool) where
     bases_empty : (ss : List ParserTerms) → alts_is_empty e (bases r (body ss)) ≡ list_any (λ s. is_empty_base e r (seq s)) ss
@@ -102,7 +80,7 @@ module _ (G : WrittenGrammar) (r : ℕ) where
     pub rest_corners_by_flat : (a : ParserAlts) → alts_corners e (rests r (alts a)) ≡ flat_map (λ s. option_map_or (seq_corners e) (rest_of r (seq s)) []) (items a)
     rest_corners_by_flat a = ap (λ b. alts_corners e (rests r b)) (alts_are a) ∙ rests_corners (items a)
 
--- the terms of a sequence from a place on
+-- the terms of a sequence from an index on
 module _ (e : ℕ → Bool) (G : WrittenGrammar) where
   abbrev from : ParserTerms → ℕ → Bool
   from s i = seq_is_empty e (resolved_seq G (written_seq (drop i (parser_terms s))))

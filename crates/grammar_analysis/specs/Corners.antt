@@ -1,10 +1,10 @@
--- The rules that can stand first, where it is known which rules can be empty.
+-- The rules that can be first, where it is known which rules can be empty.
 use Rattle.std.specs.Prelude.{◌≡◌, ℕ, Bool, List, [], ◌∷◌, ◌++◌, Some, length, slice_get, if◌then◌else◌}
 use Rattle.grammar_tree.specs.Derives.{Term, Seq, Alts}
 use Rattle.grammar_tree.specs.Corners.{bases, rests}
 use Rattle.grammar_analysis.specs.Empty.{alts_is_empty, is_empty}
 
--- the rules that can stand first in a term
+-- the rules that can be first in a term
 abbrev mutual
   pub corners : (ℕ → Bool) → Term → List ℕ
   corners e (Term.kind k) = []
@@ -28,7 +28,7 @@ abbrev mutual
 abbrev pub rule_corners : (ℕ → Bool) → ℕ → Alts → List ℕ
 rule_corners e r a = alts_corners e (bases r a) ++ (if alts_is_empty e (bases r a) then alts_corners e (rests r a) else [])
 
--- The rows are the left corners of the rules, in the order of their numbers.
-pub record AreCornerRows (G : List Alts) (e : ℕ → Bool) (rows : List (List ℕ)) : Type 0 where
-  pub there : (r : ℕ) (a : Alts) → slice_get G r ≡ Some a → slice_get rows r ≡ Some (rule_corners e r a)
-  pub only : length rows ≡ length G
+-- The successors of each rule are its left corners, in the order of the numbers of rules.
+pub record AreCornerEdges (G : List Alts) (e : ℕ → Bool) (edges : List (List ℕ)) : Type 0 where
+  pub there : (r : ℕ) (a : Alts) → slice_get G r ≡ Some a → slice_get edges r ≡ Some (rule_corners e r a)
+  pub only : length edges ≡ length G

@@ -1,4 +1,4 @@
--- Lexer rules by their places, and which lexer terms match the empty text, where it is known which rules do.
+-- Lexer rules by their indices, and which lexer terms match the empty text, where it is known which rules do.
 use Rattle.std.specs.Prelude.{◌≡◌, ℕ, Bool, true, false, ◌&&◌, ◌||◌, List, [], ◌∷◌, Option, Some, position, slice_get, map}
 use Rattle.std.specs.List.{filter_map}
 use Rattle.std.specs.Option.{option_map_or}
@@ -10,15 +10,15 @@ use Rattle.grammar_analysis.specs.Empty.{flag}
 use Rattle.grammar_analysis.specs.Rules.{has_key}
 use Rattle.grammar_analysis.specs.declared.rules.Key.TheVariants.{LexerName}
 
--- the place of the first lexer rule with this name
-abbrev pub lexer_place : List WrittenRule → List ℕ → Option ℕ
-lexer_place rules n = position (has_key LexerName n) rules
+-- the index of the first lexer rule with this name
+abbrev pub lexer_index : List WrittenRule → List ℕ → Option ℕ
+lexer_index rules n = position (has_key LexerName n) rules
 
 abbrev pub is_nil : List ℕ → Bool
 is_nil [] = true
 is_nil (c ∷ cs) = false
 
--- whether a term matches the empty text, where `f` tells the places of rules and `e` which of these match it
+-- whether a term matches the empty text, where `f` has the indices of rules and `e` says which of these match it
 abbrev mutual
   pub lexer_is_empty : (List ℕ → Option ℕ) → (ℕ → Bool) → LexerTerm → Bool
   lexer_is_empty f e (LexerTerm.literal t) = is_nil t
@@ -38,7 +38,7 @@ abbrev mutual
   lexer_alts_are_empty f e LexerAlts.none = false
   lexer_alts_are_empty f e (LexerAlts.or s a) = lexer_seq_is_empty f e s || lexer_alts_are_empty f e a
 
--- a star or plus over a term that matches the empty text stands in the term
+-- a star or plus over a term that matches the empty text is in the term
 abbrev mutual
   pub lexer_has_loop : (List ℕ → Option ℕ) → (ℕ → Bool) → LexerTerm → Bool
   lexer_has_loop f e (LexerTerm.literal t) = false
@@ -64,21 +64,21 @@ rule_is_empty f e (WrittenRule.parser_rule r) = false
 rule_is_empty f e (WrittenRule.lexer_rule r) = lexer_alts_are_empty f e r.alts
 
 abbrev pub lexer_rule_is_empty : List WrittenRule → List Bool → ℕ → Bool
-lexer_rule_is_empty rules flags i = option_map_or (rule_is_empty (lexer_place rules) (flag flags)) (slice_get rules i) false
+lexer_rule_is_empty rules flags i = option_map_or (rule_is_empty (lexer_index rules) (flag flags)) (slice_get rules i) false
 
 -- The table says exactly which lexer rules have alternatives that match the empty text.
-abbrev pub AreEmptyPlaces : List WrittenRule → List Bool → Type 0
-AreEmptyPlaces rules flags = (i : ℕ) (rule : LexerRule) → slice_get rules i ≡ Some (WrittenRule.lexer_rule rule) →
+abbrev pub AreEmptyLexerRules : List WrittenRule → List Bool → Type 0
+AreEmptyLexerRules rules flags = (i : ℕ) (rule : LexerRule) → slice_get rules i ≡ Some (WrittenRule.lexer_rule rule) →
     (flag flags i ≡ true → MatchesAlts (lexer_rules rules) rule.alts []) × (MatchesAlts (lexer_rules rules) rule.alts [] → flag flags i ≡ true)
 
--- the places of the rules that a lexer rule uses
-abbrev pub lexer_row : (List ℕ → Option ℕ) → WrittenRule → List ℕ
-lexer_row f (WrittenRule.parser_rule r) = []
-lexer_row f (WrittenRule.lexer_rule r) = filter_map f (used_names r.alts)
+-- the indices of the rules that a lexer rule uses
+abbrev pub lexer_successors : (List ℕ → Option ℕ) → WrittenRule → List ℕ
+lexer_successors f (WrittenRule.parser_rule r) = []
+lexer_successors f (WrittenRule.lexer_rule r) = filter_map f (used_names r.alts)
 
--- for each place those that its rule uses
-abbrev pub lexer_rows : List WrittenRule → List (List ℕ)
-lexer_rows rules = map (lexer_row (lexer_place rules)) rules
+-- for each rule the indices of the rules that it uses
+abbrev pub lexer_edges : List WrittenRule → List (List ℕ)
+lexer_edges rules = map (lexer_successors (lexer_index rules)) rules
 
 -- No two rules have one name.
 abbrev pub OneRule : List WrittenRule → Type 0

@@ -3,7 +3,7 @@ use Rattle.std.specs.Prelude.{ℕ, Bool, false, ◌||◌}
 use Rattle.grammar_tree.specs.Derives.{Term, Seq, Alts}
 use Rattle.grammar_analysis.specs.Empty.{is_empty}
 
--- a star or plus over a term that can be empty stands in the term
+-- a star or plus over a term that can be empty is in the term
 abbrev mutual
   pub has_loop : (ℕ → Bool) → Term → Bool
   has_loop e (Term.kind k) = false

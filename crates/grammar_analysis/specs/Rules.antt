@@ -1,4 +1,4 @@
--- What stands in one rule.
+-- What is in one rule.
 use Rattle.std.specs.Prelude.{ℕ, Bool, false, List, [], Option, Some, None}
 use Rattle.grammar_tree.specs.Written.{Reference, WrittenAlts, WrittenRule}
 use Rattle.grammar_tree.specs.Kinds.{is_named_by, makes_token, references, rule_name, same_text}

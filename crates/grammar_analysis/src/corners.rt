@@ -1,4 +1,4 @@
-//! Left corners: the rules that can stand first in a parser rule.
+//! Left corners: the rules that can be first in a parser rule.
 
 ghost use Rattle.std.specs.Prelude.{◌≡◌, ◌++◌, ℕ, Bool, List, OnOk, drop};
 ghost use Rattle.grammar_tree.specs.Derives.{resolved, resolved_alts, resolved_seq};
@@ -12,7 +12,7 @@ use faults::Memory;
 use grammar_names::Names;
 use grammar_tree::{ParserAlts, ParserTerm, ParserTerms, Text};
 
-/// Adds the rule that a name stands for, where it stands for one.
+/// Adds the rule that a name means, where it means one.
 fn add_rule(name: &Text, names: &Names, found: &mut Vec<u32>) -> Result<(), Memory>
     ensures { (e : ℕ → Bool) → OnOk result (found.new.items ≡ found.old.items ++ corners e (resolved names.now (WrittenTerm.name name.now))) }
 {
@@ -22,7 +22,7 @@ fn add_rule(name: &Text, names: &Names, found: &mut Vec<u32>) -> Result<(), Memo
     Ok(())
 }
 
-/// Adds the rules that can stand first in a term, where the table says which rules can be empty.
+/// Adds the rules that can be first in a term, where the table says which rules can be empty.
 #[cycle(corners)]
 fn add_term_corners(
     term: &ParserTerm,
@@ -42,7 +42,7 @@ fn add_term_corners(
     }
 }
 
-/// Adds those of the terms from a place on.
+/// Adds those of the terms from an index on.
 #[cycle(corners)]
 pub(crate) fn add_seq_corners(
     terms: &ParserTerms,

@@ -12,7 +12,7 @@ use std::alloc::Global;
 
 /// Adds the rule of a name. False says that there is none.
 fn add_name(name: &Text, names: &LexerNames, body: &mut Vec<u32>) -> Result<bool, Memory> {
-    match names.place(name) {
+    match names.index(name) {
         Some(index) => {
             body.push(index)?;
             Ok(true)

@@ -3,7 +3,7 @@
 ghost use Rattle.std.specs.Prelude.{◌≡◌, ℕ, ◌<◌, ◌^◌, List, IfOk, length, map};
 ghost use Rattle.grammar_tree.specs.GrammarView.{rule_of};
 ghost use Rattle.grammar_names.specs.Index.{Finds};
-ghost use Rattle.grammar_analysis.specs.Lexer.{lexer_place};
+ghost use Rattle.grammar_analysis.specs.Lexer.{lexer_index};
 
 use crate::rules::{Key, rules_by};
 use faults::Memory;
@@ -11,13 +11,13 @@ use grammar_names::Index;
 use grammar_tree::{Rule, Text};
 use std::alloc::Global;
 
-/// The places of the lexer rules of a grammar, by their names.
+/// The indices of the lexer rules of a grammar, by their names.
 #[derive(Drop)]
 pub struct LexerNames<'a> {
     /// All rules of the grammar, in written order.
     pub rules: &'a [Rule],
-    places: Index,
-    ghost found: { Finds places (lexer_place (map rule_of rules.now)) },
+    indices: Index,
+    ghost found: { Finds indices (lexer_index (map rule_of rules.now)) },
 }
 
 impl<'a> LexerNames<'a> {
@@ -26,14 +26,14 @@ impl<'a> LexerNames<'a> {
         requires { length rules.now < 2 ^ 32 }
         ensures { IfOk result (λ names. names.rules.now ≡ rules.now) }
     {
-        let places = rules_by(alloc, rules, Key::LexerName)?;
-        Ok(LexerNames { rules, places })
+        let indices = rules_by(alloc, rules, Key::LexerName)?;
+        Ok(LexerNames { rules, indices })
     }
 
-    /// The place of the lexer rule with this name.
-    pub fn place(&self, name: &Text) -> Option<u32>
-        ensures { result ≡ lexer_place (map rule_of self.now.rules.now) name.now }
+    /// The index of the lexer rule with this name.
+    pub fn index(&self, name: &Text) -> Option<u32>
+        ensures { result ≡ lexer_index (map rule_of self.now.rules.now) name.now }
     {
-        self.places.get(name)
+        self.indices.get(name)
     }
 }

@@ -7,19 +7,19 @@ ghost use Rattle.grammar_tree.specs.View.{lex_alts, lex_term, lex_terms};
 ghost use Rattle.grammar_tree.specs.GrammarView.{rule_of};
 ghost use Rattle.grammar_tree.specs.Written.{LexerTerm, lexer_alts, lexer_seq};
 ghost use Rattle.grammar_analysis.specs.Empty.{flag};
-ghost use Rattle.grammar_analysis.specs.Lexer.{is_nil, lexer_alts_are_empty, lexer_alts_have_loop, lexer_has_loop, lexer_is_empty, lexer_place, lexer_seq_has_loop, lexer_seq_is_empty};
+ghost use Rattle.grammar_analysis.specs.Lexer.{is_nil, lexer_alts_are_empty, lexer_alts_have_loop, lexer_has_loop, lexer_is_empty, lexer_index, lexer_seq_has_loop, lexer_seq_is_empty};
 
 use crate::empty::is_flagged;
 use crate::lexer_names::LexerNames;
 use faults::Memory;
 use grammar_tree::{LexAlts, LexTerm, LexTerms, Text};
 
-/// Whether the rule of a name matches the empty text, where the table says which places do.
+/// Whether the rule of a name matches the empty text, where the table says which rules do.
 fn name_can_be_empty(name: &Text, names: &LexerNames, flags: &[bool]) -> bool
-    ensures { result ≡ lexer_is_empty (lexer_place (map rule_of names.now.rules.now)) (flag flags.now) (LexerTerm.name name.now) }
+    ensures { result ≡ lexer_is_empty (lexer_index (map rule_of names.now.rules.now)) (flag flags.now) (LexerTerm.name name.now) }
 {
-    match names.place(name) {
-        Some(place) => is_flagged(flags, place),
+    match names.index(name) {
+        Some(index) => is_flagged(flags, index),
         None => false,
     }
 }
@@ -31,10 +31,10 @@ pub fn is_empty_text(text: &Text) -> bool
     text.as_str().is_empty()
 }
 
-/// Whether a term matches the empty text, where the table says which places do.
+/// Whether a term matches the empty text, where the table says which rules do.
 #[cycle(lexer_empty)]
 fn term_can_be_empty(term: &LexTerm, names: &LexerNames, flags: &[bool]) -> bool
-    ensures { result ≡ lexer_is_empty (lexer_place (map rule_of names.now.rules.now)) (flag flags.now) (lex_term term.now) }
+    ensures { result ≡ lexer_is_empty (lexer_index (map rule_of names.now.rules.now)) (flag flags.now) (lex_term term.now) }
 {
     match term {
         LexTerm::Literal(text) => is_empty_text(text),
@@ -48,7 +48,7 @@ fn term_can_be_empty(term: &LexTerm, names: &LexerNames, flags: &[bool]) -> bool
 
 #[cycle(lexer_empty)]
 fn seq_can_be_empty(terms: &LexTerms, names: &LexerNames, flags: &[bool]) -> bool
-    ensures { result ≡ lexer_seq_is_empty (lexer_place (map rule_of names.now.rules.now)) (flag flags.now) (lexer_seq (lex_terms terms.now)) }
+    ensures { result ≡ lexer_seq_is_empty (lexer_index (map rule_of names.now.rules.now)) (flag flags.now) (lexer_seq (lex_terms terms.now)) }
 {
     for i in 0..terms.items.len() {
         if !term_can_be_empty(&terms.items[i], names, flags) {
@@ -60,7 +60,7 @@ fn seq_can_be_empty(terms: &LexTerms, names: &LexerNames, flags: &[bool]) -> boo
 
 #[cycle(lexer_empty)]
 pub(crate) fn alts_can_be_empty(alts: &LexAlts, names: &LexerNames, flags: &[bool]) -> bool
-    ensures { result ≡ lexer_alts_are_empty (lexer_place (map rule_of names.now.rules.now)) (flag flags.now) (lexer_alts (lex_alts alts.now)) }
+    ensures { result ≡ lexer_alts_are_empty (lexer_index (map rule_of names.now.rules.now)) (flag flags.now) (lexer_alts (lex_alts alts.now)) }
 {
     for i in 0..alts.items.len() {
         if seq_can_be_empty(&alts.items[i], names, flags) {
@@ -70,10 +70,10 @@ pub(crate) fn alts_can_be_empty(alts: &LexAlts, names: &LexerNames, flags: &[boo
     false
 }
 
-/// Whether a star or plus over a term that matches the empty text stands in the term.
+/// Whether a star or plus over a term that matches the empty text is in the term.
 #[cycle(lexer_loops)]
 fn term_has_empty_loop(term: &LexTerm, names: &LexerNames, flags: &[bool]) -> bool
-    ensures { result ≡ lexer_has_loop (lexer_place (map rule_of names.now.rules.now)) (flag flags.now) (lex_term term.now) }
+    ensures { result ≡ lexer_has_loop (lexer_index (map rule_of names.now.rules.now)) (flag flags.now) (lex_term term.now) }
 {
     match term {
         LexTerm::Literal(_) | LexTerm::Set(_) | LexTerm::Name(_) | LexTerm::Short(_) => false,
@@ -87,7 +87,7 @@ fn term_has_empty_loop(term: &LexTerm, names: &LexerNames, flags: &[bool]) -> bo
 
 #[cycle(lexer_loops)]
 fn seq_has_empty_loop(terms: &LexTerms, names: &LexerNames, flags: &[bool]) -> bool
-    ensures { result ≡ lexer_seq_has_loop (lexer_place (map rule_of names.now.rules.now)) (flag flags.now) (lexer_seq (lex_terms terms.now)) }
+    ensures { result ≡ lexer_seq_has_loop (lexer_index (map rule_of names.now.rules.now)) (flag flags.now) (lexer_seq (lex_terms terms.now)) }
 {
     for i in 0..terms.items.len() {
         if term_has_empty_loop(&terms.items[i], names, flags) {
@@ -97,11 +97,11 @@ fn seq_has_empty_loop(terms: &LexTerms, names: &LexerNames, flags: &[bool]) -> b
     false
 }
 
-/// Whether a star or plus over what matches the empty text stands in alternatives of a lexer rule,
-/// where the table says which places do.
+/// Whether a star or plus over what matches the empty text is in alternatives of a lexer rule,
+/// where the table says which rules do.
 #[cycle(lexer_loops)]
 pub fn lexer_alts_have_empty_loop(alts: &LexAlts, names: &LexerNames, flags: &[bool]) -> bool
-    ensures { result ≡ lexer_alts_have_loop (lexer_place (map rule_of names.now.rules.now)) (flag flags.now) (lexer_alts (lex_alts alts.now)) }
+    ensures { result ≡ lexer_alts_have_loop (lexer_index (map rule_of names.now.rules.now)) (flag flags.now) (lexer_alts (lex_alts alts.now)) }
 {
     for i in 0..alts.items.len() {
         if seq_has_empty_loop(&alts.items[i], names, flags) {

@@ -11,7 +11,7 @@ use crate::empty::term_can_be_empty;
 use grammar_names::Names;
 use grammar_tree::{ParserAlts, ParserTerm, ParserTerms};
 
-/// Whether a star or plus over a term that can be empty stands in the term, where the table says
+/// Whether a star or plus over a term that can be empty is in the term, where the table says
 /// which rules can be.
 #[cycle(loops)]
 fn term_has_empty_loop(term: &ParserTerm, names: &Names, flags: &[bool]) -> bool
@@ -43,7 +43,7 @@ fn seq_has_empty_loop(terms: &ParserTerms, names: &Names, flags: &[bool]) -> boo
     false
 }
 
-/// Whether a star or plus over what can be empty stands in alternatives of a parser rule, where the
+/// Whether a star or plus over what can be empty is in alternatives of a parser rule, where the
 /// table says which rules can be.
 #[cycle(loops)]
 pub fn alts_have_empty_loop(alts: &ParserAlts, names: &Names, flags: &[bool]) -> bool

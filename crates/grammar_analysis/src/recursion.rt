@@ -6,47 +6,19 @@ ghost use Rattle.grammar_tree.specs.Corners.{bases, rest_of, rests};
 ghost use Rattle.grammar_tree.specs.Derives.{bodies, resolved, resolved_alts, resolved_seq};
 ghost use Rattle.grammar_tree.specs.View.{parser_alts, parser_term, parser_terms};
 ghost use Rattle.grammar_tree.specs.Written.{written_alts, written_seq};
-ghost use Rattle.grammar_analysis.specs.Corners.{AreCornerRows, alts_corners, rule_corners};
+ghost use Rattle.grammar_analysis.specs.Corners.{AreCornerEdges, alts_corners, rule_corners};
 ghost use Rattle.grammar_analysis.specs.Empty.{AreBodies, alts_is_empty, flag, is_empty, seq_is_empty};
-ghost use Rattle.grammar_analysis.specs.Recursion.{has_alternative, is_empty_base, is_rule};
+ghost use Rattle.grammar_analysis.specs.Recursion.{is_empty_base};
 
 use crate::corners::add_seq_corners;
 use crate::empty::{seq_can_be_empty, term_can_be_empty};
+use direct_recursion::is_recursive;
 use faults::Memory;
 use grammar_names::Names;
 use grammar_tree::{ParserAlts, ParserTerm, ParserTerms};
 use std::alloc::Global;
 
-/// Whether the term is the parser rule with this number, without suffix.
-fn is_this_rule(term: &ParserTerm, names: &Names, number: u32) -> bool
-    ensures { result ≡ is_rule number (resolved names.now (parser_term term.now)) }
-{
-    match term {
-        ParserTerm::Name(name) => match names.rule_number(name) {
-            Some(other) => other == number,
-            None => false,
-        },
-        ParserTerm::Literal(_)
-        | ParserTerm::Any
-        | ParserTerm::Not(_)
-        | ParserTerm::Block(_)
-        | ParserTerm::Opt(_)
-        | ParserTerm::Star(_)
-        | ParserTerm::Plus(_)
-        | ParserTerm::Eof => false,
-    }
-}
-
-/// Whether an alternative of the rule with this number is directly recursive: its first part is the
-/// rule alone.
-fn is_recursive(terms: &ParserTerms, names: &Names, number: u32) -> bool
-    ensures { result ≡ is_some (rest_of number (resolved_seq names.now (written_seq (parser_terms terms.now)))) }
-{
-    let terms = terms.items.as_slice();
-    !terms.is_empty() && is_this_rule(&terms[0], names, number)
-}
-
-/// Whether the terms behind the first one can all be empty.
+/// Whether the terms after the first one can all be empty.
 fn tail_can_be_empty(terms: &ParserTerms, names: &Names, flags: &[bool]) -> bool
     ensures { result ≡ seq_is_empty (flag flags.now) (resolved_seq names.now (written_seq (drop 1 (parser_terms terms.now)))) }
 {
@@ -70,30 +42,6 @@ fn rest_can_be_empty(terms: &ParserTerms, names: &Names, flags: &[bool], number:
     ensures { result ≡ option_map_or (seq_is_empty (flag flags.now)) (rest_of number (resolved_seq names.now (written_seq (parser_terms terms.now)))) false }
 {
     is_recursive(terms, names, number) && tail_can_be_empty(terms, names, flags)
-}
-
-/// Whether some alternative of the rule isn't directly recursive.
-pub fn has_base(alts: &ParserAlts, names: &Names, number: u32) -> bool
-    ensures { result ≡ has_alternative (bases number (resolved_alts names.now (written_alts (parser_alts alts.now)))) }
-{
-    for terms in alts.items.iter() {
-        if !is_recursive(terms, names, number) {
-            return true;
-        }
-    }
-    false
-}
-
-/// Whether some alternative of the rule is directly recursive.
-pub(crate) fn has_rest(alts: &ParserAlts, names: &Names, number: u32) -> bool
-    ensures { result ≡ has_alternative (rests number (resolved_alts names.now (written_alts (parser_alts alts.now)))) }
-{
-    for terms in alts.items.iter() {
-        if is_recursive(terms, names, number) {
-            return true;
-        }
-    }
-    false
 }
 
 /// Whether some base of the rule can be empty.
@@ -120,7 +68,7 @@ pub fn some_rest_can_be_empty(alts: &ParserAlts, names: &Names, flags: &[bool], 
     false
 }
 
-/// Adds the rules that can stand first in a base of the rule.
+/// Adds the rules that can be first in a base of the rule.
 fn add_base_corners(
     alts: &ParserAlts,
     names: &Names,
@@ -138,7 +86,7 @@ fn add_base_corners(
     Ok(())
 }
 
-/// Adds the rules that can stand first in a rest of the rule.
+/// Adds the rules that can be first in a rest of the rule.
 fn add_rest_corners(
     alts: &ParserAlts,
     names: &Names,
@@ -175,7 +123,7 @@ fn left_corners(
 }
 
 /// The left corners of the rules, in the order of their numbers.
-pub fn corner_rows(
+pub fn corner_edges(
     alloc: Global,
     rules: &[&ParserAlts],
     names: &Names,
@@ -183,11 +131,11 @@ pub fn corner_rows(
 ) -> Result<Vec<Vec<u32>>, Memory>
     requires small { length rules.now < 2 ^ 32 }
     requires bodies { AreBodies names.now (map (λ a. parser_alts a.now) rules.now) }
-    ensures { IfOk result (λ rows. AreCornerRows (bodies names.now) (flag flags.now) (map (λ row. row.items) rows.items)) }
+    ensures { IfOk result (λ edges. AreCornerEdges (bodies names.now) (flag flags.now) (map (λ successors. successors.items) edges.items)) }
 {
-    let mut rows = Vec::new(alloc);
+    let mut edges = Vec::new(alloc);
     for number in 0..rules.len() {
-        rows.push(left_corners(alloc, rules[number], names, flags, number as u32)?)?;
+        edges.push(left_corners(alloc, rules[number], names, flags, number as u32)?)?;
     }
-    Ok(rows)
+    Ok(edges)
 }

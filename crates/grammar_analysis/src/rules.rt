@@ -53,30 +53,30 @@ fn key_of(rule: &Rule, key: Key) -> Option<&Text>
     }
 }
 
-/// Adds the rule at a place to the index.
+/// Adds the rule at an index to those that are found, where it has the text.
 fn add_rule(
     alloc: Global,
-    index: &mut Index,
+    found: &mut Index,
     rule: &Rule,
     key: Key,
-    place: u32,
+    index: u32,
 ) -> Result<(), Memory>
-    ensures { OnOk result (IsAdded index.old index.new (λ t. has_key key t (rule_of rule.now)) place) }
+    ensures { OnOk result (IsAdded found.old found.new (λ t. has_key key t (rule_of rule.now)) index) }
 {
     match key_of(rule, key) {
-        Some(text) => index.add(alloc, text, place),
+        Some(text) => found.add(alloc, text, index),
         None => Ok(()),
     }
 }
 
-/// The place of the first rule for each text. It takes time near linear in the number of rules.
+/// The index of the first rule for each text. It takes time near linear in the number of rules.
 pub fn rules_by(alloc: Global, rules: &[Rule], key: Key) -> Result<Index, Memory>
     requires { length rules.now < 2 ^ 32 }
-    ensures { IfOk result (λ index. Finds index (λ t. position (has_key key t) (map rule_of rules.now))) }
+    ensures { IfOk result (λ found. Finds found (λ t. position (has_key key t) (map rule_of rules.now))) }
 {
-    let mut index = Index::new(alloc);
-    for (place, rule) in rules.iter().enumerate() {
-        add_rule(alloc, &mut index, rule, key, place as u32)?;
+    let mut found = Index::new(alloc);
+    for (index, rule) in rules.iter().enumerate() {
+        add_rule(alloc, &mut found, rule, key, index as u32)?;
     }
-    Ok(index)
+    Ok(found)
 }

@@ -1,4 +1,4 @@
--- The name of the rule at the first place of a fault.
+-- The name of the rule at the first index of a fault.
 use Rattle.std.proofs.Common.{◌≡◌, inl, inr, ℕ, List, Option, Some, None, sym, ap, ◌∙◌, slice_get, subst}
 use Rattle.std.specs.Prelude.{option_map}
 use Rattle.std.proofs.lemmas.Option.{none-some}
@@ -9,7 +9,7 @@ use Rattle.grammar_check.specs.Answer.{IsNamedOrNone, name_at}
 use Rattle.graph_cycles.specs.First.{IsFirstOrNone}
 use Rattle.grammar_check.specs.Twins.{IsTwinAt}
 
--- The fact holds only where a rule stands.
+-- The fact holds only where there is a rule.
 abbrev pub HasRules : WrittenGrammar → (ℕ → Type 0) → Type 0
 HasRules G P = (i : ℕ) → P i → (rule : WrittenRule) × (slice_get G.rules i ≡ Some rule)
 
@@ -17,11 +17,11 @@ module _ (G : WrittenGrammar) (P : ℕ → Type 0) (rules : HasRules G P) where
   pub named_first : (o : Option ℕ) (name : Option (List ℕ)) → name ≡ name_at G o → IsFirstOrNone P o → IsNamedOrNone G P name
   named_first None None e h = h
   named_first None (Some name) e h = absurd (none-some name (sym e))
-  named_first (Some i) (Some name) e h = record { place = i; first = h; named = sym e }
+  named_first (Some i) (Some name) e h = record { index = i; first = h; named = sym e }
   named_first (Some i) None e h = let it = rules i h.holds in absurd (none-some (rule_name it.0) (e ∙ ap (option_map rule_name) it.1))
 
-pub told : (G : WrittenGrammar) (P : ℕ → Type 0) (name is : Option (List ℕ)) → name ≡ is → IsNamedOrNone G P name → IsNamedOrNone G P is
-told G P name is e h = let Q : Option (List ℕ) → Type 0 = λ n. IsNamedOrNone G P n in subst Q e h
+pub with_name : (G : WrittenGrammar) (P : ℕ → Type 0) (name is : Option (List ℕ)) → name ≡ is → IsNamedOrNone G P name → IsNamedOrNone G P is
+with_name G P name is e h = let Q : Option (List ℕ) → Type 0 = λ n. IsNamedOrNone G P n in subst Q e h
 
 module _ (G : WrittenGrammar) where
   pub twins_are_rules : HasRules G (IsTwinAt G)

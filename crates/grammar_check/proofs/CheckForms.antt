@@ -67,8 +67,8 @@ module _ (G : WrittenGrammar) (wanted : Option (List ℕ)) where
     pub before_eof : Nowhere (IsTwinAt G) → Nowhere (IsUnknownAt G) → HasNoneBefore G wanted 4
     before_eof one known = passed G wanted 3 (λ i. (n : List ℕ) × NoStart G wanted n) missing (before_start one known) (λ i h. (start_is_found G).there wanted start found h.0 h.1)
 
-    pub eof_place : (name : List ℕ) → HasNoneBefore G wanted 4 → IsFirstNamed G (fault.EofPlace G start) name → IsFirstInTable G wanted (variant.EofPlace name)
-    eof_place name none is = first_named G wanted (variant.EofPlace name) (fault.EofPlace G start) name eof none (λ i at p. (at, (start, found, p))) is
+    pub eof_at : (name : List ℕ) → HasNoneBefore G wanted 4 → IsFirstNamed G (fault.EofPlace G start) name → IsFirstInTable G wanted (variant.EofPlace name)
+    eof_at name none is = first_named G wanted (variant.EofPlace name) (fault.EofPlace G start) name eof none (λ i at p. (at, (start, found, p))) is
 
     pub before_loops : HasNoneBefore G wanted 4 → Nowhere (fault.EofPlace G start) → HasNoneBefore G wanted 5
     before_loops none ends = passed G wanted 4 (fault.EofPlace G start) eof none ends

@@ -1,4 +1,4 @@
--- Where `EOF` stands, by the parts.
+-- Where `EOF` is, by the parts.
 use Rattle.std.proofs.Common.{◌≡◌, ◌≢◌, ◌⊎◌, inl, inr, cond, ◌+◌, ◌<◌, ◌≤◌, ℕ, zero, suc, Bool, true, false, not, ◌||◌, ◌&&◌, List, [], ◌∷◌, Some, None, is_some, length, map, drop, slice_get, slice_index_or, nat_eq, refl, sym, ap, ◌∙◌, subst, arith, true≢false}
 use Rattle.std.specs.List.{Contains, filter_map, list_any}
 use Rattle.std.proofs.lemmas.Bool.{cases_Bool, cases_eq, false≢true}
@@ -19,7 +19,7 @@ use Rattle.grammar_check.specs.Kinds.{seen_in}
 use Rattle.grammar_analysis.proofs.CornerForms.{drop_at, drop_end}
 use Rattle.grammar_analysis.proofs.EmptyRules.{and_both, from_both, from_first, from_second, or_one}
 use Rattle.grammar_check.proofs.KindForms.{was_seen}
-use Rattle.grammar_analysis.proofs.LexerRows.{from_filter_map}
+use Rattle.grammar_analysis.proofs.LexerEdges.{from_filter_map}
 use Rattle.grammar_analysis.proofs.Traversed.{alts_view, seq_view}
 
 eof_terms : (ts : List ParserTerm) → seq_has_eof (written_seq (map parser_term ts)) ≡ list_any (λ t. has_eof (parser_term t)) ts
@@ -43,7 +43,7 @@ misplaced_seqs (s ∷ ss) = ap (λ b. is_misplaced_in (written_seq (parser_terms
 pub misplaced_alts : (a : ParserAlts) → is_misplaced (written_alts (parser_alts a)) ≡ list_any (λ s. is_misplaced_in (written_seq (parser_terms s))) (out-ParserAlts a).items.items
 misplaced_alts a = ap (λ ss. is_misplaced (written_alts ss)) (alts_view a) ∙ misplaced_seqs (out-ParserAlts a).items.items
 
--- one term, and what comes behind it
+-- one term, and what comes after it
 no_term : List WrittenTerm → Bool
 no_term [] = true
 no_term (t ∷ ts) = false
@@ -61,30 +61,30 @@ first_term (WrittenTerm.plus x) ts = refl
 first_term WrittenTerm.eof [] = refl
 first_term WrittenTerm.eof (t ∷ ts) = refl
 
-none_left : (us : List WrittenTerm) (k : ℕ) → length us ≤ k → no_term (drop k us) ≡ true
+none_remain : (us : List WrittenTerm) (k : ℕ) → length us ≤ k → no_term (drop k us) ≡ true
 unfolding no_term
-none_left [] zero le = refl
-none_left [] (suc k) le = refl
-none_left (u ∷ us) zero le = absurd (omega (arith, le))
-none_left (u ∷ us) (suc k) le = none_left us k (omega arith)
+none_remain [] zero le = refl
+none_remain [] (suc k) le = refl
+none_remain (u ∷ us) zero le = absurd (omega (arith, le))
+none_remain (u ∷ us) (suc k) le = none_remain us k (omega arith)
 
-some_left : (us : List WrittenTerm) (k : ℕ) → k < length us → no_term (drop k us) ≡ false
+some_remain : (us : List WrittenTerm) (k : ℕ) → k < length us → no_term (drop k us) ≡ false
 unfolding no_term
-some_left [] k lt = absurd (omega (arith, lt))
-some_left (u ∷ us) zero lt = refl
-some_left (u ∷ us) (suc k) lt = some_left us k (omega arith)
+some_remain [] k lt = absurd (omega (arith, lt))
+some_remain (u ∷ us) zero lt = refl
+some_remain (u ∷ us) (suc k) lt = some_remain us k (omega arith)
 
 last_of : (ts : List WrittenTerm) (i n : ℕ) → n ≡ length ts → i < n → no_term (drop (suc i) ts) ≡ nat_eq (i + 1) n
 last_of ts i n len lt = elim (cases_eq (i + 1) n) [
-  | inl same ↦ none_left ts (suc i) (omega (arith, same, len)) ∙ sym ((Decides-eqb (i + 1) n).1 same)
-  | inr differ ↦ some_left ts (suc i) (omega (arith, differ, lt, len)) ∙ sym (not_equal differ (cases_Bool (nat_eq (i + 1) n)))
+  | inl same ↦ none_remain ts (suc i) (omega (arith, same, len)) ∙ sym ((Decides-eqb (i + 1) n).1 same)
+  | inr differ ↦ some_remain ts (suc i) (omega (arith, differ, lt, len)) ∙ sym (not_equal differ (cases_Bool (nat_eq (i + 1) n)))
 ]
   where
     not_equal : (i + 1 ≡ n → ⊥) → (nat_eq (i + 1) n ≡ true) ⊎ (nat_eq (i + 1) n ≡ false) → nat_eq (i + 1) n ≡ false
     not_equal differ (inl e) = absurd (differ ((Decides-eqb (i + 1) n).0 e))
     not_equal differ (inr e) = e
 
--- the terms from a place on
+-- the terms from an index on
 abbrev pub from : ParserTerms → ℕ → Bool
 from s i = is_misplaced_in (written_seq (drop i (parser_terms s)))
 
@@ -105,7 +105,7 @@ misplaced_end s i le =
     let Q : List WrittenTerm → Type 0 = λ ts. is_misplaced_in (written_seq (drop i ts)) ≡ false in
     subst Q (sym (seq_view s)) (ap (λ ts. is_misplaced_in (written_seq ts)) (drop_end parser_term (out-ParserTerms s).items.items i le))
 
--- the rule at a place
+-- the rule at an index
 module _ (G : WrittenGrammar) (start i : ℕ) (rule : WrittenRule) (at : slice_get G.rules i ≡ Some rule) where
   abbrev is_used : Bool
   is_used = is_some (seen_in (filter_map as_name (all_references G.rules)) (rule_name rule))
@@ -155,7 +155,7 @@ module _ (G : WrittenGrammar) (start i : ℕ) (rule : WrittenRule) (at : slice_g
   misplaced_there : (r : WrittenRule) → rule ≡ r → is_misplaced_rule r (nat_eq i start) is_used ≡ true → EofPlace G start i
   misplaced_there (WrittenRule.lexer_rule r) e h = absurd (false≢true h)
   misplaced_there (WrittenRule.parser_rule r) e h = elim (or_one (is_misplaced r.alts) ((not (nat_eq i start) && any_has_eof r.alts) && is_used) h) [
-    | inl place ↦ (r, at ∙ ap Some e, inl place)
+    | inl index ↦ (r, at ∙ ap Some e, inl index)
     | inr both ↦
         let parts = and_both (not (nat_eq i start) && any_has_eof r.alts) is_used both in
         let more = and_both (not (nat_eq i start)) (any_has_eof r.alts) parts.0 in
@@ -167,9 +167,9 @@ module _ (G : WrittenGrammar) (start i : ℕ) (rule : WrittenRule) (at : slice_g
   misplaced h = misplaced_there rule refl h
 
   pub not_misplaced : is_misplaced_rule rule (nat_eq i start) is_used ≡ false → ¬ EofPlace G start i
-  not_misplaced h (r, at', inl place) =
+  not_misplaced h (r, at', inl index) =
       let same : rule ≡ WrittenRule.parser_rule r = same_Some rule (WrittenRule.parser_rule r) (sym at ∙ at') in
-      true≢false (sym (ap (λ x. is_misplaced_rule x (nat_eq i start) is_used) same ∙ from_first (is_misplaced r.alts) ((not (nat_eq i start) && any_has_eof r.alts) && is_used) place) ∙ h)
+      true≢false (sym (ap (λ x. is_misplaced_rule x (nat_eq i start) is_used) same ∙ from_first (is_misplaced r.alts) ((not (nat_eq i start) && any_has_eof r.alts) && is_used) index) ∙ h)
   not_misplaced h (r, at', inr (eof, other, used)) =
       let same : rule ≡ WrittenRule.parser_rule r = same_Some rule (WrittenRule.parser_rule r) (sym at ∙ at') in
       let part = from_both (not (nat_eq i start) && any_has_eof r.alts) is_used (from_both (not (nat_eq i start)) (any_has_eof r.alts) (start_not other) eof) (there_used r.name (ap rule_name same) used) in

@@ -42,16 +42,16 @@ module _ {X Y : Type 0} (p : Y → Bool) (U : X → List Y) where
           let here = no_first z (take k ys) none in
           first_none z (take (suc k) ys) here ∙ more ys k (sym (first_none z (take k ys) here) ∙ none) (omega arith) is
 
-  -- what is told of the first one
-  pub told : {Z : Type 0} (g : Y → Z) (xs : List X) (i : ℕ) (x : X) (z : Z) → find p (flat_map U (take i xs)) ≡ None → i < length xs → x ≡ slice_index_or xs i x → Some z ≡ option_map g (find p (U x)) → Some z ≡ option_map g (find p (flat_map U xs))
-  told {Z = Z} g xs i x z none lt is h = by (find p (U x)) refl
+  -- the first one
+  pub first_found : {Z : Type 0} (g : Y → Z) (xs : List X) (i : ℕ) (x : X) (z : Z) → find p (flat_map U (take i xs)) ≡ None → i < length xs → x ≡ slice_index_or xs i x → Some z ≡ option_map g (find p (U x)) → Some z ≡ option_map g (find p (flat_map U xs))
+  first_found {Z = Z} g xs i x z none lt is h = by (find p (U x)) refl
     where
       by : (o : Option Y) → find p (U x) ≡ o → Some z ≡ option_map g (find p (flat_map U xs))
       by None e = absurd (none-some z (sym (h ∙ ap (option_map g) e)))
       by (Some y) e = h ∙ ap (option_map g) (e ∙ sym (found_at xs i x y none lt is e))
 
-  pub told_none : {Z : Type 0} (g : Y → Z) (xs : List X) (i : ℕ) → find p (flat_map U (take i xs)) ≡ None → length xs ≤ i → None ≡ option_map g (find p (flat_map U xs))
-  told_none g xs i none le = sym (ap (option_map g) (ap (λ l. find p (flat_map U l)) (sym (take_all i xs le)) ∙ none))
+  pub none_found : {Z : Type 0} (g : Y → Z) (xs : List X) (i : ℕ) → find p (flat_map U (take i xs)) ≡ None → length xs ≤ i → None ≡ option_map g (find p (flat_map U xs))
+  none_found g xs i none le = sym (ap (option_map g) (ap (λ l. find p (flat_map U l)) (sym (take_all i xs le)) ∙ none))
 
   pub none_of : {Z : Type 0} (g : Y → Z) (x : X) → None ≡ option_map g (find p (U x)) → find p (U x) ≡ None
   none_of {Z = Z} g x h = by (find p (U x)) refl

@@ -1,4 +1,4 @@
--- The first place of a fact, found by a loop over the places.
+-- The first index of a fact, found by a loop over the indices.
 use Rattle.std.proofs.Common.{◌≡◌, inl, inr, ℕ, ◌+◌, ◌<◌, Bool, true, false, List, [], Option, Some, None, Result, Ok, Err, IfOk, slice_get, refl, sym, ap, ◌∙◌, subst, arith, true≢false}
 use Rattle.std.proofs.lemmas.Bool.{cases_lt}
 use Rattle.std.proofs.lemmas.Option.{same_Some}
@@ -8,7 +8,7 @@ use Rattle.grammar_analysis.specs.Empty.{AreEmptyRules, alts_is_empty, flag}
 use Rattle.graph_cycles.specs.First.{IsFirstOrNone, Nowhere}
 use Rattle.grammar_analysis.specs.Loops.{alts_has_loop}
 use Rattle.grammar_check.specs.ParserFaults.{HasLoopAt, HasNoBaseAt}
-use Rattle.grammar_analysis.specs.Recursion.{has_alternative}
+use Rattle.direct_recursion.specs.Recursion.{has_alternative}
 use Rattle.grammar_analysis.proofs.CornerFacts.{alts_empty_of, alts_is_empty_of, loop_alts, looped_alts}
 
 module _ (P : ℕ → Type 0) where
@@ -21,7 +21,7 @@ module _ (P : ℕ → Type 0) where
   pub nowhere : (n : ℕ) → ((r : ℕ) → r < n → ¬ P r) → ((r : ℕ) → P r → r < n) → Nowhere P
   nowhere n none within r p = none r (within r p) p
 
-  -- the same, where another fact holds at the same places
+  -- the same, where another fact holds at the same indices
   pub same_first : (Q : ℕ → Type 0) → ((r : ℕ) → P r → Q r) → ((r : ℕ) → Q r → P r) → (o : Option ℕ) → IsFirstOrNone P o → IsFirstOrNone Q o
   same_first Q there back None h = λ r q. h r (back r q)
   same_first Q there back (Some i) h = record { holds = there i h.holds; before = λ j lt q. h.before j lt (back j q) }

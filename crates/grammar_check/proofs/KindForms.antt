@@ -78,7 +78,7 @@ kinds_append from (WrittenRule.lexer_rule r ∷ xs) ys =
     kinds_append (suc from) xs ys ∙ ap (λ n. written_kinds (suc from) xs ++ written_kinds n ys) (omega arith) in
     elim (cases_Bool r.fragment) [ inl f ↦ rw f more | inr f ↦ rw f (ap (λ l. (record { name = r.name; gap = r.gap; source = Source.written from }) ∷ l) more) ]
 
--- what has no place is not found
+-- what has no index is not found
 same_none : {X : Type 0} (p : X → Bool) (xs : List X) → is_none (position p xs) ≡ is_none (find p xs)
 same_none {X = X} p xs = by (position p xs) refl
   where

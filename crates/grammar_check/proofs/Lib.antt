@@ -5,7 +5,7 @@ pub mod FoundFirst
 pub mod Twins
 pub mod EofForms
 pub mod FindForms
-pub mod PlaceForms
+pub mod IndexForms
 pub mod UnknownForms
 pub mod AnswerForms
 pub mod Table

@@ -91,7 +91,7 @@ module _ (G : WrittenGrammar) (wanted : Option (List ℕ)) where
 
   pub first_named : (it : CheckFault) (P : ℕ → Type 0) (name : List ℕ) → IsOfRow (row it) P → HasNoneBefore G wanted (row it) →
       ((i : ℕ) → IsNamedAt G i name → P i → HoldsAt G wanted i it) → IsFirstNamed G P name → IsFirstInTable G wanted it
-  first_named it P name at none holds is = first_at it P at none is.place (holds is.place is.named is.first.holds) is.first.before
+  first_named it P name at none holds is = first_at it P at none is.index (holds is.index is.named is.first.holds) is.first.before
 
   pub none_at_all : HasNoneBefore G wanted 1
   none_at_all (TwoRules n) i lt h = omega (arith, lt)

@@ -1,4 +1,4 @@
--- Rules of one name, by their places.
+-- Rules of one name, by their indices.
 use Rattle.std.proofs.Common.{◌≡◌, inl, inr, ℕ, suc, ◌+◌, ◌<◌, ◌≤◌, Bool, true, cond, List, [], ◌∷◌, Option, Some, length, position, slice_get, slice_index_or, refl, sym, ap, ◌∙◌, subst, arith, true≢false}
 use Rattle.std.specs.List.{count_by}
 use Rattle.std.proofs.lemmas.Bool.{cases_Bool, cases_lt}
@@ -40,12 +40,12 @@ module _ {X : Type 0} (p : X → Bool) where
   ]
 
 module _ (G : WrittenGrammar) where
-  abbrev place_of : List ℕ → Option ℕ
-  place_of n = position (has_key Name n) G.rules
+  abbrev index_of : List ℕ → Option ℕ
+  index_of n = position (has_key Name n) G.rules
 
-  -- a place that a name has is a rule's of this name, and no later than any other such rule's
-  rule_of_place : (n : List ℕ) (i : ℕ) → place_of n ≡ Some i → (rule : WrittenRule) × (slice_get G.rules i ≡ Some rule) × (rule_name rule ≡ n) × ((k : ℕ) (x : WrittenRule) → slice_get G.rules k ≡ Some x → rule_name x ≡ n → i ≤ k)
-  rule_of_place n i e =
+  -- an index that a name has is a rule's of this name, and no later than any other such rule's
+  rule_of_index : (n : List ℕ) (i : ℕ) → index_of n ≡ Some i → (rule : WrittenRule) × (slice_get G.rules i ≡ Some rule) × (rule_name rule ≡ n) × ((k : ℕ) (x : WrittenRule) → slice_get G.rules k ≡ Some x → rule_name x ≡ n → i ≤ k)
+  rule_of_index n i e =
       let none = WrittenRule.parser_rule (record { name = []; alts = WrittenAlts.none }) in
       let found = position-Some (has_key Name n) G.rules i none e in
       let rule = slice_index_or G.rules i none in (
@@ -60,47 +60,47 @@ module _ (G : WrittenGrammar) where
         ],
       )
 
-  has_place : (k : ℕ) (x : WrittenRule) → slice_get G.rules k ≡ Some x → (i : ℕ) × (place_of (rule_name x) ≡ Some i)
-  has_place k x at = some_position (has_key Name (rule_name x)) G.rules x (contains_at G.rules k x at) ((bytes_eq-Decides (rule_name x) (rule_name x)).1 refl)
+  has_index : (k : ℕ) (x : WrittenRule) → slice_get G.rules k ≡ Some x → (i : ℕ) × (index_of (rule_name x) ≡ Some i)
+  has_index k x at = some_position (has_key Name (rule_name x)) G.rules x (contains_at G.rules k x at) ((bytes_eq-Decides (rule_name x) (rule_name x)).1 refl)
 
-  -- two places of one name
+  -- two indices of one name
   twins : (i j : ℕ) (a b : WrittenRule) (n : List ℕ) → i < j → slice_get G.rules i ≡ Some a → slice_get G.rules j ≡ Some b → rule_name a ≡ n → rule_name b ≡ n → TwoRules G n
   twins i j a b n lt at at' e f = passes_twice (λ rule. same_text (rule_name rule) n) G.rules i j a b lt at at' ((bytes_eq-Decides (rule_name a) n).1 e) ((bytes_eq-Decides (rule_name b) n).1 f)
 
-  pub one_more : (first place : ℕ) (rule : WrittenRule) (least : ℕ) → AreFirstSoFar G first place → slice_get G.rules place ≡ Some rule → IsEarliest (place_of (rule_name rule)) place first least → AreFirstSoFar G least (place + 1)
-  one_more first place rule least far at is =
+  pub one_more : (first index : ℕ) (rule : WrittenRule) (least : ℕ) → AreFirstSoFar G first index → slice_get G.rules index ≡ Some rule → IsEarliest (index_of (rule_name rule)) index first least → AreFirstSoFar G least (index + 1)
+  one_more first index rule least far at is =
       record {
-        least = λ k p x lt at' e below. elim (cases_lt k place) [
+        least = λ k p x lt at' e below. elim (cases_lt k index) [
           | inl before ↦ omega (arith, is.below, far.least k p x before at' e below)
           | inr last ↦
-              let same : k ≡ place = omega arith in
+              let same : k ≡ index = omega arith in
               let rules : x ≡ rule = same_Some x rule (sym at' ∙ ap (slice_get G.rules) same ∙ at) in
-              is.counts p (ap (λ r. place_of (rule_name r)) (sym rules) ∙ e) (omega (arith, same, below))
+              is.counts p (ap (λ r. index_of (rule_name r)) (sym rules) ∙ e) (omega (arith, same, below))
         ];
         twin = λ lt. elim is.is [
           | inl same ↦ let P : ℕ → Type 0 = λ m. IsTwinAt G m in subst P (sym same) (far.twin (omega (arith, same, lt)))
           | inr new ↦
-              let it = rule_of_place (rule_name rule) least new.0 in
-              (it.0, it.1, twins least place it.0 rule (rule_name it.0) new.1 it.1 at refl (sym it.2))
+              let it = rule_of_index (rule_name rule) least new.0 in
+              (it.0, it.1, twins least index it.0 rule (rule_name it.0) new.1 it.1 at refl (sym it.2))
         ];
       }
 
   pub none_yet : (n : ℕ) → length G.rules ≤ n → AreFirstSoFar G n 0
   none_yet n le = record { least = λ k p x lt at e below. absurd (omega (arith, lt)); twin = λ lt. absurd (omega (arith, lt, le)) }
 
-  -- where some rule has a twin, the first of its name stands before another
+  -- where some rule has a twin, the first of its name is before another
   twin_least : (first n i : ℕ) → length G.rules ≤ n → AreFirstSoFar G first n → IsTwinAt G i → (first ≤ i) × (first < length G.rules)
   twin_least first n i le far (rule, at, two) =
       let it = two_pass (λ r. same_text (rule_name r) (rule_name rule)) G.rules two in
       let left : rule_name it.2 ≡ rule_name rule = (bytes_eq-Decides (rule_name it.2) (rule_name rule)).0 it.7 in
       let right : rule_name it.3 ≡ rule_name rule = (bytes_eq-Decides (rule_name it.3) (rule_name rule)).0 it.8 in
-      let place = has_place it.1 it.3 it.6 in
-      let of = rule_of_place (rule_name it.3) place.0 place.1 in
-      let before_left = of.3 it.0 it.2 it.5 (left ∙ sym right) in
+      let index = has_index it.1 it.3 it.6 in
+      let of = rule_of_index (rule_name it.3) index.0 index.1 in
+      let before_first = of.3 it.0 it.2 it.5 (left ∙ sym right) in
       let before_it = of.3 i rule at (sym right) in
       let within = slice_get_within G.rules it.1 it.3 it.6 in
-      let least = far.least it.1 place.0 it.3 (omega (arith, within, le)) it.6 place.1 (omega (arith, before_left, it.4)) in
-      (omega (arith, least, before_it), omega (arith, least, before_left, it.4, within))
+      let least = far.least it.1 index.0 it.3 (omega (arith, within, le)) it.6 index.1 (omega (arith, before_first, it.4)) in
+      (omega (arith, least, before_it), omega (arith, least, before_first, it.4, within))
 
   pub first_is : (first n : ℕ) → length G.rules ≤ n → AreFirstSoFar G first n → first < length G.rules → IsFirst (IsTwinAt G) first
   first_is first n le far lt = record { holds = far.twin lt; before = λ j below two. omega (arith, (twin_least first n j le far two).0, below) }
@@ -108,7 +108,7 @@ module _ (G : WrittenGrammar) where
   pub no_twin : (first n : ℕ) → length G.rules ≤ n → AreFirstSoFar G first n → length G.rules ≤ first → Nowhere (IsTwinAt G)
   no_twin first n le far past i two = omega (arith, (twin_least first n i le far two).1, past)
 
-  -- without twins no name is two rules', and no two places have one
+  -- without twins no name is two rules', and no two indices have one
   pub no_two : Nowhere (IsTwinAt G) → (name : List ℕ) → ¬ TwoRules G name
   no_two none name two =
       let it = two_pass (λ r. same_text (rule_name r) name) G.rules two in

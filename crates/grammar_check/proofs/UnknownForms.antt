@@ -1,4 +1,4 @@
--- The test of a use says what is told of it, and the first use that fails it is the first unknown one.
+-- The test of a use says what holds of it, and the first use that fails it is the first unknown one.
 use Rattle.std.proofs.Common.{◌≡◌, inl, inr, ℕ, zero, suc, ◌<◌, Bool, true, false, not, ◌&&◌, cond, List, [], ◌∷◌, Option, Some, None, map, slice_get, slice_index_or, refl, sym, ap, ◌∙◌, subst, arith, true≢false}
 use Rattle.std.specs.Prelude.{filter, find, is_none, option_map}
 use Rattle.std.specs.List.{Contains}
@@ -14,11 +14,11 @@ use Rattle.grammar_tree.proofs.Elements.{contains_cases, contains_filter, contai
 use Rattle.grammar_tree.proofs.Names.{some_position}
 use Rattle.grammar_tree.proofs.Places.{contains_at, lexer_places, numbers}
 use Rattle.grammar_tree.proofs.Resolved.{names_nothing}
-use Rattle.grammar_analysis.specs.Lexer.{lexer_place}
+use Rattle.grammar_analysis.specs.Lexer.{lexer_index}
 use Rattle.grammar_analysis.specs.Rules.{has_key}
 use Rattle.grammar_analysis.specs.declared.rules.Key.TheVariants.{LexerName}
 use Rattle.grammar_check.specs.Unknown.{IsFirstUnknown, is_unknown}
-use Rattle.grammar_analysis.proofs.LexerFacts.{contains_rule, rule_of_place}
+use Rattle.grammar_analysis.proofs.LexerFacts.{contains_rule, rule_of_index}
 
 distinct_are : (ts : List (List ℕ)) (t : List ℕ) → Contains (distinct ts) t → Contains ts t
 distinct_are [] t c = absurd (contains_none t c)
@@ -101,15 +101,15 @@ module _ (G : WrittenGrammar) where
   abbrev lexer_names : List (List ℕ)
   lexer_names = map (λ (r : LexerRule). r.name) (lexer_rules G.rules)
 
-  is_lexer_rule : (n : List ℕ) → Contains lexer_names n → (i : ℕ) × (lexer_place G.rules n ≡ Some i)
+  is_lexer_rule : (n : List ℕ) → Contains lexer_names n → (i : ℕ) × (lexer_index G.rules n ≡ Some i)
   is_lexer_rule n c =
       let it = mapped (λ (r : LexerRule). r.name) (lexer_rules G.rules) n c in
       let at = lexer_places G it.0 it.1 in
       some_position (has_key LexerName n) G.rules (WrittenRule.lexer_rule it.0) (contains_at G.rules at.0 (WrittenRule.lexer_rule it.0) at.1) ((bytes_eq-Decides it.0.name n).1 it.2)
 
-  not_lexer_rule : (n : List ℕ) (i : ℕ) → lexer_place G.rules n ≡ Some i → Contains lexer_names n
+  not_lexer_rule : (n : List ℕ) (i : ℕ) → lexer_index G.rules n ≡ Some i → Contains lexer_names n
   not_lexer_rule n i e =
-      let it = rule_of_place G.rules n i e in
+      let it = rule_of_index G.rules n i e in
       let P : List ℕ → Type 0 = λ x. Contains lexer_names x in
       subst P it.2 (contains_map (λ (r : LexerRule). r.name) (lexer_rules G.rules) it.0 (contains_rule G.rules i it.0 it.1))
 
@@ -119,13 +119,13 @@ module _ (G : WrittenGrammar) where
       names_nothing G n (none_of_test (rule_number G n) parts.0) (none_of_test (name_kind G n) parts.1)
   is_so (NameUse.by_lexer_rule n) e = λ c.
       let at = is_lexer_rule n c in
-      none-some at.0 (sym (none_of_test (lexer_place G.rules n) e) ∙ at.1)
+      none-some at.0 (sym (none_of_test (lexer_index G.rules n) e) ∙ at.1)
 
   pub says_so : (it : NameUse) → IsUnknown G it → is_unknown G it ≡ true
   says_so (NameUse.by_parser_rule n) h = ap (λ o. is_none o && is_none (name_kind G n)) (no_number n h) ∙ ap is_none (no_kind n h)
-  says_so (NameUse.by_lexer_rule n) h = by (lexer_place G.rules n) refl
+  says_so (NameUse.by_lexer_rule n) h = by (lexer_index G.rules n) refl
     where
-      by : (o : Option ℕ) → lexer_place G.rules n ≡ o → is_none (lexer_place G.rules n) ≡ true
+      by : (o : Option ℕ) → lexer_index G.rules n ≡ o → is_none (lexer_index G.rules n) ≡ true
       by None e = ap is_none e
       by (Some i) e = absurd (h (not_lexer_rule n i e))
 
@@ -139,23 +139,23 @@ module _ {X : Type 0} (p : X → Bool) where
   ]
 
   record IsFound (xs : List X) (y : X) : Type 0 where
-    place : ℕ
-    at : slice_get xs place ≡ Some y
+    index : ℕ
+    at : slice_get xs index ≡ Some y
     passes : p y ≡ true
-    before : (j : ℕ) (x : X) → j < place → slice_get xs j ≡ Some x → p x ≡ true → ⊥
+    before : (j : ℕ) (x : X) → j < index → slice_get xs j ≡ Some x → p x ≡ true → ⊥
 
   the_first : (xs : List X) (y : X) → find p xs ≡ Some y → IsFound xs y
   the_first [] y e = absurd (none-some y e)
   the_first (x ∷ xs) y e = elim (cases_Bool (p x)) [
     | inl passes ↦
         let same : x ≡ y = same_Some x y (sym (ap (λ b. cond b (Some x) (find p xs)) passes) ∙ e) in
-        record { place = 0; at = ap Some same; passes = sym (ap p same) ∙ passes; before = λ j z lt at t. omega (arith, lt) }
+        record { index = 0; at = ap Some same; passes = sym (ap p same) ∙ passes; before = λ j z lt at t. omega (arith, lt) }
     | inr fails ↦
         let it = the_first xs y (sym (ap (λ b. cond b (Some x) (find p xs)) fails) ∙ e) in
-        record { place = suc it.place; at = it.at; passes = it.passes; before = earlier it fails }
+        record { index = suc it.index; at = it.at; passes = it.passes; before = earlier it fails }
   ]
     where
-      earlier : (it : IsFound xs y) → p x ≡ false → (j : ℕ) (z : X) → j < suc it.place → slice_get (x ∷ xs) j ≡ Some z → p z ≡ true → ⊥
+      earlier : (it : IsFound xs y) → p x ≡ false → (j : ℕ) (z : X) → j < suc it.index → slice_get (x ∷ xs) j ≡ Some z → p z ≡ true → ⊥
       earlier it fails zero z lt at t = true≢false (sym t ∙ ap p (sym (same_Some x z at)) ∙ fails)
       earlier it fails (suc j) z lt at t = it.before j z (omega (arith, lt)) at t
 
@@ -170,7 +170,7 @@ module _ (G : WrittenGrammar) where
       by (Some it) g (Some name) e =
           let named : name ≡ used_name it = same_Some name (used_name it) (e ∙ ap (option_map used_name) g) in
           let found = the_first (is_unknown G) (name_uses G) it g in (
-            found.place,
+            found.index,
             record { holds = (it, found.at, is_so G it found.passes); before = λ j lt h. found.before j h.0 lt h.1 (says_so G h.0 h.2) },
             (it, found.at, sym named, is_so G it found.passes),
           )

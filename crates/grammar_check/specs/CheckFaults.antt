@@ -63,7 +63,7 @@ HasNoneBefore G wanted k = (other : CheckFault) (i : ℕ) → row other < k → 
 -- of the rows of the lexer: its first fault; or that it has none, and the first empty loop of a lexer rule
 abbrev pub IsLexerAnswer : WrittenGrammar → Option (List ℕ) → LexerAnswer → Type 0
 IsLexerAnswer G wanted (Faulty it) = IsFirstInTable G wanted it
-IsLexerAnswer G wanted (Sound place) = HasNoneBefore G wanted 8 × IsFirstOrNone (LexerLoopAt G) place
+IsLexerAnswer G wanted (Sound index) = HasNoneBefore G wanted 8 × IsFirstOrNone (LexerLoopAt G) index
 
 -- of the rows of the parser: its first fault, or that it has none
 abbrev pub IsParserAnswer : WrittenGrammar → Option (List ℕ) → Option CheckFault → Type 0

@@ -21,6 +21,6 @@ abbrev pub is_looping_rule : (List ℕ → Option ℕ) → (ℕ → Bool) → Wr
 is_looping_rule f e (WrittenRule.parser_rule r) = false
 is_looping_rule f e (WrittenRule.lexer_rule r) = lexer_alts_have_loop f e r.alts
 
--- The lexer rule at this place has a star or plus over a term that matches the empty text.
+-- The lexer rule at this index has a star or plus over a term that matches the empty text.
 abbrev pub LexerLoopAt : WrittenGrammar → ℕ → Type 0
 LexerLoopAt G i = AtLexerRule G i (λ rule. LexerHasEmptyLoopAlts (lexer_rules G.rules) rule.alts)

@@ -5,7 +5,7 @@ pub mod LexerFaults
 pub mod Twins
 pub mod Eof
 pub mod Unknown
-pub mod ParserPlaces
+pub mod ParserIndices
 pub mod Answer
 pub mod CheckFaults
 pub mod Messages

@@ -17,6 +17,6 @@ HasLoopAt G r = (a : Alts) × (slice_get G r ≡ Some a) × (HasEmptyLoopAlts G 
 abbrev pub LeadsBackAt : List Alts → ℕ → Type 0
 LeadsBackAt G r = LeadsTo G r r
 
--- The parser rule at this place has a star or plus over a term that can be empty, or a rest that can be.
+-- The parser rule at this index has a star or plus over a term that can be empty, or a rest that can be.
 abbrev pub ParserLoopAt : WrittenGrammar → ℕ → Type 0
 ParserLoopAt G i = AtParserRule G i (λ rule. HasEmptyLoopAlts (bodies G) (resolved_alts G rule.alts) ⊎ DerivesAlts (bodies G) (rests (number_at G i) (resolved_alts G rule.alts)) [])

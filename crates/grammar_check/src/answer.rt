@@ -5,7 +5,7 @@ ghost use Rattle.grammar_tree.specs.GrammarView.{grammar_of, rule_of};
 ghost use Rattle.grammar_check.specs.Answer.{IsNamedOrNone, name_at};
 ghost use Rattle.grammar_check.specs.Twins.{IsTwinAt};
 ghost use Rattle.grammar_tree.specs.Faults.{EofPlace, FragmentLoop};
-ghost use Rattle.grammar_analysis.specs.Lexer.{OneRule, lexer_rows};
+ghost use Rattle.grammar_analysis.specs.Lexer.{OneRule, lexer_edges};
 
 use crate::eof::first_misplaced_eof;
 use crate::lexer_checks::first_fragment_loop;
@@ -14,15 +14,15 @@ use faults::Memory;
 use grammar_tree::{Grammar, Text};
 use std::alloc::Global;
 
-/// The name of the rule at a place.
-pub(crate) fn name_at(grammar: &Grammar, place: Option<usize>) -> Result<Option<Text>, Memory>
-    ensures { IfOk result (λ name. name ≡ name_at (grammar_of grammar.now) place) }
+/// The name of the rule at an index.
+pub(crate) fn name_at(grammar: &Grammar, index: Option<usize>) -> Result<Option<Text>, Memory>
+    ensures { IfOk result (λ name. name ≡ name_at (grammar_of grammar.now) index) }
 {
-    match place {
+    match index {
         None => Ok(None),
-        Some(place) => {
-            if place < grammar.rules.len() {
-                let name = name_of(&grammar.rules[place]).copy()?;
+        Some(index) => {
+            if index < grammar.rules.len() {
+                let name = name_of(&grammar.rules[index]).copy()?;
                 Ok(Some(name))
             } else {
                 Ok(None)
@@ -36,8 +36,8 @@ pub(crate) fn twin(alloc: Global, grammar: &Grammar) -> Result<Option<Text>, Mem
     requires { length grammar.now.rules.items < 2 ^ 32 }
     ensures { IfOk result (IsNamedOrNone (grammar_of grammar.now) (IsTwinAt (grammar_of grammar.now))) }
 {
-    let place = first_twin(alloc, grammar)?;
-    let name = name_at(grammar, place)?;
+    let index = first_twin(alloc, grammar)?;
+    let name = name_at(grammar, index)?;
     Ok(name)
 }
 
@@ -49,8 +49,8 @@ pub(crate) fn misplaced_eof(
 ) -> Result<Option<Text>, Memory>
     ensures { IfOk result (IsNamedOrNone (grammar_of grammar.now) (EofPlace (grammar_of grammar.now) start)) }
 {
-    let place = first_misplaced_eof(alloc, grammar, start)?;
-    let name = name_at(grammar, place)?;
+    let index = first_misplaced_eof(alloc, grammar, start)?;
+    let name = name_at(grammar, index)?;
     Ok(name)
 }
 
@@ -58,14 +58,14 @@ pub(crate) fn misplaced_eof(
 pub(crate) fn fragment_loop(
     alloc: Global,
     grammar: &Grammar,
-    rows: &[Vec<u32>],
+    edges: &[Vec<u32>],
 ) -> Result<Option<Text>, Memory>
     requires small { length grammar.now.rules.items < 2 ^ 32 }
     requires one { OneRule (map rule_of grammar.now.rules.items) }
-    requires rows { map (λ row. row.items) rows.now ≡ lexer_rows (map rule_of grammar.now.rules.items) }
+    requires edges { map (λ successors. successors.items) edges.now ≡ lexer_edges (map rule_of grammar.now.rules.items) }
     ensures { IfOk result (IsNamedOrNone (grammar_of grammar.now) (FragmentLoop (grammar_of grammar.now))) }
 {
-    let place = first_fragment_loop(alloc, grammar, rows)?;
-    let name = name_at(grammar, place)?;
+    let index = first_fragment_loop(alloc, grammar, edges)?;
+    let name = name_at(grammar, index)?;
     Ok(name)
 }

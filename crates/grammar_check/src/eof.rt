@@ -1,4 +1,4 @@
-//! Where `EOF` stands in parser rules.
+//! Where `EOF` is in parser rules.
 
 ghost use Rattle.std.specs.Prelude.{◌≡◌, ◌++◌, ◌∷◌, [], ℕ, ◌<◌, List, Option, IfOk, OnOk, is_some, map};
 ghost use Rattle.std.specs.List.{filter_map};
@@ -19,7 +19,7 @@ use grammar_names::Index;
 use grammar_tree::{Grammar, ParserAlts, ParserTerm, ParserTerms, Rule, TokenRef};
 use std::alloc::Global;
 
-/// Whether `EOF` stands in the term.
+/// Whether `EOF` is in the term.
 #[cycle(eof)]
 fn term_has_eof(term: &ParserTerm) -> bool
     ensures { result ≡ has_eof (parser_term term.now) }
@@ -60,7 +60,7 @@ fn alts_have_eof(alts: &ParserAlts) -> bool
     false
 }
 
-/// Whether `EOF` stands in the term, other than as the last term of an alternative.
+/// Whether `EOF` is in the term, other than as the last term of an alternative.
 fn term_is_misplaced(term: &ParserTerm, is_last: bool) -> bool
     ensures { result ≡ is_misplaced_term (parser_term term.now) is_last }
 {
@@ -74,7 +74,7 @@ fn term_is_misplaced(term: &ParserTerm, is_last: bool) -> bool
     }
 }
 
-/// Whether `EOF` stands in the alternative other than as its last term.
+/// Whether `EOF` is in the alternative other than as its last term.
 fn terms_are_misplaced(terms: &ParserTerms) -> bool
     ensures { result ≡ is_misplaced_in (written_seq (parser_terms terms.now)) }
 {
@@ -86,7 +86,7 @@ fn terms_are_misplaced(terms: &ParserTerms) -> bool
     false
 }
 
-/// Whether `EOF` stands in an alternative other than as its last term.
+/// Whether `EOF` is in an alternative other than as its last term.
 fn some_is_misplaced(alts: &ParserAlts) -> bool
     ensures { result ≡ is_misplaced (written_alts (parser_alts alts.now)) }
 {
@@ -122,7 +122,7 @@ fn used_names(alloc: Global, references: &[TokenRef]) -> Result<Index, Memory>
     Ok(used)
 }
 
-/// Whether `EOF` is misplaced in the rule, or stands in it though it isn't the start and is used.
+/// Whether `EOF` is misplaced in the rule, or is in it though it isn't the start and is used.
 fn rule_is_misplaced(rule: &Rule, is_start: bool, is_used: bool) -> bool
     ensures { result ≡ is_misplaced_rule (rule_of rule.now) is_start is_used }
 {
@@ -145,11 +145,11 @@ pub(crate) fn first_misplaced_eof(
 {
     let references = references_of(alloc, &grammar.rules)?;
     let used = used_names(alloc, &references)?;
-    for place in 0..grammar.rules.len() {
-        let rule = &grammar.rules[place];
+    for index in 0..grammar.rules.len() {
+        let rule = &grammar.rules[index];
         let is_used = used.get(name_of(rule)).is_some();
-        if rule_is_misplaced(rule, place == start, is_used) {
-            return Ok(Some(place));
+        if rule_is_misplaced(rule, index == start, is_used) {
+            return Ok(Some(index));
         }
     }
     Ok(None)

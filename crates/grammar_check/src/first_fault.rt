@@ -47,7 +47,7 @@ pub(crate) fn first_fault(
     }
     match lexer_fault(alloc, grammar, &lexer)? {
         LexerAnswer::Faulty(fault) => Ok(Answer::Broken(fault)),
-        LexerAnswer::Sound(place) => match parser_fault(alloc, grammar, &names, place)? {
+        LexerAnswer::Sound(index) => match parser_fault(alloc, grammar, &names, index)? {
             Some(fault) => Ok(Answer::Broken(fault)),
             None => Ok(Answer::Fine { start }),
         },

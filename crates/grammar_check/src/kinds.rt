@@ -31,7 +31,7 @@ fn add_distinct(
     Ok(())
 }
 
-/// Each of the texts once, in the order in which they first stand.
+/// Each of the texts once, in the order in which they first occur.
 fn distinct_texts(alloc: Global, texts: &[Text]) -> Result<Vec<Text>, Memory>
     ensures { IfOk result (λ found. found.items ≡ distinct texts.now) }
 {
@@ -67,16 +67,16 @@ fn literals_of(alloc: Global, references: &[TokenRef]) -> Result<Vec<Text>, Memo
     Ok(found)
 }
 
-/// Adds a kind for a text, unless it has a place in the index.
+/// Adds a kind for a text, unless the index has it.
 fn add_absent(
     text: &Text,
-    places: &Index,
+    indices: &Index,
     source: KindSource,
     kinds: &mut Vec<Kind>,
 ) -> Result<(), Memory>
-    ensures { (f : List ℕ → Option ℕ) → Finds places.now f → OnOk result (map kind_of kinds.new.items ≡ map kind_of kinds.old.items ++ map (plain_kind (source_of source)) (absent f (text.now ∷ []))) }
+    ensures { (f : List ℕ → Option ℕ) → Finds indices.now f → OnOk result (map kind_of kinds.new.items ≡ map kind_of kinds.old.items ++ map (plain_kind (source_of source)) (absent f (text.now ∷ []))) }
 {
-    if places.get(text).is_some() {
+    if indices.get(text).is_some() {
         return Ok(());
     }
     kinds.push(Kind {
@@ -87,24 +87,24 @@ fn add_absent(
     Ok(())
 }
 
-/// Adds a kind for each text that has no place in the index.
+/// Adds a kind for each text that the index has not.
 fn add_all_absent(
     texts: &[Text],
-    places: &Index,
+    indices: &Index,
     source: KindSource,
     kinds: &mut Vec<Kind>,
 ) -> Result<(), Memory>
-    ensures { (f : List ℕ → Option ℕ) → Finds places.now f → OnOk result (map kind_of kinds.new.items ≡ map kind_of kinds.old.items ++ map (plain_kind (source_of source)) (absent f texts.now)) }
+    ensures { (f : List ℕ → Option ℕ) → Finds indices.now f → OnOk result (map kind_of kinds.new.items ≡ map kind_of kinds.old.items ++ map (plain_kind (source_of source)) (absent f texts.now)) }
 {
     for text in texts {
-        add_absent(text, places, source, kinds)?;
+        add_absent(text, indices, source, kinds)?;
     }
     Ok(())
 }
 
 /// Adds the kind of a lexer rule that isn't a fragment.
-fn add_written(rule: &Rule, place: u32, kinds: &mut Vec<Kind>) -> Result<(), Memory>
-    ensures { OnOk result (map kind_of kinds.new.items ≡ map kind_of kinds.old.items ++ written_kinds place (rule_of rule.now ∷ [])) }
+fn add_written(rule: &Rule, index: u32, kinds: &mut Vec<Kind>) -> Result<(), Memory>
+    ensures { OnOk result (map kind_of kinds.new.items ≡ map kind_of kinds.old.items ++ written_kinds index (rule_of rule.now ∷ [])) }
 {
     match rule {
         Rule::Lexer {
@@ -116,7 +116,7 @@ fn add_written(rule: &Rule, place: u32, kinds: &mut Vec<Kind>) -> Result<(), Mem
             kinds.push(Kind {
                 name: name.copy()?,
                 gap: *gap,
-                source: KindSource::Written(place),
+                source: KindSource::Written(index),
             })?;
             Ok(())
         }
@@ -129,8 +129,8 @@ fn add_all_written(rules: &[Rule], kinds: &mut Vec<Kind>) -> Result<(), Memory>
     requires { length rules.now < 2 ^ 32 }
     ensures { OnOk result (map kind_of kinds.new.items ≡ map kind_of kinds.old.items ++ written_kinds 0 (map rule_of rules.now)) }
 {
-    for (place, rule) in rules.iter().enumerate() {
-        add_written(rule, place as u32, kinds)?;
+    for (index, rule) in rules.iter().enumerate() {
+        add_written(rule, index as u32, kinds)?;
     }
     Ok(())
 }

@@ -1,11 +1,11 @@
-//! The first lexer rule with each fault, by its place.
+//! The first lexer rule with each fault, by its index.
 
 ghost use Rattle.std.specs.Prelude.{◌≡◌, ℕ, ◌<◌, ◌^◌, List, IfOk, length, map};
 ghost use Rattle.grammar_tree.specs.Faults.{EmptyToken, FragmentLoop};
 ghost use Rattle.grammar_tree.specs.GrammarView.{grammar_of, rule_of};
 ghost use Rattle.grammar_analysis.specs.Empty.{flag};
 ghost use Rattle.graph_cycles.specs.First.{IsFirstOrNone};
-ghost use Rattle.grammar_analysis.specs.Lexer.{AreEmptyPlaces, OneRule, lexer_place, lexer_rows};
+ghost use Rattle.grammar_analysis.specs.Lexer.{AreEmptyLexerRules, OneRule, lexer_index, lexer_edges};
 ghost use Rattle.grammar_check.specs.LexerFaults.{LexerLoopAt, is_empty_token, is_looping_rule};
 
 use faults::Memory;
@@ -18,14 +18,14 @@ use std::alloc::Global;
 pub(crate) fn first_fragment_loop(
     alloc: Global,
     grammar: &Grammar,
-    rows: &[Vec<u32>],
+    edges: &[Vec<u32>],
 ) -> Result<Option<usize>, Memory>
     requires small { length grammar.now.rules.items < 2 ^ 32 }
     requires one { OneRule (map rule_of grammar.now.rules.items) }
-    requires rows { map (λ row. row.items) rows.now ≡ lexer_rows (map rule_of grammar.now.rules.items) }
+    requires edges { map (λ successors. successors.items) edges.now ≡ lexer_edges (map rule_of grammar.now.rules.items) }
     ensures { IfOk result (IsFirstOrNone (FragmentLoop (grammar_of grammar.now))) }
 {
-    first_on_cycle(alloc, rows)
+    first_on_cycle(alloc, edges)
 }
 
 /// Whether the rule makes tokens, and matches the empty text by what a table says of it.
@@ -41,13 +41,13 @@ fn makes_empty_token(rule: &Rule, empty: bool) -> bool
 /// The first lexer rule that isn't a fragment and matches the empty text.
 pub(crate) fn first_empty_token(grammar: &Grammar, flags: &[bool]) -> Option<usize>
     requires small { length grammar.now.rules.items < 2 ^ 32 }
-    requires empty { AreEmptyPlaces (map rule_of grammar.now.rules.items) flags.now }
+    requires empty { AreEmptyLexerRules (map rule_of grammar.now.rules.items) flags.now }
     ensures { IsFirstOrNone (EmptyToken (grammar_of grammar.now)) result }
 {
-    for place in 0..grammar.rules.len() {
-        let empty = is_flagged(flags, place as u32);
-        if makes_empty_token(&grammar.rules[place], empty) {
-            return Some(place);
+    for index in 0..grammar.rules.len() {
+        let empty = is_flagged(flags, index as u32);
+        if makes_empty_token(&grammar.rules[index], empty) {
+            return Some(index);
         }
     }
     None
@@ -55,7 +55,7 @@ pub(crate) fn first_empty_token(grammar: &Grammar, flags: &[bool]) -> Option<usi
 
 /// Whether the rule is a lexer rule with a star or plus over what matches the empty text.
 fn has_empty_loop(rule: &Rule, names: &LexerNames, flags: &[bool]) -> bool
-    ensures { result ≡ is_looping_rule (lexer_place (map rule_of names.now.rules.now)) (flag flags.now) (rule_of rule.now) }
+    ensures { result ≡ is_looping_rule (lexer_index (map rule_of names.now.rules.now)) (flag flags.now) (rule_of rule.now) }
 {
     match rule {
         Rule::Parser { .. } => false,
@@ -71,12 +71,12 @@ pub(crate) fn first_lexer_loop(
 ) -> Option<usize>
     requires one { OneRule (map rule_of grammar.now.rules.items) }
     requires names { names.now.rules.now ≡ grammar.now.rules.items }
-    requires empty { AreEmptyPlaces (map rule_of grammar.now.rules.items) flags.now }
+    requires empty { AreEmptyLexerRules (map rule_of grammar.now.rules.items) flags.now }
     ensures { IsFirstOrNone (LexerLoopAt (grammar_of grammar.now)) result }
 {
-    for place in 0..grammar.rules.len() {
-        if has_empty_loop(&grammar.rules[place], names, flags) {
-            return Some(place);
+    for index in 0..grammar.rules.len() {
+        if has_empty_loop(&grammar.rules[index], names, flags) {
+            return Some(index);
         }
     }
     None

@@ -10,7 +10,7 @@ use crate::fault::CheckFault;
 use crate::lexer_checks::{first_empty_token, first_lexer_loop};
 use crate::rule_checks::first_short_use;
 use faults::Memory;
-use grammar_analysis::{LexerNames, empty_places, lexer_rows};
+use grammar_analysis::{LexerNames, empty_lexer_rules, lexer_edges};
 use grammar_tree::Grammar;
 use std::alloc::Global;
 
@@ -33,15 +33,15 @@ pub(crate) fn lexer_fault(
     requires names { names.now.rules.now ≡ grammar.now.rules.items }
     ensures { (wanted : Option (List ℕ)) → HasNoneBefore (grammar_of grammar.now) wanted 5 → IfOk result (IsLexerAnswer (grammar_of grammar.now) wanted) }
 {
-    let rows = lexer_rows(alloc, names)?;
-    if let Some(rule) = fragment_loop(alloc, grammar, &rows)? {
+    let edges = lexer_edges(alloc, names)?;
+    if let Some(rule) = fragment_loop(alloc, grammar, &edges)? {
         return Ok(LexerAnswer::Faulty(CheckFault::FragmentLoop { rule }));
     }
-    let place = first_short_use(alloc, grammar, &rows)?;
-    if let Some(rule) = name_at(grammar, place)? {
+    let index = first_short_use(alloc, grammar, &edges)?;
+    if let Some(rule) = name_at(grammar, index)? {
         return Ok(LexerAnswer::Faulty(CheckFault::ShortUse { rule }));
     }
-    let flags = empty_places(alloc, names)?;
+    let flags = empty_lexer_rules(alloc, names)?;
     let token = first_empty_token(grammar, &flags);
     if let Some(rule) = name_at(grammar, token)? {
         return Ok(LexerAnswer::Faulty(CheckFault::EmptyToken { rule }));

@@ -13,9 +13,9 @@ mod kinds;
 mod laws;
 mod lexer_checks;
 mod lexer_fault;
+mod parser_checks;
 mod parser_fault;
-mod parser_places;
-mod parser_rows;
+mod parser_indices;
 mod rule_checks;
 mod unknown;
 

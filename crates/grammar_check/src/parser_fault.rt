@@ -9,8 +9,8 @@ ghost use Rattle.grammar_check.specs.LexerFaults.{LexerLoopAt};
 
 use crate::answer::name_at;
 use crate::fault::CheckFault;
-use crate::parser_places::{
-    first_empty_loop, parser_places, place_left_recursive, place_with_loop, place_without_base,
+use crate::parser_indices::{
+    first_empty_loop, index_with_loop, index_without_base, left_recursive_index, parser_indices,
 };
 use faults::Memory;
 use grammar_analysis::{empty_bodies, normal_count, numbered_bodies};
@@ -31,19 +31,19 @@ pub(crate) fn parser_fault(
     requires lexer { IsFirstOrNone (LexerLoopAt (grammar_of grammar.now)) lexer_loop }
     ensures { (wanted : Option (List ℕ)) → HasNoneBefore (grammar_of grammar.now) wanted 8 → IfOk result (IsParserAnswer (grammar_of grammar.now) wanted) }
 {
-    let places = parser_places(alloc, &grammar.rules)?;
+    let indices = parser_indices(alloc, &grammar.rules)?;
     let rules = numbered_bodies(alloc, grammar, names)?;
-    let base = place_without_base(&rules, names, &places);
+    let base = index_without_base(&rules, names, &indices);
     if let Some(rule) = name_at(grammar, base)? {
         return Ok(Some(CheckFault::NoBase { rule }));
     }
     let flags = empty_bodies(alloc, &rules, names)?;
-    let inner = place_with_loop(&rules, names, &flags, &places);
+    let inner = index_with_loop(&rules, names, &flags, &indices);
     let empty = first_empty_loop(grammar, inner, lexer_loop);
     if let Some(rule) = name_at(grammar, empty)? {
         return Ok(Some(CheckFault::EmptyLoop { rule }));
     }
-    let corner = place_left_recursive(alloc, &rules, names, &flags, &places)?;
+    let corner = left_recursive_index(alloc, &rules, names, &flags, &indices)?;
     if let Some(rule) = name_at(grammar, corner)? {
         return Ok(Some(CheckFault::LeftRecursion { rule }));
     }

@@ -7,7 +7,7 @@ ghost use Rattle.grammar_tree.specs.GrammarView.{grammar_of, rule_of};
 ghost use Rattle.grammar_tree.specs.Kinds.{rule_name};
 ghost use Rattle.grammar_names.specs.Index.{Finds};
 ghost use Rattle.graph_cycles.specs.First.{IsFirstOrNone, Nowhere};
-ghost use Rattle.grammar_analysis.specs.Lexer.{OneRule, lexer_rows};
+ghost use Rattle.grammar_analysis.specs.Lexer.{OneRule, lexer_edges};
 ghost use Rattle.grammar_check.specs.LexerFaults.{is_short_rule};
 ghost use Rattle.grammar_check.specs.Twins.{IsEarliest, IsTwinAt};
 
@@ -28,13 +28,13 @@ pub(crate) fn name_of(rule: &Rule) -> &Text
     }
 }
 
-/// The lesser of a place and that of the first rule with the rule's name, where that stands before
+/// The lesser of an index and that of the first rule with the rule's name, where that is before
 /// the rule.
-fn earliest(first: usize, places: &Index, rule: &Rule, place: usize) -> usize
-    ensures { (f : List ℕ → Option ℕ) → Finds places.now f → IsEarliest (f (rule_name (rule_of rule.now))) place first result }
+fn earliest(first: usize, indices: &Index, rule: &Rule, index: usize) -> usize
+    ensures { (f : List ℕ → Option ℕ) → Finds indices.now f → IsEarliest (f (rule_name (rule_of rule.now))) index first result }
 {
-    match places.get(name_of(rule)) {
-        Some(other) if (other as usize) < place => first.min(other as usize),
+    match indices.get(name_of(rule)) {
+        Some(other) if (other as usize) < index => first.min(other as usize),
         _ => first,
     }
 }
@@ -44,10 +44,10 @@ pub(crate) fn first_twin(alloc: Global, grammar: &Grammar) -> Result<Option<usiz
     requires { length grammar.now.rules.items < 2 ^ 32 }
     ensures { IfOk result (IsFirstOrNone (IsTwinAt (grammar_of grammar.now))) }
 {
-    let places = rules_by(alloc, &grammar.rules, Key::Name)?;
+    let indices = rules_by(alloc, &grammar.rules, Key::Name)?;
     let mut first = grammar.rules.len();
-    for place in 0..grammar.rules.len() {
-        first = earliest(first, &places, &grammar.rules[place], place);
+    for index in 0..grammar.rules.len() {
+        first = earliest(first, &indices, &grammar.rules[index], index);
     }
     if first < grammar.rules.len() {
         return Ok(Some(first));
@@ -75,38 +75,38 @@ fn is_parser_named(rule: &Rule, wanted: &Text) -> bool
     }
 }
 
-/// The place of the first parser rule.
+/// The index of the first parser rule.
 fn first_parser_rule(rules: &[Rule]) -> Option<usize>
     ensures { result ≡ position is_parser_rule (map rule_of rules.now) }
 {
-    for place in 0..rules.len() {
-        if is_parser(&rules[place]) {
-            return Some(place);
+    for index in 0..rules.len() {
+        if is_parser(&rules[index]) {
+            return Some(index);
         }
     }
     None
 }
 
-/// The place of the parser rule with this name.
+/// The index of the parser rule with this name.
 fn parser_rule_named(rules: &[Rule], wanted: &Text) -> Option<usize>
     ensures { result ≡ position (is_parser_rule_named wanted.now) (map rule_of rules.now) }
 {
-    for place in 0..rules.len() {
-        if is_parser_named(&rules[place], wanted) {
-            return Some(place);
+    for index in 0..rules.len() {
+        if is_parser_named(&rules[index], wanted) {
+            return Some(index);
         }
     }
     None
 }
 
-/// The place of the start rule: the parser rule of the wanted name, and the first parser rule where
+/// The index of the start rule: the parser rule of the wanted name, and the first parser rule where
 /// none is wanted.
 pub(crate) fn find_start(
     alloc: Global,
     grammar: &Grammar,
     wanted: Option<&str>,
 ) -> Result<Option<usize>, Memory>
-    ensures { IfOk result (λ place. place ≡ start_of (grammar_of grammar.now) (option_map (λ s. chars s.now) wanted.entry)) }
+    ensures { IfOk result (λ index. index ≡ start_of (grammar_of grammar.now) (option_map (λ s. chars s.now) wanted.entry)) }
 {
     let Some(wanted) = wanted else {
         return Ok(first_parser_rule(&grammar.rules));
@@ -129,19 +129,19 @@ fn is_used_short(rule: &Rule, used: bool) -> bool
 pub(crate) fn first_short_use(
     alloc: Global,
     grammar: &Grammar,
-    rows: &[Vec<u32>],
+    edges: &[Vec<u32>],
 ) -> Result<Option<usize>, Memory>
     requires small { length grammar.now.rules.items < 2 ^ 32 }
     requires one { OneRule (map rule_of grammar.now.rules.items) }
-    requires rows { map (λ row. row.items) rows.now ≡ lexer_rows (map rule_of grammar.now.rules.items) }
+    requires edges { map (λ successors. successors.items) edges.now ≡ lexer_edges (map rule_of grammar.now.rules.items) }
     requires no_loops { Nowhere (FragmentLoop (grammar_of grammar.now)) }
     ensures { IfOk result (IsFirstOrNone (ShortUse (grammar_of grammar.now))) }
 {
-    let flags = targets(alloc, rows)?;
-    for place in 0..grammar.rules.len() {
-        let used = is_flagged(&flags, place as u32);
-        if is_used_short(&grammar.rules[place], used) {
-            return Ok(Some(place));
+    let flags = targets(alloc, edges)?;
+    for index in 0..grammar.rules.len() {
+        let used = is_flagged(&flags, index as u32);
+        if is_used_short(&grammar.rules[index], used) {
+            return Ok(Some(index));
         }
     }
     Ok(None)

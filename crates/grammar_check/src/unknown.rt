@@ -52,7 +52,7 @@ fn first_unknown_name(
     ensures { IfOk result (λ name. name ≡ option_map used_name (find (is_unknown names.now) (map NameUse.by_lexer_rule used.now))) }
 {
     for name in used {
-        if lexer.place(name).is_none() {
+        if lexer.index(name).is_none() {
             return Ok(Some(name.copy()?));
         }
     }

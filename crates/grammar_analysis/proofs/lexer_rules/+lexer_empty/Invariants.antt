@@ -6,11 +6,11 @@ use Rattle.grammar_tree.specs.Written.{lexer_seq}
 use Rattle.grammar_tree.specs.declared.lex_term.LexAlts.{out-LexAlts}
 use Rattle.grammar_tree.specs.declared.lex_term.LexTerms.{out-LexTerms}
 use Rattle.grammar_analysis.specs.Empty.{flag}
-use Rattle.grammar_analysis.specs.Lexer.{lexer_is_empty, lexer_place, lexer_seq_is_empty}
+use Rattle.grammar_analysis.specs.Lexer.{lexer_is_empty, lexer_index, lexer_seq_is_empty}
 use Rattle.grammar_analysis.proofs.lexer_rules.+lexer_empty.Given as goal
 
 abbrev pub invariant-alts_can_be_empty-loop-i : goal.invariant-alts_can_be_empty-loop-i
-invariant-alts_can_be_empty-loop-i l = list_any (λ s. lexer_seq_is_empty (lexer_place (map rule_of l.names.rules.now)) (flag l.flags) (lexer_seq (lex_terms s))) (take l.i (out-LexAlts l.alts).items.items) ≡ false
+invariant-alts_can_be_empty-loop-i l = list_any (λ s. lexer_seq_is_empty (lexer_index (map rule_of l.names.rules.now)) (flag l.flags) (lexer_seq (lex_terms s))) (take l.i (out-LexAlts l.alts).items.items) ≡ false
 
 abbrev pub invariant-seq_can_be_empty-loop-i : goal.invariant-seq_can_be_empty-loop-i
-invariant-seq_can_be_empty-loop-i l = list_all (λ t. lexer_is_empty (lexer_place (map rule_of l.names.rules.now)) (flag l.flags) (lex_term t)) (take l.i (out-LexTerms l.terms).items.items) ≡ true
+invariant-seq_can_be_empty-loop-i l = list_all (λ t. lexer_is_empty (lexer_index (map rule_of l.names.rules.now)) (flag l.flags) (lex_term t)) (take l.i (out-LexTerms l.terms).items.items) ≡ true

@@ -8,12 +8,12 @@ use Rattle.grammar_names.proofs.Places.{index_push, mapped_more}
 use Rattle.grammar_analysis.specs.Rules.{has_key}
 use Rattle.grammar_analysis.proofs.rules.rules_by.Goals as goal
 
-pub loop-place-preserved : goal.loop-place-preserved
-loop-place-preserved c =
+pub loop-index-preserved : goal.loop-index-preserved
+loop-index-preserved c =
     let rules = c.args.rules.now in
-    let i = c.loop-place.place in
+    let i = c.loop-index.index in
     let so_far = map rule_of (take i rules) in
-    let many : i ≡ length so_far = omega (arith, c.loop-place-test.true, length-map (take i rules) rule_of, length-take i rules) in
-    let P : List WrittenRule → Type 0 = λ l. Finds c.add_rule.new.index (λ t. position (has_key c.args.key t) l) in
-    subst P (sym (mapped_more rule_of rules i c.index-rules-place.result c.loop-place-test.true c.index-rules-place.is))
-    (index_push (has_key c.args.key) c.loop-place.index c.add_rule.new.index so_far (rule_of c.index-rules-place.result) i many c.loop-place.invariant c.in_ok-add_rule.ensures)
+    let many : i ≡ length so_far = omega (arith, c.loop-index-test.true, length-map (take i rules) rule_of, length-take i rules) in
+    let P : List WrittenRule → Type 0 = λ l. Finds c.add_rule.new.found (λ t. position (has_key c.args.key t) l) in
+    subst P (sym (mapped_more rule_of rules i c.index-rules-index.result c.loop-index-test.true c.index-rules-index.is))
+    (index_push (has_key c.args.key) c.loop-index.found c.add_rule.new.found so_far (rule_of c.index-rules-index.result) i many c.loop-index.invariant c.in_ok-add_rule.ensures)

@@ -5,5 +5,5 @@ use Rattle.grammar_names.specs.Index.{Finds}
 use Rattle.grammar_analysis.specs.Rules.{has_key}
 use Rattle.grammar_analysis.proofs.rules.rules_by.Given as goal
 
-abbrev pub invariant-loop-place : goal.invariant-loop-place
-invariant-loop-place l = Finds l.index (λ t. position (has_key l.key t) (map rule_of (take l.place l.rules)))
+abbrev pub invariant-loop-index : goal.invariant-loop-index
+invariant-loop-index l = Finds l.found (λ t. position (has_key l.key t) (map rule_of (take l.index l.rules)))

@@ -6,4 +6,4 @@ use Rattle.grammar_check.proofs.answer.misplaced_eof.Goals as goal
 pub returns : goal.returns
 returns c =
     let G = grammar_of c.args.grammar.now in
-    named_first G (EofPlace G c.args.start) (eof_in_rules G c.args.start) c.in_ok-place.place c.in_ok-name.name c.in_ok-name.ensures c.in_ok-place.ensures
+    named_first G (EofPlace G c.args.start) (eof_in_rules G c.args.start) c.in_ok-index.index c.in_ok-name.name c.in_ok-name.ensures c.in_ok-index.ensures

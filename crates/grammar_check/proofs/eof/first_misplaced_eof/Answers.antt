@@ -11,14 +11,14 @@ use Rattle.grammar_check.specs.Eof.{is_misplaced_rule}
 use Rattle.grammar_check.specs.Kinds.{seen_in}
 use Rattle.grammar_check.proofs.EofForms.{misplaced, not_misplaced}
 use Rattle.grammar_check.proofs.FirstForms.{not_here, nowhere}
-use Rattle.grammar_check.proofs.LexerChecks.{place_within, rule_at}
+use Rattle.grammar_check.proofs.LexerChecks.{index_within, rule_at}
 use Rattle.grammar_check.proofs.eof.first_misplaced_eof.Goals as goal
 
 pub returns-then-rule_is_misplaced : goal.returns-then-rule_is_misplaced
 returns-then-rule_is_misplaced c =
     let G = grammar_of c.args.grammar.now in
     let rules = c.args.grammar.now.rules in
-    let i = c.loop-place.place in
+    let i = c.loop-index.index in
     let rule = rule_of c.index-rule.result.now in
     let names = filter_map as_name (all_references G.rules) in
     let found = filter_map as_name (map token_ref c.deref-2.result.now) in
@@ -32,13 +32,13 @@ returns-then-rule_is_misplaced c =
     let at = rule_at rules.items i c.index-rule.result.now (omega (arith, rules.ok.0)) c.index-rule.ensures in
     let test : is_misplaced_rule rule (nat_eq i c.args.start) (is_some (seen_in names (rule_name rule))) ≡ true =
     ap (is_misplaced_rule rule (nat_eq i c.args.start)) (sym used) ∙ sym c.rule_is_misplaced.ensures ∙ c.if-rule_is_misplaced.true in
-    record { holds = misplaced G c.args.start i rule at test; before = c.loop-place.invariant }
+    record { holds = misplaced G c.args.start i rule at test; before = c.loop-index.invariant }
 
-pub loop-place-preserved : goal.loop-place-preserved
-loop-place-preserved c =
+pub loop-index-preserved : goal.loop-index-preserved
+loop-index-preserved c =
     let G = grammar_of c.args.grammar.now in
     let rules = c.args.grammar.now.rules in
-    let i = c.loop-place.place in
+    let i = c.loop-index.index in
     let rule = rule_of c.index-rule.result.now in
     let names = filter_map as_name (all_references G.rules) in
     let found = filter_map as_name (map token_ref c.deref-2.result.now) in
@@ -52,9 +52,9 @@ loop-place-preserved c =
     let at = rule_at rules.items i c.index-rule.result.now (omega (arith, rules.ok.0)) c.index-rule.ensures in
     let test : is_misplaced_rule rule (nat_eq i c.args.start) (is_some (seen_in names (rule_name rule))) ≡ false =
     ap (is_misplaced_rule rule (nat_eq i c.args.start)) (sym used) ∙ sym c.rule_is_misplaced.ensures ∙ c.if-rule_is_misplaced.false in
-    not_here (EofPlace G c.args.start) i c.loop-place.invariant (not_misplaced G c.args.start i rule at test)
+    not_here (EofPlace G c.args.start) i c.loop-index.invariant (not_misplaced G c.args.start i rule at test)
 
 pub returns : goal.returns
 returns c =
     let rules = c.args.grammar.now.rules in
-    nowhere (EofPlace (grammar_of c.args.grammar.now) c.args.start) c.loop-place.place c.loop-place.invariant (λ i h. omega (arith, place_within rules.items i (WrittenRule.parser_rule h.0) h.1, rules.ok.0))
+    nowhere (EofPlace (grammar_of c.args.grammar.now) c.args.start) c.loop-index.index c.loop-index.invariant (λ i h. omega (arith, index_within rules.items i (WrittenRule.parser_rule h.0) h.1, rules.ok.0))

@@ -3,5 +3,5 @@ use Rattle.grammar_tree.specs.Faults.{EofPlace}
 use Rattle.grammar_tree.specs.GrammarView.{grammar_of}
 use Rattle.grammar_check.proofs.eof.first_misplaced_eof.Given as goal
 
-abbrev pub invariant-loop-place : goal.invariant-loop-place
-invariant-loop-place l = (i : ℕ) → i < l.place → ¬ EofPlace (grammar_of l.grammar) l.start i
+abbrev pub invariant-loop-index : goal.invariant-loop-index
+invariant-loop-index l = (i : ℕ) → i < l.index → ¬ EofPlace (grammar_of l.grammar) l.start i

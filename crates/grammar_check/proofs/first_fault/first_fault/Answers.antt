@@ -10,8 +10,8 @@ use Rattle.grammar_check.specs.Twins.{IsTwinAt}
 use Rattle.grammar_check.specs.Unknown.{IsFirstUnknown}
 use Rattle.grammar_check.specs.declared.fault.CheckFault.{CheckFault}
 use Rattle.grammar_check.specs.declared.lexer_fault.LexerAnswer.{LexerAnswer}
-use Rattle.grammar_check.proofs.AnswerForms.{told}
-use Rattle.grammar_check.proofs.CheckForms.{before_eof, before_loops, eof_place, fine, no_rule, no_start, two_rules}
+use Rattle.grammar_check.proofs.AnswerForms.{with_name}
+use Rattle.grammar_check.proofs.CheckForms.{before_eof, before_loops, eof_at, fine, no_rule, no_start, two_rules}
 use Rattle.grammar_check.proofs.Twins.{one_rule}
 use Rattle.grammar_check.proofs.first_fault.first_fault.Goals as goal
 
@@ -30,20 +30,20 @@ lexer_fault-requires-clause-small c = omega (arith, c.requires.small, (counts_fi
 pub lexer_fault-requires-clause-one : goal.lexer_fault-requires-clause-one
 lexer_fault-requires-clause-one c =
     let G = grammar_of c.args.grammar.now in
-    let twins = told G (IsTwinAt G) c.in_ok-name.field-0 None c.in_default.is c.in_ok-name.ensures in
+    let twins = with_name G (IsTwinAt G) c.in_ok-name.field-0 None c.in_default.is c.in_ok-name.ensures in
     one_rule G twins
 
 pub returns-in-Some : goal.returns-in-Some
 returns-in-Some c =
     let G = grammar_of c.args.grammar.now in
     let wanted = option_map text c.args.wanted in
-    two_rules G wanted c.in-Some.name (told G (IsTwinAt G) c.in_ok-name.field-0 (Some c.in-Some.name) c.in-Some.is c.in_ok-name.ensures)
+    two_rules G wanted c.in-Some.name (with_name G (IsTwinAt G) c.in_ok-name.field-0 (Some c.in-Some.name) c.in-Some.is c.in_ok-name.ensures)
 
 pub returns-in-Some-2 : goal.returns-in-Some-2
 returns-in-Some-2 c =
     let G = grammar_of c.args.grammar.now in
     let wanted = option_map text c.args.wanted in
-    let twins = told G (IsTwinAt G) c.in_ok-name.field-0 None c.in_default.is c.in_ok-name.ensures in
+    let twins = with_name G (IsTwinAt G) c.in_ok-name.field-0 None c.in_default.is c.in_ok-name.ensures in
     let Unknown : WrittenGrammar → Type 0 = λ g. IsFirstUnknown g c.in_ok-name-2.field-0 in
     let First : Option (List ℕ) → Type 0 = λ o. IsFirstUnknown G o in
     no_rule G wanted c.in-Some-2.name twins (subst First c.in-Some-2.is (subst Unknown c.in_ok-names.ensures c.in_ok-name-2.ensures))
@@ -52,7 +52,7 @@ pub returns-in_default-3 : goal.returns-in_default-3
 returns-in_default-3 c =
     let G = grammar_of c.args.grammar.now in
     let wanted = option_map text c.args.wanted in
-    let twins = told G (IsTwinAt G) c.in_ok-name.field-0 None c.in_default.is c.in_ok-name.ensures in
+    let twins = with_name G (IsTwinAt G) c.in_ok-name.field-0 None c.in_default.is c.in_ok-name.ensures in
     let Unknown : WrittenGrammar → Type 0 = λ g. IsFirstUnknown g c.in_ok-name-2.field-0 in
     let First : Option (List ℕ) → Type 0 = λ o. IsFirstUnknown G o in
     let unknown = subst First c.in_default-2.is (subst Unknown c.in_ok-names.ensures c.in_ok-name-2.ensures) in
@@ -62,25 +62,25 @@ pub returns-in-Some-4 : goal.returns-in-Some-4
 returns-in-Some-4 c =
     let G = grammar_of c.args.grammar.now in
     let wanted = option_map text c.args.wanted in
-    let twins = told G (IsTwinAt G) c.in_ok-name.field-0 None c.in_default.is c.in_ok-name.ensures in
+    let twins = with_name G (IsTwinAt G) c.in_ok-name.field-0 None c.in_default.is c.in_ok-name.ensures in
     let Unknown : WrittenGrammar → Type 0 = λ g. IsFirstUnknown g c.in_ok-name-2.field-0 in
     let First : Option (List ℕ) → Type 0 = λ o. IsFirstUnknown G o in
     let unknown = subst First c.in_default-2.is (subst Unknown c.in_ok-names.ensures c.in_ok-name-2.ensures) in
     let found = sym c.in_ok-start.ensures ∙ c.in-Some-3.is in
     let started = before_eof G wanted c.in-Some-3.start found twins unknown in
-    eof_place G wanted c.in-Some-3.start found c.in-Some-4.rule started (told G (EofPlace G c.in-Some-3.start) c.in_ok-rule.field-0 (Some c.in-Some-4.rule) c.in-Some-4.is c.in_ok-rule.ensures)
+    eof_at G wanted c.in-Some-3.start found c.in-Some-4.rule started (with_name G (EofPlace G c.in-Some-3.start) c.in_ok-rule.field-0 (Some c.in-Some-4.rule) c.in-Some-4.is c.in_ok-rule.ensures)
 
 pub returns-in-Faulty : goal.returns-in-Faulty
 returns-in-Faulty c =
     let G = grammar_of c.args.grammar.now in
     let wanted = option_map text c.args.wanted in
-    let twins = told G (IsTwinAt G) c.in_ok-name.field-0 None c.in_default.is c.in_ok-name.ensures in
+    let twins = with_name G (IsTwinAt G) c.in_ok-name.field-0 None c.in_default.is c.in_ok-name.ensures in
     let Unknown : WrittenGrammar → Type 0 = λ g. IsFirstUnknown g c.in_ok-name-2.field-0 in
     let First : Option (List ℕ) → Type 0 = λ o. IsFirstUnknown G o in
     let unknown = subst First c.in_default-2.is (subst Unknown c.in_ok-names.ensures c.in_ok-name-2.ensures) in
     let found = sym c.in_ok-start.ensures ∙ c.in-Some-3.is in
     let started = before_eof G wanted c.in-Some-3.start found twins unknown in
-    let ends = before_loops G wanted c.in-Some-3.start found started (told G (EofPlace G c.in-Some-3.start) c.in_ok-rule.field-0 None c.in_default-4.is c.in_ok-rule.ensures) in
+    let ends = before_loops G wanted c.in-Some-3.start found started (with_name G (EofPlace G c.in-Some-3.start) c.in_ok-rule.field-0 None c.in_default-4.is c.in_ok-rule.ensures) in
     let Lexer : LexerAnswer → Type 0 = λ a. IsLexerAnswer G wanted a in
     subst Lexer c.in-Faulty.is (c.in_ok-fault.ensures wanted ends)
 
@@ -88,13 +88,13 @@ pub parser_fault-requires-clause-lexer : goal.parser_fault-requires-clause-lexer
 parser_fault-requires-clause-lexer c =
     let G = grammar_of c.args.grammar.now in
     let wanted = option_map text c.args.wanted in
-    let twins = told G (IsTwinAt G) c.in_ok-name.field-0 None c.in_default.is c.in_ok-name.ensures in
+    let twins = with_name G (IsTwinAt G) c.in_ok-name.field-0 None c.in_default.is c.in_ok-name.ensures in
     let Unknown : WrittenGrammar → Type 0 = λ g. IsFirstUnknown g c.in_ok-name-2.field-0 in
     let First : Option (List ℕ) → Type 0 = λ o. IsFirstUnknown G o in
     let unknown = subst First c.in_default-2.is (subst Unknown c.in_ok-names.ensures c.in_ok-name-2.ensures) in
     let found = sym c.in_ok-start.ensures ∙ c.in-Some-3.is in
     let started = before_eof G wanted c.in-Some-3.start found twins unknown in
-    let ends = before_loops G wanted c.in-Some-3.start found started (told G (EofPlace G c.in-Some-3.start) c.in_ok-rule.field-0 None c.in_default-4.is c.in_ok-rule.ensures) in
+    let ends = before_loops G wanted c.in-Some-3.start found started (with_name G (EofPlace G c.in-Some-3.start) c.in_ok-rule.field-0 None c.in_default-4.is c.in_ok-rule.ensures) in
     let Lexer : LexerAnswer → Type 0 = λ a. IsLexerAnswer G wanted a in
     let lexer = subst Lexer c.in-Sound.is (c.in_ok-fault.ensures wanted ends) in
     lexer.1
@@ -103,13 +103,13 @@ pub returns-in-Some-5 : goal.returns-in-Some-5
 returns-in-Some-5 c =
     let G = grammar_of c.args.grammar.now in
     let wanted = option_map text c.args.wanted in
-    let twins = told G (IsTwinAt G) c.in_ok-name.field-0 None c.in_default.is c.in_ok-name.ensures in
+    let twins = with_name G (IsTwinAt G) c.in_ok-name.field-0 None c.in_default.is c.in_ok-name.ensures in
     let Unknown : WrittenGrammar → Type 0 = λ g. IsFirstUnknown g c.in_ok-name-2.field-0 in
     let First : Option (List ℕ) → Type 0 = λ o. IsFirstUnknown G o in
     let unknown = subst First c.in_default-2.is (subst Unknown c.in_ok-names.ensures c.in_ok-name-2.ensures) in
     let found = sym c.in_ok-start.ensures ∙ c.in-Some-3.is in
     let started = before_eof G wanted c.in-Some-3.start found twins unknown in
-    let ends = before_loops G wanted c.in-Some-3.start found started (told G (EofPlace G c.in-Some-3.start) c.in_ok-rule.field-0 None c.in_default-4.is c.in_ok-rule.ensures) in
+    let ends = before_loops G wanted c.in-Some-3.start found started (with_name G (EofPlace G c.in-Some-3.start) c.in_ok-rule.field-0 None c.in_default-4.is c.in_ok-rule.ensures) in
     let Lexer : LexerAnswer → Type 0 = λ a. IsLexerAnswer G wanted a in
     let lexer = subst Lexer c.in-Sound.is (c.in_ok-fault.ensures wanted ends) in
     let Parser : Option CheckFault → Type 0 = λ a. IsParserAnswer G wanted a in
@@ -119,13 +119,13 @@ pub returns : goal.returns
 returns c =
     let G = grammar_of c.args.grammar.now in
     let wanted = option_map text c.args.wanted in
-    let twins = told G (IsTwinAt G) c.in_ok-name.field-0 None c.in_default.is c.in_ok-name.ensures in
+    let twins = with_name G (IsTwinAt G) c.in_ok-name.field-0 None c.in_default.is c.in_ok-name.ensures in
     let Unknown : WrittenGrammar → Type 0 = λ g. IsFirstUnknown g c.in_ok-name-2.field-0 in
     let First : Option (List ℕ) → Type 0 = λ o. IsFirstUnknown G o in
     let unknown = subst First c.in_default-2.is (subst Unknown c.in_ok-names.ensures c.in_ok-name-2.ensures) in
     let found = sym c.in_ok-start.ensures ∙ c.in-Some-3.is in
     let started = before_eof G wanted c.in-Some-3.start found twins unknown in
-    let ends = before_loops G wanted c.in-Some-3.start found started (told G (EofPlace G c.in-Some-3.start) c.in_ok-rule.field-0 None c.in_default-4.is c.in_ok-rule.ensures) in
+    let ends = before_loops G wanted c.in-Some-3.start found started (with_name G (EofPlace G c.in-Some-3.start) c.in_ok-rule.field-0 None c.in_default-4.is c.in_ok-rule.ensures) in
     let Lexer : LexerAnswer → Type 0 = λ a. IsLexerAnswer G wanted a in
     let lexer = subst Lexer c.in-Sound.is (c.in_ok-fault.ensures wanted ends) in
     let Parser : Option CheckFault → Type 0 = λ a. IsParserAnswer G wanted a in

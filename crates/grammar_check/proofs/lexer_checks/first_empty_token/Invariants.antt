@@ -3,5 +3,5 @@ use Rattle.grammar_tree.specs.Faults.{EmptyToken}
 use Rattle.grammar_tree.specs.GrammarView.{grammar_of}
 use Rattle.grammar_check.proofs.lexer_checks.first_empty_token.Given as goal
 
-abbrev pub invariant-loop-place : goal.invariant-loop-place
-invariant-loop-place l = (i : ℕ) → i < l.place → ¬ EmptyToken (grammar_of l.grammar) i
+abbrev pub invariant-loop-index : goal.invariant-loop-index
+invariant-loop-index l = (i : ℕ) → i < l.index → ¬ EmptyToken (grammar_of l.grammar) i

@@ -3,5 +3,5 @@ use Rattle.grammar_tree.specs.GrammarView.{grammar_of}
 use Rattle.grammar_check.specs.LexerFaults.{LexerLoopAt}
 use Rattle.grammar_check.proofs.lexer_checks.first_lexer_loop.Given as goal
 
-abbrev pub invariant-loop-place : goal.invariant-loop-place
-invariant-loop-place l = (i : ℕ) → i < l.place → ¬ LexerLoopAt (grammar_of l.grammar) i
+abbrev pub invariant-loop-index : goal.invariant-loop-index
+invariant-loop-index l = (i : ℕ) → i < l.index → ¬ LexerLoopAt (grammar_of l.grammar) i

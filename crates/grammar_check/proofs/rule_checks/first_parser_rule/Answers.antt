@@ -9,16 +9,16 @@ use Rattle.grammar_check.proofs.rule_checks.first_parser_rule.Goals as goal
 pub returns-then-is_parser : goal.returns-then-is_parser
 returns-then-is_parser c =
     let rules = c.args.rules.now in
-    let i = c.loop-place.place in
-    sym (found_first is_parser_rule (map rule_of rules) i _ c.loop-place.invariant (rule_at rules i c.index-rules-place.result c.loop-place-test.true c.index-rules-place.is) (sym c.is_parser.ensures ∙ c.if-is_parser.true))
+    let i = c.loop-index.index in
+    sym (found_first is_parser_rule (map rule_of rules) i _ c.loop-index.invariant (rule_at rules i c.index-rules-index.result c.loop-index-test.true c.index-rules-index.is) (sym c.is_parser.ensures ∙ c.if-is_parser.true))
 
-pub loop-place-preserved : goal.loop-place-preserved
-loop-place-preserved c =
+pub loop-index-preserved : goal.loop-index-preserved
+loop-index-preserved c =
     let rules = c.args.rules.now in
-    let i = c.loop-place.place in
-    one_more is_parser_rule (map rule_of rules) i _ c.loop-place.invariant (rule_at rules i c.index-rules-place.result c.loop-place-test.true c.index-rules-place.is) (sym c.is_parser.ensures ∙ c.if-is_parser.false)
+    let i = c.loop-index.index in
+    one_more is_parser_rule (map rule_of rules) i _ c.loop-index.invariant (rule_at rules i c.index-rules-index.result c.loop-index-test.true c.index-rules-index.is) (sym c.is_parser.ensures ∙ c.if-is_parser.false)
 
 pub returns : goal.returns
 returns c =
     let rules = c.args.rules.now in
-    sym (found_none is_parser_rule (map rule_of rules) c.loop-place.place c.loop-place.invariant (omega (arith, length-map rules rule_of)))
+    sym (found_none is_parser_rule (map rule_of rules) c.loop-index.index c.loop-index.invariant (omega (arith, length-map rules rule_of)))

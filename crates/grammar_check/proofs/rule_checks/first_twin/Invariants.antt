@@ -2,5 +2,5 @@ use Rattle.grammar_tree.specs.GrammarView.{grammar_of}
 use Rattle.grammar_check.specs.Twins.{AreFirstSoFar}
 use Rattle.grammar_check.proofs.rule_checks.first_twin.Given as goal
 
-abbrev pub invariant-loop-place : goal.invariant-loop-place
-invariant-loop-place l = AreFirstSoFar (grammar_of l.grammar) l.first l.place
+abbrev pub invariant-loop-index : goal.invariant-loop-index
+invariant-loop-index l = AreFirstSoFar (grammar_of l.grammar) l.first l.index

@@ -4,5 +4,5 @@ use Rattle.grammar_tree.specs.GrammarView.{rule_of}
 use Rattle.grammar_check.proofs.FoundFirst.{PassesNone}
 use Rattle.grammar_check.proofs.rule_checks.parser_rule_named.Given as goal
 
-abbrev pub invariant-loop-place : goal.invariant-loop-place
-invariant-loop-place l = PassesNone (is_parser_rule_named l.wanted) (map rule_of l.rules) l.place
+abbrev pub invariant-loop-index : goal.invariant-loop-index
+invariant-loop-index l = PassesNone (is_parser_rule_named l.wanted) (map rule_of l.rules) l.index

@@ -6,7 +6,7 @@ use Rattle.grammar_tree.specs.GrammarView.{rule_of}
 use Rattle.grammar_tree.specs.Written.{WrittenGrammar}
 use Rattle.grammar_tree.specs.declared.rule.Rule.{Rule}
 use Rattle.grammar_check.specs.Unknown.{is_unknown}
-use Rattle.grammar_check.proofs.FindForms.{none_more, none_of, told, told_none}
+use Rattle.grammar_check.proofs.FindForms.{none_more, none_of, first_found, none_found}
 use Rattle.grammar_check.proofs.unknown.first_unknown.Goals as goal
 
 abbrev uses_of : Rule → List NameUse
@@ -23,7 +23,7 @@ pub returns-in-Some : goal.returns-in-Some
 returns-in-Some c =
     let rules = c.args.rules.now in
     let G = c.args.names.now in
-    told (is_unknown G) uses_of used_name rules c.loop-rule.rule-index c.rule-item.result c.in-Some.name c.loop-rule.invariant (omega (arith, c.loop-rule-test.true)) c.rule-item.is ((sym c.in-Some.is ∙ c.in_ok-name.ensures))
+    first_found (is_unknown G) uses_of used_name rules c.loop-rule.rule-index c.rule-item.result c.in-Some.name c.loop-rule.invariant (omega (arith, c.loop-rule-test.true)) c.rule-item.is ((sym c.in-Some.is ∙ c.in_ok-name.ensures))
     ∙ all_uses G rules c.requires.rules
 
 pub loop-rule-preserved : goal.loop-rule-preserved
@@ -36,5 +36,5 @@ pub returns : goal.returns
 returns c =
     let rules = c.args.rules.now in
     let G = c.args.names.now in
-    told_none (is_unknown G) uses_of used_name rules c.loop-rule.rule-index c.loop-rule.invariant (omega arith)
+    none_found (is_unknown G) uses_of used_name rules c.loop-rule.rule-index c.loop-rule.invariant (omega arith)
     ∙ all_uses G rules c.requires.rules

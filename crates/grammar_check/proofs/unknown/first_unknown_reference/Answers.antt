@@ -2,7 +2,7 @@ use Rattle.std.proofs.Common.{Some, sym, ap, ◌∙◌, arith}
 use Rattle.std.specs.Prelude.{find, option_map}
 use Rattle.grammar_tree.specs.Faults.{used_name}
 use Rattle.grammar_check.specs.Unknown.{is_unknown}
-use Rattle.grammar_check.proofs.FindForms.{none_more, none_of, reference_use, references_flat, told, told_none}
+use Rattle.grammar_check.proofs.FindForms.{none_more, none_of, reference_use, references_flat, first_found, none_found}
 use Rattle.grammar_check.proofs.unknown.first_unknown_reference.Goals as goal
 
 pub returns-in-Some : goal.returns-in-Some
@@ -10,7 +10,7 @@ returns-in-Some c =
     let refs = c.args.references.now in
     let p = is_unknown c.args.names.now in
     ap Some c.in_ok-copy.ensures
-    ∙ told p reference_use used_name refs c.loop-reference.reference-index c.reference-item.result c.in-Some.name.now c.loop-reference.invariant (omega (arith, c.loop-reference-test.true)) c.reference-item.is c.in-Some.ensures
+    ∙ first_found p reference_use used_name refs c.loop-reference.reference-index c.reference-item.result c.in-Some.name.now c.loop-reference.invariant (omega (arith, c.loop-reference-test.true)) c.reference-item.is c.in-Some.ensures
     ∙ ap (λ l. option_map used_name (find p l)) (sym (references_flat refs))
 
 pub loop-reference-preserved : goal.loop-reference-preserved
@@ -23,4 +23,4 @@ pub returns : goal.returns
 returns c =
     let refs = c.args.references.now in
     let p = is_unknown c.args.names.now in
-    told_none p reference_use used_name refs c.loop-reference.reference-index c.loop-reference.invariant (omega arith) ∙ ap (λ l. option_map used_name (find p l)) (sym (references_flat refs))
+    none_found p reference_use used_name refs c.loop-reference.reference-index c.loop-reference.invariant (omega arith) ∙ ap (λ l. option_map used_name (find p l)) (sym (references_flat refs))
