@@ -14,7 +14,7 @@ use Rattle.grammar_tree.specs.Faults.{number_at}
 use Rattle.grammar_tree.specs.Places.{PlacesHaveNumbers}
 use Rattle.grammar_tree.specs.Size.{alts_size, seq_size, term_size, grammar_size, rule_size}
 use Rattle.grammar_tree.specs.Checked.{IsChecked}
-use Rattle.normal_form.proofs.Resolving.{kind_term, name_term}
+use Rattle.direct_recursion.proofs.Resolving.{kind_term, name_term}
 use Rattle.normal_form.specs.declared.parser_rule.ParserRuleRef.{ParserRuleRef}
 use Rattle.normal_form.specs.NormalOf.{alts_sets, names_from, normal_of, numbering, own_rule, seq_sets, sets_of, term_sets}
 use Rattle.normal_form.specs.Numbers.{AreNumbersOf, own_rules_from}

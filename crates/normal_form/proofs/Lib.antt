@@ -1,4 +1,3 @@
-pub mod Resolving
 pub mod Lists
 pub mod Represents
 pub mod Closed
@@ -9,7 +8,6 @@ pub mod Lacking
 pub mod SetNumbers
 pub mod Languages
 pub mod Replaced
-pub mod OtherTerms
 pub mod Counted
 pub mod SetSteps
 pub mod NewNames

@@ -1,39 +1,13 @@
 -- Each set of the grammar has its number.
-use Rattle.std.proofs.Common.{◌≡◌, ℕ, suc, ◌+◌, ◌<◌, ◌⊎◌, inl, inr, Bool, true, false, not, cond, List, [], ◌∷◌, length, Some, None, slice_get, refl, sym, ap, ◌∙◌, subst, arith, true≢false}
-use Rattle.std.specs.Prelude.{filter, unwrap_or}
+use Rattle.std.proofs.Common.{◌≡◌, ℕ, suc, ◌+◌, ◌<◌, ◌⊎◌, inl, inr, Bool, true, false, not, cond, List, [], ◌∷◌, length, Some, None, slice_get, refl, sym, ap, ◌∙◌, arith, true≢false}
+use Rattle.std.specs.Prelude.{unwrap_or}
 use Rattle.std.specs.List.{Contains, position_or_len}
 use Rattle.std.proofs.lemmas.Bool.{lt-ltb}
 use Rattle.std.proofs.lemmas.Slice.Eq.{bytes_eq-Decides}
 use Rattle.grammar_tree.specs.Kinds.{distinct, same_text}
+use Rattle.grammar_tree.proofs.Elements.{contains_distinct}
 use Rattle.normal_form.specs.NormalOf.{set_number}
-use Rattle.normal_form.proofs.Lists.{Contains-nil, Contains-here, Contains-there, Contains-cases}
-
--- what a filter keeps of a list that has an element
-keeps_first : (p : List ℕ → Bool) (y : List ℕ) (ys : List (List ℕ)) (x : List ℕ) → p x ≡ true → (Contains ys x → Contains (filter p ys) x) → (b : Bool) → p y ≡ b → (x ≡ y) ⊎ Contains ys x → Contains (cond b (y ∷ filter p ys) (filter p ys)) x
-keeps_first p y ys x e more true h (inl same) = let P : List ℕ → Type 0 = λ z. Contains (z ∷ filter p ys) x in subst P same (Contains-here x (filter p ys))
-keeps_first p y ys x e more true h (inr d) = Contains-there x y (filter p ys) (more d)
-keeps_first p y ys x e more false h (inl same) = absurd (true≢false (sym e ∙ ap p same ∙ h))
-keeps_first p y ys x e more false h (inr d) = more d
-
-filter_keeps : (p : List ℕ → Bool) (xs : List (List ℕ)) (x : List ℕ) → Contains xs x → p x ≡ true → Contains (filter p xs) x
-filter_keeps p [] x c e = absurd (Contains-nil x c)
-filter_keeps p (y ∷ ys) x c e = keeps_first p y ys x e (λ d. filter_keeps p ys x d e) (p y) refl (Contains-cases x y ys c)
-
-distinct_first : (y : List ℕ) (ys : List (List ℕ)) (x : List ℕ) → (Contains ys x → Contains (distinct ys) x) → (b : Bool) → same_text y x ≡ b → (x ≡ y) ⊎ Contains ys x → Contains (y ∷ filter (λ u. not (same_text y u)) (distinct ys)) x
-distinct_first y ys x more b h (inl same) =
-    let rest = filter (λ u. not (same_text y u)) (distinct ys) in
-    let P : List ℕ → Type 0 = λ z. Contains (z ∷ rest) x in subst P same (Contains-here x rest)
-distinct_first y ys x more true h (inr d) =
-    let rest = filter (λ u. not (same_text y u)) (distinct ys) in
-    let same : y ≡ x = (bytes_eq-Decides y x).0 h in
-    let P : List ℕ → Type 0 = λ z. Contains (z ∷ rest) x in subst P (sym same) (Contains-here x rest)
-distinct_first y ys x more false h (inr d) =
-    let test = λ (u : List ℕ). not (same_text y u) in
-    Contains-there x y (filter test (distinct ys)) (filter_keeps test (distinct ys) x (more d) (ap not h))
-
-distinct_has : (xs : List (List ℕ)) (x : List ℕ) → Contains xs x → Contains (distinct xs) x
-distinct_has [] x c = c
-distinct_has (y ∷ ys) x c = distinct_first y ys x (distinct_has ys x) (same_text y x) refl (Contains-cases x y ys c)
+use Rattle.normal_form.proofs.Lists.{Contains-nil, Contains-cases}
 
 -- the element is at the position
 record IsAt (xs : List (List ℕ)) (x : List ℕ) (i : ℕ) : Type 0 where
@@ -60,5 +34,5 @@ number_is xs x h =
 -- the set is at its number
 pub set_is_there : (xs : List (List ℕ)) (x : List ℕ) → Contains xs x → slice_get (distinct xs) (set_number (distinct xs) x) ≡ Some x
 set_is_there xs x c =
-    let d = first_position (distinct xs) x (distinct_has xs x c) in
+    let d = first_position (distinct xs) x (contains_distinct xs x c) in
     ap (slice_get (distinct xs)) (number_is (distinct xs) x d.within) ∙ d.at

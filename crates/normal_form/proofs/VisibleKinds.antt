@@ -15,7 +15,7 @@ use Rattle.normal_form.specs.Form.{NormalForm}
 use Rattle.normal_form.specs.FormLaws.{AreVisibleKinds, PartsAreVisible, PartsAreVisibleKinds, SetsAreVisibleKinds}
 use Rattle.normal_form.proofs.Lacking.{all_part, kept_part, none_part, part_rises}
 use Rattle.normal_form.proofs.Lists.{Contains-only}
-use Rattle.normal_form.proofs.Resolving.{kind_term, name_term}
+use Rattle.direct_recursion.proofs.Resolving.{kind_term, name_term}
 
 -- a number of a kind that isn't a gap kind, where the first kind has the number n
 abbrev IsVisible : ℕ → List TokenKind → ℕ → Type 0

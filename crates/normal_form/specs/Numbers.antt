@@ -1,34 +1,13 @@
 -- What the code of this crate looks up while it makes a normal form.
-use Rattle.std.specs.Prelude.{◌≡◌, ℕ, ◌+◌, ◌<◌, ◌^◌, Bool, true, false, List, [], ◌∷◌, length, slice_index, nat_eq, Option, Some, None}
-use Rattle.grammar_tree.specs.Written.{WrittenTerm, WrittenSeq, WrittenAlts, WrittenGrammar}
+use Rattle.std.specs.Prelude.{◌≡◌, ℕ, ◌+◌, ◌<◌, ◌^◌, List, [], ◌∷◌, length, slice_index, Option, Some, None}
+use Rattle.grammar_tree.specs.Written.{WrittenGrammar}
 use Rattle.grammar_tree.specs.Kinds.{any_kinds, name_kind, rule_number}
 use Rattle.grammar_tree.specs.Corners.{group_size}
-use Rattle.grammar_tree.specs.Derives.{Alts, Term, bodies}
+use Rattle.grammar_tree.specs.Derives.{Alts, bodies}
 use Rattle.normal_form.specs.declared.normal.Sym.{Sym}
 use Rattle.normal_form.specs.declared.normal.Sym.TheVariants.{Kind, Set, Rule}
 use Rattle.normal_form.specs.NormalOf.{numbering, own_rule, sets_of}
 use Rattle.normal_form.specs.Sets.{SetsOfKinds}
-
--- how many new rules a term as it is written makes
-abbrev mutual
-  pub term_count : WrittenTerm → ℕ
-  term_count (WrittenTerm.literal t) = 0
-  term_count (WrittenTerm.name n) = 0
-  term_count WrittenTerm.any = 0
-  term_count (WrittenTerm.but refs) = 0
-  term_count (WrittenTerm.block a) = alts_count a + 1
-  term_count (WrittenTerm.opt t) = term_count t + 1
-  term_count (WrittenTerm.star t) = term_count t + 1
-  term_count (WrittenTerm.plus t) = term_count t + 1
-  term_count WrittenTerm.eof = 0
-
-  pub seq_count : WrittenSeq → ℕ
-  seq_count WrittenSeq.done = 0
-  seq_count (WrittenSeq.next t s) = term_count t + seq_count s
-
-  pub alts_count : WrittenAlts → ℕ
-  alts_count WrittenAlts.none = 0
-  alts_count (WrittenAlts.or s a) = seq_count s + alts_count a
 
 -- The numbers are those of the parser rules' own rules, and the sets those of the grammar.
 pub record AreNumbersOf (G : WrittenGrammar) (own_rules : List ℕ) (sets : SetsOfKinds) : Type 0 where
@@ -49,16 +28,6 @@ rule_symbol G None token = token_symbol G token
 
 abbrev pub named_symbol : WrittenGrammar → List ℕ → Sym
 named_symbol G n = rule_symbol G (rule_number G n) (name_kind G n)
-
--- there are alternatives
-abbrev pub is_or : Alts → Bool
-is_or Alts.none = false
-is_or (Alts.or s a) = true
-
--- the term is the rule r
-abbrev pub is_rule_term : ℕ → Term → Bool
-is_rule_term r (Term.rule q) = nat_eq q r
-is_rule_term r _ = false
 
 -- the numbers of the own rules of these parser rules, of which the first has the number r and its own rule the number n
 abbrev pub own_rules_from : ℕ → ℕ → List Alts → List ℕ

@@ -7,13 +7,12 @@ ghost use Rattle.grammar_tree.specs.View.{parser_alts, parser_term, parser_terms
 ghost use Rattle.grammar_tree.specs.Written.{written_alts, written_seq};
 ghost use Rattle.normal_form.specs.Numbering.{alts_rules, with_base, with_rest, base_symbols, group, head_of, recursive_group, rest_symbols, tail};
 ghost use Rattle.normal_form.specs.NormalOf.{numbering};
-ghost use Rattle.normal_form.specs.Numbers.{is_or, is_rule_term};
 ghost use Rattle.normal_form.specs.View.{alts_form, rule_form};
 
 use crate::normal::{NormalRule, Sym};
 use crate::numbers::Numbers;
-use crate::recursion::{begins_with, has_rests};
 use crate::rules::{push_block, push_seq};
+use direct_recursion::{has_rest, is_recursive};
 use faults::Memory;
 use grammar_tree::{ParserAlts, ParserTerms};
 use std::alloc::Global;
@@ -45,7 +44,7 @@ fn sort(
     ensures bases { OnOk result (alts_form sorted.new.bases.items ≡ alts_form sorted.old.bases.items ++ with_base (rest_of rule (resolved_seq numbers.now (written_seq (parser_terms alt.now)))) symbols.items []) }
     ensures rests { OnOk result (alts_form sorted.new.rests.items ≡ alts_form sorted.old.rests.items ++ with_rest (rest_of rule (resolved_seq numbers.now (written_seq (parser_terms alt.now)))) symbols.items []) }
 {
-    if begins_with(alt, numbers.names(), rule) {
+    if is_recursive(alt, numbers.names(), rule) {
         sorted.rests.push(without_first(symbols))?;
         return Ok(());
     }
@@ -127,7 +126,7 @@ pub(crate) fn push_group(
     ensures len { OnOk result (vec_len rules.new ≡ vec_len rules.old + group_size rule (resolved_alts numbers.now (written_alts (parser_alts alts.now)))) }
     ensures rules { OnOk result (map rule_form rules.new.items ≡ map rule_form rules.old.items ++ group (numbering (bodies numbers.now)) (vec_len rules.old) rule (resolved_alts numbers.now (written_alts (parser_alts alts.now)))) }
 {
-    if has_rests(alts, numbers.names(), rule) {
+    if has_rest(alts, numbers.names(), rule) {
         return push_recursive(alts, alloc, numbers, rule, rules);
     }
     push_block(alts, alloc, numbers, rules)

@@ -11,7 +11,6 @@
 //! every normal form (`Symbols.antt`, `FormLaws.antt`), for trees and a parser.
 #![tactic(auto)]
 
-mod counts;
 mod form_laws;
 mod found_sets;
 mod from_grammar;
@@ -23,7 +22,6 @@ mod numbers;
 mod own_rules;
 mod parser_rule;
 mod print;
-mod recursion;
 mod rule_names;
 mod rules;
 mod sets;

@@ -5,8 +5,8 @@ ghost use Rattle.grammar_tree.specs.Corners.{normal_count_from};
 ghost use Rattle.normal_form.specs.NormalOf.{group_names, names_from};
 ghost use Rattle.normal_form.specs.View.{bodies_of, parser_rule};
 
-use crate::own_rules::group_size;
 use crate::parser_rule::ParserRuleRef;
+use direct_recursion::group_size;
 use faults::Memory;
 use grammar_names::Names;
 use grammar_tree::Text;
@@ -45,7 +45,7 @@ pub(crate) fn rule_names(
 {
     let mut texts = Vec::new(alloc);
     for (number, rule) in rules.iter().enumerate() {
-        let size = group_size(rule.alts, names, number as u32);
+        let size = group_size(rule.alts, names, number as u32) as u32;
         push_names(alloc, &mut texts, rule.name, size)?;
     }
     Ok(texts)
