@@ -1,5 +1,4 @@
 pub use Rattle.grammar_tree.specs.Corners
 pub use Rattle.grammar_tree.specs.Size
 pub mod Recursion
-pub mod Counts
 pub mod Laws
