@@ -8,6 +8,7 @@ pub mod Lacking
 pub mod SetNumbers
 pub mod Languages
 pub mod Replaced
+pub mod RuleSteps
 pub mod Counted
 pub mod SetSteps
 pub mod NewNames

@@ -1,0 +1,92 @@
+-- One more term, or one more alternative, while rules are made.
+use Rattle.std.proofs.Common.{◌≡◌, ℕ, ◌+◌, ◌<◌, List, [], ◌∷◌, ◌++◌, Option, Some, None, length, map, drop, slice_index_or, refl, sym, ap, ◌∙◌, arith, append_assoc}
+use Rattle.std.proofs.lemmas.List.{at_drop_more, map-append}
+use Rattle.std.specs.Global.{Vec}
+use Rattle.grammar_tree.specs.Written.{WrittenGrammar, written_alts, written_seq}
+use Rattle.grammar_tree.specs.Corners.{alts_new_rules, new_rules, rest_of, seq_new_rules}
+use Rattle.grammar_tree.specs.Derives.{Term, Seq, Alts, kind, among, rule, block, opt, star, plus, eof, next, or, resolved, resolved_alts, resolved_seq}
+use Rattle.grammar_tree.specs.View.{parser_term, parser_terms}
+use Rattle.grammar_tree.specs.declared.parser_term.ParserTerm.{ParserTerm}
+use Rattle.grammar_tree.specs.declared.parser_term.ParserTerms.{ParserTerms}
+use Rattle.normal_form.specs.declared.normal.Sym.{Sym}
+use Rattle.normal_form.specs.Form.{RuleForm}
+use Rattle.normal_form.specs.View.{alts_form}
+use Rattle.normal_form.specs.Numbering.{Numbering, alts_rules, alts_symbols, and_symbol, base_symbols, rest_symbols, seq_rules, seq_symbols, symbol, term_rules, with_base, with_rest}
+
+-- the terms from an index on, of which one is taken
+pub term_taken : (G : WrittenGrammar) (items : List ParserTerm) (i : ℕ) (t : ParserTerm) → i < length items → t ≡ slice_index_or items i t →
+    resolved_seq G (written_seq (map parser_term (drop i items))) ≡ next (resolved G (parser_term t)) (resolved_seq G (written_seq (map parser_term (drop (i + 1) items))))
+term_taken G items i t lt is =
+    at_drop_more (λ ts. resolved_seq G (written_seq (map parser_term ts))) items i t lt
+    ∙ ap (λ x. next (resolved G (parser_term x)) (resolved_seq G (written_seq (map parser_term (drop (i + 1) items))))) (sym is)
+
+-- the alternatives from an index on, of which one is taken
+pub alt_taken : (G : WrittenGrammar) (items : List ParserTerms) (i : ℕ) (s : ParserTerms) → i < length items → s ≡ slice_index_or items i s →
+    resolved_alts G (written_alts (map parser_terms (drop i items))) ≡ or (resolved_seq G (written_seq (parser_terms s))) (resolved_alts G (written_alts (map parser_terms (drop (i + 1) items))))
+alt_taken G items i s lt is =
+    at_drop_more (λ ss. resolved_alts G (written_alts (map parser_terms ss))) items i s lt
+    ∙ ap (λ x. or (resolved_seq G (written_seq (parser_terms x))) (resolved_alts G (written_alts (map parser_terms (drop (i + 1) items))))) (sym is)
+
+and_symbols : (t : Term) (x : Sym) (ss : List Sym) → and_symbol t x [] ++ ss ≡ and_symbol t x ss
+and_symbols (kind k) x ss = refl
+and_symbols (among ks) x ss = refl
+and_symbols (rule r) x ss = refl
+and_symbols (block a) x ss = refl
+and_symbols (opt t) x ss = refl
+and_symbols (star t) x ss = refl
+and_symbols (plus t) x ss = refl
+and_symbols eof x ss = refl
+
+-- what is made so far, and then the parts of a list
+more_made : {X : Type 0} (old new part rest all whole : List X) → new ≡ old ++ part → all ≡ part ++ rest → old ++ all ≡ whole → new ++ rest ≡ whole
+more_made old new part rest all whole made cut so_far =
+    ap (λ l. l ++ rest) made ∙ append_assoc old part rest ∙ ap (λ l. old ++ l) (sym cut) ∙ so_far
+
+-- one alternative more
+pub alts_form_more : (old new : List (Vec Sym)) (alt : Vec Sym) (ss : List Sym) → new ≡ old ++ alt ∷ [] → alt.items ≡ ss → alts_form new ≡ alts_form old ++ ss ∷ []
+alts_form_more old new alt ss made is = ap alts_form made ∙ map-append (λ (a : Vec Sym). a.items) old (alt ∷ []) ∙ ap (λ x. alts_form old ++ x ∷ []) is
+
+with_base_more : (o : Option Seq) (ss : List Sym) (more : List (List Sym)) → with_base o ss [] ++ more ≡ with_base o ss more
+with_base_more None ss more = refl
+with_base_more (Some rest) ss more = refl
+
+with_rest_more : (o : Option Seq) (ss : List Sym) (more : List (List Sym)) → with_rest o ss [] ++ more ≡ with_rest o ss more
+with_rest_more None ss more = refl
+with_rest_more (Some rest) ss more = refl
+
+module _ (M : Numbering) (n k : ℕ) where
+  module _ (t : Term) (a b : Seq) (taken : a ≡ next t b) (counted : k ≡ n + new_rules t) where
+    pub seq_total : (m : ℕ) → n + seq_new_rules a ≡ m → k + seq_new_rules b ≡ m
+    seq_total m so_far = omega (arith, ap seq_new_rules taken, counted, so_far)
+
+    pub seq_symbols_more : (i : ℕ) (old new whole : List Sym) → i ≡ n → new ≡ old ++ and_symbol t (symbol M i t) [] → old ++ seq_symbols M n a ≡ whole → new ++ seq_symbols M k b ≡ whole
+    seq_symbols_more i old new whole at made so_far =
+        more_made old new (and_symbol t (symbol M i t) []) (seq_symbols M k b) (seq_symbols M n a) whole made
+        (ap (seq_symbols M n) taken ∙ ap (λ j. and_symbol t (symbol M n t) (seq_symbols M j b)) (sym counted) ∙ ap (λ j. and_symbol t (symbol M j t) (seq_symbols M k b)) (sym at) ∙ sym (and_symbols t (symbol M i t) (seq_symbols M k b))) so_far
+
+    pub seq_rules_more : (old new whole : List RuleForm) → new ≡ old ++ term_rules M n t → old ++ seq_rules M n a ≡ whole → new ++ seq_rules M k b ≡ whole
+    seq_rules_more old new whole made so_far =
+        more_made old new (term_rules M n t) (seq_rules M k b) (seq_rules M n a) whole made (ap (seq_rules M n) taken ∙ ap (λ j. term_rules M n t ++ seq_rules M j b) (sym counted)) so_far
+
+  module _ (s : Seq) (a b : Alts) (taken : a ≡ or s b) (counted : k ≡ n + seq_new_rules s) where
+    pub alts_total : (m : ℕ) → n + alts_new_rules a ≡ m → k + alts_new_rules b ≡ m
+    alts_total m so_far = omega (arith, ap alts_new_rules taken, counted, so_far)
+
+    pub alts_symbols_more : (old new whole : List (List Sym)) → new ≡ old ++ seq_symbols M n s ∷ [] → old ++ alts_symbols M n a ≡ whole → new ++ alts_symbols M k b ≡ whole
+    alts_symbols_more old new whole made so_far =
+        more_made old new (seq_symbols M n s ∷ []) (alts_symbols M k b) (alts_symbols M n a) whole made (ap (alts_symbols M n) taken ∙ ap (λ j. seq_symbols M n s ∷ alts_symbols M j b) (sym counted)) so_far
+
+    pub alts_rules_more : (old new whole : List RuleForm) → new ≡ old ++ seq_rules M n s → old ++ alts_rules M n a ≡ whole → new ++ alts_rules M k b ≡ whole
+    alts_rules_more old new whole made so_far =
+        more_made old new (seq_rules M n s) (alts_rules M k b) (alts_rules M n a) whole made (ap (alts_rules M n) taken ∙ ap (λ j. seq_rules M n s ++ alts_rules M j b) (sym counted)) so_far
+
+    module _ (r : ℕ) (ss : List Sym) (is : ss ≡ seq_symbols M n s) where
+      pub bases_more : (old new whole : List (List Sym)) → new ≡ old ++ with_base (rest_of r s) ss [] → old ++ base_symbols M r n a ≡ whole → new ++ base_symbols M r k b ≡ whole
+      bases_more old new whole made so_far =
+          more_made old new (with_base (rest_of r s) ss []) (base_symbols M r k b) (base_symbols M r n a) whole made
+          (ap (base_symbols M r n) taken ∙ ap (λ j. with_base (rest_of r s) (seq_symbols M n s) (base_symbols M r j b)) (sym counted) ∙ ap (λ x. with_base (rest_of r s) x (base_symbols M r k b)) (sym is) ∙ sym (with_base_more (rest_of r s) ss (base_symbols M r k b))) so_far
+
+      pub rests_more : (old new whole : List (List Sym)) → new ≡ old ++ with_rest (rest_of r s) ss [] → old ++ rest_symbols M r n a ≡ whole → new ++ rest_symbols M r k b ≡ whole
+      rests_more old new whole made so_far =
+          more_made old new (with_rest (rest_of r s) ss []) (rest_symbols M r k b) (rest_symbols M r n a) whole made
+          (ap (rest_symbols M r n) taken ∙ ap (λ j. with_rest (rest_of r s) (seq_symbols M n s) (rest_symbols M r j b)) (sym counted) ∙ ap (λ x. with_rest (rest_of r s) x (rest_symbols M r k b)) (sym is) ∙ sym (with_rest_more (rest_of r s) ss (rest_symbols M r k b))) so_far
