@@ -1,16 +1,9 @@
 -- Sums over lists, and the count of the rules of the normal form.
-use Rattle.std.proofs.Common.{◌≡◌, ℕ, zero, suc, Some, drop, slice_get, ◌+◌, ◌<◌, ◌≤◌, List, [], ◌∷◌, length, map, sum_by, take, take_all, slice_index_or, refl, sym, ap, ◌∙◌, subst, arith}
-use Rattle.std.proofs.lemmas.List.Sums.{sum_by-cons, sum_by_more, sum_by_more_le}
+use Rattle.std.proofs.Common.{◌≡◌, ℕ, zero, suc, Some, drop, slice_get, ◌+◌, ◌<◌, ◌≤◌, List, [], ◌∷◌, length, sum_by, take, slice_index_or, sym, ap, ◌∙◌, subst, arith}
+use Rattle.std.proofs.lemmas.List.Sums.{sum_by_more, sum_by_more_le}
 use Rattle.std.proofs.lemmas.Option.{none-some, same_Some}
-use Rattle.grammar_tree.specs.Corners.{alts_new_rules, group_size, new_rules, normal_count_from, seq_new_rules}
-use Rattle.grammar_tree.specs.Derives.{Alts, resolved, resolved_alts, resolved_seq}
-use Rattle.grammar_tree.specs.Size.{alts_size, seq_size, term_size}
-use Rattle.grammar_tree.specs.View.{parser_alts, parser_term, parser_terms}
-use Rattle.grammar_tree.specs.Written.{WrittenGrammar, written_alts, written_seq}
-use Rattle.grammar_tree.specs.declared.parser_term.ParserAlts.{ParserAlts, out-ParserAlts}
-use Rattle.grammar_tree.specs.declared.parser_term.ParserTerm.{ParserTerm}
-use Rattle.grammar_tree.specs.declared.parser_term.ParserTerms.{ParserTerms, out-ParserTerms}
-use Rattle.grammar_analysis.proofs.Traversed.{alts_view, seq_view}
+use Rattle.grammar_tree.specs.Corners.{group_size, normal_count_from}
+use Rattle.grammar_tree.specs.Derives.{Alts}
 
 module _ {X : Type 0} (f : X → ℕ) (xs : List X) (i : ℕ) where
   -- the first parts and the next are no more than the whole
@@ -19,9 +12,6 @@ module _ {X : Type 0} (f : X → ℕ) (xs : List X) (i : ℕ) where
 
   pub next_summed : (x : X) → i < length xs → x ≡ slice_index_or xs i x → sum_by f (take (i + 1) xs) ≡ sum_by f (take i xs) + f x
   next_summed x lt is = sum_by_more f xs i x lt ∙ ap (λ y. sum_by f (take i xs) + f y) (sym is)
-
-  pub all_summed : length xs ≤ i → sum_by f (take i xs) ≡ sum_by f xs
-  all_summed le = ap (sum_by f) (take_all i xs le)
 
 -- the count of the rules from a number on, of which one is taken
 pub one_counted : (G : List Alts) (r : ℕ) (a : Alts) → slice_get G r ≡ Some a → normal_count_from r (drop r G) ≡ group_size r a + normal_count_from (r + 1) (drop (r + 1) G)
@@ -33,12 +23,3 @@ one_counted G r a at =
     drop_is [] i at = absurd (none-some a at)
     drop_is (b ∷ H) zero at = ap (λ x. x ∷ H) (same_Some b a at)
     drop_is (b ∷ H) (suc i) at = drop_is H i at
-
-pub none_remain : (G : List Alts) (r : ℕ) → length G ≤ r → normal_count_from r (drop r G) ≡ 0
-none_remain G r le = ap (normal_count_from r) (nothing G r le)
-  where
-    nothing : (H : List Alts) (i : ℕ) → length H ≤ i → drop i H ≡ []
-    nothing [] zero le = refl
-    nothing [] (suc i) le = refl
-    nothing (b ∷ H) zero le = absurd (omega (arith, le))
-    nothing (b ∷ H) (suc i) le = nothing H i (omega arith)
