@@ -2,7 +2,7 @@
 use Rattle.std.proofs.Common.{◌≡◌, ℕ, List, Option, Some, sym, subst}
 use Rattle.grammar_tree.specs.Faults.{IsWellFormed, start_of}
 use Rattle.grammar_tree.specs.Written.{CheckedGrammar, WrittenGrammar}
-use Rattle.grammar_reader.specs.Reads.{IsProfile}
+use Rattle.grammar_notation.specs.Reads.{IsProfile}
 use Rattle.grammar_check.specs.CheckFaults.{IsFirstInTable}
 use Rattle.grammar_check.specs.declared.fault.CheckFault.{CheckFault}
 use Rattle.grammar_check.proofs.CheckForms.{well_formed_has_no_fault}

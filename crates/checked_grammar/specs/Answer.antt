@@ -3,8 +3,8 @@ use Rattle.std.specs.Prelude.{◌≡◌, ◌≢◌, ⊤, ℕ, List, Option, Some
 use Rattle.grammar_tree.specs.Checked.{IsChecked}
 use Rattle.grammar_tree.specs.Faults.{start_of}
 use Rattle.grammar_tree.specs.Written.{CheckedGrammar, WrittenGrammar}
-use Rattle.grammar_reader.specs.Reads.{IsFaultOf, IsProfile}
-use Rattle.grammar_reader.specs.declared.fault.ReadFault.TheVariants as read
+use Rattle.grammar_notation.specs.Reads.{IsFaultOf, IsProfile}
+use Rattle.grammar_notation.specs.declared.fault.ReadFault.TheVariants as read
 use Rattle.grammar_check.specs.CheckFaults.{IsFirstInTable}
 use Rattle.checked_grammar.specs.declared.fault.GrammarFault.{GrammarFault}
 use Rattle.checked_grammar.specs.declared.fault.GrammarFault.TheVariants.{Read, Check, Memory}

@@ -1,7 +1,7 @@
 //! Why a text gives no checked grammar.
 
 use grammar_check::CheckFault;
-use grammar_reader::ReadFault;
+use grammar_notation::ReadFault;
 use std::fmt;
 
 /// Why bytes give no checked grammar.

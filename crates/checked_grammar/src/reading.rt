@@ -4,13 +4,14 @@ ghost use Rattle.std.specs.Prelude.{◌≡◌, ◌<◌, ◌≤◌, ◌^◌, ℕ,
 ghost use Rattle.grammar_tree.specs.GrammarView.{grammar_of};
 ghost use Rattle.grammar_tree.specs.Size.{grammar_size};
 ghost use Rattle.grammar_tree.specs.Written.{CheckedGrammar, WrittenGrammar};
-ghost use Rattle.grammar_reader.specs.Reads.{IsProfile};
+ghost use Rattle.grammar_notation.specs.Reads.{IsProfile};
 ghost use Rattle.checked_grammar.specs.Answer.{IsGrammarFault, Spells};
 ghost use Rattle.checked_grammar.specs.declared.fault.GrammarFault.TheVariants.{Memory};
 
 use crate::fault::GrammarFault;
 use grammar_check::{CheckFault, check};
-use grammar_reader::{ReadFault, read_grammar};
+use grammar_notation::ReadFault;
+use grammar_reader::read_grammar;
 use grammar_tree::{Checked, Grammar};
 use std::alloc::Global;
 

@@ -6,16 +6,17 @@ use Rattle.grammar_words.specs.Names.{is}
 use Rattle.grammar_words.specs.declared.word.Word.{Word}
 use Rattle.grammar_words.specs.declared.word.Word.TheVariants as w
 use Rattle.grammar_words.specs.declared.word.Reserved.TheVariants as r
-use Rattle.grammar_reader.specs.Notation.{is_eof}
-use Rattle.grammar_reader.specs.Machine as m
-use Rattle.grammar_reader.specs.Places.{at_start, at_rule, at_colon, at_option, behind_name, within_parser_rule, within_lexer_rule, takes_action}
+use Rattle.grammar_notation.specs.Notation.{is_eof}
+use Rattle.grammar_machine.specs.Machine as m
+use Rattle.grammar_reader.proofs.WordByWord.{run}
+use Rattle.grammar_reader.specs.Positions.{at_start, at_rule, at_colon, at_option, after_name, within_parser_rule, within_lexer_rule, takes_action}
 use Rattle.grammar_reader.specs.Rows.{row, row_if, last_row, loop_row, breaks_command, of_loop}
-use Rattle.grammar_reader.specs.declared.fault.What.{What}
-use Rattle.grammar_reader.specs.declared.fault.What.TheVariants as x
-use Rattle.grammar_reader.specs.Naming.{Fits, FitsFirst, this, later, table}
+use Rattle.grammar_notation.specs.declared.fault.What.{What}
+use Rattle.grammar_notation.specs.declared.fault.What.TheVariants as x
+use Rattle.grammar_notation.specs.Naming.{Fits, FitsFirst, this, later, table}
 use Rattle.grammar_reader.proofs.Fitting.{fits, fits_in, fits_out}
 
--- a row of its own, and the rows behind
+-- a row of its own, and the rows after
 own_first : (b : Bool) (what : What) (o : Option What) → option_or (cond b (Some what) None) o ≡ cond b (Some what) o
 own_first true what o = refl
 own_first false what o = refl
@@ -26,26 +27,26 @@ option_first true false true o = refl
 option_first true false false o = refl
 option_first false b c o = refl
 
-abbrev behind_command : m.State → Word → Option What
-behind_command s word = cond (breaks_command s word) (Some x.Command) (last_row s word)
+abbrev after_command : m.State → Word → Option What
+after_command s word = cond (breaks_command s word) (Some x.Command) (last_row s word)
 
 pub row_found : (s : m.State) (word : Word) → row s word ≡ find (λ what. fits what s word) table
-row_found s (w.Reserved r.Lexer) = own_first (at_start s) x.LexerGrammar (behind_command s (w.Reserved r.Lexer))
-row_found s (w.Reserved r.Parser) = own_first (at_start s) x.ParserGrammar (behind_command s (w.Reserved r.Parser))
-row_found s (w.Reserved r.Import) = own_first (at_rule s) x.Import (behind_command s (w.Reserved r.Import))
-row_found s (w.Reserved r.Mode) = own_first (at_rule s) x.Mode (behind_command s (w.Reserved r.Mode))
-row_found s (w.Reserved r.Channels) = own_first (at_rule s) x.Channels (behind_command s (w.Reserved r.Channels))
-row_found s (w.Reserved r.Returns) = own_first (behind_name s) x.Returns (behind_command s (w.Reserved r.Returns))
-row_found s (w.Reserved r.Locals) = own_first (behind_name s) x.Locals (behind_command s (w.Reserved r.Locals))
-row_found s (w.Reserved r.Throws) = own_first (behind_name s) x.Throws (behind_command s (w.Reserved r.Throws))
-row_found s (w.Reserved r.Catch) = own_first (at_rule s) x.Catch (behind_command s (w.Reserved r.Catch))
-row_found s (w.Reserved r.Finally) = own_first (at_rule s) x.Finally (behind_command s (w.Reserved r.Finally))
-row_found s (w.Reserved r.Public) = own_first (at_rule s) x.Modifier (behind_command s (w.Reserved r.Public))
-row_found s (w.Reserved r.Private) = own_first (at_rule s) x.Modifier (behind_command s (w.Reserved r.Private))
-row_found s (w.Reserved r.Protected) = own_first (at_rule s) x.Modifier (behind_command s (w.Reserved r.Protected))
-row_found s w.OpenBrace = own_first (takes_action s) x.Action (behind_command s w.OpenBrace)
-row_found s w.At = own_first (at_rule s || at_colon s) x.Action (behind_command s w.At)
-row_found s (w.Set ranges) = own_first (behind_name s || within_parser_rule s) x.Argument (behind_command s (w.Set ranges))
+row_found s (w.Reserved r.Lexer) = own_first (at_start s) x.LexerGrammar (after_command s (w.Reserved r.Lexer))
+row_found s (w.Reserved r.Parser) = own_first (at_start s) x.ParserGrammar (after_command s (w.Reserved r.Parser))
+row_found s (w.Reserved r.Import) = own_first (at_rule s) x.Import (after_command s (w.Reserved r.Import))
+row_found s (w.Reserved r.Mode) = own_first (at_rule s) x.Mode (after_command s (w.Reserved r.Mode))
+row_found s (w.Reserved r.Channels) = own_first (at_rule s) x.Channels (after_command s (w.Reserved r.Channels))
+row_found s (w.Reserved r.Returns) = own_first (after_name s) x.Returns (after_command s (w.Reserved r.Returns))
+row_found s (w.Reserved r.Locals) = own_first (after_name s) x.Locals (after_command s (w.Reserved r.Locals))
+row_found s (w.Reserved r.Throws) = own_first (after_name s) x.Throws (after_command s (w.Reserved r.Throws))
+row_found s (w.Reserved r.Catch) = own_first (at_rule s) x.Catch (after_command s (w.Reserved r.Catch))
+row_found s (w.Reserved r.Finally) = own_first (at_rule s) x.Finally (after_command s (w.Reserved r.Finally))
+row_found s (w.Reserved r.Public) = own_first (at_rule s) x.Modifier (after_command s (w.Reserved r.Public))
+row_found s (w.Reserved r.Private) = own_first (at_rule s) x.Modifier (after_command s (w.Reserved r.Private))
+row_found s (w.Reserved r.Protected) = own_first (at_rule s) x.Modifier (after_command s (w.Reserved r.Protected))
+row_found s w.OpenBrace = own_first (takes_action s) x.Action (after_command s w.OpenBrace)
+row_found s w.At = own_first (at_rule s || at_colon s) x.Action (after_command s w.At)
+row_found s (w.Set ranges) = own_first (after_name s || within_parser_rule s) x.Argument (after_command s (w.Set ranges))
 row_found s (w.Lower k) =
     ap (λ o. cond (breaks_command s (w.Lower k)) (Some x.Command) o) (option_first (at_option s) (is k "caseInsensitive") (is k "tokenVocab") (loop_row s (w.Lower k)))
 row_found s (w.Upper k) =
@@ -53,12 +54,12 @@ row_found s (w.Upper k) =
 row_found s _ = refl
 
 -- the first of the rows that pass
-module _ (before : List Word) (here : Word) (P : What → Bool) (pass : (what : What) → P what ≡ true → Fits before here what) (passed : (what : What) → Fits before here what → P what ≡ true) where
-  first_of : (rows : List What) (what : What) → find P rows ≡ Some what → FitsFirst before here rows what
+module _ (before : List Word) (current : Word) (P : What → Bool) (pass : (what : What) → P what ≡ true → Fits before current what) (passed : (what : What) → Fits before current what → P what ≡ true) where
+  first_of : (rows : List What) (what : What) → find P rows ≡ Some what → FitsFirst before current rows what
   first_of [] what e = cc e
   first_of (row ∷ rows) what e = tried (P row) refl e (λ e. first_of rows what e) where
-    tried : (b : Bool) → P row ≡ b → cond b (Some row) (find P rows) ≡ Some what → (find P rows ≡ Some what → FitsFirst before here rows what) → FitsFirst before here (row ∷ rows) what
-    tried true f e go_on = let g : row ≡ what = cc e in subst (λ x. FitsFirst before here (row ∷ rows) x) g (this (pass row f))
+    tried : (b : Bool) → P row ≡ b → cond b (Some row) (find P rows) ≡ Some what → (find P rows ≡ Some what → FitsFirst before current rows what) → FitsFirst before current (row ∷ rows) what
+    tried true f e go_on = let g : row ≡ what = cc e in subst (λ x. FitsFirst before current (row ∷ rows) x) g (this (pass row f))
     tried false f e go_on = later (λ h. let g : false ≡ true = sym f ∙ passed row h in cc g) (go_on e)
 
 -- a row of the table
@@ -97,7 +98,7 @@ none_passes {what} P e (further {row = row} {rows = rows} i) = none_passes P (tr
   tried true e = cc e
   tried false e = e
 
-module _ (before : List Word) (s : m.State) (read : m.run 64 m.AtStart before ≡ Some s) (word : Word) where
+module _ (before : List Word) (s : m.State) (read : run 64 m.AtStart before ≡ Some s) (word : Word) where
   pub fits_first : (what : What) → row s word ≡ Some what → FitsFirst before word table what
   fits_first what e =
       first_of before word (λ what. fits what s word) (λ what e. fits_in before s read word what e) (λ what h. fits_out before s read word what h) table what (sym (row_found s word) ∙ e)

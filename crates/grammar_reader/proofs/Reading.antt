@@ -5,69 +5,70 @@ use Rattle.grammar_words.specs.Words.{words_of, is_last}
 use Rattle.grammar_words.specs.declared.word.Word.{Word}
 use Rattle.grammar_words.specs.declared.word.Word.TheVariants as w
 use Rattle.grammar_words.specs.declared.word.Placed.{Placed}
-use Rattle.grammar_reader.specs.Sets.{outside}
-use Rattle.grammar_reader.specs.Machine as m
-use Rattle.grammar_reader.specs.Machine.{State, AtStart, AtEnd, step, run}
-use Rattle.grammar_reader.specs.Notation.{IsTextOf, BeginsOf, IsText}
-use Rattle.grammar_reader.proofs.Spots.{Spot, starting, heading, between, prequel, named, opening, body, suffixed, looped, last, command, finished, next}
+use Rattle.grammar_notation.specs.Sets.{outside}
+use Rattle.grammar_machine.specs.Machine as m
+use Rattle.grammar_machine.specs.Machine.{State, AtStart, AtEnd, step}
+use Rattle.grammar_reader.proofs.WordByWord.{run}
+use Rattle.grammar_notation.specs.Notation.{IsTextOf, BeginsOf, IsText}
+use Rattle.grammar_reader.proofs.Regions.{Region, starting, heading, between, prequel, named, opening, body, suffixed, looped, last, command, finished, next}
 use Rattle.std.specs.Str.{IsUtf8}
-use Rattle.grammar_reader.specs.declared.fault.ReadFault.{ReadFault}
-use Rattle.grammar_reader.specs.declared.fault.ReadFault.TheVariants as f
-use Rattle.grammar_reader.specs.Naming.{IsNamed}
-use Rattle.grammar_reader.specs.Reads.{only_words, IsFirstFault, IsFaultOf}
-use Rattle.grammar_reader.proofs.SpotSteps.{Keeps, spot_of, spot_of_owner, spot_of_value, keeps_step}
+use Rattle.grammar_notation.specs.declared.fault.ReadFault.{ReadFault}
+use Rattle.grammar_notation.specs.declared.fault.ReadFault.TheVariants as f
+use Rattle.grammar_notation.specs.Naming.{IsNamed}
+use Rattle.grammar_notation.specs.Reads.{only_words, IsFirstFault, IsFaultOf}
+use Rattle.grammar_reader.proofs.RegionSteps.{Keeps, region_of, region_of_owner, region_of_value, keeps_step}
 use Rattle.grammar_reader.specs.Rows.{fault_at}
 use Rattle.grammar_reader.proofs.Called as called
 use Rattle.grammar_reader.proofs.Runs.{reached, stuck, accepts, further, accepted, EndsText, end_step}
 
 -- No bad word can follow, and no set with a property.
 
-none_in_lex : (b : m.LexBody) (outer : List (m.Frame LexerTerm)) → m.step_lex_end b outer w.Bad ≡ None
+none_in_lex : (b : m.LexBody) (enclosing : List (m.Frame LexerTerm)) → m.step_lex_end b enclosing w.Bad ≡ None
 none_in_lex b [] = refl
-none_in_lex b (f ∷ outer) = refl
+none_in_lex b (f ∷ enclosing) = refl
 
-none_at_value : (v : m.ValueOf) → m.step_behind_value v w.Bad ≡ None
+none_at_value : (v : m.ValueOf) → m.step_after_value v w.Bad ≡ None
 none_at_value (m.InEntry g o) = refl
 none_at_value (m.InOpening b) = refl
 
-none_behind_one : (b : m.LexBody) (p : m.ItemPlace) (i : List (ℕ × ℕ)) → m.step_behind_one b p i w.Bad ≡ None
-none_behind_one b m.Alone i = none_in_lex (m.lex_add b (LexerTerm.set (outside i))) b.outer
-none_behind_one b (m.Listed ranges) i = refl
+none_after_one : (b : m.LexBody) (p : m.ItemPosition) (i : List (ℕ × ℕ)) → m.step_after_one b p i w.Bad ≡ None
+none_after_one b m.Alone i = none_in_lex (m.lex_add b (LexerTerm.set (outside i))) b.enclosing
+none_after_one b (m.Listed ranges) i = refl
 
 bad_step : (d : ℕ) (s : State) → step d s w.Bad ≡ None
 bad_step d (m.InPath v) = none_at_value v
-bad_step d (m.BehindValue v) = none_at_value v
-bad_step d (m.InLex b) = none_in_lex b b.outer
-bad_step d (m.LexSuffixed b) = none_in_lex b b.outer
-bad_step d (m.BehindLexAtom b t) = none_in_lex (m.lex_add b t) b.outer
-bad_step d (m.BehindLiteral b k) = none_in_lex (m.lex_add b (LexerTerm.literal k)) b.outer
-bad_step d (m.BehindSet b s) = none_in_lex (m.lex_add b (LexerTerm.set s)) b.outer
-bad_step d (m.BehindSetStar b s) = none_in_lex (m.lex_add b (LexerTerm.star (LexerTerm.set s))) b.outer
-bad_step d (m.BehindItemChar b p c) = none_behind_one b p ((c, c) ∷ [])
+bad_step d (m.AfterValue v) = none_at_value v
+bad_step d (m.InLex b) = none_in_lex b b.enclosing
+bad_step d (m.LexSuffixed b) = none_in_lex b b.enclosing
+bad_step d (m.AfterLexAtom b t) = none_in_lex (m.lex_add b t) b.enclosing
+bad_step d (m.AfterLiteral b k) = none_in_lex (m.lex_add b (LexerTerm.literal k)) b.enclosing
+bad_step d (m.AfterSet b s) = none_in_lex (m.lex_add b (LexerTerm.set s)) b.enclosing
+bad_step d (m.AfterSetStar b s) = none_in_lex (m.lex_add b (LexerTerm.star (LexerTerm.set s))) b.enclosing
+bad_step d (m.AfterItemChar b p c) = none_after_one b p ((c, c) ∷ [])
 bad_step d _ = refl
 
-no_lex : (b : m.LexBody) (outer : List (m.Frame LexerTerm)) → m.step_lex_end b outer w.Property ≡ None
+no_lex : (b : m.LexBody) (enclosing : List (m.Frame LexerTerm)) → m.step_lex_end b enclosing w.Property ≡ None
 no_lex b [] = refl
-no_lex b (f ∷ outer) = refl
+no_lex b (f ∷ enclosing) = refl
 
-no_value : (v : m.ValueOf) → m.step_behind_value v w.Property ≡ None
+no_value : (v : m.ValueOf) → m.step_after_value v w.Property ≡ None
 no_value (m.InEntry g o) = refl
 no_value (m.InOpening b) = refl
 
-no_one : (b : m.LexBody) (p : m.ItemPlace) (i : List (ℕ × ℕ)) → m.step_behind_one b p i w.Property ≡ None
-no_one b m.Alone i = no_lex (m.lex_add b (LexerTerm.set (outside i))) b.outer
+no_one : (b : m.LexBody) (p : m.ItemPosition) (i : List (ℕ × ℕ)) → m.step_after_one b p i w.Property ≡ None
+no_one b m.Alone i = no_lex (m.lex_add b (LexerTerm.set (outside i))) b.enclosing
 no_one b (m.Listed ranges) i = refl
 
 property_step : (d : ℕ) (s : State) → step d s w.Property ≡ None
 property_step d (m.InPath v) = no_value v
-property_step d (m.BehindValue v) = no_value v
-property_step d (m.InLex b) = no_lex b b.outer
-property_step d (m.LexSuffixed b) = no_lex b b.outer
-property_step d (m.BehindLexAtom b t) = no_lex (m.lex_add b t) b.outer
-property_step d (m.BehindLiteral b k) = no_lex (m.lex_add b (LexerTerm.literal k)) b.outer
-property_step d (m.BehindSet b s) = no_lex (m.lex_add b (LexerTerm.set s)) b.outer
-property_step d (m.BehindSetStar b s) = no_lex (m.lex_add b (LexerTerm.star (LexerTerm.set s))) b.outer
-property_step d (m.BehindItemChar b p c) = no_one b p ((c, c) ∷ [])
+property_step d (m.AfterValue v) = no_value v
+property_step d (m.InLex b) = no_lex b b.enclosing
+property_step d (m.LexSuffixed b) = no_lex b b.enclosing
+property_step d (m.AfterLexAtom b t) = no_lex (m.lex_add b t) b.enclosing
+property_step d (m.AfterLiteral b k) = no_lex (m.lex_add b (LexerTerm.literal k)) b.enclosing
+property_step d (m.AfterSet b s) = no_lex (m.lex_add b (LexerTerm.set s)) b.enclosing
+property_step d (m.AfterSetStar b s) = no_lex (m.lex_add b (LexerTerm.star (LexerTerm.set s))) b.enclosing
+property_step d (m.AfterItemChar b p c) = no_one b p ((c, c) ∷ [])
 property_step d _ = refl
 
 -- where more can follow, the word wasn't the last
@@ -78,7 +79,7 @@ not_last s t w.Property e k = let x : None ≡ Some t = sym (property_step 64 s)
 not_last s t _ e k = refl
 
 -- a text ends with the word that is its end
-only_end : (s : Spot) (word : Word) → next s word ≡ finished → (s ≡ finished → ⊥) → is_last word ≡ true
+only_end : (s : Region) (word : Word) → next s word ≡ finished → (s ≡ finished → ⊥) → is_last word ≡ true
 only_end starting _ e k = cc e
 only_end heading w.Semicolon e k = cc e
 only_end heading _ e k = cc e
@@ -115,15 +116,15 @@ only_end (command side) w.Bar e k = cc e
 only_end (command side) _ e k = cc e
 only_end finished _ e k = absurd (k refl)
 
-open_owner : (o : m.Owner) → spot_of_owner o ≡ finished → ⊥
+open_owner : (o : m.Owner) → region_of_owner o ≡ finished → ⊥
 open_owner m.OfText f = cc f
 open_owner (m.OfRule head) f = cc f
 
-open_value : (v : m.ValueOf) → spot_of_value v ≡ finished → ⊥
+open_value : (v : m.ValueOf) → region_of_value v ≡ finished → ⊥
 open_value (m.InEntry g o) f = open_owner o f
 open_value (m.InOpening b) f = cc f
 
-open_still : (s : State) (t : State) (word : Word) → step 64 s word ≡ Some t → spot_of s ≡ finished → ⊥
+open_still : (s : State) (t : State) (word : Word) → step 64 s word ≡ Some t → region_of s ≡ finished → ⊥
 open_still (m.AtEnd g) t word e f = cc e
 open_still (m.AtOptionsBrace g o) t word e f = open_owner o f
 open_still (m.AtEntry g o) t word e f = open_owner o f
@@ -131,19 +132,19 @@ open_still (m.AtEntryEquals g o) t word e f = open_owner o f
 open_still (m.AtValue v) t word e f = open_value v f
 open_still (m.InPath v) t word e f = open_value v f
 open_still (m.AtPathName v) t word e f = open_value v f
-open_still (m.BehindValue v) t word e f = open_value v f
+open_still (m.AfterValue v) t word e f = open_value v f
 open_still _ t word e f = cc f
 
 at_last : (s : State) (word : Word) (G : WrittenGrammar) → step 64 s word ≡ Some (AtEnd G) → is_last word ≡ true
-at_last s word G e = only_end (spot_of s) word (subst (Keeps (spot_of s) word) e (keeps_step 64 s word)) (open_still s (AtEnd G) word e)
+at_last s word G e = only_end (region_of s) word (subst (Keeps (region_of s) word) e (keeps_step 64 s word)) (open_still s (AtEnd G) word e)
 
 is_end : (s : State) (word : Word) (G : WrittenGrammar) → step 64 s word ≡ Some (AtEnd G) → word ≡ w.End
-is_end s word G e = told word (at_last s word G e) e where
-  told : (word : Word) → is_last word ≡ true → step 64 s word ≡ Some (AtEnd G) → word ≡ w.End
-  told w.End a e = refl
-  told w.Bad a e = let x : None ≡ Some (AtEnd G) = sym (bad_step 64 s) ∙ e in cc x
-  told w.Property a e = let x : None ≡ Some (AtEnd G) = sym (property_step 64 s) ∙ e in cc x
-  told _ a e = cc a
+is_end s word G e = shown word (at_last s word G e) e where
+  shown : (word : Word) → is_last word ≡ true → step 64 s word ≡ Some (AtEnd G) → word ≡ w.End
+  shown w.End a e = refl
+  shown w.Bad a e = let x : None ≡ Some (AtEnd G) = sym (bad_step 64 s) ∙ e in cc x
+  shown w.Property a e = let x : None ≡ Some (AtEnd G) = sym (property_step 64 s) ∙ e in cc x
+  shown _ a e = cc a
 
 pub record IsReading (bytes : List ℕ) (left : List Placed) (s : State) : Type 0 where
   pub before : List Placed
@@ -180,8 +181,8 @@ module _ (bytes : List ℕ) (left more : List Placed) (p : Placed) (s : State) (
   pub stops : step 64 s p.word ≡ None → IsFirstFault bytes (fault_at s p.word p.offset)
   stops f = record {
     before = r.before;
-    here = p;
-    behind = more;
+    current = p;
+    after = more;
     cut = whole;
     begun = reached 64 s (only_words r.before) r.read;
     stuck = λ b. stuck 64 (only_words r.before ++ p.word ∷ []) (now None f) (subst (BeginsOf 64) (snoc r.before p) b);
@@ -204,14 +205,14 @@ module _ (bytes : List ℕ) (left more : List Placed) (p : Placed) (s : State) (
       let last : p.word ≡ w.End = is_end s p.word G f in
       let shown : IsTextOf 64 (only_words r.before ++ w.End ∷ []) H =
       subst (λ ws. IsTextOf 64 ws H) (ends G f over ∙ ap (λ word. only_words r.before ++ word ∷ []) last) t in
-      let here : step 64 s w.End ≡ Some (AtEnd H) = accepted 64 (only_words r.before) s H r.read shown in
+      let current : step 64 s w.End ≡ Some (AtEnd H) = accepted 64 (only_words r.before) s H r.read shown in
       let there : step 64 s w.End ≡ Some (AtEnd G) = subst (λ word. step 64 s word ≡ Some (AtEnd G)) last f in
-      cc (sym there ∙ here)
+      cc (sym there ∙ current)
 
 -- no other fault is a name
 pub is_fault : (bytes : List ℕ) (fault : ReadFault) → IsUtf8 bytes → IsFirstFault bytes fault → IsFaultOf bytes (Err fault)
 is_fault bytes (f.NotUtf8 offset) u h = absurd (none h.named) where
-  none : {before : List Word} {here : Placed} → IsNamed before here (f.NotUtf8 offset) → ⊥
+  none : {before : List Word} {current : Placed} → IsNamed before current (f.NotUtf8 offset) → ⊥
   none n = elim n [ ]
 is_fault bytes (f.Syntax offset) u h = (u, h)
 is_fault bytes (f.Unsupported what offset) u h = (u, h)

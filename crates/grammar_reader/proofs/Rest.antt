@@ -4,10 +4,10 @@ use Rattle.grammar_tree.specs.Written.{Reference, WrittenTerm, LexerTerm, Writte
 use Rattle.grammar_words.specs.Names.{is}
 use Rattle.grammar_words.specs.declared.word.Word.{Word}
 use Rattle.grammar_words.specs.declared.word.Word.TheVariants as w
-use Rattle.grammar_reader.specs.Sets.{within, outside}
-use Rattle.grammar_reader.specs.Notation.{IsName, IsPath, IsValue, IsEntries, MayBeOptions, IsRef, IsSuffixed, IsLabel, IsOpening, IsAltName, IsAtom, IsAlts, IsItem, IsCharSet, IsLexSuffixed, IsCommand, IsLast, top, IsLexAtom, IsLexAlts, parser_rule, lexer_rule, IsTextOf}
-use Rattle.grammar_reader.specs.Machine.{Frame, with_term, whole, next_alt, fresh, Head, ParserHead, LexerHead, Owner, OfText, OfRule, Body, LexBody, ValueOf, InEntry, InOpening, ItemPlace, Alone, Listed, with_rule, with_token}
-use Rattle.grammar_reader.specs.Machine as m
+use Rattle.grammar_notation.specs.Sets.{within, outside}
+use Rattle.grammar_notation.specs.Notation.{IsName, IsPath, IsValue, IsEntries, MayBeOptions, IsRef, IsSuffixed, IsLabel, IsOpening, IsAltName, IsAtom, IsAlts, IsItem, IsCharSet, IsLexSuffixed, IsCommand, IsLast, top, IsLexAtom, IsLexAlts, parser_rule, lexer_rule, IsTextOf}
+use Rattle.grammar_machine.specs.Machine.{Frame, with_term, whole, next_alt, fresh, Head, ParserHead, LexerHead, Owner, OfText, OfRule, Body, LexBody, ValueOf, InEntry, InOpening, ItemPosition, Alone, Listed, with_rule, with_token}
+use Rattle.grammar_machine.specs.Machine as m
 
 -- further rules, and the end
 pub data RulesRest (d : ℕ) : WrittenGrammar → List Word → WrittenGrammar → Type 0 where
@@ -32,66 +32,66 @@ mutual
   -- tokens, and what follows them
   pub data TokensRest (d : ℕ) : WrittenGrammar → List Word → WrittenGrammar → Type 0 where
     tokens_end : {g G : WrittenGrammar} {words : List Word} → TextRest d g words G → TokensRest d g (w.CloseBrace ∷ words) G
-    token : {g G : WrittenGrammar} {n : List ℕ} {words : List Word} → BehindTokenRest d (with_token g n) words G → TokensRest d g (w.Upper n ∷ words) G
+    token : {g G : WrittenGrammar} {n : List ℕ} {words : List Word} → AfterTokenRest d (with_token g n) words G → TokensRest d g (w.Upper n ∷ words) G
 
-  pub data BehindTokenRest (d : ℕ) : WrittenGrammar → List Word → WrittenGrammar → Type 0 where
-    last : {g G : WrittenGrammar} {words : List Word} → TextRest d g words G → BehindTokenRest d g (w.CloseBrace ∷ words) G
-    comma : {g G : WrittenGrammar} {words : List Word} → TokensRest d g words G → BehindTokenRest d g (w.Comma ∷ words) G
+  pub data AfterTokenRest (d : ℕ) : WrittenGrammar → List Word → WrittenGrammar → Type 0 where
+    last : {g G : WrittenGrammar} {words : List Word} → TextRest d g words G → AfterTokenRest d g (w.CloseBrace ∷ words) G
+    comma : {g G : WrittenGrammar} {words : List Word} → TokensRest d g words G → AfterTokenRest d g (w.Comma ∷ words) G
 
 abbrev pub is_top : {T : Type 0} → List (Frame T) → Bool
 is_top [] = true
-is_top (f ∷ outer) = false
+is_top (f ∷ enclosing) = false
 
 -- in a parser rule
 mutual
   -- the alternatives are whole
   pub data Closes (d : ℕ) (g : WrittenGrammar) (n : List ℕ) : ℕ → List (Frame WrittenTerm) → List (List WrittenTerm) → List Word → WrittenGrammar → Type 0 where
-    rule_ends : {room : ℕ} {alts : List (List WrittenTerm)} {words : List Word} {G : WrittenGrammar} →
-        RulesRest d (with_rule g (parser_rule n alts)) words G → Closes d g n room [] alts (w.Semicolon ∷ words) G
-    block_ends : {room : ℕ} {f : Frame WrittenTerm} {outer : List (Frame WrittenTerm)} {alts : List (List WrittenTerm)} {words : List Word} {G : WrittenGrammar} →
-        Behind d g n (suc room) outer f (WrittenTerm.block (written_alts alts)) words G → Closes d g n room (f ∷ outer) alts (w.Close ∷ words) G
+    rule_ends : {blocks_left : ℕ} {alts : List (List WrittenTerm)} {words : List Word} {G : WrittenGrammar} →
+        RulesRest d (with_rule g (parser_rule n alts)) words G → Closes d g n blocks_left [] alts (w.Semicolon ∷ words) G
+    block_ends : {blocks_left : ℕ} {f : Frame WrittenTerm} {enclosing : List (Frame WrittenTerm)} {alts : List (List WrittenTerm)} {words : List Word} {G : WrittenGrammar} →
+        After d g n (suc blocks_left) enclosing f (WrittenTerm.block (written_alts alts)) words G → Closes d g n blocks_left (f ∷ enclosing) alts (w.Close ∷ words) G
 
-  -- the alternative at hand is whole
+  -- the current alternative is whole
   pub data AltEnd (d : ℕ) (g : WrittenGrammar) (n : List ℕ) : ℕ → List (Frame WrittenTerm) → Frame WrittenTerm → List Word → WrittenGrammar → Type 0 where
-    alts_end : {room : ℕ} {outer : List (Frame WrittenTerm)} {f : Frame WrittenTerm} {words : List Word} {G : WrittenGrammar} →
-        Closes d g n room outer (whole f) words G → AltEnd d g n room outer f words G
-    alts_go_on : {room : ℕ} {outer : List (Frame WrittenTerm)} {f : Frame WrittenTerm} {words : List Word} {G : WrittenGrammar} →
-        Opens d g n room outer (next_alt f) words G → AltEnd d g n room outer f (w.Bar ∷ words) G
+    alts_end : {blocks_left : ℕ} {enclosing : List (Frame WrittenTerm)} {f : Frame WrittenTerm} {words : List Word} {G : WrittenGrammar} →
+        Closes d g n blocks_left enclosing (whole f) words G → AltEnd d g n blocks_left enclosing f words G
+    alts_go_on : {blocks_left : ℕ} {enclosing : List (Frame WrittenTerm)} {f : Frame WrittenTerm} {words : List Word} {G : WrittenGrammar} →
+        Opens d g n blocks_left enclosing (next_alt f) words G → AltEnd d g n blocks_left enclosing f (w.Bar ∷ words) G
 
   pub data Opens (d : ℕ) (g : WrittenGrammar) (n : List ℕ) : ℕ → List (Frame WrittenTerm) → Frame WrittenTerm → List Word → WrittenGrammar → Type 0 where
-    opens : {room : ℕ} {outer : List (Frame WrittenTerm)} {f : Frame WrittenTerm} {words mid : List Word} {G : WrittenGrammar} →
-        IsOpening words mid → Within d g n room outer f mid G → Opens d g n room outer f words G
+    opens : {blocks_left : ℕ} {enclosing : List (Frame WrittenTerm)} {f : Frame WrittenTerm} {words mid : List Word} {G : WrittenGrammar} →
+        IsOpening words mid → Within d g n blocks_left enclosing f mid G → Opens d g n blocks_left enclosing f words G
 
   pub data Within (d : ℕ) (g : WrittenGrammar) (n : List ℕ) : ℕ → List (Frame WrittenTerm) → Frame WrittenTerm → List Word → WrittenGrammar → Type 0 where
-    ends : {room : ℕ} {outer : List (Frame WrittenTerm)} {f : Frame WrittenTerm} {words mid : List Word} {G : WrittenGrammar} →
-        IsAltName (is_top outer) words mid → AltEnd d g n room outer f mid G → Within d g n room outer f words G
-    goes_on : {room : ℕ} {outer : List (Frame WrittenTerm)} {f : Frame WrittenTerm} {words labelled mid : List Word} {a : WrittenTerm} {G : WrittenGrammar} →
-        IsLabel words labelled → IsAtom room labelled a mid → Behind d g n room outer f a mid G → Within d g n room outer f words G
+    ends : {blocks_left : ℕ} {enclosing : List (Frame WrittenTerm)} {f : Frame WrittenTerm} {words mid : List Word} {G : WrittenGrammar} →
+        IsAltName (is_top enclosing) words mid → AltEnd d g n blocks_left enclosing f mid G → Within d g n blocks_left enclosing f words G
+    goes_on : {blocks_left : ℕ} {enclosing : List (Frame WrittenTerm)} {f : Frame WrittenTerm} {words labelled mid : List Word} {a : WrittenTerm} {G : WrittenGrammar} →
+        IsLabel words labelled → IsAtom blocks_left labelled a mid → After d g n blocks_left enclosing f a mid G → Within d g n blocks_left enclosing f words G
 
-  -- behind an atom
-  pub data Behind (d : ℕ) (g : WrittenGrammar) (n : List ℕ) : ℕ → List (Frame WrittenTerm) → Frame WrittenTerm → WrittenTerm → List Word → WrittenGrammar → Type 0 where
-    behind : {room : ℕ} {outer : List (Frame WrittenTerm)} {f : Frame WrittenTerm} {t u : WrittenTerm} {words mid : List Word} {G : WrittenGrammar} →
-        IsSuffixed t words u mid → Within d g n room outer (with_term f u) mid G → Behind d g n room outer f t words G
+  -- after an atom
+  pub data After (d : ℕ) (g : WrittenGrammar) (n : List ℕ) : ℕ → List (Frame WrittenTerm) → Frame WrittenTerm → WrittenTerm → List Word → WrittenGrammar → Type 0 where
+    after : {blocks_left : ℕ} {enclosing : List (Frame WrittenTerm)} {f : Frame WrittenTerm} {t u : WrittenTerm} {words mid : List Word} {G : WrittenGrammar} →
+        IsSuffixed t words u mid → Within d g n blocks_left enclosing (with_term f u) mid G → After d g n blocks_left enclosing f t words G
 
 -- at an atom
 pub data AtomRest (d : ℕ) (b : Body) : List Word → WrittenGrammar → Type 0 where
   atom : {words mid : List Word} {a : WrittenTerm} {G : WrittenGrammar} →
-      IsAtom b.room words a mid → Behind d b.text b.name b.room b.outer b.here a mid G → AtomRest d b words G
+      IsAtom b.blocks_left words a mid → After d b.text b.name b.blocks_left b.enclosing b.current a mid G → AtomRest d b words G
 
-abbrev pub BehindRest : ℕ → Body → WrittenTerm → List Word → WrittenGrammar → Type 0
-BehindRest d b t words G = Behind d b.text b.name b.room b.outer b.here t words G
+abbrev pub AfterRest : ℕ → Body → WrittenTerm → List Word → WrittenGrammar → Type 0
+AfterRest d b t words G = After d b.text b.name b.blocks_left b.enclosing b.current t words G
 
 abbrev pub WithinRest : ℕ → Body → List Word → WrittenGrammar → Type 0
-WithinRest d b words G = Within d b.text b.name b.room b.outer b.here words G
+WithinRest d b words G = Within d b.text b.name b.blocks_left b.enclosing b.current words G
 
 abbrev pub AltEndRest : ℕ → Body → List Word → WrittenGrammar → Type 0
-AltEndRest d b words G = AltEnd d b.text b.name b.room b.outer b.here words G
+AltEndRest d b words G = AltEnd d b.text b.name b.blocks_left b.enclosing b.current words G
 
--- behind a name, which may be a label
+-- after a name, which may be a label
 pub data NameRest (d : ℕ) (b : Body) (t : WrittenTerm) : List Word → WrittenGrammar → Type 0 where
   label : {words : List Word} {G : WrittenGrammar} → AtomRest d b words G → NameRest d b t (w.Equals ∷ words) G
   list_label : {words : List Word} {G : WrittenGrammar} → AtomRest d b words G → NameRest d b t (w.PlusEquals ∷ words) G
-  no_label : {words : List Word} {G : WrittenGrammar} → BehindRest d b t words G → NameRest d b t words G
+  no_label : {words : List Word} {G : WrittenGrammar} → AfterRest d b t words G → NameRest d b t words G
 
 mutual
   -- a reference in brackets, and what follows one
@@ -100,12 +100,12 @@ mutual
         IsRef word r → RefsRest d b (rs ++ r ∷ []) words G → RefInRest d b rs (word ∷ words) G
 
   pub data RefsRest (d : ℕ) (b : Body) : List Reference → List Word → WrittenGrammar → Type 0 where
-    refs_end : {rs : List Reference} {words : List Word} {G : WrittenGrammar} → BehindRest d b (WrittenTerm.but rs) words G → RefsRest d b rs (w.Close ∷ words) G
+    refs_end : {rs : List Reference} {words : List Word} {G : WrittenGrammar} → AfterRest d b (WrittenTerm.but rs) words G → RefsRest d b rs (w.Close ∷ words) G
     refs_go_on : {rs : List Reference} {words : List Word} {G : WrittenGrammar} → RefInRest d b rs words G → RefsRest d b rs (w.Bar ∷ words) G
 
--- behind `~`
+-- after `~`
 pub data RefRest (d : ℕ) (b : Body) : List Word → WrittenGrammar → Type 0 where
-  ref : {r : Reference} {word : Word} {words : List Word} {G : WrittenGrammar} → IsRef word r → BehindRest d b (WrittenTerm.but (r ∷ [])) words G → RefRest d b (word ∷ words) G
+  ref : {r : Reference} {word : Word} {words : List Word} {G : WrittenGrammar} → IsRef word r → AfterRest d b (WrittenTerm.but (r ∷ [])) words G → RefRest d b (word ∷ words) G
   refs : {words : List Word} {G : WrittenGrammar} → RefInRest d b [] words G → RefRest d b (w.Open ∷ words) G
 
 pub data AltNameRest (d : ℕ) (b : Body) : List Word → WrittenGrammar → Type 0 where
@@ -118,77 +118,77 @@ Agrees (Some known) gap = known ≡ gap
 
 mutual
   pub data LexCloses (d : ℕ) (g : WrittenGrammar) (n : List ℕ) (frag : Bool) : Option Bool → ℕ → List (Frame LexerTerm) → List (List LexerTerm) → List Word → WrittenGrammar → Type 0 where
-    rule_ends : {gap : Bool} {room : ℕ} {alts : List (List LexerTerm)} {words : List Word} {G : WrittenGrammar} →
-        RulesRest d (with_rule g (lexer_rule n frag gap alts)) words G → LexCloses d g n frag (Some gap) room [] alts (w.Semicolon ∷ words) G
-    block_ends : {known : Option Bool} {room : ℕ} {f : Frame LexerTerm} {outer : List (Frame LexerTerm)} {alts : List (List LexerTerm)} {words : List Word} {G : WrittenGrammar} →
-        LexBehind d g n frag known (suc room) outer f (LexerTerm.block (lexer_alts alts)) words G → LexCloses d g n frag known room (f ∷ outer) alts (w.Close ∷ words) G
+    rule_ends : {gap : Bool} {blocks_left : ℕ} {alts : List (List LexerTerm)} {words : List Word} {G : WrittenGrammar} →
+        RulesRest d (with_rule g (lexer_rule n frag gap alts)) words G → LexCloses d g n frag (Some gap) blocks_left [] alts (w.Semicolon ∷ words) G
+    block_ends : {known : Option Bool} {blocks_left : ℕ} {f : Frame LexerTerm} {enclosing : List (Frame LexerTerm)} {alts : List (List LexerTerm)} {words : List Word} {G : WrittenGrammar} →
+        LexAfter d g n frag known (suc blocks_left) enclosing f (LexerTerm.block (lexer_alts alts)) words G → LexCloses d g n frag known blocks_left (f ∷ enclosing) alts (w.Close ∷ words) G
 
   pub data LexAltEnd (d : ℕ) (g : WrittenGrammar) (n : List ℕ) (frag : Bool) : Option Bool → ℕ → List (Frame LexerTerm) → Frame LexerTerm → List Word → WrittenGrammar → Type 0 where
-    alts_end : {known : Option Bool} {room : ℕ} {outer : List (Frame LexerTerm)} {f : Frame LexerTerm} {words : List Word} {G : WrittenGrammar} →
-        LexCloses d g n frag known room outer (whole f) words G → LexAltEnd d g n frag known room outer f words G
-    alts_go_on : {known : Option Bool} {room : ℕ} {outer : List (Frame LexerTerm)} {f : Frame LexerTerm} {words : List Word} {G : WrittenGrammar} →
-        LexWithin d g n frag known room outer (next_alt f) words G → LexAltEnd d g n frag known room outer f (w.Bar ∷ words) G
+    alts_end : {known : Option Bool} {blocks_left : ℕ} {enclosing : List (Frame LexerTerm)} {f : Frame LexerTerm} {words : List Word} {G : WrittenGrammar} →
+        LexCloses d g n frag known blocks_left enclosing (whole f) words G → LexAltEnd d g n frag known blocks_left enclosing f words G
+    alts_go_on : {known : Option Bool} {blocks_left : ℕ} {enclosing : List (Frame LexerTerm)} {f : Frame LexerTerm} {words : List Word} {G : WrittenGrammar} →
+        LexWithin d g n frag known blocks_left enclosing (next_alt f) words G → LexAltEnd d g n frag known blocks_left enclosing f (w.Bar ∷ words) G
 
   pub data LexWithin (d : ℕ) (g : WrittenGrammar) (n : List ℕ) (frag : Bool) : Option Bool → ℕ → List (Frame LexerTerm) → Frame LexerTerm → List Word → WrittenGrammar → Type 0 where
-    ends_inner : {known : Option Bool} {room : ℕ} {f' : Frame LexerTerm} {outer : List (Frame LexerTerm)} {f : Frame LexerTerm} {words : List Word} {G : WrittenGrammar} →
-        LexAltEnd d g n frag known room (f' ∷ outer) f words G → LexWithin d g n frag known room (f' ∷ outer) f words G
-    ends_plain : {known : Option Bool} {room : ℕ} {f : Frame LexerTerm} {words : List Word} {G : WrittenGrammar} →
-        LexDone d g n frag known room f words G → LexWithin d g n frag known room [] f words G
-    ends_loop : {known : Option Bool} {room : ℕ} {f : Frame LexerTerm} {s : List (ℕ × ℕ)} {words mid : List Word} {G : WrittenGrammar} →
-        frag ≡ false → IsCharSet words s (w.Star ∷ w.Question ∷ mid) → LexLoop d g n frag known room f s mid G → LexWithin d g n frag known room [] f words G
-    goes_on : {known : Option Bool} {room : ℕ} {outer : List (Frame LexerTerm)} {f : Frame LexerTerm} {words mid : List Word} {a : LexerTerm} {G : WrittenGrammar} →
-        IsLexAtom room words a mid → LexBehind d g n frag known room outer f a mid G → LexWithin d g n frag known room outer f words G
+    ends_inner : {known : Option Bool} {blocks_left : ℕ} {f' : Frame LexerTerm} {enclosing : List (Frame LexerTerm)} {f : Frame LexerTerm} {words : List Word} {G : WrittenGrammar} →
+        LexAltEnd d g n frag known blocks_left (f' ∷ enclosing) f words G → LexWithin d g n frag known blocks_left (f' ∷ enclosing) f words G
+    ends_plain : {known : Option Bool} {blocks_left : ℕ} {f : Frame LexerTerm} {words : List Word} {G : WrittenGrammar} →
+        LexDone d g n frag known blocks_left f words G → LexWithin d g n frag known blocks_left [] f words G
+    ends_loop : {known : Option Bool} {blocks_left : ℕ} {f : Frame LexerTerm} {s : List (ℕ × ℕ)} {words mid : List Word} {G : WrittenGrammar} →
+        frag ≡ false → IsCharSet words s (w.Star ∷ w.Question ∷ mid) → LexLoop d g n frag known blocks_left f s mid G → LexWithin d g n frag known blocks_left [] f words G
+    goes_on : {known : Option Bool} {blocks_left : ℕ} {enclosing : List (Frame LexerTerm)} {f : Frame LexerTerm} {words mid : List Word} {a : LexerTerm} {G : WrittenGrammar} →
+        IsLexAtom blocks_left words a mid → LexAfter d g n frag known blocks_left enclosing f a mid G → LexWithin d g n frag known blocks_left enclosing f words G
 
-  -- behind a non-greedy loop
+  -- after a non-greedy loop
   pub data LexLoop (d : ℕ) (g : WrittenGrammar) (n : List ℕ) (frag : Bool) : Option Bool → ℕ → Frame LexerTerm → List (ℕ × ℕ) → List Word → WrittenGrammar → Type 0 where
-    loop_rest : {known : Option Bool} {room : ℕ} {f : Frame LexerTerm} {s : List (ℕ × ℕ)} {t : LexerTerm} {words mid : List Word} {G : WrittenGrammar} →
-        IsLast words t mid → LexDone d g n frag known room (with_term (with_term f (LexerTerm.short s)) t) mid G → LexLoop d g n frag known room f s words G
+    loop_rest : {known : Option Bool} {blocks_left : ℕ} {f : Frame LexerTerm} {s : List (ℕ × ℕ)} {t : LexerTerm} {words mid : List Word} {G : WrittenGrammar} →
+        IsLast words t mid → LexDone d g n frag known blocks_left (with_term (with_term f (LexerTerm.short s)) t) mid G → LexLoop d g n frag known blocks_left f s words G
 
-  -- behind what an alternative of the rule itself consists of
+  -- after what an alternative of the rule itself consists of
   pub data LexDone (d : ℕ) (g : WrittenGrammar) (n : List ℕ) (frag : Bool) : Option Bool → ℕ → Frame LexerTerm → List Word → WrittenGrammar → Type 0 where
-    done : {known : Option Bool} {gap : Bool} {room : ℕ} {f : Frame LexerTerm} {words mid : List Word} {G : WrittenGrammar} →
-        Agrees known gap → IsCommand gap words mid → LexAltEnd d g n frag (Some gap) room [] f mid G → LexDone d g n frag known room f words G
+    done : {known : Option Bool} {gap : Bool} {blocks_left : ℕ} {f : Frame LexerTerm} {words mid : List Word} {G : WrittenGrammar} →
+        Agrees known gap → IsCommand gap words mid → LexAltEnd d g n frag (Some gap) blocks_left [] f mid G → LexDone d g n frag known blocks_left f words G
 
-  pub data LexBehind (d : ℕ) (g : WrittenGrammar) (n : List ℕ) (frag : Bool) : Option Bool → ℕ → List (Frame LexerTerm) → Frame LexerTerm → LexerTerm → List Word → WrittenGrammar → Type 0 where
-    behind : {known : Option Bool} {room : ℕ} {outer : List (Frame LexerTerm)} {f : Frame LexerTerm} {t u : LexerTerm} {words mid : List Word} {G : WrittenGrammar} →
-        IsLexSuffixed t words u mid → LexWithin d g n frag known room outer (with_term f u) mid G → LexBehind d g n frag known room outer f t words G
+  pub data LexAfter (d : ℕ) (g : WrittenGrammar) (n : List ℕ) (frag : Bool) : Option Bool → ℕ → List (Frame LexerTerm) → Frame LexerTerm → LexerTerm → List Word → WrittenGrammar → Type 0 where
+    after : {known : Option Bool} {blocks_left : ℕ} {enclosing : List (Frame LexerTerm)} {f : Frame LexerTerm} {t u : LexerTerm} {words mid : List Word} {G : WrittenGrammar} →
+        IsLexSuffixed t words u mid → LexWithin d g n frag known blocks_left enclosing (with_term f u) mid G → LexAfter d g n frag known blocks_left enclosing f t words G
 
 abbrev pub LexRest : ℕ → LexBody → List Word → WrittenGrammar → Type 0
-LexRest d b words G = LexWithin d b.text b.name b.fragment b.known b.room b.outer b.here words G
+LexRest d b words G = LexWithin d b.text b.name b.fragment b.known b.blocks_left b.enclosing b.current words G
 
-abbrev pub LexBehindRest : ℕ → LexBody → LexerTerm → List Word → WrittenGrammar → Type 0
-LexBehindRest d b t words G = LexBehind d b.text b.name b.fragment b.known b.room b.outer b.here t words G
+abbrev pub LexAfterRest : ℕ → LexBody → LexerTerm → List Word → WrittenGrammar → Type 0
+LexAfterRest d b t words G = LexAfter d b.text b.name b.fragment b.known b.blocks_left b.enclosing b.current t words G
 
 abbrev pub LexLoopRest : ℕ → LexBody → List (ℕ × ℕ) → List Word → WrittenGrammar → Type 0
-LexLoopRest d b s words G = LexLoop d b.text b.name b.fragment b.known b.room b.here s words G
+LexLoopRest d b s words G = LexLoop d b.text b.name b.fragment b.known b.blocks_left b.current s words G
 
 abbrev pub LexDoneRest : ℕ → LexBody → List Word → WrittenGrammar → Type 0
-LexDoneRest d b words G = LexDone d b.text b.name b.fragment b.known b.room b.here words G
+LexDoneRest d b words G = LexDone d b.text b.name b.fragment b.known b.blocks_left b.current words G
 
--- behind a command
+-- after a command
 abbrev pub CommandedRest : ℕ → LexBody → List Word → WrittenGrammar → Type 0
-CommandedRest d b words G = LexAltEnd d b.text b.name b.fragment (Some true) b.room [] b.here words G
+CommandedRest d b words G = LexAltEnd d b.text b.name b.fragment (Some true) b.blocks_left [] b.current words G
 
--- behind a literal, with which a range may begin
+-- after a literal, with which a range may begin
 pub data LiteralRest (d : ℕ) (b : LexBody) : List ℕ → List Word → WrittenGrammar → Type 0 where
-  no_range : {n : List ℕ} {words : List Word} {G : WrittenGrammar} → LexBehindRest d b (LexerTerm.literal n) words G → LiteralRest d b n words G
-  range : {a c : ℕ} {words : List Word} {G : WrittenGrammar} → a ≤ c → LexBehindRest d b (LexerTerm.set (within ((a, c) ∷ []))) words G →
+  no_range : {n : List ℕ} {words : List Word} {G : WrittenGrammar} → LexAfterRest d b (LexerTerm.literal n) words G → LiteralRest d b n words G
+  range : {a c : ℕ} {words : List Word} {G : WrittenGrammar} → a ≤ c → LexAfterRest d b (LexerTerm.set (within ((a, c) ∷ []))) words G →
       LiteralRest d b (a ∷ []) (w.Dots ∷ w.Literal (c ∷ []) ∷ words) G
 
 pub data RangeRest (d : ℕ) (b : LexBody) (a : ℕ) : List Word → WrittenGrammar → Type 0 where
-  range_end : {c : ℕ} {words : List Word} {G : WrittenGrammar} → a ≤ c → LexBehindRest d b (LexerTerm.set (within ((a, c) ∷ []))) words G → RangeRest d b a (w.Literal (c ∷ []) ∷ words) G
+  range_end : {c : ℕ} {words : List Word} {G : WrittenGrammar} → a ≤ c → LexAfterRest d b (LexerTerm.set (within ((a, c) ∷ []))) words G → RangeRest d b a (w.Literal (c ∷ []) ∷ words) G
 
 abbrev pub IsTop : LexBody → Type 0
-IsTop b = (is_top b.outer ≡ true) × (b.fragment ≡ false)
+IsTop b = (is_top b.enclosing ≡ true) × (b.fragment ≡ false)
 
--- behind a set, with which a non-greedy loop may begin
+-- after a set, with which a non-greedy loop may begin
 pub data SetRest (d : ℕ) (b : LexBody) (s : List (ℕ × ℕ)) : List Word → WrittenGrammar → Type 0 where
-  no_loop : {words : List Word} {G : WrittenGrammar} → LexBehindRest d b (LexerTerm.set s) words G → SetRest d b s words G
+  no_loop : {words : List Word} {G : WrittenGrammar} → LexAfterRest d b (LexerTerm.set s) words G → SetRest d b s words G
   loop : {words : List Word} {G : WrittenGrammar} → IsTop b → LexLoopRest d b s words G → SetRest d b s (w.Star ∷ w.Question ∷ words) G
 
 pub data StarRest (d : ℕ) (b : LexBody) (s : List (ℕ × ℕ)) : List Word → WrittenGrammar → Type 0 where
   greedy : {words : List Word} {G : WrittenGrammar} →
-      LexWithin d b.text b.name b.fragment b.known b.room b.outer (with_term b.here (LexerTerm.star (LexerTerm.set s))) words G → StarRest d b s words G
+      LexWithin d b.text b.name b.fragment b.known b.blocks_left b.enclosing (with_term b.current (LexerTerm.star (LexerTerm.set s))) words G → StarRest d b s words G
   not_greedy : {words : List Word} {G : WrittenGrammar} → IsTop b → LexLoopRest d b s words G → StarRest d b s (w.Question ∷ words) G
 
 mutual
@@ -200,25 +200,25 @@ mutual
     items_end : {ranges : List (ℕ × ℕ)} {words : List Word} {G : WrittenGrammar} → SetRest d b (outside ranges) words G → ItemsRest d b ranges (w.Close ∷ words) G
     items_go_on : {ranges : List (ℕ × ℕ)} {words : List Word} {G : WrittenGrammar} → ItemInRest d b ranges words G → ItemsRest d b ranges (w.Bar ∷ words) G
 
--- behind an item, at its place
-abbrev pub BehindItemRest : ℕ → LexBody → ItemPlace → List (ℕ × ℕ) → List Word → WrittenGrammar → Type 0
-BehindItemRest d b Alone i words G = SetRest d b (outside i) words G
-BehindItemRest d b (Listed ranges) i words G = ItemsRest d b (ranges ++ i) words G
+-- after an item, alone or in brackets
+abbrev pub AfterItemRest : ℕ → LexBody → ItemPosition → List (ℕ × ℕ) → List Word → WrittenGrammar → Type 0
+AfterItemRest d b Alone i words G = SetRest d b (outside i) words G
+AfterItemRest d b (Listed ranges) i words G = ItemsRest d b (ranges ++ i) words G
 
-pub data PlacedItem (d : ℕ) (b : LexBody) (p : ItemPlace) : List Word → WrittenGrammar → Type 0 where
-  item : {i : List (ℕ × ℕ)} {words mid : List Word} {G : WrittenGrammar} → IsItem words i mid → BehindItemRest d b p i mid G → PlacedItem d b p words G
+pub data PlacedItem (d : ℕ) (b : LexBody) (p : ItemPosition) : List Word → WrittenGrammar → Type 0 where
+  item : {i : List (ℕ × ℕ)} {words mid : List Word} {G : WrittenGrammar} → IsItem words i mid → AfterItemRest d b p i mid G → PlacedItem d b p words G
 
--- behind `~`
+-- after `~`
 pub data ItemRest (d : ℕ) (b : LexBody) : List Word → WrittenGrammar → Type 0 where
   alone : {words : List Word} {G : WrittenGrammar} → PlacedItem d b Alone words G → ItemRest d b words G
   listed : {words : List Word} {G : WrittenGrammar} → PlacedItem d b (Listed []) words G → ItemRest d b (w.Open ∷ words) G
 
-pub data ItemCharRest (d : ℕ) (b : LexBody) (p : ItemPlace) (a : ℕ) : List Word → WrittenGrammar → Type 0 where
-  no_range : {words : List Word} {G : WrittenGrammar} → BehindItemRest d b p ((a, a) ∷ []) words G → ItemCharRest d b p a words G
-  range : {c : ℕ} {words : List Word} {G : WrittenGrammar} → a ≤ c → BehindItemRest d b p ((a, c) ∷ []) words G → ItemCharRest d b p a (w.Dots ∷ w.Literal (c ∷ []) ∷ words) G
+pub data ItemCharRest (d : ℕ) (b : LexBody) (p : ItemPosition) (a : ℕ) : List Word → WrittenGrammar → Type 0 where
+  no_range : {words : List Word} {G : WrittenGrammar} → AfterItemRest d b p ((a, a) ∷ []) words G → ItemCharRest d b p a words G
+  range : {c : ℕ} {words : List Word} {G : WrittenGrammar} → a ≤ c → AfterItemRest d b p ((a, c) ∷ []) words G → ItemCharRest d b p a (w.Dots ∷ w.Literal (c ∷ []) ∷ words) G
 
-pub data ItemEndRest (d : ℕ) (b : LexBody) (p : ItemPlace) (a : ℕ) : List Word → WrittenGrammar → Type 0 where
-  item_end : {c : ℕ} {words : List Word} {G : WrittenGrammar} → a ≤ c → BehindItemRest d b p ((a, c) ∷ []) words G → ItemEndRest d b p a (w.Literal (c ∷ []) ∷ words) G
+pub data ItemEndRest (d : ℕ) (b : LexBody) (p : ItemPosition) (a : ℕ) : List Word → WrittenGrammar → Type 0 where
+  item_end : {c : ℕ} {words : List Word} {G : WrittenGrammar} → a ≤ c → AfterItemRest d b p ((a, c) ∷ []) words G → ItemEndRest d b p a (w.Literal (c ∷ []) ∷ words) G
 
 pub data ChannelCloseRest (d : ℕ) (b : LexBody) : List Word → WrittenGrammar → Type 0 where
   channel_close : {words : List Word} {G : WrittenGrammar} → CommandedRest d b words G → ChannelCloseRest d b (w.Close ∷ words) G
@@ -239,18 +239,18 @@ pub data ColonRest (d : ℕ) (g : WrittenGrammar) : Head → List Word → Writt
   parser_colon : {n : List ℕ} {words : List Word} {G : WrittenGrammar} → Opens d g n d [] fresh words G → ColonRest d g (ParserHead n) (w.Colon ∷ words) G
   lexer_colon : {n : List ℕ} {frag : Bool} {words : List Word} {G : WrittenGrammar} → LexWithin d g n frag (m.no_commands frag) d [] fresh words G → ColonRest d g (LexerHead n frag) (w.Colon ∷ words) G
 
-abbrev pub BehindOptionsRest : ℕ → WrittenGrammar → Owner → List Word → WrittenGrammar → Type 0
-BehindOptionsRest d g OfText words G = TextRest d g words G
-BehindOptionsRest d g (OfRule head) words G = ColonRest d g head words G
+abbrev pub AfterOptionsRest : ℕ → WrittenGrammar → Owner → List Word → WrittenGrammar → Type 0
+AfterOptionsRest d g OfText words G = TextRest d g words G
+AfterOptionsRest d g (OfRule head) words G = ColonRest d g head words G
 
 pub data EntriesRest (d : ℕ) (g : WrittenGrammar) (o : Owner) : List Word → WrittenGrammar → Type 0 where
-  entries : {words mid : List Word} {G : WrittenGrammar} → IsEntries words mid → BehindOptionsRest d g o mid G → EntriesRest d g o words G
+  entries : {words mid : List Word} {G : WrittenGrammar} → IsEntries words mid → AfterOptionsRest d g o mid G → EntriesRest d g o words G
 
 pub data HeadRest (d : ℕ) (g : WrittenGrammar) (head : Head) : List Word → WrittenGrammar → Type 0 where
   no_options : {words : List Word} {G : WrittenGrammar} → ColonRest d g head words G → HeadRest d g head words G
   options : {words : List Word} {G : WrittenGrammar} → EntriesRest d g (OfRule head) words G → HeadRest d g head (w.Options ∷ w.OpenBrace ∷ words) G
 
--- behind a value
+-- after a value
 pub data ValueEndRest (d : ℕ) : ValueOf → List Word → WrittenGrammar → Type 0 where
   entry_ends : {g : WrittenGrammar} {o : Owner} {words : List Word} {G : WrittenGrammar} → EntriesRest d g o words G → ValueEndRest d (InEntry g o) (w.Semicolon ∷ words) G
   opening_ends : {b : Body} {words : List Word} {G : WrittenGrammar} → WithinRest d b words G → ValueEndRest d (InOpening b) (w.Greater ∷ words) G
@@ -291,45 +291,45 @@ Rest d (m.AtEntryEquals g o) words G = EqualsRest d (InEntry g o) words G
 Rest d (m.AtValue v) words G = ValueRest d v words G
 Rest d (m.InPath v) words G = PathRest d v words G
 Rest d (m.AtPathName v) words G = PathNameRest d v words G
-Rest d (m.BehindValue v) words G = ValueEndRest d v words G
+Rest d (m.AfterValue v) words G = ValueEndRest d v words G
 Rest d (m.AtTokensBrace g) words G = TokensBraceRest d g words G
 Rest d (m.AtToken g) words G = TokensRest d g words G
-Rest d (m.BehindToken g) words G = BehindTokenRest d g words G
+Rest d (m.AfterToken g) words G = AfterTokenRest d g words G
 Rest d (m.AtFragmentName g) words G = FragmentRest d g words G
 Rest d (m.AtHead g head) words G = HeadRest d g head words G
 Rest d (m.AtColon g head) words G = ColonRest d g head words G
-Rest d (m.AtAlt b) words G = Opens d b.text b.name b.room b.outer b.here words G
+Rest d (m.AtAlt b) words G = Opens d b.text b.name b.blocks_left b.enclosing b.current words G
 Rest d (m.AtOpeningName b) words G = OpeningNameRest d b words G
 Rest d (m.AtOpeningEquals b) words G = EqualsRest d (InOpening b) words G
 Rest d (m.InElements b) words G = WithinRest d b words G
 Rest d (m.Suffixed b) words G = WithinRest d b words G
-Rest d (m.BehindName b t) words G = NameRest d b t words G
+Rest d (m.AfterName b t) words G = NameRest d b t words G
 Rest d (m.AtAtom b) words G = AtomRest d b words G
-Rest d (m.BehindAtom b t) words G = BehindRest d b t words G
+Rest d (m.AfterAtom b t) words G = AfterRest d b t words G
 Rest d (m.AtRef b) words G = RefRest d b words G
 Rest d (m.AtRefIn b rs) words G = RefInRest d b rs words G
-Rest d (m.BehindRef b rs) words G = RefsRest d b rs words G
+Rest d (m.AfterRef b rs) words G = RefsRest d b rs words G
 Rest d (m.AtAltName b) words G = AltNameRest d b words G
-Rest d (m.BehindAltName b) words G = AltEndRest d b words G
+Rest d (m.AfterAltName b) words G = AltEndRest d b words G
 Rest d (m.InLex b) words G = LexRest d b words G
 Rest d (m.LexSuffixed b) words G = LexRest d b words G
-Rest d (m.BehindLexAtom b t) words G = LexBehindRest d b t words G
-Rest d (m.BehindLiteral b n) words G = LiteralRest d b n words G
+Rest d (m.AfterLexAtom b t) words G = LexAfterRest d b t words G
+Rest d (m.AfterLiteral b n) words G = LiteralRest d b n words G
 Rest d (m.AtRangeEnd b a) words G = RangeRest d b a words G
-Rest d (m.BehindSet b s) words G = SetRest d b s words G
-Rest d (m.BehindSetStar b s) words G = StarRest d b s words G
-Rest d (m.BehindLoop b s) words G = LexLoopRest d b s words G
+Rest d (m.AfterSet b s) words G = SetRest d b s words G
+Rest d (m.AfterSetStar b s) words G = StarRest d b s words G
+Rest d (m.AfterLoop b s) words G = LexLoopRest d b s words G
 Rest d (m.AltDone b) words G = LexDoneRest d b words G
 Rest d (m.AtItem b) words G = ItemRest d b words G
 Rest d (m.AtItemIn b p) words G = PlacedItem d b p words G
-Rest d (m.BehindItemChar b p a) words G = ItemCharRest d b p a words G
+Rest d (m.AfterItemChar b p a) words G = ItemCharRest d b p a words G
 Rest d (m.AtItemEnd b p a) words G = ItemEndRest d b p a words G
-Rest d (m.BehindItem b ranges) words G = ItemsRest d b ranges words G
+Rest d (m.AfterItem b ranges) words G = ItemsRest d b ranges words G
 Rest d (m.AtCommand b) words G = CommandRest d b words G
 Rest d (m.AtChannelOpen b) words G = ChannelOpenRest d b words G
 Rest d (m.AtChannelName b) words G = ChannelNameRest d b words G
 Rest d (m.AtChannelClose b) words G = ChannelCloseRest d b words G
-Rest d (m.BehindCommand b) words G = CommandedRest d b words G
+Rest d (m.AfterCommand b) words G = CommandedRest d b words G
 Rest d (m.AtEnd g) words G = (words ≡ []) × (G ≡ g)
 
 abbrev pub Goes : ℕ → Option m.State → List Word → WrittenGrammar → Type 0

@@ -3,10 +3,11 @@ use Rattle.std.proofs.Common.{ℕ, List, [], ◌∷◌, ◌++◌, ◌≡◌, Opt
 use Rattle.grammar_tree.specs.Written.{WrittenGrammar, LexerTerm}
 use Rattle.grammar_words.specs.declared.word.Word.{Word}
 use Rattle.grammar_words.specs.declared.word.Word.TheVariants as w
-use Rattle.grammar_reader.specs.Sets.{outside}
-use Rattle.grammar_reader.specs.Machine as m
-use Rattle.grammar_reader.specs.Notation.{IsTextOf, BeginsOf}
-use Rattle.grammar_reader.specs.Machine.{State, AtStart, AtEnd, step, run, and_then}
+use Rattle.grammar_notation.specs.Sets.{outside}
+use Rattle.grammar_machine.specs.Machine as m
+use Rattle.grammar_notation.specs.Notation.{IsTextOf, BeginsOf}
+use Rattle.grammar_machine.specs.Machine.{State, AtStart, AtEnd, step}
+use Rattle.grammar_reader.proofs.WordByWord.{run, and_then}
 use Rattle.grammar_reader.proofs.Rest.{Rest, Goes}
 use Rattle.grammar_reader.proofs.LexerSteps.{Alive}
 use Rattle.grammar_reader.proofs.Steps.{sound, complete, alive}
@@ -52,30 +53,30 @@ module _ (d : ℕ) where
   EndsText None = Unit {0}
   EndsText (Some t) = (G : WrittenGrammar) × (t ≡ AtEnd G)
 
-  end_at_value : (v : m.ValueOf) → EndsText (m.step_behind_value v w.End)
+  end_at_value : (v : m.ValueOf) → EndsText (m.step_after_value v w.End)
   end_at_value (m.InEntry g o) = tt
   end_at_value (m.InOpening b) = tt
 
-  end_in_lex : (b : m.LexBody) (outer : List (m.Frame LexerTerm)) → EndsText (m.step_lex_end b outer w.End)
+  end_in_lex : (b : m.LexBody) (enclosing : List (m.Frame LexerTerm)) → EndsText (m.step_lex_end b enclosing w.End)
   end_in_lex b [] = tt
-  end_in_lex b (f ∷ outer) = tt
+  end_in_lex b (f ∷ enclosing) = tt
 
-  end_behind_one : (b : m.LexBody) (p : m.ItemPlace) (i : List (ℕ × ℕ)) → EndsText (m.step_behind_one b p i w.End)
-  end_behind_one b m.Alone i = end_in_lex (m.lex_add b (LexerTerm.set (outside i))) b.outer
-  end_behind_one b (m.Listed ranges) i = tt
+  end_after_one : (b : m.LexBody) (p : m.ItemPosition) (i : List (ℕ × ℕ)) → EndsText (m.step_after_one b p i w.End)
+  end_after_one b m.Alone i = end_in_lex (m.lex_add b (LexerTerm.set (outside i))) b.enclosing
+  end_after_one b (m.Listed ranges) i = tt
 
   pub end_step : (s : State) → EndsText (step d s w.End)
   end_step (m.AtPrequel g) = (g, refl)
   end_step (m.AtRule g) = (g, refl)
   end_step (m.InPath v) = end_at_value v
-  end_step (m.BehindValue v) = end_at_value v
-  end_step (m.InLex b) = end_in_lex b b.outer
-  end_step (m.LexSuffixed b) = end_in_lex b b.outer
-  end_step (m.BehindLexAtom b t) = end_in_lex (m.lex_add b t) b.outer
-  end_step (m.BehindLiteral b k) = end_in_lex (m.lex_add b (LexerTerm.literal k)) b.outer
-  end_step (m.BehindSet b s) = end_in_lex (m.lex_add b (LexerTerm.set s)) b.outer
-  end_step (m.BehindSetStar b s) = end_in_lex (m.lex_add b (LexerTerm.star (LexerTerm.set s))) b.outer
-  end_step (m.BehindItemChar b p c) = end_behind_one b p ((c, c) ∷ [])
+  end_step (m.AfterValue v) = end_at_value v
+  end_step (m.InLex b) = end_in_lex b b.enclosing
+  end_step (m.LexSuffixed b) = end_in_lex b b.enclosing
+  end_step (m.AfterLexAtom b t) = end_in_lex (m.lex_add b t) b.enclosing
+  end_step (m.AfterLiteral b k) = end_in_lex (m.lex_add b (LexerTerm.literal k)) b.enclosing
+  end_step (m.AfterSet b s) = end_in_lex (m.lex_add b (LexerTerm.set s)) b.enclosing
+  end_step (m.AfterSetStar b s) = end_in_lex (m.lex_add b (LexerTerm.star (LexerTerm.set s))) b.enclosing
+  end_step (m.AfterItemChar b p c) = end_after_one b p ((c, c) ∷ [])
   end_step _ = tt
 
   ended : (G : WrittenGrammar) (o : Option State) → EndsText o → Goes d o [] G → o ≡ Some (AtEnd G)

@@ -3,11 +3,11 @@ use Rattle.std.proofs.Common.{ℕ, ◌≡◌, Bool, true, false, List, [], ◌�
 use Rattle.grammar_tree.specs.Written.{Reference, WrittenTerm, LexerTerm, WrittenGrammar}
 use Rattle.grammar_words.specs.declared.word.Word.{Word}
 use Rattle.grammar_words.specs.declared.word.Word.TheVariants as w
-use Rattle.grammar_reader.specs.Notation.{IsName, may_name_option, IsPath, IsValue, IsEntries, MayBeOptions, IsAlts, IsLexAlts, inner, top, parser_rule, lexer_rule, IsTextOf, text}
-use Rattle.grammar_reader.specs.Notation as n
-use Rattle.grammar_reader.specs.Machine.{Frame, fresh, Head, ParserHead, LexerHead, Owner, OfText, OfRule, Body, LexBody, ValueOf, InEntry, InOpening, State, provided, with_rule, with_token, no_commands, step_start, step_name, step_semicolon, step_rule, step_prequel, step_options_brace, behind_options, step_entry, step_entry_equals, step_value, step_behind_value, step_path, step_path_name, step_tokens_brace, step_token, step_behind_token, step_fragment, body_at, step_colon, step_head, step_opening_name, step_opening_equals, step}
-use Rattle.grammar_reader.specs.Machine as m
-use Rattle.grammar_reader.proofs.Rest.{RulesRest, TextRest, TokensRest, BehindTokenRest, Closes, Opens, Agrees, LexCloses, LexWithin, ColonRest, parser_colon, lexer_colon, BehindOptionsRest, EntriesRest, entries, HeadRest, ValueEndRest, entry_ends, opening_ends, ValueRest, value, PathRest, path, PathNameRest, path_name, EqualsRest, equals, OpeningNameRest, opening_name, OptionsBraceRest, options_brace, TokensBraceRest, tokens_brace, FragmentRest, fragment_name, WithinRest, Rest, Goes}
+use Rattle.grammar_notation.specs.Notation.{IsName, may_name_option, IsPath, IsValue, IsEntries, MayBeOptions, IsAlts, IsLexAlts, inner, top, parser_rule, lexer_rule, IsTextOf, text}
+use Rattle.grammar_notation.specs.Notation as n
+use Rattle.grammar_machine.specs.Machine.{Frame, fresh, Head, ParserHead, LexerHead, Owner, OfText, OfRule, Body, LexBody, ValueOf, InEntry, InOpening, State, provided, with_rule, with_token, no_commands, step_start, step_name, step_semicolon, step_rule, step_prequel, step_options_brace, after_options, step_entry, step_entry_equals, step_value, step_after_value, step_path, step_path_name, step_tokens_brace, step_token, step_after_token, step_fragment, body_at, step_colon, step_head, step_opening_name, step_opening_equals, step}
+use Rattle.grammar_machine.specs.Machine as m
+use Rattle.grammar_reader.proofs.Rest.{RulesRest, TextRest, TokensRest, AfterTokenRest, Closes, Opens, Agrees, LexCloses, LexWithin, ColonRest, parser_colon, lexer_colon, AfterOptionsRest, EntriesRest, entries, HeadRest, ValueEndRest, entry_ends, opening_ends, ValueRest, value, PathRest, path, PathNameRest, path_name, EqualsRest, equals, OpeningNameRest, opening_name, OptionsBraceRest, options_brace, TokensBraceRest, tokens_brace, FragmentRest, fragment_name, WithinRest, Rest, Goes}
 use Rattle.grammar_reader.proofs.Rest as r
 use Rattle.grammar_reader.proofs.Unroll.{alts_in, alts_back, top_in, top_back, text_in, TextBack, text_back}
 use Rattle.grammar_reader.proofs.ParserSteps as p
@@ -48,11 +48,11 @@ module _ (d : ℕ) where
   complete_prequel g (r.TextRest.options e x) = options_brace (entries e x)
   complete_prequel g (r.tokens x) = tokens_brace x
 
-  owned_on : (g : WrittenGrammar) (o : Owner) (words : List Word) (G : WrittenGrammar) → BehindOptionsRest d g o words G → Rest d (behind_options g o) words G
+  owned_on : (g : WrittenGrammar) (o : Owner) (words : List Word) (G : WrittenGrammar) → AfterOptionsRest d g o words G → Rest d (after_options g o) words G
   owned_on g OfText words G x = x
   owned_on g (OfRule head) words G x = x
 
-  owned_off : (g : WrittenGrammar) (o : Owner) (words : List Word) (G : WrittenGrammar) → Rest d (behind_options g o) words G → BehindOptionsRest d g o words G
+  owned_off : (g : WrittenGrammar) (o : Owner) (words : List Word) (G : WrittenGrammar) → Rest d (after_options g o) words G → AfterOptionsRest d g o words G
   owned_off g OfText words G x = x
   owned_off g (OfRule head) words G x = x
 
@@ -67,17 +67,17 @@ module _ (d : ℕ) where
   complete_value v (value n.literal x) = x
   complete_value v (value n.number x) = x
 
-  complete_behind_value : (v : ValueOf) {word : Word} {words : List Word} {G : WrittenGrammar} → ValueEndRest d v (word ∷ words) G → Goes d (step_behind_value v word) words G
-  complete_behind_value v (entry_ends x) = x
-  complete_behind_value v (opening_ends x) = x
+  complete_after_value : (v : ValueOf) {word : Word} {words : List Word} {G : WrittenGrammar} → ValueEndRest d v (word ∷ words) G → Goes d (step_after_value v word) words G
+  complete_after_value v (entry_ends x) = x
+  complete_after_value v (opening_ends x) = x
 
-  path_on : (v : ValueOf) (word : Word) (words : List Word) (G : WrittenGrammar) → Goes d (step_behind_value v word) words G → Goes d (step_path v word) words G
+  path_on : (v : ValueOf) (word : Word) (words : List Word) (G : WrittenGrammar) → Goes d (step_after_value v word) words G → Goes d (step_path v word) words G
   path_on (InEntry g o) w.Dot words G h = absurd h
   path_on (InOpening b) w.Dot words G h = absurd h
   path_on v _ words G h = h
 
   complete_path : (v : ValueOf) {word : Word} {words : List Word} {G : WrittenGrammar} → PathRest d v (word ∷ words) G → Goes d (step_path v word) words G
-  complete_path v {word} {words} {G} (path n.path_ends x) = path_on v word words G (complete_behind_value v x)
+  complete_path v {word} {words} {G} (path n.path_ends x) = path_on v word words G (complete_after_value v x)
   complete_path v (path (n.path_goes_on i q) x) = path_name i (path q x)
 
   complete_path_name : (v : ValueOf) {word : Word} {words : List Word} {G : WrittenGrammar} → PathNameRest d v (word ∷ words) G → Goes d (step_path_name v word) words G
@@ -118,48 +118,48 @@ module _ (d : ℕ) where
   complete (m.AtValue v) word words G h = complete_value v h
   complete (m.InPath v) word words G h = complete_path v h
   complete (m.AtPathName v) word words G h = complete_path_name v h
-  complete (m.BehindValue v) word words G h = complete_behind_value v h
+  complete (m.AfterValue v) word words G h = complete_after_value v h
   complete (m.AtTokensBrace g) word words G (tokens_brace x) = x
   complete (m.AtToken g) word words G (r.tokens_end x) = x
   complete (m.AtToken g) word words G (r.token x) = x
-  complete (m.BehindToken g) word words G (r.last x) = x
-  complete (m.BehindToken g) word words G (r.comma x) = x
+  complete (m.AfterToken g) word words G (r.last x) = x
+  complete (m.AfterToken g) word words G (r.comma x) = x
   complete (m.AtFragmentName g) word words G (fragment_name x) = x
   complete (m.AtHead g head) word words G h = complete_head g head h
   complete (m.AtColon g head) word words G h = complete_colon g head h
-  complete (m.AtAlt b) word words G h = p.complete_alt d b.text b.name b.room b.outer b.here h
+  complete (m.AtAlt b) word words G h = p.complete_alt d b.text b.name b.blocks_left b.enclosing b.current h
   complete (m.AtOpeningName b) word words G (opening_name n.upper x) = x
   complete (m.AtOpeningName b) word words G (opening_name n.lower x) = x
   complete (m.AtOpeningEquals b) word words G (equals x) = x
-  complete (m.InElements b) word words G h = p.complete_elements d b.text b.name b.room b.outer b.here h
-  complete (m.Suffixed b) word words G h = p.complete_elements d b.text b.name b.room b.outer b.here h
-  complete (m.BehindName b t) word words G h = p.complete_name d b.text b.name b.room b.outer b.here t h
-  complete (m.AtAtom b) word words G h = p.complete_atom d b.text b.name b.room b.outer b.here h
-  complete (m.BehindAtom b t) word words G h = p.complete_behind d b.text b.name b.room b.outer b.here t h
+  complete (m.InElements b) word words G h = p.complete_elements d b.text b.name b.blocks_left b.enclosing b.current h
+  complete (m.Suffixed b) word words G h = p.complete_elements d b.text b.name b.blocks_left b.enclosing b.current h
+  complete (m.AfterName b t) word words G h = p.complete_name d b.text b.name b.blocks_left b.enclosing b.current t h
+  complete (m.AtAtom b) word words G h = p.complete_atom d b.text b.name b.blocks_left b.enclosing b.current h
+  complete (m.AfterAtom b t) word words G h = p.complete_after d b.text b.name b.blocks_left b.enclosing b.current t h
   complete (m.AtRef b) word words G h = p.complete_ref d b h
   complete (m.AtRefIn b rs) word words G h = p.complete_ref_in d b rs h
-  complete (m.BehindRef b rs) word words G h = p.complete_behind_ref d b rs h
+  complete (m.AfterRef b rs) word words G h = p.complete_after_ref d b rs h
   complete (m.AtAltName b) word words G h = p.complete_alt_name d b h
-  complete (m.BehindAltName b) word words G h = p.complete_alt_end d b.text b.name b.room b.outer b.here h
-  complete (m.InLex b) word words G h = l.complete_lex d b.text b.name b.fragment b.known b.room b.outer b.here h
-  complete (m.LexSuffixed b) word words G h = l.complete_lex d b.text b.name b.fragment b.known b.room b.outer b.here h
-  complete (m.BehindLexAtom b t) word words G h = l.complete_lex_behind d b.text b.name b.fragment b.known b.room b.outer b.here t h
-  complete (m.BehindLiteral b k) word words G h = l.complete_literal d b.text b.name b.fragment b.known b.room b.outer b.here k h
+  complete (m.AfterAltName b) word words G h = p.complete_alt_end d b.text b.name b.blocks_left b.enclosing b.current h
+  complete (m.InLex b) word words G h = l.complete_lex d b.text b.name b.fragment b.known b.blocks_left b.enclosing b.current h
+  complete (m.LexSuffixed b) word words G h = l.complete_lex d b.text b.name b.fragment b.known b.blocks_left b.enclosing b.current h
+  complete (m.AfterLexAtom b t) word words G h = l.complete_lex_after d b.text b.name b.fragment b.known b.blocks_left b.enclosing b.current t h
+  complete (m.AfterLiteral b k) word words G h = l.complete_literal d b.text b.name b.fragment b.known b.blocks_left b.enclosing b.current k h
   complete (m.AtRangeEnd b a) word words G h = l.complete_range_end d b a h
-  complete (m.BehindSet b s) word words G h = l.complete_set d b.text b.name b.fragment b.known b.room b.outer b.here s h
-  complete (m.BehindSetStar b s) word words G h = l.complete_star d b.text b.name b.fragment b.known b.room b.outer b.here s h
-  complete (m.BehindLoop b s) word words G h = l.complete_loop d b.text b.name b.fragment b.known b.room b.outer b.here s h
-  complete (m.AltDone b) word words G h = l.complete_done d b.text b.name b.fragment b.known b.room b.outer b.here h
+  complete (m.AfterSet b s) word words G h = l.complete_set d b.text b.name b.fragment b.known b.blocks_left b.enclosing b.current s h
+  complete (m.AfterSetStar b s) word words G h = l.complete_star d b.text b.name b.fragment b.known b.blocks_left b.enclosing b.current s h
+  complete (m.AfterLoop b s) word words G h = l.complete_loop d b.text b.name b.fragment b.known b.blocks_left b.enclosing b.current s h
+  complete (m.AltDone b) word words G h = l.complete_done d b.text b.name b.fragment b.known b.blocks_left b.enclosing b.current h
   complete (m.AtItem b) word words G h = l.complete_item d b h
   complete (m.AtItemIn b q) word words G h = l.complete_item_in d b q h
-  complete (m.BehindItemChar b q a) word words G h = l.complete_item_char d b.text b.name b.fragment b.known b.room b.outer b.here q a h
+  complete (m.AfterItemChar b q a) word words G h = l.complete_item_char d b.text b.name b.fragment b.known b.blocks_left b.enclosing b.current q a h
   complete (m.AtItemEnd b q a) word words G h = l.complete_item_end d b q a h
-  complete (m.BehindItem b ranges) word words G h = l.complete_behind_item d b ranges h
+  complete (m.AfterItem b ranges) word words G h = l.complete_after_item d b ranges h
   complete (m.AtCommand b) word words G h = l.complete_command d b h
   complete (m.AtChannelOpen b) word words G h = l.complete_channel_open d b h
   complete (m.AtChannelName b) word words G h = l.complete_channel_name d b h
   complete (m.AtChannelClose b) word words G h = l.complete_channel_close d b h
-  complete (m.BehindCommand b) word words G h = l.complete_behind_command d b h
+  complete (m.AfterCommand b) word words G h = l.complete_after_command d b h
   complete (m.AtEnd g) word words G h = cc (h.0)
 
   -- back
@@ -245,18 +245,18 @@ module _ (d : ℕ) where
   sound_value v w.Number words G h = value n.number h
   sound_value v _ words G h = absurd h
 
-  sound_behind_value : (v : ValueOf) (word : Word) (words : List Word) (G : WrittenGrammar) → Goes d (step_behind_value v word) words G → ValueEndRest d v (word ∷ words) G
-  sound_behind_value (InEntry g o) w.Semicolon words G h = entry_ends h
-  sound_behind_value (InOpening b) w.Greater words G h = opening_ends h
-  sound_behind_value (InEntry g o) _ words G h = absurd h
-  sound_behind_value (InOpening b) _ words G h = absurd h
+  sound_after_value : (v : ValueOf) (word : Word) (words : List Word) (G : WrittenGrammar) → Goes d (step_after_value v word) words G → ValueEndRest d v (word ∷ words) G
+  sound_after_value (InEntry g o) w.Semicolon words G h = entry_ends h
+  sound_after_value (InOpening b) w.Greater words G h = opening_ends h
+  sound_after_value (InEntry g o) _ words G h = absurd h
+  sound_after_value (InOpening b) _ words G h = absurd h
 
   more_path : (v : ValueOf) {words : List Word} {G : WrittenGrammar} → PathNameRest d v words G → PathRest d v (w.Dot ∷ words) G
   more_path v (path_name i (path q x)) = path (n.path_goes_on i q) x
 
   sound_path : (v : ValueOf) (word : Word) (words : List Word) (G : WrittenGrammar) → Goes d (step_path v word) words G → PathRest d v (word ∷ words) G
   sound_path v w.Dot words G h = more_path v h
-  sound_path v word words G h = path n.path_ends (sound_behind_value v word words G h)
+  sound_path v word words G h = path n.path_ends (sound_after_value v word words G h)
 
   sound_path_name : (v : ValueOf) (word : Word) (words : List Word) (G : WrittenGrammar) → Goes d (step_path_name v word) words G → PathNameRest d v (word ∷ words) G
   sound_path_name v (w.Upper k) words G h = path_name n.upper h
@@ -320,10 +320,10 @@ module _ (d : ℕ) where
   sound_token g w.CloseBrace words G h = r.tokens_end h
   sound_token g _ words G h = absurd h
 
-  sound_behind_token : (g : WrittenGrammar) (word : Word) (words : List Word) (G : WrittenGrammar) → Goes d (step_behind_token g word) words G → BehindTokenRest d g (word ∷ words) G
-  sound_behind_token g w.Comma words G h = r.comma h
-  sound_behind_token g w.CloseBrace words G h = r.last h
-  sound_behind_token g _ words G h = absurd h
+  sound_after_token : (g : WrittenGrammar) (word : Word) (words : List Word) (G : WrittenGrammar) → Goes d (step_after_token g word) words G → AfterTokenRest d g (word ∷ words) G
+  sound_after_token g w.Comma words G h = r.comma h
+  sound_after_token g w.CloseBrace words G h = r.last h
+  sound_after_token g _ words G h = absurd h
 
   sound_fragment : (g : WrittenGrammar) (word : Word) (words : List Word) (G : WrittenGrammar) → Goes d (step_fragment g word) words G → FragmentRest d g (word ∷ words) G
   sound_fragment g (w.Upper k) words G h = fragment_name h
@@ -341,45 +341,45 @@ module _ (d : ℕ) where
   sound (m.AtValue v) word words G h = sound_value v word words G h
   sound (m.InPath v) word words G h = sound_path v word words G h
   sound (m.AtPathName v) word words G h = sound_path_name v word words G h
-  sound (m.BehindValue v) word words G h = sound_behind_value v word words G h
+  sound (m.AfterValue v) word words G h = sound_after_value v word words G h
   sound (m.AtTokensBrace g) word words G h = sound_tokens_brace g word words G h
   sound (m.AtToken g) word words G h = sound_token g word words G h
-  sound (m.BehindToken g) word words G h = sound_behind_token g word words G h
+  sound (m.AfterToken g) word words G h = sound_after_token g word words G h
   sound (m.AtFragmentName g) word words G h = sound_fragment g word words G h
   sound (m.AtHead g head) word words G h = sound_head g head word words G h
   sound (m.AtColon g head) word words G h = sound_colon g head word words G h
-  sound (m.AtAlt b) word words G h = p.sound_alt d b.text b.name b.room b.outer b.here word words G h
+  sound (m.AtAlt b) word words G h = p.sound_alt d b.text b.name b.blocks_left b.enclosing b.current word words G h
   sound (m.AtOpeningName b) word words G h = sound_opening_name b word words G h
   sound (m.AtOpeningEquals b) word words G h = sound_opening_equals b word words G h
-  sound (m.InElements b) word words G h = p.sound_elements d b.text b.name b.room b.outer b.here word words G h
-  sound (m.Suffixed b) word words G h = p.sound_elements d b.text b.name b.room b.outer b.here word words G h
-  sound (m.BehindName b t) word words G h = p.sound_name d b.text b.name b.room b.outer b.here t word words G h
-  sound (m.AtAtom b) word words G h = p.sound_atom d b.text b.name b.room b.outer b.here word words G h
-  sound (m.BehindAtom b t) word words G h = p.sound_behind d b.text b.name b.room b.outer b.here t word words G h
+  sound (m.InElements b) word words G h = p.sound_elements d b.text b.name b.blocks_left b.enclosing b.current word words G h
+  sound (m.Suffixed b) word words G h = p.sound_elements d b.text b.name b.blocks_left b.enclosing b.current word words G h
+  sound (m.AfterName b t) word words G h = p.sound_name d b.text b.name b.blocks_left b.enclosing b.current t word words G h
+  sound (m.AtAtom b) word words G h = p.sound_atom d b.text b.name b.blocks_left b.enclosing b.current word words G h
+  sound (m.AfterAtom b t) word words G h = p.sound_after d b.text b.name b.blocks_left b.enclosing b.current t word words G h
   sound (m.AtRef b) word words G h = p.sound_ref d b word words G h
   sound (m.AtRefIn b rs) word words G h = p.sound_ref_in d b rs word words G h
-  sound (m.BehindRef b rs) word words G h = p.sound_behind_ref d b rs word words G h
+  sound (m.AfterRef b rs) word words G h = p.sound_after_ref d b rs word words G h
   sound (m.AtAltName b) word words G h = p.sound_alt_name d b word words G h
-  sound (m.BehindAltName b) word words G h = p.sound_alt_end d b.text b.name b.room b.outer b.here word words G h
-  sound (m.InLex b) word words G h = l.sound_lex d b.text b.name b.fragment b.known b.room b.outer b.here word words G h
-  sound (m.LexSuffixed b) word words G h = l.sound_lex d b.text b.name b.fragment b.known b.room b.outer b.here word words G h
-  sound (m.BehindLexAtom b t) word words G h = l.sound_lex_behind d b.text b.name b.fragment b.known b.room b.outer b.here t word words G h
-  sound (m.BehindLiteral b k) word words G h = l.sound_literal d b.text b.name b.fragment b.known b.room b.outer b.here k word words G h
+  sound (m.AfterAltName b) word words G h = p.sound_alt_end d b.text b.name b.blocks_left b.enclosing b.current word words G h
+  sound (m.InLex b) word words G h = l.sound_lex d b.text b.name b.fragment b.known b.blocks_left b.enclosing b.current word words G h
+  sound (m.LexSuffixed b) word words G h = l.sound_lex d b.text b.name b.fragment b.known b.blocks_left b.enclosing b.current word words G h
+  sound (m.AfterLexAtom b t) word words G h = l.sound_lex_after d b.text b.name b.fragment b.known b.blocks_left b.enclosing b.current t word words G h
+  sound (m.AfterLiteral b k) word words G h = l.sound_literal d b.text b.name b.fragment b.known b.blocks_left b.enclosing b.current k word words G h
   sound (m.AtRangeEnd b a) word words G h = l.sound_range_end d b a word words G h
-  sound (m.BehindSet b s) word words G h = l.sound_set d b.text b.name b.fragment b.known b.room b.outer b.here s word words G h
-  sound (m.BehindSetStar b s) word words G h = l.sound_star d b.text b.name b.fragment b.known b.room b.outer b.here s word words G h
-  sound (m.BehindLoop b s) word words G h = l.sound_loop d b.text b.name b.fragment b.known b.room b.outer b.here s word words G h
-  sound (m.AltDone b) word words G h = l.sound_done d b.text b.name b.fragment b.known b.room b.outer b.here word words G h
+  sound (m.AfterSet b s) word words G h = l.sound_set d b.text b.name b.fragment b.known b.blocks_left b.enclosing b.current s word words G h
+  sound (m.AfterSetStar b s) word words G h = l.sound_star d b.text b.name b.fragment b.known b.blocks_left b.enclosing b.current s word words G h
+  sound (m.AfterLoop b s) word words G h = l.sound_loop d b.text b.name b.fragment b.known b.blocks_left b.enclosing b.current s word words G h
+  sound (m.AltDone b) word words G h = l.sound_done d b.text b.name b.fragment b.known b.blocks_left b.enclosing b.current word words G h
   sound (m.AtItem b) word words G h = l.sound_item d b word words G h
   sound (m.AtItemIn b q) word words G h = l.sound_item_in d b q word words G h
-  sound (m.BehindItemChar b q a) word words G h = l.sound_item_char d b.text b.name b.fragment b.known b.room b.outer b.here q a word words G h
+  sound (m.AfterItemChar b q a) word words G h = l.sound_item_char d b.text b.name b.fragment b.known b.blocks_left b.enclosing b.current q a word words G h
   sound (m.AtItemEnd b q a) word words G h = l.sound_item_end d b q a word words G h
-  sound (m.BehindItem b ranges) word words G h = l.sound_behind_item d b ranges word words G h
+  sound (m.AfterItem b ranges) word words G h = l.sound_after_item d b ranges word words G h
   sound (m.AtCommand b) word words G h = l.sound_command d b word words G h
   sound (m.AtChannelOpen b) word words G h = l.sound_channel_open d b word words G h
   sound (m.AtChannelName b) word words G h = l.sound_channel_name d b word words G h
   sound (m.AtChannelClose b) word words G h = l.sound_channel_close d b word words G h
-  sound (m.BehindCommand b) word words G h = l.sound_behind_command d b word words G h
+  sound (m.AfterCommand b) word words G h = l.sound_after_command d b word words G h
   sound (m.AtEnd g) word words G h = absurd h
 
   -- the completion
@@ -398,15 +398,15 @@ module _ (d : ℕ) where
   alive_head : (g : WrittenGrammar) (head : Head) → Alive (HeadRest d g head)
   alive_head g head = let rest : Alive (ColonRest d g head) = alive_colon g head in (rest.0, rest.1, r.HeadRest.no_options rest.2)
 
-  alive_owner : (g : WrittenGrammar) (o : Owner) → Alive (BehindOptionsRest d g o)
+  alive_owner : (g : WrittenGrammar) (o : Owner) → Alive (AfterOptionsRest d g o)
   alive_owner g OfText = alive_text g
   alive_owner g (OfRule head) = alive_colon g head
 
   alive_entries : (g : WrittenGrammar) (o : Owner) → Alive (EntriesRest d g o)
-  alive_entries g o = let rest : Alive (BehindOptionsRest d g o) = alive_owner g o in (w.CloseBrace ∷ rest.0, rest.1, entries n.entries_end rest.2)
+  alive_entries g o = let rest : Alive (AfterOptionsRest d g o) = alive_owner g o in (w.CloseBrace ∷ rest.0, rest.1, entries n.entries_end rest.2)
 
   alive_body : (b : Body) → Alive (WithinRest d b)
-  alive_body b = p.alive_within d b.text b.name b.room b.outer b.here
+  alive_body b = p.alive_within d b.text b.name b.blocks_left b.enclosing b.current
 
   alive_value_end : (v : ValueOf) → Alive (ValueEndRest d v)
   alive_value_end (InEntry g o) = let rest : Alive (EntriesRest d g o) = alive_entries g o in (w.Semicolon ∷ rest.0, rest.1, entry_ends rest.2)
@@ -433,10 +433,10 @@ module _ (d : ℕ) where
   alive (m.AtValue v) = let rest : Alive (ValueEndRest d v) = alive_value_end v in (w.Number ∷ rest.0, rest.1, value n.number rest.2)
   alive (m.InPath v) = alive_path v
   alive (m.AtPathName v) = let rest : Alive (PathRest d v) = alive_path v in (w.Lower (97 ∷ []) ∷ rest.0, rest.1, path_name n.lower rest.2)
-  alive (m.BehindValue v) = alive_value_end v
+  alive (m.AfterValue v) = alive_value_end v
   alive (m.AtTokensBrace g) = (w.OpenBrace ∷ w.CloseBrace ∷ w.End ∷ [], g, tokens_brace (r.tokens_end (r.no_more r.rules_end)))
   alive (m.AtToken g) = (w.CloseBrace ∷ w.End ∷ [], g, r.tokens_end (r.no_more r.rules_end))
-  alive (m.BehindToken g) = (w.CloseBrace ∷ w.End ∷ [], g, r.last (r.no_more r.rules_end))
+  alive (m.AfterToken g) = (w.CloseBrace ∷ w.End ∷ [], g, r.last (r.no_more r.rules_end))
   alive (m.AtFragmentName g) = let rest : Alive (HeadRest d g (LexerHead (65 ∷ []) true)) = alive_head g (LexerHead (65 ∷ []) true) in (w.Upper (65 ∷ []) ∷ rest.0, rest.1, fragment_name rest.2)
   alive (m.AtHead g head) = alive_head g head
   alive (m.AtColon g head) = alive_colon g head
@@ -445,37 +445,37 @@ module _ (d : ℕ) where
   alive (m.AtOpeningEquals b) = alive_equals (InOpening b)
   alive (m.InElements b) = alive_body b
   alive (m.Suffixed b) = alive_body b
-  alive (m.BehindName b t) = let rest : Alive (r.BehindRest d b t) = p.alive_behind d b.text b.name b.room b.outer b.here t in (rest.0, rest.1, r.NameRest.no_label rest.2)
+  alive (m.AfterName b t) = let rest : Alive (r.AfterRest d b t) = p.alive_after d b.text b.name b.blocks_left b.enclosing b.current t in (rest.0, rest.1, r.NameRest.no_label rest.2)
   alive (m.AtAtom b) =
-      let rest : Alive (r.BehindRest d b WrittenTerm.any) = p.alive_behind d b.text b.name b.room b.outer b.here WrittenTerm.any in (w.Dot ∷ rest.0, rest.1, r.atom (n.simple n.dot) rest.2)
-  alive (m.BehindAtom b t) = p.alive_behind d b.text b.name b.room b.outer b.here t
+      let rest : Alive (r.AfterRest d b WrittenTerm.any) = p.alive_after d b.text b.name b.blocks_left b.enclosing b.current WrittenTerm.any in (w.Dot ∷ rest.0, rest.1, r.atom (n.simple n.dot) rest.2)
+  alive (m.AfterAtom b t) = p.alive_after d b.text b.name b.blocks_left b.enclosing b.current t
   alive (m.AtRef b) =
       let t : WrittenTerm = WrittenTerm.but (Reference.literal (120 ∷ []) ∷ []) in
-      let rest : Alive (r.BehindRest d b t) = p.alive_behind d b.text b.name b.room b.outer b.here t in (w.Literal (120 ∷ []) ∷ rest.0, rest.1, r.ref n.ref_literal rest.2)
+      let rest : Alive (r.AfterRest d b t) = p.alive_after d b.text b.name b.blocks_left b.enclosing b.current t in (w.Literal (120 ∷ []) ∷ rest.0, rest.1, r.ref n.ref_literal rest.2)
   alive (m.AtRefIn b rs) =
       let t : WrittenTerm = WrittenTerm.but (rs ++ Reference.literal (120 ∷ []) ∷ []) in
-      let rest : Alive (r.BehindRest d b t) = p.alive_behind d b.text b.name b.room b.outer b.here t in (w.Literal (120 ∷ []) ∷ w.Close ∷ rest.0, rest.1, r.ref_in n.ref_literal (r.refs_end rest.2))
-  alive (m.BehindRef b rs) =
-      let rest : Alive (r.BehindRest d b (WrittenTerm.but rs)) = p.alive_behind d b.text b.name b.room b.outer b.here (WrittenTerm.but rs) in (w.Close ∷ rest.0, rest.1, r.refs_end rest.2)
-  alive (m.AtAltName b) = let rest : Alive (r.AltEndRest d b) = p.alive_alt_end d b.text b.name b.room b.outer b.here in (w.Lower (97 ∷ []) ∷ rest.0, rest.1, r.alt_name n.lower rest.2)
-  alive (m.BehindAltName b) = p.alive_alt_end d b.text b.name b.room b.outer b.here
-  alive (m.InLex b) = l.alive_lex d b.text b.name b.fragment b.known b.room b.outer b.here
-  alive (m.LexSuffixed b) = l.alive_lex d b.text b.name b.fragment b.known b.room b.outer b.here
-  alive (m.BehindLexAtom b t) = l.alive_lex_behind d b.text b.name b.fragment b.known b.room b.outer b.here t
-  alive (m.BehindLiteral b k) = l.alive_literal d b k
+      let rest : Alive (r.AfterRest d b t) = p.alive_after d b.text b.name b.blocks_left b.enclosing b.current t in (w.Literal (120 ∷ []) ∷ w.Close ∷ rest.0, rest.1, r.ref_in n.ref_literal (r.refs_end rest.2))
+  alive (m.AfterRef b rs) =
+      let rest : Alive (r.AfterRest d b (WrittenTerm.but rs)) = p.alive_after d b.text b.name b.blocks_left b.enclosing b.current (WrittenTerm.but rs) in (w.Close ∷ rest.0, rest.1, r.refs_end rest.2)
+  alive (m.AtAltName b) = let rest : Alive (r.AltEndRest d b) = p.alive_alt_end d b.text b.name b.blocks_left b.enclosing b.current in (w.Lower (97 ∷ []) ∷ rest.0, rest.1, r.alt_name n.lower rest.2)
+  alive (m.AfterAltName b) = p.alive_alt_end d b.text b.name b.blocks_left b.enclosing b.current
+  alive (m.InLex b) = l.alive_lex d b.text b.name b.fragment b.known b.blocks_left b.enclosing b.current
+  alive (m.LexSuffixed b) = l.alive_lex d b.text b.name b.fragment b.known b.blocks_left b.enclosing b.current
+  alive (m.AfterLexAtom b t) = l.alive_lex_after d b.text b.name b.fragment b.known b.blocks_left b.enclosing b.current t
+  alive (m.AfterLiteral b k) = l.alive_literal d b k
   alive (m.AtRangeEnd b a) = l.alive_range d b a
-  alive (m.BehindSet b s) = l.alive_set d b s
-  alive (m.BehindSetStar b s) = l.alive_star d b s
-  alive (m.BehindLoop b s) = l.alive_loop d b.text b.name b.fragment b.known b.room b.here s
-  alive (m.AltDone b) = l.alive_done d b.text b.name b.fragment b.known b.room b.here
+  alive (m.AfterSet b s) = l.alive_set d b s
+  alive (m.AfterSetStar b s) = l.alive_star d b s
+  alive (m.AfterLoop b s) = l.alive_loop d b.text b.name b.fragment b.known b.blocks_left b.current s
+  alive (m.AltDone b) = l.alive_done d b.text b.name b.fragment b.known b.blocks_left b.current
   alive (m.AtItem b) = l.alive_item d b
   alive (m.AtItemIn b q) = l.alive_item_in d b q
-  alive (m.BehindItemChar b q a) = l.alive_item_char d b q a
+  alive (m.AfterItemChar b q a) = l.alive_item_char d b q a
   alive (m.AtItemEnd b q a) = l.alive_item_end d b q a
-  alive (m.BehindItem b ranges) = l.alive_items d b ranges
+  alive (m.AfterItem b ranges) = l.alive_items d b ranges
   alive (m.AtCommand b) = l.alive_command d b
   alive (m.AtChannelOpen b) = l.alive_channel_open d b
   alive (m.AtChannelName b) = l.alive_channel_name d b
   alive (m.AtChannelClose b) = l.alive_channel_close d b
-  alive (m.BehindCommand b) = l.alive_commanded d b
+  alive (m.AfterCommand b) = l.alive_commanded d b
   alive (m.AtEnd g) = ([], g, (refl, refl))

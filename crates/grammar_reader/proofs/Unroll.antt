@@ -3,11 +3,11 @@ use Rattle.std.proofs.Common.{ℕ, ◌≡◌, Bool, true, false, List, [], ◌�
 use Rattle.grammar_tree.specs.Written.{Reference, WrittenTerm, LexerTerm, WrittenRule, WrittenGrammar}
 use Rattle.grammar_words.specs.declared.word.Word.{Word}
 use Rattle.grammar_words.specs.declared.word.Word.TheVariants as w
-use Rattle.grammar_reader.specs.Sets.{outside}
-use Rattle.grammar_reader.specs.Notation.{IsTokens, IsPrequels, IsRefs, IsSuffixed, IsLabel, IsOpening, IsAltName, IsAtom, IsElements, IsAlts, IsItem, IsItems, IsCharSet, IsLexSuffixed, IsCommand, IsLast, IsLoop, no_loop, loop, Level, inner, top, IsEnding, in_block, at_top, IsLexAtom, IsLexElements, IsLexAlts, parser_rule, lexer_rule, IsRules, IsOptions}
-use Rattle.grammar_reader.specs.Notation as n
-use Rattle.grammar_reader.specs.Machine.{Frame, with_term, next_alt, fresh, Body, LexBody, with_token}
-use Rattle.grammar_reader.proofs.Rest.{RulesRest, TextRest, TokensRest, BehindTokenRest, is_top, Closes, AltEnd, Opens, opens, Within, Behind, AtomRest, BehindRest, RefInRest, RefsRest, Agrees, LexCloses, LexAltEnd, LexWithin, LexLoop, LexDone, LexBehind, SetRest, ItemInRest, ItemsRest}
+use Rattle.grammar_notation.specs.Sets.{outside}
+use Rattle.grammar_notation.specs.Notation.{IsTokens, IsPrequels, IsRefs, IsSuffixed, IsLabel, IsOpening, IsAltName, IsAtom, IsElements, IsAlts, IsItem, IsItems, IsCharSet, IsLexSuffixed, IsCommand, IsLast, IsLoop, no_loop, loop, Level, inner, top, IsEnding, in_block, at_top, IsLexAtom, IsLexElements, IsLexAlts, parser_rule, lexer_rule, IsRules, IsOptions}
+use Rattle.grammar_notation.specs.Notation as n
+use Rattle.grammar_machine.specs.Machine.{Frame, with_term, next_alt, fresh, Body, LexBody, with_token}
+use Rattle.grammar_reader.proofs.Rest.{RulesRest, TextRest, TokensRest, AfterTokenRest, is_top, Closes, AltEnd, Opens, opens, Within, After, AtomRest, AfterRest, RefInRest, RefsRest, Agrees, LexCloses, LexAltEnd, LexWithin, LexLoop, LexDone, LexAfter, SetRest, ItemInRest, ItemsRest}
 use Rattle.grammar_reader.proofs.Rest as r
 
 abbrev frame : {T : Type 0} → List (List T) → List T → Frame T
@@ -17,186 +17,186 @@ frame alts terms = record { alts = alts; terms = terms }
 
 module _ (d : ℕ) (g : WrittenGrammar) (name : List ℕ) where
   -- elements, once what follows them is known
-  elements_in : {room : ℕ} {outer : List (Frame WrittenTerm)} {words mid : List Word} {ts : List WrittenTerm} {G : WrittenGrammar} (alts : List (List WrittenTerm)) (terms : List WrittenTerm) →
-      IsElements room words ts mid → Within d g name room outer (frame alts (terms ++ ts)) mid G → Within d g name room outer (frame alts terms) words G
-  elements_in {room} {outer} {words} {G = G} alts terms n.no_element x = subst (λ ts. Within d g name room outer (frame alts ts) words G) (append-nil terms) x
-  elements_in {room} {outer} {mid = mid} {G = G} alts terms (n.element {t = t} {ts = ts} l a s more) x =
-      r.goes_on l a (r.behind s (elements_in alts (terms ++ t ∷ []) more (subst (λ us. Within d g name room outer (frame alts us) mid G) (sym (append_assoc terms (t ∷ []) ts)) x)))
+  elements_in : {blocks_left : ℕ} {enclosing : List (Frame WrittenTerm)} {words mid : List Word} {ts : List WrittenTerm} {G : WrittenGrammar} (alts : List (List WrittenTerm)) (terms : List WrittenTerm) →
+      IsElements blocks_left words ts mid → Within d g name blocks_left enclosing (frame alts (terms ++ ts)) mid G → Within d g name blocks_left enclosing (frame alts terms) words G
+  elements_in {blocks_left} {enclosing} {words} {G = G} alts terms n.no_element x = subst (λ ts. Within d g name blocks_left enclosing (frame alts ts) words G) (append-nil terms) x
+  elements_in {blocks_left} {enclosing} {mid = mid} {G = G} alts terms (n.element {t = t} {ts = ts} l a s more) x =
+      r.goes_on l a (r.after s (elements_in alts (terms ++ t ∷ []) more (subst (λ us. Within d g name blocks_left enclosing (frame alts us) mid G) (sym (append_assoc terms (t ∷ []) ts)) x)))
 
-  pub alts_in : {here : Bool} {room : ℕ} {outer : List (Frame WrittenTerm)} {words mid : List Word} {alts : List (List WrittenTerm)} {G : WrittenGrammar} (before : List (List WrittenTerm)) →
-      IsAlts here room words alts mid → here ≡ is_top outer → Closes d g name room outer (before ++ alts) mid G → Opens d g name room outer (frame before []) words G
-  alts_in before (n.last_alt {behind = behind} {rest = rest} {ts = ts} o e an) h c =
-      opens o (elements_in before [] e (r.ends (subst (λ b. IsAltName b behind rest) h an) (r.alts_end c)))
-  alts_in {room = room} {outer = outer} {mid = mid} {G = G} before (n.alt {behind = behind} {next = next} {ts = ts} {alts = alts} o e an more) h c =
-      opens o (elements_in before [] e (r.ends (subst (λ b. IsAltName b behind (w.Bar ∷ next)) h an)
-      (r.alts_go_on (alts_in (before ++ ts ∷ []) more h (subst (λ as'. Closes d g name room outer as' mid G) (sym (append_assoc before (ts ∷ []) alts)) c)))))
+  pub alts_in : {current : Bool} {blocks_left : ℕ} {enclosing : List (Frame WrittenTerm)} {words mid : List Word} {alts : List (List WrittenTerm)} {G : WrittenGrammar} (before : List (List WrittenTerm)) →
+      IsAlts current blocks_left words alts mid → current ≡ is_top enclosing → Closes d g name blocks_left enclosing (before ++ alts) mid G → Opens d g name blocks_left enclosing (frame before []) words G
+  alts_in before (n.last_alt {after = after} {rest = rest} {ts = ts} o e an) h c =
+      opens o (elements_in before [] e (r.ends (subst (λ b. IsAltName b after rest) h an) (r.alts_end c)))
+  alts_in {blocks_left = blocks_left} {enclosing = enclosing} {mid = mid} {G = G} before (n.alt {after = after} {next = next} {ts = ts} {alts = alts} o e an more) h c =
+      opens o (elements_in before [] e (r.ends (subst (λ b. IsAltName b after (w.Bar ∷ next)) h an)
+      (r.alts_go_on (alts_in (before ++ ts ∷ []) more h (subst (λ as'. Closes d g name blocks_left enclosing as' mid G) (sym (append_assoc before (ts ∷ []) alts)) c)))))
 
--- the alternative at hand, without its opening, and those behind it
-data From (here : Bool) (room : ℕ) : List Word → List WrittenTerm → List (List WrittenTerm) → List Word → Type 0 where
-  from_last : {words behind rest : List Word} {ts : List WrittenTerm} → IsElements room words ts behind → IsAltName here behind rest → From here room words ts [] rest
-  from_more : {words behind next rest : List Word} {ts : List WrittenTerm} {alts : List (List WrittenTerm)} →
-      IsElements room words ts behind → IsAltName here behind (w.Bar ∷ next) → IsAlts here room next alts rest → From here room words ts alts rest
+-- the current alternative, without its opening, and those after it
+data From (current : Bool) (blocks_left : ℕ) : List Word → List WrittenTerm → List (List WrittenTerm) → List Word → Type 0 where
+  from_last : {words after rest : List Word} {ts : List WrittenTerm} → IsElements blocks_left words ts after → IsAltName current after rest → From current blocks_left words ts [] rest
+  from_more : {words after next rest : List Word} {ts : List WrittenTerm} {alts : List (List WrittenTerm)} →
+      IsElements blocks_left words ts after → IsAltName current after (w.Bar ∷ next) → IsAlts current blocks_left next alts rest → From current blocks_left words ts alts rest
 
-from_opened : {here : Bool} {room : ℕ} {words opened rest : List Word} {ts : List WrittenTerm} {alts : List (List WrittenTerm)} →
-    IsOpening words opened → From here room opened ts alts rest → IsAlts here room words (ts ∷ alts) rest
+from_opened : {current : Bool} {blocks_left : ℕ} {words opened rest : List Word} {ts : List WrittenTerm} {alts : List (List WrittenTerm)} →
+    IsOpening words opened → From current blocks_left opened ts alts rest → IsAlts current blocks_left words (ts ∷ alts) rest
 from_opened o (from_last e name) = n.last_alt o e name
 from_opened o (from_more e name more) = n.alt o e name more
 
-from_element : {here : Bool} {room : ℕ} {words labelled behind next rest : List Word} {a t : WrittenTerm} {ts : List WrittenTerm} {alts : List (List WrittenTerm)} →
-    IsLabel words labelled → IsAtom room labelled a behind → IsSuffixed a behind t next → From here room next ts alts rest → From here room words (t ∷ ts) alts rest
+from_element : {current : Bool} {blocks_left : ℕ} {words labelled after next rest : List Word} {a t : WrittenTerm} {ts : List WrittenTerm} {alts : List (List WrittenTerm)} →
+    IsLabel words labelled → IsAtom blocks_left labelled a after → IsSuffixed a after t next → From current blocks_left next ts alts rest → From current blocks_left words (t ∷ ts) alts rest
 from_element l a s (from_last e name) = from_last (n.element l a s e) name
 from_element l a s (from_more e name more) = from_more (n.element l a s e) name more
 
 module _ (d : ℕ) (g : WrittenGrammar) (name : List ℕ) where
-  record Back (room : ℕ) (outer : List (Frame WrittenTerm)) (alts : List (List WrittenTerm)) (terms : List WrittenTerm) (words : List Word) (G : WrittenGrammar) : Type 0 where
+  record Back (blocks_left : ℕ) (enclosing : List (Frame WrittenTerm)) (alts : List (List WrittenTerm)) (terms : List WrittenTerm) (words : List Word) (G : WrittenGrammar) : Type 0 where
     ts : List WrittenTerm
     more : List (List WrittenTerm)
     mid : List Word
-    made : From (is_top outer) room words ts more mid
-    closes : Closes d g name room outer (alts ++ ((terms ++ ts) ∷ more)) mid G
+    made : From (is_top enclosing) blocks_left words ts more mid
+    closes : Closes d g name blocks_left enclosing (alts ++ ((terms ++ ts) ∷ more)) mid G
 
-  within_back : {room : ℕ} {outer : List (Frame WrittenTerm)} {words : List Word} {G : WrittenGrammar} (f : Frame WrittenTerm) → Within d g name room outer f words G → Back room outer f.alts f.terms words G
-  within_back {room} {outer} {words} {G} f (r.ends {mid = mid} name' (r.alts_end c)) = record {
+  within_back : {blocks_left : ℕ} {enclosing : List (Frame WrittenTerm)} {words : List Word} {G : WrittenGrammar} (f : Frame WrittenTerm) → Within d g name blocks_left enclosing f words G → Back blocks_left enclosing f.alts f.terms words G
+  within_back {blocks_left} {enclosing} {words} {G} f (r.ends {mid = mid} name' (r.alts_end c)) = record {
     ts = [];
     more = [];
     mid = mid;
     made = from_last n.no_element name';
-    closes = subst (λ ts. Closes d g name room outer (f.alts ++ ts ∷ []) mid G) (sym (append-nil f.terms)) c;
+    closes = subst (λ ts. Closes d g name blocks_left enclosing (f.alts ++ ts ∷ []) mid G) (sym (append-nil f.terms)) c;
   }
-  within_back {room} {outer} {words} {G} f (r.ends name' (r.alts_go_on (opens o x))) =
-      let b : Back room outer (f.alts ++ f.terms ∷ []) [] _ G = within_back (next_alt f) x in
+  within_back {blocks_left} {enclosing} {words} {G} f (r.ends name' (r.alts_go_on (opens o x))) =
+      let b : Back blocks_left enclosing (f.alts ++ f.terms ∷ []) [] _ G = within_back (next_alt f) x in
       record {
         ts = [];
         more = b.ts ∷ b.more;
         mid = b.mid;
         made = from_more n.no_element name' (from_opened o b.made);
         closes =
-            subst (λ ts. Closes d g name room outer (f.alts ++ (ts ∷ (b.ts ∷ b.more))) b.mid G) (sym (append-nil f.terms))
-            (subst (λ as'. Closes d g name room outer as' b.mid G) (append_assoc f.alts (f.terms ∷ []) (b.ts ∷ b.more)) b.closes);
+            subst (λ ts. Closes d g name blocks_left enclosing (f.alts ++ (ts ∷ (b.ts ∷ b.more))) b.mid G) (sym (append-nil f.terms))
+            (subst (λ as'. Closes d g name blocks_left enclosing as' b.mid G) (append_assoc f.alts (f.terms ∷ []) (b.ts ∷ b.more)) b.closes);
       }
-  within_back {room} {outer} {words} {G} f (r.goes_on l a (r.behind {u = u} s x)) =
-      let b : Back room outer f.alts (f.terms ++ u ∷ []) _ G = within_back (with_term f u) x in
+  within_back {blocks_left} {enclosing} {words} {G} f (r.goes_on l a (r.after {u = u} s x)) =
+      let b : Back blocks_left enclosing f.alts (f.terms ++ u ∷ []) _ G = within_back (with_term f u) x in
       record {
         ts = u ∷ b.ts;
         more = b.more;
         mid = b.mid;
         made = from_element l a s b.made;
-        closes = subst (λ ts. Closes d g name room outer (f.alts ++ (ts ∷ b.more)) b.mid G) (append_assoc f.terms (u ∷ []) b.ts) b.closes;
+        closes = subst (λ ts. Closes d g name blocks_left enclosing (f.alts ++ (ts ∷ b.more)) b.mid G) (append_assoc f.terms (u ∷ []) b.ts) b.closes;
       }
 
-  pub alts_back : {room : ℕ} {outer : List (Frame WrittenTerm)} {words : List Word} {G : WrittenGrammar} → Opens d g name room outer fresh words G →
-      (alts : List (List WrittenTerm)) × (mid : List Word) × IsAlts (is_top outer) room words alts mid × Closes d g name room outer alts mid G
-  alts_back {room} {outer} {words} {G} (opens o x) =
-      let b : Back room outer [] [] _ G = within_back fresh x in
+  pub alts_back : {blocks_left : ℕ} {enclosing : List (Frame WrittenTerm)} {words : List Word} {G : WrittenGrammar} → Opens d g name blocks_left enclosing fresh words G →
+      (alts : List (List WrittenTerm)) × (mid : List Word) × IsAlts (is_top enclosing) blocks_left words alts mid × Closes d g name blocks_left enclosing alts mid G
+  alts_back {blocks_left} {enclosing} {words} {G} (opens o x) =
+      let b : Back blocks_left enclosing [] [] _ G = within_back fresh x in
       (b.ts ∷ b.more, b.mid, from_opened o b.made, b.closes)
 
 -- Lexer rules
 
 module _ (d : ℕ) (g : WrittenGrammar) (name : List ℕ) (frag : Bool) where
-  lex_elements_in : {known : Option Bool} {room : ℕ} {outer : List (Frame LexerTerm)} {words mid : List Word} {ts : List LexerTerm} {G : WrittenGrammar} (alts : List (List LexerTerm)) (terms : List LexerTerm) →
-      IsLexElements room words ts mid → LexWithin d g name frag known room outer (frame alts (terms ++ ts)) mid G → LexWithin d g name frag known room outer (frame alts terms) words G
-  lex_elements_in {known} {room} {outer} {words} {G = G} alts terms n.no_element x = subst (λ ts. LexWithin d g name frag known room outer (frame alts ts) words G) (append-nil terms) x
-  lex_elements_in {known} {room} {outer} {mid = mid} {G = G} alts terms (n.element {t = t} {ts = ts} a s more) x =
-      r.goes_on a (r.behind s (lex_elements_in alts (terms ++ t ∷ []) more (subst (λ us. LexWithin d g name frag known room outer (frame alts us) mid G) (sym (append_assoc terms (t ∷ []) ts)) x)))
+  lex_elements_in : {known : Option Bool} {blocks_left : ℕ} {enclosing : List (Frame LexerTerm)} {words mid : List Word} {ts : List LexerTerm} {G : WrittenGrammar} (alts : List (List LexerTerm)) (terms : List LexerTerm) →
+      IsLexElements blocks_left words ts mid → LexWithin d g name frag known blocks_left enclosing (frame alts (terms ++ ts)) mid G → LexWithin d g name frag known blocks_left enclosing (frame alts terms) words G
+  lex_elements_in {known} {blocks_left} {enclosing} {words} {G = G} alts terms n.no_element x = subst (λ ts. LexWithin d g name frag known blocks_left enclosing (frame alts ts) words G) (append-nil terms) x
+  lex_elements_in {known} {blocks_left} {enclosing} {mid = mid} {G = G} alts terms (n.element {t = t} {ts = ts} a s more) x =
+      r.goes_on a (r.after s (lex_elements_in alts (terms ++ t ∷ []) more (subst (λ us. LexWithin d g name frag known blocks_left enclosing (frame alts us) mid G) (sym (append_assoc terms (t ∷ []) ts)) x)))
 
   -- in a block
-  pub inner_in : {known : Option Bool} {room : ℕ} {f : Frame LexerTerm} {outer : List (Frame LexerTerm)} {words mid : List Word} {alts : List (List LexerTerm)} {G : WrittenGrammar} (before : List (List LexerTerm)) →
-      IsLexAlts inner room words alts mid → LexCloses d g name frag known room (f ∷ outer) (before ++ alts) mid G → LexWithin d g name frag known room (f ∷ outer) (frame before []) words G
-  inner_in {known} {room} {f} {outer} {mid = mid} {G = G} before (n.last_alt {ts = ts} e in_block) c =
-      lex_elements_in before [] e (r.ends_inner (r.alts_end (subst (λ us. LexCloses d g name frag known room (f ∷ outer) (before ++ us ∷ []) mid G) (append-nil ts) c)))
-  inner_in {known} {room} {f} {outer} {mid = mid} {G = G} before (n.alt {ts = ts} {alts = alts} e in_block more) c =
+  pub inner_in : {known : Option Bool} {blocks_left : ℕ} {f : Frame LexerTerm} {enclosing : List (Frame LexerTerm)} {words mid : List Word} {alts : List (List LexerTerm)} {G : WrittenGrammar} (before : List (List LexerTerm)) →
+      IsLexAlts inner blocks_left words alts mid → LexCloses d g name frag known blocks_left (f ∷ enclosing) (before ++ alts) mid G → LexWithin d g name frag known blocks_left (f ∷ enclosing) (frame before []) words G
+  inner_in {known} {blocks_left} {f} {enclosing} {mid = mid} {G = G} before (n.last_alt {ts = ts} e in_block) c =
+      lex_elements_in before [] e (r.ends_inner (r.alts_end (subst (λ us. LexCloses d g name frag known blocks_left (f ∷ enclosing) (before ++ us ∷ []) mid G) (append-nil ts) c)))
+  inner_in {known} {blocks_left} {f} {enclosing} {mid = mid} {G = G} before (n.alt {ts = ts} {alts = alts} e in_block more) c =
       lex_elements_in before [] e (r.ends_inner (r.alts_go_on (inner_in (before ++ ts ∷ []) more
-      (subst (λ as'. LexCloses d g name frag known room (f ∷ outer) as' mid G) (sym (append_assoc before (ts ∷ []) alts))
-      (subst (λ us. LexCloses d g name frag known room (f ∷ outer) (before ++ (us ∷ alts)) mid G) (append-nil ts) c)))))
+      (subst (λ as'. LexCloses d g name frag known blocks_left (f ∷ enclosing) as' mid G) (sym (append_assoc before (ts ∷ []) alts))
+      (subst (λ us. LexCloses d g name frag known blocks_left (f ∷ enclosing) (before ++ (us ∷ alts)) mid G) (append-nil ts) c)))))
 
   -- the end of an alternative of the rule itself
-  ending_in : {frag' gap : Bool} {known : Option Bool} {room : ℕ} {words mid : List Word} {more : List LexerTerm} {G : WrittenGrammar} (alts : List (List LexerTerm)) (terms : List LexerTerm) →
-      frag' ≡ frag → Agrees known gap → IsEnding (top frag' gap) words more mid → LexAltEnd d g name frag (Some gap) room [] (frame alts (terms ++ more)) mid G →
-      LexWithin d g name frag known room [] (frame alts terms) words G
-  ending_in {gap = gap} {room = room} {mid = mid} {G = G} alts terms h a (at_top no_loop c) x =
-      r.ends_plain (r.done a c (subst (λ us. LexAltEnd d g name frag (Some gap) room [] (frame alts us) mid G) (append-nil terms) x))
-  ending_in {gap = gap} {room = room} {mid = mid} {G = G} alts terms h a (at_top (loop {s = s} {t = t} chars last) c) x =
+  ending_in : {frag' gap : Bool} {known : Option Bool} {blocks_left : ℕ} {words mid : List Word} {more : List LexerTerm} {G : WrittenGrammar} (alts : List (List LexerTerm)) (terms : List LexerTerm) →
+      frag' ≡ frag → Agrees known gap → IsEnding (top frag' gap) words more mid → LexAltEnd d g name frag (Some gap) blocks_left [] (frame alts (terms ++ more)) mid G →
+      LexWithin d g name frag known blocks_left [] (frame alts terms) words G
+  ending_in {gap = gap} {blocks_left = blocks_left} {mid = mid} {G = G} alts terms h a (at_top no_loop c) x =
+      r.ends_plain (r.done a c (subst (λ us. LexAltEnd d g name frag (Some gap) blocks_left [] (frame alts us) mid G) (append-nil terms) x))
+  ending_in {gap = gap} {blocks_left = blocks_left} {mid = mid} {G = G} alts terms h a (at_top (loop {s = s} {t = t} chars last) c) x =
       r.ends_loop (sym h) chars (r.loop_rest last (r.done a c
-      (subst (λ us. LexAltEnd d g name frag (Some gap) room [] (frame alts us) mid G) (sym (append_assoc terms (LexerTerm.short s ∷ []) (t ∷ []))) x)))
+      (subst (λ us. LexAltEnd d g name frag (Some gap) blocks_left [] (frame alts us) mid G) (sym (append_assoc terms (LexerTerm.short s ∷ []) (t ∷ []))) x)))
 
-  pub top_in : {frag' gap : Bool} {known : Option Bool} {room : ℕ} {words mid : List Word} {alts : List (List LexerTerm)} {G : WrittenGrammar} (before : List (List LexerTerm)) →
-      frag' ≡ frag → Agrees known gap → IsLexAlts (top frag' gap) room words alts mid → LexCloses d g name frag (Some gap) room [] (before ++ alts) mid G →
-      LexWithin d g name frag known room [] (frame before []) words G
+  pub top_in : {frag' gap : Bool} {known : Option Bool} {blocks_left : ℕ} {words mid : List Word} {alts : List (List LexerTerm)} {G : WrittenGrammar} (before : List (List LexerTerm)) →
+      frag' ≡ frag → Agrees known gap → IsLexAlts (top frag' gap) blocks_left words alts mid → LexCloses d g name frag (Some gap) blocks_left [] (before ++ alts) mid G →
+      LexWithin d g name frag known blocks_left [] (frame before []) words G
   top_in before h a (n.last_alt {ts = ts} e end) c = lex_elements_in before [] e (ending_in before ts h a end (r.alts_end c))
-  top_in {gap = gap} {room = room} {mid = mid} {G = G} before h a (n.alt {ts = ts} {more = more} {alts = alts} e end others) c =
+  top_in {gap = gap} {blocks_left = blocks_left} {mid = mid} {G = G} before h a (n.alt {ts = ts} {more = more} {alts = alts} e end others) c =
       lex_elements_in before [] e (ending_in before ts h a end (r.alts_go_on (top_in (before ++ (ts ++ more) ∷ []) h refl others
-      (subst (λ as'. LexCloses d g name frag (Some gap) room [] as' mid G) (sym (append_assoc before ((ts ++ more) ∷ []) alts)) c))))
+      (subst (λ as'. LexCloses d g name frag (Some gap) blocks_left [] as' mid G) (sym (append_assoc before ((ts ++ more) ∷ []) alts)) c))))
 
--- an alternative and those behind it
-data LexFrom (level : Level) (room : ℕ) : List Word → List LexerTerm → List (List LexerTerm) → List Word → Type 0 where
-  lex_from_last : {words behind rest : List Word} {ts more : List LexerTerm} → IsLexElements room words ts behind → IsEnding level behind more rest → LexFrom level room words (ts ++ more) [] rest
-  lex_from_more : {words behind next rest : List Word} {ts more : List LexerTerm} {alts : List (List LexerTerm)} →
-      IsLexElements room words ts behind → IsEnding level behind more (w.Bar ∷ next) → IsLexAlts level room next alts rest → LexFrom level room words (ts ++ more) alts rest
+-- an alternative and those after it
+data LexFrom (level : Level) (blocks_left : ℕ) : List Word → List LexerTerm → List (List LexerTerm) → List Word → Type 0 where
+  lex_from_last : {words after rest : List Word} {ts more : List LexerTerm} → IsLexElements blocks_left words ts after → IsEnding level after more rest → LexFrom level blocks_left words (ts ++ more) [] rest
+  lex_from_more : {words after next rest : List Word} {ts more : List LexerTerm} {alts : List (List LexerTerm)} →
+      IsLexElements blocks_left words ts after → IsEnding level after more (w.Bar ∷ next) → IsLexAlts level blocks_left next alts rest → LexFrom level blocks_left words (ts ++ more) alts rest
 
-lex_from_alts : {level : Level} {room : ℕ} {words rest : List Word} {ts : List LexerTerm} {alts : List (List LexerTerm)} → LexFrom level room words ts alts rest → IsLexAlts level room words (ts ∷ alts) rest
+lex_from_alts : {level : Level} {blocks_left : ℕ} {words rest : List Word} {ts : List LexerTerm} {alts : List (List LexerTerm)} → LexFrom level blocks_left words ts alts rest → IsLexAlts level blocks_left words (ts ∷ alts) rest
 lex_from_alts (lex_from_last e end) = n.last_alt e end
 lex_from_alts (lex_from_more e end more) = n.alt e end more
 
-lex_from_element : {level : Level} {room : ℕ} {words behind next rest : List Word} {a t : LexerTerm} {ts : List LexerTerm} {alts : List (List LexerTerm)} →
-    IsLexAtom room words a behind → IsLexSuffixed a behind t next → LexFrom level room next ts alts rest → LexFrom level room words (t ∷ ts) alts rest
+lex_from_element : {level : Level} {blocks_left : ℕ} {words after next rest : List Word} {a t : LexerTerm} {ts : List LexerTerm} {alts : List (List LexerTerm)} →
+    IsLexAtom blocks_left words a after → IsLexSuffixed a after t next → LexFrom level blocks_left next ts alts rest → LexFrom level blocks_left words (t ∷ ts) alts rest
 lex_from_element a s (lex_from_last e end) = lex_from_last (n.element a s e) end
 lex_from_element a s (lex_from_more e end more) = lex_from_more (n.element a s e) end more
 
 module _ (d : ℕ) (g : WrittenGrammar) (name : List ℕ) (frag : Bool) where
-  record InnerBack (known : Option Bool) (room : ℕ) (outer : List (Frame LexerTerm)) (alts : List (List LexerTerm)) (terms : List LexerTerm) (words : List Word) (G : WrittenGrammar) : Type 0 where
+  record InnerBack (known : Option Bool) (blocks_left : ℕ) (enclosing : List (Frame LexerTerm)) (alts : List (List LexerTerm)) (terms : List LexerTerm) (words : List Word) (G : WrittenGrammar) : Type 0 where
     ts : List LexerTerm
     more : List (List LexerTerm)
     mid : List Word
-    made : LexFrom inner room words ts more mid
-    closes : LexCloses d g name frag known room outer (alts ++ ((terms ++ ts) ∷ more)) mid G
+    made : LexFrom inner blocks_left words ts more mid
+    closes : LexCloses d g name frag known blocks_left enclosing (alts ++ ((terms ++ ts) ∷ more)) mid G
 
-  inner_within_back : {known : Option Bool} {room : ℕ} {f' : Frame LexerTerm} {outer : List (Frame LexerTerm)} {words : List Word} {G : WrittenGrammar} (f : Frame LexerTerm) →
-      LexWithin d g name frag known room (f' ∷ outer) f words G → InnerBack known room (f' ∷ outer) f.alts f.terms words G
-  inner_within_back {known} {room} {f'} {outer} {words} {G} f (r.ends_inner (r.alts_end c)) = record {
+  inner_within_back : {known : Option Bool} {blocks_left : ℕ} {f' : Frame LexerTerm} {enclosing : List (Frame LexerTerm)} {words : List Word} {G : WrittenGrammar} (f : Frame LexerTerm) →
+      LexWithin d g name frag known blocks_left (f' ∷ enclosing) f words G → InnerBack known blocks_left (f' ∷ enclosing) f.alts f.terms words G
+  inner_within_back {known} {blocks_left} {f'} {enclosing} {words} {G} f (r.ends_inner (r.alts_end c)) = record {
     ts = [];
     more = [];
     mid = words;
     made = lex_from_last n.no_element in_block;
-    closes = subst (λ ts. LexCloses d g name frag known room (f' ∷ outer) (f.alts ++ ts ∷ []) words G) (sym (append-nil f.terms)) c;
+    closes = subst (λ ts. LexCloses d g name frag known blocks_left (f' ∷ enclosing) (f.alts ++ ts ∷ []) words G) (sym (append-nil f.terms)) c;
   }
-  inner_within_back {known} {room} {f'} {outer} {words} {G} f (r.ends_inner (r.alts_go_on x)) =
-      let b : InnerBack known room (f' ∷ outer) (f.alts ++ f.terms ∷ []) [] _ G = inner_within_back (next_alt f) x in
+  inner_within_back {known} {blocks_left} {f'} {enclosing} {words} {G} f (r.ends_inner (r.alts_go_on x)) =
+      let b : InnerBack known blocks_left (f' ∷ enclosing) (f.alts ++ f.terms ∷ []) [] _ G = inner_within_back (next_alt f) x in
       record {
         ts = [];
         more = b.ts ∷ b.more;
         mid = b.mid;
         made = lex_from_more n.no_element in_block (lex_from_alts b.made);
         closes =
-            subst (λ ts. LexCloses d g name frag known room (f' ∷ outer) (f.alts ++ (ts ∷ (b.ts ∷ b.more))) b.mid G) (sym (append-nil f.terms))
-            (subst (λ as'. LexCloses d g name frag known room (f' ∷ outer) as' b.mid G) (append_assoc f.alts (f.terms ∷ []) (b.ts ∷ b.more)) b.closes);
+            subst (λ ts. LexCloses d g name frag known blocks_left (f' ∷ enclosing) (f.alts ++ (ts ∷ (b.ts ∷ b.more))) b.mid G) (sym (append-nil f.terms))
+            (subst (λ as'. LexCloses d g name frag known blocks_left (f' ∷ enclosing) as' b.mid G) (append_assoc f.alts (f.terms ∷ []) (b.ts ∷ b.more)) b.closes);
       }
-  inner_within_back {known} {room} {f'} {outer} {words} {G} f (r.goes_on a (r.behind {u = u} s x)) =
-      let b : InnerBack known room (f' ∷ outer) f.alts (f.terms ++ u ∷ []) _ G = inner_within_back (with_term f u) x in
+  inner_within_back {known} {blocks_left} {f'} {enclosing} {words} {G} f (r.goes_on a (r.after {u = u} s x)) =
+      let b : InnerBack known blocks_left (f' ∷ enclosing) f.alts (f.terms ++ u ∷ []) _ G = inner_within_back (with_term f u) x in
       record {
         ts = u ∷ b.ts;
         more = b.more;
         mid = b.mid;
         made = lex_from_element a s b.made;
-        closes = subst (λ ts. LexCloses d g name frag known room (f' ∷ outer) (f.alts ++ (ts ∷ b.more)) b.mid G) (append_assoc f.terms (u ∷ []) b.ts) b.closes;
+        closes = subst (λ ts. LexCloses d g name frag known blocks_left (f' ∷ enclosing) (f.alts ++ (ts ∷ b.more)) b.mid G) (append_assoc f.terms (u ∷ []) b.ts) b.closes;
       }
 
-  pub inner_back : {known : Option Bool} {room : ℕ} {f' : Frame LexerTerm} {outer : List (Frame LexerTerm)} {words : List Word} {G : WrittenGrammar} → LexWithin d g name frag known room (f' ∷ outer) fresh words G →
-      (alts : List (List LexerTerm)) × (mid : List Word) × IsLexAlts inner room words alts mid × LexCloses d g name frag known room (f' ∷ outer) alts mid G
-  inner_back {known} {room} {f'} {outer} {words} {G} x =
-      let b : InnerBack known room (f' ∷ outer) [] [] words G = inner_within_back fresh x in
+  pub inner_back : {known : Option Bool} {blocks_left : ℕ} {f' : Frame LexerTerm} {enclosing : List (Frame LexerTerm)} {words : List Word} {G : WrittenGrammar} → LexWithin d g name frag known blocks_left (f' ∷ enclosing) fresh words G →
+      (alts : List (List LexerTerm)) × (mid : List Word) × IsLexAlts inner blocks_left words alts mid × LexCloses d g name frag known blocks_left (f' ∷ enclosing) alts mid G
+  inner_back {known} {blocks_left} {f'} {enclosing} {words} {G} x =
+      let b : InnerBack known blocks_left (f' ∷ enclosing) [] [] words G = inner_within_back fresh x in
       (b.ts ∷ b.more, b.mid, lex_from_alts b.made, b.closes)
 
-  record TopBack (known : Option Bool) (room : ℕ) (alts : List (List LexerTerm)) (terms : List LexerTerm) (words : List Word) (G : WrittenGrammar) : Type 0 where
+  record TopBack (known : Option Bool) (blocks_left : ℕ) (alts : List (List LexerTerm)) (terms : List LexerTerm) (words : List Word) (G : WrittenGrammar) : Type 0 where
     gap : Bool
     agrees : Agrees known gap
     ts : List LexerTerm
     more : List (List LexerTerm)
     mid : List Word
-    made : LexFrom (top frag gap) room words ts more mid
-    closes : LexCloses d g name frag (Some gap) room [] (alts ++ ((terms ++ ts) ∷ more)) mid G
+    made : LexFrom (top frag gap) blocks_left words ts more mid
+    closes : LexCloses d g name frag (Some gap) blocks_left [] (alts ++ ((terms ++ ts) ∷ more)) mid G
 
-  end_last : {known : Option Bool} {room : ℕ} {words mid : List Word} {more : List LexerTerm} {G : WrittenGrammar} (alts : List (List LexerTerm)) (terms : List LexerTerm) (gap : Bool) →
-      Agrees known gap → IsEnding (top frag gap) words more mid → LexCloses d g name frag (Some gap) room [] (alts ++ (terms ++ more) ∷ []) mid G → TopBack known room alts terms words G
+  end_last : {known : Option Bool} {blocks_left : ℕ} {words mid : List Word} {more : List LexerTerm} {G : WrittenGrammar} (alts : List (List LexerTerm)) (terms : List LexerTerm) (gap : Bool) →
+      Agrees known gap → IsEnding (top frag gap) words more mid → LexCloses d g name frag (Some gap) blocks_left [] (alts ++ (terms ++ more) ∷ []) mid G → TopBack known blocks_left alts terms words G
   end_last {mid = mid} {more = more} alts terms gap a end x = record {
     gap = gap;
     agrees = a;
@@ -207,42 +207,42 @@ module _ (d : ℕ) (g : WrittenGrammar) (name : List ℕ) (frag : Bool) where
     closes = x;
   }
 
-  end_more : {known : Option Bool} {room : ℕ} {words next : List Word} {more : List LexerTerm} {G : WrittenGrammar} (alts : List (List LexerTerm)) (terms : List LexerTerm) (gap : Bool) →
-      Agrees known gap → IsEnding (top frag gap) words more (w.Bar ∷ next) → TopBack (Some gap) room (alts ++ (terms ++ more) ∷ []) [] next G → TopBack known room alts terms words G
-  end_more {room = room} {next = next} {more = more} {G = G} alts terms gap a end b = record {
+  end_more : {known : Option Bool} {blocks_left : ℕ} {words next : List Word} {more : List LexerTerm} {G : WrittenGrammar} (alts : List (List LexerTerm)) (terms : List LexerTerm) (gap : Bool) →
+      Agrees known gap → IsEnding (top frag gap) words more (w.Bar ∷ next) → TopBack (Some gap) blocks_left (alts ++ (terms ++ more) ∷ []) [] next G → TopBack known blocks_left alts terms words G
+  end_more {blocks_left = blocks_left} {next = next} {more = more} {G = G} alts terms gap a end b = record {
     gap = gap;
     agrees = a;
     ts = more;
     more = b.ts ∷ b.more;
     mid = b.mid;
-    made = lex_from_more n.no_element end (subst (λ k. IsLexAlts (top frag k) room next (b.ts ∷ b.more) b.mid) (sym b.agrees) (lex_from_alts b.made));
+    made = lex_from_more n.no_element end (subst (λ k. IsLexAlts (top frag k) blocks_left next (b.ts ∷ b.more) b.mid) (sym b.agrees) (lex_from_alts b.made));
     closes =
-        subst (λ as'. LexCloses d g name frag (Some gap) room [] as' b.mid G) (append_assoc alts ((terms ++ more) ∷ []) (b.ts ∷ b.more))
-        (subst (λ k. LexCloses d g name frag (Some k) room [] ((alts ++ (terms ++ more) ∷ []) ++ (b.ts ∷ b.more)) b.mid G) (sym b.agrees) b.closes);
+        subst (λ as'. LexCloses d g name frag (Some gap) blocks_left [] as' b.mid G) (append_assoc alts ((terms ++ more) ∷ []) (b.ts ∷ b.more))
+        (subst (λ k. LexCloses d g name frag (Some k) blocks_left [] ((alts ++ (terms ++ more) ∷ []) ++ (b.ts ∷ b.more)) b.mid G) (sym b.agrees) b.closes);
   }
 
   plain_end : {gap : Bool} {words mid : List Word} → IsCommand gap words mid → IsEnding (top frag gap) words [] mid
   plain_end c = at_top no_loop c
 
-  loop_end : {gap : Bool} {words next behind mid : List Word} {s : List (ℕ × ℕ)} {t : LexerTerm} → frag ≡ false → IsCharSet words s (w.Star ∷ w.Question ∷ next) → IsLast next t behind → IsCommand gap behind mid →
+  loop_end : {gap : Bool} {words next after mid : List Word} {s : List (ℕ × ℕ)} {t : LexerTerm} → frag ≡ false → IsCharSet words s (w.Star ∷ w.Question ∷ next) → IsLast next t after → IsCommand gap after mid →
       IsEnding (top frag gap) words (LexerTerm.short s ∷ t ∷ []) mid
   loop_end {gap} {words} {mid = mid} {s = s} {t = t} h set' last c = subst (λ k. IsEnding (top k gap) words (LexerTerm.short s ∷ t ∷ []) mid) (sym h) (at_top (loop set' last) c)
 
-  top_within_back : {known : Option Bool} {room : ℕ} {words : List Word} {G : WrittenGrammar} (f : Frame LexerTerm) → LexWithin d g name frag known room [] f words G → TopBack known room f.alts f.terms words G
-  top_within_back {known} {room} {words} {G} f (r.ends_plain (r.done {gap = gap} {mid = mid} a c (r.alts_end x))) =
-      end_last f.alts f.terms gap a (plain_end c) (subst (λ ts. LexCloses d g name frag (Some gap) room [] (f.alts ++ ts ∷ []) mid G) (sym (append-nil f.terms)) x)
-  top_within_back {known} {room} {words} {G} f (r.ends_plain (r.done {gap = gap} a c (r.alts_go_on {words = next} x))) =
+  top_within_back : {known : Option Bool} {blocks_left : ℕ} {words : List Word} {G : WrittenGrammar} (f : Frame LexerTerm) → LexWithin d g name frag known blocks_left [] f words G → TopBack known blocks_left f.alts f.terms words G
+  top_within_back {known} {blocks_left} {words} {G} f (r.ends_plain (r.done {gap = gap} {mid = mid} a c (r.alts_end x))) =
+      end_last f.alts f.terms gap a (plain_end c) (subst (λ ts. LexCloses d g name frag (Some gap) blocks_left [] (f.alts ++ ts ∷ []) mid G) (sym (append-nil f.terms)) x)
+  top_within_back {known} {blocks_left} {words} {G} f (r.ends_plain (r.done {gap = gap} a c (r.alts_go_on {words = next} x))) =
       end_more f.alts f.terms gap a (plain_end c)
-      (subst (λ ts. TopBack (Some gap) room (f.alts ++ ts ∷ []) [] next G) (sym (append-nil f.terms)) (top_within_back (next_alt f) x))
-  top_within_back {known} {room} {words} {G} f (r.ends_loop h set' (r.loop_rest {s = s} {t = t} last (r.done {gap = gap} {mid = mid} a c (r.alts_end x)))) =
+      (subst (λ ts. TopBack (Some gap) blocks_left (f.alts ++ ts ∷ []) [] next G) (sym (append-nil f.terms)) (top_within_back (next_alt f) x))
+  top_within_back {known} {blocks_left} {words} {G} f (r.ends_loop h set' (r.loop_rest {s = s} {t = t} last (r.done {gap = gap} {mid = mid} a c (r.alts_end x)))) =
       end_last f.alts f.terms gap a (loop_end h set' last c)
-      (subst (λ ts. LexCloses d g name frag (Some gap) room [] (f.alts ++ ts ∷ []) mid G) (append_assoc f.terms (LexerTerm.short s ∷ []) (t ∷ [])) x)
-  top_within_back {known} {room} {words} {G} f (r.ends_loop h set' (r.loop_rest {s = s} {t = t} last (r.done {gap = gap} a c (r.alts_go_on {words = next} x)))) =
+      (subst (λ ts. LexCloses d g name frag (Some gap) blocks_left [] (f.alts ++ ts ∷ []) mid G) (append_assoc f.terms (LexerTerm.short s ∷ []) (t ∷ [])) x)
+  top_within_back {known} {blocks_left} {words} {G} f (r.ends_loop h set' (r.loop_rest {s = s} {t = t} last (r.done {gap = gap} a c (r.alts_go_on {words = next} x)))) =
       end_more f.alts f.terms gap a (loop_end h set' last c)
-      (subst (λ ts. TopBack (Some gap) room (f.alts ++ ts ∷ []) [] next G) (append_assoc f.terms (LexerTerm.short s ∷ []) (t ∷ []))
+      (subst (λ ts. TopBack (Some gap) blocks_left (f.alts ++ ts ∷ []) [] next G) (append_assoc f.terms (LexerTerm.short s ∷ []) (t ∷ []))
       (top_within_back (next_alt (with_term (with_term f (LexerTerm.short s)) t)) x))
-  top_within_back {known} {room} {words} {G} f (r.goes_on a (r.behind {u = u} s x)) =
-      let b : TopBack known room f.alts (f.terms ++ u ∷ []) _ G = top_within_back (with_term f u) x in
+  top_within_back {known} {blocks_left} {words} {G} f (r.goes_on a (r.after {u = u} s x)) =
+      let b : TopBack known blocks_left f.alts (f.terms ++ u ∷ []) _ G = top_within_back (with_term f u) x in
       record {
         gap = b.gap;
         agrees = b.agrees;
@@ -250,29 +250,29 @@ module _ (d : ℕ) (g : WrittenGrammar) (name : List ℕ) (frag : Bool) where
         more = b.more;
         mid = b.mid;
         made = lex_from_element a s b.made;
-        closes = subst (λ ts. LexCloses d g name frag (Some b.gap) room [] (f.alts ++ (ts ∷ b.more)) b.mid G) (append_assoc f.terms (u ∷ []) b.ts) b.closes;
+        closes = subst (λ ts. LexCloses d g name frag (Some b.gap) blocks_left [] (f.alts ++ (ts ∷ b.more)) b.mid G) (append_assoc f.terms (u ∷ []) b.ts) b.closes;
       }
 
-  pub top_back : {known : Option Bool} {room : ℕ} {words : List Word} {G : WrittenGrammar} → LexWithin d g name frag known room [] fresh words G →
-      (gap : Bool) × (alts : List (List LexerTerm)) × (mid : List Word) × Agrees known gap × IsLexAlts (top frag gap) room words alts mid × LexCloses d g name frag (Some gap) room [] alts mid G
-  top_back {known} {room} {words} {G} x =
-      let b : TopBack known room [] [] words G = top_within_back fresh x in
+  pub top_back : {known : Option Bool} {blocks_left : ℕ} {words : List Word} {G : WrittenGrammar} → LexWithin d g name frag known blocks_left [] fresh words G →
+      (gap : Bool) × (alts : List (List LexerTerm)) × (mid : List Word) × Agrees known gap × IsLexAlts (top frag gap) blocks_left words alts mid × LexCloses d g name frag (Some gap) blocks_left [] alts mid G
+  top_back {known} {blocks_left} {words} {G} x =
+      let b : TopBack known blocks_left [] [] words G = top_within_back fresh x in
       (b.gap, b.ts ∷ b.more, b.mid, b.agrees, lex_from_alts b.made, b.closes)
 
 -- References and items in brackets
 
 module _ (d : ℕ) (b : Body) where
-  pub refs_in : {words mid : List Word} {more : List Reference} {G : WrittenGrammar} (rs : List Reference) → IsRefs words more mid → BehindRest d b (WrittenTerm.but (rs ++ more)) mid G → RefsRest d b rs words G
-  refs_in {mid = mid} {G = G} rs n.refs_end x = r.refs_end (subst (λ l. BehindRest d b (WrittenTerm.but l) mid G) (append-nil rs) x)
+  pub refs_in : {words mid : List Word} {more : List Reference} {G : WrittenGrammar} (rs : List Reference) → IsRefs words more mid → AfterRest d b (WrittenTerm.but (rs ++ more)) mid G → RefsRest d b rs words G
+  refs_in {mid = mid} {G = G} rs n.refs_end x = r.refs_end (subst (λ l. AfterRest d b (WrittenTerm.but l) mid G) (append-nil rs) x)
   refs_in {mid = mid} {G = G} rs (n.refs_go_on {r = q} {rs = more} h i) x =
-      r.refs_go_on (r.ref_in h (refs_in (rs ++ q ∷ []) i (subst (λ l. BehindRest d b (WrittenTerm.but l) mid G) (sym (append_assoc rs (q ∷ []) more)) x)))
+      r.refs_go_on (r.ref_in h (refs_in (rs ++ q ∷ []) i (subst (λ l. AfterRest d b (WrittenTerm.but l) mid G) (sym (append_assoc rs (q ∷ []) more)) x)))
 
   pub refs_back : {words : List Word} {G : WrittenGrammar} (rs : List Reference) → RefsRest d b rs words G →
-      (more : List Reference) × (mid : List Word) × IsRefs words more mid × BehindRest d b (WrittenTerm.but (rs ++ more)) mid G
-  refs_back {G = G} rs (r.refs_end {words = words} x) = ([], words, n.refs_end, subst (λ l. BehindRest d b (WrittenTerm.but l) words G) (sym (append-nil rs)) x)
+      (more : List Reference) × (mid : List Word) × IsRefs words more mid × AfterRest d b (WrittenTerm.but (rs ++ more)) mid G
+  refs_back {G = G} rs (r.refs_end {words = words} x) = ([], words, n.refs_end, subst (λ l. AfterRest d b (WrittenTerm.but l) words G) (sym (append-nil rs)) x)
   refs_back {G = G} rs (r.refs_go_on (r.ref_in {r = q} {words = words} h x)) =
-      let back : (more : List Reference) × (mid : List Word) × IsRefs words more mid × BehindRest d b (WrittenTerm.but ((rs ++ q ∷ []) ++ more)) mid G = refs_back (rs ++ q ∷ []) x in
-      (q ∷ back.0, back.1, n.refs_go_on h back.2, subst (λ l. BehindRest d b (WrittenTerm.but l) back.1 G) (append_assoc rs (q ∷ []) back.0) back.3)
+      let back : (more : List Reference) × (mid : List Word) × IsRefs words more mid × AfterRest d b (WrittenTerm.but ((rs ++ q ∷ []) ++ more)) mid G = refs_back (rs ++ q ∷ []) x in
+      (q ∷ back.0, back.1, n.refs_go_on h back.2, subst (λ l. AfterRest d b (WrittenTerm.but l) back.1 G) (append_assoc rs (q ∷ []) back.0) back.3)
 
 module _ (d : ℕ) (b : LexBody) where
   pub items_in : {words mid : List Word} {more : List (ℕ × ℕ)} {G : WrittenGrammar} (ranges : List (ℕ × ℕ)) → IsItems words more mid → SetRest d b (outside (ranges ++ more)) mid G → ItemsRest d b ranges words G
@@ -344,12 +344,12 @@ module _ (d : ℕ) where
 
   record TokensBack (g : WrittenGrammar) (words : List Word) (G : WrittenGrammar) : Type 0 where
     ms : List (List ℕ)
-    behind : List Word
+    after : List Word
     ns : List (List ℕ)
     next : List Word
     rules : List WrittenRule
-    declared : IsTokens words ms behind
-    prequels : IsPrequels behind ns next
+    declared : IsTokens words ms after
+    prequels : IsPrequels after ns next
     read : IsRules d next rules
     same : G ≡ grown g (ms ++ ns) rules
 
@@ -375,12 +375,12 @@ module _ (d : ℕ) where
     tokens_back : {g G : WrittenGrammar} {words : List Word} → TokensRest d g words G → TokensBack g words G
     tokens_back {g} {G} (r.tokens_end {words = words} x) =
         let b : TextBack g words G = text_back x in
-        record { ms = []; behind = words; ns = b.ns; next = b.next; rules = b.rules; declared = n.tokens_end; prequels = b.prequels; read = b.read; same = b.same }
+        record { ms = []; after = words; ns = b.ns; next = b.next; rules = b.rules; declared = n.tokens_end; prequels = b.prequels; read = b.read; same = b.same }
     tokens_back {g} {G} (r.token {n = m} (r.last {words = words} x)) =
         let b : TextBack (with_token g m) words G = text_back x in
         record {
           ms = m ∷ [];
-          behind = words;
+          after = words;
           ns = b.ns;
           next = b.next;
           rules = b.rules;
@@ -393,7 +393,7 @@ module _ (d : ℕ) where
         let b : TokensBack (with_token g m) words G = tokens_back x in
         record {
           ms = m ∷ b.ms;
-          behind = b.behind;
+          after = b.after;
           ns = b.ns;
           next = b.next;
           rules = b.rules;

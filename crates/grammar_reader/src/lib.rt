@@ -1,28 +1,17 @@
-//! Reading grammars in the notation of ANTLR 4.
+//! Reads a grammar in the notation of ANTLR 4.
+//!
+//! Begin with [`read_grammar`]: it gives the grammar that a text spells, or its first fault: the first
+//! word that can't follow the ones before, with its byte. Of `grammar G; s : 'x' | ) ;` that is
+//! `)`, at byte 21. Read `IsText` in `grammar_notation/specs/Notation.antt` first, which has a family
+//! for each row of the notation, then `IsFirstFault` in `grammar_notation/specs/Reads.antt`.
+//!
+//! The reader is a pushdown machine (`grammar_machine`). Its states are proved to accept exactly the
+//! texts of the notation, and each word that can't follow is named by the state that it can't follow
+//! (`specs/Rows.antt`).
 #![tactic(auto)]
 
-mod fault;
-#[cfg(test)]
-mod fault_tests;
-mod frame;
-mod header;
-mod item;
-mod laws;
-mod lexer;
 mod naming;
-mod parser;
-mod places;
+mod positions;
 mod reader;
-mod rules;
-mod set;
-#[cfg(test)]
-mod set_tests;
-mod state;
-mod step;
-#[cfg(test)]
-mod tests;
-mod top;
 
-pub use fault::{ReadFault, What};
-pub use laws::{faults_once, named_once};
 pub use reader::read_grammar;

@@ -2,15 +2,15 @@
 
 ghost use Rattle.std.specs.Prelude.{◌≡◌, Some, None, cond};
 ghost use Rattle.grammar_reader.specs.Rows.{breaks_command, fault_at, is_deep, last_row, later_row, loop_row, option_row, own_row, reserved_row};
-ghost use Rattle.grammar_reader.specs.View.{state_of};
+ghost use Rattle.grammar_machine.specs.View.{state_of};
 
-use crate::fault::{ReadFault, What};
-use crate::places::{
-    at_arrow, at_block, at_colon, at_option, at_rule, at_start, behind_arrow, behind_last,
-    behind_loop, behind_name, behind_suffix, ends_lex_alt, takes_action, within_lexer_rule,
+use crate::positions::{
+    after_arrow, after_last, after_loop, after_name, after_suffix, at_arrow, at_block, at_colon,
+    at_option, at_rule, at_start, ends_lex_alt, takes_action, within_lexer_rule,
     within_parser_rule,
 };
-use crate::state::State;
+use grammar_machine::State;
+use grammar_notation::{ReadFault, What};
 use grammar_tree::Text;
 use grammar_words::{Reserved, Word, is};
 
@@ -30,9 +30,9 @@ fn reserved_row(state: &State, reserved: Reserved) -> Option<What>
         Reserved::Import => row_if(at_rule(state), What::Import),
         Reserved::Mode => row_if(at_rule(state), What::Mode),
         Reserved::Channels => row_if(at_rule(state), What::Channels),
-        Reserved::Returns => row_if(behind_name(state), What::Returns),
-        Reserved::Locals => row_if(behind_name(state), What::Locals),
-        Reserved::Throws => row_if(behind_name(state), What::Throws),
+        Reserved::Returns => row_if(after_name(state), What::Returns),
+        Reserved::Locals => row_if(after_name(state), What::Locals),
+        Reserved::Throws => row_if(after_name(state), What::Throws),
         Reserved::Catch => row_if(at_rule(state), What::Catch),
         Reserved::Finally => row_if(at_rule(state), What::Finally),
         Reserved::Public => row_if(at_rule(state), What::Modifier),
@@ -50,7 +50,7 @@ fn own_row(state: &State, word: &Word) -> Option<What>
         Word::OpenBrace => row_if(takes_action(state), What::Action),
         Word::At => row_if(at_rule(state) || at_colon(state), What::Action),
         Word::Set(_) => row_if(
-            behind_name(state) || within_parser_rule(state),
+            after_name(state) || within_parser_rule(state),
             What::Argument,
         ),
         _ => None,
@@ -62,10 +62,10 @@ fn breaks_command(state: &State, word: &Word) -> bool
     ensures { result ≡ breaks_command (state_of state.now) word.now }
 {
     match word {
-        Word::Arrow => behind_arrow(state) || ends_lex_alt(state),
-        Word::Bar => behind_arrow(state) || at_arrow(state),
-        Word::Semicolon => behind_arrow(state) || at_arrow(state),
-        _ => behind_arrow(state),
+        Word::Arrow => after_arrow(state) || ends_lex_alt(state),
+        Word::Bar => after_arrow(state) || at_arrow(state),
+        Word::Semicolon => after_arrow(state) || at_arrow(state),
+        _ => after_arrow(state),
     }
 }
 
@@ -82,13 +82,13 @@ fn option_row(state: &State, name: &Text) -> Option<What>
     row_if(is(name, "tokenVocab"), What::TokenVocab)
 }
 
-/// The row of a word that can't stand behind a suffix, or behind a loop or what follows it.
+/// The row of a word that can't follow a suffix, or a loop or what follows it.
 fn loop_row(state: &State, word: &Word) -> Option<What>
     ensures { result ≡ loop_row (state_of state.now) word.now }
 {
-    let of_loop = behind_loop(state) || behind_last(state);
+    let of_loop = after_loop(state) || after_last(state);
     match word {
-        Word::Question => row_if(of_loop || behind_suffix(state), What::NonGreedy),
+        Word::Question => row_if(of_loop || after_suffix(state), What::NonGreedy),
         _ => row_if(of_loop, What::NonGreedy),
     }
 }

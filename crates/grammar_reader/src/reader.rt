@@ -6,13 +6,12 @@ ghost use Rattle.grammar_tree.specs.Written.{WrittenGrammar};
 ghost use Rattle.grammar_tree.specs.GrammarView.{grammar_of};
 ghost use Rattle.grammar_tree.specs.Size.{grammar_size};
 ghost use Rattle.grammar_reader.specs.Ended.{IsEnded};
-ghost use Rattle.grammar_reader.specs.Reads.{IsFaultOf, IsProfile, IsReadAs};
-ghost use Rattle.grammar_reader.specs.View.{state_of};
+ghost use Rattle.grammar_notation.specs.Reads.{IsFaultOf, IsProfile, IsReadAs};
+ghost use Rattle.grammar_machine.specs.View.{state_of};
 
-use crate::fault::ReadFault;
 use crate::naming::fault_at;
-use crate::state::State;
-use crate::step::step;
+use grammar_machine::{State, step};
+use grammar_notation::ReadFault;
 use grammar_tree::Grammar;
 use grammar_words::{Placed, Words};
 use std::alloc::Global;
@@ -41,7 +40,7 @@ fn read_text(alloc: Global, text: &str) -> Result<Grammar, ReadFault>
             unreachable!()
         };
         let Placed { word, offset } = placed;
-        // The step takes the state and the word, so what the word would be called is told before.
+        // The step takes the state and the word, so what the word would be called is found first.
         let fault = fault_at(&state, &word, offset as u64);
         match step(alloc, state, word)? {
             None => return Err(fault),
@@ -53,7 +52,10 @@ fn read_text(alloc: Global, text: &str) -> Result<Grammar, ReadFault>
     }
 }
 
-/// The grammar that a text spells, or why it spells none.
+/// The grammar that a text spells, or its first fault: ill-formed bytes, the first word that can't
+/// follow the ones before it, or out of memory.
+///
+/// It takes time near linear in the bytes.
 pub fn read_grammar(alloc: Global, text: &[u8]) -> Result<Grammar, ReadFault>
     ensures ok { IfOk result (λ g. IsProfile text.now (grammar_of g)) }
     ensures few { IfOk result (λ g. grammar_size (grammar_of g) ≤ length text.now) }

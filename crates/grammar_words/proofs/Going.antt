@@ -11,7 +11,7 @@ use Rattle.grammar_words.specs.declared.word.Word.{Word}
 use Rattle.grammar_words.specs.declared.word.Word.TheVariants as w
 use Rattle.grammar_words.specs.declared.word.Reserved.TheVariants as r
 use Rattle.grammar_words.specs.declared.word.Placed.{Placed}
-use Rattle.grammar_words.proofs.Tails.{Ends, EndsIn, RestEnds, whole, least, behind, pieces_ends, literal_piece_ends, set_piece_ends, passed_len, choose}
+use Rattle.grammar_words.proofs.Tails.{Ends, EndsIn, RestEnds, whole, least, one_more, pieces_ends, literal_piece_ends, set_piece_ends, passed_len, choose}
 
 if_so : {A : Type 0} (P : A → Type 0) (b : Bool) {x y : A} → (b ≡ true → P x) → (b ≡ false → P y) → P (cond b x y)
 if_so P true p q = p refl
@@ -19,17 +19,17 @@ if_so P false p q = q refl
 
 rest_more : (c : ℕ) (cs : List ℕ) (o : Option (List ℕ)) → RestEnds cs o → RestEnds (c ∷ cs) o
 rest_more c cs None e = tt
-rest_more c cs (Some rest) e = behind c e
+rest_more c cs (Some rest) e = one_more c e
 
 close_ends : (cs : List ℕ) → RestEnds cs (after_close cs)
 close_ends [] = tt
 close_ends (c ∷ cs) =
-    choose (RestEnds (c ∷ cs)) (c == 42 && begins (λ d. d == 47) cs) {x = Some (drop 1 cs)} {y = after_close cs} (behind c (least 1 cs)) (rest_more c cs (after_close cs) (close_ends cs))
+    choose (RestEnds (c ∷ cs)) (c == 42 && begins (λ d. d == 47) cs) {x = Some (drop 1 cs)} {y = after_close cs} (one_more c (least 1 cs)) (rest_more c cs (after_close cs) (close_ends cs))
 
 comment_ends : (cs : List ℕ) → RestEnds cs (comment cs)
 comment_ends [] = tt
 comment_ends (c ∷ cs) =
-    choose (RestEnds (c ∷ cs)) (c == 47) {x = Some (drop (prefix_len is_on_line cs) cs)} (behind c (least (prefix_len is_on_line cs) cs))
+    choose (RestEnds (c ∷ cs)) (c == 47) {x = Some (drop (prefix_len is_on_line cs) cs)} (one_more c (least (prefix_len is_on_line cs) cs))
     (choose (RestEnds (c ∷ cs)) (c == 42) {x = after_close cs} {y = None} (rest_more c cs (after_close cs) (close_ends cs)) tt)
 
 -- a blank or comment is more than nothing
@@ -97,10 +97,10 @@ module _ (total : ℕ) where
   listed_same : (all cs : List ℕ) (p : Word × List ℕ) → Ends cs p.1 → listed total all p (λ rest. words_from total (length cs - length rest) cs) ≡ listed total all p (λ rest. words_from total 0 rest)
   listed_same all cs p e = ap (λ ws. cond (is_last p.0) (placed total all p.0 ∷ []) (placed total all (settled p.0 (brace_from 0 p.1)) ∷ ws)) (words_past cs p.1 e)
 
-  -- the word at hand, and those behind it
-  pub word_here : (cs : List ℕ) → gap cs ≡ None → words_from total 0 cs ≡ listed total cs (word cs) (λ rest. words_from total 0 rest)
-  word_here [] e = refl
-  word_here (c ∷ cs) e =
+  -- the current word, and those after it
+  pub first_word : (cs : List ℕ) → gap cs ≡ None → words_from total 0 cs ≡ listed total cs (word cs) (λ rest. words_from total 0 rest)
+  first_word [] e = refl
+  first_word (c ∷ cs) e =
       ap (λ o. listed_gap o (λ rest. words_from total (length cs - length rest) cs) (listed total (c ∷ cs) (word (c ∷ cs)) (λ rest. words_from total (length cs - length rest) cs))) e
       ∙ listed_same (c ∷ cs) cs (word (c ∷ cs)) (word_ends c cs)
 
@@ -132,15 +132,15 @@ last_settled (w.Lower n) b h = cc h
 last_settled _ b h = refl
 
 module _ (total : ℕ) (cs rest : List ℕ) (wo : Word) (e : ◌≡◌ {A = Word × List ℕ} (wo, rest) (word cs)) (none : gap cs ≡ None) where
-  here : words_from total 0 cs ≡ listed total cs (wo, rest) (λ rest. words_from total 0 rest)
-  here = word_here total cs none ∙ ap (λ p. listed total cs p (λ rest. words_from total 0 rest)) (sym e)
+  start : words_from total 0 cs ≡ listed total cs (wo, rest) (λ rest. words_from total 0 rest)
+  start = first_word total cs none ∙ ap (λ p. listed total cs p (λ rest. words_from total 0 rest)) (sym e)
 
   -- after one word
   pub word_passed : (b : Bool) → is_last wo ≡ b → (found : Placed) → found ≡ placed total cs (settled wo (brace_from 0 rest)) → words_from total 0 cs ≡ found ∷ words_left b total rest
   word_passed true l found f =
-      here ∙ ap (λ b. cond b (placed total cs wo ∷ []) (placed total cs (settled wo (brace_from 0 rest)) ∷ words_from total 0 rest)) l
+      start ∙ ap (λ b. cond b (placed total cs wo ∷ []) (placed total cs (settled wo (brace_from 0 rest)) ∷ words_from total 0 rest)) l
       ∙ ap (λ x. placed total cs x ∷ []) (sym (last_settled wo (brace_from 0 rest) l)) ∙ ap (λ p. p ∷ []) (sym f)
-  word_passed false l found f = here ∙ ap (λ b. cond b (placed total cs wo ∷ []) (placed total cs (settled wo (brace_from 0 rest)) ∷ words_from total 0 rest)) l ∙ ap (λ p. p ∷ words_from total 0 rest) (sym f)
+  word_passed false l found f = start ∙ ap (λ b. cond b (placed total cs wo ∷ []) (placed total cs (settled wo (brace_from 0 rest)) ∷ words_from total 0 rest)) l ∙ ap (λ p. p ∷ words_from total 0 rest) (sym f)
 
 -- there is a word at least: the last one
 pub words_some : (total k : ℕ) (cs : List ℕ) → words_from total k cs ≡ [] → ⊥

@@ -19,9 +19,9 @@ grown k v d h l =
     omega arith
 
 -- one digit more
-pub further : (left less v c : ℕ) (all cs : List ℕ) → Some (c, cs) ≡ uncons all → left ≡ suc less → hex_after (v * 16 + hex_digit c) (take less cs) ≡ hex_after v (take left all)
-further left less v c [] cs e h = absurd (cc e)
-further left less v c (x ∷ xs) cs e h =
+pub further : (remaining less v c : ℕ) (all cs : List ℕ) → Some (c, cs) ≡ uncons all → remaining ≡ suc less → hex_after (v * 16 + hex_digit c) (take less cs) ≡ hex_after v (take remaining all)
+further remaining less v c [] cs e h = absurd (cc e)
+further remaining less v c (x ∷ xs) cs e h =
     let pair : ◌≡◌ {A = ℕ × List ℕ} (c, cs) (x, xs) = cc in
     let head : c ≡ x = ap (λ p. p.0) pair in
     let tail : cs ≡ xs = ap (λ p. p.1) pair in

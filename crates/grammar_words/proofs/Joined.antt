@@ -41,11 +41,11 @@ last_set (m ∷ (n ∷ ms)) zero d p h e = absurd (omega arith)
 last_set (m ∷ (n ∷ ms)) (suc k) d p h e = ap (λ l. m ∷ l) (last_set (n ∷ ms) k d p (omega arith) e)
 
 -- the content of a literal, as far as it is read
-pub record IsRead (bytes : List ℕ) (left all : Pieces ℕ) : Type 0 where
+pub record IsRead (bytes : List ℕ) (remaining all : Pieces ℕ) : Type 0 where
   pub read : List ℕ
   pub scalars : all_scalars read ≡ true
   pub spelled : bytes ≡ encode_utf8_all read
-  pub same : joined read left ≡ all
+  pub same : joined read remaining ≡ all
 
 joined_none : {A : Type 0} (o : Pieces A) → joined [] o ≡ o
 joined_none None = refl
@@ -80,18 +80,18 @@ uncons_some c cs (x ∷ xs) e =
     ap (λ p. p.0 ∷ p.1) pair
 
 -- the bytes so far, and those of the characters to come
-pub front_more : (bytes next : List ℕ) (c left less : ℕ) (all cs : List ℕ) → left ≡ suc less → Some (c, cs) ≡ uncons all → next ≡ bytes ++ encode_utf8 c →
-    next ++ encode_utf8_all (take less cs) ≡ bytes ++ encode_utf8_all (take left all)
-front_more bytes next c left less all cs h e n =
+pub front_more : (bytes next : List ℕ) (c remaining less : ℕ) (all cs : List ℕ) → remaining ≡ suc less → Some (c, cs) ≡ uncons all → next ≡ bytes ++ encode_utf8 c →
+    next ++ encode_utf8_all (take less cs) ≡ bytes ++ encode_utf8_all (take remaining all)
+front_more bytes next c remaining less all cs h e n =
     ap (λ b. b ++ encode_utf8_all (take less cs)) n ∙ append_assoc bytes (encode_utf8 c) (encode_utf8_all (take less cs))
-    ∙ ap (λ p. bytes ++ encode_utf8_all (take p (c ∷ cs))) (sym h) ∙ ap (λ l. bytes ++ encode_utf8_all (take left l)) (sym (uncons_some c cs all e))
+    ∙ ap (λ p. bytes ++ encode_utf8_all (take p (c ∷ cs))) (sym h) ∙ ap (λ l. bytes ++ encode_utf8_all (take remaining l)) (sym (uncons_some c cs all e))
 
-pub read_more : (bytes next : List ℕ) (o left all : Pieces ℕ) (c : ℕ) → IsRead bytes o all → scalar c ≡ true → o ≡ put c left → next ≡ bytes ++ encode_utf8 c → IsRead next left all
-read_more bytes next o left all c r k e n = record {
+pub read_more : (bytes next : List ℕ) (o remaining all : Pieces ℕ) (c : ℕ) → IsRead bytes o all → scalar c ≡ true → o ≡ put c remaining → next ≡ bytes ++ encode_utf8 c → IsRead next remaining all
+read_more bytes next o remaining all c r k e n = record {
   read = r.read ++ c ∷ [];
   scalars = scalars_more r.read c r.scalars k;
   spelled = n ∙ ap (λ b. b ++ encode_utf8 c) r.spelled ∙ ap (λ b. encode_utf8_all r.read ++ b) (sym (append-nil (encode_utf8 c))) ∙ sym (encodes-append r.read (c ∷ []));
-  same = joined_put r.read c left ∙ ap (joined r.read) (sym e) ∙ r.same;
+  same = joined_put r.read c remaining ∙ ap (joined r.read) (sym e) ∙ r.same;
 }
 
 pub read_all : (bytes rest : List ℕ) (o all : Pieces ℕ) → IsRead bytes o all → o ≡ Some ([], rest) → Some (chars bytes, rest) ≡ all

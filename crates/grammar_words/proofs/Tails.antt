@@ -38,8 +38,8 @@ least (suc n) (c ∷ cs) =
     let e : Ends cs (drop n cs) = least n cs in
     record { passed = suc e.passed; cut = e.cut; fits = omega (arith, e.fits) }
 
-pub behind : (c : ℕ) {cs rest : List ℕ} → Ends cs rest → Ends (c ∷ cs) rest
-behind c e = record { passed = suc e.passed; cut = e.cut; fits = omega (arith, e.fits) }
+pub one_more : (c : ℕ) {cs rest : List ℕ} → Ends cs rest → Ends (c ∷ cs) rest
+one_more c e = record { passed = suc e.passed; cut = e.cut; fits = omega (arith, e.fits) }
 
 pub over : {cs mid rest : List ℕ} → Ends cs mid → Ends mid rest → Ends cs rest
 over {cs} {mid} {rest} e f =
@@ -60,7 +60,7 @@ plain_ends cs = choose (EndsIn cs) (nat_le 4 (prefix_len is_ascii_hexdigit cs)) 
 
 more : {A : Type 0} (c : ℕ) (cs : List ℕ) (o : Option (A × List ℕ)) → EndsIn cs o → EndsIn (c ∷ cs) o
 more c cs None e = tt
-more c cs (Some (a, rest)) e = behind c e
+more c cs (Some (a, rest)) e = one_more c e
 
 hex_ends : (cs : List ℕ) → EndsIn cs (hex_escape cs)
 hex_ends [] = tt

@@ -1,4 +1,4 @@
--- What contracts see of the text that is left: its characters.
+-- What contracts see of the text that remains: its characters.
 use Rattle.std.specs.Prelude.{ℕ, List, [], ◌∷◌, Option, Some, None, Vec, string_bytes}
 use Rattle.std.specs.Str.{chars}
 use denote.Ref.{Bor}

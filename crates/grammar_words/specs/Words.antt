@@ -124,8 +124,8 @@ abbrev pub listed : ℕ → List ℕ → Word × List ℕ → (List ℕ → List
 listed total cs (w, rest) go = cond (is_last w) (placed total cs w ∷ []) (placed total cs (settled w (brace_from 0 rest)) ∷ go rest)
 
 abbrev pub listed_gap : Option (List ℕ) → (List ℕ → List Placed) → List Placed → List Placed
-listed_gap None go here = here
-listed_gap (Some rest) go here = go rest
+listed_gap None go start = start
+listed_gap (Some rest) go start = go rest
 
 -- The words that `cs` spell, which end a text of `total` bytes. The first number counts the characters that belong to what was read before.
 abbrev pub words_from : ℕ → ℕ → List ℕ → List Placed
@@ -144,7 +144,7 @@ without_mark (c ∷ cs) = cond (c == 0xFEFF) cs (c ∷ cs)
 unfoldable pub words_of : List ℕ → List Placed
 words_of bytes = words_from (length bytes) 0 (without_mark (chars bytes))
 
--- the words that are left
+-- the words that remain
 abbrev pub words_left : Bool → ℕ → List ℕ → List Placed
 words_left true total cs = []
 words_left false total cs = words_from total 0 cs

@@ -12,7 +12,7 @@ use faults::Memory;
 use std::alloc::Global;
 use std::marker::Model;
 
-/// The words of a text that are left. Contracts see them as a list.
+/// The words of a text that remain. Contracts see them as a list.
 #[derive(Drop)]
 pub struct Words<'a> {
     rest: &'a str,
@@ -108,9 +108,9 @@ impl<'a> Words<'a> {
         if self.is_over {
             return Ok(None);
         }
-        let here = skip_gaps(self.rest);
-        let offset = self.total.saturating_sub(here.len());
-        let (word, rest) = word(alloc, here)?;
+        let start = skip_gaps(self.rest);
+        let offset = self.total.saturating_sub(start.len());
+        let (word, rest) = word(alloc, start)?;
         self.is_over = is_last(&word);
         self.rest = rest;
         Ok(Some(Placed {

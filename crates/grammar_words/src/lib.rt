@@ -10,8 +10,6 @@ mod cursor;
 mod names;
 mod quoted;
 mod sets;
-#[cfg(test)]
-mod tests;
 mod text;
 mod word;
 mod words;

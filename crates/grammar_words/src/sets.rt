@@ -21,10 +21,10 @@ pub fn marks(alloc: Global, text: &str) -> Result<Option<(Vec<Mark>, &str)>, Mem
     while let Some((c, after)) = first_char(rest) {
         match set_piece(c, after) {
             Piece::Broken => return Ok(None),
-            Piece::Closed(behind) => return Ok(Some((marks, behind))),
-            Piece::One(mark, behind) => {
+            Piece::Closed(further) => return Ok(Some((marks, further))),
+            Piece::One(mark, further) => {
                 marks.push(mark)?;
-                rest = behind;
+                rest = further;
             }
         }
     }
@@ -92,9 +92,9 @@ fn range_from(code: u32, others: &[Mark]) -> Next<'_>
     ensures shorter { IsShorter (length others.now + 1) result }
 {
     match others {
-        [Mark::Dash, Mark::Code(last), behind @ ..] => {
+        [Mark::Dash, Mark::Code(last), further @ ..] => {
             if code <= *last {
-                Next::Range(code, *last, behind)
+                Next::Range(code, *last, further)
             } else {
                 Next::Broken
             }

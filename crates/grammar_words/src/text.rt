@@ -1,4 +1,4 @@
-//! The text that is left to be read.
+//! The text that remains to be read.
 
 ghost use Rattle.std.specs.Prelude.{◌≡◌, ◌<◌, ◌≤◌, ◌||◌, ◌==◌, ℕ, length, take, drop, IfSome};
 ghost use Rattle.std.specs.Str.{chars};
@@ -46,13 +46,13 @@ pub fn skip(text: &str, n: usize) -> &str
     ensures fits { length result.now ≤ length text.now }
 {
     let mut rest = text;
-    let mut left = n;
-    while left > 0 {
+    let mut remaining = n;
+    while remaining > 0 {
         match first_char(rest) {
             None => return rest,
             Some((_, after)) => rest = after,
         }
-        left -= 1;
+        remaining -= 1;
     }
     rest
 }

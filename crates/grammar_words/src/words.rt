@@ -122,8 +122,8 @@ fn front(alloc: Global, text: &str, n: usize) -> Result<String, Memory>
 {
     let mut name = String::new(alloc);
     let mut rest = text;
-    let mut left = n;
-    while left > 0 {
+    let mut remaining = n;
+    while remaining > 0 {
         match first_char(rest) {
             None => return Ok(name),
             Some((c, after)) => {
@@ -131,7 +131,7 @@ fn front(alloc: Global, text: &str, n: usize) -> Result<String, Memory>
                 rest = after;
             }
         }
-        left -= 1;
+        remaining -= 1;
     }
     Ok(name)
 }
@@ -165,10 +165,10 @@ fn content(alloc: Global, text: &str) -> Result<Option<(String, &str)>, Memory>
     while let Some((c, after)) = first_char(rest) {
         match literal_piece(c, after) {
             Piece::Broken => return Ok(None),
-            Piece::Closed(behind) => return Ok(Some((content, behind))),
-            Piece::One(character, behind) => {
+            Piece::Closed(further) => return Ok(Some((content, further))),
+            Piece::One(character, further) => {
                 content.push(character)?;
-                rest = behind;
+                rest = further;
             }
         }
     }

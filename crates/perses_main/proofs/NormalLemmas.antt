@@ -3,7 +3,7 @@ use Rattle.std.proofs.Common.{◌≡◌, ◌≢◌, ◌≤◌, arith, inl, inr, 
 use Rattle.edge_io.specs.Files.{Holds, SameFiles}
 use Rattle.grammar_tree.specs.Kinds.{kinds_of}
 use Rattle.grammar_tree.specs.Written.{CheckedGrammar}
-use Rattle.grammar_reader.proofs.Sizes.{profile_fits}
+use Rattle.grammar_notation.proofs.Sizes.{profile_fits}
 use Rattle.checked_grammar.specs.Answer.{IsGrammarFault, Spells}
 use Rattle.checked_grammar.specs.Message.{fault_text}
 use Rattle.checked_grammar.specs.declared.fault.GrammarFault.{GrammarFault}

@@ -1,5 +1,5 @@
 use Rattle.std.proofs.Common.{◌≢◌, rules}
-use Rattle.grammar_reader.specs.declared.fault.ReadFault.TheVariants as read
+use Rattle.grammar_notation.specs.declared.fault.ReadFault.TheVariants as read
 use Rattle.checked_grammar.proofs.reading.grammar_in.Goals as goal
 
 pub returns-in-Err-clause-only : goal.returns-in-Err-clause-only

@@ -4,13 +4,13 @@ use Rattle.std.specs.Str.{chars}
 use Rattle.grammar_words.proofs.Joined.{front_more}
 use Rattle.grammar_words.proofs.words.front.Goals as goal
 
-pub loop-left-preserved : goal.loop-left-preserved
-loop-left-preserved c =
+pub loop-remaining-preserved : goal.loop-remaining-preserved
+loop-remaining-preserved c =
     let pushed : _ = c.in_ok-push-in-Some.ensures in
     record {
       text = search rules;
       same =
-          front_more (string_bytes c.loop-left.name) (string_bytes c.push.new.self) c.in-Some.c c.loop-left.left (c.loop-left.left - 1) (chars c.loop-left.rest.now) (chars c.in-Some.after.now)
+          front_more (string_bytes c.loop-remaining.name) (string_bytes c.push.new.self) c.in-Some.c c.loop-remaining.remaining (c.loop-remaining.remaining - 1) (chars c.loop-remaining.rest.now) (chars c.in-Some.after.now)
           (omega arith) c.in-Some.ensures.same pushed.bytes
-          ∙ c.loop-left.invariant.same;
+          ∙ c.loop-remaining.invariant.same;
     }

@@ -14,16 +14,16 @@ placed_same w w' o o' e f = ap (λ x. record { word = x; offset = o }) e ∙ ap 
 pub returns-clause-word : goal.returns-clause-word
 returns-clause-word c =
     let total : ℕ = c.self.inside.total in
-    let here : List ℕ = chars c.skip_gaps-here.result.now in
+    let start : List ℕ = chars c.skip_gaps-start.result.now in
     let rest : List ℕ = chars c.in_ok-word.rest.now in
     let was : words_from total 0 (chars c.self.inside.rest.now) ≡ c.args.self.now = ap (λ b. words_left b total (chars c.self.inside.rest.now)) (sym c.if-self.false) ∙ c.self.view_is in
-    let offset : c.saturating_sub-offset.result ≡ total - length (encodes here) =
-    c.saturating_sub-offset.ensures ∙ ap (λ bs. total - length bs) (sym (encodes-chars c.skip_gaps-here.result.now c.skip_gaps-here.utf8)) in
+    let offset : c.saturating_sub-offset.result ≡ total - length (encodes start) =
+    c.saturating_sub-offset.ensures ∙ ap (λ bs. total - length bs) (sym (encodes-chars c.skip_gaps-start.result.now c.skip_gaps-start.utf8)) in
     let found : Placed = record { word = c.settled.result; offset = c.saturating_sub-offset.result } in
-    let same : found ≡ placed total here (settled c.in_ok-word.word (brace_from 0 rest)) =
-    placed_same c.settled.result (settled c.in_ok-word.word (brace_from 0 rest)) c.saturating_sub-offset.result (total - length (encodes here)) c.settled.ensures offset in
-    sym was ∙ c.skip_gaps-here.ensures.same total
-    ∙ word_passed total here rest c.in_ok-word.word c.in_ok-word.ensures c.skip_gaps-here.ensures.none c.is_last-self-inside.result (sym c.is_last-self-inside.ensures) found same
+    let same : found ≡ placed total start (settled c.in_ok-word.word (brace_from 0 rest)) =
+    placed_same c.settled.result (settled c.in_ok-word.word (brace_from 0 rest)) c.saturating_sub-offset.result (total - length (encodes start)) c.settled.ensures offset in
+    sym was ∙ c.skip_gaps-start.ensures.same total
+    ∙ word_passed total start rest c.in_ok-word.word c.in_ok-word.ensures c.skip_gaps-start.ensures.none c.is_last-self-inside.result (sym c.is_last-self-inside.ensures) found same
 
 pub returns-clause-goes_on : goal.returns-clause-goes_on
 returns-clause-goes_on c = λ last.

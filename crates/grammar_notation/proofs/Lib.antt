@@ -1,0 +1,5 @@
+pub mod Sizes
+pub mod SetOf
+pub mod Ranging
+pub mod Named
+pub mod Once

@@ -1,5 +1,0 @@
-use Rattle.grammar_reader.proofs.Once.{faults_once}
-use Rattle.grammar_reader.proofs.laws.faults_once.Goals as goal
-
-pub returns : goal.returns
-returns c = faults_once
