@@ -14,27 +14,39 @@ use grammar_tree::{CharSet, LexTerm, Rule};
 use grammar_words::{Word, is};
 use std::alloc::Global;
 
-/// The next alternative of the rule; `gap` says whether that before has a command.
-fn next_top(alloc: Global, body: TopBody, gap: bool) -> Result<Option<State>, Memory>
-    ensures { Gives result (Some (m.next_top (top_body_of body) gap)) }
+/// The rule with no block open.
+fn rule_body(alloc: Global, body: TopBody) -> LexBody
+    ensures { lex_body_of result ≡ top_body_of body }
 {
     let TopBody {
         grammar,
         name,
         fragment,
-        known: _,
+        known,
         current,
     } = body;
-    let current = current.next_alt(alloc)?;
-    let body = LexBody {
+    LexBody {
         grammar,
         name,
         fragment,
-        known: Some(gap),
+        known,
         blocks_left: 64,
         enclosing: Vec::new(alloc),
         current,
+    }
+}
+
+/// The next alternative of the rule; `gap` says whether that before has a command.
+fn next_top(alloc: Global, body: TopBody, gap: bool) -> Result<Option<State>, Memory>
+    ensures { Gives result (Some (m.next_top (top_body_of body) gap)) }
+{
+    let current = body.current.next_alt(alloc)?;
+    let body = TopBody {
+        known: Some(gap),
+        current,
+        ..body
     };
+    let body = rule_body(alloc, body);
     Ok(Some(State::Lexer(body, LexerPosition::Elements)))
 }
 
@@ -80,25 +92,18 @@ pub fn step_done(alloc: Global, body: TopBody, word: Word) -> Result<Option<Stat
     }
 }
 
+fn add(body: TopBody, term: LexTerm) -> Result<TopBody, Memory>
+    ensures { IfOk result (λ b. top_body_of b ≡ m.lex_add (top_body_of body) (lex_term term)) }
+{
+    let current = body.current.with_term(term)?;
+    Ok(TopBody { current, ..body })
+}
+
 fn with_loop(body: TopBody, set: CharSet, last: LexTerm) -> Result<TopBody, Memory>
     ensures { IfOk result (λ b. top_body_of b ≡ m.with_loop (top_body_of body) set (lex_term last)) }
 {
-    let TopBody {
-        grammar,
-        name,
-        fragment,
-        known,
-        current,
-    } = body;
-    let current = current.with_term(LexTerm::Short(set))?;
-    let current = current.with_term(last)?;
-    Ok(TopBody {
-        grammar,
-        name,
-        fragment,
-        known,
-        current,
-    })
+    let body = add(body, LexTerm::Short(set))?;
+    add(body, last)
 }
 
 fn step_loop(
