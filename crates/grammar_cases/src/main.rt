@@ -6,9 +6,8 @@
 //! are worked out by hand from the notation; none comes from a run.
 #![tactic(auto)]
 
-ghost use Rattle.std.specs.Prelude.{IfOk, string_bytes};
-ghost use Rattle.std.specs.Str.{chars};
-ghost use Rattle.grammar_cases.specs.Reading.{IsReading};
+ghost use Rattle.std.specs.Prelude.{◌≡◌, IfOk, string_bytes};
+ghost use Rattle.grammar_cases.specs.Reading.{reading_text};
 
 mod sets;
 mod words;
@@ -16,15 +15,17 @@ mod words;
 use crate::sets::{sets_shown, union_shown};
 use crate::words::words_shown;
 use anyhow::{Result, bail};
+use grammar_notation::ReadFault;
 use grammar_reader::read_grammar;
+use grammar_tree::Grammar;
 use percent_encoding::percent_decode;
 use std::alloc::Global;
 
-/// Whether the bytes are read as a grammar, or their first fault.
-fn reading(alloc: Global, bytes: &[u8]) -> Result<String>
-    ensures { IfOk result (λ shown. IsReading bytes.now (string_bytes shown)) }
+/// Whether a text was read as a grammar, or its first fault.
+fn reading_shown(alloc: Global, reading: &std::result::Result<Grammar, ReadFault>) -> Result<String>
+    ensures { IfOk result (λ shown. string_bytes shown ≡ reading_text reading.now) }
 {
-    match read_grammar(alloc, bytes) {
+    match reading {
         Ok(_) => Ok(String::from_str(alloc, "read")?),
         Err(fault) => Ok(fault.to_string(alloc)?),
     }
@@ -47,7 +48,7 @@ fn beginnings(alloc: Global, bytes: &[u8]) -> Result<String> {
 fn answer(alloc: Global, question: &str, bytes: &[u8]) -> Result<String> {
     match question {
         "words" => words_shown(alloc, std::str::from_utf8(bytes)?),
-        "read" => reading(alloc, bytes),
+        "read" => reading_shown(alloc, &read_grammar(alloc, bytes)),
         "prefixes" => beginnings(alloc, bytes),
         "sets" => sets_shown(alloc, bytes),
         "union" => union_shown(alloc, bytes),

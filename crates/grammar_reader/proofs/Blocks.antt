@@ -1,6 +1,6 @@
 -- Whether blocks are open in a lexer rule.
 use Rattle.std.specs.Bool.{◌==◌}
-use Rattle.std.proofs.Common.{◌≡◌, ℕ, suc, length, List, [], ◌∷◌, Bool, true, false, refl, sym, ◌∙◌, arith}
+use Rattle.std.proofs.Common.{◌≡◌, ℕ, suc, length, List, [], ◌∷◌, false, refl, sym, ◌∙◌, arith}
 use Rattle.std.proofs.lemmas.Bool.Decides.{nat_tests}
 use Rattle.grammar_tree.specs.Written.{LexerTerm}
 use Rattle.grammar_machine.specs.declared.frame.LexFrame.{LexFrame}

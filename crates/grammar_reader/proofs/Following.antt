@@ -81,21 +81,21 @@ last before word s e = found (run 64 m.AtStart before) refl where
 pub record Passed (before words : List Word) (s : m.State) : Type 0 where
   pub from : m.State
   pub read : run 64 m.AtStart before ≡ Some from
-  pub left : run 64 from words ≡ Some s
+  pub remaining : run 64 from words ≡ Some s
 
 pub passed : (before words : List Word) (s : m.State) → run 64 m.AtStart (before ++ words) ≡ Some s → Passed before words s
 passed before words s e = found (run 64 m.AtStart before) refl where
   found : (o : Option m.State) → run 64 m.AtStart before ≡ o → Passed before words s
   found None f = let x : None ≡ Some s = sym (run_parts 64 m.AtStart before words ∙ ap (λ o. and_then o (λ t. run 64 t words)) f) ∙ e in cc x
-  found (Some t) f = record { from = t; read = f; left = sym (after 64 before words t f) ∙ e }
+  found (Some t) f = record { from = t; read = f; remaining = sym (after 64 before words t f) ∙ e }
 
 pub record Led (from : m.State) (word : Word) (words : List Word) (s : m.State) : Type 0 where
   pub to : m.State
   pub step : m.step 64 from word ≡ Some to
-  pub left : run 64 to words ≡ Some s
+  pub remaining : run 64 to words ≡ Some s
 
 pub led : (from : m.State) (word : Word) (words : List Word) (s : m.State) → run 64 from (word ∷ words) ≡ Some s → Led from word words s
 led from word words s e = found (m.step 64 from word) refl e where
   found : (o : Option m.State) → m.step 64 from word ≡ o → and_then o (λ t. run 64 t words) ≡ Some s → Led from word words s
   found None f e = cc e
-  found (Some t) f e = record { to = t; step = f; left = e }
+  found (Some t) f e = record { to = t; step = f; remaining = e }

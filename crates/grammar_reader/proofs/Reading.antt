@@ -146,24 +146,24 @@ is_end s word G e = shown word (at_last s word G e) e where
   shown w.Property a e = let x : None ≡ Some (AtEnd G) = sym (property_step 64 s) ∙ e in cc x
   shown _ a e = cc a
 
-pub record IsReading (bytes : List ℕ) (left : List Placed) (s : State) : Type 0 where
+pub record IsReading (bytes : List ℕ) (remaining : List Placed) (s : State) : Type 0 where
   pub before : List Placed
-  pub cut : words_of bytes ≡ before ++ left
+  pub cut : words_of bytes ≡ before ++ remaining
   pub read : run 64 AtStart (only_words before) ≡ Some s
-  pub some : left ≡ [] → ⊥
+  pub some : remaining ≡ [] → ⊥
 
-parted : (before : List Placed) (p : Placed) (left : List Placed) → only_words (before ++ p ∷ left) ≡ (only_words before ++ p.word ∷ []) ++ only_words left
-parted [] p left = refl
-parted (x ∷ before) p left = ap (λ ws. x.word ∷ ws) (parted before p left)
+parted : (before : List Placed) (p : Placed) (remaining : List Placed) → only_words (before ++ p ∷ remaining) ≡ (only_words before ++ p.word ∷ []) ++ only_words remaining
+parted [] p remaining = refl
+parted (x ∷ before) p remaining = ap (λ ws. x.word ∷ ws) (parted before p remaining)
 
 snoc : (before : List Placed) (p : Placed) → only_words (before ++ p ∷ []) ≡ only_words before ++ p.word ∷ []
 snoc [] p = refl
 snoc (x ∷ before) p = ap (λ ws. x.word ∷ ws) (snoc before p)
 
-pub starts : (bytes : List ℕ) (left : List Placed) → left ≡ words_of bytes → (left ≡ [] → ⊥) → IsReading bytes left AtStart
-starts bytes left e k = record { before = []; cut = sym e; read = refl; some = k }
+pub starts : (bytes : List ℕ) (remaining : List Placed) → remaining ≡ words_of bytes → (remaining ≡ [] → ⊥) → IsReading bytes remaining AtStart
+starts bytes remaining e k = record { before = []; cut = sym e; read = refl; some = k }
 
-module _ (bytes : List ℕ) (left more : List Placed) (p : Placed) (s : State) (r : IsReading bytes left s) (e : left ≡ p ∷ more) where
+module _ (bytes : List ℕ) (remaining more : List Placed) (p : Placed) (s : State) (r : IsReading bytes remaining s) (e : remaining ≡ p ∷ more) where
   whole : words_of bytes ≡ r.before ++ p ∷ more
   whole = r.cut ∙ ap (λ ps. r.before ++ ps) e
 

@@ -176,10 +176,10 @@ module _ (before : List Word) (s : m.State) (r : run 64 m.AtStart before ≡ Som
   name_out (parser_name {n = n} k) =
       let st : Following k.start (w.Lower n ∷ w.Colon ∷ []) = following k.start (w.Lower n ∷ w.Colon ∷ []) k.names in
       let p : Passed k.start (w.Lower n ∷ []) s = ending k.start (w.Lower n ∷ []) k.cut in
-      let l : Led p.from (w.Lower n) [] s = led p.from (w.Lower n) [] s p.left in
+      let l : Led p.from (w.Lower n) [] s = led p.from (w.Lower n) [] s p.remaining in
       let f : st.state ≡ p.from = cc (sym st.read ∙ p.read) in
       let g : goes p.from (w.Lower n ∷ w.Colon ∷ []) ≡ true = subst (λ u. goes u (w.Lower n ∷ w.Colon ∷ []) ≡ true) f st.goes_on in
-      let t : l.to ≡ s = at_end l.to s l.left in
+      let t : l.to ≡ s = at_end l.to s l.remaining in
       subst (λ u. at.after_name u ≡ true) t (lower_heads n l.to (lower_between p.from n g) l.step)
 
   pub parser_in : at.within_parser_rule s ≡ true → IsWithinParserRule before
@@ -223,24 +223,24 @@ module _ (before : List Word) (s : m.State) (r : run 64 m.AtStart before ≡ Som
   pub suffix_out : IsAfterSuffix before → (at.after_suffix s || at.after_loop s) ≡ true
   suffix_out (after_suffix start word c i) =
       let p : Passed start (word ∷ []) s = ending start (word ∷ []) c in
-      let l : Led p.from word [] s = led p.from word [] s p.left in
-      suffix_by word p.from i (subst (λ u. m.step 64 p.from word ≡ Some u) (at_end l.to s l.left) l.step)
+      let l : Led p.from word [] s = led p.from word [] s p.remaining in
+      suffix_by word p.from i (subst (λ u. m.step 64 p.from word ≡ Some u) (at_end l.to s l.remaining) l.step)
 
   pub loop_out : IsAfterLoop before → at.after_loop s ≡ true
   loop_out (after_loop start c) =
       let p : Passed start (w.Star ∷ w.Question ∷ []) s = ending start (w.Star ∷ w.Question ∷ []) c in
-      let l : Led p.from w.Star (w.Question ∷ []) s = led p.from w.Star (w.Question ∷ []) s p.left in
-      let q : Led l.to w.Question [] s = led l.to w.Question [] s l.left in
-      let e : m.step 64 l.to w.Question ≡ Some s = subst (λ u. m.step 64 l.to w.Question ≡ Some u) (at_end q.to s q.left) q.step in
+      let l : Led p.from w.Star (w.Question ∷ []) s = led p.from w.Star (w.Question ∷ []) s p.remaining in
+      let q : Led l.to w.Question [] s = led l.to w.Question [] s l.remaining in
+      let e : m.step 64 l.to w.Question ≡ Some s = subst (λ u. m.step 64 l.to w.Question ≡ Some u) (at_end q.to s q.remaining) q.step in
       region_loop s (star_leads_on (region_of l.to) (region_of s) (suffix_region l.to (star_suffixes p.from l.to l.step)) (kept l.to s w.Question e))
 
   pub last_out : IsAfterLast before → at.after_last s ≡ true
   last_out (after_last start word c) =
       let p : Passed start (w.Star ∷ w.Question ∷ word ∷ []) s = ending start (w.Star ∷ w.Question ∷ word ∷ []) c in
-      let l : Led p.from w.Star (w.Question ∷ word ∷ []) s = led p.from w.Star (w.Question ∷ word ∷ []) s p.left in
-      let q : Led l.to w.Question (word ∷ []) s = led l.to w.Question (word ∷ []) s l.left in
-      let x : Led q.to word [] s = led q.to word [] s q.left in
-      let e : m.step 64 q.to word ≡ Some s = subst (λ u. m.step 64 q.to word ≡ Some u) (at_end x.to s x.left) x.step in
+      let l : Led p.from w.Star (w.Question ∷ word ∷ []) s = led p.from w.Star (w.Question ∷ word ∷ []) s p.remaining in
+      let q : Led l.to w.Question (word ∷ []) s = led l.to w.Question (word ∷ []) s l.remaining in
+      let x : Led q.to word [] s = led q.to word [] s q.remaining in
+      let e : m.step 64 q.to word ≡ Some s = subst (λ u. m.step 64 q.to word ≡ Some u) (at_end x.to s x.remaining) x.step in
       let i : is_looped (region_of q.to) ≡ true = star_leads_on (region_of l.to) (region_of q.to) (suffix_region l.to (star_suffixes p.from l.to l.step)) (kept l.to q.to w.Question q.step) in
       let j : at.after_loop q.to ≡ true = region_loop q.to i in
       region_last s (loop_leads_on (region_of q.to) (region_of s) word i (λ f. no_semicolon q.to s j (subst (λ u. m.step 64 q.to u ≡ Some s) f e)) (kept q.to s word e))
@@ -248,8 +248,8 @@ module _ (before : List Word) (s : m.State) (r : run 64 m.AtStart before ≡ Som
   pub arrow_out : IsAfterArrow before → at.after_arrow s ≡ true
   arrow_out k =
       let p : Passed k.start (w.Arrow ∷ k.part) s = ending k.start (w.Arrow ∷ k.part) k.cut in
-      let l : Led p.from w.Arrow k.part s = led p.from w.Arrow k.part s p.left in
-      region_arrow s (commanded (region_of l.to) (region_of s) k.part (arrow_region l.to (arrow_leads p.from l.to l.step)) k.same_alt k.same_rule (region_after 64 l.to s k.part l.left)) where
+      let l : Led p.from w.Arrow k.part s = led p.from w.Arrow k.part s p.remaining in
+      region_arrow s (commanded (region_of l.to) (region_of s) k.part (arrow_region l.to (arrow_leads p.from l.to l.step)) k.same_alt k.same_rule (region_after 64 l.to s k.part l.remaining)) where
         commanded : (p q : Region) (part : List Word) → is_command p ≡ true → Without w.Bar part → Without w.Semicolon part → region_from p part ≡ q → is_command q ≡ true
         commanded (command side) q part h i j e = ap is_command (sym e ∙ command_on side part i j)
         commanded _ q part h i j e = cc h
