@@ -7,6 +7,7 @@ ghost use Rattle.grammar_machine.specs.Machine as m;
 ghost use Rattle.grammar_notation.specs.Notation.{may_name_option};
 ghost use Rattle.grammar_machine.specs.View.{Gives, GivesNext, body_of, head_of, owner_of, state_of, value_of};
 
+use crate::fitting::provided;
 use crate::frame::{Frame, LexFrame};
 use crate::rules::with_token;
 use crate::state::{Body, Head, LexBody, LexerPosition, Owner, ParserPosition, State, ValueOf};
@@ -100,22 +101,12 @@ fn may_name_option(name: &Text) -> bool
     !is(name, "caseInsensitive") && !is(name, "tokenVocab")
 }
 
-fn entry_name(grammar: Grammar, owner: Owner, name: &Text) -> Option<State>
-    ensures { GivesNext result (m.provided (may_name_option name.now) (m.AtEntryEquals (grammar_of grammar) (owner_of owner))) }
-{
-    if may_name_option(name) {
-        Some(State::EntryEquals(grammar, owner))
-    } else {
-        None
-    }
-}
-
 pub fn step_entry(grammar: Grammar, owner: Owner, word: Word) -> Option<State>
     ensures { GivesNext result (m.step_entry (grammar_of grammar) (owner_of owner) word) }
 {
     match word {
-        Word::Upper(name) => entry_name(grammar, owner, &name),
-        Word::Lower(name) => entry_name(grammar, owner, &name),
+        Word::Upper(name) => provided(may_name_option(&name), State::EntryEquals(grammar, owner)),
+        Word::Lower(name) => provided(may_name_option(&name), State::EntryEquals(grammar, owner)),
         Word::CloseBrace => Some(after_options(grammar, owner)),
         _ => None,
     }

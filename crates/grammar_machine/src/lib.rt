@@ -7,6 +7,7 @@
 //! `state_of` in `specs/View.antt`.
 #![tactic(auto)]
 
+mod fitting;
 mod frame;
 mod header;
 mod item;

@@ -6,6 +6,7 @@ ghost use Rattle.grammar_tree.specs.View.{lex_term};
 ghost use Rattle.grammar_machine.specs.Machine as m;
 ghost use Rattle.grammar_machine.specs.View.{Gives, GivesNext, lex_body_of, top_body_of, top_state};
 
+use crate::fitting::provided;
 use crate::rules::with_rule;
 use crate::state::{EndPosition, LexBody, LexerPosition, State, TopBody};
 use faults::Memory;
@@ -135,10 +136,11 @@ fn step_command(body: TopBody, word: Word) -> Option<State>
         Word::Lower(name) => {
             if is(&name, "skip") {
                 Some(State::Top(body, EndPosition::AfterCommand))
-            } else if is(&name, "channel") {
-                Some(State::Top(body, EndPosition::ChannelOpen))
             } else {
-                None
+                provided(
+                    is(&name, "channel"),
+                    State::Top(body, EndPosition::ChannelOpen),
+                )
             }
         }
         _ => None,
@@ -158,13 +160,10 @@ fn step_channel_name(body: TopBody, word: Word) -> Option<State>
     ensures { GivesNext result (m.step_channel_name (top_body_of body) word) }
 {
     match word {
-        Word::Upper(name) => {
-            if is(&name, "HIDDEN") {
-                Some(State::Top(body, EndPosition::ChannelClose))
-            } else {
-                None
-            }
-        }
+        Word::Upper(name) => provided(
+            is(&name, "HIDDEN"),
+            State::Top(body, EndPosition::ChannelClose),
+        ),
         _ => None,
     }
 }
