@@ -4,6 +4,8 @@ ghost use Rattle.std.specs.Prelude.{ℕ, List};
 ghost use Rattle.normal_form.specs.Form.{NormalForm};
 ghost use Rattle.derived_spans.specs.SpanLaws.{ElementsMoveOn, SpansAreDerived, SpansByForm, SpansJoin};
 
+use normal_form::{elements_are_not_empty, normal_derives_by_form};
+
 /// A symbol derives the kinds between two positions exactly where it derives the list of them, and
 /// so do symbols one after another and a symbol any number of times.
 pub fn spans_are_derived()
@@ -14,7 +16,9 @@ pub fn spans_are_derived()
 /// regular rule what the alternative with some number does, and so on. Nothing else is derived.
 pub fn spans_by_form()
     ensures { (normal : NormalForm) (kinds : List ℕ) → SpansByForm normal kinds }
-{}
+{
+    normal_derives_by_form();
+}
 
 /// Symbols one after another, and a symbol any number of times, followed by more of the same.
 pub fn spans_join()
@@ -24,4 +28,6 @@ pub fn spans_join()
 /// In a normal form each element of a star or plus ends after the position where it begins.
 pub fn elements_move_on()
     ensures { ElementsMoveOn }
-{}
+{
+    elements_are_not_empty();
+}
