@@ -1,0 +1,14 @@
+-- What the entries of a chart are.
+use Rattle.std.specs.Prelude.{◌≡◌, ℕ, List}
+use Rattle.normal_form.specs.declared.normal.Sym.TheVariants.{Rule}
+use Rattle.normal_form.specs.Form.{NormalForm}
+use Rattle.derived_spans.specs.Spans.{DerivesSpan}
+use Rattle.span_chart.specs.declared.chart.Entry.{Entry}
+use Rattle.span_chart.specs.Positions.{HasExactly}
+
+abbrev pub IsOf : ℕ → ℕ → Entry → Type 0
+IsOf rule first e = (e.rule ≡ rule) × (e.first ≡ first)
+
+-- An entry has exactly the positions where its rule can end, rising.
+abbrev pub IsExact : NormalForm → List ℕ → Entry → Type 0
+IsExact N kinds e = HasExactly (DerivesSpan N kinds (Rule e.rule) e.first) e.ends.items
