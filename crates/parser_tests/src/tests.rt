@@ -76,7 +76,7 @@ fn compare_ends(
     let normal = normal_of(alloc, grammar)?;
     let kinds = kinds_of(alloc, grammar, text)?;
     for (first, ends_from) in wanted {
-        let found = ends(alloc, &normal, &kinds, Sym::Rule(0), *first)?;
+        let found = ends(alloc, &normal, Sym::Rule(0), &kinds, *first)?;
         assert_eq!(rt; found.as_slice(), *ends_from, "from {first} in {text:?}");
     }
     Ok(())

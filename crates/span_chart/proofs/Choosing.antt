@@ -15,8 +15,8 @@ use Rattle.span_chart.specs.declared.choice.Choice.{Choice}
 use Rattle.span_chart.specs.Positions.{HasAll, HasExactly, IsGrown}
 use Rattle.span_chart.specs.Working.{DerivesEarlier, DerivesFrom, HasAlternatives, IsChoice, alternative_at, symbol_at}
 use Rattle.span_chart.specs.Moves.{Begins, HasNextAlternative, HasNextSymbol, IsNextSymbol}
-use Rattle.span_chart.proofs.Rising.{order}
-use Rattle.span_chart.proofs.Exactly.{contains_none, exactly_grown, exactly_none, exactly_one, exactly_same, taken_before, taken_last, taken_more}
+use Rattle.span_chart.proofs.Rising.{order, take_cases}
+use Rattle.span_chart.proofs.Exactly.{contains_none, exactly_grown, exactly_none, exactly_one, exactly_same, taken_before, taken_last}
 use Rattle.span_chart.proofs.Spans.{joins, seq_within, spans}
 
 some-none : {X : Type 0} (x : X) → Some x ≡ None → ⊥
@@ -161,7 +161,7 @@ module _ (N : NormalForm) (K : List ℕ) where
   pub next_position : (s : Sym) (current old new : List ℕ) (done : ℕ) → done < length current → HasExactly (DerivesFrom N K s (take done current)) old → IsStrictlyIncreasing new → IsGrown (DerivesSpan N K s (get_or current done 0)) old new → HasAll (DerivesSpan N K s (get_or current done 0)) new → HasExactly (DerivesFrom N K s (take (done + 1) current)) new
   next_position s current old new done l h rising grown all =
       exactly_grown (DerivesFrom N K s (take done current)) (DerivesSpan N K s p) (DerivesFrom N K s (take (done + 1) current)) old new h rising grown all
-      (λ j (q, c, d). (q, taken_before current done q l c, d)) (λ j d. (p, taken_last current done l, d)) (λ j (q, c, d). by j q d (taken_more current done q l c))
+      (λ j (q, c, d). (q, taken_before current done q l c, d)) (λ j d. (p, taken_last current done l, d)) (λ j (q, c, d). by j q d (take_cases current done 0 q l c))
     where
       p : ℕ
       p = get_or current done 0

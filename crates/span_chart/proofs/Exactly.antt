@@ -1,7 +1,7 @@
 -- Lists that have exactly some positions.
 use Rattle.std.proofs.Common.{◌≡◌, ℕ, zero, suc, ◌+◌, ◌<◌, ◌⊎◌, inl, inr, List, [], ◌∷◌, length, get_or, take, refl, sym, subst, arith}
 use Rattle.std.proofs.lemmas.List.{take_more}
-use Rattle.std.proofs.lemmas.List.Elements.{Contains-append_left, Contains-append_right, Contains-push_cases}
+use Rattle.std.proofs.lemmas.List.Elements.{Contains-append_left, Contains-append_right}
 use Rattle.std.specs.List.{Contains}
 use Rattle.std.specs.List.Sorted.{IsStrictlyIncreasing}
 use Rattle.span_chart.specs.Positions.{HasAll, HasExactly, IsGrown}
@@ -39,13 +39,6 @@ exactly_grown P Q R old new h rising grown all first second either = record { ri
     each x (inr q) = all x q
 
 -- One more of the first elements of a list.
-pub taken_more : (xs : List ℕ) (i x : ℕ) → i < length xs → Contains (take (i + 1) xs) x → Contains (take i xs) x ⊎ (x ≡ get_or xs i 0)
-taken_more xs i x l h = turned (Contains-push_cases (take i xs) (get_or xs i 0) x (subst (λ l. Contains l x) (take_more xs i 0 l) h))
-  where
-    turned : Contains (take i xs) x ⊎ (get_or xs i 0 ≡ x) → Contains (take i xs) x ⊎ (x ≡ get_or xs i 0)
-    turned (inl a) = inl a
-    turned (inr e) = inr (sym e)
-
 pub taken_before : (xs : List ℕ) (i x : ℕ) → i < length xs → Contains (take i xs) x → Contains (take (i + 1) xs) x
 taken_before xs i x l h = subst (λ l. Contains l x) (sym (take_more xs i 0 l)) (Contains-append_left (take i xs) (get_or xs i 0 ∷ []) x h)
 

@@ -43,9 +43,6 @@ inserted xs i y = record { only = λ x h. only x (Contains-append_cases (take i 
 pub found : (xs : List ℕ) (i y : ℕ) → i < length xs → get_or xs i 0 ≡ y → IsWith xs y xs
 found xs i y l e = record { only = λ x h. inl h; kept = λ x h. h; has = (i, l, get_or_default_zero xs i y l ∙ e) }
 
-pub grown_none : (P : ℕ → Type 0) (xs : List ℕ) → IsGrown P xs xs
-grown_none P xs = record { only = λ x h. inl h; kept = λ x h. h }
-
 pub grown_one : (P : ℕ → Type 0) (a b c : List ℕ) (y : ℕ) → P y → IsGrown P a b → IsWith b y c → IsGrown P a c
 grown_one P a b c y p g w = record { only = λ x h. only x (w.only x h); kept = λ x h. w.kept x (g.kept x h) }
   where
@@ -128,10 +125,6 @@ search_found xs x s i b r e = by (subst (λ s. MatchResult s (λ i. (i < length 
   where
     by : (i < length xs) × (get_or xs i 0 ≡ x) → IsWith xs x xs
     by (l, e) = found xs i x l e
-
--- The position itself is the least one from it on.
-pub next_found : (xs : List ℕ) (x : ℕ) (s : Result ℕ ℕ) (i : ℕ) → IsBinarySearchResult (λ y. nat_cmp y x) xs s → IsStrictlyIncreasing xs → s ≡ Ok i → IsNext xs x x
-next_found xs x s i b r e = record { has = (search_found xs x s i b r e).has; above = omega arith; least = λ y h l. l }
 
 search_missed : (xs : List ℕ) (x : ℕ) (s : Result ℕ ℕ) (i : ℕ) → IsBinarySearchResult (λ y. nat_cmp y x) xs s → IsStrictlyIncreasing xs → s ≡ Err i → (i ≤ length xs) × ((k : ℕ) → k < i → get_or xs k 0 < x) × ((k : ℕ) → i ≤ k → k < length xs → x < get_or xs k 0)
 search_missed xs x s i b r e = subst (λ s. MatchResult s (λ i. (i < length xs) × (get_or xs i 0 ≡ x)) (λ i. (i ≤ length xs) × ((k : ℕ) → k < i → get_or xs k 0 < x) × ((k : ℕ) → i ≤ k → k < length xs → x < get_or xs k 0))) e (searched xs x s b (not_falling xs r))

@@ -11,7 +11,7 @@ use Rattle.normal_form.specs.declared.normal.Sym.TheVariants.{Kind, Set, Rule}
 use Rattle.normal_form.specs.Form.{NormalForm}
 use Rattle.derived_spans.specs.Spans.{DerivesSpan}
 use Rattle.span_chart.specs.declared.chart.Entry.{Entry}
-use Rattle.span_chart.specs.Exact.{IsExact, IsOf}
+use Rattle.span_chart.specs.Exact.{IsExact, IsOf, IsTokenOf}
 use Rattle.span_chart.specs.Positions.{HasAll, IsGrown, IsWith}
 use Rattle.span_chart.proofs.Spans.{spans}
 
@@ -22,9 +22,6 @@ grown_same {P} {Q} old new f g = record { only = λ x h. only x (g.only x h); ke
     only : (x : ℕ) → Contains old x ⊎ P x → Contains old x ⊎ Q x
     only x (inl h) = inl h
     only x (inr p) = inr (f x p)
-
-pub grown_not : (P : ℕ → Type 0) (xs : List ℕ) → IsGrown P xs xs
-grown_not P xs = record { only = λ x h. inl h; kept = λ x h. h }
 
 -- The one position after a position is all that is added.
 pub one_grows : (P : ℕ → Type 0) (y : ℕ) (old new : List ℕ) → P y → IsWith old y new → IsGrown P old new
@@ -38,21 +35,6 @@ pub one_is_all : (P : ℕ → Type 0) (y : ℕ) (old new : List ℕ) → ((x : �
 one_is_all P y old new only w x p = subst (Contains new) (sym (only x p)) w.has
 
 module _ (N : NormalForm) (K : List ℕ) where
-  kind_ends : (k i x : ℕ) → DerivesSpan N K (Kind k) i x → x ≡ i + 1
-  kind_ends k i x d = (((spans N K).kind k i x).0 d).1
-
-  kind_here : (k i x : ℕ) → DerivesSpan N K (Kind k) i x → (i < length K) × (get_or K i 0 ≡ k)
-  kind_here k i x d = let at = (((spans N K).kind k i x).0 d).0 in (slice_get_within K i k at, get_or_from_slice_get K i k 0 at)
-
-  pub kind_grows : (k i : ℕ) (old new : List ℕ) → i < length K → get_or K i 0 ≡ k → IsWith old (i + 1) new → IsGrown (DerivesSpan N K (Kind k) i) old new
-  kind_grows k i old new l e w = one_grows (DerivesSpan N K (Kind k) i) (i + 1) old new (((spans N K).kind k i (i + 1)).1 (slice_get-get_or K i 0 l ∙ ap Some e, refl)) w
-
-  pub kind_has_all : (k i : ℕ) (old new : List ℕ) → IsWith old (i + 1) new → HasAll (DerivesSpan N K (Kind k) i) new
-  kind_has_all k i old new w = one_is_all (DerivesSpan N K (Kind k) i) (i + 1) old new (kind_ends k i) w
-
-  pub no_kind : (k i : ℕ) (positions : List ℕ) → (i < length K → get_or K i 0 ≡ k → ⊥) → HasAll (DerivesSpan N K (Kind k) i) positions
-  no_kind k i positions none x d = let y = kind_here k i x d in absurd (none y.0 y.1)
-
   contains_in : (ks : List ℕ) (k : ℕ) → is_in ks k ≡ true → Contains ks k
   contains_in [] k e = absurd (cc)
   contains_in (x ∷ ks) k e = by (nat_eq x k) refl (contains_in ks k)
@@ -90,21 +72,33 @@ module _ (N : NormalForm) (K : List ℕ) where
   in_has : (g k : ℕ) (ks : List ℕ) → slice_get N.sets g ≡ Some ks → Contains ks k → set_has g k ≡ true
   in_has g k ks at c = ap (λ o. option_map_or (λ ks. is_in ks k) o false) at ∙ in_contains ks k c
 
-  set_ends : (g i x : ℕ) → DerivesSpan N K (Set g) i x → (x ≡ i + 1) × (i < length K) × (set_has g (get_or K i 0) ≡ true)
-  set_ends g i x d =
-      let (ks, k, at, c, here, e) = ((spans N K).set g i x).0 d in
-      (e, slice_get_within K i k here, ap (set_has g) (get_or_from_slice_get K i k 0 here) ∙ in_has g k ks at c)
+  pub set_token : (g k : ℕ) (answer : Bool) → answer ≡ set_has g k → (answer ≡ true → IsTokenOf N (Set g) k) × (IsTokenOf N (Set g) k → answer ≡ true)
+  set_token g k answer e = (λ t. has_in g k (sym e ∙ t), λ (ks, at, c). e ∙ in_has g k ks at c)
 
-  pub set_grows : (g i : ℕ) (old new : List ℕ) → i < length K → set_has g (get_or K i 0) ≡ true → IsWith old (i + 1) new → IsGrown (DerivesSpan N K (Set g) i) old new
-  set_grows g i old new l e w =
-      let (ks, at, c) = has_in g (get_or K i 0) e in
-      one_grows (DerivesSpan N K (Set g) i) (i + 1) old new (((spans N K).set g i (i + 1)).1 (ks, get_or K i 0, at, c, slice_get-get_or K i 0 l, refl)) w
+  abbrev Starts : Sym → ℕ → Type 0
+  Starts s i = (k : ℕ) × (slice_get K i ≡ Some k) × IsTokenOf N s k
 
-  pub set_has_all : (g i : ℕ) (old new : List ℕ) → IsWith old (i + 1) new → HasAll (DerivesSpan N K (Set g) i) new
-  set_has_all g i old new w = one_is_all (DerivesSpan N K (Set g) i) (i + 1) old new (λ x d. (set_ends g i x d).0) w
+  -- a kind or set ends after one token of it
+  token_in : (s : Sym) (i x : ℕ) → ((r : ℕ) → s ≡ Rule r → ⊥) → DerivesSpan N K s i x → Starts s i × (x ≡ i + 1)
+  token_in (Kind k) i x token d = let y = ((spans N K).kind k i x).0 d in ((k, y.0, refl), y.1)
+  token_in (Set g) i x token d = let (ks, k, at, c, here, e) = ((spans N K).set g i x).0 d in ((k, here, (ks, at, c)), e)
+  token_in (Rule r) i x token d = absurd (token r refl)
 
-  pub no_set : (g i : ℕ) (positions : List ℕ) → (i < length K → set_has g (get_or K i 0) ≡ true → ⊥) → HasAll (DerivesSpan N K (Set g) i) positions
-  no_set g i positions none x d = let y = set_ends g i x d in absurd (none y.1 y.2)
+  token_of : (s : Sym) (i k : ℕ) → slice_get K i ≡ Some k → IsTokenOf N s k → DerivesSpan N K s i (i + 1)
+  token_of (Kind own) i k here e = ((spans N K).kind own i (i + 1)).1 (here ∙ ap Some (sym e), refl)
+  token_of (Set g) i k here (ks, at, c) = ((spans N K).set g i (i + 1)).1 (ks, k, at, c, here, refl)
+  token_of (Rule r) i k here h = absurd h
+
+  pub token_grows : (s : Sym) (i : ℕ) (old new : List ℕ) → i < length K → IsTokenOf N s (get_or K i 0) → IsWith old (i + 1) new → IsGrown (DerivesSpan N K s i) old new
+  token_grows s i old new l is w = one_grows (DerivesSpan N K s i) (i + 1) old new (token_of s i (get_or K i 0) (slice_get-get_or K i 0 l) is) w
+
+  pub token_has_all : (s : Sym) (i : ℕ) (old new : List ℕ) → ((r : ℕ) → s ≡ Rule r → ⊥) → IsWith old (i + 1) new → HasAll (DerivesSpan N K s i) new
+  token_has_all s i old new token w = one_is_all (DerivesSpan N K s i) (i + 1) old new (λ x d. (token_in s i x token d).1) w
+
+  pub no_token : (s : Sym) (i : ℕ) (positions : List ℕ) → ((r : ℕ) → s ≡ Rule r → ⊥) → (i < length K → IsTokenOf N s (get_or K i 0) → ⊥) → HasAll (DerivesSpan N K s i) positions
+  no_token s i positions token none x d =
+      let ((k, here, is), e) = token_in s i x token d in
+      absurd (none (slice_get_within K i k here) (subst (IsTokenOf N s) (sym (get_or_from_slice_get K i k 0 here)) is))
 
 all_of : {X : Type 0} (P : X → Type 0) (xs : List X) (x : X) → All P xs → Contains xs x → P x
 all_of P xs x all (k, l, e) = subst P e (all k x l)

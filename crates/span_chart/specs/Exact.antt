@@ -1,10 +1,18 @@
 -- What the entries of a chart are.
-use Rattle.std.specs.Prelude.{◌≡◌, ℕ, List}
-use Rattle.normal_form.specs.declared.normal.Sym.TheVariants.{Rule}
+use Rattle.std.specs.Prelude.{◌≡◌, ℕ, List, Some, slice_get}
+use Rattle.std.specs.List.{Contains}
+use Rattle.normal_form.specs.declared.normal.Sym.{Sym}
+use Rattle.normal_form.specs.declared.normal.Sym.TheVariants.{Kind, Set, Rule}
 use Rattle.normal_form.specs.Form.{NormalForm}
 use Rattle.derived_spans.specs.Spans.{DerivesSpan}
 use Rattle.span_chart.specs.declared.chart.Entry.{Entry}
 use Rattle.span_chart.specs.Positions.{HasExactly}
+
+-- One token of this kind is what the symbol is.
+abbrev pub IsTokenOf : NormalForm → Sym → ℕ → Type 0
+IsTokenOf N (Kind k) kind = k ≡ kind
+IsTokenOf N (Set g) kind = (ks : List ℕ) × (slice_get N.sets g ≡ Some ks) × Contains ks kind
+IsTokenOf N (Rule r) kind = ⊥
 
 abbrev pub IsOf : ℕ → ℕ → Entry → Type 0
 IsOf rule first e = (e.rule ≡ rule) × (e.first ≡ first)

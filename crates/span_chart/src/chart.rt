@@ -1,10 +1,10 @@
 //! What was found of where rules can end.
 
-ghost use Rattle.std.specs.Prelude.{◌≡◌, ℕ, ◌<◌, ◌^◌, ◌++◌, ◌∷◌, [], length, false, true, IfOk, IfSome, OnOk};
+ghost use Rattle.std.specs.Prelude.{◌≡◌, ◌≢◌, ◌↔◌, ℕ, ◌<◌, ◌^◌, ◌++◌, ◌∷◌, [], length, IfOk, IfSome, IsTrue, OnOk};
 ghost use Rattle.std.specs.List.{All, Contains};
 ghost use Rattle.std.specs.List.Sorted.{IsStrictlyIncreasing};
 ghost use Rattle.derived_spans.specs.Spans.{DerivesSpan};
-ghost use Rattle.span_chart.specs.Exact.{IsExact, IsOf};
+ghost use Rattle.span_chart.specs.Exact.{IsExact, IsOf, IsTokenOf};
 ghost use Rattle.span_chart.specs.Positions.{HasAll, IsGrown};
 ghost use Rattle.normal_form.specs.declared.normal.Sym;
 
@@ -75,46 +75,38 @@ impl Chart {
     }
 }
 
-/// Adds the position after the token at the position `first`, if that token's kind is this one.
-fn add_kind(
-    ends: &mut Vec<u32>,
-    kind: u32,
-    first: u32,
-    normal: &Normal,
-    kinds: &[u32],
-) -> Result<(), Memory>
-    requires rising { IsStrictlyIncreasing ends.old.items }
-    requires few { length kinds.now < 2 ^ 32 }
-    ensures rising { OnOk result (IsStrictlyIncreasing ends.new.items) }
-    ensures grown { OnOk result (IsGrown (DerivesSpan normal.now kinds.now (Sym.Kind kind) first) ends.old.items ends.new.items) }
-    ensures all { OnOk result (HasAll (DerivesSpan normal.now kinds.now (Sym.Kind kind) first) ends.new.items) }
+/// Whether a token of this kind is one of the symbol, which is a kind or a set.
+fn is_token(symbol: Sym, kind: u32, normal: &Normal) -> bool
+    ensures { IsTrue result ↔ IsTokenOf normal.now symbol kind }
 {
-    if (first as usize) < kinds.len() {
-        if kinds[first as usize] == kind {
-            add(ends, first + 1)?;
-        }
+    match symbol {
+        Sym::Kind(own) => own == kind,
+        Sym::Set(set) => normal.sets().contains(set, kind),
+        Sym::Rule(_) => false,
     }
-    Ok(())
 }
 
-/// Adds the position after the token at the position `first`, if the set has that token's kind.
-fn add_set(
+/// Adds the position after the token at the position `first`, if that is a token of the symbol.
+fn add_token(
     ends: &mut Vec<u32>,
-    set: u32,
+    symbol: Sym,
     first: u32,
     normal: &Normal,
     kinds: &[u32],
 ) -> Result<(), Memory>
+    requires token { (r : ℕ) → symbol ≢ Sym.Rule r }
     requires rising { IsStrictlyIncreasing ends.old.items }
     requires few { length kinds.now < 2 ^ 32 }
     ensures rising { OnOk result (IsStrictlyIncreasing ends.new.items) }
-    ensures grown { OnOk result (IsGrown (DerivesSpan normal.now kinds.now (Sym.Set set) first) ends.old.items ends.new.items) }
-    ensures all { OnOk result (HasAll (DerivesSpan normal.now kinds.now (Sym.Set set) first) ends.new.items) }
+    ensures grown { OnOk result (IsGrown (DerivesSpan normal.now kinds.now symbol first) ends.old.items ends.new.items) }
+    ensures all { OnOk result (HasAll (DerivesSpan normal.now kinds.now symbol first) ends.new.items) }
 {
-    if (first as usize) < kinds.len() {
-        if normal.sets().contains(set, kinds[first as usize]) {
-            add(ends, first + 1)?;
-        }
+    if first as usize >= kinds.len() {
+        return Ok(());
+    }
+    let kind = kinds[first as usize];
+    if is_token(symbol, kind, normal) {
+        add(ends, first + 1)?;
     }
     Ok(())
 }
@@ -138,14 +130,6 @@ pub(crate) fn add_ends(
     ensures all { IfOk result (λ missing. missing ≡ None → HasAll (DerivesSpan normal.now kinds.now symbol first) ends.new.items) }
 {
     match symbol {
-        Sym::Kind(kind) => {
-            add_kind(ends, kind, first, normal, kinds)?;
-            Ok(None)
-        }
-        Sym::Set(set) => {
-            add_set(ends, set, first, normal, kinds)?;
-            Ok(None)
-        }
         Sym::Rule(rule) => match chart.find(rule, first) {
             Some(entry) => {
                 add_all(ends, &entry.ends)?;
@@ -153,5 +137,9 @@ pub(crate) fn add_ends(
             }
             None => Ok(Some(rule)),
         },
+        Sym::Kind(_) | Sym::Set(_) => {
+            add_token(ends, symbol, first, normal, kinds)?;
+            Ok(None)
+        }
     }
 }

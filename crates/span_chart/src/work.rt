@@ -206,8 +206,8 @@ fn known_ends(
 pub fn ends(
     alloc: Global,
     normal: &Normal,
-    kinds: &[u32],
     symbol: Sym,
+    kinds: &[u32],
     first: u32,
 ) -> Result<Vec<u32>, Memory>
     requires { length kinds.now < 2 ^ 32 }
@@ -225,6 +225,6 @@ pub fn derives(alloc: Global, normal: &Normal, symbol: Sym, kinds: &[u32]) -> Re
     requires { length kinds.now < 2 ^ 32 }
     ensures { IfOk result (λ answer. IsTrue answer ↔ NormalDerives normal.now symbol kinds.now) }
 {
-    let ends = ends(alloc, normal, kinds, symbol, 0)?;
+    let ends = ends(alloc, normal, symbol, kinds, 0)?;
     Ok(has(&ends, kinds.len() as u32))
 }
