@@ -1,0 +1,8 @@
+use Rattle.std.proofs.Common.{◌≡◌, map, take}
+use Rattle.normal_form.specs.View.{rule_form}
+use Rattle.compat_table.specs.Rows.{lone_symbols}
+use Rattle.compat_table.specs.View.{edges_of}
+use Rattle.compat_table.proofs.search.edges.Given as goal
+
+abbrev pub invariant-loop-rule : goal.invariant-loop-rule
+invariant-loop-rule l = edges_of l.edges.items ≡ map lone_symbols (map rule_form (take l.rule-index l.rules))

@@ -1,0 +1,17 @@
+use Rattle.std.proofs.Common.{◌+◌, ◌-◌, ◌<◌, ◌≤◌, length, vec_len}
+use Rattle.std.specs.List.{All}
+use Rattle.compat_table.specs.Rows.{IsMarked, IsSearched}
+use Rattle.compat_table.specs.View.{edges_of, symbols_of}
+use Rattle.compat_table.proofs.search.row_of.Given as goal
+
+abbrev pub invariant-loop-done : goal.invariant-loop-done
+invariant-loop-done l =
+    record {
+      searched : IsSearched (edges_of l.edges) l.rule (symbols_of l.row) l.done;
+      marked : IsMarked l.marks (l.rule + 1) (symbols_of l.row);
+      below : All (λ m. m < l.rule + 2) l.marks;
+      within : l.done ≤ vec_len l.row.rules;
+    }
+
+abbrev pub decreases-loop-done : goal.decreases-loop-done
+decreases-loop-done l = length l.edges - l.done

@@ -1,0 +1,24 @@
+//! How the table is made.
+
+ghost use Rattle.std.specs.Prelude.{◌≡◌, IfOk};
+
+use crate::search::{edges, rows};
+use crate::table::Compat;
+use faults::Memory;
+use normal_form::{Normal, rules_are_few, symbols_are_known};
+use std::alloc::Global;
+
+/// The table of a normal form. It takes memory for each rule, and for each symbol that fits a rule
+/// through alternatives of one symbol; the kinds in a set aren't written out.
+pub fn compat(alloc: Global, normal: &Normal) -> Result<Compat, Memory>
+    ensures { IfOk result (λ c. c ≡ normal.now) }
+{
+    symbols_are_known();
+    rules_are_few();
+    normal.is_normal();
+    let edges = edges(alloc, normal.rules())?;
+    Ok(Compat {
+        normal: normal.copy(alloc)?,
+        rows: rows(alloc, &edges)?,
+    })
+}
