@@ -1,0 +1,4 @@
+pub mod ValidTrees
+pub mod PreferredTrees
+pub mod Decoding
+pub mod OneTree

@@ -1,0 +1,39 @@
+-- What holds of valid trees.
+use Rattle.std.proofs.Common.{ℕ, List, [], ◌∷◌, ◌++◌, sym, subst}
+use Rattle.std.proofs.lemmas.List.{append-nil}
+use Rattle.grammar_tree.proofs.Places.{contains_at}
+use Rattle.normal_form.specs.declared.normal.Sym.{Sym}
+use Rattle.normal_form.specs.declared.normal.Sym.TheVariants.{Kind, Rule}
+use Rattle.normal_form.specs.Form.{NormalForm}
+use Rattle.normal_form.specs.NormalDerives.{NormalDerives, NormalDerivesSeq, NormalDerivesMany, of_kind, of_set, of_done, of_end, of_more}
+use Rattle.normal_form.specs.NormalDerives as derives
+use Rattle.compat_table.proofs.Fitting.{derive_more}
+use Rattle.syntax_tree.specs.Trees.{Tree, Trees, kinds_of, kinds_of_all}
+use Rattle.syntax_tree.specs.Valid.{IsValid, AreValid, EachIsValid, of_leaf, of_regular, of_absent, of_present, of_star, of_plus, of_no_slots, of_slot, of_none, of_next}
+use Rattle.syntax_tree.specs.Laws.{ValidTreesAreDerived}
+
+module _ (N : NormalForm) where
+  mutual
+    -- a slot derives the kinds of each tree that is valid for it
+    pub derived : (s : Sym) (t : Tree) → IsValid N s t → NormalDerives N s (kinds_of t)
+    derived s t (of_leaf s' n k i fits) = derive_more N (Kind k) s fits (k ∷ []) (of_kind k)
+    derived s t (of_regular s' n r a ts alts alt fits at_rule at valid) =
+        derive_more N (Rule r) s fits (kinds_of_all ts) (derives.of_regular r alts alt (kinds_of_all ts) at_rule (contains_at alts a alt at) (derived_seq alt ts valid))
+    derived s t (of_absent s' n r x fits at_rule) = derive_more N (Rule r) s fits [] (derives.of_absent r x at_rule)
+    derived s t (of_present s' n r u x fits at_rule valid) =
+        let P : List ℕ → Type 0 = λ w. NormalDerives N x w in
+        derive_more N (Rule r) s fits (kinds_of u ++ []) (derives.of_present r x (kinds_of u ++ []) at_rule (subst P (sym (append-nil (kinds_of u))) (derived x u valid)))
+    derived s t (of_star s' n r ts x fits at_rule each) = derive_more N (Rule r) s fits (kinds_of_all ts) (derives.of_star r x (kinds_of_all ts) at_rule (derived_each x ts each))
+    derived s t (of_plus s' n r u ts x fits at_rule (of_next x' u' ts' valid each)) =
+        derive_more N (Rule r) s fits (kinds_of u ++ kinds_of_all ts) (derives.of_plus r x (kinds_of u) (kinds_of_all ts) at_rule (derived x u valid) (derived_each x ts each))
+
+    derived_seq : (ss : List Sym) (ts : Trees) → AreValid N ss ts → NormalDerivesSeq N ss (kinds_of_all ts)
+    derived_seq ss ts of_no_slots = of_done
+    derived_seq ss ts (of_slot s ss' t ts' valid rest) = derives.of_next s ss' (kinds_of t) (kinds_of_all ts') (derived s t valid) (derived_seq ss' ts' rest)
+
+    derived_each : (s : Sym) (ts : Trees) → EachIsValid N s ts → NormalDerivesMany N s (kinds_of_all ts)
+    derived_each s ts (of_none s') = of_end s
+    derived_each s ts (of_next s' t ts' valid rest) = of_more s (kinds_of t) (kinds_of_all ts') (derived s t valid) (derived_each s ts' rest)
+
+pub valid_derived : ValidTreesAreDerived
+valid_derived N s t valid = derived N s t valid

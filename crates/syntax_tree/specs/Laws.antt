@@ -1,0 +1,31 @@
+-- What follows from the definitions, for the proofs of this crate's contracts and of other crates.
+use Rattle.std.specs.Prelude.{◌≡◌, ℕ, List}
+use Rattle.std.specs.List.{between}
+use Rattle.normal_form.specs.declared.normal.Sym.{Sym}
+use Rattle.normal_form.specs.Form.{NormalForm}
+use Rattle.normal_form.specs.NormalDerives.{NormalDerives}
+use Rattle.derived_spans.specs.Spans.{DerivesSpan}
+use Rattle.syntax_tree.specs.Trees.{Tree, kinds_of, renumbered}
+use Rattle.syntax_tree.specs.Valid.{IsValid}
+use Rattle.syntax_tree.specs.Preferred.{Preferred}
+
+-- A slot derives the kinds of each tree that is valid for it.
+abbrev pub ValidTreesAreDerived : Type 0
+ValidTreesAreDerived = (N : NormalForm) (s : Sym) (t : Tree) → IsValid N s t → NormalDerives N s (kinds_of t)
+
+-- A preferred tree is valid for its symbol, which derives the span, and its leaves are those of the span.
+pub record IsTreeOfSpan (N : NormalForm) (kinds : List ℕ) (s : Sym) (i j : ℕ) (t : Tree) : Type 0 where
+  pub valid : IsValid N s t
+  pub derived : DerivesSpan N kinds s i j
+  pub leaves_are : kinds_of t ≡ between i j kinds
+
+abbrev pub PreferredTreesAreValid : Type 0
+PreferredTreesAreValid = (N : NormalForm) (kinds : List ℕ) (s : Sym) (i j : ℕ) (t : Tree) → Preferred N kinds s i j t → IsTreeOfSpan N kinds s i j t
+
+-- There is one preferred tree at most, up to the numbers of its nodes.
+abbrev pub PreferredTreesAreOne : Type 0
+PreferredTreesAreOne = (N : NormalForm) (kinds : List ℕ) (s : Sym) (i j : ℕ) (t u : Tree) → Preferred N kinds s i j t → Preferred N kinds s i j u → renumbered 0 t ≡ renumbered 0 u
+
+-- A preferred tree with other numbers is preferred too.
+abbrev pub NumbersDontMatter : Type 0
+NumbersDontMatter = (N : NormalForm) (kinds : List ℕ) (s : Sym) (i j n : ℕ) (t : Tree) → Preferred N kinds s i j t → Preferred N kinds s i j (renumbered n t)
