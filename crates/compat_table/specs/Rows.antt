@@ -20,7 +20,7 @@ lone_symbols (RuleForm.opt s) = []
 
 -- The symbol is alone in an alternative of the rule r.
 abbrev pub HasEdge : List (List Sym) → ℕ → Sym → Type 0
-HasEdge edges r t = (row : List Sym) × (slice_get edges r ≡ Some row) × Contains row t
+HasEdge edges r t = (symbols : List Sym) × (slice_get edges r ≡ Some symbols) × Contains symbols t
 
 -- Such symbols, one after another, lead from the rule r to the symbol t.
 pub data LeadsTo (edges : List (List Sym)) : ℕ → Sym → Type 0 where
@@ -61,7 +61,7 @@ pub record IsMarked (marks : List ℕ) (number : ℕ) (row : Symbols) : Type 0 w
   pub counted : length row.rules + unmarked number marks ≡ length marks
   pub within : (q : ℕ) → Contains row.rules q → q < length marks
 
--- A search from the rule r has found only symbols that it leads to; it has found those of its own row, and those of the first rules that it has found, which are so many.
+-- A search from the rule r has found only symbols that it leads to; it has found those to which it has an edge, and those to which the first so many rules that it has found have one.
 pub record IsSearched (edges : List (List Sym)) (r : ℕ) (row : Symbols) (done : ℕ) : Type 0 where
   pub sound : (t : Sym) → IsAmong row t → LeadsTo edges r t
   pub began : (t : Sym) → HasEdge edges r t → IsAmong row t
