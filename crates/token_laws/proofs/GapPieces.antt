@@ -8,10 +8,10 @@ use Rattle.std.proofs.lemmas.List.Elements.{All-nil, All-cons}
 use Rattle.std.proofs.lemmas.Str.{chars-append, chars-nil}
 use Rattle.grammar_tree.specs.Written.{WrittenGrammar}
 use Rattle.grammar_tree.specs.Lexes.{IsNext, LexesTo, Piece, PlacedToken, is_gap_kind, placed_tokens}
-use Rattle.token_laws.specs.Spelling.{gap, gap_end, gap_start}
+use Rattle.token_laws.specs.Spelling.{gap_text, gap_end, gap_start}
 use Rattle.token_laws.specs.Laws.{GapsAreGapPieces}
 use Rattle.token_laws.proofs.Gaps.{join, start_from, start_is, start_later}
-use Rattle.token_laws.proofs.Parts.{are_parts}
+use Rattle.token_laws.proofs.Slices.{are_slices}
 use Rattle.token_laws.proofs.Pieces.{cut_next, cut_later, end_chars, size_later}
 
 -- the text is read from one offset up to another as pieces of gap kinds
@@ -30,7 +30,7 @@ module _ (G : WrittenGrammar) (text : List ℕ) (utf8 : IsUtf8 text) where
       let P : List ℕ → Type 0 = λ x. LexesTo G x pieces (chars (drop to text)) in
       (record { kind = kind; text = piece } ∷ pieces, LexesTo.by_piece (chars (drop at text)) kind piece rest (chars (drop to text)) pieces next (subst P (sym same) lexed), All-cons (λ p. is_gap_kind G p.kind ≡ true) (record { kind = kind; text = piece }) pieces gap all)
 
-  -- where each gap behind a piece is read so, each gap is from the piece on
+  -- where each gap after a piece is read so, each gap is from the piece on
   gaps_more : (kind : ℕ) (piece rest : List ℕ) (at end : ℕ) (tokens : List PlacedToken) → IsNext G (chars (drop at text)) kind piece rest → rest ≡ chars (drop end text) → (gap : Bool) → is_gap_kind G kind ≡ gap →
       ((j : ℕ) → j ≤ length tokens → IsGapFrom G text (start_from text end tokens j) (gap_end text tokens j)) →
       (i : ℕ) → i ≤ length (cond gap tokens (record { kind = kind; start = at; end = end } ∷ tokens)) →
@@ -66,13 +66,13 @@ pub are_gap_pieces : GapsAreGapPieces
 are_gap_pieces G text tokens i utf8 (pieces, lexed, are) h =
     let P : List PlacedToken → Type 0 = λ ts. i ≤ length ts → IsGapFrom G text (gap_start text ts i) (gap_end text ts i) in
     let (gaps, read, all) = subst P (sym are) first h in
-    let part = are_parts G text tokens i utf8 (pieces, lexed, are) h in
+    let part = are_slices G text tokens i utf8 (pieces, lexed, are) h in
     record {
       pieces = gaps;
       read = read;
       gaps = all;
       cover =
-          append_cancel_right (flat_map (λ (p : Piece). p.text) gaps) (chars (gap text tokens i)) (chars (drop (gap_end text tokens i) text))
+          append_cancel_right (flat_map (λ (p : Piece). p.text) gaps) (chars (gap_text text tokens i)) (chars (drop (gap_end text tokens i) text))
           (covers G read ∙ cut_chars text (gap_start text tokens i) (gap_end text tokens i) part.utf8 part.rises);
     }
   where

@@ -4,7 +4,7 @@ use Rattle.std.specs.List.{between, flat_map, range_with_len}
 use Rattle.std.specs.Option.{option_map_or}
 use Rattle.std.proofs.lemmas.List.{drop-drop, take-append-drop, take_rest}
 use Rattle.grammar_tree.specs.Lexes.{PlacedToken}
-use Rattle.token_laws.specs.Spelling.{gap, gap_end, gap_start, gaps_and_spellings, spelling, spelling_at}
+use Rattle.token_laws.specs.Spelling.{gap_text, gap_end, gap_start, gaps_and_spellings, spelling, spelling_at}
 use Rattle.token_laws.specs.Laws.{GapsAndSpellingsAreText}
 use Rattle.token_laws.proofs.Order.{Rise, placed_rise}
 
@@ -57,7 +57,7 @@ module _ (text : List ℕ) where
   start_is tokens zero = refl
   start_is tokens (suc i) = refl
 
-  gap_is : (tokens : List PlacedToken) (i : ℕ) → gap text tokens i ≡ between (start_from 0 tokens i) (gap_end text tokens i) text
+  gap_is : (tokens : List PlacedToken) (i : ℕ) → gap_text text tokens i ≡ between (start_from 0 tokens i) (gap_end text tokens i) text
   gap_is tokens i = ap (λ n. between n (gap_end text tokens i) text) (start_is tokens i)
 
   same_parts : (f g : ℕ → List ℕ) → ((i : ℕ) → f i ≡ g i) → (xs : List ℕ) → flat_map f xs ≡ flat_map g xs
@@ -68,7 +68,7 @@ module _ (text : List ℕ) where
   all_parts tokens r =
       let n = length tokens in
       ap₂ ◌++◌
-      (same_parts (λ i. gap text tokens i ++ spelling_at text tokens i) (part_from 0 tokens) (λ i. ap (λ l. l ++ spelling_at text tokens i) (gap_is tokens i)) (range_with_len 0 n))
+      (same_parts (λ i. gap_text text tokens i ++ spelling_at text tokens i) (part_from 0 tokens) (λ i. ap (λ l. l ++ spelling_at text tokens i) (gap_is tokens i)) (range_with_len 0 n))
       (gap_is tokens n)
       ∙ parts 0 tokens r
 

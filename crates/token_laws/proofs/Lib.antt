@@ -2,8 +2,11 @@ pub mod Once
 pub mod Order
 pub mod Gaps
 pub mod Pieces
-pub mod Parts
+pub mod Slices
 pub mod GapPieces
+pub mod Runs
+pub mod Spelled
+pub mod ByReading
 pub mod Decided
 pub mod Matching
 pub mod Reading

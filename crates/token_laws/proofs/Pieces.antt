@@ -11,7 +11,7 @@ use Rattle.std.proofs.lemmas.Str.{IsCharBoundary-at_seam, IsUtf8-between, chars-
 use Rattle.grammar_tree.specs.Written.{WrittenGrammar, Source, TokenKind}
 use Rattle.grammar_tree.specs.Lexes.{IsNext, LexesTo, Piece, PlacedToken, SourceMatches, is_gap_kind, placed_tokens, tokens_of}
 use Rattle.token_laws.specs.Spelling.{kind_and_spelling, spelling}
-use Rattle.token_laws.specs.Laws.{IsPart, IsTokenKind, TokensAreInOrder, TokensArePieces, TokensComeNext, TokensHaveKinds}
+use Rattle.token_laws.specs.Laws.{IsSlice, IsTokenKind, TokensAreInOrder, TokensArePieces, TokensAreLongestMatches, TokensHaveKinds}
 use Rattle.token_laws.proofs.Order.{Rise, apart, few, placed_rise}
 
 -- The token is a piece of the characters, at its offsets.
@@ -120,8 +120,8 @@ module _ (G : WrittenGrammar) (text : List ℕ) (utf8 : IsUtf8 text) (t : Placed
   pub some : t.start < t.end
   some = omega (arith, p.ends, filled p.piece p.next.some, length-le-encodes p.piece)
 
-  pub is_part : IsPart text t.start t.end
-  is_part =
+  pub is_slice : IsSlice text t.start t.end
+  is_slice =
       let starts = start_boundary text utf8 p.front p.piece p.back p.cut t.start t.end p.starts p.ends in
       let ends = end_boundary text utf8 p.front p.piece p.back p.cut t.start t.end p.starts p.ends in
       let rises : t.start ≤ t.end = omega (arith, some) in
@@ -150,15 +150,15 @@ in_order G text tokens utf8 (pieces, lexed, are) =
     let P : List PlacedToken → Type 0 = λ ts. Rise 0 ts in
     let rise = subst P (sym are) (placed_rise G 0 pieces) in
     let each = placed G (chars text) pieces tokens lexed are in
-    let within = All-weaker (IsPlaced G (chars text)) (λ t. (t.start < t.end) × (t.end ≤ length text)) (λ t p. (some G text utf8 t p, (is_part G text utf8 t p).within)) tokens each in
+    let within = All-weaker (IsPlaced G (chars text)) (λ t. (t.start < t.end) × (t.end ≤ length text)) (λ t p. (some G text utf8 t p, (is_slice G text utf8 t p).within)) tokens each in
     record {
-      parts = All-weaker (IsPlaced G (chars text)) (λ t. IsPart text t.start t.end) (is_part G text utf8) tokens each;
-      some = All-weaker (IsPlaced G (chars text)) (λ t. t.start < t.end) (some G text utf8) tokens each;
+      slices = All-weaker (IsPlaced G (chars text)) (λ t. IsSlice text t.start t.end) (is_slice G text utf8) tokens each;
+      not_empty = All-weaker (IsPlaced G (chars text)) (λ t. t.start < t.end) (some G text utf8) tokens each;
       apart = apart 0 tokens rise;
       few = omega (arith, few text 0 tokens rise within (omega arith));
     }
 
-pub come_next : TokensComeNext
+pub come_next : TokensAreLongestMatches
 come_next G text tokens utf8 (pieces, lexed, are) =
     All-weaker (IsPlaced G (chars text)) (λ t. IsNext G (chars (drop t.start text)) t.kind (chars (spelling text t)) (chars (drop t.end text))) (comes_next G text utf8) tokens (placed G (chars text) pieces tokens lexed are)
 
@@ -193,4 +193,4 @@ module _ (G : WrittenGrammar) (text : List ℕ) (utf8 : IsUtf8 text) where
       step false later = ap₂ ◌∷◌ same later
 
 pub are_pieces : TokensArePieces
-are_pieces G text pieces utf8 lexed = pieces_from G text utf8 lexed [] 0 refl refl
+are_pieces G text tokens utf8 (pieces, lexed, are) = (pieces, lexed, ap (map (kind_and_spelling text)) are ∙ pieces_from G text utf8 lexed [] 0 refl refl)

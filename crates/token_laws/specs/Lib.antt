@@ -1,2 +1,4 @@
 pub mod Spelling
 pub mod Laws
+pub mod Spells
+pub mod Readings

@@ -1,6 +1,8 @@
 //! The laws.
 
-ghost use Rattle.token_laws.specs.Laws.{EachTextIsRead, GapsAndSpellingsAreText, GapsAreGapPieces, GapsAreParts, TokensAreInOrder, TokensArePieces, TokensAreUnique, TokensComeNext, TokensHaveKinds, TokensHaveNoStop};
+ghost use Rattle.token_laws.specs.Laws.{EachTextIsRead, GapsAndSpellingsAreText, GapsAreGapPieces, GapsAreSlices, RunsAreText, TokensAreInOrder, TokensArePieces, TokensAreUnique, TokensAreLongestMatches, TokensHaveKinds, TokensHaveNoStop};
+ghost use Rattle.token_laws.specs.Readings.{GapsByReading, SpelledByReading, TokensByReading};
+ghost use Rattle.token_laws.specs.Spells.{EqualCharactersEqualBytes, SpelledKinds, SpelledOneWay};
 
 /// A text has one list of tokens at most.
 pub fn tokens_are_unique()
@@ -31,8 +33,8 @@ pub fn tokens_have_kinds()
 
 /// A token's spelling is what comes next at its start: the longest match of at least one character,
 /// and that of the least kind on a tie.
-pub fn tokens_come_next()
-    ensures { TokensComeNext }
+pub fn tokens_are_longest_matches()
+    ensures { TokensAreLongestMatches }
 {}
 
 /// The tokens of a text with their spellings are the pieces that aren't of gap kinds.
@@ -45,12 +47,49 @@ pub fn gaps_and_spellings_are_text()
     ensures { GapsAndSpellingsAreText }
 {}
 
-/// Each gap is a part of the text that begins and ends between characters.
-pub fn gaps_are_parts()
-    ensures { GapsAreParts }
+/// The gaps and spellings of tokens that follow each other are the text from where the first of these
+/// gaps begins up to where the gap after the last token begins; and so many tokens have at least as
+/// many bytes.
+pub fn runs_are_text()
+    ensures { RunsAreText }
+{}
+
+/// Each gap is a slice of the text that begins and ends between characters.
+pub fn gaps_are_slices()
+    ensures { GapsAreSlices }
 {}
 
 /// Each gap is cut into pieces of gap kinds, which are read from its beginning up to its end.
 pub fn gaps_are_gap_pieces()
     ensures { GapsAreGapPieces }
+{}
+
+/// A text spells one list of kinds and spellings at most.
+pub fn spelled_one_way()
+    ensures { SpelledOneWay }
+{}
+
+/// A text that spells tokens has tokens of their kinds.
+pub fn spelled_kinds()
+    ensures { SpelledKinds }
+{}
+
+/// Texts are equal as characters exactly where they are equal as bytes.
+pub fn equal_characters_equal_bytes()
+    ensures { EqualCharactersEqualBytes }
+{}
+
+/// `tokens_by` gives the tokens that a text has, and none where its reading stops.
+pub fn tokens_by_reading()
+    ensures { TokensByReading }
+{}
+
+/// `is_gap_by` is true exactly where the text of the character is one piece of a gap kind.
+pub fn gaps_by_reading()
+    ensures { GapsByReading }
+{}
+
+/// `spells_by` is true exactly where the text spells the tokens.
+pub fn spelled_by_reading()
+    ensures { SpelledByReading }
 {}
