@@ -1,0 +1,4 @@
+pub mod Offsets
+pub mod Same
+pub mod Writing
+pub mod Keeping

@@ -1,0 +1,16 @@
+//! The spellings of tokens.
+
+ghost use Rattle.std.specs.Prelude.{◌≡◌};
+ghost use Rattle.lexer.specs.Tokens.{token_of};
+ghost use Rattle.token_laws.specs.Laws.{IsSlice};
+ghost use Rattle.token_laws.specs.Spelling.{spelling};
+
+use lexer::Token;
+
+/// The spelling of a token of the text.
+pub(crate) fn spelling(text: &str, token: Token) -> &str
+    requires { IsSlice text.now token.start token.end }
+    ensures { result.now ≡ spelling text.now (token_of token) }
+{
+    &text[token.start as usize..token.end as usize]
+}
