@@ -2,3 +2,8 @@ pub mod Offsets
 pub mod Same
 pub mod Writing
 pub mod Keeping
+pub mod Skipped
+pub mod Whole
+pub mod Climbing
+pub mod Sizes
+pub mod Squeezing

@@ -1,2 +1,4 @@
 pub mod Printed
 pub mod Kept
+pub mod Laws
+pub mod Worked

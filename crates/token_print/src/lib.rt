@@ -1,10 +1,11 @@
 //! The text of the kept tokens of a start, and whether a text is cut into them again.
 //!
 //! Begin with [`print`] and [`keeps_tokens`]. Read `printed` in `specs/Printed.antt` first, then
-//! `KeepsTokens` in `specs/Kept.antt`.
+//! `KeepsTokens` in `specs/Kept.antt`; `specs/Laws.antt` has what is known of printed texts.
 #![tactic(auto)]
 
 mod keeps;
+mod laws;
 mod layout;
 mod print_kept;
 mod spelling;
@@ -12,5 +13,9 @@ mod style;
 
 pub use faults::Memory;
 pub use keeps::keeps_tokens;
+pub use laws::{
+    all_kept_is_start, no_longer_than_all, no_longer_than_start, printed_by_reading,
+    printed_one_way, start_keeps_tokens, worked_texts,
+};
 pub use print_kept::print;
 pub use style::{Skips, Style};

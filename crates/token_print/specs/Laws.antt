@@ -1,0 +1,50 @@
+-- What is known of printed texts.
+use Rattle.std.specs.Prelude.{◌≡◌, ◌↔◌, ℕ, ◌≤◌, List, length}
+use Rattle.std.specs.List.{range_with_len}
+use Rattle.std.specs.Str.{chars, IsUtf8}
+use Rattle.grammar_tree.specs.Written.{WrittenGrammar}
+use Rattle.grammar_tree.specs.Faults.{IsWellFormed}
+use Rattle.grammar_tree.specs.Lexes.{PlacedToken}
+use Rattle.lexer.specs.Tokens.{HasTokens}
+use Rattle.token_laws.specs.Laws.{EachTextIsRead}
+use Rattle.token_laws.specs.Readings.{is_gap_by}
+use Rattle.token_print.specs.declared.style.Skips.{Skips}
+use Rattle.token_print.specs.declared.style.Style.{Style}
+use Rattle.token_print.specs.Kept.{AreKept, KeepsTokens}
+use Rattle.token_print.specs.Printed.{IsPrinted, printed}
+
+-- the numbers of all tokens
+abbrev pub all_kept : List PlacedToken → List ℕ
+all_kept tokens = range_with_len 0 (length tokens)
+
+-- Kept tokens have one text in a style.
+abbrev pub PrintedOneWay : Type 0
+PrintedOneWay = (G : WrittenGrammar) (start : List ℕ) (tokens : List PlacedToken) (kept : List ℕ) (style : Style) (text other : List ℕ) →
+    IsPrinted G start tokens kept style text → IsPrinted G start tokens kept style other → text ≡ other
+
+-- what a grammar skips, by a reading of each text
+abbrev pub skips_by : EachTextIsRead → (G : WrittenGrammar) (rule : ℕ) → IsWellFormed G rule → Skips
+skips_by read G rule formed = record { newline = is_gap_by read G rule formed 10; space = is_gap_by read G rule formed 32 }
+
+-- What is printed, by a reading of each text.
+abbrev pub PrintedByReading : Type 0
+PrintedByReading = (read : EachTextIsRead) (G : WrittenGrammar) (rule : ℕ) (formed : IsWellFormed G rule) (start : List ℕ) (tokens : List PlacedToken) (kept : List ℕ) (style : Style) (text : List ℕ) →
+    IsPrinted G start tokens kept style text ↔ (text ≡ printed (skips_by read G rule formed) start tokens kept style)
+
+-- Where all tokens are kept, the text as it was is the start.
+abbrev pub AllKeptIsStart : Type 0
+AllKeptIsStart = (G : WrittenGrammar) (skips : Skips) (start : List ℕ) (tokens : List PlacedToken) → HasTokens G (chars start) tokens → printed skips start tokens (all_kept tokens) Style.AsWas ≡ start
+
+-- The start keeps all of its tokens.
+abbrev pub StartKeepsTokens : Type 0
+StartKeepsTokens = (G : WrittenGrammar) (start : List ℕ) (tokens : List PlacedToken) → IsUtf8 start → HasTokens G (chars start) tokens → KeepsTokens G start tokens (all_kept tokens) start
+
+-- As it was, no text is longer than the start.
+abbrev pub NoLongerThanStart : Type 0
+NoLongerThanStart = (G : WrittenGrammar) (skips : Skips) (start : List ℕ) (tokens : List PlacedToken) (kept : List ℕ) → IsUtf8 start → HasTokens G (chars start) tokens → AreKept tokens kept →
+    length (printed skips start tokens kept Style.AsWas) ≤ length start
+
+-- Squeezed, no text is longer than that of all tokens.
+abbrev pub NoLongerThanAll : Type 0
+NoLongerThanAll = (skips : Skips) (start : List ℕ) (tokens : List PlacedToken) (kept : List ℕ) → AreKept tokens kept →
+    length (printed skips start tokens kept Style.Squeezed) ≤ length (printed skips start tokens (all_kept tokens) Style.Squeezed)
