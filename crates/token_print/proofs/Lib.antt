@@ -7,3 +7,4 @@ pub mod Whole
 pub mod Climbing
 pub mod Sizes
 pub mod Squeezing
+pub mod Numbers

@@ -1,6 +1,6 @@
 //! What is printed before, between and after the kept tokens of a start.
 
-ghost use Rattle.std.specs.Prelude.{◌≡◌, ℕ, ◌<◌, ◌≤◌, suc, nat_eq, true, false, cond, List, [], None, IfOk, length, map, string_bytes};
+ghost use Rattle.std.specs.Prelude.{◌≡◌, ℕ, ◌<◌, ◌≤◌, ◌^◌, suc, nat_eq, true, false, cond, List, [], None, IfOk, length, map, string_bytes};
 ghost use Rattle.std.specs.List.{All};
 ghost use Rattle.lexer.specs.Tokens.{token_of};
 ghost use Rattle.token_laws.specs.Laws.{AreInOrder};
@@ -148,6 +148,8 @@ impl<'a> Layout<'a> {
     fn size(&self, kept: &[u32]) -> usize
         requires kept { All (λ i. i < length self.now.tokens.now) kept.now }
         requires order { AreInOrder self.now.start.now (map token_of self.now.tokens.now) }
+        ensures { let size = length (printed_after self.now.skips self.now.start.now (map token_of self.now.tokens.now) self.now.style None kept.now) in
+            size < 2 ^ 64 → result ≡ size }
     {
         let mut size = 0usize;
         let mut last = None;

@@ -1,10 +1,12 @@
 //! The text of the kept tokens of a start, and whether a text is cut into them again.
 //!
-//! Begin with [`print`] and [`keeps_tokens`]. Read `printed` in `specs/Printed.antt` first, then
-//! `KeepsTokens` in `specs/Kept.antt`; `specs/Laws.antt` has what is known of printed texts.
+//! Begin with [`print`] and [`keeps_tokens`]; [`are_kept`] tests what they ask of the kept tokens.
+//! Read `printed` in `specs/Printed.antt` first, then `KeepsTokens` in `specs/Kept.antt`;
+//! `specs/Laws.antt` has what is known of printed texts.
 #![tactic(auto)]
 
 mod keeps;
+mod kept_numbers;
 mod laws;
 mod layout;
 mod print_kept;
@@ -13,6 +15,7 @@ mod style;
 
 pub use faults::Memory;
 pub use keeps::keeps_tokens;
+pub use kept_numbers::are_kept;
 pub use laws::{
     all_kept_is_start, no_longer_than_all, no_longer_than_start, printed_by_reading,
     printed_one_way, start_keeps_tokens, worked_texts,
