@@ -186,8 +186,8 @@ module _ (G : WrittenGrammar) (start : ℕ) (W : IsWellFormed G start) where
   same_rule a b c d e =
       let (i, here) = lexer_places G a c in
       let (j, there) = lexer_places G b d in
-      let place : i ≡ j = known.one_rule i j (WrittenRule.lexer_rule a) (WrittenRule.lexer_rule b) here there e in
-      let same : Some (WrittenRule.lexer_rule a) ≡ Some (WrittenRule.lexer_rule b) = sym here ∙ ap (slice_get G.rules) place ∙ there in cc
+      let index : i ≡ j = known.one_rule i j (WrittenRule.lexer_rule a) (WrittenRule.lexer_rule b) here there e in
+      let same : Some (WrittenRule.lexer_rule a) ≡ Some (WrittenRule.lexer_rule b) = sym here ∙ ap (slice_get G.rules) index ∙ there in cc
 
   further : {a b c : List ℕ} → UsesThrough G a b → Uses G b c → UsesThrough G a c
   further (UsesThrough.directly a b u) v = UsesThrough.through a b _ u (UsesThrough.directly b _ v)

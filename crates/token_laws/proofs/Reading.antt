@@ -17,7 +17,7 @@ use Rattle.token_laws.proofs.Matching.{matching}
 use Rattle.token_laws.proofs.Pieces.{filled}
 
 module _ (G : WrittenGrammar) where
-  -- the lexer rule at the place matches the text
+  -- the lexer rule at the index matches the text
   abbrev RuleMatches : ℕ → List ℕ → Type 0
   RuleMatches i w = AtLexerRule G i (λ rule. MatchesRule (lexer_rules G.rules) rule.alts w)
 
@@ -37,9 +37,9 @@ module _ (G : WrittenGrammar) where
   IsReadOrStops text = ((pieces : List Piece) × Lexes G text pieces) ⊎ ((offset : ℕ) × StopsAt G text offset)
 
 module _ (G : WrittenGrammar) (start : ℕ) (W : IsWellFormed G start) where
-  -- the lexer rule at a place
-  at_place : (i : ℕ) (w : List ℕ) → Decided (RuleMatches G i w)
-  at_place i w = step (slice_get G.rules i) refl
+  -- the lexer rule at an index
+  at_index : (i : ℕ) (w : List ℕ) → Decided (RuleMatches G i w)
+  at_index i w = step (slice_get G.rules i) refl
     where
       other : (r : LexerRule) → slice_get G.rules i ≡ Some (WrittenRule.lexer_rule r) → RuleMatches G i w → MatchesRule (lexer_rules G.rules) r.alts w
       other r e (s, f, m) =
@@ -56,7 +56,7 @@ module _ (G : WrittenGrammar) (start : ℕ) (W : IsWellFormed G start) where
 
   by_source : (s : Source) (name w : List ℕ) → Decided (SourceMatches G s name w)
   by_source Source.implicit name w = decided.equal_texts w name
-  by_source (Source.written i) name w = at_place i w
+  by_source (Source.written i) name w = at_index i w
   by_source Source.declared name w = inr (λ m. m)
 
   by_kind : (w : List ℕ) (k : ℕ) → Decided (KindMatches G k w)
