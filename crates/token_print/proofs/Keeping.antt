@@ -1,5 +1,6 @@
 -- A text that was lexed keeps tokens where its own have their kinds and spellings.
-use Rattle.std.proofs.Common.{◌≡◌, ◌↔◌, ℕ, Bool, true, List, map, sym, ap, ◌∙◌, subst}
+use Rattle.std.proofs.Common.{◌≡◌, ◌↔◌, ℕ, Bool, true, List, map, slice_get, sym, ap, ◌∙◌, subst}
+use Rattle.std.specs.List.{filter_map}
 use Rattle.std.specs.Str.{chars, IsUtf8}
 use Rattle.grammar_tree.specs.Written.{WrittenGrammar}
 use Rattle.grammar_tree.specs.Lexes.{Piece, PlacedToken, StopsAt}
@@ -9,6 +10,8 @@ use Rattle.lexer.specs.declared.token.Token.{Token}
 use Rattle.token_laws.specs.Spelling.{kind_and_spelling, kinds_and_spellings}
 use Rattle.token_laws.specs.Spells.{SpellsTokens}
 use Rattle.token_laws.proofs.Once.{no_stop, unique}
+use Rattle.token_laws.proofs.Spelled as spelled
+use Rattle.token_print.specs.Laws.{KeptKinds}
 
 module _ (G : WrittenGrammar) (text : List ℕ) (spelled : List Piece) where
   pub spells : (found : List PlacedToken) → IsUtf8 text → HasTokens G (chars text) found → (map (kind_and_spelling text) found ≡ spelled) ↔ SpellsTokens G text spelled
@@ -34,3 +37,8 @@ answered G bytes text start found seen tokens known kept answer read utf8 has le
     let Q : List Token → Type 0 = λ x. (answer ≡ true) ↔ (map (kind_and_spelling text) (map token_of found) ≡ kinds_and_spellings start (map token_of x) kept) in
     let R : List ℕ → Type 0 = λ x. (answer ≡ true) ↔ SpellsTokens G x spelled in
     subst R read (both (subst Q also (subst P lent exact)) (spells G text spelled (map token_of found) (subst U (sym read) utf8) has))
+
+pub have_kinds : KeptKinds
+have_kinds G start tokens kept text keeps =
+    let (found, has, same) = spelled.have_kinds G text (kinds_and_spellings start tokens kept) keeps in
+    (found, has, same ∙ sym (spelled.kinds start (filter_map (slice_get tokens) kept)))

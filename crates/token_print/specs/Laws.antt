@@ -1,6 +1,6 @@
 -- What is known of printed texts.
-use Rattle.std.specs.Prelude.{◌≡◌, ◌↔◌, ℕ, ◌≤◌, List, length}
-use Rattle.std.specs.List.{range_with_len}
+use Rattle.std.specs.Prelude.{◌≡◌, ◌↔◌, ℕ, ◌≤◌, List, map, slice_get, length}
+use Rattle.std.specs.List.{filter_map, range_with_len}
 use Rattle.std.specs.Str.{chars, IsUtf8}
 use Rattle.grammar_tree.specs.Written.{WrittenGrammar}
 use Rattle.grammar_tree.specs.Faults.{IsWellFormed}
@@ -38,6 +38,11 @@ AllKeptIsStart = (G : WrittenGrammar) (skips : Skips) (start : List ℕ) (tokens
 -- The start keeps all of its tokens.
 abbrev pub StartKeepsTokens : Type 0
 StartKeepsTokens = (G : WrittenGrammar) (start : List ℕ) (tokens : List PlacedToken) → IsUtf8 start → HasTokens G (chars start) tokens → KeepsTokens G start tokens (all_kept tokens) start
+
+-- A text that keeps tokens has tokens of their kinds, in their order.
+abbrev pub KeptKinds : Type 0
+KeptKinds = (G : WrittenGrammar) (start : List ℕ) (tokens : List PlacedToken) (kept : List ℕ) (text : List ℕ) → KeepsTokens G start tokens kept text →
+    (found : List PlacedToken) × HasTokens G (chars text) found × (map (λ (t : PlacedToken). t.kind) found ≡ map (λ (t : PlacedToken). t.kind) (filter_map (slice_get tokens) kept))
 
 -- As it was, no text is longer than the start.
 abbrev pub NoLongerThanStart : Type 0

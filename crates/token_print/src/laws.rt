@@ -1,6 +1,6 @@
 //! The laws of printed texts, for the proofs of other crates: each is a function that does nothing.
 
-ghost use Rattle.token_print.specs.Laws.{AllKeptIsStart, NoLongerThanAll, NoLongerThanStart, PrintedByReading, PrintedOneWay, StartKeepsTokens};
+ghost use Rattle.token_print.specs.Laws.{AllKeptIsStart, KeptKinds, NoLongerThanAll, NoLongerThanStart, PrintedByReading, PrintedOneWay, StartKeepsTokens};
 ghost use Rattle.token_print.specs.Worked.{WorkedTexts};
 
 /// Kept tokens have one text in a style.
@@ -21,6 +21,11 @@ pub fn all_kept_is_start()
 /// The start keeps all of its tokens.
 pub fn start_keeps_tokens()
     ensures { StartKeepsTokens }
+{}
+
+/// A text that keeps tokens has tokens of their kinds, in their order.
+pub fn kept_kinds()
+    ensures { KeptKinds }
 {}
 
 /// As it was, no text is longer than the start: a separator has at most one byte, and it is printed
