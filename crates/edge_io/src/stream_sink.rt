@@ -99,29 +99,3 @@ impl<R: std::rt::Files + Print> Sink for StreamSink<R> {
         Ok(())
     }
 }
-
-#[cfg(test)]
-mod tests {
-    use super::*;
-    use crate::mem_sink::MemSink;
-    use crate::null_sink::NullSink;
-    use std::test::Fail;
-
-    // The bound `Send` shows that each sink may go to a thread.
-    fn put_into<S: Sink + Send + Drop>(mut sink: S, piece: &[u8]) -> Result<(), SinkFault> {
-        sink.put(piece)
-    }
-
-    #[test]
-    fn each_sink_takes_a_piece(rt: HostRuntime) -> Result<(), Fail> {
-        let in_memory = MemSink::new(rt.alloc(), 3, Vec::new(rt.alloc()))?;
-        assert_eq!(rt; put_into(in_memory, b"put"), Ok(()));
-        assert_eq!(rt; put_into(NullSink::new(), b"put"), Ok(()));
-        assert_eq!(rt; put_into(StreamSink::output(rt.clone()?), b""), Ok(()));
-        assert_eq!(rt;
-            put_into(StreamSink::file(rt.clone()?), b""),
-            Err(SinkFault::Failed)
-        );
-        Ok(())
-    }
-}

@@ -12,6 +12,7 @@ pub struct SlowMachine {
 }
 
 impl SlowMachine {
+    /// The machine that `rt` reaches.
     pub fn new(rt: HostRuntime) -> SlowMachine {
         SlowMachine { rt }
     }

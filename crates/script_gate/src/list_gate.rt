@@ -125,34 +125,3 @@ impl Gate for ListGate {
         Ok(verdict)
     }
 }
-
-#[cfg(test)]
-mod tests {
-    use super::*;
-    use std::test::Fail;
-
-    // Through the bounds that a gate of a thread has.
-    fn answer<G: Gate + Send>(gate: &mut G, text: &[u8]) -> Result<Verdict, GateFault> {
-        gate.ask(text)
-    }
-
-    #[test]
-    fn answers_in_order_and_then_by_the_last_answer(rt: HostRuntime) -> Result<(), Fail> {
-        let answers = vec![in rt.alloc(); Said::No, Said::Fail, Said::Yes]?;
-        let mut gate = ListGate::new(rt.alloc(), answers, Said::No);
-        gate.open("work", "test.sh", "input", 1)?;
-        for (text, answered) in [
-            (b"a", Ok(Verdict::No)),
-            (b"b", Err(GateFault::Failed)),
-            (b"c", Ok(Verdict::Yes)),
-            (b"d", Ok(Verdict::No)),
-            (b"e", Ok(Verdict::No)),
-        ] {
-            assert_eq!(rt; answer(&mut gate, text.as_slice()), answered);
-        }
-        let asked = gate.log().asked.as_slice();
-        assert_eq!(rt; asked.len(), 4, "the failed ask isn't in the log");
-        assert_eq!(rt; asked[1].as_slice(), b"c".as_slice());
-        Ok(())
-    }
-}
