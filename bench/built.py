@@ -1,0 +1,29 @@
+"""Proves and builds the programs that the benches run, where they aren't built yet or something was
+changed. The first time this takes a quarter of an hour or more."""
+import os
+import subprocess
+import sys
+import tempfile
+
+TOP = os.path.dirname(os.path.dirname(os.path.realpath(__file__)))
+PERSES = os.path.join(TOP, "perses")
+LEXER = os.path.join(TOP, "crates", "lexer_bench")
+LEXER_BENCH = os.path.join(LEXER, "out", "lexer_bench")
+
+
+def build_perses():
+    """Builds `perses`, which says itself how far it is."""
+    example = os.path.join(TOP, "examples", "grammars", "JSON.g4")
+    done = subprocess.run([PERSES, "normal", "--grammar", example], stdout=subprocess.DEVNULL)
+    if done.returncode != 0:
+        sys.exit("perses was not built")
+
+
+def build_lexer_bench():
+    """Builds `lexer_bench`, by running it once on an empty text."""
+    print("proving and building lexer_bench, where it isn't built yet", file=sys.stderr)
+    with tempfile.NamedTemporaryFile() as text:
+        words = ["rt", "run", "--", text.name, "1"]
+        done = subprocess.run(words, cwd=LEXER, stdin=subprocess.DEVNULL, capture_output=True)
+    if done.returncode != 0:
+        sys.exit(done.stdout.decode() + done.stderr.decode())
