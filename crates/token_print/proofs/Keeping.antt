@@ -4,7 +4,7 @@ use Rattle.std.specs.List.{filter_map}
 use Rattle.std.specs.Str.{chars, IsUtf8}
 use Rattle.grammar_tree.specs.Written.{WrittenGrammar}
 use Rattle.grammar_tree.specs.Lexes.{Piece, PlacedToken, StopsAt}
-use Rattle.lexer.specs.Tokens.{HasTokens, TellsStop, token_of}
+use Rattle.lexer.specs.Tokens.{HasTokens, ReportsStop, token_of}
 use Rattle.lexer.specs.declared.token.LexFault.{LexFault}
 use Rattle.lexer.specs.declared.token.Token.{Token}
 use Rattle.token_laws.specs.Spelling.{kind_and_spelling, kinds_and_spellings}
@@ -18,9 +18,9 @@ module _ (G : WrittenGrammar) (text : List ℕ) (spelled : List Piece) where
   spells found utf8 has =
       (λ e. record { utf8 = utf8; tokens = found; has = has; same = e }, λ s. ap (map (kind_and_spelling text)) (unique G (chars text) found s.tokens has s.has) ∙ s.same)
 
-  pub never : (read : List ℕ) (fault : LexFault) (offset : ℕ) → read ≡ text → fault ≡ LexFault.NoToken offset → TellsStop G (chars read) fault → ¬ SpellsTokens G text spelled
+  pub never : (read : List ℕ) (fault : LexFault) (offset : ℕ) → read ≡ text → fault ≡ LexFault.NoToken offset → ReportsStop G (chars read) fault → ¬ SpellsTokens G text spelled
   never read fault offset same is stop s =
-      let P : LexFault → Type 0 = λ f. TellsStop G (chars read) f in
+      let P : LexFault → Type 0 = λ f. ReportsStop G (chars read) f in
       let Q : List ℕ → Type 0 = λ x. StopsAt G (chars x) offset in no_stop G (chars text) s.tokens offset s.has (subst Q same (subst P is stop))
 
 both : {A B C : Type 0} → A ↔ B → B ↔ C → A ↔ C
