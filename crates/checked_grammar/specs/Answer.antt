@@ -15,8 +15,13 @@ pub record Spells (bytes : List ℕ) (wanted : Option (List ℕ)) (it : CheckedG
   pub start : start_of it.grammar wanted ≡ Some it.start
   pub checked : IsChecked it
 
--- The first fault of the bytes: that of the text, or else, of the grammar that it spells, the first one in the table. Out of memory says nothing of them.
+-- The bytes spell this grammar, and no other.
+pub record SpellsOnly (bytes : List ℕ) (G : WrittenGrammar) : Type 0 where
+  pub text : IsProfile bytes G
+  pub only : (other : WrittenGrammar) → IsProfile bytes other → G ≡ other
+
+-- The first fault of the bytes: that of the text, or else, of the one grammar that it spells, the first one in the table. Out of memory says nothing of them.
 abbrev pub IsGrammarFault : List ℕ → Option (List ℕ) → GrammarFault → Type 0
 IsGrammarFault bytes wanted (Read fault) = (fault ≢ read.Memory) × IsFaultOf bytes (Err fault)
-IsGrammarFault bytes wanted (Check fault) = (G : WrittenGrammar) × IsProfile bytes G × IsFirstInTable G wanted fault
+IsGrammarFault bytes wanted (Check fault) = (G : WrittenGrammar) × SpellsOnly bytes G × IsFirstInTable G wanted fault
 IsGrammarFault bytes wanted Memory = ⊤

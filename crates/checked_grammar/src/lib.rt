@@ -4,7 +4,9 @@
 #![tactic(auto)]
 
 mod fault;
+mod laws;
 mod reading;
 
 pub use fault::GrammarFault;
+pub use laws::grammar_fault_once;
 pub use reading::checked_grammar;

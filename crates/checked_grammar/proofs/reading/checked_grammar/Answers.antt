@@ -19,5 +19,5 @@ returns-in-Err-check c =
     record {
       ok = tt;
       only = λ it is. absurd (no_text c.args.bytes.now (wanted_in c.args.start) G c.in-Ok.ensures.only c.in-Err-check.fault first it is);
-      fault = (G, c.in-Ok.ensures.ok, first);
+      fault = (G, record { text = c.in-Ok.ensures.ok; only = c.in-Ok.ensures.only }, first);
     }
