@@ -25,3 +25,19 @@ test "$status" = 4
 status=0
 "$program" reduce --mode lines --input input --output /dev/full --script script > line || status=$?
 test "$status $(cat line)" = '4 perses: cannot write'
+# A keep text stays in each candidate that is asked, also where the input isn't UTF-8, and eight of
+# them are allowed.
+printf '\377\nx\n\376' > bytes
+printf '#!/bin/sh\nexit 0\n' > always
+chmod 755 always
+"$program" reduce --mode lines --input bytes --output kept --script always --keep x
+test "$(od -An -c kept | tr -d ' ')" = 'x\n'
+"$program" reduce --mode lines --input bytes --output kept --script always \
+    --keep x --keep x --keep x --keep x --keep x --keep x --keep x --keep x
+# No file changes where a keep text is missing.
+printf old > kept
+rm -r perses-work
+status=0
+"$program" reduce --mode lines --input bytes --output kept --script always --keep x --keep y > line || status=$?
+test "$status $(cat line) $(cat kept)" = '9 perses: keep text 2 is missing old'
+test ! -e perses-work

@@ -24,3 +24,17 @@ pub not_longer : (limit : ℕ) (P : List ℕ → Type 0) (content : Option FileC
 not_longer limit P None within longer = within
 not_longer limit P (Some None) within longer = within
 not_longer limit P (Some (Some held)) within longer = let same : length held ≡ length longer.0 = ap length (same_Some held longer.0 longer.1) in omega (arith, same, within.0, longer.2)
+
+-- a file that was read, or is longer than a limit, is there
+pub not_missing : (content : Option FileContent) (bytes : List ℕ) → Holds bytes content → content ≡ Some None → ⊥
+not_missing None bytes here is = absurd (cc is)
+not_missing (Some None) bytes here is = absurd (cc here)
+not_missing (Some (Some held)) bytes here is = absurd (cc is)
+
+pub read_not_missing : {limit : ℕ} {content : Option FileContent} {P : List ℕ → Type 0} → WasRead limit content P → content ≡ Some None → ⊥
+read_not_missing {content = content} read = not_missing content read.bytes read.read
+
+pub longer_not_missing : (limit : ℕ) (content : Option FileContent) → IsLonger limit content → content ≡ Some None → ⊥
+longer_not_missing limit None longer is = absurd (cc is)
+longer_not_missing limit (Some None) longer is = absurd (cc longer.1)
+longer_not_missing limit (Some (Some held)) longer is = absurd (cc is)

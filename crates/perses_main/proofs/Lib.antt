@@ -6,3 +6,4 @@ pub mod NormalLemmas
 pub mod CommandLemmas
 pub mod ReduceByStatusLemmas
 pub mod NormalByStatusLemmas
+pub mod WordLemmas

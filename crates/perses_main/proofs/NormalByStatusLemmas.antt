@@ -2,14 +2,14 @@
 use Rattle.std.proofs.Common.{◌≡◌, ℕ, List, [], ◌∷◌, refl}
 use Rattle.std.proofs.lemmas.Bool.{false≢true}
 use Rattle.edge_io.specs.Files.{IsLonger}
-use Rattle.perses_main.specs.declared.status.ReadFile.TheVariants as read_file
+use Rattle.perses_main.specs.declared.status.NamedFile.TheVariants as read_file
 use Rattle.perses_main.specs.declared.status.Refusal.TheVariants.{Memory, CannotRead, TooLong}
 use Rattle.perses_main.specs.Normal.{IsFaultIn, IsNormalOf, NormalEnds}
-use Rattle.perses_main.specs.Normal.NormalEnds.{done, memory, unread, cut, faulty, too_long}
+use Rattle.perses_main.specs.Normal.NormalEnds.{done, memory, unread, unput, faulty, too_long}
 use Rattle.perses_main.specs.NormalByStatus.{NormalByStatus}
 use Rattle.perses_main.specs.ReduceByStatus.{IsOneOf}
 use Rattle.perses_main.specs.Status.{PutsRefusal, fault_line}
-use Rattle.perses_main.specs.World.{Cuts, Failed, Puts, PutsLine, SeenFiles, SeenOut, WasRead, grammar_limit}
+use Rattle.perses_main.specs.World.{PutsPrefix, CallFailed, Puts, PutsLine, SeenFiles, SeenOut, WasRead, grammar_limit}
 
 module _ (grammar : List ℕ) (files files' : SeenFiles) (out out' : SeenOut) where
   abbrev Ends : ℕ → Type 0
@@ -19,13 +19,13 @@ module _ (grammar : List ℕ) (files files' : SeenFiles) (out out' : SeenOut) wh
   is_done (done text read quiet put) is = (text, read, put)
   is_done _ is = absurd (cc is)
 
-  is_unread : {status : ℕ} → Ends status → status ≡ 3 → Failed files files'
+  is_unread : {status : ℕ} → Ends status → status ≡ 3 → CallFailed files files'
   is_unread (unread failed put) is = failed
   is_unread _ is = absurd (cc is)
 
-  is_cut : {status : ℕ} → Ends status → status ≡ 4 → (text : List ℕ) × WasRead grammar_limit (files.shown grammar) (λ bytes. IsNormalOf bytes text) × Cuts text out out'
-  is_cut (cut text read quiet put) is = (text, read, put)
-  is_cut _ is = absurd (cc is)
+  is_unput : {status : ℕ} → Ends status → status ≡ 4 → (text : List ℕ) × WasRead grammar_limit (files.shown grammar) (λ bytes. IsNormalOf bytes text) × PutsPrefix text out out'
+  is_unput (unput text read quiet put) is = (text, read, put)
+  is_unput _ is = absurd (cc is)
 
   is_faulty : {status : ℕ} → Ends status → status ≡ 5 → (text : List ℕ) × WasRead grammar_limit (files.shown grammar) (λ bytes. IsFaultIn bytes text) × PutsLine (fault_line text) out out'
   is_faulty (faulty text read quiet put) is = (text, read, put)
@@ -39,7 +39,7 @@ module _ (grammar : List ℕ) (files files' : SeenFiles) (out out' : SeenOut) wh
   is_known (done text read quiet put) = refl
   is_known (memory quiet put) = refl
   is_known (unread failed put) = refl
-  is_known (cut text read quiet put) = refl
+  is_known (unput text read quiet put) = refl
   is_known (faulty text read quiet put) = refl
   is_known (too_long longer quiet put) = refl
 
@@ -54,8 +54,8 @@ normal_by_status grammar files files' out out' status ends = record {
   known = is_known grammar files files' out out' ends;
   done = is_done grammar files files' out out' ends;
   unread = is_unread grammar files files' out out' ends;
-  cut = is_cut grammar files files' out out' ends;
+  unput = is_unput grammar files files' out out' ends;
   fault = is_faulty grammar files files' out out' ends;
   too_long = is_too_long grammar files files' out out' ends;
-  reported = puts_line grammar files files' out out' ends;
+  line = puts_line grammar files files' out out' ends;
 }

@@ -10,12 +10,12 @@ use Rattle.checked_grammar.specs.declared.fault.GrammarFault.{GrammarFault}
 use Rattle.checked_grammar.specs.declared.fault.GrammarFault.TheVariants as grammar_fault
 use Rattle.perses_main.specs.declared.status.Refusal.{Refusal}
 use Rattle.perses_main.specs.declared.status.Refusal.TheVariants.{Memory, CannotRead, Grammar, TooLong}
-use Rattle.perses_main.specs.declared.status.ReadFile.TheVariants as read_file
+use Rattle.perses_main.specs.declared.status.NamedFile.TheVariants as read_file
 use Rattle.perses_main.specs.Normal.{IsFaultRefusal, IsGrammarText, IsNormalOf, NormalEnds, NormalFails, NormalMustEnd, PrintsNormal}
-use Rattle.perses_main.specs.Normal.NormalEnds.{done, memory, unread as cannot_read, cut, faulty, too_long}
-use Rattle.perses_main.specs.Status.{EndsRefused, EndsWith, IsGrammarRefusal, ReadFails}
+use Rattle.perses_main.specs.Normal.NormalEnds.{done, memory, unread as cannot_read, unput, faulty, too_long}
+use Rattle.perses_main.specs.Status.{EndsRefused, EndsWithAnswer, IsGrammarRefusal, ReadFails}
 use Rattle.perses_main.specs.World.{IsQuiet, PutsLine, SeenFiles, SeenOut, WasRead, grammar_limit}
-use Rattle.perses_main.proofs.FileLemmas.{not_both, not_longer, read_not_over}
+use Rattle.perses_main.proofs.FileLemmas.{not_both, not_longer, read_not_over, longer_not_missing, read_not_missing}
 
 -- a well-formed grammar that so few bytes spell has its numbered kinds
 is_spelled : (bytes : List ℕ) → length bytes ≤ grammar_limit → (is : IsGrammarText bytes) → Spells bytes None (record { grammar = is.grammar; kinds = kinds_of is.grammar; start = is.start })
@@ -60,10 +60,10 @@ module _ (grammar : List ℕ) (files files' : SeenFiles) where
     -- the end of the command
     pub normal_ends : {A : Type 0} (outcome : Result (Vec ℕ A) Refusal) (status : ℕ) → IfOk outcome (λ form. WasRead grammar_limit (files.shown grammar) (λ bytes. IsNormalOf bytes form.items)) → OnOk outcome (IsQuiet files files')
         → IfErr outcome (λ refusal. NormalFails grammar files files' refusal)
-        → MatchResult outcome (λ answer. EndsWith answer.items out out' status) (λ refusal. EndsRefused out out' status refusal) → NormalEnds grammar files files' out out' status
+        → MatchResult outcome (λ answer. EndsWithAnswer answer.items out out' status) (λ refusal. EndsRefused out out' status refusal) → NormalEnds grammar files files' out out' status
     normal_ends (Ok form) status formed quiet fails (inl (is, put)) = subst (NormalEnds grammar files files' out out') (sym is) (done form.items formed quiet put)
-    normal_ends (Ok form) status formed quiet fails (inr (is, put)) = subst (NormalEnds grammar files files' out out') (sym is) (cut form.items formed quiet put)
-    normal_ends (Err refusal) status formed quiet fails end = subst (NormalEnds grammar files files' out out') (sym end.is) (fails out out' end.reported)
+    normal_ends (Ok form) status formed quiet fails (inr (is, put)) = subst (NormalEnds grammar files files' out out') (sym is) (unput form.items formed quiet put)
+    normal_ends (Err refusal) status formed quiet fails end = subst (NormalEnds grammar files files' out out') (sym end.status_is) (fails out out' end.line)
 
     is_grammar : (bytes text : List ℕ) → IsNormalOf bytes text → IsGrammarText bytes
     is_grammar bytes text is = record { grammar = is.grammar.grammar; start = is.grammar.start; spelled = is.spelled.text; first = is.spelled.start; well_formed = is.spelled.checked.well_formed }
@@ -72,6 +72,7 @@ module _ (grammar : List ℕ) (files files' : SeenFiles) where
     normal_must_end : {status : ℕ} → NormalEnds grammar files files' out out' status → NormalMustEnd grammar files files' out out' status
     normal_must_end (done text is quiet put) = record {
       over = λ over. absurd (read_not_over is over);
+      missing = λ none. absurd (read_not_missing is none);
       faulty = λ shown. absurd (not_both grammar_limit (λ bytes. ¬ IsGrammarText bytes) IsGrammarText (λ bytes no yes. no yes) _ shown is.bytes is.read (is_grammar is.bytes text is.holds));
       complete = λ shown files_fine out_fine. inl refl;
       files_failed = λ failed. absurd (failed quiet);
@@ -79,6 +80,7 @@ module _ (grammar : List ℕ) (files files' : SeenFiles) where
     }
     normal_must_end (memory quiet put) = record {
       over = λ over. inr (inr refl);
+      missing = λ none. inr refl;
       faulty = λ shown. inr (inr refl);
       complete = λ shown files_fine out_fine. inr refl;
       files_failed = λ failed. absurd (failed quiet);
@@ -86,13 +88,15 @@ module _ (grammar : List ℕ) (files files' : SeenFiles) where
     }
     normal_must_end (cannot_read failed put) = record {
       over = λ over. inr (inl refl);
+      missing = λ none. inl refl;
       faulty = λ shown. inr (inl refl);
       complete = λ shown files_fine out_fine. absurd (files_fine failed);
       files_failed = λ failed. refl;
       out_failed = λ failed is. cc is;
     }
-    normal_must_end (cut text is quiet put) = record {
+    normal_must_end (unput text is quiet put) = record {
       over = λ over. absurd (read_not_over is over);
+      missing = λ none. absurd (read_not_missing is none);
       faulty = λ shown. absurd (not_both grammar_limit (λ bytes. ¬ IsGrammarText bytes) IsGrammarText (λ bytes no yes. no yes) _ shown is.bytes is.read (is_grammar is.bytes text is.holds));
       complete = λ shown files_fine out_fine. absurd (out_fine put.failed);
       files_failed = λ failed. absurd (failed quiet);
@@ -100,6 +104,7 @@ module _ (grammar : List ℕ) (files files' : SeenFiles) where
     }
     normal_must_end (faulty text is quiet put) = record {
       over = λ over. absurd (read_not_over is over);
+      missing = λ none. absurd (read_not_missing is none);
       faulty = λ shown. inl refl;
       complete = λ shown files_fine out_fine. absurd (not_both grammar_limit IsGrammarText (λ bytes. ¬ IsGrammarText bytes) (λ bytes yes no. no yes) _ shown is.bytes is.read is.holds.refused);
       files_failed = λ failed. absurd (failed quiet);
@@ -107,6 +112,7 @@ module _ (grammar : List ℕ) (files files' : SeenFiles) where
     }
     normal_must_end (too_long longer quiet put) = record {
       over = λ over. inl refl;
+      missing = λ none. absurd (longer_not_missing grammar_limit _ longer none);
       faulty = λ shown. absurd (not_longer grammar_limit _ _ shown longer);
       complete = λ shown files_fine out_fine. absurd (not_longer grammar_limit _ _ shown longer);
       files_failed = λ failed. absurd (failed quiet);

@@ -14,7 +14,7 @@ use Rattle.normal_form.specs.Print.{printed}
 use Rattle.perses_main.specs.declared.status.Refusal.{Refusal}
 use Rattle.perses_main.specs.declared.status.Refusal.TheVariants.{Memory, Grammar}
 use Rattle.perses_main.specs.Status.{fault_line, line_of, status_of}
-use Rattle.perses_main.specs.World.{Cuts, Failed, IsOver, IsQuiet, IsShownWithin, Puts, PutsLine, Reports, SeenFiles, SeenOut, WasRead, grammar_limit}
+use Rattle.perses_main.specs.World.{PutsPrefix, CallFailed, IsOver, IsQuiet, IsShownWithin, Puts, PutsLine, PutsMessage, SeenFiles, SeenOut, WasRead, grammar_limit}
 
 -- The bytes spell a grammar that is well-formed for its first parser rule.
 pub record IsGrammarText (bytes : List ℕ) : Type 0 where
@@ -49,38 +49,40 @@ pub data NormalEnds (grammar : List ℕ) (files files' : SeenFiles) (out out' : 
       → NormalEnds grammar files files' out out' 0
   -- out of memory, for which there is no evidence
   memory : (quiet : IsQuiet files files')
-      → (reported : Reports (codes "out of memory") out out')
+      → (line : PutsMessage (codes "out of memory") out out')
       → NormalEnds grammar files files' out out' 1
   -- a call of the files failed, and the line names the grammar
-  unread : (failed : Failed files files')
-      → (reported : Reports (codes "cannot read grammar") out out')
+  unread : (failed : CallFailed files files')
+      → (line : PutsMessage (codes "cannot read grammar") out out')
       → NormalEnds grammar files files' out out' 3
   -- the put failed: some prefix of the printed normal form was put, and nothing more
-  cut : (text : List ℕ)
+  unput : (text : List ℕ)
       → (read : WasRead grammar_limit (files.shown grammar) (λ bytes. IsNormalOf bytes text))
       → (quiet : IsQuiet files files')
-      → (put : Cuts text out out')
+      → (put : PutsPrefix text out out')
       → NormalEnds grammar files files' out out' 4
   -- the file has no well-formed grammar, and the line says why
   faulty : (text : List ℕ)
       → (read : WasRead grammar_limit (files.shown grammar) (λ bytes. IsFaultIn bytes text))
       → (quiet : IsQuiet files files')
-      → (reported : PutsLine (fault_line text) out out')
+      → (line : PutsLine (fault_line text) out out')
       → NormalEnds grammar files files' out out' 5
   -- the grammar is longer than its limit
   too_long : (longer : IsLonger grammar_limit (files.shown grammar))
       → (quiet : IsQuiet files files')
-      → (reported : Reports (codes "grammar is too long") out out')
+      → (line : PutsMessage (codes "grammar is too long") out out')
       → NormalEnds grammar files files' out out' 10
 
 -- Which status it has to be. This follows from how `normal` ends.
 pub record NormalMustEnd (grammar : List ℕ) (files files' : SeenFiles) (out out' : SeenOut) (status : ℕ) : Type 0 where
   -- a grammar over its limit is refused
   pub over : IsOver grammar_limit (files.shown grammar) → (status ≡ 10) ⊎ ((status ≡ 3) ⊎ (status ≡ 1))
+  -- a grammar that isn't there can't be read
+  pub missing : files.shown grammar ≡ Some None → (status ≡ 3) ⊎ (status ≡ 1)
   -- a faulty grammar within its limit is refused as such
   pub faulty : IsShownWithin grammar_limit (files.shown grammar) (λ bytes. ¬ IsGrammarText bytes) → (status ≡ 5) ⊎ ((status ≡ 3) ⊎ (status ≡ 1))
   -- a well-formed grammar within its limit has its normal form put, where no call failed
-  pub complete : IsShownWithin grammar_limit (files.shown grammar) (λ bytes. IsGrammarText bytes) → ¬ Failed files files' → ¬ Failed out out' → (status ≡ 0) ⊎ (status ≡ 1)
+  pub complete : IsShownWithin grammar_limit (files.shown grammar) (λ bytes. IsGrammarText bytes) → ¬ CallFailed files files' → ¬ CallFailed out out' → (status ≡ 0) ⊎ (status ≡ 1)
   -- where a call of the files failed, the grammar wasn't read
   pub files_failed : ¬ IsQuiet files files' → status ≡ 3
   -- where the put failed, it was that of the normal form (4) or of another status's line

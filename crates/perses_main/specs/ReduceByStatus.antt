@@ -1,13 +1,14 @@
 -- What each status of `reduce` means, read off how it ends.
-use Rattle.std.specs.Prelude.{◌≡◌, ◌≢◌, ◌⊎◌, ℕ, ◌==◌, List, [], ◌∷◌, IsTrue}
+use Rattle.std.specs.Prelude.{◌≡◌, ◌≢◌, ◌⊎◌, ℕ, ◌+◌, ◌==◌, List, [], ◌∷◌, Some, IsTrue}
 use Rattle.std.specs.List.{list_any}
+use Rattle.keep_guard.specs.Keep.{first_missing}
 use Rattle.edge_io.specs.Files.{IsLonger, SameFiles, SameOthers}
 use Rattle.verdict_table.specs.declared.record.Record.{Record}
-use Rattle.perses_main.specs.declared.status.ReadFile.TheVariants as read
-use Rattle.perses_main.specs.Reduce.{IsReduced, OnlyNo, ReduceEnds, ReducesTo}
-use Rattle.perses_main.specs.Status.{PutsRefusal}
-use Rattle.perses_main.specs.Words.{Paths}
-use Rattle.perses_main.specs.World.{Failed, SeenOut, Unasked, World, input_limit}
+use Rattle.perses_main.specs.declared.status.NamedFile.TheVariants as read
+use Rattle.perses_main.specs.Reduce.{InputRead, IsReduced, OnlyNo, ReduceEnds, ReducesTo}
+use Rattle.perses_main.specs.Status.{PutsRefusal, keep_text}
+use Rattle.perses_main.specs.Words.{ReduceOptions}
+use Rattle.perses_main.specs.World.{CallFailed, GateUntouched, PutsMessage, SeenOut, World, input_limit}
 
 -- the status is one of these
 abbrev pub IsOneOf : List ℕ → ℕ → Type 0
@@ -18,19 +19,20 @@ abbrev pub PutsItsLine : SeenOut → SeenOut → ℕ → Type 0
 PutsItsLine out out' status = ((status ≡ 0) × (out' ≡ out)) ⊎ PutsRefusal read.Input out out' status
 
 -- What `reduce` has done, by the number of its status.
-pub record ReduceMeans (paths : Paths) (records : List Record) (old new : World) (status : ℕ) : Type 0 where
-  pub known : IsOneOf (0 ∷ 1 ∷ 3 ∷ 4 ∷ 8 ∷ 10 ∷ 11 ∷ []) status
-  pub done : status ≡ 0 → IsReduced (old.files.shown paths.input) (new.files.shown paths.output) records
-  pub unread : status ≡ 3 → Failed old.files new.files
-  pub write : status ≡ 4 → Failed old.files new.files
-  pub tried : status ≡ 4 → (text : List ℕ) × ReducesTo (old.files.shown paths.input) records text
+pub record ReduceMeans (options : ReduceOptions) (records : List Record) (old new : World) (status : ℕ) : Type 0 where
+  pub known : IsOneOf (0 ∷ 1 ∷ 3 ∷ 4 ∷ 8 ∷ 9 ∷ 10 ∷ 11 ∷ []) status
+  pub done : status ≡ 0 → IsReduced options old.files new.files records
+  pub unread : status ≡ 3 → CallFailed old.files new.files
+  pub write : status ≡ 4 → CallFailed old.files new.files
+  pub tried : status ≡ 4 → (text : List ℕ) × ReducesTo options old.files records text
   pub not_interesting : status ≡ 8 → OnlyNo records
-  pub too_long : status ≡ 10 → IsLonger input_limit (old.files.shown paths.input)
-  pub script : status ≡ 11 → Failed old.gate new.gate
-  pub early : (status ≡ 3) ⊎ (status ≡ 10) → Unasked records old.gate new.gate
-  pub others : SameOthers old.files.shown new.files.shown paths.output
+  pub keep_missing : status ≡ 9 → (index : ℕ) × InputRead options old.files (λ start. first_missing options.keeps start ≡ Some index) × PutsMessage (keep_text (index + 1)) old.out new.out
+  pub too_long : status ≡ 10 → IsLonger input_limit (old.files.shown options.input)
+  pub script : status ≡ 11 → CallFailed old.gate new.gate
+  pub early : ((status ≡ 3) ⊎ ((status ≡ 9) ⊎ (status ≡ 10))) → GateUntouched records old.gate new.gate
+  pub others : SameOthers old.files.shown new.files.shown options.output
   pub unwritten : status ≢ 0 → status ≢ 4 → SameFiles old.files.shown new.files.shown
-  pub reported : PutsItsLine old.out new.out status
+  pub line : status ≢ 9 → PutsItsLine old.out new.out status
 
 abbrev pub ReduceByStatus : Type 0
-ReduceByStatus = (paths : Paths) (records : List Record) (old new : World) (status : ℕ) → ReduceEnds paths records old new status → ReduceMeans paths records old new status
+ReduceByStatus = (options : ReduceOptions) (records : List Record) (old new : World) (status : ℕ) → ReduceEnds options records old new status → ReduceMeans options records old new status

@@ -1,20 +1,21 @@
 -- The words that are a command line: options with a value each, in a fixed order.
-use Rattle.std.specs.Prelude.{ℕ, ◌==◌, not, ◌&&◌, Bool, false, List, [], ◌∷◌, Option, Some, None, if◌then◌else◌, codes, length, option_map}
+use Rattle.std.specs.Prelude.{ℕ, zero, suc, ◌==◌, not, ◌&&◌, Bool, true, false, List, [], ◌∷◌, Option, Some, None, if◌then◌else◌, codes, length, map, option_map, string_bytes}
 use Rattle.std.specs.List.{list_any}
 use Rattle.std.specs.Str.{bytes_eq}
 use Rattle.perses_main.specs.declared.words.ReduceLine.{ReduceLine}
 use Rattle.perses_main.specs.declared.words.CommandLine.{CommandLine}
 use Rattle.perses_main.specs.declared.words.CommandLine.TheVariants as read
 
--- the paths that a command line of `reduce` gives
-pub record Paths : Type 0 where
+-- what a command line of `reduce` gives: the paths of the input, the output and the script, and the keep texts
+pub record ReduceOptions : Type 0 where
   pub input : List ℕ
   pub output : List ℕ
   pub script : List ℕ
+  pub keeps : List (List ℕ)
 
 -- what a command line asks for: a file is reduced, or the normal form of the grammar in a file is printed
 pub data Command : Type 0 where
-  reduce : Paths → Command
+  reduce : ReduceOptions → Command
   normal : List ℕ → Command
 
 -- a value isn't empty and doesn't begin with `-` (45)
@@ -42,12 +43,25 @@ on_option next (Some t) = next t
 abbrev pub at_end : {X : Type 0} → X → List (List ℕ) → Option X
 at_end given words = if length words == 0 then Some given else None
 
--- `--mode lines --input F --output F --script F`
-abbrev pub reduce_line : List (List ℕ) → Option Paths
+-- the words are `--keep T`, at most so many times
+abbrev pub are_keeps : ℕ → List (List ℕ) → Bool
+are_keeps most [] = true
+are_keeps most (word ∷ []) = false
+are_keeps zero (word ∷ (value ∷ rest)) = false
+are_keeps (suc most) (word ∷ (value ∷ rest)) = bytes_eq word (codes "--keep") && is_value value && are_keeps most rest
+
+-- the keep texts of such words
+abbrev pub keeps_in : List (List ℕ) → List (List ℕ)
+keeps_in [] = []
+keeps_in (word ∷ []) = []
+keeps_in (word ∷ (value ∷ rest)) = value ∷ keeps_in rest
+
+-- `--mode lines --input F --output F --script F`, and then at most 8 times `--keep T`
+abbrev pub reduce_line : List (List ℕ) → Option ReduceOptions
 reduce_line words =
     on_option (λ mode. if bytes_eq mode.value (codes "lines") then
     on_option (λ input. on_option (λ output. on_option (λ script.
-    at_end (record { input = input.value; output = output.value; script = script.value }) script.rest)
+    if are_keeps 8 script.rest then Some (record { input = input.value; output = output.value; script = script.value; keeps = keeps_in script.rest }) else None)
     (first_option (codes "--script") output.rest)) (first_option (codes "--output") input.rest)) (first_option (codes "--input") mode.rest)
     else None) (first_option (codes "--mode") words)
 
@@ -56,21 +70,21 @@ abbrev pub normal_line : List (List ℕ) → Option (List ℕ)
 normal_line words = on_option (λ grammar. at_end grammar.value grammar.rest) (first_option (codes "--grammar") words)
 
 -- the words as a command line, if they are one; the program's name, which is the first, isn't looked at
-abbrev pub command_of : List (List ℕ) → Option Command
-command_of [] = None
-command_of (program ∷ []) = None
-command_of (program ∷ (command ∷ words)) =
+abbrev pub command_line_of : List (List ℕ) → Option Command
+command_line_of [] = None
+command_line_of (program ∷ []) = None
+command_line_of (program ∷ (command ∷ words)) =
     if bytes_eq command (codes "reduce") then option_map Command.reduce (reduce_line words)
     else if bytes_eq command (codes "normal") then option_map Command.normal (normal_line words)
     else None
 
--- the paths that were read
-abbrev pub paths_of : ReduceLine → Paths
-paths_of line = record { input = line.input.now; output = line.output.now; script = line.script.now }
+-- the options that were read
+abbrev pub options_of : ReduceLine → ReduceOptions
+options_of line = record { input = line.input.now; output = line.output.now; script = line.script.now; keeps = keeps_in (map string_bytes line.keeps.now) }
 
 -- the command line that was read
 abbrev pub command_read : CommandLine → Command
-command_read (read.Reduce line) = Command.reduce (paths_of line)
+command_read (read.Reduce line) = Command.reduce (options_of line)
 command_read (read.Normal grammar) = Command.normal grammar.now
 
 -- a slash (47) is in the path

@@ -32,8 +32,8 @@ pub record World : Type 0 where
   pub out : SeenOut
 
 -- a call of the object failed
-abbrev pub Failed : {T : Type 0} → Seen T → Seen T → Type 0
-Failed old new = Rose old.faults new.faults
+abbrev pub CallFailed : {T : Type 0} → Seen T → Seen T → Type 0
+CallFailed old new = Rose old.faults new.faults
 
 -- no call of the object failed
 abbrev pub IsQuiet : {T : Type 0} → Seen T → Seen T → Type 0
@@ -45,7 +45,7 @@ pub record FilesKept (old new : SeenFiles) : Type 0 where
   pub quiet : IsQuiet old new
 
 -- the gate was not reached: there is no record, and it is as before
-pub record Unasked (records : List Record) (old new : SeenGate) : Type 0 where
+pub record GateUntouched (records : List Record) (old new : SeenGate) : Type 0 where
   pub no_records : records ≡ []
   pub same : new ≡ old
 
@@ -55,21 +55,21 @@ pub record Puts (piece : List ℕ) (old new : SeenOut) : Type 0 where
   pub quiet : IsQuiet old new
 
 -- some prefix of the piece was put, since the put failed
-pub record Cuts (piece : List ℕ) (old new : SeenOut) : Type 0 where
+pub record PutsPrefix (piece : List ℕ) (old new : SeenOut) : Type 0 where
   pub prefix : GrewByPrefix piece old.shown new.shown
-  pub failed : Failed old new
+  pub failed : CallFailed old new
 
 -- the line was put, or some prefix of it where the put failed
 abbrev pub PutsLine : List ℕ → SeenOut → SeenOut → Type 0
-PutsLine line old new = Puts line old new ⊎ Cuts line old new
+PutsLine line old new = Puts line old new ⊎ PutsPrefix line old new
 
 -- a line on `out`: the program's name, the text, and a newline (10)
 abbrev pub line_of_text : List ℕ → List ℕ
 line_of_text text = codes "perses: " ++ (text ++ 10 ∷ [])
 
 -- the line of this text was put, or some prefix of it where the put failed
-abbrev pub Reports : List ℕ → SeenOut → SeenOut → Type 0
-Reports text old new = PutsLine (line_of_text text) old new
+abbrev pub PutsMessage : List ℕ → SeenOut → SeenOut → Type 0
+PutsMessage text old new = PutsLine (line_of_text text) old new
 
 -- the most bytes of an input, and of a grammar
 abbrev pub input_limit : ℕ
@@ -88,10 +88,6 @@ pub record WasRead (limit : ℕ) (content : Option FileContent) (P : List ℕ �
 -- the content is visible, the file is there and has at most so many bytes, and the fact holds of them
 abbrev pub IsShownWithin : ℕ → Option FileContent → (List ℕ → Type 0) → Type 0
 IsShownWithin limit content P = IsSomeAnd content (λ file. IsSomeAnd file (λ bytes. (length bytes ≤ limit) × P bytes))
-
--- the content is visible, the file is there and has at most so many bytes
-abbrev pub IsWithin : ℕ → Option FileContent → Type 0
-IsWithin limit content = IsShownWithin limit content (λ bytes. Unit {0})
 
 -- the content is visible, the file is there and has more bytes than this
 abbrev pub IsOver : ℕ → Option FileContent → Type 0

@@ -1,8 +1,8 @@
 //! The top call.
 
 ghost use Rattle.std.specs.Prelude.{◌≡◌, ◌↔◌, None, map, string_bytes};
-ghost use Rattle.perses_main.specs.Call.{Does};
-ghost use Rattle.perses_main.specs.Words.{command_of};
+ghost use Rattle.perses_main.specs.Call.{RunsCommand};
+ghost use Rattle.perses_main.specs.Words.{command_line_of};
 ghost use Rattle.perses_main.specs.World.{seen};
 
 use crate::end::{Ended, end_refused};
@@ -15,7 +15,7 @@ use script_gate::Gate;
 use std::alloc::Global;
 use verdict_table::Records;
 
-/// Does what the words ask for. What it promises at each status is stated with the command:
+/// RunsCommand what the words ask for. What it promises at each status is stated with the command:
 /// `ReduceEnds` for `reduce`, `NormalEnds` for `normal`. Words that are no command line have status
 /// 2, and no others.
 pub fn perses<F: Files, G: Gate, O: Sink>(
@@ -25,11 +25,11 @@ pub fn perses<F: Files, G: Gate, O: Sink>(
     gate: &mut G,
     out: &mut O,
 ) -> Ended
-    ensures does { Does G.may_say result.records
+    ensures runs { RunsCommand G.may_say result.records
         (record { files = seen F.content F.faults files.old; gate = seen G.log G.faults gate.old; out = seen O.put_so_far O.faults out.old })
         (record { files = seen F.content F.faults files.new; gate = seen G.log G.faults gate.new; out = seen O.put_so_far O.faults out.new })
-        result.status (command_of (map string_bytes words.now)) }
-    ensures usage { (result.status ≡ 2) ↔ (command_of (map string_bytes words.now) ≡ None) }
+        result.status (command_line_of (map string_bytes words.now)) }
+    ensures usage { (result.status ≡ 2) ↔ (command_line_of (map string_bytes words.now) ≡ None) }
 {
     match read_words(words) {
         None => Ended {

@@ -1,7 +1,7 @@
 //! How a command ends: what it puts on `out`, and its status.
 
 ghost use Rattle.std.specs.Prelude.{◌≡◌, MatchResult};
-ghost use Rattle.perses_main.specs.Status.{EndsRefused, EndsSilent, EndsWith};
+ghost use Rattle.perses_main.specs.Status.{EndsRefused, EndsSilent, EndsWithAnswer};
 ghost use Rattle.perses_main.specs.World.{seen};
 
 use crate::status::Refusal;
@@ -41,7 +41,7 @@ pub fn end<O: Sink>(out: &mut O, outcome: &Result<(), Refusal>) -> u8
 /// Ends a command that puts its answer on `out`, in one put. Where that fails nothing follows.
 pub fn end_with<O: Sink>(out: &mut O, outcome: &Result<Vec<u8>, Refusal>) -> u8
     ensures { MatchResult outcome.now
-        (λ answer. EndsWith answer.items (seen O.put_so_far O.faults out.old) (seen O.put_so_far O.faults out.new) result)
+        (λ answer. EndsWithAnswer answer.items (seen O.put_so_far O.faults out.old) (seen O.put_so_far O.faults out.new) result)
         (λ refusal. EndsRefused (seen O.put_so_far O.faults out.old) (seen O.put_so_far O.faults out.new) result refusal) }
 {
     match outcome {

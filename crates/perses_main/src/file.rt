@@ -5,7 +5,7 @@ ghost use Rattle.edge_io.specs.Files.{Holds, SameFiles, SameOthers};
 ghost use Rattle.perses_main.specs.Status.{ReadFails, WriteFails};
 ghost use Rattle.perses_main.specs.World.{IsQuiet, seen};
 
-use crate::status::{ReadFile, Refusal};
+use crate::status::{NamedFile, Refusal};
 use edge_io::{FileFault, Files, WriteFault};
 
 /// The bytes of a file that has at most `limit` of them.
@@ -13,7 +13,7 @@ pub fn read_file<F: Files>(
     files: &mut F,
     name: &str,
     limit: u64,
-    file: ReadFile,
+    file: NamedFile,
 ) -> Result<Vec<u8>, Refusal>
     ensures bytes { IfOk result (λ bytes. Holds bytes.items (F.content files.old name.now)) }
     ensures limit { IfOk result (λ bytes. length bytes.items ≤ limit) }

@@ -1,5 +1,5 @@
-//! What the statuses mean by their numbers. Each law is a function that does nothing, whose clause
-//! follows from how the command ends.
+//! What the statuses mean by their numbers. Nothing calls these functions: they check, once and for
+//! all, that how each command ends says by each number what is read here.
 
 ghost use Rattle.perses_main.specs.NormalByStatus.{NormalByStatus};
 ghost use Rattle.perses_main.specs.ReduceByStatus.{ReduceByStatus};

@@ -8,7 +8,7 @@ ghost use Rattle.perses_main.specs.World.{IsQuiet, WasRead, grammar_limit, seen}
 
 use crate::end::end_with;
 use crate::file::read_file;
-use crate::status::{ReadFile, Refusal};
+use crate::status::{NamedFile, Refusal};
 use checked_grammar::{GrammarFault, checked_grammar};
 use edge_io::{Files, Sink};
 use grammar_tree::Checked;
@@ -49,7 +49,7 @@ fn form_of_file<F: Files>(alloc: Global, grammar: &str, files: &mut F) -> Result
     ensures refused { IfErr result (λ refusal. NormalFails grammar.now (seen F.content F.faults files.old) (seen F.content F.faults files.new) refusal) }
     ensures same { SameFiles (F.content files.old) (F.content files.new) }
 {
-    let text = read_file(files, grammar, GRAMMAR_LIMIT, ReadFile::Grammar)?;
+    let text = read_file(files, grammar, GRAMMAR_LIMIT, NamedFile::Grammar)?;
     form_of_text(alloc, &text)
 }
 

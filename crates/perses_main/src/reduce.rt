@@ -1,23 +1,25 @@
 //! The command `reduce`, step by step.
 
-ghost use Rattle.std.specs.Prelude.{◌≡◌, ◌≤◌, [], All, IfErr, IfOk, OnErr, OnOk, codes, length, option_map};
+ghost use Rattle.std.specs.Prelude.{◌≡◌, ◌≤◌, [], true, All, IfErr, IfOk, OnErr, OnOk, codes, length, option_map};
 ghost use Rattle.std.specs.List.{IsDistinct};
 ghost use Rattle.std.specs.Str.{bytes_eq};
+ghost use Rattle.keep_guard.specs.Keep.{holds_all};
 ghost use Rattle.script_gate.specs.Log.{with_opening};
 ghost use Rattle.verdict_table.specs.TableState.{texts_of};
 ghost use Rattle.reduce_core.specs.LineMachine.{gives};
-ghost use Rattle.perses_main.specs.Reduce.{AreOf, RecordsAreSound, ReduceSteps, Reduces, ReducesFrom, RunFails};
+ghost use Rattle.perses_main.specs.Reduce.{AreOf, KeepFails, RecordsAreSound, ReduceSteps, Reduces, ReducesFrom, RunFails};
 ghost use Rattle.perses_main.specs.Run.{with_all_asked};
 ghost use Rattle.perses_main.specs.Status.{OpenFails};
-ghost use Rattle.perses_main.specs.Words.{file_name_of, paths_of};
+ghost use Rattle.perses_main.specs.Words.{file_name_of, options_of};
 ghost use Rattle.perses_main.specs.World.{IsQuiet, seen};
 
 use crate::end::{Ended, end};
 use crate::file::{read_file, write_file};
 use crate::run::run;
-use crate::status::{ReadFile, Refusal};
-use crate::words::{ReduceLine, file_name_of};
+use crate::status::{NamedFile, Refusal};
+use crate::words::{ReduceLine, file_name_of, keep_texts};
 use edge_io::{Files, Sink};
+use keep_guard::{Guard, KeepTexts};
 use reduce_core::{LineReducer, asks_candidates, ends_minimal, follows_reduction, refuses_at_no};
 use script_gate::Gate;
 use std::alloc::Global;
@@ -30,30 +32,32 @@ const INPUT_LIMIT: u64 = 262_144;
 const WORK_FOLDER: &str = "perses-work";
 
 /// Reduces a start by its lines. The gate is asked once for each text, the start first; a start
-/// whose verdict is no ends the run.
-fn reduce_lines<G: Gate>(
+/// whose verdict is no ends the run. Each text that is asked has the keep texts of the guard.
+fn reduce_lines<'a, G: Gate>(
     alloc: Global,
     start: Vec<u8>,
+    guard: Guard<KeepTexts<'a>>,
     gate: &mut G,
     table: &mut Table,
-) -> Result<LineReducer, Refusal>
+) -> Result<LineReducer<KeepTexts<'a>>, Refusal>
     requires few { length start.items ≤ 1048576 }
+    requires kept { holds_all guard start.items ≡ true }
     requires empty { table.old.records ≡ [] }
     requires settled { table.old.claims ≡ [] }
     ensures distinct { IsDistinct bytes_eq (texts_of table.new.records) }
     ensures said { All (λ r. G.may_say r.text r.verdict) table.new.records }
-    ensures candidates { AreOf start.items table.new.records }
+    ensures candidates { AreOf guard.entry start.items table.new.records }
     ensures asked { G.log gate.new ≡ option_map (with_all_asked (texts_of table.new.records)) (G.log gate.old) }
-    ensures reduced { IfOk result (λ reducer. ReducesFrom start.items table.new.records (gives reducer.state).text) }
+    ensures reduced { IfOk result (λ reducer. ReducesFrom guard.entry start.items table.new.records (gives reducer.state).text) }
     ensures quiet { OnOk result (IsQuiet (seen G.log G.faults gate.old) (seen G.log G.faults gate.new)) }
-    ensures refused { IfErr result (λ refusal. RunFails start.items table.new.records
+    ensures refused { IfErr result (λ refusal. RunFails guard.entry start.items table.new.records
         (seen G.log G.faults gate.old) (seen G.log G.faults gate.new) refusal) }
 {
     follows_reduction();
     refuses_at_no();
     ends_minimal();
     asks_candidates();
-    let mut reducer = LineReducer::new(alloc, start)?;
+    let mut reducer = LineReducer::new(alloc, start, guard)?;
     run(&mut reducer, gate, table)?;
     if reducer.refused() {
         return Err(Refusal::NotInteresting);
@@ -73,29 +77,44 @@ fn open_gate<G: Gate>(gate: &mut G, line: ReduceLine<'_>) -> Result<(), Refusal>
 }
 
 /// Opens the gate and reduces the start.
-fn reduce_start<G: Gate>(
+fn reduce_start<'a, G: Gate>(
     alloc: Global,
-    line: ReduceLine<'_>,
+    line: ReduceLine<'a>,
     start: Vec<u8>,
+    guard: Guard<KeepTexts<'a>>,
     gate: &mut G,
     table: &mut Table,
-) -> Result<LineReducer, Refusal>
+) -> Result<LineReducer<KeepTexts<'a>>, Refusal>
     requires few { length start.items ≤ 1048576 }
+    requires kept { holds_all guard start.items ≡ true }
     requires empty { table.old.records ≡ [] }
     requires settled { table.old.claims ≡ [] }
-    ensures sound { RecordsAreSound (paths_of line.entry) G.may_say table.new.records (seen G.log G.faults gate.old) (seen G.log G.faults gate.new) }
-    ensures candidates { AreOf start.items table.new.records }
-    ensures reduced { IfOk result (λ reducer. ReducesFrom start.items table.new.records (gives reducer.state).text) }
+    ensures sound { RecordsAreSound (options_of line.entry) G.may_say table.new.records (seen G.log G.faults gate.old) (seen G.log G.faults gate.new) }
+    ensures candidates { AreOf guard.entry start.items table.new.records }
+    ensures reduced { IfOk result (λ reducer. ReducesFrom guard.entry start.items table.new.records (gives reducer.state).text) }
     ensures quiet { OnOk result (IsQuiet (seen G.log G.faults gate.old) (seen G.log G.faults gate.new)) }
-    ensures refused { IfErr result (λ refusal. RunFails start.items table.new.records
+    ensures refused { IfErr result (λ refusal. RunFails guard.entry start.items table.new.records
         (seen G.log G.faults gate.old) (seen G.log G.faults gate.new) refusal) }
 {
     open_gate(gate, line)?;
-    reduce_lines(alloc, start, gate, table)
+    reduce_lines(alloc, start, guard, gate, table)
 }
 
-/// The steps of `reduce` after the words: the input, the reduction, and the result, which is
-/// written only at the end.
+/// The keep texts of the command line, each of which occurs in the start.
+fn keeps_of<'a>(alloc: Global, line: ReduceLine<'a>, start: &[u8]) -> Result<KeepTexts<'a>, Refusal>
+    ensures keeps { IfOk result (λ keeps. keeps ≡ (options_of line.entry).keeps) }
+    ensures kept { IfOk result (λ keeps. holds_all keeps start.now ≡ true) }
+    ensures refused { IfErr result (λ refusal. KeepFails (options_of line.entry).keeps start.now refusal) }
+{
+    let keeps = keep_texts(alloc, line.keeps)?;
+    match keeps.first_missing(start) {
+        None => Ok(keeps),
+        Some(index) => Err(Refusal::of_keep(alloc, index as u64 + 1)),
+    }
+}
+
+/// The steps of `reduce` after the words: the input, the keep texts, the reduction, and the result,
+/// which is written only at the end.
 fn reduce_steps<F: Files, G: Gate>(
     alloc: Global,
     line: ReduceLine<'_>,
@@ -105,18 +124,19 @@ fn reduce_steps<F: Files, G: Gate>(
 ) -> Result<(), Refusal>
     requires empty { table.old.records ≡ [] }
     requires settled { table.old.claims ≡ [] }
-    ensures { ReduceSteps (paths_of line.entry) G.may_say table.new.records
+    ensures { ReduceSteps (options_of line.entry) G.may_say table.new.records
         (seen F.content F.faults files.old) (seen F.content F.faults files.new)
         (seen G.log G.faults gate.old) (seen G.log G.faults gate.new) result }
 {
-    let start = read_file(files, line.input, INPUT_LIMIT, ReadFile::Input)?;
-    let reducer = reduce_start(alloc, line, start, gate, table)?;
+    let start = read_file(files, line.input, INPUT_LIMIT, NamedFile::Input)?;
+    let keeps = keeps_of(alloc, line, &start)?;
+    let reducer = reduce_start(alloc, line, start, Guard::new(keeps), gate, table)?;
     write_file(files, line.output, reducer.result())
 }
 
-/// Reduces a file as the command line says, in this order: the input is read, the gate is opened and
-/// asked, once for each text and on the calling thread, and the result is written. A start whose
-/// verdict is no ends the run at once.
+/// Reduces a file as the command line says, in this order: the input is read, the keep texts are
+/// looked for in it, the gate is opened and asked, once for each text and on the calling thread, and
+/// the result is written. A start whose verdict is no ends the run at once.
 pub fn reduce<F: Files, G: Gate, O: Sink>(
     alloc: Global,
     line: ReduceLine<'_>,
@@ -124,7 +144,7 @@ pub fn reduce<F: Files, G: Gate, O: Sink>(
     gate: &mut G,
     out: &mut O,
 ) -> Ended
-    ensures { Reduces (paths_of line.entry) G.may_say result.records
+    ensures { Reduces (options_of line.entry) G.may_say result.records
         (record { files = seen F.content F.faults files.old; gate = seen G.log G.faults gate.old; out = seen O.put_so_far O.faults out.old })
         (record { files = seen F.content F.faults files.new; gate = seen G.log G.faults gate.new; out = seen O.put_so_far O.faults out.new })
         result.status }

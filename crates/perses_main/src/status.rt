@@ -2,7 +2,7 @@
 
 ghost use Rattle.std.specs.Prelude.{◌≡◌};
 ghost use Rattle.checked_grammar.specs.Message.{fault_text};
-ghost use Rattle.perses_main.specs.Status.{IsGrammarRefusal, line_of, status_of};
+ghost use Rattle.perses_main.specs.Status.{IsGrammarRefusal, IsKeepRefusal, line_of, status_of};
 
 use checked_grammar::GrammarFault;
 use faults::Memory;
@@ -11,7 +11,7 @@ use std::alloc::Global;
 
 /// A file that the program reads.
 #[derive(Clone, Copy, Debug, PartialEq, Eq)]
-pub enum ReadFile {
+pub enum NamedFile {
     /// The file to be reduced.
     Input,
     /// The file of the grammar.
@@ -26,15 +26,17 @@ pub enum Refusal {
     /// The words are no command line.
     Usage,
     /// This file can't be read.
-    CannotRead(ReadFile),
+    CannotRead(NamedFile),
     /// The result can't be written.
     CannotWrite,
     /// The grammar has a fault, which this line names.
     Grammar(String),
+    /// A keep text doesn't occur in the input, which this line says.
+    KeepMissing(String),
     /// The script says no to the start.
     NotInteresting,
     /// This file is longer than its limit.
-    TooLong(ReadFile),
+    TooLong(NamedFile),
     /// The script can't be asked.
     Script,
 }
@@ -50,6 +52,17 @@ impl Refusal {
         }
     }
 
+    /// The refusal of an input in which keep text `number`, counted from 1, doesn't occur; `Memory`
+    /// where memory runs out.
+    pub fn of_keep(alloc: Global, number: u64) -> Refusal
+        ensures { IsKeepRefusal number result }
+    {
+        match format!(in alloc; "perses: keep text {number} is missing\n") {
+            Ok(line) => Refusal::KeepMissing(line),
+            Err(_) => Refusal::Memory,
+        }
+    }
+
     /// The status that the program ends with, and the line that it puts on `out`.
     pub fn ending(&self) -> (u8, &str)
         ensures status { result.0 ≡ status_of self.now }
@@ -58,13 +71,14 @@ impl Refusal {
         match self {
             Refusal::Memory => (1, "perses: out of memory\n"),
             Refusal::Usage => (2, "perses: bad command line\n"),
-            Refusal::CannotRead(ReadFile::Input) => (3, "perses: cannot read input\n"),
-            Refusal::CannotRead(ReadFile::Grammar) => (3, "perses: cannot read grammar\n"),
+            Refusal::CannotRead(NamedFile::Input) => (3, "perses: cannot read input\n"),
+            Refusal::CannotRead(NamedFile::Grammar) => (3, "perses: cannot read grammar\n"),
             Refusal::CannotWrite => (4, "perses: cannot write\n"),
             Refusal::Grammar(line) => (5, line.as_str()),
             Refusal::NotInteresting => (8, "perses: start is not interesting\n"),
-            Refusal::TooLong(ReadFile::Input) => (10, "perses: input is too long\n"),
-            Refusal::TooLong(ReadFile::Grammar) => (10, "perses: grammar is too long\n"),
+            Refusal::KeepMissing(line) => (9, line.as_str()),
+            Refusal::TooLong(NamedFile::Input) => (10, "perses: input is too long\n"),
+            Refusal::TooLong(NamedFile::Grammar) => (10, "perses: grammar is too long\n"),
             Refusal::Script => (11, "perses: script fault at worker 1\n"),
         }
     }

@@ -24,6 +24,8 @@ struct Case<'a> {
     input: Option<&'a [u8]>,
     /// Which calls of the files fail, counted from 1.
     failing: &'a [u64],
+    /// The words of keep texts, with a space before each.
+    keeps: &'a str,
     status: u8,
     output: Option<&'a [u8]>,
     records: &'a [(&'a str, Verdict)],
@@ -36,6 +38,7 @@ fn plain_case<'a>(shows: &'a str, input: Option<&'a [u8]>) -> Case<'a> {
         shows,
         input,
         failing: &[],
+        keeps: "",
         status: 0,
         output: None,
         records: &[],
@@ -80,10 +83,11 @@ fn run_case<R: Abort + AllocGlobal, G: Gate>(
 ) -> Result<(), Fail> {
     let alloc = rt.alloc();
     let shows = case.shows;
-    let words = words_in(
-        alloc,
-        "perses reduce --mode lines --input i --output o --script s",
+    let keeps = case.keeps;
+    let line = format!(in alloc;
+        "perses reduce --mode lines --input i --output o --script s{keeps}"
     )?;
+    let words = words_in(alloc, line.as_str())?;
     let mut files = files_of(alloc, case)?;
     let mut out = MemSink::new(alloc, CAPACITY, Vec::new(alloc))?;
     let ended = perses(alloc, &words, &mut files, gate, &mut out);
@@ -132,6 +136,43 @@ fn keeps_the_line_that_the_rule_needs(rt: HostRuntime) -> Result<(), Fail> {
     let mut gate = RuleGate::<98>::new(rt.alloc(), true);
     run_case(&rt, &case, &mut gate)?;
     assert!(rt; logs(gate.log(), "i", case.records));
+    Ok(())
+}
+
+#[test]
+fn asks_only_what_has_each_keep_text(rt: HostRuntime) -> Result<(), Fail> {
+    let kept = Case {
+        keeps: " --keep c",
+        output: Some(b"b\nc\n"),
+        records: &[
+            ("a\nb\nc\n", Verdict::Yes),
+            ("b\nc\n", Verdict::Yes),
+            ("c\n", Verdict::No),
+        ],
+        ..plain_case("a keep text", Some(b"a\nb\nc\n"))
+    };
+    let over_two_lines = Case {
+        keeps: " --keep b\nc --keep b",
+        records: &[("a\nb\nc\n", Verdict::Yes), ("b\nc\n", Verdict::Yes)],
+        ..kept
+    };
+    let twice = Case {
+        keeps: " --keep b",
+        output: Some(b"b\n"),
+        records: &[("b\nb\n", Verdict::Yes), ("b\n", Verdict::Yes)],
+        ..plain_case("a keep text that occurs twice", Some(b"b\nb\n"))
+    };
+    let whole = Case {
+        keeps: " --keep b\nb\n",
+        output: Some(b"b\nb\n"),
+        records: &[("b\nb\n", Verdict::Yes)],
+        ..twice
+    };
+    for case in &[kept, over_two_lines, twice, whole] {
+        let mut gate = RuleGate::<98>::new(rt.alloc(), true);
+        run_case(&rt, case, &mut gate)?;
+        assert!(rt; logs(gate.log(), "i", case.records), "{}", case.keeps);
+    }
     Ok(())
 }
 
@@ -202,7 +243,13 @@ fn opens_no_gate_without_an_input(rt: HostRuntime) -> Result<(), Fail> {
         line: "perses: cannot read input\n",
         ..plain_case("no input", None)
     };
-    for case in &[too_long, missing] {
+    let keep_missing = Case {
+        keeps: " --keep b --keep zz",
+        status: 9,
+        line: "perses: keep text 2 is missing\n",
+        ..plain_case("a keep text isn't there", Some(b"a\nb\nc\n"))
+    };
+    for case in &[too_long, missing, keep_missing] {
         let mut gate = RuleGate::<0>::new(alloc, true);
         run_case(&rt, case, &mut gate)?;
         let opening = gate.log().and_then(|log| log.opening.as_ref());
@@ -271,6 +318,11 @@ fn refuses_words_that_are_no_command_line(rt: HostRuntime) -> Result<(), Fail> {
         "perses reduce --mode lines --input -i --output o --script s",
         "perses reduce --mode lines --input i --output o --script s more",
         "perses reduce --mode lines --input=i --output o --script s",
+        "perses reduce --mode lines --input i --output o --script s --keep",
+        "perses reduce --mode lines --input i --output o --script s --keep ",
+        "perses reduce --mode lines --input i --output o --script s --keep -a",
+        "perses reduce --mode lines --input i --output o --keep a --script s",
+        "perses reduce --mode lines --input i --output o --script s --keep a --keep a --keep a --keep a --keep a --keep a --keep a --keep a --keep a",
         "perses reduce --grammar i --input i --output o --script s",
         "perses --grammar i",
         "perses normal",

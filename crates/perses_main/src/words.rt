@@ -1,7 +1,11 @@
-ghost use Rattle.std.specs.Prelude.{◌≡◌, None, Some, MatchOption, codes, map, string_bytes};
-ghost use Rattle.perses_main.specs.Words.{command_of, command_read, file_name_of, first_option, is_value, normal_line, paths_of, reduce_line};
+ghost use Rattle.std.specs.Prelude.{◌≡◌, IfOk, None, Some, MatchOption, codes, map, string_bytes};
+ghost use Rattle.perses_main.specs.Words.{are_keeps, command_line_of, command_read, file_name_of, first_option, is_value, keeps_in, normal_line, options_of, reduce_line};
 
-/// The paths that a command line of `reduce` gives.
+use faults::Memory;
+use keep_guard::KeepTexts;
+use std::alloc::Global;
+
+/// What a command line of `reduce` gives.
 #[derive(Clone, Copy, Debug)]
 pub struct ReduceLine<'a> {
     /// The file to be reduced.
@@ -10,6 +14,8 @@ pub struct ReduceLine<'a> {
     pub output: &'a str,
     /// The script that says whether a candidate is interesting.
     pub script: &'a str,
+    /// The words of the keep texts, each after the word `--keep`.
+    pub keeps: &'a [String],
 }
 
 /// What a command line asks for.
@@ -25,8 +31,8 @@ pub enum CommandLine<'a> {
 /// are no command line.
 pub fn read_words(words: &[String]) -> Option<CommandLine<'_>>
     ensures { MatchOption result
-        (command_of (map string_bytes words.entry.now) ≡ None)
-        (λ line. command_of (map string_bytes words.entry.now) ≡ Some (command_read line)) }
+        (command_line_of (map string_bytes words.entry.now) ≡ None)
+        (λ line. command_line_of (map string_bytes words.entry.now) ≡ Some (command_read line)) }
 {
     let [_, command, words @ ..] = words else {
         return None;
@@ -40,11 +46,11 @@ pub fn read_words(words: &[String]) -> Option<CommandLine<'_>>
     }
 }
 
-/// The paths after the word `reduce`.
+/// What the words after `reduce` give.
 fn read_reduce(words: &[String]) -> Option<ReduceLine<'_>>
     ensures { MatchOption result
         (reduce_line (map string_bytes words.entry.now) ≡ None)
-        (λ line. reduce_line (map string_bytes words.entry.now) ≡ Some (paths_of line)) }
+        (λ line. reduce_line (map string_bytes words.entry.now) ≡ Some (options_of line)) }
 {
     let (mode, words) = take_option(words, "--mode")?;
     if mode != "lines" {
@@ -52,15 +58,48 @@ fn read_reduce(words: &[String]) -> Option<ReduceLine<'_>>
     }
     let (input, words) = take_option(words, "--input")?;
     let (output, words) = take_option(words, "--output")?;
-    let (script, words) = take_option(words, "--script")?;
-    if !words.is_empty() {
+    let (script, keeps) = take_option(words, "--script")?;
+    if !are_keeps(keeps) {
         return None;
     }
     Some(ReduceLine {
         input,
         output,
         script,
+        keeps,
     })
+}
+
+/// The most keep texts of a command line.
+const MOST_KEEPS: u32 = 8;
+
+/// Whether the words are `--keep T`, at most [`MOST_KEEPS`] times.
+fn are_keeps(words: &[String]) -> bool
+    ensures { result ≡ are_keeps 8 (map string_bytes words.now) }
+{
+    let mut rest = words;
+    let mut count = 0;
+    while let Some((_, later)) = take_option(rest, "--keep") {
+        if count == MOST_KEEPS {
+            return false;
+        }
+        count += 1;
+        rest = later;
+    }
+    rest.is_empty()
+}
+
+/// The keep texts of such words, in their order.
+pub fn keep_texts<'a>(alloc: Global, words: &'a [String]) -> Result<KeepTexts<'a>, Memory>
+    ensures { IfOk result (λ keeps. keeps ≡ keeps_in (map string_bytes words.entry.now)) }
+{
+    let mut keeps = KeepTexts::new(alloc);
+    let mut rest = words;
+    while let [_, value, later @ ..] = rest {
+        keeps.push(value.as_bytes())?;
+        rest = later;
+    }
+    Ok(keeps)
 }
 
 /// The grammar's path after the word `normal`.

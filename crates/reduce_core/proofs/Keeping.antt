@@ -1,7 +1,8 @@
 -- What is kept from one index on.
 use Rattle.std.proofs.Common.{◌≡◌, ◌+◌, ◌<◌, ◌++◌, ◌∙◌, sym, append_assoc, ℕ, suc, zero, Bool, true, false, List, [], ◌∷◌, refl, ap, drop, get_or, length, arith}
-use Rattle.std.specs.List.{concat}
 use Rattle.list_ddmin.specs.ListStep.{kept_of}
+use Rattle.reduce_core.specs.declared.lines.Line.{Line}
+use Rattle.reduce_core.specs.Lines.{numbers_of, text_of}
 
 -- a kept element comes first, and what is kept after it follows
 pub kept_of-kept : {X : Type 0} (keep : List Bool) (xs : List X) (k : ℕ) (d : Bool) (x : X) → k < length keep → length keep ≡ length xs → get_or keep k d ≡ true
@@ -35,12 +36,23 @@ pushed-kept front front' keep xs whole k d x within same is element pushed befor
     ∙ before
 
 -- the same for the texts of lines
-pub joined-kept : (front front' : List ℕ) (keep : List Bool) (lines : List (List ℕ)) (whole : List ℕ) (k : ℕ) (d : Bool) (line : List ℕ) → k < length keep → length keep ≡ length lines
-    → get_or keep k d ≡ true → line ≡ get_or lines k line → front' ≡ front ++ line → front ++ concat (kept_of (drop k keep) (drop k lines)) ≡ whole
-    → front' ++ concat (kept_of (drop (k + 1) keep) (drop (k + 1) lines)) ≡ whole
+pub joined-kept : (front front' : List ℕ) (keep : List Bool) (lines : List Line) (whole : List ℕ) (k : ℕ) (d : Bool) (line : Line) → k < length keep → length keep ≡ length lines
+    → get_or keep k d ≡ true → line ≡ get_or lines k line → front' ≡ front ++ line.bytes → front ++ text_of (kept_of (drop k keep) (drop k lines)) ≡ whole
+    → front' ++ text_of (kept_of (drop (k + 1) keep) (drop (k + 1) lines)) ≡ whole
 joined-kept front front' keep lines whole k d line within same is element joined before =
-    ap (λ f. f ++ concat (kept_of (drop (k + 1) keep) (drop (k + 1) lines))) joined
-    ∙ append_assoc front line (concat (kept_of (drop (k + 1) keep) (drop (k + 1) lines)))
-    ∙ ap (λ y. front ++ (y ++ concat (kept_of (drop (k + 1) keep) (drop (k + 1) lines)))) element
-    ∙ ap (λ l. front ++ concat l) (sym (kept_of-kept keep lines k d line within same is))
+    ap (λ f. f ++ text_of (kept_of (drop (k + 1) keep) (drop (k + 1) lines))) joined
+    ∙ append_assoc front line.bytes (text_of (kept_of (drop (k + 1) keep) (drop (k + 1) lines)))
+    ∙ ap (λ (y : Line). front ++ (y.bytes ++ text_of (kept_of (drop (k + 1) keep) (drop (k + 1) lines)))) element
+    ∙ ap (λ l. front ++ text_of l) (sym (kept_of-kept keep lines k d line within same is))
+    ∙ before
+
+-- and for their numbers
+pub numbers-kept : (front front' : List ℕ) (keep : List Bool) (lines : List Line) (whole : List ℕ) (k : ℕ) (d : Bool) (line : Line) → k < length keep → length keep ≡ length lines
+    → get_or keep k d ≡ true → line ≡ get_or lines k line → front' ≡ front ++ line.number ∷ [] → front ++ numbers_of (kept_of (drop k keep) (drop k lines)) ≡ whole
+    → front' ++ numbers_of (kept_of (drop (k + 1) keep) (drop (k + 1) lines)) ≡ whole
+numbers-kept front front' keep lines whole k d line within same is element pushed before =
+    ap (λ f. f ++ numbers_of (kept_of (drop (k + 1) keep) (drop (k + 1) lines))) pushed
+    ∙ append_assoc front (line.number ∷ []) (numbers_of (kept_of (drop (k + 1) keep) (drop (k + 1) lines)))
+    ∙ ap (λ (y : Line). front ++ y.number ∷ numbers_of (kept_of (drop (k + 1) keep) (drop (k + 1) lines))) element
+    ∙ ap (λ l. front ++ numbers_of l) (sym (kept_of-kept keep lines k d line within same is))
     ∙ before

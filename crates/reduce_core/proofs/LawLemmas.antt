@@ -6,8 +6,9 @@ use Rattle.list_ddmin.specs.ListStep.{kept_of}
 use Rattle.verdict_table.specs.Plan.{End, asked}
 use Rattle.reduce_core.specs.Laws.{result_of, FollowsReduction, RefusesAtNo, EndsMinimal, AsksCandidates}
 use Rattle.reduce_core.specs.LineMachine.{Whole, capped_count, left, step_result}
-use Rattle.reduce_core.specs.Lines.{lines_of}
-use Rattle.reduce_core.specs.Reduction.{Reduction, asks_first, ends_with, is_yes, reduction, round_of, rounds_of, rounds_within, says_yes}
+use Rattle.reduce_core.specs.declared.lines.Line.{Line}
+use Rattle.reduce_core.specs.Lines.{numbered_lines}
+use Rattle.reduce_core.specs.Reduction.{Admits, Reduction, asks_first, ends_with, is_yes, reduction, round_of, rounds_of, rounds_within, says_yes}
 use Rattle.reduce_core.specs.Minimal.{HasVerdicts}
 use Rattle.reduce_core.proofs.Candidates.{whole-candidates}
 use Rattle.reduce_core.proofs.Ends.{reduction-ends}
@@ -20,41 +21,41 @@ same_result r =
     λ i. step_result r.lines (used i) (rounds i) r.refused
 
 pub follows_reduction : FollowsReduction
-follows_reduction V start =
-    let all : Follows V (Whole start) = follows V (left (Whole start)) (Whole start) tt (omega arith) in
+follows_reduction admits V start =
+    let all : Follows admits V (Whole start) = follows admits V (left (Whole start)) (Whole start) tt (omega arith) in
     record {
-      ends = λ has. all.ends has ∙ ap End (same_result (reduction (says_yes V) start));
+      ends = λ has. all.ends has ∙ ap End (same_result (reduction admits (says_yes V) start));
       defined = all.defined;
     }
 
 -- rounds never refuse
-accepted-rounds : (test : List ℕ → Bool) (n : ℕ) (lines : List (List ℕ)) → (rounds_within n test lines).refused ≡ false
+accepted-rounds : (admits : Admits) (test : List ℕ → Bool) (n : ℕ) (lines : List Line) → (rounds_within n admits test lines).refused ≡ false
 unfolding rounds_within
-accepted-rounds test zero lines = refl
-accepted-rounds test (suc n) lines =
-    let remaining : List (List ℕ) = kept_of (round_of test lines).result lines in
-    cond_both (length remaining == length lines) (ends_with lines false) (rounds_within n test remaining) (λ r. r.refused ≡ false)
-    (λ same. refl) (λ differs. accepted-rounds test n remaining)
+accepted-rounds admits test zero lines = refl
+accepted-rounds admits test (suc n) lines =
+    let remaining : List Line = kept_of (round_of admits test lines).result lines in
+    cond_both (length remaining == length lines) (ends_with lines false) (rounds_within n admits test remaining) (λ r. r.refused ≡ false)
+    (λ same. refl) (λ differs. accepted-rounds admits test n remaining)
 
-at_yes : (test : List ℕ → Bool) (start : List ℕ) → test start ≡ true → (reduction test start).refused ≡ false
+at_yes : (admits : Admits) (test : List ℕ → Bool) (start : List ℕ) → test start ≡ true → (reduction admits test start).refused ≡ false
 unfolding reduction rounds_of
-at_yes test start is = rw is (accepted-rounds test (suc (length (lines_of start))) (lines_of start))
+at_yes admits test start is = rw is (accepted-rounds admits test (suc (length (numbered_lines start))) (numbered_lines start))
 
-at_no : (test : List ℕ → Bool) (start : List ℕ) → test start ≡ false → reduction test start ≡ asks_first start (ends_with (lines_of start) true)
+at_no : (admits : Admits) (test : List ℕ → Bool) (start : List ℕ) → test start ≡ false → reduction admits test start ≡ asks_first start (ends_with (numbered_lines start) true)
 unfolding reduction
-at_no test start is = rw is refl
+at_no admits test start is = rw is refl
 
 pub refuses_at_no : RefusesAtNo
-refuses_at_no V start = (
-  λ yes_there. at_yes (says_yes V) start (ap is_yes yes_there),
+refuses_at_no admits V start = (
+  λ yes_there. at_yes admits (says_yes V) start (ap is_yes yes_there),
   λ no_there.
-      let refused = at_no (says_yes V) start (ap is_yes no_there) in
-      let has : HasVerdicts V (reduction (says_yes V) start).questions = subst (λ (r : Reduction). HasVerdicts V r.questions) (sym refused) (rw no_there refl, tt) in
-      (ap asked ((follows_reduction V start).ends has), ap (λ (r : Reduction). r.refused) refused),
+      let refused = at_no admits (says_yes V) start (ap is_yes no_there) in
+      let has : HasVerdicts V (reduction admits (says_yes V) start).questions = subst (λ (r : Reduction). HasVerdicts V r.questions) (sym refused) (rw no_there refl, tt) in
+      (ap asked ((follows_reduction admits V start).ends has), ap (λ (r : Reduction). r.refused) refused),
 )
 
 pub ends_minimal : EndsMinimal
-ends_minimal V start stays has = reduction-ends V start stays has
+ends_minimal admits V start admitted stays has = reduction-ends admits V start admitted stays has
 
 pub asks_candidates : AsksCandidates
-asks_candidates start text may = whole-candidates start text may
+asks_candidates admits start text admitted may = whole-candidates admits start text admitted may

@@ -1,13 +1,13 @@
 -- The answers of a round: what one more makes of them, and how many can be missing.
-use Rattle.std.proofs.Common.{◌≡◌, ◌≢◌, ◌+◌, ◌<◌, ◌≤◌, ◌⊎◌, ℕ, suc, zero, Bool, true, false, ◌||◌, ◌&&◌, List, [], ◌∷◌, ◌++◌, Some, None, refl, sym, ap, ◌∙◌, cond, length, map, get_or, arith, inl, inr, ⊎_elim, subst}
+use Rattle.std.proofs.Common.{◌≡◌, ◌≢◌, ◌+◌, ◌<◌, ◌≤◌, ◌⊎◌, ℕ, suc, zero, Bool, true, false, ◌||◌, ◌&&◌, List, [], ◌∷◌, ◌++◌, Some, None, refl, sym, ap, ◌∙◌, append_assoc, cond, length, map, get_or, arith, inl, inr, ⊎_elim, subst}
 use Rattle.std.specs.Prelude.{unwrap_or}
 use Rattle.std.specs.Cmp.Lexicographic.{pointwise}
 use Rattle.std.specs.List.{AllByRecursion}
-use Rattle.list_ddmin.specs.ListStep.{Outcome, list_step}
-use Rattle.list_ddmin.specs.ListStep.{kept_of}
+use Rattle.list_ddmin.specs.ListStep.{Outcome, kept_of, list_step}
 use Rattle.list_ddmin.specs.Machine.{AgreeingMaps, QuestionsFit}
-use Rattle.reduce_core.specs.Lines.{lines_of}
-use Rattle.reduce_core.specs.Reduction.{Reduction, after_round, asks_first, candidate, ends_with, next_round, reduction, round_of, rounds_of, rounds_within}
+use Rattle.reduce_core.specs.declared.lines.Line.{Line}
+use Rattle.reduce_core.specs.Lines.{numbered_lines}
+use Rattle.reduce_core.specs.Reduction.{Admits, Reduction, after_round, asks_first, candidate, ends_with, is_listed_at, next_round, reduction, round_of, rounds_of, rounds_within, texts_asked}
 use Rattle.reduce_core.proofs.Rounds.{rounds_of-step}
 use Rattle.std.proofs.lemmas.Bool.{cond_both, eqb-true, eqb-false}
 use Rattle.std.specs.Prelude.{◌==◌}
@@ -207,19 +207,19 @@ pub answered-none : (verdict : List Bool → Bool) → IsAnswered verdict [] []
 answered-none verdict keep = refl
 
 -- each round adds one to the count, and there are at most so many
-rounds-within-few : (verdict : List ℕ → Bool) (n : ℕ) (lines : List (List ℕ)) → (rounds_within n verdict lines).rounds ≤ n
+rounds-within-few : (admits : Admits) (verdict : List ℕ → Bool) (n : ℕ) (lines : List Line) → (rounds_within n admits verdict lines).rounds ≤ n
 unfolding rounds_within
-rounds-within-few verdict zero lines = omega arith
-rounds-within-few verdict (suc n) lines =
-    let left : List (List ℕ) = kept_of (round_of verdict lines).result lines in
-    let few : (next_round (λ l. rounds_within n verdict l) lines left).rounds ≤ n =
-    cond_both (length left == length lines) (ends_with lines false) (rounds_within n verdict left) (λ r. r.rounds ≤ n)
-    (λ _. omega arith) (λ _. rounds-within-few verdict n left) in
+rounds-within-few admits verdict zero lines = omega arith
+rounds-within-few admits verdict (suc n) lines =
+    let left : List Line = kept_of (round_of admits verdict lines).result lines in
+    let few : (next_round (λ l. rounds_within n admits verdict l) lines left).rounds ≤ n =
+    cond_both (length left == length lines) (ends_with lines false) (rounds_within n admits verdict left) (λ r. r.rounds ≤ n)
+    (λ _. omega arith) (λ _. rounds-within-few admits verdict n left) in
     omega arith
 
-pub rounds-few : (verdict : List ℕ → Bool) (lines : List (List ℕ)) → (rounds_of verdict lines).rounds ≤ suc (length lines)
+pub rounds-few : (admits : Admits) (verdict : List ℕ → Bool) (lines : List Line) → (rounds_of admits verdict lines).rounds ≤ suc (length lines)
 unfolding rounds_of
-rounds-few verdict lines = rounds-within-few verdict (suc (length lines)) lines
+rounds-few admits verdict lines = rounds-within-few admits verdict (suc (length lines)) lines
 
 eqb-same : (m n : ℕ) → m ≡ n → (m == n) ≡ true
 eqb-same m n same = ⊎_elim (λ is. is) (λ differs. absurd (eqb-false m n differs same)) (either (m == n))
@@ -227,30 +227,44 @@ eqb-same m n same = ⊎_elim (λ is. is) (λ differs. absurd (eqb-false m n diff
 differ : (m n : ℕ) → m ≢ n → (m == n) ≡ false
 differ m n other = ⊎_elim (λ same. absurd (other (eqb-true m n same))) (λ is. is) (either (m == n))
 
-module _ (verdict : List ℕ → Bool) (lines : List (List ℕ)) (o : Outcome) (texts left : List (List ℕ))
-    (round_is : o ≡ round_of verdict lines) (texts_are : texts ≡ map (candidate lines) o.questions) (left_is : left ≡ kept_of o.result lines) where
-  by-parts : (later : Reduction) → later ≡ next_round (λ l. rounds_of verdict l) lines left → after_round texts later ≡ rounds_of verdict lines
+module _ (admits : Admits) (verdict : List ℕ → Bool) (lines : List Line) (o : Outcome) (texts : List (List ℕ)) (left : List Line)
+    (round_is : o ≡ round_of admits verdict lines) (texts_are : texts ≡ texts_asked admits lines o.questions) (left_is : left ≡ kept_of o.result lines) where
+  by-parts : (later : Reduction) → later ≡ next_round (λ l. rounds_of admits verdict l) lines left → after_round texts later ≡ rounds_of admits verdict lines
   by-parts later later_is =
       (λ i. after_round (texts_are i) (later_is i))
-      ∙ ap (λ l. after_round (map (candidate lines) o.questions) (next_round (λ l'. rounds_of verdict l') lines l)) left_is
-      ∙ ap (λ (p : Outcome). after_round (map (candidate lines) p.questions) (next_round (λ l. rounds_of verdict l) lines (kept_of p.result lines))) round_is
-      ∙ sym (rounds_of-step verdict lines)
+      ∙ ap (λ l. after_round (texts_asked admits lines o.questions) (next_round (λ l'. rounds_of admits verdict l') lines l)) left_is
+      ∙ ap (λ (p : Outcome). after_round (texts_asked admits lines p.questions) (next_round (λ l. rounds_of admits verdict l) lines (kept_of p.result lines))) round_is
+      ∙ sym (rounds_of-step admits verdict lines)
 
   -- a round that changed nothing is the last one
-  pub last-round : length left ≡ length lines → after_round texts (ends_with lines false) ≡ rounds_of verdict lines
-  last-round same = by-parts (ends_with lines false) (sym (ap (λ b. cond b (ends_with lines false) (rounds_of verdict left)) (eqb-same (length left) (length lines) same)))
+  pub last-round : length left ≡ length lines → after_round texts (ends_with lines false) ≡ rounds_of admits verdict lines
+  last-round same = by-parts (ends_with lines false) (sym (ap (λ b. cond b (ends_with lines false) (rounds_of admits verdict left)) (eqb-same (length left) (length lines) same)))
 
   -- after any other the rounds go on with what is left
-  pub next-rounds : length left ≢ length lines → after_round texts (rounds_of verdict left) ≡ rounds_of verdict lines
-  next-rounds other = by-parts (rounds_of verdict left) (sym (ap (λ b. cond b (ends_with lines false) (rounds_of verdict left)) (differ (length left) (length lines) other)))
+  pub next-rounds : length left ≢ length lines → after_round texts (rounds_of admits verdict left) ≡ rounds_of admits verdict lines
+  next-rounds other = by-parts (rounds_of admits verdict left) (sym (ap (λ b. cond b (ends_with lines false) (rounds_of admits verdict left)) (differ (length left) (length lines) other)))
 
-pub reduction-no : (verdict : List ℕ → Bool) (start : List ℕ) → verdict start ≡ false → asks_first start (ends_with (lines_of start) true) ≡ reduction verdict start
+pub reduction-no : (admits : Admits) (verdict : List ℕ → Bool) (start : List ℕ) → verdict start ≡ false → asks_first start (ends_with (numbered_lines start) true) ≡ reduction admits verdict start
 unfolding reduction
-reduction-no verdict start is = ap (λ b. asks_first start (cond b (rounds_of verdict (lines_of start)) (ends_with (lines_of start) true))) (sym is)
+reduction-no admits verdict start is = ap (λ b. asks_first start (cond b (rounds_of admits verdict (numbered_lines start)) (ends_with (numbered_lines start) true))) (sym is)
 
-pub reduction-yes : (verdict : List ℕ → Bool) (start : List ℕ) → verdict start ≡ true → asks_first start (rounds_of verdict (lines_of start)) ≡ reduction verdict start
+pub reduction-yes : (admits : Admits) (verdict : List ℕ → Bool) (start : List ℕ) → verdict start ≡ true → asks_first start (rounds_of admits verdict (numbered_lines start)) ≡ reduction admits verdict start
 unfolding reduction
-reduction-yes verdict start is = ap (λ b. asks_first start (cond b (rounds_of verdict (lines_of start)) (ends_with (lines_of start) true))) (sym is)
+reduction-yes admits verdict start is = ap (λ b. asks_first start (cond b (rounds_of admits verdict (numbered_lines start)) (ends_with (numbered_lines start) true))) (sym is)
+
+-- one keep list more before those that follow
+pub asked-more : (admits : Admits) (lines : List Line) (texts texts' : List (List ℕ)) (keep : List Bool) (keeps : List (List Bool)) (whole : List (List ℕ))
+    → is_listed_at admits lines keep ≡ true → texts' ≡ texts ++ candidate lines keep ∷ [] → texts ++ texts_asked admits lines (keep ∷ keeps) ≡ whole → texts' ++ texts_asked admits lines keeps ≡ whole
+asked-more admits lines texts texts' keep keeps whole listed more before =
+    ap (λ ts. ts ++ texts_asked admits lines keeps) more
+    ∙ append_assoc texts (candidate lines keep ∷ []) (texts_asked admits lines keeps)
+    ∙ ap (λ b. texts ++ cond b (candidate lines keep ∷ texts_asked admits lines keeps) (texts_asked admits lines keeps)) (sym listed)
+    ∙ before
+
+pub asked-same : (admits : Admits) (lines : List Line) (texts : List (List ℕ)) (keep : List Bool) (keeps : List (List Bool)) (whole : List (List ℕ))
+    → is_listed_at admits lines keep ≡ false → texts ++ texts_asked admits lines (keep ∷ keeps) ≡ whole → texts ++ texts_asked admits lines keeps ≡ whole
+asked-same admits lines texts keep keeps whole unlisted before =
+    ap (λ b. texts ++ cond b (candidate lines keep ∷ texts_asked admits lines keeps) (texts_asked admits lines keeps)) (sym unlisted) ∙ before
 
 -- what holds of all holds of the one at an index
 pub all-at : {X Y : Type 0} (P : X → Type 0) (f : Y → X) (ys : List Y) (k : ℕ) (y : Y) → AllByRecursion P (map f ys) → k < length ys → P (f (get_or ys k y))

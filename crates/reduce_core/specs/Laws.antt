@@ -1,47 +1,50 @@
 -- What holds of the reducer of lines, whatever it is answered.
-use Rattle.std.specs.Prelude.{◌≡◌, ℕ, List, Bool, map, true, false, length, Option, Some}
-use Rattle.std.specs.List.{concat}
+use Rattle.std.specs.Prelude.{◌≡◌, ℕ, List, Bool, true, false, length, Option, Some}
 use Rattle.script_gate.specs.declared.gate.Verdict.{Verdict}
 use Rattle.script_gate.specs.declared.gate.Verdict.TheVariants.{Yes, No}
 use Rattle.verdict_table.specs.Plan.{StepResult, End, HasEnded, MayAsk, follow}
 use Rattle.reduce_core.specs.LineMachine.{Whole, capped_count, plan_of, step_result}
 use Rattle.reduce_core.specs.Minimal.{HasVerdicts, IsCandidate, IsMinimal}
 use Rattle.list_ddmin.specs.ListStep.{kept_of}
-use Rattle.reduce_core.specs.Reduction.{Reduction, after_round, candidate, next_round, reduction, round_of, rounds_of, says_yes}
+use Rattle.reduce_core.specs.declared.lines.Line.{Line}
+use Rattle.reduce_core.specs.Lines.{numbered_lines, text_of}
+use Rattle.reduce_core.specs.Reduction.{Admits, Reduction, after_round, is_listed, next_round, reduction, round_of, rounds_of, says_yes, texts_asked}
 
 -- what a reduction ends with; a count stays at its greatest value
 abbrev pub result_of : Reduction → StepResult
 result_of r = step_result r.lines (capped_count (length r.questions)) (capped_count r.rounds) r.refused
 
 -- Followed over a map of verdicts, the machine ends exactly where the map has a verdict for each text that the reduction asks, and then with the reduction's result.
-pub record IsTheReduction (V : List ℕ → Option Verdict) (start : List ℕ) : Type 0 where
-  pub ends : HasVerdicts V (reduction (says_yes V) start).questions → follow V (plan_of (Whole start)) ≡ End (result_of (reduction (says_yes V) start))
-  pub defined : HasEnded (follow V (plan_of (Whole start))) → HasVerdicts V (reduction (says_yes V) start).questions
+pub record IsTheReduction (admits : Admits) (V : List ℕ → Option Verdict) (start : List ℕ) : Type 0 where
+  pub ends : HasVerdicts V (reduction admits (says_yes V) start).questions
+      → follow V (plan_of admits (Whole start)) ≡ End (result_of (reduction admits (says_yes V) start))
+  pub defined : HasEnded (follow V (plan_of admits (Whole start))) → HasVerdicts V (reduction admits (says_yes V) start).questions
 
 abbrev pub FollowsReduction : Type 0
-FollowsReduction = (V : List ℕ → Option Verdict) (start : List ℕ) → IsTheReduction V start
+FollowsReduction = (admits : Admits) (V : List ℕ → Option Verdict) (start : List ℕ) → IsTheReduction admits V start
 
 -- The start is refused exactly where its verdict is no.
 abbrev pub RefusesAtNo : Type 0
-RefusesAtNo = (V : List ℕ → Option Verdict) (start : List ℕ) →
-    (V start ≡ Some Yes → (reduction (says_yes V) start).refused ≡ false)
-    × (V start ≡ Some No → HasEnded (follow V (plan_of (Whole start))) × ((reduction (says_yes V) start).refused ≡ true))
+RefusesAtNo = (admits : Admits) (V : List ℕ → Option Verdict) (start : List ℕ) →
+    (V start ≡ Some Yes → (reduction admits (says_yes V) start).refused ≡ false)
+    × (V start ≡ Some No → HasEnded (follow V (plan_of admits (Whole start))) × ((reduction admits (says_yes V) start).refused ≡ true))
 
--- A reduction that was not refused ends at a yes, and without any one of its lines the verdict is no.
-pub record EndsWell (V : List ℕ → Option Verdict) (r : Reduction) : Type 0 where
-  pub yes_at_end : V (concat r.lines) ≡ Some Yes
-  pub minimal : IsMinimal V r.lines
+-- A reduction of an admitted start that was not refused ends at a yes, which is admitted, and none of the candidates with one line fewer is both listed and a yes.
+pub record EndsWell (admits : Admits) (V : List ℕ → Option Verdict) (r : Reduction) : Type 0 where
+  pub yes_at_end : V (text_of r.lines) ≡ Some Yes
+  pub listed : is_listed admits r.lines ≡ true
+  pub minimal : IsMinimal admits V r.lines
 
 abbrev pub EndsMinimal : Type 0
-EndsMinimal = (V : List ℕ → Option Verdict) (start : List ℕ) →
-    (reduction (says_yes V) start).refused ≡ false → HasVerdicts V (reduction (says_yes V) start).questions → EndsWell V (reduction (says_yes V) start)
+EndsMinimal = (admits : Admits) (V : List ℕ → Option Verdict) (start : List ℕ) → is_listed admits (numbered_lines start) ≡ true →
+    (reduction admits (says_yes V) start).refused ≡ false → HasVerdicts V (reduction admits (says_yes V) start).questions → EndsWell admits V (reduction admits (says_yes V) start)
 
--- All that may be asked is some of the start's lines.
+-- All that may be asked is some of an admitted start's lines, and admitted.
 abbrev pub AsksCandidates : Type 0
-AsksCandidates = (start text : List ℕ) → MayAsk (plan_of (Whole start)) text → IsCandidate start text
+AsksCandidates = (admits : Admits) (start text : List ℕ) → is_listed admits (numbered_lines start) ≡ true → MayAsk (plan_of admits (Whole start)) text → IsCandidate admits start text
 
 -- The rounds of a reduction are one round and what follows: the bound in their definition is never met.
 abbrev pub GoesByItsRounds : Type 0
-GoesByItsRounds = (verdict : List ℕ → Bool) (lines : List (List ℕ)) → rounds_of verdict lines
-    ≡ after_round (map (candidate lines) (round_of verdict lines).questions)
-    (next_round (λ remaining. rounds_of verdict remaining) lines (kept_of (round_of verdict lines).result lines))
+GoesByItsRounds = (admits : Admits) (verdict : List ℕ → Bool) (lines : List Line) → rounds_of admits verdict lines
+    ≡ after_round (texts_asked admits lines (round_of admits verdict lines).questions)
+    (next_round (λ remaining. rounds_of admits verdict remaining) lines (kept_of (round_of admits verdict lines).result lines))

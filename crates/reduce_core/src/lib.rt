@@ -20,5 +20,5 @@ pub use laws::{
     asks_candidates, ends_minimal, follows_reduction, goes_by_its_rounds, refuses_at_no,
 };
 pub use line_reducer::LineReducer;
-pub use lines::Lines;
+pub use lines::{Candidate, Line, Lines};
 pub use plain::{Reduction, Test, plain_reduction};

@@ -1,14 +1,15 @@
-ghost use Rattle.std.specs.Prelude.{◌≡◌, ◌≤◌, length, IfOk, IsSome, if◌then◌else◌, false};
+ghost use Rattle.std.specs.Prelude.{◌≡◌, ◌≤◌, length, IfOk, OnOk, IsSome, if◌then◌else◌, false};
 ghost use Rattle.list_ddmin.specs.Machine as list;
 ghost use Rattle.list_ddmin.specs.ListStep.{kept_of};
 ghost use Rattle.verdict_table.specs.Plan.{End, HasEnded};
-ghost use Rattle.reduce_core.specs.LineMachine.{IsRound, new_round, gives, past_round, plan_of, within_round};
+ghost use Rattle.reduce_core.specs.LineMachine.{IsRound, gives, new_round, passed, past_round, plan_of, round_on};
 ghost use Rattle.reduce_core.specs.LineMachine as machine;
 ghost use Rattle.reduce_core.specs.Reduction.{is_yes};
-ghost use Rattle.reduce_core.specs.Fields.{Becomes, HasLines, IsAnswered, IsAsked, IsHeld, IsInLimit, IsOpen};
+ghost use Rattle.reduce_core.specs.Fields.{Becomes, HasLines, IsAnswered, IsAsked, IsHeld, IsInLimit, IsMade, IsOpen};
 
-use crate::lines::Lines;
+use crate::lines::{Candidate, Lines};
 use faults::Memory;
+use keep_guard::{Guard, Relation};
 use list_ddmin::Ddmin;
 use script_gate::{Bytes, Verdict};
 use std::alloc::Global;
@@ -16,14 +17,7 @@ use std::marker::Model;
 use std::mem;
 use verdict_table::Step;
 
-/// A text of some of the lines, and how many they are.
-#[derive(Drop)]
-struct Candidate {
-    text: Vec<u8>,
-    units: u64,
-}
-
-/// A list step over lines, with the candidate that it asks.
+/// A list step over lines, with the candidate that it asks, which is listed.
 #[derive(Drop)]
 struct Round {
     lines: Lines,
@@ -53,34 +47,39 @@ struct Progress {
 }
 
 /// The reducer of mode `lines`: the start is asked first, and then rounds of delta debugging over
-/// the lines of the last yes are made until one round changes nothing.
+/// the lines of the last yes are made until one round changes nothing. A candidate that its guard
+/// doesn't admit counts as no, and is neither asked nor counted.
 ///
-/// An answer takes time linear in the bytes and lines that its round began with.
+/// An answer takes time linear in the bytes and lines that its round began with, and so much again,
+/// with a call of the guard, for each candidate that isn't admitted before the next one that is.
 #[derive(Drop)]
-pub struct LineReducer {
+pub struct LineReducer<F: Relation + Drop> {
     alloc: Global,
+    guard: Guard<F>,
     start: Bytes,
     stage: Stage,
     progress: Progress,
 }
 
-impl Model for LineReducer {
+impl<F: Relation + Drop> Model for LineReducer<F> {
     ghost use Rattle.reduce_core.specs.LineRun.{LineRun};
 
-    ghost Value = { LineRun };
+    ghost Value = { LineRun F };
 
     ghost use Rattle.reduce_core.specs.Fields.{Agrees, state_of};
 
-    ghost view = { λ r. record { start = r.start; state = state_of r.start r.stage r.progress } };
+    ghost view = { λ r. record { start = r.start; guard = r.guard; state = state_of r.start r.stage r.progress } };
 
-    ghost invariant = { λ r. Agrees r.start r.stage r.progress };
+    ghost invariant = { λ r. Agrees (F.admits r.guard) r.start r.stage r.progress };
 }
 
-impl LineReducer {
-    /// The reduction of a start, of at most 1,048,576 bytes.
-    pub fn new(alloc: Global, start: Vec<u8>) -> Result<LineReducer, Memory>
+impl<F: Relation + Drop> LineReducer<F> {
+    /// The reduction of a start, of at most 1,048,576 bytes, in which the guard says what may be
+    /// asked. The start is asked whatever the guard says of it; the laws on the end and on what is
+    /// asked speak of a start that the guard admits.
+    pub fn new(alloc: Global, start: Vec<u8>, guard: Guard<F>) -> Result<LineReducer<F>, Memory>
         requires { length start.items ≤ 1048576 }
-        ensures { IfOk result (λ reducer. reducer ≡ record { start = start.items; state = machine.Whole start.items }) }
+        ensures { IfOk result (λ reducer. reducer ≡ record { start = start.items; guard = guard; state = machine.Whole start.items }) }
     {
         let lines = Lines::split(alloc, &start)?;
         let progress = Progress {
@@ -92,6 +91,7 @@ impl LineReducer {
         };
         Ok(LineReducer {
             alloc,
+            guard,
             start: Bytes::from_vec(start),
             stage: Stage::Whole(lines),
             progress,
@@ -131,18 +131,18 @@ impl LineReducer {
     /// the calls before it give.
     pub fn refused(&self) -> bool
         ensures refused { result ≡ (gives self.now.state).refused }
-        ensures ended { HasEnded (plan_of self.now.state) → plan_of self.now.state ≡ End (gives self.now.state) }
+        ensures ended { HasEnded (plan_of (F.admits self.now.guard) self.now.state) → plan_of (F.admits self.now.guard) self.now.state ≡ End (gives self.now.state) }
     {
         self.progress.refused
     }
 }
 
-impl Step for LineReducer {
+impl<F: Relation + Drop> Step for LineReducer<F> {
     ghost use Rattle.reduce_core.specs.LineMachine.{plan_of, Whole};
 
-    ghost plan = { λ r. plan_of r.state };
+    ghost plan = { λ r. plan_of (F.admits r.guard) r.state };
 
-    ghost first = { λ r. plan_of (Whole r.start) };
+    ghost first = { λ r. plan_of (F.admits r.guard) (Whole r.start) };
 
     fn asks(&self) -> Option<&[u8]> {
         match &self.stage {
@@ -154,83 +154,90 @@ impl Step for LineReducer {
 
     fn answer(&mut self, verdict: Verdict) -> Result<(), Memory> {
         let stage = mem::replace(&mut self.stage, Stage::Ended);
-        self.stage = next_stage(self.alloc, stage, verdict, &mut self.progress)?;
+        self.stage = next_stage(self.alloc, &self.guard, stage, verdict, &mut self.progress)?;
         Ok(())
     }
 }
 
 /// The stage after an answer, which is counted.
-fn next_stage(
+fn next_stage<F: Relation>(
     alloc: Global,
+    guard: &Guard<F>,
     stage: Stage,
     verdict: Verdict,
     progress: &mut Progress,
 ) -> Result<Stage, Memory>
-    requires agrees { IsHeld stage progress.old }
+    requires agrees { IsHeld (F.admits guard.now) stage progress.old }
     requires open_stage { IsOpen stage }
-    ensures { IfOk result (λ next. IsAnswered stage progress.old verdict next progress.new) }
+    ensures { IfOk result (λ next. IsAnswered (F.admits guard.now) stage progress.old verdict next progress.new) }
 {
     progress.used = progress.used.saturating_add(1);
     match stage {
         Stage::Whole(lines) => match verdict {
-            Verdict::Yes => {
-                let candidate = Candidate {
-                    text: Vec::new(alloc),
-                    units: 0,
-                };
-                begin(alloc, lines, candidate, progress)
-            }
+            Verdict::Yes => begin(alloc, guard, lines, Candidate::new(alloc), progress),
             Verdict::No => {
                 progress.refused = true;
                 Ok(Stage::Ended)
             }
         },
-        Stage::Within(round) => answered(alloc, round, verdict, progress),
+        Stage::Within(round) => answered(alloc, guard, round, verdict, progress),
         Stage::Ended => unreachable!(),
     }
 }
 
-/// The round with the candidate that its list step asks.
-fn ask(lines: Lines, step: Ddmin, mut candidate: Candidate) -> Result<Round, Memory>
-    requires some { IsSome (list.asks step) }
-    requires same { length (list.kept step) ≡ length lines }
-    requires limit { IsInLimit lines }
-    ensures lines { IfOk result (λ round. round.lines ≡ lines) }
-    ensures step { IfOk result (λ round. round.step ≡ step) }
-    ensures asked { IfOk result (λ round. IsAsked round) }
+/// Passes over the candidates of a list step that aren't listed, which count as no. What the list
+/// step asks then, if it asks anything, is made as the candidate.
+fn pass<F: Relation>(
+    guard: &Guard<F>,
+    lines: &Lines,
+    step: &mut Ddmin,
+    candidate: &mut Candidate,
+) -> Result<(), Memory>
+    requires same { length (list.kept step.old) ≡ length lines.now }
+    requires limit { IsInLimit lines.now }
+    ensures passed { OnOk result (step.new ≡ passed (F.admits guard.now) lines.now step.old) }
+    ensures kept { OnOk result (list.kept step.new ≡ list.kept step.old) }
+    ensures made { OnOk result (IsMade lines.now (list.asks step.new) candidate.new) }
 {
-    if let Some(keep) = step.asks() {
-        candidate.units = lines.write_kept(keep, &mut candidate.text)?;
+    while let Some(keep) = step.asks() {
+        lines.write_kept(keep, candidate)?;
+        if guard.admits(&candidate.numbers, &candidate.text) {
+            return Ok(());
+        }
+        step.answer(false);
     }
-    Ok(Round {
-        lines,
-        step,
-        candidate,
-    })
+    Ok(())
 }
 
-/// A round over the lines of the last yes. Where there are none, it asks nothing and is the last.
-fn begin(
+/// A round over the lines of the last yes. Where it asks nothing, it is the last.
+fn begin<F: Relation>(
     alloc: Global,
+    guard: &Guard<F>,
     lines: Lines,
-    candidate: Candidate,
+    mut candidate: Candidate,
     progress: &mut Progress,
 ) -> Result<Stage, Memory>
     requires limit { IsInLimit lines }
     requires progress { HasLines progress.old lines }
-    ensures { IfOk result (λ stage. Becomes (new_round lines progress.old.used progress.old.rounds) stage progress.new) }
+    ensures { IfOk result (λ stage. Becomes (new_round (F.admits guard.now) lines progress.old.used progress.old.rounds) stage progress.new) }
 {
-    if lines.is_empty() {
+    let mut step = Ddmin::new(alloc, lines.len() as u32, true)?;
+    pass(guard, &lines, &mut step, &mut candidate)?;
+    if step.asks().is_none() {
         progress.rounds = progress.rounds.saturating_add(1);
         return Ok(Stage::Ended);
     }
-    let step = Ddmin::new(alloc, lines.len() as u32, true)?;
-    Ok(Stage::Within(ask(lines, step, candidate)?))
+    Ok(Stage::Within(Round {
+        lines,
+        step,
+        candidate,
+    }))
 }
 
 /// Ends a round, whose list step asks nothing more. A round that changed nothing is the last.
-fn end_round(
+fn end_round<F: Relation>(
     alloc: Global,
+    guard: &Guard<F>,
     lines: Lines,
     step: &Ddmin,
     candidate: Candidate,
@@ -239,60 +246,67 @@ fn end_round(
     requires same { length (list.kept step.now) ≡ length lines }
     requires limit { IsInLimit lines }
     requires progress { HasLines progress.old (kept_of (list.kept step.now) lines) }
-    ensures { IfOk result (λ stage. Becomes (past_round lines (kept_of (list.kept step.now) lines) progress.old.used progress.old.rounds) stage progress.new) }
+    ensures { IfOk result (λ stage. Becomes (past_round (F.admits guard.now) lines (kept_of (list.kept step.now) lines) progress.old.used progress.old.rounds) stage progress.new) }
 {
     progress.rounds = progress.rounds.saturating_add(1);
     if progress.units == lines.len() as u64 {
         return Ok(Stage::Ended);
     }
     let remaining = lines.kept(alloc, step.kept())?;
-    begin(alloc, remaining, candidate, progress)
+    begin(alloc, guard, remaining, candidate, progress)
 }
 
 /// Goes on with a round, whose list step was answered.
-fn go_on(
+fn go_on<F: Relation>(
     alloc: Global,
+    guard: &Guard<F>,
     lines: Lines,
-    step: Ddmin,
-    candidate: Candidate,
+    mut step: Ddmin,
+    mut candidate: Candidate,
     progress: &mut Progress,
 ) -> Result<Stage, Memory>
     requires same { length (list.kept step) ≡ length lines }
     requires limit { IsInLimit lines }
     requires progress { HasLines progress.old (kept_of (list.kept step) lines) }
-    ensures { IfOk result (λ stage. Becomes (within_round (list.asks step) lines step progress.old.used progress.old.rounds) stage progress.new) }
+    ensures { IfOk result (λ stage. Becomes (round_on (F.admits guard.now) lines step progress.old.used progress.old.rounds) stage progress.new) }
 {
+    pass(guard, &lines, &mut step, &mut candidate)?;
     if step.asks().is_none() {
-        return end_round(alloc, lines, &step, candidate, progress);
+        return end_round(alloc, guard, lines, &step, candidate, progress);
     }
-    Ok(Stage::Within(ask(lines, step, candidate)?))
+    Ok(Stage::Within(Round {
+        lines,
+        step,
+        candidate,
+    }))
 }
 
 /// At yes the candidate is the last yes.
 fn keep_candidate(candidate: &mut Candidate, progress: &mut Progress, yes: bool)
     ensures text { progress.new.text.items ≡ (if yes then candidate.old.text.items else progress.old.text.items) }
-    ensures units { progress.new.units ≡ (if yes then candidate.old.units else progress.old.units) }
+    ensures units { progress.new.units ≡ (if yes then length candidate.old.numbers.items else progress.old.units) }
     ensures used { progress.new.used ≡ progress.old.used }
     ensures rounds { progress.new.rounds ≡ progress.old.rounds }
     ensures refused { progress.new.refused ≡ progress.old.refused }
 {
     if yes {
         mem::swap(&mut candidate.text, &mut progress.text);
-        progress.units = candidate.units;
+        progress.units = candidate.numbers.len() as u64;
     }
 }
 
 /// The stage after an answer to a round's candidate, which `used` counts already.
-fn answered(
+fn answered<F: Relation>(
     alloc: Global,
+    guard: &Guard<F>,
     round: Round,
     verdict: Verdict,
     progress: &mut Progress,
 ) -> Result<Stage, Memory>
-    requires round { IsRound round.lines round.step }
+    requires round { IsRound (F.admits guard.now) round.lines round.step }
     requires asked { IsAsked round }
     requires progress { HasLines progress.old (kept_of (list.kept round.step) round.lines) }
-    ensures { IfOk result (λ stage. Becomes (machine.within_round (list.asks (list.after round.step (is_yes (Some verdict)))) round.lines (list.after round.step (is_yes (Some verdict))) progress.old.used progress.old.rounds) stage progress.new) }
+    ensures { IfOk result (λ stage. Becomes (round_on (F.admits guard.now) round.lines (list.after round.step (is_yes (Some verdict))) progress.old.used progress.old.rounds) stage progress.new) }
 {
     let Round {
         lines,
@@ -302,5 +316,5 @@ fn answered(
     let yes = verdict == Verdict::Yes;
     step.answer(yes);
     keep_candidate(&mut candidate, progress, yes);
-    go_on(alloc, lines, step, candidate, progress)
+    go_on(alloc, guard, lines, step, candidate, progress)
 }

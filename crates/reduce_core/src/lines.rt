@@ -1,8 +1,6 @@
-ghost use Rattle.std.specs.Prelude.{◌≡◌, ◌≢◌, ◌≤◌, ◌<◌, ◌+◌, [], ◌∷◌, ◌++◌, length, take, drop, IfOk, OnOk, ◌==◌};
-ghost use Rattle.std.specs.List.{concat};
+ghost use Rattle.std.specs.Prelude.{◌≡◌, ◌≢◌, ◌≤◌, ◌<◌, ◌+◌, ◌^◌, [], ◌∷◌, ◌++◌, length, take, drop, IfOk, OnOk, ◌==◌};
 ghost use Rattle.list_ddmin.specs.ListStep.{kept_of};
-ghost use Rattle.reduce_core.specs.Lines.{lines_of};
-ghost use Rattle.reduce_core.specs.Reduction.{candidate};
+ghost use Rattle.reduce_core.specs.Lines.{lines_of, numbered_lines, numbers_of, text_of};
 
 use faults::Memory;
 use memchr::memchr;
@@ -10,31 +8,68 @@ use script_gate::Bytes;
 use std::alloc::Global;
 use std::marker::Model;
 
+/// A line of the start.
+#[derive(Drop)]
+pub struct Line {
+    /// Which line of the start it is, counted from 0.
+    pub number: u32,
+
+    /// Its bytes, with its newline.
+    pub bytes: Bytes,
+}
+
+/// Some lines of the start, as a text that may be asked.
+#[derive(Drop)]
+pub struct Candidate {
+    /// The bytes of the lines, one line after another.
+    pub text: Vec<u8>,
+
+    /// The numbers of the lines.
+    pub numbers: Vec<u32>,
+}
+
+impl Candidate {
+    /// The candidate of no lines.
+    pub fn new(alloc: Global) -> Candidate
+        ensures text { result.text.items ≡ [] }
+        ensures numbers { result.numbers.items ≡ [] }
+    {
+        Candidate {
+            text: Vec::new(alloc),
+            numbers: Vec::new(alloc),
+        }
+    }
+}
+
 /// The lines of a text, or some of them, in their order. A line is the bytes up to and including
 /// a newline; a last line may lack it.
 #[derive(Drop)]
 pub struct Lines {
-    items: Vec<Bytes>,
+    items: Vec<Line>,
 }
 
 impl Model for Lines {
-    ghost use Rattle.std.specs.Prelude.{List, ℕ};
+    ghost use Rattle.std.specs.Prelude.{List};
+    ghost use Rattle.reduce_core.specs.declared.lines.Line.{Line};
 
-    ghost Value = { List (List ℕ) };
+    ghost Value = { List Line };
 
     ghost view = { λ lines. lines.items.items };
 }
 
 impl Lines {
-    /// The lines of a text.
+    /// The lines of a text of fewer than 2^32 bytes.
     pub fn split(alloc: Global, text: &[u8]) -> Result<Lines, Memory>
-        ensures { IfOk result (λ lines. lines ≡ lines_of text.now) }
+        requires { length text.now < 2 ^ 32 }
+        ensures { IfOk result (λ lines. lines ≡ numbered_lines text.now) }
     {
         let mut items = Vec::new(alloc);
         let mut rest = text;
         while !rest.is_empty() {
             let (line, later) = rest.split_at(first_line_end(rest));
-            items.push(Bytes::from_slice(alloc, line)?)?;
+            let number = items.len() as u32;
+            let bytes = Bytes::from_slice(alloc, line)?;
+            items.push(Line { number, bytes })?;
             rest = later;
         }
         Ok(Lines { items })
@@ -54,22 +89,22 @@ impl Lines {
         self.items.is_empty()
     }
 
-    /// Puts the text of the lines that `keep` marks into `text`, replacing what it held. Answers
-    /// how many lines these are.
-    pub fn write_kept(&self, keep: &[bool], text: &mut Vec<u8>) -> Result<u64, Memory>
+    /// Makes the candidate that of the lines that `keep` marks, whatever it was.
+    pub fn write_kept(&self, keep: &[bool], candidate: &mut Candidate) -> Result<(), Memory>
         requires { length keep.now ≡ length self.now }
-        ensures text { OnOk result (text.new.items ≡ candidate self.now keep.now) }
-        ensures count { IfOk result (λ count. count ≡ length (kept_of keep.now self.now)) }
+        ensures text { OnOk result (candidate.new.text.items ≡ text_of (kept_of keep.now self.now)) }
+        ensures numbers { OnOk result (candidate.new.numbers.items ≡ numbers_of (kept_of keep.now self.now)) }
     {
-        text.clear();
-        let mut count = 0;
+        candidate.text.clear();
+        candidate.numbers.clear();
         for k in 0..keep.len() {
             if keep[k] {
-                text.extend_from_slice(self.items[k].as_slice())?;
-                count += 1;
+                let line = &self.items[k];
+                candidate.text.extend_from_slice(line.bytes.as_slice())?;
+                candidate.numbers.push(line.number)?;
             }
         }
-        Ok(count)
+        Ok(())
     }
 
     /// The lines that `keep` marks.
@@ -80,7 +115,12 @@ impl Lines {
         let mut items = Vec::new(alloc);
         for k in 0..keep.len() {
             if keep[k] {
-                items.push(Bytes::from_slice(alloc, self.items[k].as_slice())?)?;
+                let line = &self.items[k];
+                let bytes = Bytes::from_slice(alloc, line.bytes.as_slice())?;
+                items.push(Line {
+                    number: line.number,
+                    bytes,
+                })?;
             }
         }
         Ok(Lines { items })

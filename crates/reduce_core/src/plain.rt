@@ -5,10 +5,14 @@ ghost use Rattle.std.specs.List.{AllByRecursion};
 ghost use Rattle.std.specs.Option.{option_copied};
 ghost use Rattle.list_ddmin.specs.Machine.{HasLength};
 ghost use Rattle.reduce_core.specs.Plain.{first_other, is_among, with_yes};
-ghost use Rattle.reduce_core.specs.Reduction.{after_round, candidate, ends_with, reduction, round_of, rounds_of};
+ghost use Rattle.keep_guard.specs.Relation.{Rises};
+ghost use Rattle.reduce_core.specs.Lines.{numbers_of};
+ghost use Rattle.reduce_core.specs.Reduction.{after_round, ends_with, reduction, round_of, rounds_of, texts_asked, verdict_on};
+ghost use Rattle.list_ddmin.specs.ListStep.{kept_of};
 
-use crate::lines::Lines;
+use crate::lines::{Candidate, Lines};
 use faults::Memory;
+use keep_guard::{Guard, Relation};
 use list_ddmin::{Outcome, agreeing_maps, plain_list_step, questions_fit};
 use std::alloc::Global;
 use std::marker::Model;
@@ -47,13 +51,19 @@ impl Model for Reduction {
     ghost view = { λ r. record { questions = map (λ v. v.items) r.questions.items; lines = r.lines; rounds = r.rounds; refused = r.refused } };
 }
 
-/// The reduction of a start of at most 1,048,576 bytes, answered by `test`.
+/// The reduction of a start of at most 1,048,576 bytes, answered by `test`, in which the guard says
+/// what may be asked.
 ///
 /// This is the definition written out, to be read and to be compared with: a round costs a whole
 /// list step for each of its questions. [`LineReducer`](crate::LineReducer) is for use.
-pub fn plain_reduction<T: Test>(alloc: Global, test: &T, start: &[u8]) -> Result<Reduction, Memory>
+pub fn plain_reduction<T: Test, F: Relation>(
+    alloc: Global,
+    test: &T,
+    guard: &Guard<F>,
+    start: &[u8],
+) -> Result<Reduction, Memory>
     requires { length start.now ≤ 1048576 }
-    ensures { IfOk result (λ found. found ≡ reduction (T.verdict test.now) start.now) }
+    ensures { IfOk result (λ found. found ≡ reduction (F.admits guard.now) (T.verdict test.now) start.now) }
 {
     let mut questions = Vec::new(alloc);
     questions.push(Vec::from_slice(alloc, start)?)?;
@@ -66,7 +76,7 @@ pub fn plain_reduction<T: Test>(alloc: Global, test: &T, start: &[u8]) -> Result
             refused: true,
         });
     }
-    let later = plain_rounds(alloc, test, lines)?;
+    let later = plain_rounds(alloc, test, guard, lines)?;
     after(questions, later)
 }
 
@@ -90,17 +100,23 @@ fn after(mut questions: Vec<Vec<u8>>, later: Reduction) -> Result<Reduction, Mem
 }
 
 /// Rounds over these lines until one changes nothing.
-fn plain_rounds<T: Test>(alloc: Global, test: &T, lines: Lines) -> Result<Reduction, Memory>
-    requires { length lines ≤ 1048576 }
-    ensures { IfOk result (λ found. found ≡ rounds_of (T.verdict test.now) lines) }
+fn plain_rounds<T: Test, F: Relation>(
+    alloc: Global,
+    test: &T,
+    guard: &Guard<F>,
+    lines: Lines,
+) -> Result<Reduction, Memory>
+    requires few { length lines ≤ 1048576 }
+    requires rising { Rises (numbers_of lines) }
+    ensures { IfOk result (λ found. found ≡ rounds_of (F.admits guard.now) (T.verdict test.now) lines) }
 {
-    let round = plain_round(alloc, test, &lines)?;
-    let texts = texts(alloc, &lines, &round.questions)?;
+    let round = plain_round(alloc, test, guard, &lines)?;
+    let texts = texts(alloc, guard, &lines, &round.questions)?;
     let remaining = lines.kept(alloc, &round.result)?;
     if remaining.len() == lines.len() {
         return after_round(texts, nothing_more(alloc, lines));
     }
-    let later = plain_rounds(alloc, test, remaining)?;
+    let later = plain_rounds(alloc, test, guard, remaining)?;
     after_round(texts, later)
 }
 
@@ -125,16 +141,24 @@ fn nothing_more(alloc: Global, lines: Lines) -> Reduction
     }
 }
 
-/// The text of each of these keep lists over the lines.
-fn texts(alloc: Global, lines: &Lines, keeps: &[Vec<bool>]) -> Result<Vec<Vec<u8>>, Memory>
-    requires { AllByRecursion (λ keep. length keep ≡ length lines.now) (map (λ v. v.items) keeps.now) }
-    ensures { IfOk result (λ texts. map (λ v. v.items) texts.items ≡ map (candidate lines.now) (map (λ v. v.items) keeps.now)) }
+/// The texts of those of these candidates that are listed.
+fn texts<F: Relation>(
+    alloc: Global,
+    guard: &Guard<F>,
+    lines: &Lines,
+    keeps: &[Vec<bool>],
+) -> Result<Vec<Vec<u8>>, Memory>
+    requires fits { AllByRecursion (λ keep. length keep ≡ length lines.now) (map (λ v. v.items) keeps.now) }
+    requires rising { Rises (numbers_of lines.now) }
+    ensures { IfOk result (λ texts. map (λ v. v.items) texts.items ≡ texts_asked (F.admits guard.now) lines.now (map (λ v. v.items) keeps.now)) }
 {
     let mut texts = Vec::new(alloc);
     for keep in keeps {
-        let mut text = Vec::new(alloc);
-        lines.write_kept(keep, &mut text)?;
-        texts.push(text)?;
+        let mut candidate = Candidate::new(alloc);
+        lines.write_kept(keep, &mut candidate)?;
+        if guard.admits(&candidate.numbers, &candidate.text) {
+            texts.push(candidate.text)?;
+        }
     }
     Ok(texts)
 }
@@ -159,9 +183,15 @@ impl list_ddmin::Test for Answers {
 /// The answer to a keep list needs memory for its text, and the test of a list step can't fail. So
 /// the list step is made over the answers that are there, and made anew with one answer more, until
 /// it asks only what was answered.
-fn plain_round<T: Test>(alloc: Global, test: &T, lines: &Lines) -> Result<Outcome, Memory>
-    requires { length lines.now ≤ 1048576 }
-    ensures round { IfOk result (λ outcome. outcome ≡ round_of (T.verdict test.now) lines.now) }
+fn plain_round<T: Test, F: Relation>(
+    alloc: Global,
+    test: &T,
+    guard: &Guard<F>,
+    lines: &Lines,
+) -> Result<Outcome, Memory>
+    requires few { length lines.now ≤ 1048576 }
+    requires rising { Rises (numbers_of lines.now) }
+    ensures round { IfOk result (λ outcome. outcome ≡ round_of (F.admits guard.now) (T.verdict test.now) lines.now) }
     ensures fits { IfOk result (λ outcome. HasLength (length lines.now) outcome) }
 {
     agreeing_maps();
@@ -173,29 +203,31 @@ fn plain_round<T: Test>(alloc: Global, test: &T, lines: &Lines) -> Result<Outcom
     };
     let mut outcome = plain_list_step(alloc, &answers, len, true)?;
     while let Some(keep) = first_other(&answers.asked, &outcome.questions) {
-        add_answer(alloc, test, lines, keep, &mut answers)?;
+        add_answer(alloc, test, guard, lines, keep, &mut answers)?;
         outcome = plain_list_step(alloc, &answers, len, true)?;
     }
     Ok(outcome)
 }
 
-/// Tests the text of a keep list, and adds the answer.
-fn add_answer<T: Test>(
+/// Tests a candidate, and adds the answer. One that isn't listed has a no.
+fn add_answer<T: Test, F: Relation>(
     alloc: Global,
     test: &T,
+    guard: &Guard<F>,
     lines: &Lines,
     keep: &[bool],
     answers: &mut Answers,
 ) -> Result<(), Memory>
-    requires { length keep.now ≡ length lines.now }
+    requires fits { length keep.now ≡ length lines.now }
+    requires rising { Rises (numbers_of lines.now) }
     ensures asked { OnOk result (map (λ v. v.items) answers.new.asked.items ≡ map (λ v. v.items) answers.old.asked.items ++ keep.now ∷ []) }
     ensures yes { OnOk result (map (λ v. v.items) answers.new.yes.items ≡
-        with_yes (T.verdict test.now (candidate lines.now keep.now)) (map (λ v. v.items) answers.old.yes.items) keep.now) }
+        with_yes (verdict_on (F.admits guard.now) (T.verdict test.now) (kept_of keep.now lines.now)) (map (λ v. v.items) answers.old.yes.items) keep.now) }
 {
-    let mut text = Vec::new(alloc);
-    lines.write_kept(keep, &mut text)?;
+    let mut candidate = Candidate::new(alloc);
+    lines.write_kept(keep, &mut candidate)?;
     answers.asked.push(Vec::from_slice(alloc, keep)?)?;
-    if test.test(&text) {
+    if guard.admits(&candidate.numbers, &candidate.text) && test.test(&candidate.text) {
         answers.yes.push(Vec::from_slice(alloc, keep)?)?;
     }
     Ok(())

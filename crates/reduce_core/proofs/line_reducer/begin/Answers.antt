@@ -1,11 +1,13 @@
-use Rattle.std.proofs.Common.{◌≡◌, false, true, length, ◌∙◌, rules}
-use Rattle.std.specs.Prelude.{◌==◌}
+use Rattle.std.proofs.Common.{◌≡◌, ◌∙◌, IsSome, ap, length, refl, rules, true}
 use Rattle.list_ddmin.specs.Machine as list
+use Rattle.reduce_core.specs.LineMachine.{passed}
 use Rattle.reduce_core.proofs.FieldLemmas.{becomes-new_round}
 use Rattle.reduce_core.proofs.line_reducer.begin.Goals as goal
 
 pub returns : goal.returns
-returns c =
-    let some : (length c.args.lines == 0) ≡ false = search rules in
+returns g c =
+    let admits = g.F.Relation.admits c.args.guard.now in
+    let some : IsSome (list.asks c.pass.new.step) = search rules in
     let step : c.in_ok-step.step ≡ list.start (length c.args.lines) true = search rules in
-    becomes-new_round c.args.lines c.in_ok-ask.field-0 c.args.progress.now some c.in_ok-ask.ensures.lines (c.in_ok-ask.ensures.step ∙ step) c.in_ok-ask.ensures.asked c.requires.progress
+    becomes-new_round admits c.args.lines (record { lines = c.args.lines; step = c.pass.new.step; candidate = c.pass.new.candidate }) c.args.progress.now some refl
+    (c.in_ok-pass.ensures.passed ∙ ap (passed admits c.args.lines) step) (record { made = c.in_ok-pass.ensures.made; limit = c.requires.limit }) c.requires.progress

@@ -1,14 +1,18 @@
-use Rattle.std.proofs.Common.{◌≡◌, ◌≤◌, ◌<◌, ◌∙◌, ap, sym, subst, rules, arith, length, map}
+use Rattle.std.proofs.Common.{◌≡◌, ◌≤◌, ◌<◌, ◌∙◌, ap, sym, subst, rules, arith, List, length, map}
 use Rattle.std.specs.Prelude.{IfOk}
 use Rattle.std.specs.List.{AllByRecursion}
 use Rattle.list_ddmin.specs.ListStep.{Outcome, kept_of}
-use Rattle.reduce_core.specs.Reduction.{Reduction, after_round, candidate}
+use Rattle.reduce_core.specs.Reduction.{Reduction, after_round, texts_asked}
+use Rattle.keep_guard.specs.Relation.{Rises}
+use Rattle.reduce_core.specs.declared.lines.Line.{Line}
+use Rattle.reduce_core.specs.Lines.{numbers_of}
+use Rattle.reduce_core.proofs.LinesLemmas.{kept_of-rises}
 use Rattle.reduce_core.proofs.Rounds.{length-kept_of}
 use Rattle.reduce_core.proofs.PlainLemmas.{last-round, next-rounds, rounds-few}
 use Rattle.reduce_core.proofs.plain.+plain_rounds.Goals as goal
 
-pub texts-requires : goal.texts-requires
-texts-requires g t c =
+pub texts-requires-clause-fits : goal.texts-requires-clause-fits
+texts-requires-clause-fits g t c =
     let are = ap (λ (o : Outcome). o.questions) (sym c.round.view_is) ∙ ap (λ vs. map (λ v. v.items) vs) (sym c.deref.ensures.value) in
     subst (λ l. AllByRecursion (λ keep. length keep ≡ length c.args.lines) l) are c.in_ok-round.ensures.fits.questions
 
@@ -20,10 +24,10 @@ returns-then-len g t c =
     let verdict = g.T.Test.verdict c.args.test.now in
     let texts = map (λ v. v.items) c.in_ok-texts.texts.items in
     let questions = ap (λ vs. map (λ v. v.items) vs) c.deref.ensures.value ∙ ap (λ (o : Outcome). o.questions) c.round.view_is in
-    let texts_are = c.in_ok-texts.ensures ∙ ap (λ keeps. map (candidate c.args.lines) keeps) questions in
+    let texts_are = c.in_ok-texts.ensures ∙ ap (λ keeps. texts_asked (g.F.Relation.admits c.args.guard.now) c.args.lines keeps) questions in
     let left_is = c.in_ok-remaining.ensures ∙ ap (λ keep. kept_of keep c.args.lines) (c.deref-2.ensures.value ∙ ap (λ (o : Outcome). o.result) c.round.view_is) in
     let is = ap (λ later. after_round texts later) c.nothing_more.ensures
-    ∙ last-round verdict c.args.lines c.in_ok-round.round texts c.in_ok-remaining.remaining c.in_ok-round.ensures.round texts_are left_is (omega arith) in
+    ∙ last-round (g.F.Relation.admits c.args.guard.now) verdict c.args.lines c.in_ok-round.round texts c.in_ok-remaining.remaining c.in_ok-round.ensures.round texts_are left_is (omega arith) in
     subst (λ (r : Reduction). IfOk c.after_round.result (λ found. found ≡ r)) is c.after_round.ensures
 
 pub plain_rounds-requires : goal.plain_rounds-requires
@@ -31,13 +35,14 @@ plain_rounds-requires g t c κs within =
     let fewer : length (kept_of c.deref-2.result.now c.args.lines) ≤ length c.args.lines = length-kept_of c.deref-2.result.now c.args.lines in
     let remaining = ap length c.in_ok-remaining.ensures in
     let falls : length c.in_ok-remaining.remaining < length c.args.lines = omega arith in
+    let rising : Rises (numbers_of c.in_ok-remaining.remaining) = subst (λ (lines : List Line). Rises (numbers_of lines)) (sym c.in_ok-remaining.ensures) (kept_of-rises c.deref-2.result.now c.args.lines c.requires.rising) in
     search rules
 
 pub after_round-requires-2 : goal.after_round-requires-2
 after_round-requires-2 g t c =
     let fewer : length (kept_of c.deref-2.result.now c.args.lines) ≤ length c.args.lines = length-kept_of c.deref-2.result.now c.args.lines in
     let remaining = ap length c.in_ok-remaining.ensures in
-    let few = rounds-few (g.T.Test.verdict c.args.test.now) c.in_ok-remaining.remaining in
+    let few = rounds-few (g.F.Relation.admits c.args.guard.now) (g.T.Test.verdict c.args.test.now) c.in_ok-remaining.remaining in
     let rounds = ap (λ (r : Reduction). r.rounds) c.in_ok-later.ensures in
     omega arith
 
@@ -46,8 +51,8 @@ returns g t c =
     let verdict = g.T.Test.verdict c.args.test.now in
     let texts = map (λ v. v.items) c.in_ok-texts.texts.items in
     let questions = ap (λ vs. map (λ v. v.items) vs) c.deref.ensures.value ∙ ap (λ (o : Outcome). o.questions) c.round.view_is in
-    let texts_are = c.in_ok-texts.ensures ∙ ap (λ keeps. map (candidate c.args.lines) keeps) questions in
+    let texts_are = c.in_ok-texts.ensures ∙ ap (λ keeps. texts_asked (g.F.Relation.admits c.args.guard.now) c.args.lines keeps) questions in
     let left_is = c.in_ok-remaining.ensures ∙ ap (λ keep. kept_of keep c.args.lines) (c.deref-2.ensures.value ∙ ap (λ (o : Outcome). o.result) c.round.view_is) in
     let is = ap (λ later. after_round texts later) c.in_ok-later.ensures
-    ∙ next-rounds verdict c.args.lines c.in_ok-round.round texts c.in_ok-remaining.remaining c.in_ok-round.ensures.round texts_are left_is (omega arith) in
+    ∙ next-rounds (g.F.Relation.admits c.args.guard.now) verdict c.args.lines c.in_ok-round.round texts c.in_ok-remaining.remaining c.in_ok-round.ensures.round texts_are left_is (omega arith) in
     subst (λ (r : Reduction). IfOk c.after_round-2.result (λ found. found ≡ r)) is c.after_round-2.ensures
