@@ -1,6 +1,6 @@
 //! Keep texts: bytes that have to occur in a candidate.
 
-ghost use Rattle.std.specs.Prelude.{◌≡◌, ◌<◌, ◌+◌, ◌^◌, IfSome, OnOk, ◌++◌, ◌∷◌, []};
+ghost use Rattle.std.specs.Prelude.{◌≡◌, ◌<◌, ◌+◌, ◌^◌, IfSome, OnErr, OnOk, ◌++◌, ◌∷◌, []};
 ghost use Rattle.keep_guard.specs.Keep.{first_missing, holds_all, occurs};
 
 use crate::guard::Relation;
@@ -35,7 +35,8 @@ impl<'a> KeepTexts<'a> {
 
     /// Adds a keep text after the others. After `Memory` they are as before.
     pub fn push(&mut self, keep: &'a [u8]) -> Result<(), Memory>
-        ensures { OnOk result (self.new ≡ self.old ++ keep.now ∷ []) }
+        ensures pushed { OnOk result (self.new ≡ self.old ++ keep.now ∷ []) }
+        ensures kept { OnErr result (self.new ≡ self.old) }
     {
         self.searchers.push(Finder::new(keep))?;
         Ok(())

@@ -1,8 +1,8 @@
 //! Guards: which candidates may be asked at all.
 //!
-//! Enter by [`Guard::new`], over a function that implements [`Relation`], and then `admits`; read
-//! `specs/Relation.antt` first, and `specs/Keep.antt` for keep texts. [`KeepTexts`] admits a
-//! candidate where each of its texts occurs:
+//! Enter by [`Guard::new`], over a function that implements [`Relation`], and then `admits`; read the
+//! trait [`Relation`] first, and `specs/Keep.antt` for keep texts. [`KeepTexts`] admits a candidate
+//! where each of its texts occurs:
 //!
 //! ```
 //! let mut keeps = KeepTexts::new(alloc);

@@ -34,6 +34,10 @@ chmod 755 always
 test "$(od -An -c kept | tr -d ' ')" = 'x\n'
 "$program" reduce --mode lines --input bytes --output kept --script always \
     --keep x --keep x --keep x --keep x --keep x --keep x --keep x --keep x
+# A keep text that is no text is no command line, also where its bytes are in the input.
+status=0
+"$program" reduce --mode lines --input bytes --output kept --script always --keep "$(printf '\377')" > line || status=$?
+test "$status $(cat line)" = '2 perses: bad command line'
 # No file changes where a keep text is missing.
 printf old > kept
 rm -r perses-work

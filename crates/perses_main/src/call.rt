@@ -15,7 +15,7 @@ use script_gate::Gate;
 use std::alloc::Global;
 use verdict_table::Records;
 
-/// RunsCommand what the words ask for. What it promises at each status is stated with the command:
+/// Does what the words ask for. What it promises at each status is stated with the command:
 /// `ReduceEnds` for `reduce`, `NormalEnds` for `normal`. Words that are no command line have status
 /// 2, and no others.
 pub fn perses<F: Files, G: Gate, O: Sink>(

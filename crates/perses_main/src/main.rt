@@ -1,8 +1,8 @@
 //! Perses reduces an input that makes something fail to the few lines that matter.
 //!
-//! `perses reduce --mode lines --input F --output F --script F` asks the script for one candidate
-//! after another and writes the lines that are left. `perses normal --grammar F` prints the normal
-//! form of a grammar. The work is done by [`call::perses`], whose contract is the program's; here it
+//! `perses reduce --mode lines --input F --output F --script F`, with `--keep T` up to eight times,
+//! asks the script for one candidate after another and writes the lines that are left.
+//! `perses normal --grammar F` prints the normal form of a grammar. The work is done by [`call::perses`], whose contract is the program's; here it
 //! gets the machine's files, processes and standard output. Read first how `reduce` ends, by its
 //! status: `ReduceEnds` in `specs/Reduce.antt`.
 #![tactic(auto)]

@@ -29,7 +29,7 @@ RefusesAtNo = (admits : Admits) (V : List ℕ → Option Verdict) (start : List 
     (V start ≡ Some Yes → (reduction admits (says_yes V) start).refused ≡ false)
     × (V start ≡ Some No → HasEnded (follow V (plan_of admits (Whole start))) × ((reduction admits (says_yes V) start).refused ≡ true))
 
--- A reduction of an admitted start that was not refused ends at a yes, which is admitted, and none of the candidates with one line fewer is both listed and a yes.
+-- A reduction of an admitted start that was not refused ends at a yes, which is admitted, and each of the candidates with one line fewer that is listed has a no.
 pub record EndsWell (admits : Admits) (V : List ℕ → Option Verdict) (r : Reduction) : Type 0 where
   pub yes_at_end : V (text_of r.lines) ≡ Some Yes
   pub listed : is_listed admits r.lines ≡ true

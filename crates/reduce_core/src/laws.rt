@@ -13,13 +13,14 @@ pub fn refuses_at_no()
     ensures { RefusesAtNo }
 {}
 
-/// A reduction that was not refused ends at a yes, and without any one of its lines the verdict
-/// is no.
+/// A reduction of an admitted start that was not refused ends at a yes that is admitted, and without
+/// any one of its lines what remains isn't admitted, or its verdict is no.
 pub fn ends_minimal()
     ensures { EndsMinimal }
 {}
 
-/// All that the reducer may ask is some of the start's lines, one after another in their order.
+/// All that the reducer may ask is some of an admitted start's lines, one after another in their
+/// order, and admitted.
 pub fn asks_candidates()
     ensures { AsksCandidates }
 {}

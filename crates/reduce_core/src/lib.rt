@@ -1,7 +1,7 @@
 //! The reducers, which are asked for texts and answered with verdicts until they ask nothing more.
 //!
-//! Enter by [`LineReducer::new`], the reducer of mode `lines`, and then `asks` and `answer` of `Step`;
-//! read `specs/Reduction.antt` first. What a reducer does is defined there as a recursion over a map
+//! Enter by [`LineReducer::new`], the reducer of mode `lines` with the guard of its candidates, and then
+//! `asks` and `answer` of `Step`; read `specs/Reduction.antt` first. What a reducer does is defined there as a recursion over a map
 //! of verdicts; as code it is a machine that is asked and answered from outside
 //! (`specs/LineMachine.antt`). The laws tie the two together: each is a function that does
 //! nothing, which a caller calls so that its proof has the law. [`plain_reduction`] is the recursion
@@ -12,8 +12,6 @@ mod laws;
 mod line_reducer;
 mod lines;
 mod plain;
-#[cfg(test)]
-mod tests;
 
 pub use faults::Memory;
 pub use laws::{

@@ -51,7 +51,8 @@ struct Progress {
 /// doesn't admit counts as no, and is neither asked nor counted.
 ///
 /// An answer takes time linear in the bytes and lines that its round began with, and so much again,
-/// with a call of the guard, for each candidate that isn't admitted before the next one that is.
+/// with a call of the guard, for each candidate that isn't admitted before the next one that is: that
+/// may be some four for each line of the round.
 #[derive(Drop)]
 pub struct LineReducer<F: Relation + Drop> {
     alloc: Global,
@@ -112,7 +113,7 @@ impl<F: Relation + Drop> LineReducer<F> {
         self.progress.units
     }
 
-    /// How many tests were made, the start's included and repeated texts each time. It stays at
+    /// How many listed candidates were tried, the start included and repeated texts each time. It stays at
     /// `u64::MAX` once it is there.
     pub fn used(&self) -> u64
         ensures { result ≡ (gives self.now.state).used }

@@ -1,4 +1,4 @@
-ghost use Rattle.std.specs.Prelude.{◌≡◌, ◌≢◌, ◌≤◌, ◌<◌, ◌+◌, ◌^◌, [], ◌∷◌, ◌++◌, length, take, drop, IfOk, OnOk, ◌==◌};
+ghost use Rattle.std.specs.Prelude.{◌≡◌, ◌≢◌, ◌≤◌, ◌<◌, ◌+◌, ◌^◌, [], ◌∷◌, ◌++◌, length, take, drop, IfOk, OnOk};
 ghost use Rattle.list_ddmin.specs.ListStep.{kept_of};
 ghost use Rattle.reduce_core.specs.Lines.{lines_of, numbered_lines, numbers_of, text_of};
 
@@ -80,13 +80,6 @@ impl Lines {
         ensures { result ≡ length self.now }
     {
         self.items.len()
-    }
-
-    /// Whether there are none.
-    pub fn is_empty(&self) -> bool
-        ensures { result ≡ (length self.now == 0) }
-    {
-        self.items.is_empty()
     }
 
     /// Makes the candidate that of the lines that `keep` marks, whatever it was.
