@@ -255,8 +255,8 @@ fn asks_what_the_plain_recursion_asks(rt: HostRuntime) -> Result<(), Fail> {
 /// The texts that are asked, each with its answer, and how the reducer then ends.
 #[derive(Drop)]
 struct Run<'a> {
-    start: &'a [u8],
-    answers: &'a [(&'a [u8], bool)],
+    start: &'a str,
+    answers: &'a [(&'a str, bool)],
     end: End<'a>,
 }
 
@@ -266,11 +266,11 @@ fn runs_so<F: Relation + Drop>(
     run: &Run<'_>,
     guard: Guard<F>,
 ) -> Result<bool, Memory> {
-    let Some(mut reducer) = reducer_of(alloc, run.start, guard)? else {
+    let Some(mut reducer) = reducer_of(alloc, run.start.as_bytes(), guard)? else {
         return Ok(false);
     };
     for (text, yes) in run.answers {
-        if !answers(&mut reducer, *text, *yes)? {
+        if !answers(&mut reducer, text.as_bytes(), *yes)? {
             return Ok(false);
         }
     }
@@ -290,14 +290,14 @@ fn first_other(alloc: Global, runs: &[Run<'_>]) -> Result<Option<usize>, Memory>
 #[test]
 fn asks_and_ends_as_worked_out_by_hand(rt: HostRuntime) -> Result<(), Fail> {
     let one_line_needed = Run {
-        start: b"a\nb\nc\n",
+        start: "a\nb\nc\n",
         answers: &[
-            (b"a\nb\nc\n".as_slice(), true),
-            (b"".as_slice(), false),
-            (b"a\n".as_slice(), false),
-            (b"b\nc\n".as_slice(), true),
-            (b"b\n".as_slice(), true),
-            (b"".as_slice(), false),
+            ("a\nb\nc\n", true),
+            ("", false),
+            ("a\n", false),
+            ("b\nc\n", true),
+            ("b\n", true),
+            ("", false),
         ],
         end: End {
             text: b"b\n",
@@ -308,8 +308,8 @@ fn asks_and_ends_as_worked_out_by_hand(rt: HostRuntime) -> Result<(), Fail> {
         },
     };
     let empty_start = Run {
-        start: b"",
-        answers: &[(b"".as_slice(), true)],
+        start: "",
+        answers: &[("", true)],
         end: End {
             text: b"",
             units: 0,
@@ -319,8 +319,8 @@ fn asks_and_ends_as_worked_out_by_hand(rt: HostRuntime) -> Result<(), Fail> {
         },
     };
     let no_newline = Run {
-        start: b"a",
-        answers: &[(b"a".as_slice(), true), (b"".as_slice(), true)],
+        start: "a",
+        answers: &[("a", true), ("", true)],
         end: End {
             text: b"",
             units: 0,
@@ -330,8 +330,8 @@ fn asks_and_ends_as_worked_out_by_hand(rt: HostRuntime) -> Result<(), Fail> {
         },
     };
     let refused_start = Run {
-        start: b"a\n",
-        answers: &[(b"a\n".as_slice(), false)],
+        start: "a\n",
+        answers: &[("a\n", false)],
         end: End {
             text: b"a\n",
             units: 1,
@@ -348,14 +348,14 @@ fn asks_and_ends_as_worked_out_by_hand(rt: HostRuntime) -> Result<(), Fail> {
 #[test]
 fn asks_only_what_its_guard_admits(rt: HostRuntime) -> Result<(), Fail> {
     let keeps_c = Run {
-        start: b"a\nb\nc\n",
+        start: "a\nb\nc\n",
         answers: &[
-            (b"a\nb\nc\n".as_slice(), true),
-            (b"b\nc\n".as_slice(), true),
-            (b"c\n".as_slice(), false),
-            (b"c\n".as_slice(), false),
-            (b"c\n".as_slice(), false),
-            (b"c\n".as_slice(), false),
+            ("a\nb\nc\n", true),
+            ("b\nc\n", true),
+            ("c\n", false),
+            ("c\n", false),
+            ("c\n", false),
+            ("c\n", false),
         ],
         end: End {
             text: b"b\nc\n",
@@ -365,11 +365,11 @@ fn asks_only_what_its_guard_admits(rt: HostRuntime) -> Result<(), Fail> {
             refused: false,
         },
     };
-    let guard = guard_of(rt.alloc(), &[b"c".as_slice()])?;
+    let guard = guard_of(rt.alloc(), &[b"c"])?;
     assert!(rt; runs_so(rt.alloc(), &keeps_c, guard)?, "a keep text");
     let keeps_all = Run {
-        start: b"a\nb\nc\n",
-        answers: &[(b"a\nb\nc\n".as_slice(), true)],
+        start: "a\nb\nc\n",
+        answers: &[("a\nb\nc\n", true)],
         end: End {
             text: b"a\nb\nc\n",
             units: 3,
@@ -378,7 +378,7 @@ fn asks_only_what_its_guard_admits(rt: HostRuntime) -> Result<(), Fail> {
             refused: false,
         },
     };
-    let guard = guard_of(rt.alloc(), &[b"a\nb\nc\n".as_slice()])?;
+    let guard = guard_of(rt.alloc(), &[b"a\nb\nc\n"])?;
     assert!(rt; runs_so(rt.alloc(), &keeps_all, guard)?, "the whole start");
     Ok(())
 }
@@ -387,14 +387,14 @@ fn asks_only_what_its_guard_admits(rt: HostRuntime) -> Result<(), Fail> {
 #[test]
 fn names_lines_to_its_guard_by_their_numbers_in_the_start(rt: HostRuntime) -> Result<(), Fail> {
     let keeps_d = Run {
-        start: b"a\nb\nc\nd\n",
+        start: "a\nb\nc\nd\n",
         answers: &[
-            (b"a\nb\nc\nd\n".as_slice(), true),
-            (b"c\nd\n".as_slice(), true),
-            (b"d\n".as_slice(), false),
-            (b"d\n".as_slice(), false),
-            (b"d\n".as_slice(), false),
-            (b"d\n".as_slice(), false),
+            ("a\nb\nc\nd\n", true),
+            ("c\nd\n", true),
+            ("d\n", false),
+            ("d\n", false),
+            ("d\n", false),
+            ("d\n", false),
         ],
         end: End {
             text: b"c\nd\n",

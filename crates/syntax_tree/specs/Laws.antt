@@ -13,7 +13,7 @@ use Rattle.syntax_tree.specs.Preferred.{Preferred}
 abbrev pub ValidTreesAreDerived : Type 0
 ValidTreesAreDerived = (N : NormalForm) (s : Sym) (t : Tree) → IsValid N s t → NormalDerives N s (kinds_of t)
 
--- A preferred tree is valid for its symbol, which derives the span, and its leaves are those of the span.
+-- A preferred tree is valid for its symbol, which derives the span, and its leaves have the kinds of the span.
 pub record IsTreeOfSpan (N : NormalForm) (kinds : List ℕ) (s : Sym) (i j : ℕ) (t : Tree) : Type 0 where
   pub valid : IsValid N s t
   pub derived : DerivesSpan N kinds s i j

@@ -10,7 +10,7 @@ pub fn valid_trees_are_derived()
     ensures { ValidTreesAreDerived }
 {}
 
-/// A preferred tree is valid for its symbol, and its leaves are those of its span.
+/// A preferred tree is valid for its symbol, and its leaves have the kinds of its span.
 pub fn preferred_trees_are_valid()
     ensures { PreferredTreesAreValid }
 {

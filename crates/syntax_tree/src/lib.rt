@@ -12,6 +12,9 @@ mod laws;
 mod node;
 mod tree;
 
-pub use laws::{numbers_dont_matter, preferred_trees_are_valid, valid_trees_are_derived};
+pub use laws::{
+    numbers_dont_matter, preferred_trees_are_one, preferred_trees_are_valid,
+    valid_trees_are_derived,
+};
 pub use node::Node;
 pub use tree::Tree;
