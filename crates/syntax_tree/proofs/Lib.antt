@@ -2,3 +2,17 @@ pub mod ValidTrees
 pub mod PreferredTrees
 pub mod Decoding
 pub mod OneTree
+pub mod Within
+pub mod LeftTrees
+pub mod Exchanged
+pub mod InSlots
+pub mod SingleEdits
+pub mod NodeLists
+pub mod Finding
+pub mod LevelOrder
+pub mod KeptLeaves
+pub mod KeptKinds
+pub mod SpanLeaves
+pub mod OtherNodes
+pub mod Afters
+pub mod TokenOrder

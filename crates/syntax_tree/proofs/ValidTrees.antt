@@ -1,21 +1,24 @@
 -- What holds of valid trees.
-use Rattle.std.proofs.Common.{ℕ, List, [], ◌∷◌, ◌++◌, sym, subst}
+use Rattle.std.proofs.Common.{◌≡◌, ◌⊎◌, inl, inr, ℕ, List, [], ◌∷◌, ◌++◌, Some, slice_get, sym, subst, arith}
+use Rattle.std.proofs.lemmas.Bool.{cases_lt}
 use Rattle.std.proofs.lemmas.List.{append-nil}
 use Rattle.grammar_tree.proofs.Places.{contains_at}
 use Rattle.normal_form.specs.declared.normal.Sym.{Sym}
 use Rattle.normal_form.specs.declared.normal.Sym.TheVariants.{Kind, Rule}
-use Rattle.normal_form.specs.Form.{NormalForm}
+use Rattle.normal_form.specs.Form.{RuleForm, NormalForm}
 use Rattle.normal_form.specs.NormalDerives.{NormalDerives, NormalDerivesSeq, NormalDerivesMany, of_kind, of_set, of_done, of_end, of_more}
 use Rattle.normal_form.specs.NormalDerives as derives
+use Rattle.normal_form.specs.FormLaws.{ElementsAreNotEmpty}
 use Rattle.compat_table.proofs.Fitting.{derive_more}
-use Rattle.syntax_tree.specs.Trees.{Tree, Trees, kinds_of, kinds_of_all}
+use Rattle.syntax_tree.specs.Trees.{PlainTree, PlainTrees, kinds_of, kinds_of_all, weight}
 use Rattle.syntax_tree.specs.Valid.{IsValid, AreValid, EachIsValid, of_leaf, of_regular, of_absent, of_present, of_star, of_plus, of_no_slots, of_slot, of_none, of_next}
-use Rattle.syntax_tree.specs.Laws.{ValidTreesAreDerived}
+use Rattle.syntax_tree.specs.Laws.{ElementsHaveTokens, ValidTreesAreDerived}
+use Rattle.syntax_tree.proofs.LeftTrees.{no_leaves}
 
 module _ (N : NormalForm) where
   mutual
     -- a slot derives the kinds of each tree that is valid for it
-    pub derived : (s : Sym) (t : Tree) → IsValid N s t → NormalDerives N s (kinds_of t)
+    pub derived : (s : Sym) (t : PlainTree) → IsValid N s t → NormalDerives N s (kinds_of t)
     derived s t (of_leaf s' n k i fits) = derive_more N (Kind k) s fits (k ∷ []) (of_kind k)
     derived s t (of_regular s' n r a ts alts alt fits at_rule at valid) =
         derive_more N (Rule r) s fits (kinds_of_all ts) (derives.of_regular r alts alt (kinds_of_all ts) at_rule (contains_at alts a alt at) (derived_seq alt ts valid))
@@ -27,13 +30,26 @@ module _ (N : NormalForm) where
     derived s t (of_plus s' n r u ts x fits at_rule (of_next x' u' ts' valid each)) =
         derive_more N (Rule r) s fits (kinds_of u ++ kinds_of_all ts) (derives.of_plus r x (kinds_of u) (kinds_of_all ts) at_rule (derived x u valid) (derived_each x ts each))
 
-    derived_seq : (ss : List Sym) (ts : Trees) → AreValid N ss ts → NormalDerivesSeq N ss (kinds_of_all ts)
+    derived_seq : (ss : List Sym) (ts : PlainTrees) → AreValid N ss ts → NormalDerivesSeq N ss (kinds_of_all ts)
     derived_seq ss ts of_no_slots = of_done
     derived_seq ss ts (of_slot s ss' t ts' valid rest) = derives.of_next s ss' (kinds_of t) (kinds_of_all ts') (derived s t valid) (derived_seq ss' ts' rest)
 
-    derived_each : (s : Sym) (ts : Trees) → EachIsValid N s ts → NormalDerivesMany N s (kinds_of_all ts)
+    derived_each : (s : Sym) (ts : PlainTrees) → EachIsValid N s ts → NormalDerivesMany N s (kinds_of_all ts)
     derived_each s ts (of_none s') = of_end s
     derived_each s ts (of_next s' t ts' valid rest) = of_more s (kinds_of t) (kinds_of_all ts') (derived s t valid) (derived_each s ts' rest)
 
 pub valid_derived : ValidTreesAreDerived
 valid_derived N s t valid = derived N s t valid
+
+pub elements_weigh : ElementsAreNotEmpty → ElementsHaveTokens
+elements_weigh law N normal r x t rule valid = elim (cases_lt 0 (weight t)) [
+  | inl has ↦ has
+  | inr none ↦ absurd (not_empty rule (empty (omega (arith, none))))
+]
+  where
+    empty : weight t ≡ 0 → NormalDerives N x []
+    empty e = let P : List ℕ → Type 0 = λ w. NormalDerives N x w in subst P (no_leaves (λ k i. k) t e) (derived N x t valid)
+
+    not_empty : (slice_get N.rules r ≡ Some (RuleForm.star x)) ⊎ (slice_get N.rules r ≡ Some (RuleForm.plus x)) → NormalDerives N x [] → ⊥
+    not_empty (inl star) d = (law N normal).star r x star d
+    not_empty (inr plus) d = (law N normal).plus r x plus d

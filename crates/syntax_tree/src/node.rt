@@ -3,7 +3,7 @@
 use normal_form::Sym;
 
 /// A node or leaf of a parsed tree. Nodes are numbered from 0, each before those below it, from left
-/// to right.
+/// to right. It takes 40 bytes, and a [`Tree`](crate::Tree) 4 more for each.
 #[derive(Clone, Copy, Debug, PartialEq, Eq)]
 pub struct Node {
     /// Its own symbol: a leaf's is its token's kind, and a node's its rule.

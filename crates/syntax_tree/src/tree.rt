@@ -1,11 +1,14 @@
 //! Trees of all tokens of an input.
 
-ghost use Rattle.std.specs.Prelude.{◌≡◌, ◌<◌, ◌^◌, length, vec_len};
-ghost use Rattle.syntax_tree.specs.Trees.{Tree as PlainTree};
-ghost use Rattle.syntax_tree.specs.Nodes.{AreNodesOf, whole};
+ghost use Rattle.std.specs.Prelude.{◌≡◌, ◌+◌, ◌<◌, ◌^◌, IfOk, Some, length, vec_len};
+ghost use Rattle.syntax_tree.specs.Trees.{PlainTree, PlainTrees, count, size, size_all};
+ghost use Rattle.syntax_tree.specs.Numbered.{subtree};
+ghost use Rattle.syntax_tree.specs.Nodes.{AreAfters, AreNodes, AreNodesOf, HaveAfters, whole, whole_of};
 
 use crate::node::Node;
+use faults::Memory;
 use normal_form::{Normal, Sym};
+use std::alloc::Global;
 use std::marker::Model;
 
 /// The tree of an input's tokens, with the normal form that it is over and the slot that it is in.
@@ -14,6 +17,7 @@ pub struct Tree {
     normal: Normal,
     start: Sym,
     nodes: Vec<Node>,
+    after: Vec<u32>,
 }
 
 impl Model for Tree {
@@ -22,26 +26,29 @@ impl Model for Tree {
     ghost Value = { SyntaxTree };
 
     ghost use Rattle.std.specs.Prelude.{◌<◌, ◌^◌, vec_len};
-    ghost use Rattle.syntax_tree.specs.Nodes.{AreNodesOf, whole_of};
+    ghost use Rattle.syntax_tree.specs.Nodes.{AreAfters, AreNodesOf, whole_of};
 
     ghost view = { λ t. record { form = t.normal; start = t.start; nodes = t.nodes.items } };
 
-    ghost invariant = { λ t. AreNodesOf t.normal t.start t.nodes.items (whole_of t.nodes.items) × (vec_len t.nodes < 2 ^ 32) };
+    ghost invariant = { λ t. AreNodesOf t.normal t.start t.nodes.items (whole_of t.nodes.items) × (vec_len t.nodes < 2 ^ 32) × AreAfters t.after.items (whole_of t.nodes.items) };
 }
 
 impl Tree {
-    /// The tree of these nodes, in the order of their numbers, for a slot.
-    pub fn new(normal: Normal, start: Sym, nodes: Vec<Node>) -> Tree
+    /// The tree of these nodes, in the order of their numbers, for a slot. It takes time linear in
+    /// the number of nodes, and 4 bytes for each beside the nodes themselves.
+    pub fn new(alloc: Global, normal: Normal, start: Sym, nodes: Vec<Node>) -> Result<Tree, Memory>
         requires nodes { (t : PlainTree) × AreNodesOf normal start nodes.items t }
         requires few { vec_len nodes < 2 ^ 32 }
-        ensures parts { result ≡ record { form = normal; start = start; nodes = nodes.items } }
-        ensures whole { (t : PlainTree) → AreNodesOf normal start nodes.items t → whole result ≡ t }
+        ensures parts { IfOk result (λ tree. tree ≡ record { form = normal; start = start; nodes = nodes.items }) }
+        ensures whole { IfOk result (λ tree. (t : PlainTree) → AreNodesOf normal start nodes.items t → whole tree ≡ t) }
     {
-        Tree {
+        let after = afters(alloc, nodes.as_slice())?;
+        Ok(Tree {
             normal,
             start,
             nodes,
-        }
+            after,
+        })
     }
 
     /// The normal form that the tree is over.
@@ -66,4 +73,38 @@ impl Tree {
     {
         self.nodes.as_slice()
     }
+
+    /// The number after those of the node and of all below it: below the node are exactly the
+    /// numbers from `node + 1` up to but not including this one.
+    pub fn after(&self, node: u32) -> u32
+        requires { node < length self.now.nodes }
+        ensures { (u : PlainTree) × (subtree node (whole self.now) ≡ Some u) × (result ≡ node + size u) }
+    {
+        self.after[node as usize]
+    }
+}
+
+/// For each node the number after those of the node and of all below it.
+fn afters(alloc: Global, nodes: &[Node]) -> Result<Vec<u32>, Memory>
+    requires nodes { AreNodes nodes.now }
+    requires few { length nodes.now < 2 ^ 32 }
+    ensures { IfOk result (λ after. AreAfters after.items (whole_of nodes.now)) }
+{
+    let mut after = vec![in alloc; 0u32; nodes.len()]?;
+    for number in (0..nodes.len()).rev() {
+        after[number] = after_children(after.as_slice(), number as u32 + 1, nodes[number].children);
+    }
+    Ok(after)
+}
+
+/// The number after so many trees, of which the first has the number `first`.
+fn after_children(after: &[u32], first: u32, children: u32) -> u32
+    requires { (ts : PlainTrees) × (count ts ≡ children) × HaveAfters after.now first ts }
+    ensures { (ts : PlainTrees) → count ts ≡ children → HaveAfters after.now first ts → result ≡ first + size_all ts }
+{
+    let mut number = first;
+    for i in 0..children {
+        number = after[number as usize];
+    }
+    number
 }

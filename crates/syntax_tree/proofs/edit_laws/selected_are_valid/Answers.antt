@@ -1,0 +1,5 @@
+use Rattle.syntax_tree.proofs.SingleEdits as lemma
+use Rattle.syntax_tree.proofs.edit_laws.selected_are_valid.Goals as goal
+
+pub returns : goal.returns
+returns c = lemma.selected
