@@ -1,0 +1,4 @@
+pub mod OrderLemmas
+pub mod QueueLemmas
+pub mod Counts
+pub mod HeapLemmas
