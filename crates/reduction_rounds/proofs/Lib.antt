@@ -1,0 +1,6 @@
+pub mod Continued
+pub mod Fuel
+pub mod Following
+pub mod Ends
+pub mod Candidates
+pub mod FieldLemmas

@@ -1,0 +1,5 @@
+use Rattle.reduction_rounds.proofs.Fuel as lemmas
+use Rattle.reduction_rounds.proofs.laws.goes_by_its_rounds.Goals as goal
+
+pub returns : goal.returns
+returns g c = λ mode. lemmas.goes_by_its_rounds mode

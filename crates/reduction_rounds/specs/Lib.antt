@@ -1,0 +1,7 @@
+pub mod Trials
+pub mod Mode
+pub mod Reduction
+pub mod RoundsPlan
+pub mod Laws
+pub mod Fields
+pub mod FieldProps
