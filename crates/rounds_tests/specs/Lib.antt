@@ -1,0 +1,3 @@
+pub mod ByteMode
+pub mod Fields
+pub mod FieldProps

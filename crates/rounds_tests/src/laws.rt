@@ -1,0 +1,17 @@
+//! What holds of the reducer of bytes.
+
+ghost use Rattle.std.specs.Prelude.{List, ℕ, Option};
+ghost use Rattle.script_gate.specs.declared.gate.Verdict.{Verdict};
+ghost use Rattle.reduction_rounds.specs.Laws.{EndsMinimal, IsTheReduction};
+ghost use Rattle.rounds_tests.specs.ByteMode.{IsByteEdit, byte_mode};
+
+/// Followed over a map of verdicts, the reducer is the recursion of its mode.
+pub fn follows_reduction()
+    ensures { (start : List ℕ) (V : List ℕ → Option Verdict) → IsTheReduction (byte_mode start) V }
+{}
+
+/// The end is a yes, and without any one byte after the mark what remains isn't listed, or its
+/// verdict is no.
+pub fn ends_minimal()
+    ensures { (start : List ℕ) → EndsMinimal (byte_mode start) IsByteEdit }
+{}
