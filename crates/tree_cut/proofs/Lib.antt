@@ -1,0 +1,10 @@
+pub mod Rising
+pub mod LeftTrees
+pub mod EditedTrees
+pub mod Deletions
+pub mod Spans
+pub mod CutEdits
+pub mod Splits
+pub mod CutFacts
+pub mod Positions
+pub mod CutCalls

@@ -1,0 +1,11 @@
+pub use Rattle.normal_form.specs.Form
+pub use Rattle.compat_table.specs.Fits
+pub use Rattle.syntax_tree.specs.Trees
+pub use Rattle.syntax_tree.specs.Numbered
+pub use Rattle.syntax_tree.specs.Valid
+pub use Rattle.syntax_tree.specs.Nodes
+pub use Rattle.syntax_tree.specs.Left
+pub mod Tokens
+pub mod Cuts
+pub mod TreeLaws
+pub mod Steps

@@ -1,0 +1,19 @@
+//! Cuts: what is left of a parsed tree after edits.
+//!
+//! A [`Cut`] has a [`Mark`] for each node of a [`Tree`](syntax_tree::Tree): the node is kept, deleted,
+//! or replaced by one below it. An edit writes one mark, and takes the tokens that are gone from the
+//! list of those that are left. The tree itself is never changed.
+//!
+//! Read `specs/Cuts.antt` first: `cut_tree` is the plain tree that is left, and `IsCutOf` says what
+//! holds of each cut of a tree. An edit gives exactly the tree that was left, with that one edit.
+#![tactic(auto)]
+
+mod cut;
+mod laws;
+mod mark;
+mod occupant;
+mod tokens;
+
+pub use cut::Cut;
+pub use faults::Memory;
+pub use mark::Mark;

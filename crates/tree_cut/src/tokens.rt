@@ -1,0 +1,78 @@
+//! Lists of tokens, by their numbers, which rise.
+
+ghost use Rattle.std.specs.Prelude.{◌≡◌, ◌≤◌, ◌++◌, IfOk, length, take, drop};
+ghost use Rattle.std.specs.List.{range_with_len};
+ghost use Rattle.std.specs.List.Sorted.{IsStrictlyIncreasing};
+ghost use Rattle.tree_cut.specs.Tokens.{IsSplitAt, before, from_on, within};
+
+use faults::Memory;
+use std::alloc::Global;
+use syntax_tree::Node;
+
+/// How many of the tokens are before the bound. It takes time logarithmic in the number of tokens.
+pub(crate) fn count_before(tokens: &[u32], bound: u32) -> usize
+    requires { IsStrictlyIncreasing tokens.now }
+    ensures { IsSplitAt tokens.now bound result }
+{
+    tokens.partition_point(|token| *token < bound)
+}
+
+/// How many of the tokens are in the span of the node.
+pub(crate) fn count_within(tokens: &[u32], node: &Node) -> usize
+    requires rising { IsStrictlyIncreasing tokens.now }
+    requires span { node.now.first ≤ node.now.end }
+    ensures { result ≡ length (within node.now.first node.now.end tokens.now) }
+{
+    count_before(tokens, node.end) - count_before(tokens, node.first)
+}
+
+/// Removes the tokens from the index `from` on and before the index `to`.
+fn remove_between(tokens: &mut Vec<u32>, from: usize, to: usize)
+    requires from { from ≤ to }
+    requires to { to ≤ length tokens.old.items }
+    ensures { tokens.new.items ≡ take from tokens.old.items ++ drop to tokens.old.items }
+{
+    let len = tokens.len();
+    tokens.copy_within(to..len, from);
+    tokens.truncate(from + (len - to));
+}
+
+/// Removes the tokens in the span of the node. It takes time linear in the number of tokens after
+/// these.
+pub(crate) fn remove_within(tokens: &mut Vec<u32>, node: &Node)
+    requires rising { IsStrictlyIncreasing tokens.old.items }
+    requires span { node.now.first ≤ node.now.end }
+    ensures { tokens.new.items ≡ before node.now.first tokens.old.items ++ from_on node.now.end tokens.old.items }
+{
+    let from = count_before(tokens, node.first);
+    let to = count_before(tokens, node.end);
+    remove_between(tokens, from, to);
+}
+
+/// Removes the tokens in the span of the node `old`, all but those in the span of the node `new`,
+/// which are no more. It takes time linear in the number of tokens from the first of these on.
+pub(crate) fn keep_within(tokens: &mut Vec<u32>, old: &Node, new: &Node)
+    requires rising { IsStrictlyIncreasing tokens.old.items }
+    requires old_span { old.now.first ≤ old.now.end }
+    requires new_span { new.now.first ≤ new.now.end }
+    requires fewer { length (within new.now.first new.now.end tokens.old.items) ≤ length (within old.now.first old.now.end tokens.old.items) }
+    ensures { tokens.new.items ≡ before old.now.first tokens.old.items ++ within new.now.first new.now.end tokens.old.items ++ from_on old.now.end tokens.old.items }
+{
+    let from = count_before(tokens, old.first);
+    let to = count_before(tokens, old.end);
+    let first = count_before(tokens, new.first);
+    let end = count_before(tokens, new.end);
+    tokens.copy_within(first..end, from);
+    remove_between(tokens, from + (end - first), to);
+}
+
+/// The numbers from 0 on and below the bound.
+pub(crate) fn numbers_below(alloc: Global, bound: u32) -> Result<Vec<u32>, Memory>
+    ensures { IfOk result (λ numbers. numbers.items ≡ range_with_len 0 bound) }
+{
+    let mut numbers = Vec::new(alloc);
+    for number in 0..bound {
+        numbers.push(number)?;
+    }
+    Ok(numbers)
+}
