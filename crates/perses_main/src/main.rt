@@ -2,32 +2,19 @@
 //!
 //! `perses reduce --mode lines --input F --output F --script F`, with `--keep T` up to eight times,
 //! asks the script for one candidate after another and writes the lines that are left.
-//! `perses normal --grammar F` prints the normal form of a grammar. The work is done by [`call::perses`], whose contract is the program's; here it
-//! gets the machine's files, processes and standard output. Read first how `reduce` ends, by its
-//! status: `ReduceEnds` in `specs/Reduce.antt`.
+//! `perses normal --grammar F` prints the normal form of a grammar. The work is done by the top call,
+//! [`top_call::perses`], whose contract is the program's; here it gets the machine's files, processes
+//! and standard output.
 #![tactic(auto)]
 
 mod args;
-mod call;
-mod end;
-mod file;
-mod laws;
-mod normal;
-#[cfg(test)]
-mod normal_tests;
-mod reduce;
-mod run;
-mod status;
-#[cfg(test)]
-mod tests;
-mod words;
 
 use args::words_of;
-use call::perses;
 use edge_io::{DiskFiles, StreamSink};
 use script_gate::ProcessGate;
 use std::io;
 use std::process::ExitCode;
+use top_call::perses;
 
 /// Runs the program over the machine's files, processes and standard output.
 fn run_program(rt: &HostRuntime) -> io::Result<u8> {

@@ -1,0 +1,147 @@
+//! How a run ended, as it is printed.
+
+use crate::case::Case;
+use anyhow::{Result, bail};
+use edge_io::{MemFiles, MemSink};
+use percent_encoding::{CONTROLS, percent_encode};
+use script_gate::{Gate, ListGate, Log, RuleGate, Verdict};
+use std::alloc::Global;
+use top_call::{Ended, perses};
+use verdict_table::Records;
+
+/// The most bytes that are printed; of a longer text its length is.
+const SHOWN: usize = 400;
+
+/// What a run leaves, beside the gate.
+#[derive(Drop)]
+struct Outcome {
+    ended: Ended,
+    files: MemFiles,
+    out: MemSink,
+}
+
+/// Runs the words over a gate.
+fn run_over<G: Gate>(
+    alloc: Global,
+    case: &Case,
+    words: &[String],
+    gate: &mut G,
+) -> Result<Outcome> {
+    let mut files = case.mem_files(alloc)?;
+    let mut out = case.mem_sink(alloc)?;
+    let ended = perses(alloc, words, &mut files, gate, &mut out);
+    Ok(Outcome { ended, files, out })
+}
+
+fn by_rule<const R: u64>(alloc: Global, case: &Case, words: &[String]) -> Result<String> {
+    let mut gate = RuleGate::<R>::new(alloc, true);
+    let outcome = run_over(alloc, case, words, &mut gate)?;
+    shown(alloc, case, &outcome, gate.log())
+}
+
+fn by_answers(alloc: Global, case: &Case, words: &[String]) -> Result<String> {
+    let answers = Vec::from_slice(alloc, &case.answers)?;
+    let Some(later) = answers.last().copied() else {
+        bail!("no answer");
+    };
+    let mut gate = ListGate::new(alloc, answers, later);
+    let outcome = run_over(alloc, case, words, &mut gate)?;
+    shown(alloc, case, &outcome, Some(gate.log()))
+}
+
+/// Runs the words over the objects of the case, and says how the run ended.
+pub fn outcome_of(alloc: Global, case: &Case, words: &[String]) -> Result<String> {
+    if !case.answers.is_empty() {
+        return by_answers(alloc, case, words);
+    }
+    match case.rule {
+        0 => by_rule::<0>(alloc, case, words),
+        98 => by_rule::<98>(alloc, case, words),
+        255 => by_rule::<255>(alloc, case, words),
+        rule => bail!("no gate has the rule {rule}"),
+    }
+}
+
+fn add_line(shown: &mut String, what: &str) -> Result<()> {
+    shown.push_str("\n    ")?;
+    shown.push_str(what)?;
+    Ok(())
+}
+
+/// Adds bytes to a line, if there are any.
+fn add_bytes(shown: &mut String, alloc: Global, bytes: &[u8]) -> Result<()> {
+    if bytes.len() > SHOWN {
+        let length = format!(in alloc; " ({} bytes)", bytes.len())?;
+        shown.push_str(length.as_str())?;
+    } else if !bytes.is_empty() {
+        shown.push(' ')?;
+        percent_encode(bytes, CONTROLS).append_to(shown)?;
+    }
+    Ok(())
+}
+
+fn add_records(shown: &mut String, alloc: Global, records: &Records) -> Result<()> {
+    for record in records.as_slice() {
+        let verdict = match record.verdict {
+            Verdict::Yes => "yes",
+            Verdict::No => "no",
+        };
+        add_line(shown, verdict)?;
+        add_bytes(shown, alloc, record.text.as_slice())?;
+    }
+    Ok(())
+}
+
+/// Whether the texts that were asked are those of the records.
+fn has_asked(log: &Log, records: &Records) -> bool {
+    let (asked, records) = (log.asked.as_slice(), records.as_slice());
+    asked.len() == records.len()
+        && asked.iter().zip(records).all(|(asked, record)| asked.as_slice()
+            == record.text.as_slice())
+}
+
+/// The gate's opening, and whether it was asked for other texts than the recorded ones.
+fn add_log(shown: &mut String, alloc: Global, log: &Log, records: &Records) -> Result<()> {
+    if let Some(opening) = &log.opening {
+        let line = format!(in alloc; "worker {} opened with", opening.number)?;
+        add_line(shown, line.as_str())?;
+        add_bytes(shown, alloc, opening.work.as_slice())?;
+        add_bytes(shown, alloc, opening.script.as_slice())?;
+        add_bytes(shown, alloc, opening.name.as_slice())?;
+    }
+    if !has_asked(log, records) {
+        add_line(shown, "other texts were asked than recorded")?;
+    }
+    Ok(())
+}
+
+/// The files of the case that changed, and the file `o`, where it is there.
+fn add_files(shown: &mut String, alloc: Global, case: &Case, files: &MemFiles) -> Result<()> {
+    for (name, bytes) in &case.files {
+        if files.content(name) != Some(bytes.as_slice()) {
+            add_line(shown, "changed")?;
+            add_bytes(shown, alloc, name.as_bytes())?;
+        }
+    }
+    if let Some(bytes) = files.content("o") {
+        add_line(shown, "file o")?;
+        add_bytes(shown, alloc, bytes)?;
+    }
+    Ok(())
+}
+
+fn shown(alloc: Global, case: &Case, outcome: &Outcome, log: Option<&Log>) -> Result<String> {
+    let mut shown = format!(in alloc; "    status {}", outcome.ended.status)?;
+    if !outcome.out.bytes().is_empty() {
+        add_line(&mut shown, "put")?;
+        add_bytes(&mut shown, alloc, outcome.out.bytes())?;
+    }
+    let records = &outcome.ended.records;
+    add_records(&mut shown, alloc, records)?;
+    match log {
+        Some(log) => add_log(&mut shown, alloc, log, records)?,
+        None => bail!("the gate has no log"),
+    }
+    add_files(&mut shown, alloc, case, &outcome.files)?;
+    Ok(shown)
+}

@@ -1,7 +1,0 @@
-use Rattle.perses_main.proofs.NormalLemmas.{normal_ends, prints_normal}
-use Rattle.perses_main.proofs.normal.normal.Goals as goal
-
-pub returns : goal.returns
-returns g c = prints_normal c.args.grammar.now _ _ _ _
-    (normal_ends c.args.grammar.now _ _ _ _ c.form_of_file-outcome.result c.end_with.result c.form_of_file-outcome.ensures.form c.form_of_file-outcome.ensures.quiet c.form_of_file-outcome.ensures.refused c.end_with.ensures)
-    c.form_of_file-outcome.ensures.same

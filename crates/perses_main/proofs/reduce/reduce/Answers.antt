@@ -1,6 +1,0 @@
-use Rattle.perses_main.specs.Words.{options_of}
-use Rattle.perses_main.proofs.CommandLemmas.{reduce_ends}
-use Rattle.perses_main.proofs.reduce.reduce.Goals as goal
-
-pub returns : goal.returns
-returns g c = rw c.into_records.ensures.records (reduce_ends (options_of c.args.line) g.G.Gate.may_say _ _ _ c.reduce_steps-outcome.result c.end.result c.reduce_steps-outcome.ensures c.end.ensures)

@@ -1,9 +1,0 @@
-pub mod Words
-pub mod World
-pub mod Status
-pub mod Run
-pub mod Reduce
-pub mod Normal
-pub mod Call
-pub mod ReduceByStatus
-pub mod NormalByStatus

@@ -1,0 +1,45 @@
+//! The top call.
+
+ghost use Rattle.std.specs.Prelude.{◌≡◌, ◌↔◌, None, map, string_bytes};
+ghost use Rattle.top_call.specs.Call.{RunsCommand};
+ghost use Rattle.top_call.specs.Words.{command_line_of};
+ghost use Rattle.top_call.specs.World.{seen};
+
+use crate::end::{Ended, end_refused};
+use crate::normal::normal;
+use crate::reduce::reduce;
+use crate::status::Refusal;
+use crate::words::{CommandLine, read_words};
+use edge_io::{Files, Sink};
+use script_gate::Gate;
+use std::alloc::Global;
+use verdict_table::Records;
+
+/// Does what the words ask for. What it promises at each status is stated with the command:
+/// `ReduceEnds` for `reduce`, `NormalEnds` for `normal`. Words that are no command line have status
+/// 2, and no others.
+pub fn perses<F: Files, G: Gate, O: Sink>(
+    alloc: Global,
+    words: &[String],
+    files: &mut F,
+    gate: &mut G,
+    out: &mut O,
+) -> Ended
+    ensures runs { RunsCommand G.may_say result.records
+        (record { files = seen F.content F.faults files.old; gate = seen G.log G.faults gate.old; out = seen O.put_so_far O.faults out.old })
+        (record { files = seen F.content F.faults files.new; gate = seen G.log G.faults gate.new; out = seen O.put_so_far O.faults out.new })
+        result.status (command_line_of (map string_bytes words.now)) }
+    ensures usage { (result.status ≡ 2) ↔ (command_line_of (map string_bytes words.now) ≡ None) }
+{
+    match read_words(words) {
+        None => Ended {
+            status: end_refused(out, &Refusal::Usage),
+            records: Records::new(alloc),
+        },
+        Some(CommandLine::Reduce(line)) => reduce(alloc, line, files, gate, out),
+        Some(CommandLine::Normal(grammar)) => Ended {
+            status: normal(alloc, grammar, files, out),
+            records: Records::new(alloc),
+        },
+    }
+}

@@ -1,0 +1,151 @@
+ghost use Rattle.std.specs.Prelude.{◌≡◌, IfOk, None, Some, MatchOption, codes, map, string_bytes};
+ghost use Rattle.top_call.specs.Words.{are_keeps, command_line_of, command_read, file_name_of, first_option, is_value, keeps_in, normal_line, options_of, reduce_line};
+
+use faults::Memory;
+use keep_guard::KeepTexts;
+use std::alloc::Global;
+
+/// What a command line of `reduce` gives.
+#[derive(Clone, Copy, Debug)]
+pub struct ReduceLine<'a> {
+    /// The file to be reduced.
+    pub input: &'a str,
+    /// The file that the result is written to.
+    pub output: &'a str,
+    /// The script that says whether a candidate is interesting.
+    pub script: &'a str,
+    /// The words of the keep texts, each after the word `--keep`.
+    pub keeps: &'a [String],
+}
+
+/// What a command line asks for.
+#[derive(Clone, Copy, Debug)]
+pub enum CommandLine<'a> {
+    /// `reduce`: a file is reduced.
+    Reduce(ReduceLine<'a>),
+    /// `normal`: the normal form of the grammar in this file is printed.
+    Normal(&'a str),
+}
+
+/// The command line that the words are, the first of which is the program's name. None where they
+/// are no command line.
+pub fn read_words(words: &[String]) -> Option<CommandLine<'_>>
+    ensures { MatchOption result
+        (command_line_of (map string_bytes words.entry.now) ≡ None)
+        (λ line. command_line_of (map string_bytes words.entry.now) ≡ Some (command_read line)) }
+{
+    let [_, command, words @ ..] = words else {
+        return None;
+    };
+    if command.as_str() == "reduce" {
+        Some(CommandLine::Reduce(read_reduce(words)?))
+    } else if command.as_str() == "normal" {
+        Some(CommandLine::Normal(read_normal(words)?))
+    } else {
+        None
+    }
+}
+
+/// What the words after `reduce` give.
+fn read_reduce(words: &[String]) -> Option<ReduceLine<'_>>
+    ensures { MatchOption result
+        (reduce_line (map string_bytes words.entry.now) ≡ None)
+        (λ line. reduce_line (map string_bytes words.entry.now) ≡ Some (options_of line)) }
+{
+    let (mode, words) = take_option(words, "--mode")?;
+    if mode != "lines" {
+        return None;
+    }
+    let (input, words) = take_option(words, "--input")?;
+    let (output, words) = take_option(words, "--output")?;
+    let (script, keeps) = take_option(words, "--script")?;
+    if !are_keeps(keeps) {
+        return None;
+    }
+    Some(ReduceLine {
+        input,
+        output,
+        script,
+        keeps,
+    })
+}
+
+/// The most keep texts of a command line.
+const MOST_KEEPS: u32 = 8;
+
+/// Whether the words are `--keep T`, at most [`MOST_KEEPS`] times.
+fn are_keeps(words: &[String]) -> bool
+    ensures { result ≡ are_keeps 8 (map string_bytes words.now) }
+{
+    let mut rest = words;
+    let mut count = 0;
+    while let Some((_, later)) = take_option(rest, "--keep") {
+        if count == MOST_KEEPS {
+            return false;
+        }
+        count += 1;
+        rest = later;
+    }
+    rest.is_empty()
+}
+
+/// The keep texts of such words, in their order.
+pub fn keep_texts<'a>(alloc: Global, words: &'a [String]) -> Result<KeepTexts<'a>, Memory>
+    ensures { IfOk result (λ keeps. keeps ≡ keeps_in (map string_bytes words.entry.now)) }
+{
+    let mut keeps = KeepTexts::new(alloc);
+    let mut rest = words;
+    while let [_, value, later @ ..] = rest {
+        keeps.push(value.as_bytes())?;
+        rest = later;
+    }
+    Ok(keeps)
+}
+
+/// The grammar's path after the word `normal`.
+fn read_normal(words: &[String]) -> Option<&str>
+    ensures { MatchOption result
+        (normal_line (map string_bytes words.entry.now) ≡ None)
+        (λ grammar. normal_line (map string_bytes words.entry.now) ≡ Some grammar.now) }
+{
+    let (grammar, words) = take_option(words, "--grammar")?;
+    if words.is_empty() {
+        Some(grammar)
+    } else {
+        None
+    }
+}
+
+/// The value of the option of this name, where the words begin with it, and the words after it.
+fn take_option<'a>(words: &'a [String], name: &str) -> Option<(&'a str, &'a [String])>
+    ensures { MatchOption result
+        (first_option name.now (map string_bytes words.entry.now) ≡ None)
+        (λ t. first_option name.now (map string_bytes words.entry.now)
+        ≡ Some (record { value = t.0.now; rest = map string_bytes t.1.now })) }
+{
+    let [word, value, rest @ ..] = words else {
+        return None;
+    };
+    if word.as_str() == name && is_value(value.as_str()) {
+        Some((value.as_str(), rest))
+    } else {
+        None
+    }
+}
+
+/// Whether the word may be an option's value.
+fn is_value(word: &str) -> bool
+    ensures { result ≡ is_value word.now }
+{
+    !word.is_empty() && !word.starts_with('-')
+}
+
+/// The part of a path after its last slash, or the whole path.
+pub fn file_name_of(path: &str) -> &str
+    ensures { result.now ≡ file_name_of path.entry.now }
+{
+    match path.rsplit_once('/') {
+        Some((_, name)) => name,
+        None => path,
+    }
+}
