@@ -6,12 +6,12 @@ use std::test::Fail;
 
 /// A call of files, with the answer that is wanted.
 #[derive(Clone, Copy)]
-enum Call<'a> {
-    Read(&'a str, u64, Result<&'a str, FileFault>),
-    Write(&'a str, &'a str, Result<(), WriteFault>),
+enum Call {
+    Read(&'static str, u64, Result<&'static str, FileFault>),
+    Write(&'static str, &'static str, Result<(), WriteFault>),
 }
 
-fn is_answered<F: Files>(files: &mut F, call: Call<'_>) -> bool {
+fn is_answered<F: Files>(files: &mut F, call: Call) -> bool {
     match call {
         Call::Read(name, limit, wanted) => match files.read(name, limit) {
             Ok(bytes) => wanted.is_ok_and(|text| text.as_bytes() == bytes.as_slice()),
@@ -22,7 +22,7 @@ fn is_answered<F: Files>(files: &mut F, call: Call<'_>) -> bool {
 }
 
 /// The number, from 0, of the first call that isn't answered so.
-fn first_other<F: Files>(files: &mut F, calls: &[Call<'_>]) -> Option<usize> {
+fn first_other<F: Files>(files: &mut F, calls: &[Call]) -> Option<usize> {
     for (number, call) in calls.iter().enumerate() {
         if !is_answered(files, *call) {
             return Some(number);
@@ -31,15 +31,62 @@ fn first_other<F: Files>(files: &mut F, calls: &[Call<'_>]) -> Option<usize> {
     None
 }
 
-fn in_memory(alloc: Global, entries: &[(&str, &str)], fail: &[u64]) -> Result<MemFiles, Fail> {
+/// Files in memory, what they are asked, and what they then hold, where they are there.
+#[derive(Clone, Copy)]
+struct Case {
+    entries: &'static [(&'static str, &'static str)],
+    /// The numbers of the calls that fail, from 1.
+    failing: &'static [u64],
+    calls: &'static [Call],
+    faults: u64,
+    contents: &'static [(&'static str, Option<&'static str>)],
+}
+
+/// Reads and writes of whole files, and calls that are made to fail.
+const CASES: [Case; 2] = [
+    Case {
+        entries: &[("a", "first"), ("b", ""), ("a", "second"), ("k", "kept")],
+        failing: &[],
+        calls: &[
+            Call::Read("a", 5, Ok("first")),
+            Call::Read("b", 0, Ok("")),
+            Call::Read("a", 4, Err(FileFault::TooLong)),
+            Call::Read("c", 5, Err(FileFault::Failed)),
+            Call::Write("a", "new", Ok(())),
+            Call::Write("c", "", Ok(())),
+        ],
+        faults: 1,
+        contents: &[
+            ("a", Some("new")),
+            ("b", Some("")),
+            ("c", Some("")),
+            ("d", None),
+            ("k", Some("kept")),
+        ],
+    },
+    Case {
+        entries: &[("a", "old")],
+        failing: &[2, 3],
+        calls: &[
+            Call::Read("a", 3, Ok("old")),
+            Call::Read("a", 3, Err(FileFault::Failed)),
+            Call::Write("a", "new", Err(WriteFault::Failed)),
+            Call::Read("a", 3, Ok("old")),
+        ],
+        faults: 2,
+        contents: &[("a", Some("old"))],
+    },
+];
+
+fn files_of(alloc: Global, case: &Case) -> Result<MemFiles, Fail> {
     let mut held = Vec::new(alloc);
-    for (name, text) in entries {
+    for (name, text) in case.entries {
         held.push((
             String::from_str(alloc, name)?,
             Vec::from_slice(alloc, text.as_bytes())?,
         ))?;
     }
-    Ok(MemFiles::new(alloc, held, Vec::from_slice(alloc, fail)?))
+    Ok(MemFiles::new(alloc, held, Vec::from_slice(alloc, case.failing)?))
 }
 
 /// Whether the files of these names hold these texts, or are missing.
@@ -52,66 +99,52 @@ fn has(files: &MemFiles, contents: &[(&str, Option<&str>)]) -> bool {
     true
 }
 
-#[test]
-fn reads_and_writes_whole_files(rt: HostRuntime) -> Result<(), Fail> {
-    let entries = [("a", "first"), ("b", ""), ("a", "second"), ("k", "kept")];
-    let mut files = in_memory(rt.alloc(), &entries, &[])?;
-    let calls = [
-        Call::Read("a", 5, Ok("first")),
-        Call::Read("b", 0, Ok("")),
-        Call::Read("a", 4, Err(FileFault::TooLong)),
-        Call::Read("c", 5, Err(FileFault::Failed)),
-        Call::Write("a", "new", Ok(())),
-        Call::Write("c", "", Ok(())),
-    ];
-    assert_eq!(rt; first_other(&mut files, &calls), None);
-    assert_eq!(rt; files.faults(), 1);
-    let contents = [
-        ("a", Some("new")),
-        ("b", Some("")),
-        ("c", Some("")),
-        ("d", None),
-        ("k", Some("kept")),
-    ];
-    assert!(rt; has(&files, &contents));
-    Ok(())
+/// The number, from 0, of the first case that isn't so.
+fn first_other_case(alloc: Global, cases: &[Case]) -> Result<Option<usize>, Fail> {
+    for (number, case) in cases.iter().enumerate() {
+        let mut files = files_of(alloc, case)?;
+        if first_other(&mut files, case.calls).is_some()
+            || files.faults() != case.faults
+            || !has(&files, case.contents)
+        {
+            return Ok(Some(number));
+        }
+    }
+    Ok(None)
 }
 
 #[test]
-fn fails_the_calls_that_are_listed(rt: HostRuntime) -> Result<(), Fail> {
-    let mut files = in_memory(rt.alloc(), &[("a", "old")], &[2, 3])?;
-    let calls = [
-        Call::Read("a", 3, Ok("old")),
-        Call::Read("a", 3, Err(FileFault::Failed)),
-        Call::Write("a", "new", Err(WriteFault::Failed)),
-        Call::Read("a", 3, Ok("old")),
-    ];
-    assert_eq!(rt; first_other(&mut files, &calls), None);
-    assert_eq!(rt; files.faults(), 2);
+fn files_in_memory_answer_and_hold_what_they_are_asked_for(rt: HostRuntime) -> Result<(), Fail> {
+    assert_eq!(rt; first_other_case(rt.alloc(), &CASES)?, None);
     Ok(())
 }
 
 /// Every write of a full device fails that has a byte.
+const ON_THE_MACHINE: [Call; 8] = [
+    Call::Write("files/file", "old and long", Ok(())),
+    Call::Write("files/file", "written", Ok(())),
+    Call::Read("files/file", 7, Ok("written")),
+    Call::Read("files/file", 6, Err(FileFault::TooLong)),
+    Call::Read("files/missing", 7, Err(FileFault::Failed)),
+    Call::Write("files/missing/below", "lost", Err(WriteFault::Failed)),
+    Call::Write("/dev/full", "", Ok(())),
+    Call::Write("/dev/full", "x", Err(WriteFault::Failed)),
+];
+
+const SLOWLY: [Call; 1] = [Call::Write("files/slow", "written whole", Ok(()))];
+
 #[test]
 fn the_machine_reads_and_writes_whole_files(rt: HostRuntime) -> Result<(), Fail> {
     fs::create_dir_all(&rt, "files")?;
     let mut files = DiskFiles::new(rt.clone()?, rt.alloc());
-    let calls = [
-        Call::Write("files/file", "old and long", Ok(())),
-        Call::Write("files/file", "written", Ok(())),
-        Call::Read("files/file", 7, Ok("written")),
-        Call::Read("files/file", 6, Err(FileFault::TooLong)),
-        Call::Read("files/missing", 7, Err(FileFault::Failed)),
-        Call::Write("files/missing/below", "lost", Err(WriteFault::Failed)),
-        Call::Write("/dev/full", "", Ok(())),
-        Call::Write("/dev/full", "x", Err(WriteFault::Failed)),
-    ];
-    assert_eq!(rt; first_other(&mut files, &calls), None);
-    assert!(rt; holds(&rt, "files/file", "written"));
     let mut slow = DiskFiles::new(SlowMachine::new(rt.clone()?), rt.alloc());
-    let whole = [Call::Write("files/slow", "written whole", Ok(()))];
-    assert_eq!(rt; first_other(&mut slow, &whole), None);
-    assert!(rt; holds(&rt, "files/slow", "written whole"));
+    let others = (
+        first_other(&mut files, &ON_THE_MACHINE),
+        first_other(&mut slow, &SLOWLY),
+    );
+    let held = holds(&rt, "files/file", "written") && holds(&rt, "files/slow", "written whole");
     fs::remove_dir_all(&rt, "files")?;
+    assert_eq!(rt; others, (None, None));
+    assert!(rt; held);
     Ok(())
 }

@@ -1,18 +1,19 @@
 use crate::{SlowMachine, holds};
 use edge_io::{MemSink, NullSink, OpenFault, Sink, SinkFault, StreamSink};
+use std::alloc::Global;
 use std::fs;
 use std::test::Fail;
 
 /// A call of a sink, with the answer that is wanted.
 #[derive(Clone, Copy)]
-enum Call<'a> {
-    Open(&'a str, Result<(), OpenFault>),
-    Put(&'a str, Result<(), SinkFault>),
+enum Call {
+    Open(&'static str, Result<(), OpenFault>),
+    Put(&'static str, Result<(), SinkFault>),
 }
 
 /// The number, from 0, of the first call that isn't answered so. The bound `Send` shows that each
 /// sink may go to a thread.
-fn first_other<S: Sink + Send>(sink: &mut S, calls: &[Call<'_>]) -> Option<usize> {
+fn first_other<S: Sink + Send>(sink: &mut S, calls: &[Call]) -> Option<usize> {
     for (number, call) in calls.iter().enumerate() {
         let is_answered = match *call {
             Call::Open(name, wanted) => sink.open(name) == wanted,
@@ -25,85 +26,126 @@ fn first_other<S: Sink + Send>(sink: &mut S, calls: &[Call<'_>]) -> Option<usize
     None
 }
 
-/// Whether the calls are answered so, and leave these bytes, this name and so many faults.
-fn leaves(sink: &mut MemSink, calls: &[Call<'_>], text: &str, name: &str, faults: u64) -> bool {
-    first_other(sink, calls).is_none()
-        && sink.bytes() == text.as_bytes()
-        && sink.name() == name
-        && sink.faults() == faults
+/// Calls of a sink in memory, and the bytes, the name and the number of faults that they leave.
+#[derive(Clone, Copy)]
+struct Step {
+    calls: &'static [Call],
+    text: &'static str,
+    name: &'static str,
+    faults: u64,
 }
 
-#[test]
-fn takes_pieces_while_they_fit(rt: HostRuntime) -> Result<(), Fail> {
-    let mut sink = MemSink::new(rt.alloc(), 4, Vec::new(rt.alloc()))?;
-    let calls = [
-        Call::Put("abc", Ok(())),
-        Call::Put("de", Err(SinkFault::Failed)),
-        Call::Put("d", Ok(())),
-        Call::Put("", Ok(())),
-        Call::Put("e", Err(SinkFault::Failed)),
-    ];
-    assert!(rt; leaves(&mut sink, &calls, "abcd", "", 2));
-    let opening = [Call::Open("next", Ok(()))];
-    assert!(rt; leaves(&mut sink, &opening, "", "next", 2));
-    let piece = [Call::Put("efgh", Ok(()))];
-    assert!(rt; leaves(&mut sink, &piece, "efgh", "next", 2));
-    Ok(())
-}
+/// A sink in memory takes pieces while they fit.
+const FITTING: [Step; 3] = [
+    Step {
+        calls: &[
+            Call::Put("abc", Ok(())),
+            Call::Put("de", Err(SinkFault::Failed)),
+            Call::Put("d", Ok(())),
+            Call::Put("", Ok(())),
+            Call::Put("e", Err(SinkFault::Failed)),
+        ],
+        text: "abcd",
+        name: "",
+        faults: 2,
+    },
+    Step {
+        calls: &[Call::Open("next", Ok(()))],
+        text: "",
+        name: "next",
+        faults: 2,
+    },
+    Step {
+        calls: &[Call::Put("efgh", Ok(()))],
+        text: "efgh",
+        name: "next",
+        faults: 2,
+    },
+];
 
-#[test]
-fn fails_the_puts_that_are_listed(rt: HostRuntime) -> Result<(), Fail> {
-    let fail = Vec::from_slice(rt.alloc(), &[3, 4])?;
-    let mut sink = MemSink::new(rt.alloc(), 9, fail)?;
-    let calls = [
+/// It fails the puts 3 and 4.
+const FAILING: [Step; 1] = [Step {
+    calls: &[
         Call::Put("a", Ok(())),
         Call::Put("", Ok(())),
         Call::Open("n", Ok(())),
         Call::Put("b", Err(SinkFault::Failed)),
         Call::Put("", Err(SinkFault::Failed)),
         Call::Put("c", Ok(())),
-    ];
-    assert!(rt; leaves(&mut sink, &calls, "c", "n", 2));
+    ],
+    text: "c",
+    name: "n",
+    faults: 2,
+}];
+
+/// The number, from 0, of the first step that isn't so in a sink with this capacity and these failing
+/// puts, counted from 1.
+fn first_other_step(
+    alloc: Global,
+    capacity: u64,
+    failing: &[u64],
+    steps: &[Step],
+) -> Result<Option<usize>, Fail> {
+    let mut sink = MemSink::new(alloc, capacity, Vec::from_slice(alloc, failing)?)?;
+    for (number, step) in steps.iter().enumerate() {
+        if first_other(&mut sink, step.calls).is_some()
+            || sink.bytes() != step.text.as_bytes()
+            || sink.name() != step.name
+            || sink.faults() != step.faults
+        {
+            return Ok(Some(number));
+        }
+    }
+    Ok(None)
+}
+
+#[test]
+fn a_sink_in_memory_takes_what_fits_and_fails_as_listed(rt: HostRuntime) -> Result<(), Fail> {
+    let others = (
+        first_other_step(rt.alloc(), 4, &[], &FITTING)?,
+        first_other_step(rt.alloc(), 9, &[3, 4], &FAILING)?,
+    );
+    assert_eq!(rt; others, (None, None));
     Ok(())
 }
 
+/// A stream puts into what was opened last.
+const ON_THE_MACHINE: [Call; 9] = [
+    Call::Put("", Err(SinkFault::Failed)),
+    Call::Put("x", Err(SinkFault::Failed)),
+    Call::Open("sinks/file", Ok(())),
+    Call::Put("first ", Ok(())),
+    Call::Open("sinks/missing/below", Err(OpenFault::Failed)),
+    Call::Put("second", Ok(())),
+    Call::Open("/dev/full", Ok(())),
+    Call::Put("", Ok(())),
+    Call::Put("x", Err(SinkFault::Failed)),
+];
+
+const SLOWLY: [Call; 3] = [
+    Call::Open("sinks/slow", Ok(())),
+    Call::Put("put ", Ok(())),
+    Call::Put("whole", Ok(())),
+];
+
+/// What is put on a null sink isn't kept, and nothing is put on the standard output.
 #[test]
 fn a_stream_puts_into_what_was_opened_last(rt: HostRuntime) -> Result<(), Fail> {
     fs::create_dir_all(&rt, "sinks")?;
-    let mut sink = StreamSink::file(rt.clone()?);
-    let calls = [
-        Call::Put("", Err(SinkFault::Failed)),
-        Call::Put("x", Err(SinkFault::Failed)),
-        Call::Open("sinks/file", Ok(())),
-        Call::Put("first ", Ok(())),
-        Call::Open("sinks/missing/below", Err(OpenFault::Failed)),
-        Call::Put("second", Ok(())),
-        Call::Open("/dev/full", Ok(())),
-        Call::Put("", Ok(())),
-        Call::Put("x", Err(SinkFault::Failed)),
-    ];
-    assert_eq!(rt; first_other(&mut sink, &calls), None);
-    assert!(rt; holds(&rt, "sinks/file", "first second"));
+    let mut file = StreamSink::file(rt.clone()?);
     let mut slow = StreamSink::file(SlowMachine::new(rt.clone()?));
-    let whole = [
-        Call::Open("sinks/slow", Ok(())),
-        Call::Put("put ", Ok(())),
-        Call::Put("whole", Ok(())),
-    ];
-    assert_eq!(rt; first_other(&mut slow, &whole), None);
-    assert!(rt; holds(&rt, "sinks/slow", "put whole"));
-    fs::remove_dir_all(&rt, "sinks")?;
-    Ok(())
-}
-
-#[test]
-fn what_is_not_kept_is_taken(rt: HostRuntime) -> Result<(), Fail> {
-    let put = [Call::Put("put", Ok(()))];
-    assert_eq!(rt; first_other(&mut NullSink::new(), &put), None);
-    let nothing = [Call::Put("", Ok(()))];
-    assert_eq!(rt;
-        first_other(&mut StreamSink::output(rt.clone()?), &nothing),
-        None
+    let others = (
+        first_other(&mut file, &ON_THE_MACHINE),
+        first_other(&mut slow, &SLOWLY),
+        first_other(
+            &mut StreamSink::output(rt.clone()?),
+            &[Call::Put("", Ok(()))],
+        ),
+        first_other(&mut NullSink::new(), &[Call::Put("put", Ok(()))]),
     );
+    let held = holds(&rt, "sinks/file", "first second") && holds(&rt, "sinks/slow", "put whole");
+    fs::remove_dir_all(&rt, "sinks")?;
+    assert_eq!(rt; others, (None, None, None, None));
+    assert!(rt; held);
     Ok(())
 }
