@@ -180,8 +180,7 @@ fn term_pattern(alloc: Global, rules: &[Rule], term: &LexTerm) -> Result<Pattern
             Ok(whole)
         }
         LexTerm::Star(part) => {
-            let some = Pattern::repeated(alloc, term_pattern(alloc, rules, part)?)?;
-            let whole = Pattern::optional(alloc, some)?;
+            let whole = Pattern::star(alloc, term_pattern(alloc, rules, part)?)?;
             Ok(whole)
         }
         LexTerm::Plus(part) => {
@@ -190,7 +189,7 @@ fn term_pattern(alloc: Global, rules: &[Rule], term: &LexTerm) -> Result<Pattern
         }
         LexTerm::Short(set) => {
             let one = Pattern::One(Vec::from_slice(alloc, set.ranges())?);
-            let whole = Pattern::optional(alloc, Pattern::repeated(alloc, one)?)?;
+            let whole = Pattern::star(alloc, one)?;
             Ok(whole)
         }
     }

@@ -5,8 +5,8 @@ ghost use Rattle.grammar_tree.specs.Checked.{StartDerives};
 ghost use Rattle.grammar_tree.specs.Derives.{RuleDerives, resolved, resolved_alts, resolved_seq};
 ghost use Rattle.grammar_tree.specs.Faults.{is_parser_rule};
 ghost use Rattle.grammar_tree.specs.GrammarView.{rule_of};
-ghost use Rattle.grammar_tree.specs.Kinds.{name_kind, parser_rules, rule_number};
-ghost use Rattle.grammar_tree.specs.View.{parser_alts, parser_term, parser_terms};
+ghost use Rattle.grammar_tree.specs.Kinds.{any_kinds, name_kind, other_kinds, parser_rules, rule_number};
+ghost use Rattle.grammar_tree.specs.View.{parser_alts, parser_term, parser_terms, token_ref};
 ghost use Rattle.grammar_tree.specs.Written.{written_alts, written_seq};
 ghost use Rattle.grammar_plain.specs.Positions.{Fit, IsExact, IsIn, Known};
 ghost use Rattle.grammar_plain.specs.Resolved as plain;
@@ -17,7 +17,7 @@ use crate::pattern::Pattern;
 use crate::positions;
 use faults::Memory;
 use grammar_names::Names;
-use grammar_tree::{Checked, ParserAlts, ParserTerm, ParserTerms, Rule, Text};
+use grammar_tree::{Checked, ParserAlts, ParserTerm, ParserTerms, Rule, Text, TokenRefs};
 use std::alloc::Global;
 
 /// Whether the parser rule with this number, which counts the parser rules alone from 0, derives
@@ -111,12 +111,11 @@ fn term_pattern(alloc: Global, names: &Names<'_>, term: &ParserTerm) -> Result<P
             Ok(whole)
         }
         ParserTerm::Any => {
-            let whole = among(alloc, names.any_kinds())?;
+            let whole = any_pattern(alloc, names)?;
             Ok(whole)
         }
         ParserTerm::Not(tokens) => {
-            let others = names.other_kinds(alloc, tokens)?;
-            let whole = among(alloc, &others)?;
+            let whole = other_pattern(alloc, names, tokens)?;
             Ok(whole)
         }
         ParserTerm::Block(alts) => {
@@ -128,8 +127,7 @@ fn term_pattern(alloc: Global, names: &Names<'_>, term: &ParserTerm) -> Result<P
             Ok(whole)
         }
         ParserTerm::Star(part) => {
-            let some = Pattern::repeated(alloc, term_pattern(alloc, names, part)?)?;
-            let whole = Pattern::optional(alloc, some)?;
+            let whole = Pattern::star(alloc, term_pattern(alloc, names, part)?)?;
             Ok(whole)
         }
         ParserTerm::Plus(part) => {
@@ -188,6 +186,23 @@ fn kind_pattern(alloc: Global, kind: Option<u32>) -> Result<Pattern, Memory>
         }
         None => Ok(Pattern::One(Vec::new(alloc))),
     }
+}
+
+/// `.`: one of all kinds that aren't gap kinds.
+fn any_pattern(alloc: Global, names: &Names<'_>) -> Result<Pattern, Memory>
+    ensures { IfOk result (λ p. pattern p ≡ plain.among (any_kinds names.now)) }
+{
+    let whole = among(alloc, names.any_kinds())?;
+    Ok(whole)
+}
+
+/// `~`: one of the kinds that the tokens leave.
+fn other_pattern(alloc: Global, names: &Names<'_>, tokens: &TokenRefs) -> Result<Pattern, Memory>
+    ensures { IfOk result (λ p. pattern p ≡ plain.among (other_kinds names.now (map token_ref tokens.now.items.items))) }
+{
+    let others = names.other_kinds(alloc, tokens)?;
+    let whole = among(alloc, &others)?;
+    Ok(whole)
 }
 
 /// One of the kinds.

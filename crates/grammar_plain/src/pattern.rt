@@ -71,6 +71,15 @@ impl Pattern {
         Ok(whole)
     }
 
+    /// The pattern as often as may be, and so maybe not at all.
+    pub fn star(alloc: Global, part: Pattern) -> Result<Pattern, Memory>
+        ensures { IfOk result (λ p. pattern p ≡ plain.Pattern.alt plain.Pattern.empty (plain.Pattern.plus (pattern part))) }
+    {
+        let some = Pattern::repeated(alloc, part)?;
+        let whole = Pattern::optional(alloc, some)?;
+        Ok(whole)
+    }
+
     /// The positions up to which the pattern spans from a marked position.
     pub fn ends(
         &self,
@@ -90,7 +99,7 @@ impl Pattern {
                 Ok(to)
             }
             Pattern::Empty => {
-                let to = Vec::from_slice(alloc, from)?;
+                let to = positions::copy(alloc, from)?;
                 Ok(to)
             }
             Pattern::One(ranges) => {

@@ -26,6 +26,13 @@ pub fn only(alloc: Global, count: usize, position: usize) -> Result<Vec<bool>, M
     Ok(marks)
 }
 
+/// The same positions.
+pub fn copy(alloc: Global, marks: &[bool]) -> Result<Vec<bool>, Memory>
+    ensures { IfOk result (λ copy. copy.items ≡ marks.now) }
+{
+    Ok(Vec::from_slice(alloc, marks)?)
+}
+
 /// The positions that one of the two marks.
 pub fn union(alloc: Global, left: &[bool], right: &[bool]) -> Result<Vec<bool>, Memory>
     requires { length left.now ≡ length right.now }
