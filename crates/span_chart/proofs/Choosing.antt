@@ -187,17 +187,6 @@ module _ (N : NormalForm) (K : List ℕ) where
       back : (j : ℕ) → DerivesSpan N K (Rule rule) first j → DerivesEarlier N K alts a first j
       back j d = absurd ((spans N K).no_rule rule first j no-rule d)
 
-  -- Nothing was added.
-  pub choice_kept : (w : Choice) (new : Vec ℕ) → IsChoice N K w → new.items ≡ w.next.items → IsChoice N K (record w { next = new })
-  choice_kept w new x same = record {
-    alts = x.alts;
-    has = x.has;
-    within = x.within;
-    ends = x.ends;
-    current = x.current;
-    next = subst (HasExactly (DerivesFrom N K (symbol_at (alternative_at x.alts w.alternative) w.symbol) (take w.done w.current.items))) (sym same) x.next;
-  }
-
   -- The symbol was gone on by from the next position.
   pub choice_on : (w : Choice) (s : Sym) (p : ℕ) (new : Vec ℕ) → IsChoice N K w → IsNextSymbol N w s → w.done < length w.current.items → p ≡ get_or w.current.items w.done p →
       IsStrictlyIncreasing new.items → IsGrown (DerivesSpan N K s p) w.next.items new.items → HasAll (DerivesSpan N K s p) new.items → IsChoice N K (record w { done = w.done + 1; next = new })
@@ -220,9 +209,3 @@ module _ (N : NormalForm) (K : List ℕ) where
 
       same : s ≡ symbol_at (alternative_at x.alts w.alternative) w.symbol
       same = sym (is x.alts x.has)
-
-  -- Each position that was come to is one of the list's.
-  pub position_within : (w : Choice) (p : ℕ) → IsChoice N K w → w.done < length w.current.items → p ≡ get_or w.current.items w.done p → p ≤ length K
-  position_within w p x l e =
-      let here : p ≡ get_or w.current.items w.done 0 = e ∙ get_or_default_zero w.current.items w.done p l in
-      omega (arith, here, (seq_within (x.current.only (get_or w.current.items w.done 0) (Contains-get_or w.current.items w.done 0 l))).1)

@@ -44,3 +44,14 @@ taken_before xs i x l h = subst (λ l. Contains l x) (sym (take_more xs i 0 l)) 
 
 pub taken_last : (xs : List ℕ) (i : ℕ) → i < length xs → Contains (take (i + 1) xs) (get_or xs i 0)
 taken_last xs i l = subst (λ l. Contains l (get_or xs i 0)) (sym (take_more xs i 0 l)) (Contains-append_right (take i xs) (get_or xs i 0 ∷ []) (get_or xs i 0) (0, omega arith, refl))
+
+-- What has grown by an exact list has grown by what that list has.
+pub grown_exactly : {P : ℕ → Type 0} (old new more : List ℕ) → HasExactly P more → IsGrown (Contains more) old new → IsGrown P old new
+grown_exactly {P} old new more h g = record { only = λ x c. only x (g.only x c); kept = g.kept }
+  where
+    only : (x : ℕ) → Contains old x ⊎ Contains more x → Contains old x ⊎ P x
+    only x (inl c) = inl c
+    only x (inr c) = inr (h.only x c)
+
+pub all_exactly : {P : ℕ → Type 0} (new more : List ℕ) → HasExactly P more → HasAll (Contains more) new → HasAll P new
+all_exactly {P} new more h all x p = all x (h.all x p)

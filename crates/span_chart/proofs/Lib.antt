@@ -2,6 +2,9 @@ pub mod Rising
 pub mod Exactly
 pub mod Spans
 pub mod SymbolEnds
+pub mod Pooled
+pub mod Lent
+pub mod Greatest
 pub mod Choosing
 pub mod Optionally
 pub mod Repeating

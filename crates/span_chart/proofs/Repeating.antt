@@ -13,11 +13,10 @@ use Rattle.normal_form.proofs.Elements as elements
 use Rattle.derived_spans.specs.Spans.{DerivesSpan, DerivesSpanMany}
 use Rattle.derived_spans.proofs.Elements as moving
 use Rattle.span_chart.specs.declared.repetition.Repetition.{Repetition}
-use Rattle.span_chart.specs.declared.chart.Entry.{Entry}
-use Rattle.span_chart.specs.Exact.{IsExact}
+use Rattle.span_chart.specs.declared.work.RuleEnds.{RuleEnds}
 use Rattle.span_chart.specs.Positions.{HasAll, HasExactly, IsGrown}
 use Rattle.span_chart.specs.Moves.{BeginsRepetition, TakesEntry}
-use Rattle.span_chart.specs.Working.{IsClosing, IsNext, IsRepetition, repeated}
+use Rattle.span_chart.specs.Working.{HasRuleEnds, IsClosing, IsNext, IsRepetition, repeated}
 use Rattle.span_chart.proofs.Rising.{not_falling, order}
 use Rattle.span_chart.proofs.Exactly.{contains_none, contains_one}
 use Rattle.span_chart.proofs.Spans.{closed_many, joins, many_within, spans}
@@ -93,7 +92,7 @@ module _ (N : NormalForm) (K : List ℕ) where
         closed p j (inl h) l d = by p j h l d (order p from)
         closed p j (inr x) l d = here p j (same p l x.rises) d
 
-    pub closing_entry : (r : ℕ) (plus : Bool) (ends new new_covered : List ℕ) → slice_get N.rules r ≡ Some (repeated plus s) → ((x : ℕ) → (Contains ends x → DerivesSpan N K (Rule r) position x) × (DerivesSpan N K (Rule r) position x → Contains ends x)) →
+    pub closing_entry : (r : ℕ) (plus : Bool) (ends new new_covered : List ℕ) → slice_get N.rules r ≡ Some (repeated plus s) → HasExactly (DerivesSpan N K (Rule r) position) ends →
         IsStrictlyIncreasing new → IsGrown (Contains ends) old new → HasAll (Contains ends) new → IsStrictlyIncreasing new_covered → IsGrown (Contains ends) covered new_covered → IsClosing N K s first new (position + 1) new_covered
     closing_entry r plus ends new new_covered at entry rising grown all rising_covered grown_covered = record {
       rising = rising;
@@ -106,14 +105,14 @@ module _ (N : NormalForm) (K : List ℕ) where
       where
         sound : (j : ℕ) → Contains old j ⊎ Contains ends j → DerivesSpanMany N K s first j
         sound j (inl h) = c.sound j h
-        sound j (inr h) = (joins N K).many s first position j (c.sound position next.has) (some_times r s plus position j at ((entry j).0 h))
+        sound j (inr h) = (joins N K).many s first position j (c.sound position next.has) (some_times r s plus position j at (entry.only j h))
 
         ahead : (p j : ℕ) → Contains ends p → DerivesSpan N K s p j → Contains new j
-        ahead p j h d = all j ((entry j).1 (once_more r s plus position p j at ((entry p).0 h) d))
+        ahead p j h d = all j (entry.all j (once_more r s plus position p j at (entry.only p h) d))
 
         by : (p j : ℕ) → Contains old p → p < position + 1 → DerivesSpan N K s p j → (p < from) ⊎ (from ≤ p) → Contains new j
         by p j h l d (inl m) = grown.kept j (c.closed p j h m d)
-        by p j h l d (inr m) = all j ((entry j).1 (once r s plus position j at (subst (λ q. DerivesSpan N K s q j) (same p l (next.least p h m)) d)))
+        by p j h l d (inr m) = all j (entry.all j (once r s plus position j at (subst (λ q. DerivesSpan N K s q j) (same p l (next.least p h m)) d)))
 
         closed : (p j : ℕ) → Contains old p ⊎ Contains ends p → p < position + 1 → DerivesSpan N K s p j → Contains new j
         closed p j (inl h) l d = by p j h l d (order p from)
@@ -123,7 +122,7 @@ module _ (N : NormalForm) (K : List ℕ) where
         closed_covered p j (inl h) d = grown.kept j (c.closed_covered p j h d)
         closed_covered p j (inr h) d = ahead p j h d
 
-  pub takes_entry : (w v : Repetition) (position : ℕ) (ends : List ℕ) → IsRepetition N K w → IsNext w.reached.items w.from position → ((x : ℕ) → (Contains ends x → DerivesSpan N K (Rule w.rule) position x) × (DerivesSpan N K (Rule w.rule) position x → Contains ends x)) → TakesEntry w position ends v → IsRepetition N K v
+  pub takes_entry : (w v : Repetition) (position : ℕ) (ends : List ℕ) → IsRepetition N K w → IsNext w.reached.items w.from position → HasExactly (DerivesSpan N K (Rule w.rule) position) ends → TakesEntry w position ends v → IsRepetition N K v
   takes_entry w v position ends x next entry t = record {
     repeats = ap (slice_get N.rules) t.rule ∙ x.repeats ∙ ap (λ s. Some (repeated w.plus s)) (sym t.symbol) ∙ ap (λ p. Some (repeated p v.symbol)) (sym t.plus);
     closing =
@@ -132,9 +131,6 @@ module _ (N : NormalForm) (K : List ℕ) where
         (subst (λ n. IsClosing N K w.symbol w.first v.reached.items n v.covered.items) (sym t.from)
         (closing_entry w.symbol w.first w.reached.items w.from position w.covered.items x.closing next w.rule w.plus ends v.reached.items v.covered.items x.repeats entry t.rising t.grown t.all t.rising_covered t.grown_covered)));
   }
-
-  pub reached_within : (s : Sym) (first : ℕ) (reached : List ℕ) (from : ℕ) (covered : List ℕ) (p : ℕ) → IsClosing N K s first reached from covered → Contains reached p → p ≤ length K
-  reached_within s first reached from covered p c h = (many_within (c.sound p h)).1
 
   -- Where no position is left, the positions are exactly those that the symbol reaches, any number of times.
   module _ (s : Sym) (first : ℕ) (reached : List ℕ) (from : ℕ) (covered : List ℕ) (c : IsClosing N K s first reached from covered) (none : (x : ℕ) → Contains reached x → x < from) where
@@ -206,8 +202,8 @@ module _ (N : NormalForm) (K : List ℕ) where
             }
 
   -- The entry of a star has all that is reached, and that of a plus all but the first position.
-  pub repetition_found : (w : Repetition) (e : Entry) → IsNormal N → IsRepetition N K w → ((x : ℕ) → Contains w.reached.items x → x < w.from) →
-      e.rule ≡ w.rule → e.first ≡ w.first → e.ends.items ≡ (if w.plus then drop 1 w.reached.items else w.reached.items) → IsExact N K e
+  pub repetition_found : (w : Repetition) (e : RuleEnds) → IsNormal N → IsRepetition N K w → ((x : ℕ) → Contains w.reached.items x → x < w.from) →
+      e.rule ≡ w.rule → e.first ≡ w.first → e.ends.items ≡ (if w.plus then drop 1 w.reached.items else w.reached.items) → HasRuleEnds N K e
   repetition_found w e normal x none rule first ends =
       subst (λ r. HasExactly (DerivesSpan N K (Rule r) e.first) e.ends.items) (sym rule)
       (subst (λ i. HasExactly (DerivesSpan N K (Rule w.rule) i) e.ends.items) (sym first)
@@ -232,6 +228,3 @@ module _ (N : NormalForm) (K : List ℕ) where
     repeats = x.repeats;
     closing = subst (λ n. IsClosing N K w.symbol w.first new.items n w.covered.items) (sym e) (closing_step w.symbol w.first w.reached.items w.from position w.covered.items x.closing next new.items rising grown all);
   }
-
-  pub repetition_kept : (w : Repetition) (new : Vec ℕ) → IsRepetition N K w → new.items ≡ w.reached.items → IsRepetition N K (record w { reached = new })
-  repetition_kept w new x e = record { repeats = x.repeats; closing = subst (λ l. IsClosing N K w.symbol w.first l w.from w.covered.items) (sym e) x.closing }

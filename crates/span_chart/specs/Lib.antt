@@ -2,6 +2,9 @@ pub use Rattle.normal_form.specs.Form
 pub use Rattle.normal_form.specs.NormalDerives
 pub use Rattle.derived_spans.specs.Spans
 pub mod Positions
+pub mod Input
+pub mod Entries
+pub mod Ranges
 pub mod Exact
 pub mod Working
 pub mod Moves

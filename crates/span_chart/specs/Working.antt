@@ -3,17 +3,17 @@ use Rattle.std.specs.Prelude.{◌≡◌, ◌⊎◌, ℕ, ◌<◌, ◌≤◌, Boo
 use Rattle.std.specs.List.{Contains}
 use Rattle.std.specs.List.Sorted.{IsStrictlyIncreasing}
 use Rattle.normal_form.specs.declared.normal.Sym.{Sym}
-use Rattle.normal_form.specs.declared.normal.Sym.TheVariants.{Kind}
+use Rattle.normal_form.specs.declared.normal.Sym.TheVariants.{Kind, Rule}
 use Rattle.normal_form.specs.Form.{RuleForm, NormalForm}
 use Rattle.derived_spans.specs.Spans.{DerivesSpan, DerivesSpanSeq, DerivesSpanMany}
 use Rattle.span_chart.specs.declared.choice.Choice.{Choice}
 use Rattle.span_chart.specs.declared.optional.Optional.{Optional}
 use Rattle.span_chart.specs.declared.repetition.Repetition.{Repetition}
+use Rattle.span_chart.specs.declared.work.RuleEnds.{RuleEnds}
 use Rattle.span_chart.specs.declared.work.Step.{Step}
-use Rattle.span_chart.specs.declared.work.Step.TheVariants.{Found, More, Needs}
+use Rattle.span_chart.specs.declared.work.Step.TheVariants.{Done, More, Needs}
 use Rattle.span_chart.specs.declared.work.Work.{Work}
 use Rattle.span_chart.specs.declared.work.Work.TheVariants as W
-use Rattle.span_chart.specs.Exact.{IsExact}
 use Rattle.span_chart.specs.Positions.{HasExactly}
 
 -- The rule has these alternatives; where there is no such rule, it has none.
@@ -77,7 +77,11 @@ IsWork N kinds (W.Choice w) = IsChoice N kinds w
 IsWork N kinds (W.Optional w) = IsOptional N kinds w
 IsWork N kinds (W.Repetition w) = IsRepetition N kinds w
 
+-- It has exactly the positions where its rule can end.
+abbrev pub HasRuleEnds : NormalForm → List ℕ → RuleEnds → Type 0
+HasRuleEnds N kinds e = HasExactly (DerivesSpan N kinds (Rule e.rule) e.first) e.ends.items
+
 abbrev pub IsStep : NormalForm → List ℕ → Step → Type 0
-IsStep N kinds (Found e) = IsExact N kinds e
+IsStep N kinds (Done e) = HasRuleEnds N kinds e
 IsStep N kinds (More w) = IsWork N kinds w
 IsStep N kinds (Needs w rule first) = IsWork N kinds w × (first ≤ length kinds)

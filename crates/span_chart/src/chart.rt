@@ -1,78 +1,49 @@
-//! What was found of where rules can end.
+//! Where the symbols of a normal form can end in a list of kinds.
 
-ghost use Rattle.std.specs.Prelude.{◌≡◌, ◌≢◌, ◌↔◌, ℕ, ◌<◌, ◌^◌, ◌++◌, ◌∷◌, [], length, IfOk, IfSome, IsTrue, OnOk};
-ghost use Rattle.std.specs.List.{All, Contains};
+ghost use Rattle.std.specs.Prelude.{◌≡◌, ◌≢◌, ◌↔◌, ℕ, ◌<◌, ◌≤◌, ◌^◌, length, IfErr, IfOk, IsTrue, OnOk};
 ghost use Rattle.std.specs.List.Sorted.{IsStrictlyIncreasing};
 ghost use Rattle.derived_spans.specs.Spans.{DerivesSpan};
-ghost use Rattle.span_chart.specs.Exact.{IsExact, IsOf, IsTokenOf};
-ghost use Rattle.span_chart.specs.Positions.{HasAll, IsGrown};
+ghost use Rattle.span_chart.specs.Exact.{IsTokenOf};
+ghost use Rattle.span_chart.specs.Positions.{EndsUpTo, HasAll, HasExactly, IsGrown, IsLastAmong};
+ghost use Rattle.span_chart.specs.Working.{HasRuleEnds};
 ghost use Rattle.normal_form.specs.declared.normal.Sym;
 
-use crate::positions::{add, add_all};
+use crate::entries::Entries;
+use crate::positions::{add_all, has, last_common, positions_to, up_to};
+use crate::work::{RuleEnds, work_out};
 use faults::Memory;
 use normal_form::{Normal, Sym};
 use std::alloc::Global;
-use std::collections::HashMap;
+use std::marker::Model;
 
-/// All positions where a rule that begins at the position `first` can end, rising.
+/// Where the symbols of one normal form can end in one list of kinds. Contracts see these two.
+///
+/// Positions count the kinds before them, from 0 up to the length of the list; from a position past
+/// that nothing is derived. Each question works out what it needs, each rule at each position once,
+/// and what was worked out is kept. The time is about linear in the list where only lists have many
+/// ends, and grows with the pairs of positions where other rules do.
 #[derive(Drop)]
-pub(crate) struct Entry {
-    pub(crate) rule: u32,
-    pub(crate) first: u32,
-    pub(crate) ends: Vec<u32>,
+pub struct Chart<'a> {
+    alloc: Global,
+    normal: &'a Normal,
+    kinds: &'a [u32],
+    /// Each position at its number, so that a single one can be lent.
+    positions: Vec<u32>,
+    entries: Entries,
 }
 
-/// The entries that were found for a list of kinds, each once. A rule and position that no entry is
-/// of wasn't needed yet.
-#[derive(Drop)]
-pub(crate) struct Chart {
-    pub(crate) entries: Vec<Entry>,
-    /// The number of the entry of a rule and a position.
-    numbers: HashMap<(u32, u32), u32>,
-}
+impl<'a> Model for Chart<'a> {
+    ghost use Rattle.span_chart.specs.Input.{ChartInput, input_coded};
 
-impl Chart {
-    /// A chart without entries.
-    pub(crate) fn empty(alloc: Global) -> Chart
-        ensures { result.entries.items ≡ [] }
-    {
-        Chart {
-            entries: Vec::new(alloc),
-            numbers: HashMap::new(alloc),
-        }
-    }
+    ghost Value = { ChartInput };
 
-    /// The entry of the rule at the position.
-    pub(crate) fn find(&self, rule: u32, first: u32) -> Option<&Entry>
-        ensures { IfSome result (λ e. IsOf rule first e.now × Contains self.now.entries.items e.now) }
-    {
-        let number = match self.numbers.get(&(rule, first)) {
-            Some(number) => *number as usize,
-            None => return None,
-        };
-        if number >= self.entries.len() {
-            return None;
-        }
-        let entry = &self.entries[number];
-        if entry.rule == rule && entry.first == first {
-            return Some(entry);
-        }
-        None
-    }
+    ghost coded = { input_coded };
 
-    /// Adds an entry.
-    pub(crate) fn store(&mut self, entry: Entry) -> Result<(), Memory>
-        ensures { OnOk result (self.new.entries.items ≡ self.old.entries.items ++ entry ∷ []) }
-    {
-        let number = self.entries.len();
-        if number >= u32::MAX as usize {
-            return Err(Memory);
-        }
-        self.numbers
-            .insert((entry.rule, entry.first), number as u32)?;
-        self.entries.push(entry)?;
-        Ok(())
-    }
+    ghost use Rattle.span_chart.specs.Exact.{IsChartOf};
+
+    ghost view = { λ c. record { normal = c.normal.now; kinds = c.kinds.now } };
+
+    ghost invariant = { λ c. IsChartOf c.normal.now c.kinds.now c.positions.items c.entries };
 }
 
 /// Whether a token of this kind is one of the symbol, which is a kind or a set.
@@ -86,60 +57,129 @@ fn is_token(symbol: Sym, kind: u32, normal: &Normal) -> bool
     }
 }
 
-/// Adds the position after the token at the position `first`, if that is a token of the symbol.
-fn add_token(
-    ends: &mut Vec<u32>,
-    symbol: Sym,
-    first: u32,
-    normal: &Normal,
-    kinds: &[u32],
-) -> Result<(), Memory>
-    requires token { (r : ℕ) → symbol ≢ Sym.Rule r }
-    requires rising { IsStrictlyIncreasing ends.old.items }
-    requires few { length kinds.now < 2 ^ 32 }
-    ensures rising { OnOk result (IsStrictlyIncreasing ends.new.items) }
-    ensures grown { OnOk result (IsGrown (DerivesSpan normal.now kinds.now symbol first) ends.old.items ends.new.items) }
-    ensures all { OnOk result (HasAll (DerivesSpan normal.now kinds.now symbol first) ends.new.items) }
-{
-    if first as usize >= kinds.len() {
-        return Ok(());
+impl<'a> Chart<'a> {
+    /// Nothing is worked out yet. It takes memory linear in the list.
+    pub fn new(alloc: Global, normal: &'a Normal, kinds: &'a [u32]) -> Result<Chart<'a>, Memory>
+        requires { length kinds.now < 2 ^ 32 }
+        ensures { IfOk result (λ chart. chart ≡ record { normal = normal.now; kinds = kinds.now }) }
+    {
+        Ok(Chart {
+            alloc,
+            normal,
+            kinds,
+            positions: positions_to(alloc, kinds.len())?,
+            entries: Entries::new(alloc),
+        })
     }
-    let kind = kinds[first as usize];
-    if is_token(symbol, kind, normal) {
-        add(ends, first + 1)?;
-    }
-    Ok(())
-}
 
-/// Adds all positions where the symbol can end that begins at the position `first`. The answer is
-/// the rule of the symbol where the chart has no entry for it yet; then nothing is added.
-pub(crate) fn add_ends(
-    ends: &mut Vec<u32>,
-    symbol: Sym,
-    first: u32,
-    normal: &Normal,
-    kinds: &[u32],
-    chart: &Chart,
-) -> Result<Option<u32>, Memory>
-    requires rising { IsStrictlyIncreasing ends.old.items }
-    requires exact { All (IsExact normal.now kinds.now) chart.now.entries.items }
-    requires few { length kinds.now < 2 ^ 32 }
-    ensures rising { OnOk result (IsStrictlyIncreasing ends.new.items) }
-    ensures kept { IfOk result (λ missing. IfSome missing (λ rule. ends.new.items ≡ ends.old.items)) }
-    ensures grown { IfOk result (λ missing. missing ≡ None → IsGrown (DerivesSpan normal.now kinds.now symbol first) ends.old.items ends.new.items) }
-    ensures all { IfOk result (λ missing. missing ≡ None → HasAll (DerivesSpan normal.now kinds.now symbol first) ends.new.items) }
-{
-    match symbol {
-        Sym::Rule(rule) => match chart.find(rule, first) {
-            Some(entry) => {
-                add_all(ends, &entry.ends)?;
-                Ok(None)
-            }
-            None => Ok(Some(rule)),
-        },
-        Sym::Kind(_) | Sym::Set(_) => {
-            add_token(ends, symbol, first, normal, kinds)?;
-            Ok(None)
+    /// The allocator.
+    pub(crate) fn alloc(&self) -> Global {
+        self.alloc
+    }
+
+    /// The normal form.
+    pub(crate) fn normal(&self) -> &Normal
+        ensures { result.now ≡ self.now.normal }
+    {
+        self.normal
+    }
+
+    /// The position after the token at the position `first`, if that is one of the symbol.
+    fn token_ends(&self, symbol: Sym, first: u32) -> &[u32]
+        requires { (r : ℕ) → symbol ≢ Sym.Rule r }
+        ensures { HasExactly (DerivesSpan self.now.normal self.now.kinds symbol first) result.now }
+    {
+        let index = first as usize;
+        if index < self.kinds.len() && is_token(symbol, self.kinds[index], self.normal) {
+            &self.positions[index + 1..index + 2]
+        } else {
+            &self.positions[..0]
         }
+    }
+
+    /// All positions where the symbol can end that begins at the position `first`, rising; or the
+    /// symbol's rule, where they aren't worked out yet.
+    pub(crate) fn ends_of(&self, symbol: Sym, first: u32) -> Result<&[u32], u32>
+        ensures ends { IfOk result (λ ends. HasExactly (DerivesSpan self.now.normal self.now.kinds symbol first) ends.now) }
+        ensures missing { IfErr result (λ rule. first ≤ length self.now.kinds) }
+    {
+        if first as usize > self.kinds.len() {
+            return Ok(&self.positions[..0]);
+        }
+        match symbol {
+            Sym::Rule(rule) => match self.entries.find(rule, first) {
+                Some(ends) => Ok(ends),
+                None => Err(rule),
+            },
+            Sym::Kind(_) | Sym::Set(_) => Ok(self.token_ends(symbol, first)),
+        }
+    }
+
+    /// Keeps what was worked out.
+    pub(crate) fn store(&mut self, found: RuleEnds) -> Result<(), Memory>
+        requires { HasRuleEnds self.old.normal self.old.kinds found }
+        ensures { self.new ≡ self.old }
+    {
+        self.entries.store(found.rule, found.first, &found.ends)
+    }
+
+    /// Whether the symbol derives the kinds from the position `first` up to but not including `end`.
+    pub fn reaches(&mut self, symbol: Sym, first: u32, end: u32) -> Result<bool, Memory>
+        ensures same { self.new ≡ self.old }
+        ensures answer { IfOk result (λ answer. IsTrue answer ↔ DerivesSpan self.old.normal self.old.kinds symbol first end) }
+    {
+        for _ in 0..u64::MAX {
+            let rule = match self.ends_of(symbol, first) {
+                Ok(ends) => return Ok(has(ends, end)),
+                Err(rule) => rule,
+            };
+            work_out(self, rule, first)?;
+        }
+        Err(Memory)
+    }
+
+    /// The greatest of these positions where the symbol can end that begins at the position `first`.
+    pub fn last_among(
+        &mut self,
+        symbol: Sym,
+        first: u32,
+        among: &[u32],
+    ) -> Result<Option<u32>, Memory>
+        requires { IsStrictlyIncreasing among.now }
+        ensures same { self.new ≡ self.old }
+        ensures last { IfOk result (IsLastAmong (DerivesSpan self.old.normal self.old.kinds symbol first) among.now) }
+    {
+        for _ in 0..u64::MAX {
+            let rule = match self.ends_of(symbol, first) {
+                Ok(ends) => return Ok(last_common(ends, among)),
+                Err(rule) => rule,
+            };
+            work_out(self, rule, first)?;
+        }
+        Err(Memory)
+    }
+
+    /// Adds each position up to `last` where the symbol can end that begins at the position `first`.
+    pub fn add_ends(
+        &mut self,
+        symbol: Sym,
+        first: u32,
+        last: u32,
+        positions: &mut Vec<u32>,
+    ) -> Result<(), Memory>
+        requires { IsStrictlyIncreasing positions.old.items }
+        ensures same { self.new ≡ self.old }
+        ensures rising { OnOk result (IsStrictlyIncreasing positions.new.items) }
+        ensures grown { OnOk result (IsGrown (EndsUpTo self.old.normal self.old.kinds symbol first last) positions.old.items positions.new.items) }
+        ensures all { OnOk result (HasAll (EndsUpTo self.old.normal self.old.kinds symbol first last) positions.new.items) }
+    {
+        for _ in 0..u64::MAX {
+            let rule = match self.ends_of(symbol, first) {
+                Ok(ends) => return add_all(positions, up_to(ends, last)),
+                Err(rule) => rule,
+            };
+            work_out(self, rule, first)?;
+        }
+        Err(Memory)
     }
 }

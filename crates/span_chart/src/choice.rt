@@ -1,22 +1,21 @@
-//! The work on an entry of a rule with alternatives.
+//! The work on where a rule with alternatives can end.
 
-ghost use Rattle.std.specs.Prelude.{◌+◌, ◌<◌, ◌≡◌, ◌^◌, [], length, IfOk, IfSome};
-ghost use Rattle.std.specs.List.{All};
+ghost use Rattle.std.specs.Prelude.{◌+◌, ◌<◌, ◌≡◌, ◌^◌, [], length, IfOk, IfSome, OnOk};
 ghost use Rattle.std.specs.List.Sorted.{IsStrictlyIncreasing};
 ghost use Rattle.std.specs.Option.{option_map};
-ghost use Rattle.span_chart.specs.Exact.{IsExact};
 ghost use Rattle.span_chart.specs.Moves.{Begins, FindsAlternative, HasNextAlternative, HasNextSymbol, IsNextSymbol};
 ghost use Rattle.span_chart.specs.Working.{IsChoice, IsStep};
 
-use crate::chart::{Chart, Entry, add_ends};
+use crate::chart::Chart;
 use crate::positions::add_all;
-use crate::work::{Step, Work};
+use crate::work::{RuleEnds, Step, Work};
 use faults::Memory;
 use normal_form::{Normal, NormalRule, Sym};
 use std::alloc::Global;
+use std::mem;
 
-/// The work on the entry of a rule at the position `first`. Its alternatives are gone through in
-/// their order, and in each of them its symbols.
+/// The work on a rule at the position `first`. Its alternatives are gone through in their order, and
+/// in each of them its symbols.
 #[derive(Drop)]
 pub(crate) struct Choice {
     pub(crate) rule: u32,
@@ -52,7 +51,7 @@ fn alternative(normal: &Normal, rule: u32, number: usize) -> Option<&[Sym]>
 }
 
 impl Choice {
-    /// The work is begun.
+    /// The work at its beginning.
     pub(crate) fn new(alloc: Global, rule: u32, first: u32) -> Result<Choice, Memory>
         ensures begins { IfOk result (Begins rule first 0) }
         ensures no_ends { IfOk result (λ w. w.ends.items ≡ []) }
@@ -69,114 +68,75 @@ impl Choice {
         })
     }
 
-    /// The alternative can end where the work on it has come to: the next alternative is begun.
-    fn with_alternative(self, alloc: Global) -> Result<Choice, Memory>
-        requires rising { IsStrictlyIncreasing self.ends.items }
-        requires small { self.alternative + 1 < 2 ^ 64 }
-        ensures { IfOk result (HasNextAlternative self) }
+    /// The alternative can end where the work on it has come to: the next alternative comes.
+    fn next_alternative(&mut self) -> Result<(), Memory>
+        requires rising { IsStrictlyIncreasing self.old.ends.items }
+        requires small { self.old.alternative + 1 < 2 ^ 64 }
+        ensures { OnOk result (HasNextAlternative self.old self.new) }
     {
-        let Choice {
-            rule,
-            first,
-            alternative,
-            current,
-            mut ends,
-            ..
-        } = self;
-        add_all(&mut ends, &current)?;
-        Ok(Choice {
-            rule,
-            first,
-            alternative: alternative + 1,
-            symbol: 0,
-            current: vec![in alloc; first]?,
-            done: 0,
-            next: Vec::new(alloc),
-            ends,
-        })
+        add_all(&mut self.ends, &self.current)?;
+        self.alternative += 1;
+        self.symbol = 0;
+        self.current.clear();
+        self.current.push(self.first)?;
+        self.done = 0;
+        self.next.clear();
+        Ok(())
     }
 
-    /// The symbol was gone on by from each position: the next symbol is begun.
-    fn with_symbol(self, alloc: Global) -> Choice
-        requires { self.symbol + 1 < 2 ^ 64 }
-        ensures { HasNextSymbol self result }
+    /// The symbol was gone on by from each position: the next symbol comes.
+    fn next_symbol(&mut self)
+        requires { self.old.symbol + 1 < 2 ^ 64 }
+        ensures { HasNextSymbol self.old self.new }
     {
-        let Choice {
-            rule,
-            first,
-            alternative,
-            symbol,
-            next,
-            ends,
-            ..
-        } = self;
-        Choice {
-            rule,
-            first,
-            alternative,
-            symbol: symbol + 1,
-            current: next,
-            done: 0,
-            next: Vec::new(alloc),
-            ends,
-        }
+        self.symbol += 1;
+        mem::swap(&mut self.current, &mut self.next);
+        self.done = 0;
+        self.next.clear();
     }
 
     /// Goes on by the symbol from the next position.
-    fn with_position(
-        mut self,
-        symbol: Sym,
-        normal: &Normal,
-        kinds: &[u32],
-        chart: &Chart,
-    ) -> Result<Step, Memory>
-        requires work { IsChoice normal.now kinds.now self }
-        requires next { IsNextSymbol normal.now self symbol }
+    fn next_position(mut self, symbol: Sym, chart: &Chart<'_>) -> Result<Step, Memory>
+        requires work { IsChoice chart.now.normal chart.now.kinds self }
+        requires next { IsNextSymbol chart.now.normal self symbol }
         requires more { self.done < length self.current.items }
-        requires exact { All (IsExact normal.now kinds.now) chart.now.entries.items }
-        requires few { length kinds.now < 2 ^ 32 }
-        ensures { IfOk result (IsStep normal.now kinds.now) }
+        ensures { IfOk result (IsStep chart.now.normal chart.now.kinds) }
     {
         let position = self.current[self.done];
-        match add_ends(&mut self.next, symbol, position, normal, kinds, chart)? {
-            Some(missing) => Ok(Step::Needs(Work::Choice(self), missing, position)),
-            None => {
+        match chart.ends_of(symbol, position) {
+            Ok(more) => {
+                add_all(&mut self.next, more)?;
                 self.done += 1;
                 Ok(Step::More(Work::Choice(self)))
             }
+            Err(missing) => Ok(Step::Needs(Work::Choice(self), missing, position)),
         }
     }
 
     /// One step of the work.
-    pub(crate) fn step(
-        self,
-        alloc: Global,
-        normal: &Normal,
-        kinds: &[u32],
-        chart: &Chart,
-    ) -> Result<Step, Memory>
-        requires work { IsChoice normal.now kinds.now self }
-        requires exact { All (IsExact normal.now kinds.now) chart.now.entries.items }
-        requires few { length kinds.now < 2 ^ 32 }
-        ensures { IfOk result (IsStep normal.now kinds.now) }
+    pub(crate) fn step(mut self, chart: &Chart<'_>) -> Result<Step, Memory>
+        requires { IsChoice chart.now.normal chart.now.kinds self }
+        ensures { IfOk result (IsStep chart.now.normal chart.now.kinds) }
     {
-        let Some(symbols) = alternative(normal, self.rule, self.alternative) else {
+        let Some(symbols) = alternative(chart.normal(), self.rule, self.alternative) else {
             let Choice {
                 rule,
                 first,
                 ends,
                 ..
             } = self;
-            return Ok(Step::Found(Entry { rule, first, ends }));
+            return Ok(Step::Done(RuleEnds { rule, first, ends }));
         };
         let reached = self.current.len();
         if self.symbol >= symbols.len() || reached == 0 {
-            return Ok(Step::More(Work::Choice(self.with_alternative(alloc)?)));
+            self.next_alternative()?;
+            return Ok(Step::More(Work::Choice(self)));
         }
         if self.done >= reached {
-            return Ok(Step::More(Work::Choice(self.with_symbol(alloc))));
+            self.next_symbol();
+            return Ok(Step::More(Work::Choice(self)));
         }
         let symbol = symbols[self.symbol];
-        self.with_position(symbol, normal, kinds, chart)
+        self.next_position(symbol, chart)
     }
 }

@@ -1,18 +1,16 @@
-//! The work on an entry of an optional.
+//! The work on where an optional can end.
 
-ghost use Rattle.std.specs.Prelude.{◌<◌, ◌^◌, length, IfOk};
-ghost use Rattle.std.specs.List.{All};
-ghost use Rattle.span_chart.specs.Exact.{IsExact};
+ghost use Rattle.std.specs.Prelude.{IfOk};
 ghost use Rattle.span_chart.specs.Working.{IsOptional, IsStep};
 
-use crate::chart::{Chart, Entry, add_ends};
-use crate::work::{Step, Work};
+use crate::chart::Chart;
+use crate::positions::add_all;
+use crate::work::{RuleEnds, Step, Work};
 use faults::Memory;
-use normal_form::{Normal, Sym};
-use std::alloc::Global;
+use normal_form::Sym;
 
-/// The work on the entry of an optional of the symbol, at the position `first`.
-#[derive(Drop)]
+/// The work on an optional of the symbol, at the position `first`.
+#[derive(Clone, Copy, Drop)]
 pub(crate) struct Optional {
     pub(crate) rule: u32,
     pub(crate) first: u32,
@@ -21,35 +19,22 @@ pub(crate) struct Optional {
 
 impl Optional {
     /// It can end where it begins, and where its symbol can end.
-    pub(crate) fn step(
-        self,
-        alloc: Global,
-        normal: &Normal,
-        kinds: &[u32],
-        chart: &Chart,
-    ) -> Result<Step, Memory>
-        requires work { IsOptional normal.now kinds.now self }
-        requires exact { All (IsExact normal.now kinds.now) chart.now.entries.items }
-        requires few { length kinds.now < 2 ^ 32 }
-        ensures { IfOk result (IsStep normal.now kinds.now) }
+    pub(crate) fn step(self, chart: &Chart<'_>) -> Result<Step, Memory>
+        requires { IsOptional chart.now.normal chart.now.kinds self }
+        ensures { IfOk result (IsStep chart.now.normal chart.now.kinds) }
     {
         let Optional {
             rule,
             first,
             symbol,
         } = self;
-        let mut ends = vec![in alloc; first]?;
-        match add_ends(&mut ends, symbol, first, normal, kinds, chart)? {
-            Some(missing) => Ok(Step::Needs(
-                Work::Optional(Optional {
-                    rule,
-                    first,
-                    symbol,
-                }),
-                missing,
-                first,
-            )),
-            None => Ok(Step::Found(Entry { rule, first, ends })),
+        match chart.ends_of(symbol, first) {
+            Ok(more) => {
+                let mut ends = vec![in chart.alloc(); first]?;
+                add_all(&mut ends, more)?;
+                Ok(Step::Done(RuleEnds { rule, first, ends }))
+            }
+            Err(missing) => Ok(Step::Needs(Work::Optional(self), missing, first)),
         }
     }
 }

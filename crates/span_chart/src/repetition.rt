@@ -1,20 +1,19 @@
-//! The work on an entry of a star or plus.
+//! The work on where a star or plus can end.
 
-ghost use Rattle.std.specs.Prelude.{◌≡◌, ◌+◌, ◌<◌, ◌^◌, ℕ, drop, if◌then◌else◌, length, IfOk, MatchOption};
-ghost use Rattle.std.specs.List.{All, Contains};
+ghost use Rattle.std.specs.Prelude.{◌≡◌, ◌+◌, ◌<◌, ℕ, drop, if◌then◌else◌, length, IfOk, MatchOption};
+ghost use Rattle.std.specs.List.{Contains};
 ghost use Rattle.std.specs.List.Sorted.{IsStrictlyIncreasing};
-ghost use Rattle.span_chart.specs.Exact.{IsExact};
 ghost use Rattle.span_chart.specs.Moves.{BeginsRepetition, TakesEntry};
 ghost use Rattle.span_chart.specs.Working.{IsNext, IsRepetition, IsStep};
 
-use crate::chart::{Chart, Entry, add_ends};
+use crate::chart::Chart;
 use crate::positions::{add_all, has};
-use crate::work::{Step, Work};
+use crate::work::{RuleEnds, Step, Work};
 use faults::Memory;
-use normal_form::{Normal, Sym};
+use normal_form::Sym;
 use std::alloc::Global;
 
-/// The work on the entry of a star or plus of the symbol, at the position `first`.
+/// The work on a star or plus of the symbol, at the position `first`.
 #[derive(Drop)]
 pub(crate) struct Repetition {
     pub(crate) rule: u32,
@@ -31,7 +30,7 @@ pub(crate) struct Repetition {
 }
 
 impl Repetition {
-    /// The work is begun.
+    /// The work at its beginning.
     pub(crate) fn new(
         alloc: Global,
         rule: u32,
@@ -69,8 +68,9 @@ impl Repetition {
         }
     }
 
-    /// The entry, where no position is left to go on from: a plus can't end where it begins.
-    fn found(self) -> Entry
+    /// What was worked for, where no position is left to go on from: a plus can't end where it
+    /// begins.
+    fn rule_ends(self) -> RuleEnds
         requires { 0 < length self.reached.items }
         ensures rule { result.rule ≡ self.rule }
         ensures first { result.first ≡ self.first }
@@ -88,7 +88,7 @@ impl Repetition {
         } else {
             reached
         };
-        Entry { rule, first, ends }
+        RuleEnds { rule, first, ends }
     }
 
     /// All that the same rule reaches from the position, which is all that the symbol goes on to.
@@ -105,42 +105,28 @@ impl Repetition {
     }
 
     /// Goes on by the symbol from the position.
-    fn with_position(
-        mut self,
-        position: u32,
-        normal: &Normal,
-        kinds: &[u32],
-        chart: &Chart,
-    ) -> Result<Step, Memory>
-        requires work { IsRepetition normal.now kinds.now self }
+    fn with_position(mut self, position: u32, chart: &Chart<'_>) -> Result<Step, Memory>
+        requires work { IsRepetition chart.now.normal chart.now.kinds self }
         requires next { IsNext self.reached.items self.from position }
-        requires exact { All (IsExact normal.now kinds.now) chart.now.entries.items }
-        requires few { length kinds.now < 2 ^ 32 }
-        ensures { IfOk result (IsStep normal.now kinds.now) }
+        ensures { IfOk result (IsStep chart.now.normal chart.now.kinds) }
     {
-        let from = after(position)?;
-        match add_ends(
-            &mut self.reached,
-            self.symbol,
-            position,
-            normal,
-            kinds,
-            chart,
-        )? {
-            Some(missing) => Ok(Step::Needs(Work::Repetition(self), missing, position)),
-            None => {
+        match chart.ends_of(self.symbol, position) {
+            Ok(ends) => {
+                let from = after(position)?;
+                add_all(&mut self.reached, ends)?;
                 self.from = from;
                 Ok(Step::More(Work::Repetition(self)))
             }
+            Err(missing) => Ok(Step::Needs(Work::Repetition(self), missing, position)),
         }
     }
 
     /// Passes over a position that is covered.
-    fn past(mut self, position: u32, normal: &Normal, kinds: &[u32]) -> Result<Step, Memory>
-        requires work { IsRepetition normal.now kinds.now self }
+    fn past(mut self, position: u32, chart: &Chart<'_>) -> Result<Step, Memory>
+        requires work { IsRepetition chart.now.normal chart.now.kinds self }
         requires next { IsNext self.reached.items self.from position }
         requires covered { Contains self.covered.items position }
-        ensures { IfOk result (IsStep normal.now kinds.now) }
+        ensures { IfOk result (IsStep chart.now.normal chart.now.kinds) }
     {
         let from = after(position)?;
         self.from = from;
@@ -148,25 +134,23 @@ impl Repetition {
     }
 
     /// One step of the work.
-    pub(crate) fn step(self, normal: &Normal, kinds: &[u32], chart: &Chart) -> Result<Step, Memory>
-        requires work { IsRepetition normal.now kinds.now self }
-        requires exact { All (IsExact normal.now kinds.now) chart.now.entries.items }
-        requires few { length kinds.now < 2 ^ 32 }
-        ensures { IfOk result (IsStep normal.now kinds.now) }
+    pub(crate) fn step(self, chart: &Chart<'_>) -> Result<Step, Memory>
+        requires { IsRepetition chart.now.normal chart.now.kinds self }
+        ensures { IfOk result (IsStep chart.now.normal chart.now.kinds) }
     {
-        normal.is_normal();
+        chart.normal().is_normal();
         let Some(position) = self.next() else {
-            return Ok(Step::Found(self.found()));
+            return Ok(Step::Done(self.rule_ends()));
         };
         if has(&self.covered, position) {
-            return self.past(position, normal, kinds);
+            return self.past(position, chart);
         }
-        match chart.find(self.rule, position) {
-            Some(entry) => {
-                let repetition = self.with_entry(position, &entry.ends)?;
+        match chart.ends_of(Sym::Rule(self.rule), position) {
+            Ok(ends) => {
+                let repetition = self.with_entry(position, ends)?;
                 Ok(Step::More(Work::Repetition(repetition)))
             }
-            None => self.with_position(position, normal, kinds, chart),
+            Err(_) => self.with_position(position, chart),
         }
     }
 }

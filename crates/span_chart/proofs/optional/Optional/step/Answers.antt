@@ -1,7 +1,10 @@
+use Rattle.span_chart.proofs.Exactly.{all_exactly, grown_exactly}
 use Rattle.span_chart.proofs.Optionally.{optional_ends}
 use Rattle.span_chart.proofs.optional.Optional.step.Goals as goal
 
-pub returns-in-None : goal.returns-in-None
-returns-in-None c =
-    optional_ends c.args.normal.now c.args.kinds.now c.args.self.rule c.args.self.first c.args.self.symbol c.in_ok-ends.ends.items c.add_ends.new.ends.items c.requires.work.optional c.requires.work.within c.in_ok-ends.ensures.items
-    c.in_ok-missing.ensures.rising (c.in_ok-missing.ensures.grown c.in-None.is) (c.in_ok-missing.ensures.all c.in-None.is)
+pub returns-in_ok-add_all-in-Ok : goal.returns-in_ok-add_all-in-Ok
+returns-in_ok-add_all-in-Ok c =
+    let new = c.add_all.new.positions.items in
+    let more = c.in-Ok.more.now in
+    optional_ends c.args.chart.now.normal c.args.chart.now.kinds c.args.self.rule c.args.self.first c.args.self.symbol c.in_ok-ends-in-Ok.ends.items new c.requires.optional c.requires.within c.in_ok-ends-in-Ok.ensures.items
+    c.in_ok-add_all-in-Ok.ensures.rising (grown_exactly c.in_ok-ends-in-Ok.ends.items new more c.in-Ok.ensures.ends c.in_ok-add_all-in-Ok.ensures.grown) (all_exactly new more c.in-Ok.ensures.ends c.in_ok-add_all-in-Ok.ensures.all)
