@@ -1,0 +1,34 @@
+//! The parse of a list of kinds.
+
+ghost use Rattle.std.specs.Prelude.{◌<◌, ◌^◌, length, IfOk, MatchOption};
+ghost use Rattle.normal_form.specs.NormalDerives.{NormalDerives};
+ghost use Rattle.chart_parser.specs.Parse.{IsParse};
+
+use crate::nodes::preferred_nodes;
+use faults::Memory;
+use normal_form::{Normal, Sym};
+use span_chart::Chart;
+use std::alloc::Global;
+use syntax_tree::Tree;
+
+/// The preferred tree of the kinds for the start symbol; None where that doesn't derive them. A tree
+/// of 2^32 nodes or more is out of memory too.
+///
+/// Its time is that of the chart (see [`Chart`]), and for each node that of the ends of its parts.
+pub fn parse(
+    alloc: Global,
+    normal: &Normal,
+    start: Sym,
+    kinds: &[u32],
+) -> Result<Option<Tree>, Memory>
+    requires { length kinds.now < 2 ^ 32 }
+    ensures { IfOk result (λ answer. MatchOption answer (¬ NormalDerives normal.now start kinds.now) (IsParse normal.now start kinds.now)) }
+{
+    let mut chart = Chart::new(alloc, normal, kinds)?;
+    if !chart.reaches(start, 0, kinds.len() as u32)? {
+        return Ok(None);
+    }
+    let nodes = preferred_nodes(alloc, &mut chart, normal, start, kinds)?;
+    let tree = Tree::new(alloc, normal.copy(alloc)?, start, nodes)?;
+    Ok(Some(tree))
+}
