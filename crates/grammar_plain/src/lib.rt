@@ -21,8 +21,6 @@ mod parser_rules;
 mod pattern;
 mod pieces;
 mod positions;
-#[cfg(test)]
-mod tests;
 mod texts;
 
 pub use faults::Memory;

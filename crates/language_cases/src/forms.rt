@@ -6,19 +6,24 @@ use grammar_tree::Checked;
 use normal_form::{normal_text, normalise};
 use std::alloc::Global;
 
-/// The normal form of the grammar, and that its copy prints the same.
+/// The text of a copy of the grammar's normal form.
+fn form_text(alloc: Global, checked: &Checked) -> Result<Vec<u8>> {
+    let normal = normalise(alloc, checked)?.copy(alloc)?;
+    Ok(normal_text(alloc, checked, &normal)?)
+}
+
+/// The normal form of the grammar, and that a copy of the grammar has the same.
 pub(crate) fn form_shown(alloc: Global, checked: &Checked) -> Result<String> {
-    let normal = normalise(alloc, checked)?;
-    let text = normal_text(alloc, checked, &normal)?;
-    let copied = normal_text(alloc, checked, &normal.copy(alloc)?)?;
+    let text = form_text(alloc, checked)?;
+    let copied = form_text(alloc, &checked.copy(alloc)?)?;
     if text.as_slice() != copied.as_slice() {
-        return Ok(String::from_str(alloc, "the copy prints another text")?);
+        return Ok(String::from_str(alloc, "the copy has another one")?);
     }
     Ok(String::from_utf8(text)?)
 }
 
 /// The numbers in the text.
-fn numbers(alloc: Global, text: &str) -> Result<Vec<u32>> {
+pub(crate) fn numbers(alloc: Global, text: &str) -> Result<Vec<u32>> {
     let mut all = Vec::new(alloc);
     for word in text.split_whitespace() {
         all.push(word.parse::<u32>()?)?;

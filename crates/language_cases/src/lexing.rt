@@ -1,5 +1,8 @@
 //! Texts and their tokens, by the lexer and by the plain one.
 
+ghost use Rattle.std.specs.Prelude.{◌≡◌, IfOk, string_bytes};
+ghost use Rattle.language_cases.specs.Shown.{token_text, tokens_text};
+
 use anyhow::{Result, bail};
 use grammar_plain::Piece;
 use grammar_tree::Checked;
@@ -13,11 +16,20 @@ fn is_gap(checked: &Checked, kind: u32) -> bool {
     }
 }
 
-/// The tokens, each by its kind and its offsets in bytes.
-fn shown(alloc: Global, tokens: &[Token]) -> Result<String> {
+/// A token: the number of its kind, and its offsets in bytes.
+fn token_shown(alloc: Global, kind: u32, start: usize, end: usize) -> Result<String>
+    ensures { IfOk result (λ shown. string_bytes shown ≡ token_text kind start end) }
+{
+    Ok(format!(in alloc; "{kind}@{start}-{end} ")?)
+}
+
+/// The tokens, one after another.
+fn shown(alloc: Global, tokens: &[Token]) -> Result<String>
+    ensures { IfOk result (λ shown. string_bytes shown ≡ tokens_text tokens.now) }
+{
     let mut out = String::new(alloc);
     for token in tokens {
-        let text = format!(in alloc; "{}@{}-{} ", token.kind, token.start, token.end)?;
+        let text = token_shown(alloc, token.kind, token.start as usize, token.end as usize)?;
         out.push_str(text.as_str())?;
     }
     Ok(out)
@@ -30,8 +42,7 @@ fn pieces_shown(alloc: Global, checked: &Checked, pieces: &[Piece]) -> Result<St
     for piece in pieces {
         let end = start.saturating_add(piece.text.as_str().len());
         if !is_gap(checked, piece.kind) {
-            let text = format!(in alloc; "{}@{}-{} ", piece.kind, start, end)?;
-            out.push_str(text.as_str())?;
+            out.push_str(token_shown(alloc, piece.kind, start, end)?.as_str())?;
         }
         start = end;
     }
@@ -96,6 +107,11 @@ const OTHERS: [char; 12] = [
     '\u{10FFFF}',
 ];
 
+/// The code of the character, in hexadecimal digits.
+fn code_shown(alloc: Global, c: char) -> Result<String> {
+    Ok(format!(in alloc; "{:x} ", c as u32)?)
+}
+
 /// Adds the code of the character where it is skipped, and what the plain lexer says where that is
 /// something else.
 fn add_skipped(
@@ -107,8 +123,7 @@ fn add_skipped(
 ) -> Result<()> {
     let skipped = lexer.skips(c)?;
     if skipped {
-        let text = format!(in alloc; "{:x} ", c as u32)?;
-        out.push_str(text.as_str())?;
+        out.push_str(code_shown(alloc, c)?.as_str())?;
     }
     if is_skipped_plainly(alloc, checked, c)? != skipped {
         out.push_str("but not plainly ")?;

@@ -3,7 +3,7 @@
 use anyhow::{Result, bail};
 use grammar_plain::{matches, matches_rule};
 use grammar_reader::read_grammar;
-use grammar_tree::{Grammar, LexAlts, Rule};
+use grammar_tree::{Grammar, LexAlts, Rule, Text};
 use std::alloc::Global;
 
 /// A grammar with the rules that come before `=>` in the text, and what comes after it.
@@ -42,4 +42,16 @@ pub(crate) fn term_shown(alloc: Global, text: &str) -> Result<String> {
         Some(term) => Ok(matches(alloc, &grammar, term, text.as_str())?.to_string(alloc)?),
         None => bail!("there is no term"),
     }
+}
+
+/// Whether no alternatives match the text, in a grammar without rules.
+pub(crate) fn nothing_shown(alloc: Global, text: &str) -> Result<String> {
+    let grammar = Grammar {
+        name: Text::new(alloc, "G")?,
+        tokens: Vec::new(alloc),
+        rules: Vec::new(alloc),
+    };
+    let items = Vec::new(alloc);
+    let matched = matches_rule(alloc, &grammar, &LexAlts { items }, text)?;
+    Ok(matched.to_string(alloc)?)
 }

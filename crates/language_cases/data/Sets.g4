@@ -1,0 +1,1 @@
+grammar S; a : . ~'x' ~('y' | 'x') ~WS ~Z ; b : 'y' ; Z : 'z' ; WS : ' ' -> skip ;

@@ -1,0 +1,1 @@
+grammar Sums; e : e '+' n | n ; n : '0' ;

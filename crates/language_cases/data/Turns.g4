@@ -1,0 +1,1 @@
+grammar Turns; a : 'x' b | 'x' ; b : 'y' a ; c : ;
