@@ -14,7 +14,13 @@ use std::alloc::Global;
 use std::fs;
 
 /// The grammars, in the folder that the program is run in.
-const NAMES: [&str; 5] = ["JSON.g4", "SExpression.g4", "SQL.g4", "C.g4", "Expressions.g4"];
+const NAMES: [&str; 5] = [
+    "JSON.g4",
+    "SExpression.g4",
+    "SQL.g4",
+    "C.g4",
+    "Expressions.g4",
+];
 
 /// The printed normal form of the grammar that the text spells.
 fn form_of(alloc: Global, text: &str) -> Result<Vec<u8>>
