@@ -1,0 +1,1 @@
+grammar Alternatives; s : a | b ; a : 'x' ; b : 'x' ;

@@ -1,0 +1,1 @@
+grammar Elements; s : e* ; e : 'x' | 'x' 'x' ;

@@ -1,0 +1,1 @@
+grammar Empty; s : e? 'y' ; e : 'x'* ;

@@ -1,0 +1,1 @@
+grammar Mixed; s : 'x'? . ('y' | 'x' 'y')+ ;

@@ -1,0 +1,1 @@
+grammar Parts; s : a b ; a : 'x' | 'x' 'x' ; b : 'x'* ;

@@ -1,0 +1,1 @@
+grammar Sums; e : e '+' e | e '!' | '(' e ')' | 'x' ;
