@@ -11,3 +11,4 @@ pub mod Lengths
 pub mod Positions
 pub mod Rows
 pub mod AskedLemmas
+pub mod KeepsLess

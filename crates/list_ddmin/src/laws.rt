@@ -1,7 +1,7 @@
 //! What holds of the states of the machine, and of the list step, for the proofs of callers.
 
 ghost use Rattle.std.specs.Prelude.{ℕ, List};
-ghost use Rattle.list_ddmin.specs.Asked.{DeletionsAsked, EndsAtYes, KeepsAllAtFirst, KeepsLastYes};
+ghost use Rattle.list_ddmin.specs.Asked.{AsksFewer, AsksForNothingFirst, DeletionsAsked, EndsAtYes, KeepsAllAtFirst, KeepsLastYes};
 ghost use Rattle.list_ddmin.specs.Machine.{AgreeingMaps, AsksAsKept, BeginsListStep, CountIsWithin, CountOfAll, CountsAllOnlyOfAll, CountsKept, EachYesIsSmaller, EndsOneMinimal, FollowsListStep, GoesByItsSteps, GoesOn, KeepsLength, PartsAreSlices, QuestionsFit, RestFits, StartsWithAll, StopsAtEnd};
 
 /// Answered from any map, the machine asks the questions of the list step in their order, and
@@ -86,4 +86,11 @@ pub fn ends_at_yes()
 pub fn keeps_last_yes()
     ensures answered { KeepsLastYes }
     ensures started { KeepsAllAtFirst }
+{}
+
+/// What is asked is some of the elements that are kept, and not all of them. None at all is asked
+/// for at the start alone, where all may go.
+pub fn asks_fewer()
+    ensures asked { AsksFewer }
+    ensures nothing { AsksForNothingFirst }
 {}

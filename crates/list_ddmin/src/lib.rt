@@ -23,7 +23,7 @@ mod tests;
 
 pub use faults::Memory;
 pub use laws::{
-    agreeing_maps, begins_list_step, counts_kept, deletions_asked, each_yes_is_smaller,
+    agreeing_maps, asks_fewer, begins_list_step, counts_kept, deletions_asked, each_yes_is_smaller,
     ends_at_yes, ends_one_minimal, follows_list_step, goes_by_its_steps, goes_on, keeps_last_yes,
     parts_are_slices, questions_fit, stops_at_end,
 };
