@@ -1,0 +1,5 @@
+pub mod ListTrials
+pub mod Selections
+pub mod ListEnd
+pub mod Laws
+pub mod Worked
