@@ -1,5 +1,5 @@
-use crate::{SlowMachine, holds};
 use edge_io::{DiskFiles, FileFault, Files, MemFiles, WriteFault};
+use slow_machine::{SlowMachine, holds};
 use std::alloc::Global;
 use std::fs;
 use std::test::Fail;
@@ -11,12 +11,17 @@ enum Call {
     Write(&'static str, &'static str, Result<(), WriteFault>),
 }
 
+fn is_read(read: &Result<Vec<u8>, FileFault>, wanted: Result<&str, FileFault>) -> bool {
+    match (read, wanted) {
+        (Ok(bytes), Ok(text)) => bytes.as_slice() == text.as_bytes(),
+        (Err(fault), Err(other)) => *fault == other,
+        _ => false,
+    }
+}
+
 fn is_answered<F: Files>(files: &mut F, call: Call) -> bool {
     match call {
-        Call::Read(name, limit, wanted) => match files.read(name, limit) {
-            Ok(bytes) => wanted.is_ok_and(|text| text.as_bytes() == bytes.as_slice()),
-            Err(fault) => wanted == Err(fault),
-        },
+        Call::Read(name, limit, wanted) => is_read(&files.read(name, limit), wanted),
         Call::Write(name, text, wanted) => files.write(name, text.as_bytes()) == wanted,
     }
 }
@@ -133,15 +138,20 @@ const ON_THE_MACHINE: [Call; 8] = [
 
 const SLOWLY: [Call; 1] = [Call::Write("files/slow", "written whole", Ok(()))];
 
+fn other_on_disk(rt: HostRuntime) -> Option<usize> {
+    let alloc = rt.alloc();
+    first_other(&mut DiskFiles::new(rt, alloc), &ON_THE_MACHINE)
+}
+
+fn other_slowly(rt: HostRuntime) -> Option<usize> {
+    let alloc = rt.alloc();
+    first_other(&mut DiskFiles::new(SlowMachine::new(rt), alloc), &SLOWLY)
+}
+
 #[test]
 fn the_machine_reads_and_writes_whole_files(rt: HostRuntime) -> Result<(), Fail> {
     fs::create_dir_all(&rt, "files")?;
-    let mut files = DiskFiles::new(rt.clone()?, rt.alloc());
-    let mut slow = DiskFiles::new(SlowMachine::new(rt.clone()?), rt.alloc());
-    let others = (
-        first_other(&mut files, &ON_THE_MACHINE),
-        first_other(&mut slow, &SLOWLY),
-    );
+    let others = (other_on_disk(rt.clone()?), other_slowly(rt.clone()?));
     let held = holds(&rt, "files/file", "written") && holds(&rt, "files/slow", "written whole");
     fs::remove_dir_all(&rt, "files")?;
     assert_eq!(rt; others, (None, None));

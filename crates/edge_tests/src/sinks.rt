@@ -1,5 +1,5 @@
-use crate::{SlowMachine, holds};
 use edge_io::{MemSink, NullSink, OpenFault, Sink, SinkFault, StreamSink};
+use slow_machine::{SlowMachine, holds};
 use std::alloc::Global;
 use std::fs;
 use std::test::Fail;
@@ -128,24 +128,32 @@ const SLOWLY: [Call; 3] = [
     Call::Put("whole", Ok(())),
 ];
 
-/// What is put on a null sink isn't kept, and nothing is put on the standard output.
+fn other_in_a_file(rt: HostRuntime) -> Option<usize> {
+    first_other(&mut StreamSink::file(rt), &ON_THE_MACHINE)
+}
+
+fn other_slowly(rt: HostRuntime) -> Option<usize> {
+    first_other(&mut StreamSink::file(SlowMachine::new(rt)), &SLOWLY)
+}
+
+/// Nothing is put on the standard output, and what is put on a null sink isn't kept.
+fn other_without_a_file(rt: HostRuntime) -> (Option<usize>, Option<usize>) {
+    let nothing = [Call::Put("", Ok(()))];
+    let some = [Call::Put("put", Ok(()))];
+    (
+        first_other(&mut StreamSink::output(rt), &nothing),
+        first_other(&mut NullSink::new(), &some),
+    )
+}
+
 #[test]
 fn a_stream_puts_into_what_was_opened_last(rt: HostRuntime) -> Result<(), Fail> {
     fs::create_dir_all(&rt, "sinks")?;
-    let mut file = StreamSink::file(rt.clone()?);
-    let mut slow = StreamSink::file(SlowMachine::new(rt.clone()?));
-    let others = (
-        first_other(&mut file, &ON_THE_MACHINE),
-        first_other(&mut slow, &SLOWLY),
-        first_other(
-            &mut StreamSink::output(rt.clone()?),
-            &[Call::Put("", Ok(()))],
-        ),
-        first_other(&mut NullSink::new(), &[Call::Put("put", Ok(()))]),
-    );
+    let others = (other_in_a_file(rt.clone()?), other_slowly(rt.clone()?));
+    let without = other_without_a_file(rt.clone()?);
     let held = holds(&rt, "sinks/file", "first second") && holds(&rt, "sinks/slow", "put whole");
     fs::remove_dir_all(&rt, "sinks")?;
-    assert_eq!(rt; others, (None, None, None, None));
+    assert_eq!(rt; (others, without), ((None, None), (None, None)));
     assert!(rt; held);
     Ok(())
 }

@@ -1,5 +1,5 @@
-use edge_tests::{SlowMachine, holds};
 use script_gate::{Gate, GateFault, ListGate, Log, ProcessGate, RuleGate, Said, Verdict};
+use slow_machine::{SlowMachine, holds};
 use std::alloc::Global;
 use std::os::fd::AsRawFd;
 use std::test::Fail;
