@@ -119,7 +119,7 @@ pub none_distinct : (records : List Record) → records ≡ [] → IsDistinct by
 unfolding IsDistinct
 none_distinct records none = rw none tt
 
-none_asked : (o : Option Log) → o ≡ option_map (with_all_asked []) o
+pub none_asked : (o : Option Log) → o ≡ option_map (with_all_asked []) o
 none_asked None = refl
 none_asked (Some log) = grind (arith, common_steps)
 
