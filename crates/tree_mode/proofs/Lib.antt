@@ -1,0 +1,5 @@
+pub mod Leaves
+pub mod Listing
+pub mod Starts
+pub mod Styles
+pub mod Joining

@@ -1,0 +1,17 @@
+pub use Rattle.grammar_tree.specs.Checked
+pub use Rattle.normal_form.specs.Form
+pub use Rattle.syntax_tree.specs.Trees
+pub use Rattle.syntax_tree.specs.Valid
+pub use Rattle.syntax_tree.specs.Left
+pub use Rattle.syntax_tree.specs.Nodes
+pub use Rattle.token_print.specs.Printed
+pub use Rattle.token_print.specs.Kept
+pub use Rattle.reduction_rounds.specs.Trials
+pub use Rattle.reduction_rounds.specs.Mode
+pub mod FormedProp
+pub mod Input
+pub mod InputParts
+pub mod Candidates
+pub mod Listed
+pub mod TreeMode
+pub mod Laws
