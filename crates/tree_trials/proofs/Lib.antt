@@ -1,0 +1,12 @@
+pub mod NodeFacts
+pub mod Queues
+pub mod Selecting
+pub mod Descending
+pub mod Visits
+pub mod Forms
+pub mod Going
+pub mod Tried
+pub mod Following
+pub mod AtNo
+pub mod Rounds
+pub mod WorkedLemmas

@@ -1,0 +1,17 @@
+pub use Rattle.normal_form.specs.Form
+pub use Rattle.normal_form.specs.NormalOf
+pub use Rattle.compat_table.specs.Fits
+pub use Rattle.syntax_tree.specs.Trees
+pub use Rattle.syntax_tree.specs.Valid
+pub use Rattle.syntax_tree.specs.Numbered
+pub use Rattle.syntax_tree.specs.Edits
+pub use Rattle.syntax_tree.specs.Left
+pub use Rattle.node_queue.specs.Waiting
+pub use Rattle.reduction_rounds.specs.Trials
+pub use Rattle.list_trials.specs.ListTrials
+pub use Rattle.list_trials.specs.Selections
+pub use Rattle.descend_replace.specs.Compatible
+pub mod Queued
+pub mod Visit
+pub mod Laws
+pub mod Worked
