@@ -9,3 +9,5 @@ pub mod Choosing
 pub mod Optionally
 pub mod Repeating
 pub mod Beginning
+pub mod FirstKinds
+pub mod FirstRows

@@ -1,12 +1,12 @@
 -- What the entries of a chart are.
-use Rattle.std.specs.Prelude.{◌≡◌, ℕ, ◌<◌, ◌^◌, List, Some, length, slice_get}
-use Rattle.std.specs.List.{All, Contains}
+use Rattle.std.specs.Prelude.{◌≡◌, ℕ, List, Some, slice_get}
+use Rattle.std.specs.List.{Contains}
 use Rattle.normal_form.specs.declared.normal.Sym.{Sym}
 use Rattle.normal_form.specs.declared.normal.Sym.TheVariants.{Kind, Set, Rule}
 use Rattle.normal_form.specs.Form.{NormalForm}
 use Rattle.derived_spans.specs.Spans.{DerivesSpan}
-use Rattle.span_chart.specs.Entries.{Entry, entry}
-use Rattle.span_chart.specs.Positions.{ArePositionsTo, HasExactly}
+use Rattle.span_chart.specs.Entries.{Entry}
+use Rattle.span_chart.specs.Positions.{HasExactly}
 
 -- One token of this kind is what the symbol is.
 abbrev pub IsTokenOf : NormalForm → Sym → ℕ → Type 0
@@ -17,9 +17,3 @@ IsTokenOf N (Rule r) kind = ⊥
 -- An entry has exactly the positions where its rule can end, rising.
 abbrev pub IsExact : NormalForm → List ℕ → Entry → Type 0
 IsExact N kinds e = HasExactly (DerivesSpan N kinds (Rule e.rule) e.first) e.ends
-
--- What a chart has for a normal form and a list of kinds.
-pub record IsChartOf (N : NormalForm) (kinds positions : List ℕ) (entries : List Entry) : Type 0 where
-  pub few : length kinds < 2 ^ 32
-  pub positions_are : ArePositionsTo (length kinds) positions
-  pub exact : All (IsExact N kinds) entries

@@ -6,5 +6,7 @@ pub mod Input
 pub mod Entries
 pub mod Ranges
 pub mod Exact
+pub mod Firsts
+pub mod Kept
 pub mod Working
 pub mod Moves

@@ -1,14 +1,16 @@
 //! Where the symbols of a normal form can end in a list of kinds.
 
-ghost use Rattle.std.specs.Prelude.{◌≡◌, ◌≢◌, ◌↔◌, ℕ, ◌<◌, ◌≤◌, ◌^◌, length, IfErr, IfOk, IsTrue, OnOk};
+ghost use Rattle.std.specs.Prelude.{◌≡◌, ◌≢◌, ◌↔◌, ℕ, ◌<◌, ◌≤◌, ◌^◌, length, IfErr, IfOk, IfSome, IsTrue, OnOk};
 ghost use Rattle.std.specs.List.Sorted.{IsStrictlyIncreasing};
 ghost use Rattle.derived_spans.specs.Spans.{DerivesSpan};
-ghost use Rattle.span_chart.specs.Exact.{IsTokenOf};
 ghost use Rattle.span_chart.specs.Positions.{EndsUpTo, HasAll, HasExactly, IsGrown, IsLastAmong};
 ghost use Rattle.span_chart.specs.Working.{HasRuleEnds};
 ghost use Rattle.normal_form.specs.declared.normal.Sym;
 
 use crate::entries::Entries;
+use crate::firsts::{
+    FirstRow, can_be_left_out, first_rows, is_token, kinds_in, may_be_empty, may_begin_at,
+};
 use crate::positions::{add_all, has, last_common, positions_to, up_to};
 use crate::work::{RuleEnds, work_out};
 use faults::Memory;
@@ -30,6 +32,8 @@ pub struct Chart<'a> {
     /// Each position at its number, so that a single one can be lent.
     positions: Vec<u32>,
     entries: Entries,
+    /// What is known of how rules begin.
+    firsts: Vec<FirstRow>,
 }
 
 impl<'a> Model for Chart<'a> {
@@ -39,26 +43,16 @@ impl<'a> Model for Chart<'a> {
 
     ghost coded = { input_coded };
 
-    ghost use Rattle.span_chart.specs.Exact.{IsChartOf};
+    ghost use Rattle.span_chart.specs.Kept.{IsChartOf};
 
     ghost view = { λ c. record { normal = c.normal.now; kinds = c.kinds.now } };
 
-    ghost invariant = { λ c. IsChartOf c.normal.now c.kinds.now c.positions.items c.entries };
-}
-
-/// Whether a token of this kind is one of the symbol, which is a kind or a set.
-fn is_token(symbol: Sym, kind: u32, normal: &Normal) -> bool
-    ensures { IsTrue result ↔ IsTokenOf normal.now symbol kind }
-{
-    match symbol {
-        Sym::Kind(own) => own == kind,
-        Sym::Set(set) => normal.sets().contains(set, kind),
-        Sym::Rule(_) => false,
-    }
+    ghost invariant = { λ c. IsChartOf c.normal.now c.kinds.now c.positions.items c.entries c.firsts.items };
 }
 
 impl<'a> Chart<'a> {
-    /// Nothing is worked out yet. It takes memory linear in the list.
+    /// Nothing is worked out yet. It takes time and memory linear in the list, and in the rules of the
+    /// form times the kinds that the list has.
     pub fn new(alloc: Global, normal: &'a Normal, kinds: &'a [u32]) -> Result<Chart<'a>, Memory>
         requires { length kinds.now < 2 ^ 32 }
         ensures { IfOk result (λ chart. chart ≡ record { normal = normal.now; kinds = kinds.now }) }
@@ -69,6 +63,7 @@ impl<'a> Chart<'a> {
             kinds,
             positions: positions_to(alloc, kinds.len())?,
             entries: Entries::new(alloc),
+            firsts: first_rows(alloc, kinds_in(kinds), normal)?,
         })
     }
 
@@ -97,6 +92,40 @@ impl<'a> Chart<'a> {
         }
     }
 
+    /// All positions where the rule can end that begins at the position `first`, where the next kind
+    /// says so alone: a rule that can't begin with it ends where it begins, or nowhere.
+    fn ends_by_kind(&self, rule: u32, first: u32) -> Option<&[u32]>
+        requires { first ≤ length self.now.kinds }
+        ensures { IfSome result (λ ends. HasExactly (DerivesSpan self.now.normal self.now.kinds (Sym.Rule rule) first) ends.now) }
+    {
+        let index = first as usize;
+        if may_begin_at(rule, first, self.kinds, self.normal, &self.firsts) {
+            return None;
+        }
+        if can_be_left_out(rule, self.normal) {
+            return Some(&self.positions[index..index + 1]);
+        }
+        if may_be_empty(Sym::Rule(rule), &self.firsts) {
+            return None;
+        }
+        Some(&self.positions[..0])
+    }
+
+    /// All positions where the rule can end that begins at the position `first`, rising; or the rule,
+    /// where they aren't worked out yet.
+    fn rule_ends(&self, rule: u32, first: u32) -> Result<&[u32], u32>
+        requires { first ≤ length self.now.kinds }
+        ensures { IfOk result (λ ends. HasExactly (DerivesSpan self.now.normal self.now.kinds (Sym.Rule rule) first) ends.now) }
+    {
+        if let Some(ends) = self.ends_by_kind(rule, first) {
+            return Ok(ends);
+        }
+        match self.entries.find(rule, first) {
+            Some(ends) => Ok(ends),
+            None => Err(rule),
+        }
+    }
+
     /// All positions where the symbol can end that begins at the position `first`, rising; or the
     /// symbol's rule, where they aren't worked out yet.
     pub(crate) fn ends_of(&self, symbol: Sym, first: u32) -> Result<&[u32], u32>
@@ -107,10 +136,7 @@ impl<'a> Chart<'a> {
             return Ok(&self.positions[..0]);
         }
         match symbol {
-            Sym::Rule(rule) => match self.entries.find(rule, first) {
-                Some(ends) => Ok(ends),
-                None => Err(rule),
-            },
+            Sym::Rule(rule) => self.rule_ends(rule, first),
             Sym::Kind(_) | Sym::Set(_) => Ok(self.token_ends(symbol, first)),
         }
     }

@@ -12,6 +12,7 @@
 mod chart;
 mod choice;
 mod entries;
+mod firsts;
 mod one_question;
 mod optional;
 mod positions;

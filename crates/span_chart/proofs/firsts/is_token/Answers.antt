@@ -4,7 +4,7 @@ use Rattle.grammar_names.specs.KindLists.{is_in}
 use Rattle.normal_form.specs.declared.normal.Sym.{Sym}
 use Rattle.span_chart.specs.Exact.{IsTokenOf}
 use Rattle.span_chart.proofs.SymbolEnds.{set_token}
-use Rattle.span_chart.proofs.chart.is_token.Goals as goal
+use Rattle.span_chart.proofs.firsts.is_token.Goals as goal
 
 pub returns-in-Set : goal.returns-in-Set
 returns-in-Set c =
