@@ -1,0 +1,160 @@
+//! Comparison of the parser with the plain one.
+
+ghost use Rattle.std.specs.Prelude.{◌<◌, ◌^◌, length, IfOk, MatchOption};
+ghost use Rattle.normal_form.specs.declared.normal.Sym.TheVariants.{Rule};
+ghost use Rattle.normal_form.specs.NormalDerives.{NormalDerives};
+ghost use Rattle.chart_parser.specs.Parse.{IsParse};
+
+use crate::lists::{advance, first_list};
+use crate::plain::{Forest, Plain, PlainNode, preferred};
+use anyhow::{Result, bail};
+use chart_parser::parse;
+use grammar_plain::start_derives;
+use grammar_tests::checked;
+use grammar_tree::Checked;
+use normal_form::{Normal, NormalRule, Sym, normalise};
+use std::alloc::Global;
+use syntax_tree::{Node, Tree};
+
+/// How deep the plain parser may go.
+const DEPTH: u32 = 200;
+
+/// A checked grammar with its normal form.
+#[derive(Drop)]
+struct Language {
+    checked: Checked,
+    normal: Normal,
+}
+
+/// How many lists were compared, and how many of them have a tree.
+#[derive(Clone, Copy)]
+struct Counts {
+    lists: u64,
+    derived: u64,
+}
+
+/// The language of the grammar that the text spells.
+fn language_of(alloc: Global, text: &str) -> Result<Language> {
+    match checked(alloc, text, None) {
+        Ok(checked) => {
+            let normal = normalise(alloc, &checked)?;
+            Ok(Language { checked, normal })
+        }
+        Err(refused) => bail!("the grammar is refused: {refused:?}"),
+    }
+}
+
+/// The preferred tree of the kinds; None where the start rule doesn't derive them.
+fn tree_of(alloc: Global, normal: &Normal, kinds: &[u32]) -> Result<Option<Tree>>
+    requires { length kinds.now < 2 ^ 32 }
+    ensures { let start = Rule normal.now.start in IfOk result (λ answer. MatchOption answer (¬ NormalDerives normal.now start kinds.now) (IsParse normal.now start kinds.now)) }
+{
+    Ok(parse(alloc, normal, Sym::Rule(normal.start()), kinds)?)
+}
+
+/// The number of the alternative that the node has, or of what an optional is.
+fn choice_of(normal: &Normal, node: &Node) -> u32 {
+    let Sym::Rule(rule) = node.slot else {
+        return node.alt;
+    };
+    match normal.rules().get(rule as usize) {
+        Some(NormalRule::Opt(_)) if node.children == 0 => 1,
+        _ => node.alt,
+    }
+}
+
+/// The nodes of the parser's tree, as the plain parser has them.
+fn plain_nodes(alloc: Global, normal: &Normal, nodes: &[Node]) -> Result<Vec<PlainNode>> {
+    let mut plain = Vec::new(alloc);
+    for node in nodes {
+        plain.push(PlainNode {
+            sym: node.sym,
+            slot: node.slot,
+            choice: choice_of(normal, node),
+            children: node.children,
+            first: node.first as usize,
+            end: node.end as usize,
+        })?;
+    }
+    Ok(plain)
+}
+
+/// Whether the parser's answer is the preferred one of all trees, or None where there are none.
+fn is_same(
+    alloc: Global,
+    normal: &Normal,
+    answer: &Option<Tree>,
+    trees: &[Forest],
+) -> Result<bool> {
+    match answer {
+        None => Ok(trees.is_empty()),
+        Some(tree) => {
+            let number = preferred(trees);
+            if number >= trees.len() {
+                return Ok(false);
+            }
+            Ok(plain_nodes(alloc, normal, tree.nodes())? == trees[number].nodes)
+        }
+    }
+}
+
+/// Compares the answers for a list. The answer is whether it has a tree.
+fn compare_list(alloc: Global, language: &Language, kinds: &[u32]) -> Result<bool> {
+    if kinds.len() > u32::MAX as usize {
+        bail!("the list is too long");
+    }
+    let normal = &language.normal;
+    let answer = tree_of(alloc, normal, kinds)?;
+    let plain = Plain {
+        alloc,
+        normal,
+        kinds,
+    };
+    let trees = plain.trees(DEPTH, Sym::Rule(normal.start()), 0, kinds.len())?;
+    if !is_same(alloc, normal, &answer, &trees)? {
+        bail!(
+            "of {kinds:?} the parser's tree isn't the preferred one of {}",
+            trees.len()
+        );
+    }
+    if answer.is_some() != start_derives(alloc, &language.checked, kinds)? {
+        bail!("{kinds:?} has a tree and isn't derived, or has none and is derived");
+    }
+    Ok(answer.is_some())
+}
+
+/// Compares the answers for all lists of so many kinds.
+fn compare_length(
+    alloc: Global,
+    language: &Language,
+    length: u32,
+    counts: Counts,
+) -> Result<Counts> {
+    let kinds = language.checked.kinds().len();
+    let mut counts = counts;
+    let mut list = first_list(alloc, length)?;
+    for _ in 0..u64::MAX {
+        counts.lists = counts.lists.saturating_add(1);
+        if compare_list(alloc, language, &list)? {
+            counts.derived = counts.derived.saturating_add(1);
+        }
+        if !advance(&mut list, kinds) {
+            return Ok(counts);
+        }
+    }
+    bail!("there are too many lists")
+}
+
+/// Compares the answers for all lists of up to so many kinds, and says how many there are.
+pub(crate) fn compared(alloc: Global, grammar: &str, longest: u32) -> Result<String> {
+    let language = language_of(alloc, grammar)?;
+    let mut counts = Counts {
+        lists: 0,
+        derived: 0,
+    };
+    for length in 0..=longest {
+        counts = compare_length(alloc, &language, length, counts)?;
+    }
+    let Counts { lists, derived } = counts;
+    Ok(format!(in alloc; "{derived} of {lists} lists have a tree, and all answers are the same")?)
+}
