@@ -7,8 +7,8 @@ import tempfile
 
 TOP = os.path.dirname(os.path.dirname(os.path.realpath(__file__)))
 PERSES = os.path.join(TOP, "perses")
-LEXER = os.path.join(TOP, "crates", "lexer_bench")
-LEXER_BENCH = os.path.join(LEXER, "out", "lexer_bench")
+LEXER_BENCH = os.path.join(TOP, "crates", "lexer_bench", "out", "lexer_bench")
+PARSER_BENCH = os.path.join(TOP, "crates", "parser_bench", "out", "parser_bench")
 
 
 def build_perses():
@@ -19,11 +19,20 @@ def build_perses():
         sys.exit("perses was not built")
 
 
-def build_lexer_bench():
-    """Builds `lexer_bench`, by running it once on an empty text."""
-    print("proving and building lexer_bench, where it isn't built yet", file=sys.stderr)
+def build_bench(name):
+    """Builds the program of this name, which reads a text, by running it once on an empty one."""
+    print(f"proving and building {name}, where it isn't built yet", file=sys.stderr)
     with tempfile.NamedTemporaryFile() as text:
         words = ["rt", "run", "--", text.name, "1"]
-        done = subprocess.run(words, cwd=LEXER, stdin=subprocess.DEVNULL, capture_output=True)
+        folder = os.path.join(TOP, "crates", name)
+        done = subprocess.run(words, cwd=folder, stdin=subprocess.DEVNULL, capture_output=True)
     if done.returncode != 0:
         sys.exit(done.stdout.decode() + done.stderr.decode())
+
+
+def build_lexer_bench():
+    build_bench("lexer_bench")
+
+
+def build_parser_bench():
+    build_bench("parser_bench")
