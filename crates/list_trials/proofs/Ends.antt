@@ -7,7 +7,7 @@ use Rattle.list_ddmin.specs.Machine.{State, IsSound, after, kept, rest_of, start
 use Rattle.list_ddmin.proofs.Follows.{IsSound-start, begins_list_step, rest_of-after, stops_at_end}
 use Rattle.list_ddmin.proofs.AskedLemmas.{keeps_all_at_first}
 use Rattle.reduction_rounds.specs.Trials.{Trials}
-use Rattle.reduction_rounds.specs.Mode.{Mode}
+use Rattle.reduction_rounds.specs.Mode.{RoundMode}
 use Rattle.reduction_rounds.specs.Reduction.{TrialsEnd, after_question, after_yes, trials_end}
 use Rattle.list_trials.specs.ListTrials.{list_trials}
 use Rattle.list_trials.specs.ListEnd.{after_texts, end_after, keep_verdict, listed_texts}
@@ -15,7 +15,7 @@ use Rattle.list_trials.specs.Laws.{EndsAsListStep, EndsAsRest}
 use Rattle.list_trials.proofs.GoesOn.{at_end, at_question}
 use Rattle.list_trials.proofs.Steps.{by_steps, kept_at_no, kept_at_yes}
 
-module _ {T : Type 0} (mode : Mode T) (verdict : List ℕ → Bool) (state_of : List Bool → T) (next : List Bool → Trials T) where
+module _ {T : Type 0} (mode : RoundMode T) (verdict : List ℕ → Bool) (state_of : List Bool → T) (next : List Bool → Trials T) where
   -- the end of an outcome
   abbrev ending : Outcome → TrialsEnd T
   ending outcome = end_after mode verdict state_of next outcome

@@ -4,7 +4,7 @@ use Rattle.list_ddmin.specs.ListStep.{list_step}
 use Rattle.list_ddmin.specs.Machine.{State, IsSound, asks, after, kept, start, rest_of}
 use Rattle.list_ddmin.specs.Asked.{KeepsFewer}
 use Rattle.reduction_rounds.specs.Trials.{Trials, Try, AllTried, EachIsSmaller, IsTriedAtNo}
-use Rattle.reduction_rounds.specs.Mode.{Mode}
+use Rattle.reduction_rounds.specs.Mode.{RoundMode}
 use Rattle.reduction_rounds.specs.Reduction.{trials_end}
 use Rattle.list_trials.specs.ListTrials.{list_trials}
 use Rattle.list_trials.specs.Selections.{IsSelection, IsRemainder, IsSelectionAt, IsRemainderAt}
@@ -39,7 +39,7 @@ TriesDeletions {T} state_of next = (len : ℕ) (may_be_empty : Bool)
     × ((state : T) → IsTriedAtNo (next (replicate len true)) state → IsTriedAtNo (list_trials state_of next (start len may_be_empty)) state)
 
 -- From the state of all elements on, the trials come to what the list step does, with the verdicts on its keep lists, and then to what goes on from its result.
-abbrev pub EndsAsListStep : {T : Type 0} → Mode T → (List ℕ → Bool) → (List Bool → T) → (List Bool → Trials T) → Type 0
+abbrev pub EndsAsListStep : {T : Type 0} → RoundMode T → (List ℕ → Bool) → (List Bool → T) → (List Bool → Trials T) → Type 0
 EndsAsListStep mode verdict state_of next = (len : ℕ) (may_be_empty : Bool)
     → trials_end mode verdict (state_of (replicate len true)) (list_trials state_of next (start len may_be_empty))
     ≡ end_after mode verdict state_of next (list_step (keep_verdict mode verdict state_of) len may_be_empty)
@@ -65,7 +65,7 @@ BecomesSmallerAt size state_of next = (step : State) → IsSound step
     → ((keep : List Bool) → IsRemainderAt step keep → EachIsSmaller size (size (state_of keep)) (next keep))
     → EachIsSmaller size (size (state_of (kept step))) (list_trials state_of next step)
 
-abbrev pub EndsAsRest : {T : Type 0} → Mode T → (List ℕ → Bool) → (List Bool → T) → (List Bool → Trials T) → Type 0
+abbrev pub EndsAsRest : {T : Type 0} → RoundMode T → (List ℕ → Bool) → (List Bool → T) → (List Bool → Trials T) → Type 0
 EndsAsRest mode verdict state_of next = (step : State) → IsSound step
     → trials_end mode verdict (state_of (kept step)) (list_trials state_of next step)
     ≡ end_after mode verdict state_of next (rest_of (keep_verdict mode verdict state_of) step)

@@ -4,7 +4,7 @@
 
 ghost use Rattle.std.specs.Prelude.{◌≡◌, true, Bool, List, ℕ};
 ghost use Rattle.reduction_rounds.specs.Trials.{Trials};
-ghost use Rattle.reduction_rounds.specs.Mode.{Mode};
+ghost use Rattle.reduction_rounds.specs.Mode.{RoundMode};
 ghost use Rattle.list_trials.specs.Laws.{BecomesSmaller, EndsAsListStep, GoesByQuestions, SameByKeepLists, TriesDeletions, TriesSelections};
 ghost use Rattle.list_trials.specs.Worked.{WorkedTrials};
 
@@ -36,7 +36,7 @@ pub fn tries_deletions<R: Round>()
 /// Over a mode and a verdict, the trials end as the list step does, and as what goes on from its
 /// result.
 pub fn ends_as_list_step<R: Round>()
-    ensures { (mode : Mode R.State) (verdict : List ℕ → Bool) (state_of : List Bool → R.State) (next : List Bool → Trials R.State) → EndsAsListStep mode verdict state_of next }
+    ensures { (mode : RoundMode R.State) (verdict : List ℕ → Bool) (state_of : List Bool → R.State) (next : List Bool → Trials R.State) → EndsAsListStep mode verdict state_of next }
 {}
 
 /// Trials are the same where selections have the same states, and remainders go on in the same way.

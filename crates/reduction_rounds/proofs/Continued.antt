@@ -2,7 +2,7 @@
 use Rattle.std.proofs.Common.{◌≡◌, ℕ, suc, zero, ◌+◌, Bool, true, false, cond, List, ◌++◌, refl, sym, ap, ◌∙◌}
 use Rattle.std.specs.Prelude.{◌||◌}
 use Rattle.reduction_rounds.specs.Trials.{Trials, Done, Try}
-use Rattle.reduction_rounds.specs.Mode.{Mode}
+use Rattle.reduction_rounds.specs.Mode.{RoundMode}
 use Rattle.reduction_rounds.specs.Reduction.{Reduction, TrialsEnd, after_opening, after_question, after_round, after_yes, asks_first, ends_with, next_rounds, opening_of, reduction, round_of, rounds_of, rounds_within, trials_end}
 
 pub or-true : (b : Bool) → (b || true) ≡ true
@@ -44,7 +44,7 @@ module _ {T : Type 0} where
       ap (asks_first text) at_yes ∙ ap (λ c. asks_first text (after_texts ey.questions (go ey.state c))) (sym (or-true changed))
   from_end-test go changed true false text ry rn ey en at_yes at_no = ap (asks_first text) at_no
 
-module _ {T : Type 0} (mode : Mode T) (verdict : List ℕ → Bool) where
+module _ {T : Type 0} (mode : RoundMode T) (verdict : List ℕ → Bool) where
   -- trials from a state on, and then `go` with the state that end_at
   abbrev pub tried_in : (T → Bool → Reduction T) → T → Trials T → Bool → Reduction T
   tried_in go state Done changed = go state changed

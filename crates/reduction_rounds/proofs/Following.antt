@@ -5,13 +5,13 @@ use Rattle.script_gate.specs.declared.gate.Verdict.{Verdict}
 use Rattle.script_gate.specs.declared.gate.Verdict.TheVariants.{Yes, No}
 use Rattle.verdict_table.specs.Plan.{Plan, End, Ask, StepResult, HasEnded, follow}
 use Rattle.reduction_rounds.specs.Trials.{Trials, Done, Try}
-use Rattle.reduction_rounds.specs.Mode.{Mode}
+use Rattle.reduction_rounds.specs.Mode.{RoundMode}
 use Rattle.reduction_rounds.specs.Reduction.{Reduction, asks_first, ends_with, reduction}
 use Rattle.reduction_rounds.specs.RoundsPlan.{ask_if, capped_count, plan_first, plan_in, plan_next, plan_opening, plan_rounds, plan_within, step_result}
 use Rattle.reduction_rounds.specs.Laws.{HasVerdicts, IsTheReduction, RefusesAtNo, says_yes}
 use Rattle.reduction_rounds.proofs.Continued.{all_rounds, by_test, next_round, one_round_more, reduction-in, reduction_in, rounds_in, tried_in}
 
-module _ {T : Type 0} (mode : Mode T) (V : List ℕ → Option Verdict) where
+module _ {T : Type 0} (mode : RoundMode T) (V : List ℕ → Option Verdict) where
   abbrev pub result_from : ℕ → ℕ → Reduction T → StepResult
   result_from used rounds r = step_result mode r.state (capped_count (used + length r.questions)) (capped_count (rounds + r.rounds)) r.refused
 
@@ -110,7 +110,7 @@ module _ {T : Type 0} (mode : Mode T) (V : List ℕ → Option Verdict) where
 
 -- Rounds are made of a start that wasn't refused.
 
-module _ {T : Type 0} (mode : Mode T) (verdict : List ℕ → Bool) where
+module _ {T : Type 0} (mode : RoundMode T) (verdict : List ℕ → Bool) where
   abbrev pub IsKept : Reduction T → Type 0
   IsKept r = r.refused ≡ false
 
@@ -136,7 +136,7 @@ module _ {T : Type 0} (mode : Mode T) (verdict : List ℕ → Bool) where
   pub kept-opening : IsKept (tried_in mode verdict (λ state changed. all_rounds mode verdict state) mode.start mode.opening false)
   kept-opening = kept-in (λ state changed. all_rounds mode verdict state) (λ state changed. kept-rounds (suc (mode.size state)) state) mode.start mode.opening false
 
-pub refuses_at_no : {T : Type 0} (mode : Mode T) → RefusesAtNo mode
+pub refuses_at_no : {T : Type 0} (mode : RoundMode T) → RefusesAtNo mode
 unfolding reduction
 refuses_at_no mode V = (
   λ is. ap (λ r. r.refused) (reduction-in mode (says_yes V)) ∙ rw is (kept-opening mode (says_yes V)),

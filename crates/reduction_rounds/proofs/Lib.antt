@@ -3,4 +3,5 @@ pub mod Fuel
 pub mod Following
 pub mod Ends
 pub mod Candidates
+pub mod Agreement
 pub mod FieldLemmas

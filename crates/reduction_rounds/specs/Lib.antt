@@ -1,3 +1,4 @@
+pub use Rattle.verdict_table.specs.Plan
 pub mod Trials
 pub mod Mode
 pub mod Reduction

@@ -2,7 +2,7 @@
 use Rattle.std.specs.Prelude.{ℕ, Bool, List}
 use Rattle.reduction_rounds.specs.Trials.{Trials, AllTried, EachIsSmaller, IsTriedAtNo}
 
-pub record Mode (T : Type 0) : Type 0 where
+pub record RoundMode (T : Type 0) : Type 0 where
   -- what is reduced
   pub start : T
   -- the text of a state
@@ -16,16 +16,17 @@ pub record Mode (T : Type 0) : Type 0 where
   -- what one round tries
   pub round : T → Trials T
 
--- What a mode owes: within a round each yes makes the state smaller, so that the rounds end.
-pub record IsLawful {T : Type 0} (mode : Mode T) : Type 0 where
-  pub smaller : (state : T) → EachIsSmaller mode.size (mode.size state) (mode.round state)
+-- Kept holds of the start, and of each state that is tried from a state of which it holds
+pub record Keeps {T : Type 0} (mode : RoundMode T) (Kept : T → Type 0) : Type 0 where
+  pub start : Kept mode.start
+  pub opening : AllTried Kept mode.opening
+  pub round : (state : T) → Kept state → AllTried Kept (mode.round state)
 
--- a round tries each single edit of its state, if all its answers are no
-abbrev pub TriesEdits : {T : Type 0} → Mode T → (T → T → Type 0) → Type 0
-TriesEdits {T = T} mode IsEdit = (state other : T) → IsEdit state other → IsTriedAtNo (mode.round state) other
+-- What a mode owes: it reaches kept states alone, and within a round from one of them each yes makes the state smaller, so that the rounds end.
+pub record IsLawful {T : Type 0} (mode : RoundMode T) (Kept : T → Type 0) : Type 0 where
+  pub keeps : Keeps mode Kept
+  pub smaller : (state : T) → Kept state → EachIsSmaller mode.size (mode.size state) (mode.round state)
 
--- P holds of the start, and of each state that is tried from a state of which it holds
-pub record Keeps {T : Type 0} (mode : Mode T) (P : T → Type 0) : Type 0 where
-  pub start : P mode.start
-  pub opening : AllTried P mode.opening
-  pub round : (state : T) → P state → AllTried P (mode.round state)
+-- a round from a kept state tries each single edit of it, if all its answers are no
+abbrev pub TriesEdits : {T : Type 0} → RoundMode T → (T → Type 0) → (T → T → Type 0) → Type 0
+TriesEdits {T = T} mode Kept IsEdit = (state other : T) → Kept state → IsEdit state other → IsTriedAtNo (mode.round state) other

@@ -1,7 +1,7 @@
 -- The reduction of a start, in any mode: the start is asked, then the opening is tried, and then rounds are made until one has no yes. It is a function of a verdict on every text.
 use Rattle.std.specs.Prelude.{◌+◌, ℕ, zero, suc, Bool, true, false, List, [], ◌∷◌, ◌++◌, if◌then◌else◌}
 use Rattle.reduction_rounds.specs.Trials.{Trials, Done, Try}
-use Rattle.reduction_rounds.specs.Mode.{Mode}
+use Rattle.reduction_rounds.specs.Mode.{RoundMode}
 
 -- what trials come to: the texts that are asked, in order and repeated texts each time, the state that remains, and whether there was a yes
 pub record TrialsEnd (T : Type 0) : Type 0 where
@@ -22,7 +22,7 @@ abbrev pub after_yes : {T : Type 0} → TrialsEnd T → TrialsEnd T
 after_yes later = record later { changed = true }
 
 -- What trials from a state on come to. A state that isn't listed counts as no, and isn't asked.
-abbrev pub trials_end : {T : Type 0} → Mode T → (List ℕ → Bool) → T → Trials T → TrialsEnd T
+abbrev pub trials_end : {T : Type 0} → RoundMode T → (List ℕ → Bool) → T → Trials T → TrialsEnd T
 trials_end mode verdict state Done = end_at state
 trials_end mode verdict state (Try other at_yes at_no) =
     if mode.is_listed other
@@ -31,11 +31,11 @@ trials_end mode verdict state (Try other at_yes at_no) =
     else trials_end mode verdict state at_no
 
 -- one round
-abbrev pub round_of : {T : Type 0} → Mode T → (List ℕ → Bool) → T → TrialsEnd T
+abbrev pub round_of : {T : Type 0} → RoundMode T → (List ℕ → Bool) → T → TrialsEnd T
 round_of mode verdict state = trials_end mode verdict state (mode.round state)
 
 -- what is tried once, before the rounds
-abbrev pub opening_of : {T : Type 0} → Mode T → (List ℕ → Bool) → TrialsEnd T
+abbrev pub opening_of : {T : Type 0} → RoundMode T → (List ℕ → Bool) → TrialsEnd T
 opening_of mode verdict = trials_end mode verdict mode.start mode.opening
 
 -- what a reduction asks, in order and repeated texts each time, the state that it ends with, its rounds, and whether the start was refused
@@ -66,17 +66,17 @@ abbrev pub next_rounds : {T : Type 0} → (T → Reduction T) → TrialsEnd T �
 next_rounds go round = if round.changed then go round.state else ends_with round.state false
 
 -- rounds until one has no yes, but at most so many
-unfoldable pub rounds_within : {T : Type 0} → ℕ → Mode T → (List ℕ → Bool) → T → Reduction T
+unfoldable pub rounds_within : {T : Type 0} → ℕ → RoundMode T → (List ℕ → Bool) → T → Reduction T
 rounds_within zero mode verdict state = ends_with state false
 rounds_within (suc rounds) mode verdict state =
     after_round (round_of mode verdict state) (next_rounds (λ remaining. rounds_within rounds mode verdict remaining) (round_of mode verdict state))
 
 -- Each round but the last leaves a smaller state, so there is at most one round more than the state has units.
-unfoldable pub rounds_of : {T : Type 0} → Mode T → (List ℕ → Bool) → T → Reduction T
+unfoldable pub rounds_of : {T : Type 0} → RoundMode T → (List ℕ → Bool) → T → Reduction T
 rounds_of mode verdict state = rounds_within (suc (mode.size state)) mode verdict state
 
 -- the start is asked first; at no it is refused
-unfoldable pub reduction : {T : Type 0} → Mode T → (List ℕ → Bool) → Reduction T
+unfoldable pub reduction : {T : Type 0} → RoundMode T → (List ℕ → Bool) → Reduction T
 reduction mode verdict =
     asks_first (mode.text mode.start)
     (if verdict (mode.text mode.start)

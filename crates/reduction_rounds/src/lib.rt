@@ -3,8 +3,8 @@
 //!
 //! Read `specs/Reduction.antt` first: the reduction as a recursion over a verdict on every text. What
 //! a mode brings is a type that implements [`Round`]: its states, their texts, which of them may be
-//! asked, and what a round tries from a state, as a finite tree (`specs/Trials.antt`,
-//! `specs/Mode.antt`). As code a reduction is a machine that is asked and answered from outside: it
+//! asked, what a round tries from a state, as a finite tree (`specs/Trials.antt`,
+//! `specs/Mode.antt`), and what holds of each state that it reaches. As code a reduction is a machine that is asked and answered from outside: it
 //! is a [`Step`](verdict_table::Step), with the plan of `specs/RoundsPlan.antt`. The laws tie the two
 //! together: each is a function that does nothing, which a caller calls so that its proof has the
 //! law.
@@ -18,8 +18,9 @@ mod stage;
 
 pub use faults::Memory;
 pub use laws::{
-    asks_candidates, ends_minimal, follows_reduction, goes_by_its_rounds, refuses_at_no,
+    agreeing_maps, asks_candidates, ends_minimal, follows_reduction, goes_by_its_rounds,
+    refuses_at_no,
 };
-pub use reducer::Reducer;
+pub use reducer::ReducerStep;
 pub use round::Round;
 pub use rounds::Rounds;

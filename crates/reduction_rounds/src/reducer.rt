@@ -6,7 +6,7 @@ ghost use Rattle.verdict_table.specs.Plan.{End, HasEnded, StepResult};
 use verdict_table::Step;
 
 /// A step whose result can be read: what it has come to so far, and at its end what it ends with.
-pub trait Reducer: Step {
+pub trait ReducerStep: Step {
     /// What it has come to.
     ghost so_far: { Self → StepResult };
 

@@ -2,12 +2,12 @@
 
 ghost use Rattle.std.specs.Prelude.{◌≡◌, ◌≤◌, length, OnOk, IsSome, IfSome, IfOk, true, false};
 ghost use Rattle.reduction_rounds.specs.Trials.{Done, height, state_after};
-ghost use Rattle.reduction_rounds.specs.Fields.{Becomes, HasState, IsReady, IsTrying, listed_text, listed_trials, plan_of, result_so_far, stage_after};
+ghost use Rattle.reduction_rounds.specs.Fields.{Becomes, HasState, IsReady, IsTrying, StaysKept, listed_text, listed_trials, plan_of, result_so_far, stage_after};
 ghost use Rattle.reduction_rounds.specs.FieldProps.{ready_prop};
 ghost use Rattle.reduction_rounds.specs.RoundsPlan.{plan_first, plan_rounds};
 ghost use Rattle.verdict_table.specs.Plan.{after as plan_after, asked};
 
-use crate::reducer::Reducer;
+use crate::reducer::ReducerStep;
 use crate::round::Round;
 use crate::stage::{Progress, Stage};
 use faults::Memory;
@@ -28,7 +28,7 @@ pub struct Rounds<R: Round + Drop> {
     round: R,
     stage: Stage,
     progress: Progress,
-    ghost ready: { IsReady (R.mode round) (R.state round) (R.rest round) stage progress } by { ready_prop (R.mode round) (R.state round) (R.rest round) stage progress },
+    ghost ready: { IsReady (R.mode (R.input round)) (R.Kept (R.input round)) (R.state round) (R.rest round) stage progress } by { ready_prop (R.mode (R.input round)) (R.Kept (R.input round)) (R.state round) (R.rest round) stage progress },
 }
 
 impl<R: Round + Drop> Rounds<R> {
@@ -37,12 +37,12 @@ impl<R: Round + Drop> Rounds<R> {
     /// of a start that is listed.
     pub fn new(alloc: Global, start: Vec<u8>, units: u64, round: R) -> Rounds<R>
         requires short { length start.items ≤ 1048576 }
-        requires state { R.state round ≡ (R.mode round).start }
-        requires rest { R.rest round ≡ (R.mode round).opening }
-        requires text { start.items ≡ (R.mode round).text (R.mode round).start }
-        requires units { units ≡ (R.mode round).size (R.mode round).start }
-        ensures plan { ⟦<Rounds<R> as Step>⟧.plan result ≡ plan_first (R.mode round) }
-        ensures first { ⟦<Rounds<R> as Step>⟧.first result ≡ plan_first (R.mode round) }
+        requires state { R.state round ≡ (R.mode (R.input round)).start }
+        requires rest { R.rest round ≡ (R.mode (R.input round)).opening }
+        requires text { start.items ≡ (R.mode (R.input round)).text (R.mode (R.input round)).start }
+        requires units { units ≡ (R.mode (R.input round)).size (R.mode (R.input round)).start }
+        ensures plan { ⟦<Rounds<R> as Step>⟧.plan result ≡ plan_first (R.mode (R.input round)) }
+        ensures first { ⟦<Rounds<R> as Step>⟧.first result ≡ plan_first (R.mode (R.input round)) }
     {
         Rounds {
             alloc,
@@ -63,7 +63,7 @@ impl<R: Round + Drop> Rounds<R> {
     pub fn copy(&self) -> Result<Rounds<R>, Memory>
         ensures plan { IfOk result (λ reducer. ⟦<Rounds<R> as Step>⟧.plan reducer ≡ ⟦<Rounds<R> as Step>⟧.plan self.now) }
         ensures first { IfOk result (λ reducer. ⟦<Rounds<R> as Step>⟧.first reducer ≡ ⟦<Rounds<R> as Step>⟧.first self.now) }
-        ensures so_far { IfOk result (λ reducer. ⟦<Rounds<R> as Reducer>⟧.so_far reducer ≡ ⟦<Rounds<R> as Reducer>⟧.so_far self.now) }
+        ensures so_far { IfOk result (λ reducer. ⟦<Rounds<R> as ReducerStep>⟧.so_far reducer ≡ ⟦<Rounds<R> as ReducerStep>⟧.so_far self.now) }
     {
         let progress = &self.progress;
         let text = Vec::from_slice(self.alloc, &progress.text)?;
@@ -84,9 +84,9 @@ impl<R: Round + Drop> Rounds<R> {
 }
 
 impl<R: Round + Drop> Step for Rounds<R> {
-    ghost plan = { λ r. plan_of (R.mode r.round) (R.state r.round) (R.rest r.round) r.stage r.progress };
+    ghost plan = { λ r. plan_of (R.mode (R.input r.round)) (R.state r.round) (R.rest r.round) r.stage r.progress };
 
-    ghost first = { λ r. plan_first (R.mode r.round) };
+    ghost first = { λ r. plan_first (R.mode (R.input r.round)) };
 
     fn asks(&self) -> Option<&[u8]> {
         match &self.stage {
@@ -109,7 +109,7 @@ impl<R: Round + Drop> Step for Rounds<R> {
     }
 }
 
-impl<R: Round + Drop> Reducer for Rounds<R> {
+impl<R: Round + Drop> ReducerStep for Rounds<R> {
     ghost so_far = { λ r. result_so_far r.progress };
 
     fn result(&self) -> &[u8] {
@@ -141,10 +141,10 @@ fn next_stage<R: Round>(
     verdict: Verdict,
     progress: &mut Progress,
 ) -> Result<Stage, Memory>
-    requires ready { IsReady (R.mode round.old) (R.state round.old) (R.rest round.old) stage progress.old }
-    requires asking { IsSome (asked (plan_of (R.mode round.old) (R.state round.old) (R.rest round.old) stage progress.old)) }
-    ensures becomes { IfOk result (λ next. Becomes (plan_after (plan_of (R.mode round.old) (R.state round.old) (R.rest round.old) stage progress.old) verdict) (R.mode round.new) (R.state round.new) (R.rest round.new) next progress.new) }
-    ensures mode { R.mode round.new ≡ R.mode round.old }
+    requires ready { IsReady (R.mode (R.input round.old)) (R.Kept (R.input round.old)) (R.state round.old) (R.rest round.old) stage progress.old }
+    requires asking { IsSome (asked (plan_of (R.mode (R.input round.old)) (R.state round.old) (R.rest round.old) stage progress.old)) }
+    ensures becomes { IfOk result (λ next. Becomes (plan_after (plan_of (R.mode (R.input round.old)) (R.state round.old) (R.rest round.old) stage progress.old) verdict) (R.mode (R.input round.new)) (R.Kept (R.input round.new)) (R.state round.new) (R.rest round.new) next progress.new) }
+    ensures input { R.input round.new ≡ R.input round.old }
     ensures short { length progress.new.text.items ≤ 1048576 }
 {
     match stage {
@@ -182,11 +182,12 @@ fn take_answer<R: Round>(
     progress: &mut Progress,
 ) -> Result<Stage, Memory>
     requires trying { IsTrying stage }
-    requires asked { IsSome (listed_text (R.mode round.old) (R.rest round.old)) }
-    requires state { HasState (R.mode round.old) (R.state round.old) progress.old }
+    requires asked { IsSome (listed_text (R.mode (R.input round.old)) (R.rest round.old)) }
+    requires state { HasState (R.mode (R.input round.old)) (R.state round.old) progress.old }
+    requires kept { StaysKept (R.mode (R.input round.old)) (R.Kept (R.input round.old)) (R.state round.old) (R.rest round.old) }
     requires short { length progress.old.text.items ≤ 1048576 }
-    ensures becomes { IfOk result (λ next. Becomes (plan_after (plan_of (R.mode round.old) (R.state round.old) (R.rest round.old) stage progress.old) verdict) (R.mode round.new) (R.state round.new) (R.rest round.new) next progress.new) }
-    ensures mode { R.mode round.new ≡ R.mode round.old }
+    ensures becomes { IfOk result (λ next. Becomes (plan_after (plan_of (R.mode (R.input round.old)) (R.state round.old) (R.rest round.old) stage progress.old) verdict) (R.mode (R.input round.new)) (R.Kept (R.input round.new)) (R.state round.new) (R.rest round.new) next progress.new) }
+    ensures input { R.input round.new ≡ R.input round.old }
     ensures short { length progress.new.text.items ≤ 1048576 }
 {
     progress.used = progress.used.saturating_add(1);
@@ -205,10 +206,10 @@ fn keep_tried_state<R: Round>(
     round: &R,
     progress: &mut Progress,
 ) -> Result<(), Memory>
-    requires asked { IsSome (listed_text (R.mode round.now) (R.rest round.now)) }
+    requires asked { IsSome (listed_text (R.mode (R.input round.now)) (R.rest round.now)) }
     requires refused { progress.old.refused ≡ false }
     requires short { length progress.old.text.items ≤ 1048576 }
-    ensures state { OnOk result (HasState (R.mode round.now) (state_after (R.state round.now) (R.rest round.now) true) progress.new) }
+    ensures state { OnOk result (HasState (R.mode (R.input round.now)) (state_after (R.state round.now) (R.rest round.now) true) progress.new) }
     ensures used { progress.new.used ≡ progress.old.used }
     ensures rounds { progress.new.rounds ≡ progress.old.rounds }
     ensures short { length progress.new.text.items ≤ 1048576 }
@@ -240,9 +241,10 @@ fn to_question<R: Round>(
     progress: &mut Progress,
 ) -> Result<Stage, Memory>
     requires trying { IsTrying stage }
-    requires state { HasState (R.mode round.old) (R.state round.old) progress.old }
-    ensures becomes { IfOk result (λ next. Becomes (plan_of (R.mode round.old) (R.state round.old) (R.rest round.old) stage progress.old) (R.mode round.new) (R.state round.new) (R.rest round.new) next progress.new) }
-    ensures mode { R.mode round.new ≡ R.mode round.old }
+    requires state { HasState (R.mode (R.input round.old)) (R.state round.old) progress.old }
+    requires kept { StaysKept (R.mode (R.input round.old)) (R.Kept (R.input round.old)) (R.state round.old) (R.rest round.old) }
+    ensures becomes { IfOk result (λ next. Becomes (plan_of (R.mode (R.input round.old)) (R.state round.old) (R.rest round.old) stage progress.old) (R.mode (R.input round.new)) (R.Kept (R.input round.new)) (R.state round.new) (R.rest round.new) next progress.new) }
+    ensures input { R.input round.new ≡ R.input round.old }
     ensures text { progress.new.text.items ≡ progress.old.text.items }
 {
     pass(round)?;
@@ -270,9 +272,10 @@ fn to_question<R: Round>(
 /// Begins a round. Where it asks nothing, it is the last.
 fn begin<R: Round>(round: &mut R, progress: &mut Progress) -> Result<Stage, Memory>
     requires over { R.rest round.old ≡ Done }
-    requires state { HasState (R.mode round.old) (R.state round.old) progress.old }
-    ensures begun { IfOk result (λ stage. Becomes (plan_rounds (R.mode round.old) progress.old.rounds progress.old.used (R.state round.old)) (R.mode round.new) (R.state round.new) (R.rest round.new) stage progress.new) }
-    ensures mode { R.mode round.new ≡ R.mode round.old }
+    requires state { HasState (R.mode (R.input round.old)) (R.state round.old) progress.old }
+    requires kept { StaysKept (R.mode (R.input round.old)) (R.Kept (R.input round.old)) (R.state round.old) (R.rest round.old) }
+    ensures begun { IfOk result (λ stage. Becomes (plan_rounds (R.mode (R.input round.old)) progress.old.rounds progress.old.used (R.state round.old)) (R.mode (R.input round.new)) (R.Kept (R.input round.new)) (R.state round.new) (R.rest round.new) stage progress.new) }
+    ensures input { R.input round.new ≡ R.input round.old }
     ensures text { progress.new.text.items ≡ progress.old.text.items }
 {
     round.begin_round()?;
@@ -286,9 +289,9 @@ fn begin<R: Round>(round: &mut R, progress: &mut Progress) -> Result<Stage, Memo
 
 /// Passes over the states that aren't listed, which count as no.
 fn pass<R: Round>(round: &mut R) -> Result<(), Memory>
-    ensures rest { OnOk result (R.rest round.new ≡ listed_trials (R.mode round.old) (R.rest round.old)) }
+    ensures rest { OnOk result (R.rest round.new ≡ listed_trials (R.mode (R.input round.old)) (R.rest round.old)) }
     ensures state { OnOk result (R.state round.new ≡ R.state round.old) }
-    ensures mode { R.mode round.new ≡ R.mode round.old }
+    ensures input { R.input round.new ≡ R.input round.old }
 {
     while !round.is_over() && round.asks().is_none() {
         round.answer(false)?;

@@ -1,9 +1,9 @@
 -- The mode of bytes is lawful.
-use Rattle.std.proofs.Common.{◌≡◌, ◌+◌, ◌-◌, ◌<◌, ◌≤◌, inl, inr, ⊎_elim, ℕ, zero, suc, List, [], ◌∷◌, length, remove, sym, ap, subst, arith}
+use Rattle.std.proofs.Common.{◌≡◌, ◌+◌, ◌-◌, ◌<◌, ◌≤◌, inl, inr, ⊎_elim, ℕ, zero, suc, List, [], ◌∷◌, length, remove, drop, sym, ap, subst, arith}
 use Rattle.std.proofs.lemmas.Bool.{cases_eq}
-use Rattle.reduction_rounds.specs.Trials.{EachIsSmaller, IsTriedAtNo}
-use Rattle.reduction_rounds.specs.Mode.{IsLawful, TriesEdits}
-use Rattle.rounds_tests.specs.ByteMode.{IsByteEdit, byte_mode, deletions_from}
+use Rattle.reduction_rounds.specs.Trials.{AllTried, EachIsSmaller, IsTriedAtNo}
+use Rattle.reduction_rounds.specs.Mode.{IsLawful, Keeps, TriesEdits}
+use Rattle.rounds_tests.specs.ByteMode.{IsByteEdit, IsNoLonger, byte_mode, deletions_from}
 
 pub length-remove : (text : List ℕ) (k : ℕ) → k < length text → length (remove text k) + 1 ≡ length text
 length-remove [] k within = absurd (omega arith)
@@ -25,8 +25,30 @@ smaller-round : (text : List ℕ) → EachIsSmaller (λ t. length t) (length tex
 smaller-round [] = tt
 smaller-round (x ∷ text) = smaller-from (length (x ∷ text) - 1) (x ∷ text) 1 (omega arith)
 
-pub is_lawful : (start : List ℕ) → IsLawful (byte_mode start)
-is_lawful start = record { smaller = λ text. smaller-round text }
+kept-from : (start : List ℕ) (n : ℕ) (text : List ℕ) (at : ℕ) → at + n ≤ length text → IsNoLonger start text → AllTried (IsNoLonger start) (deletions_from n text at)
+kept-from start zero text at fits kept = tt
+kept-from start (suc n) text at fits kept =
+    let less = length-remove text at (omega arith) in
+    let shorter : IsNoLonger start (remove text at) = omega arith in
+    (shorter, (kept-from start n (remove text at) at (omega arith) shorter, kept-from start n text (at + 1) (omega arith) kept))
 
-pub tries_edits : (start : List ℕ) → TriesEdits (byte_mode start) IsByteEdit
-tries_edits start text other edit = subst (λ t. IsTriedAtNo (deletions_from (length text - 1) text 1) t) (sym edit.3) (tried-from (length text - 1) text 1 edit.0 edit.1 (let within = edit.2 in omega arith))
+kept-round : (start text : List ℕ) → IsNoLonger start text → AllTried (IsNoLonger start) (deletions_from (length text - 1) text 1)
+kept-round start [] kept = tt
+kept-round start (x ∷ text) kept = kept-from start (length (x ∷ text) - 1) (x ∷ text) 1 (omega arith) kept
+
+marked : (start : List ℕ) → IsNoLonger start (9 ∷ drop 1 start)
+marked [] = omega arith
+marked (x ∷ start) = omega arith
+
+keeps : (start : List ℕ) → Keeps (byte_mode start) (IsNoLonger start)
+keeps start = record {
+  start = omega arith;
+  opening = (marked start, (tt, tt));
+  round = kept-round start;
+}
+
+pub is_lawful : (start : List ℕ) → IsLawful (byte_mode start) (IsNoLonger start)
+is_lawful start = record { keeps = keeps start; smaller = λ text kept. smaller-round text }
+
+pub tries_edits : (start : List ℕ) → TriesEdits (byte_mode start) (IsNoLonger start) IsByteEdit
+tries_edits start text other kept edit = subst (λ t. IsTriedAtNo (deletions_from (length text - 1) text 1) t) (sym edit.3) (tried-from (length text - 1) text 1 edit.0 edit.1 (let within = edit.2 in omega arith))

@@ -4,7 +4,7 @@ ghost use Rattle.std.specs.Prelude.{◌≡◌, ◌≤◌, ◌<◌, ◌+◌, leng
 ghost use Rattle.rounds_tests.specs.Fields.{Agrees, IsWithout};
 ghost use Rattle.rounds_tests.specs.FieldProps.{agrees_prop};
 ghost use Rattle.reduction_rounds.specs.RoundsPlan.{plan_first};
-ghost use Rattle.rounds_tests.specs.ByteMode.{byte_mode};
+ghost use Rattle.rounds_tests.specs.ByteMode.{IsNoLonger, byte_mode};
 
 use faults::Memory;
 use reduction_rounds::{Round, Rounds};
@@ -89,9 +89,15 @@ impl<'a> Round for ByteRound<'a> {
     ghost use Rattle.std.specs.Prelude.{List, ℕ};
     ghost use Rattle.rounds_tests.specs.Fields.{rest_at};
 
+    ghost Input = { List ℕ };
+
     ghost State = { List ℕ };
 
-    ghost mode = { λ r. byte_mode r.start.now };
+    ghost mode = { byte_mode };
+
+    ghost Kept = { IsNoLonger };
+
+    ghost input = { λ r. r.start.now };
 
     ghost state = { λ r. r.text.items };
 

@@ -8,4 +8,4 @@ mod tests;
 
 pub use byte_round::{ByteRound, byte_reducer};
 pub use faults::Memory;
-pub use laws::{ends_minimal, follows_reduction};
+pub use laws::{asks_candidates, ends_minimal, follows_reduction};

@@ -2,7 +2,7 @@
 
 use super::byte_reducer;
 use faults::Memory;
-use reduction_rounds::{Reducer, Round, Rounds};
+use reduction_rounds::{ReducerStep, Round, Rounds};
 use script_gate::Verdict;
 use std::test::Fail;
 use verdict_table::Step;
