@@ -1,61 +1,58 @@
--- The laws of the reducer of lines.
-use Rattle.std.proofs.Common.{◌≡◌, ◌+◌, ℕ, suc, zero, List, Bool, true, false, length, refl, sym, ap, ◌∙◌, subst, arith}
-use Rattle.std.proofs.lemmas.Bool.{cond_both}
-use Rattle.std.specs.Prelude.{◌==◌}
-use Rattle.list_ddmin.specs.ListStep.{kept_of}
-use Rattle.verdict_table.specs.Plan.{End, asked}
-use Rattle.reduce_core.specs.Laws.{result_of, FollowsReduction, RefusesAtNo, EndsMinimal, AsksCandidates}
-use Rattle.reduce_core.specs.LineMachine.{Whole, capped_count, left, step_result}
+-- The laws of the reducer of lines, from those of reductions by rounds.
+use Rattle.std.proofs.Common.{ℕ, List, remove, refl, sym, ap, ◌∙◌, subst}
+use Rattle.verdict_table.specs.Plan.{End}
+use Rattle.reduction_rounds.specs.Mode.{RoundMode}
+use Rattle.reduction_rounds.specs.Reduction as rounds
+use Rattle.reduction_rounds.specs.Laws as round_laws
+use Rattle.reduction_rounds.specs.Laws.{HasVerdicts, says_yes}
+use Rattle.reduction_rounds.proofs.Following as following
+use Rattle.reduction_rounds.proofs.Ends as ends
+use Rattle.reduction_rounds.proofs.Candidates as candidates
 use Rattle.reduce_core.specs.declared.lines.Line.{Line}
-use Rattle.reduce_core.specs.Lines.{numbered_lines}
-use Rattle.reduce_core.specs.Reduction.{Admits, Reduction, asks_first, ends_with, is_yes, reduction, round_of, rounds_of, rounds_within, says_yes}
-use Rattle.reduce_core.specs.Minimal.{HasVerdicts}
-use Rattle.reduce_core.proofs.Candidates.{whole-candidates}
-use Rattle.reduce_core.proofs.Ends.{reduction-ends}
-use Rattle.reduce_core.proofs.Following.{Follows, follows}
+use Rattle.reduce_core.specs.LineMode.{AreOfStart, IsLineEdit, LineInput, line_mode}
+use Rattle.reduce_core.specs.Laws.{AsksCandidates, EndsMinimal, FollowsReduction, RefusesAtNo}
+use Rattle.reduce_core.specs.Reduction.{Admits, reduction}
+use Rattle.reduce_core.proofs.ByRounds.{by_rounds}
+use Rattle.reduce_core.proofs.LineLaws.{line_lawful, line_tries_edits}
+use Rattle.reduce_core.proofs.LinesLemmas.{text-numbered_lines}
 
-same_result : (r : Reduction) → step_result r.lines (capped_count (0 + length r.questions)) (capped_count (0 + r.rounds)) r.refused ≡ result_of r
-same_result r =
-    let used : capped_count (0 + length r.questions) ≡ capped_count (length r.questions) = omega arith in
-    let rounds : capped_count (0 + r.rounds) ≡ capped_count r.rounds = omega arith in
-    λ i. step_result r.lines (used i) (rounds i) r.refused
+abbrev of_input : Admits → List ℕ → LineInput
+of_input admits start = record { admits = admits; start = start }
 
 pub follows_reduction : FollowsReduction
 follows_reduction admits V start =
-    let all : Follows admits V (Whole start) = follows admits V (left (Whole start)) (Whole start) tt (omega arith) in
+    let mode : RoundMode (List Line) = line_mode (of_input admits start) in
+    let is = by_rounds admits (says_yes V) start in
+    let all = following.follows_reduction mode V in
     record {
-      ends = λ has. all.ends has ∙ ap End (same_result (reduction admits (says_yes V) start));
-      defined = all.defined;
+      ends = λ has. all.ends (subst (λ (r : rounds.Reduction (List Line)). HasVerdicts V r.questions) (sym is) has) ∙ ap (λ (r : rounds.Reduction (List Line)). End (round_laws.result_of mode r)) is;
+      defined = λ ended. subst (λ (r : rounds.Reduction (List Line)). HasVerdicts V r.questions) is (all.defined ended);
     }
 
--- rounds never refuse
-accepted-rounds : (admits : Admits) (test : List ℕ → Bool) (n : ℕ) (lines : List Line) → (rounds_within n admits test lines).refused ≡ false
-unfolding rounds_within
-accepted-rounds admits test zero lines = refl
-accepted-rounds admits test (suc n) lines =
-    let remaining : List Line = kept_of (round_of admits test lines).result lines in
-    cond_both (length remaining == length lines) (ends_with lines false) (rounds_within n admits test remaining) (λ r. r.refused ≡ false)
-    (λ same. refl) (λ differs. accepted-rounds admits test n remaining)
-
-at_yes : (admits : Admits) (test : List ℕ → Bool) (start : List ℕ) → test start ≡ true → (reduction admits test start).refused ≡ false
-unfolding reduction rounds_of
-at_yes admits test start is = rw is (accepted-rounds admits test (suc (length (numbered_lines start))) (numbered_lines start))
-
-at_no : (admits : Admits) (test : List ℕ → Bool) (start : List ℕ) → test start ≡ false → reduction admits test start ≡ asks_first start (ends_with (numbered_lines start) true)
-unfolding reduction
-at_no admits test start is = rw is refl
-
 pub refuses_at_no : RefusesAtNo
-refuses_at_no admits V start = (
-  λ yes_there. at_yes admits (says_yes V) start (ap is_yes yes_there),
-  λ no_there.
-      let refused = at_no admits (says_yes V) start (ap is_yes no_there) in
-      let has : HasVerdicts V (reduction admits (says_yes V) start).questions = subst (λ (r : Reduction). HasVerdicts V r.questions) (sym refused) (rw no_there refl, tt) in
-      (ap asked ((follows_reduction admits V start).ends has), ap (λ (r : Reduction). r.refused) refused),
-)
+refuses_at_no admits V start =
+    let both = following.refuses_at_no (line_mode (of_input admits start)) V in
+    let is = by_rounds admits (says_yes V) start in
+    let text = ap V (text-numbered_lines start) in (
+      λ yes_there. sym (ap (λ (r : rounds.Reduction (List Line)). r.refused) is) ∙ both.0 (text ∙ yes_there),
+      λ no_there. let refused = both.1 (text ∙ no_there) in (refused.0, sym (ap (λ (r : rounds.Reduction (List Line)). r.refused) is) ∙ refused.1),
+    )
 
 pub ends_minimal : EndsMinimal
-ends_minimal admits V start admitted stays has = reduction-ends admits V start admitted stays has
+ends_minimal admits V start admitted stays has =
+    let input : LineInput = of_input admits start in
+    let is = by_rounds admits (says_yes V) start in
+    let well = ends.ends_minimal (line_mode input) (AreOfStart input) IsLineEdit (line_lawful input) (line_tries_edits input) admitted V
+    (ap (λ (r : rounds.Reduction (List Line)). r.refused) is ∙ stays) (subst (λ (r : rounds.Reduction (List Line)). HasVerdicts V r.questions) (sym is) has) in
+    let here = subst (λ (r : rounds.Reduction (List Line)). round_laws.EndsWell (line_mode input) (AreOfStart input) IsLineEdit V r.state) is well in
+    record {
+      yes_at_end = here.yes_at_end;
+      listed = here.listed;
+      minimal = λ k within listed. here.minimal (remove (reduction admits (says_yes V) start).lines k) (k, within, refl) listed;
+    }
 
 pub asks_candidates : AsksCandidates
-asks_candidates admits start text admitted may = whole-candidates admits start text admitted may
+asks_candidates admits start text admitted may =
+    let input : LineInput = of_input admits start in
+    let one = candidates.asks_candidates (line_mode input) (AreOfStart input) (line_lawful input).keeps admitted text may in
+    record { lines = one.state; some = one.kept; listed = one.listed; joined = one.same }

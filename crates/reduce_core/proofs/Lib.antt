@@ -1,11 +1,10 @@
 pub mod Rounds
-pub mod LineMachineLemmas
-pub mod Following
 pub mod LinesLemmas
-pub mod Candidates
-pub mod Ends
-pub mod Keeping
-pub mod FieldLemmas
-pub mod AnswerLemmas
+pub mod Subsequences
+pub mod LineLaws
+pub mod ByRounds
 pub mod LawLemmas
+pub mod Keeping
+pub mod Limits
+pub mod RoundLemmas
 pub mod PlainLemmas

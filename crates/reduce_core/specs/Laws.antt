@@ -3,22 +3,26 @@ use Rattle.std.specs.Prelude.{◌≡◌, ℕ, List, Bool, true, false, length, O
 use Rattle.script_gate.specs.declared.gate.Verdict.{Verdict}
 use Rattle.script_gate.specs.declared.gate.Verdict.TheVariants.{Yes, No}
 use Rattle.verdict_table.specs.Plan.{StepResult, End, HasEnded, MayAsk, follow}
-use Rattle.reduce_core.specs.LineMachine.{Whole, capped_count, plan_of, step_result}
-use Rattle.reduce_core.specs.Minimal.{HasVerdicts, IsCandidate, IsMinimal}
+use Rattle.reduction_rounds.specs.RoundsPlan.{capped_count}
+use Rattle.reduction_rounds.specs.Reduction as rounds
+use Rattle.reduction_rounds.specs.Laws.{HasVerdicts, says_yes}
+use Rattle.reduce_core.specs.Minimal.{IsCandidate, IsMinimal}
 use Rattle.list_ddmin.specs.ListStep.{kept_of}
 use Rattle.reduce_core.specs.declared.lines.Line.{Line}
 use Rattle.reduce_core.specs.Lines.{numbered_lines, text_of}
-use Rattle.reduce_core.specs.Reduction.{Admits, Reduction, after_round, is_listed, next_round, reduction, round_of, rounds_of, says_yes, texts_asked}
+use Rattle.reduce_core.specs.Reduction.{Admits, Reduction, after_round, is_listed, next_round, reduction, round_of, rounds_of, texts_asked}
+use Rattle.reduce_core.specs.LineMode.{in_rounds, line_mode, line_plan}
 
 -- what a reduction ends with; a count stays at its greatest value
 abbrev pub result_of : Reduction → StepResult
-result_of r = step_result r.lines (capped_count (length r.questions)) (capped_count r.rounds) r.refused
+result_of r =
+    record { text = text_of r.lines; units = length r.lines; used = capped_count (length r.questions); rounds = capped_count r.rounds; refused = r.refused }
 
 -- Followed over a map of verdicts, the machine ends exactly where the map has a verdict for each text that the reduction asks, and then with the reduction's result.
 pub record IsTheReduction (admits : Admits) (V : List ℕ → Option Verdict) (start : List ℕ) : Type 0 where
   pub ends : HasVerdicts V (reduction admits (says_yes V) start).questions
-      → follow V (plan_of admits (Whole start)) ≡ End (result_of (reduction admits (says_yes V) start))
-  pub defined : HasEnded (follow V (plan_of admits (Whole start))) → HasVerdicts V (reduction admits (says_yes V) start).questions
+      → follow V (line_plan admits start) ≡ End (result_of (reduction admits (says_yes V) start))
+  pub defined : HasEnded (follow V (line_plan admits start)) → HasVerdicts V (reduction admits (says_yes V) start).questions
 
 abbrev pub FollowsReduction : Type 0
 FollowsReduction = (admits : Admits) (V : List ℕ → Option Verdict) (start : List ℕ) → IsTheReduction admits V start
@@ -27,7 +31,7 @@ FollowsReduction = (admits : Admits) (V : List ℕ → Option Verdict) (start : 
 abbrev pub RefusesAtNo : Type 0
 RefusesAtNo = (admits : Admits) (V : List ℕ → Option Verdict) (start : List ℕ) →
     (V start ≡ Some Yes → (reduction admits (says_yes V) start).refused ≡ false)
-    × (V start ≡ Some No → HasEnded (follow V (plan_of admits (Whole start))) × ((reduction admits (says_yes V) start).refused ≡ true))
+    × (V start ≡ Some No → HasEnded (follow V (line_plan admits start)) × ((reduction admits (says_yes V) start).refused ≡ true))
 
 -- A reduction of an admitted start that was not refused ends at a yes, which is admitted, and each of the candidates with one line fewer that is listed has a no.
 pub record EndsWell (admits : Admits) (V : List ℕ → Option Verdict) (r : Reduction) : Type 0 where
@@ -41,10 +45,15 @@ EndsMinimal = (admits : Admits) (V : List ℕ → Option Verdict) (start : List 
 
 -- All that may be asked is some of an admitted start's lines, and admitted.
 abbrev pub AsksCandidates : Type 0
-AsksCandidates = (admits : Admits) (start text : List ℕ) → is_listed admits (numbered_lines start) ≡ true → MayAsk (plan_of admits (Whole start)) text → IsCandidate admits start text
+AsksCandidates = (admits : Admits) (start text : List ℕ) → is_listed admits (numbered_lines start) ≡ true → MayAsk (line_plan admits start) text → IsCandidate admits start text
 
 -- The rounds of a reduction are one round and what follows: the bound in their definition is never met.
 abbrev pub GoesByItsRounds : Type 0
 GoesByItsRounds = (admits : Admits) (verdict : List ℕ → Bool) (lines : List Line) → rounds_of admits verdict lines
     ≡ after_round (texts_asked admits lines (round_of admits verdict lines).questions)
     (next_round (λ remaining. rounds_of admits verdict remaining) lines (kept_of (round_of admits verdict lines).result lines))
+
+-- The reduction of lines is the reduction by rounds in mode `lines`.
+abbrev pub IsByRounds : Type 0
+IsByRounds = (admits : Admits) (verdict : List ℕ → Bool) (start : List ℕ)
+    → rounds.reduction (line_mode (record { admits = admits; start = start })) verdict ≡ in_rounds (reduction admits verdict start)

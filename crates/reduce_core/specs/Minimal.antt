@@ -1,15 +1,10 @@
 -- What a finished reduction of lines is known to be.
-use Rattle.std.specs.Prelude.{◌≡◌, ◌<◌, ℕ, true, List, [], ◌∷◌, length, remove, Option, Some, IsSome}
-use Rattle.std.specs.List.{AllByRecursion}
+use Rattle.std.specs.Prelude.{◌≡◌, ◌<◌, ℕ, true, List, [], ◌∷◌, length, remove, Option, Some}
 use Rattle.script_gate.specs.declared.gate.Verdict.{Verdict}
 use Rattle.script_gate.specs.declared.gate.Verdict.TheVariants.{No}
 use Rattle.reduce_core.specs.declared.lines.Line.{Line}
 use Rattle.reduce_core.specs.Lines.{numbered_lines, text_of}
 use Rattle.reduce_core.specs.Reduction.{Admits, is_listed}
-
--- the map has a verdict for each of these texts
-abbrev pub HasVerdicts : (List ℕ → Option Verdict) → List (List ℕ) → Type 0
-HasVerdicts V texts = AllByRecursion (λ text. IsSome (V text)) texts
 
 -- without any one of the lines, those that are left aren't listed or the verdict is no
 abbrev pub IsMinimal : Admits → (List ℕ → Option Verdict) → List Line → Type 0

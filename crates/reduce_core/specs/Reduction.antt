@@ -1,7 +1,5 @@
 -- The reduction of the lines of a start: rounds of delta debugging until one changes nothing. A relation says which candidates are admitted, by the numbers of their lines and their text.
-use Rattle.std.specs.Prelude.{◌+◌, ℕ, zero, suc, ◌==◌, Bool, true, false, ◌&&◌, List, [], ◌∷◌, ◌++◌, length, Option, Some, None, if◌then◌else◌}
-use Rattle.script_gate.specs.declared.gate.Verdict.{Verdict}
-use Rattle.script_gate.specs.declared.gate.Verdict.TheVariants.{Yes, No}
+use Rattle.std.specs.Prelude.{◌+◌, ℕ, zero, suc, ◌==◌, Bool, true, false, ◌&&◌, List, [], ◌∷◌, ◌++◌, length, if◌then◌else◌}
 use Rattle.list_ddmin.specs.ListStep.{Outcome, kept_of, list_step}
 use Rattle.reduce_core.specs.declared.lines.Line.{Line}
 use Rattle.reduce_core.specs.Lines.{numbered_lines, numbers_of, text_of}
@@ -74,12 +72,3 @@ rounds_of admits verdict lines = rounds_within (suc (length lines)) admits verdi
 unfoldable pub reduction : Admits → (List ℕ → Bool) → List ℕ → Reduction
 reduction admits verdict start =
     asks_first start (if verdict start then rounds_of admits verdict (numbered_lines start) else ends_with (numbered_lines start) true)
-
--- a map of verdicts as a test: a text without a verdict counts as no
-abbrev pub is_yes : Option Verdict → Bool
-is_yes None = false
-is_yes (Some Yes) = true
-is_yes (Some No) = false
-
-abbrev pub says_yes : (List ℕ → Option Verdict) → List ℕ → Bool
-says_yes V text = is_yes (V text)

@@ -1,11 +1,16 @@
 //! What holds of the reducer of lines, for the proofs of callers.
 
-ghost use Rattle.reduce_core.specs.Laws.{AsksCandidates, EndsMinimal, FollowsReduction, GoesByItsRounds, RefusesAtNo};
+ghost use Rattle.reduce_core.specs.Laws.{AsksCandidates, EndsMinimal, FollowsReduction, GoesByItsRounds, IsByRounds, RefusesAtNo};
 
 /// Followed over a map of verdicts, the reducer ends exactly where the map has a verdict for each
 /// text that the recursive reduction asks, and then with the reduction's result and counts.
 pub fn follows_reduction()
     ensures { FollowsReduction }
+{}
+
+/// The reduction of lines is the reduction by rounds in mode `lines`.
+pub fn is_by_rounds()
+    ensures { IsByRounds }
 {}
 
 /// The start is refused exactly where its verdict is no.

@@ -100,6 +100,14 @@ impl Lines {
         Ok(())
     }
 
+    /// The same lines again.
+    pub fn copy(&self, alloc: Global) -> Result<Lines, Memory>
+        ensures { IfOk result (λ lines. lines ≡ self.now) }
+    {
+        let all = vec![in alloc; true; self.len()]?;
+        self.kept(alloc, &all)
+    }
+
     /// The lines that `keep` marks.
     pub fn kept(&self, alloc: Global, keep: &[bool]) -> Result<Lines, Memory>
         requires { length keep.now ≡ length self.now }

@@ -3,7 +3,9 @@ ghost use Rattle.std.specs.List.{list_any};
 
 use faults::Memory;
 use keep_guard::{Guard, KeepTexts, Relation};
-use reduce_core::{Candidate, LineReducer, Lines, Test, plain_reduction};
+use reduce_core::{
+    Candidate, LineReducer, Lines, ReducerStep, Test, line_reducer, plain_reduction,
+};
 use script_gate::Verdict;
 use std::alloc::Global;
 use std::test::Fail;
@@ -82,21 +84,21 @@ fn guard_of<'a>(alloc: Global, texts: &[&'a [u8]]) -> Result<Guard<KeepTexts<'a>
 }
 
 /// A reducer of a start of few bytes; none where it has many.
-fn reducer_of<F: Relation + Drop>(
+fn reducer_of<'a, F: Relation>(
     alloc: Global,
-    start: &[u8],
-    guard: Guard<F>,
-) -> Result<Option<LineReducer<F>>, Memory> {
+    start: &'a [u8],
+    guard: &'a Guard<F>,
+) -> Result<Option<LineReducer<'a, F>>, Memory> {
     if start.len() > 1_048_576 {
         return Ok(None);
     }
-    let reducer = LineReducer::new(alloc, Vec::from_slice(alloc, start)?, guard)?;
+    let reducer = line_reducer(alloc, start, guard)?;
     Ok(Some(reducer))
 }
 
 /// Answers a text if it is asked. Otherwise it says false.
-fn answers<F: Relation + Drop>(
-    reducer: &mut LineReducer<F>,
+fn answers<F: Relation>(
+    reducer: &mut LineReducer<'_, F>,
     text: &[u8],
     yes: bool,
 ) -> Result<bool, Memory> {
@@ -122,7 +124,7 @@ struct End<'a> {
 }
 
 /// Whether a reducer has ended so.
-fn ended_with<F: Relation + Drop>(reducer: &LineReducer<F>, end: &End<'_>) -> bool {
+fn ended_with<F: Relation>(reducer: &LineReducer<'_, F>, end: &End<'_>) -> bool {
     reducer.asks().is_none()
         && reducer.result() == end.text
         && reducer.units() == end.units
@@ -139,16 +141,14 @@ fn text_of(alloc: Global, lines: &Lines) -> Result<Vec<u8>, Memory> {
     Ok(candidate.text)
 }
 
-/// Whether the machine asks what the plain recursion asked, and ends with the same. Both guards are
-/// the same.
-fn agrees<T: Test, F: Relation + Drop>(
+/// Whether the machine asks what the plain recursion asked, and ends with the same.
+fn agrees<T: Test, F: Relation>(
     alloc: Global,
     test: &T,
     start: &[u8],
     guard: &Guard<F>,
-    same_guard: Guard<F>,
 ) -> Result<bool, Memory> {
-    let Some(mut reducer) = reducer_of(alloc, start, same_guard)? else {
+    let Some(mut reducer) = reducer_of(alloc, start, guard)? else {
         return Ok(false);
     };
     if start.len() > 1_048_576 {
@@ -179,8 +179,7 @@ fn agrees_with<T: Test>(
     keeps: &[&[u8]],
 ) -> Result<bool, Memory> {
     let guard = guard_of(alloc, keeps)?;
-    let same_guard = guard_of(alloc, keeps)?;
-    agrees(alloc, test, start, &guard, same_guard)
+    agrees(alloc, test, start, &guard)
 }
 
 /// Whether they agree on the start for each rule without a guard.
@@ -217,8 +216,7 @@ fn agrees_on_guards(alloc: Global, start: &[u8]) -> Result<bool, Memory> {
         }
     }
     for line in 0..4u32 {
-        let guard = Guard::new(KeepsLine(line));
-        if !agrees(alloc, &TwoLines, start, &guard, Guard::new(KeepsLine(line)))? {
+        if !agrees(alloc, &TwoLines, start, &Guard::new(KeepsLine(line)))? {
             return Ok(false);
         }
     }
@@ -261,11 +259,7 @@ struct Run<'a> {
 }
 
 /// Whether the reducer with this guard runs so.
-fn runs_so<F: Relation + Drop>(
-    alloc: Global,
-    run: &Run<'_>,
-    guard: Guard<F>,
-) -> Result<bool, Memory> {
+fn runs_so<F: Relation>(alloc: Global, run: &Run<'_>, guard: &Guard<F>) -> Result<bool, Memory> {
     let Some(mut reducer) = reducer_of(alloc, run.start.as_bytes(), guard)? else {
         return Ok(false);
     };
@@ -280,15 +274,15 @@ fn runs_so<F: Relation + Drop>(
 /// The number of the first run, from 0, that isn't so without keep texts.
 fn first_other(alloc: Global, runs: &[Run<'_>]) -> Result<Option<usize>, Memory> {
     for (number, run) in runs.iter().enumerate() {
-        if !runs_so(alloc, run, guard_of(alloc, &[])?)? {
+        if !runs_so(alloc, run, &guard_of(alloc, &[])?)? {
             return Ok(Some(number));
         }
     }
     Ok(None)
 }
 
-#[test]
-fn asks_and_ends_as_worked_out_by_hand(rt: HostRuntime) -> Result<(), Fail> {
+/// The number of the first run without keep texts, from 0, that isn't so.
+fn first_other_run(alloc: Global) -> Result<Option<usize>, Memory> {
     let one_line_needed = Run {
         start: "a\nb\nc\n",
         answers: &[
@@ -341,12 +335,11 @@ fn asks_and_ends_as_worked_out_by_hand(rt: HostRuntime) -> Result<(), Fail> {
         },
     };
     let runs = [one_line_needed, empty_start, no_newline, refused_start];
-    assert_eq!(rt; first_other(rt.alloc(), &runs)?, None);
-    Ok(())
+    first_other(alloc, &runs)
 }
 
-#[test]
-fn asks_only_what_its_guard_admits(rt: HostRuntime) -> Result<(), Fail> {
+/// Whether a reducer asks only what keep texts admit.
+fn asks_what_keep_texts_admit(alloc: Global) -> Result<bool, Memory> {
     let keeps_c = Run {
         start: "a\nb\nc\n",
         answers: &[
@@ -365,8 +358,6 @@ fn asks_only_what_its_guard_admits(rt: HostRuntime) -> Result<(), Fail> {
             refused: false,
         },
     };
-    let guard = guard_of(rt.alloc(), &[b"c"])?;
-    assert!(rt; runs_so(rt.alloc(), &keeps_c, guard)?, "a keep text");
     let keeps_all = Run {
         start: "a\nb\nc\n",
         answers: &[("a\nb\nc\n", true)],
@@ -378,14 +369,14 @@ fn asks_only_what_its_guard_admits(rt: HostRuntime) -> Result<(), Fail> {
             refused: false,
         },
     };
-    let guard = guard_of(rt.alloc(), &[b"a\nb\nc\n"])?;
-    assert!(rt; runs_so(rt.alloc(), &keeps_all, guard)?, "the whole start");
-    Ok(())
+    Ok(
+        runs_so(alloc, &keeps_c, &guard_of(alloc, &[b"c"])?)?
+            && runs_so(alloc, &keeps_all, &guard_of(alloc, &[b"a\nb\nc\n"])?)?,
+    )
 }
 
-/// In the second round, too, a line has its number in the start.
-#[test]
-fn names_lines_to_its_guard_by_their_numbers_in_the_start(rt: HostRuntime) -> Result<(), Fail> {
+/// Whether, in the second round too, a line is named to the guard by its number in the start.
+fn names_lines_by_their_numbers_in_the_start(alloc: Global) -> Result<bool, Memory> {
     let keeps_d = Run {
         start: "a\nb\nc\nd\n",
         answers: &[
@@ -404,8 +395,18 @@ fn names_lines_to_its_guard_by_their_numbers_in_the_start(rt: HostRuntime) -> Re
             refused: false,
         },
     };
-    let guard = Guard::new(KeepsLine(3));
-    assert!(rt; runs_so(rt.alloc(), &keeps_d, guard)?);
+    runs_so(alloc, &keeps_d, &Guard::new(KeepsLine(3)))
+}
+
+#[test]
+fn asks_and_ends_as_worked_out_by_hand(rt: HostRuntime) -> Result<(), Fail> {
+    let alloc = rt.alloc();
+    assert_eq!(rt; first_other_run(alloc)?, None);
+    assert!(rt; asks_what_keep_texts_admit(alloc)?, "keep texts");
+    assert!(rt;
+        names_lines_by_their_numbers_in_the_start(alloc)?,
+        "numbers of lines"
+    );
     Ok(())
 }
 
@@ -425,12 +426,6 @@ fn plain_keeps_b(alloc: Global) -> Result<bool, Memory> {
             && plain.rounds == 2
             && !plain.refused,
     )
-}
-
-#[test]
-fn the_plain_recursion_keeps_the_one_line_that_is_needed(rt: HostRuntime) -> Result<(), Fail> {
-    assert!(rt; plain_keeps_b(rt.alloc())?);
-    Ok(())
 }
 
 /// Whether a text has three lines, of which the first and the last are kept as a text, as numbers and
@@ -456,7 +451,8 @@ fn keeps_outer_lines(alloc: Global) -> Result<bool, Memory> {
 }
 
 #[test]
-fn keeps_the_marked_lines(rt: HostRuntime) -> Result<(), Fail> {
-    assert!(rt; keeps_outer_lines(rt.alloc())?);
+fn keeps_what_is_needed_and_marked(rt: HostRuntime) -> Result<(), Fail> {
+    assert!(rt; plain_keeps_b(rt.alloc())?, "the plain recursion");
+    assert!(rt; keeps_outer_lines(rt.alloc())?, "the marked lines");
     Ok(())
 }

@@ -70,6 +70,16 @@ fails-same start records gate gate' refusal same why = subst (λ k. RunFails k s
 pub reduces-same : {keeps keeps' : List (List ℕ)} {start : List ℕ} {records : List Record} {text : List ℕ} → keeps ≡ keeps' → ReducesFrom keeps start records text → ReducesFrom keeps' start records text
 reduces-same {start = start} {records = records} {text = text} same reduces = subst (λ k. ReducesFrom k start records text) same reduces
 
+-- the same by another name of the start
+pub are-at : {keeps : List (List ℕ)} {start start' : List ℕ} {records : List Record} → start ≡ start' → AreOf keeps start records → AreOf keeps start' records
+are-at {keeps = keeps} {records = records} same are = subst (λ s. AreOf keeps s records) same are
+
+pub fails-at : (keeps : List (List ℕ)) {start start' : List ℕ} (records : List Record) (gate gate' : SeenGate) (refusal : Refusal) → start ≡ start' → RunFails keeps start records gate gate' refusal → RunFails keeps start' records gate gate' refusal
+fails-at keeps records gate gate' refusal same why = subst (λ s. RunFails keeps s records gate gate' refusal) same why
+
+pub reduces-at : {keeps : List (List ℕ)} {start start' : List ℕ} {records : List Record} {text : List ℕ} → start ≡ start' → ReducesFrom keeps start records text → ReducesFrom keeps start' records text
+reduces-at {keeps = keeps} {records = records} {text = text} same reduces = subst (λ s. ReducesFrom keeps s records text) same reduces
+
 module _ (keeps : List (List ℕ)) (start : List ℕ) (records : List Record) where
   -- why the gate wasn't opened is why there is no reduction
   pub run_open : (gate gate' : SeenGate) (refusal : Refusal) → records ≡ [] → OpenFails gate gate' refusal → RunFails keeps start records gate gate' refusal

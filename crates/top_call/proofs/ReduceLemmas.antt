@@ -12,11 +12,11 @@ use Rattle.keep_guard.specs.Keep.{holds_all, keeps_admit}
 use Rattle.verdict_table.specs.Plan.{Plan, StepResult, End, HasEnded, MayAsk, after, asked, follow}
 use Rattle.verdict_table.specs.TableState.{verdict_in}
 use Rattle.reduce_core.specs.Laws.{FollowsReduction, RefusesAtNo, EndsMinimal, AsksCandidates, result_of}
-use Rattle.reduce_core.specs.LineMachine.{LineState, Whole, gives, plan_of, after as line_after}
-use Rattle.reduce_core.specs.Minimal.{HasVerdicts, IsCandidate}
+use Rattle.reduce_core.specs.LineMode.{line_plan}
+use Rattle.reduce_core.specs.Minimal.{IsCandidate}
+use Rattle.reduction_rounds.specs.Laws.{HasVerdicts, says_yes}
 use Rattle.reduce_core.specs.Lines.{numbered_lines, text_of}
-use Rattle.reduce_core.specs.Reduction.{Admits, Reduction, is_listed, reduction, says_yes}
-use Rattle.reduce_core.proofs.LineMachineLemmas.{after-plan, asked-plan, plan-end}
+use Rattle.reduce_core.specs.Reduction.{Admits, Reduction, is_listed, reduction}
 use Rattle.reduce_core.proofs.LinesLemmas.{text-numbered_lines}
 use Rattle.top_call.specs.Reduce.{AreOf, BeginsAt, FirstIs, FirstIsNo, IsReductionOf, IsUnfinished, OnlyNo, ReducesFrom, RunFails}
 use Rattle.sequential_run.specs.Run.{BeginsWith, EndsAtFirst}
@@ -31,22 +31,22 @@ module _ (keeps : List (List ℕ)) where
   admits_start : (start : List ℕ) → holds_all keeps start ≡ true → is_listed admits (numbered_lines start) ≡ true
   admits_start start kept = ap (holds_all keeps) (text-numbered_lines start) ∙ kept
 
-  begins_at : (start : List ℕ) (records : List Record) → BeginsWith (plan_of admits (Whole start)) records → BeginsAt start records
+  begins_at : (start : List ℕ) (records : List Record) → BeginsWith (line_plan admits start) records → BeginsAt start records
   begins_at start [] begun = tt
   begins_at start (r ∷ records) begun =
-      let same : Some start ≡ Some r.text = sym (asked-plan admits (Whole start) tt) ∙ begun in
+      let same : Some start ≡ Some r.text = sym (ap (λ text. Some text) (text-numbered_lines start)) ∙ begun in
       (cc)
 
   -- a start that is refused ends the run at once
-  refused_ends : (start : List ℕ) → HasEnded (after (plan_of admits (Whole start)) No)
-  refused_ends start = ap asked (after-plan admits (Whole start) start No tt refl) ∙ ap asked (plan-end admits (line_after admits (Whole start) No) refl)
+  refused_ends : (start : List ℕ) → HasEnded (after (line_plan admits start) No)
+  refused_ends start = refl
 
-  only_no : (start : List ℕ) (records : List Record) → EndsAtFirst (plan_of admits (Whole start)) records → FirstIsNo records → OnlyNo records
+  only_no : (start : List ℕ) (records : List Record) → EndsAtFirst (line_plan admits start) records → FirstIsNo records → OnlyNo records
   only_no start [] one no_first = absurd no_first
-  only_no start (r ∷ records) one no_first = (no_first, one (subst (λ verdict. HasEnded (after (plan_of admits (Whole start)) verdict)) (sym no_first) (refused_ends start)))
+  only_no start (r ∷ records) one no_first = (no_first, one (subst (λ verdict. HasEnded (after (line_plan admits start) verdict)) (sym no_first) (refused_ends start)))
 
   -- what may be asked of a start in which each keep text occurs is some of its lines, and nothing after its no
-  pub are-of : AsksCandidates → (first : Plan) (start : List ℕ) (records : List Record) → first ≡ plan_of admits (Whole start) → holds_all keeps start ≡ true → All (λ r. MayAsk first r.text) records → BeginsWith first records → EndsAtFirst first records
+  pub are-of : AsksCandidates → (first : Plan) (start : List ℕ) (records : List Record) → first ≡ line_plan admits start → holds_all keeps start ≡ true → All (λ r. MayAsk first r.text) records → BeginsWith first records → EndsAtFirst first records
       → AreOf keeps start records
   are-of law first start records same kept may begun one = record {
     candidates = All-weaker (λ (r : Record). MayAsk first r.text) (λ (r : Record). IsCandidate admits start r.text) (λ r may_ask. law admits start r.text (admits_start start kept) (subst (λ p. MayAsk p r.text) same may_ask)) records may;
@@ -90,15 +90,15 @@ module _ (keeps : List (List ℕ)) where
   by_verdict (Some Yes) some = inl refl
   by_verdict (Some No) some = inr refl
 
-  -- a run that came to the reducer's end, which is in this state and has this plan
-  pub record CameToEnd (start : List ℕ) (records : List Record) (plan : Plan) (state : LineState) : Type 0 where
-    pub followed : plan ≡ follow (verdict_in records) (plan_of admits (Whole start))
+  -- a run that came to the reducer's end, which has this plan and came to this
+  pub record CameToEnd (start : List ℕ) (records : List Record) (plan : Plan) (result : StepResult) : Type 0 where
+    pub followed : plan ≡ follow (verdict_in records) (line_plan admits start)
     pub ended : HasEnded plan
-    pub found : plan ≡ End (gives state)
-    pub begun : BeginsWith (plan_of admits (Whole start)) records
-    pub one : EndsAtFirst (plan_of admits (Whole start)) records
+    pub found : plan ≡ End result
+    pub begun : BeginsWith (line_plan admits start) records
+    pub one : EndsAtFirst (line_plan admits start) records
 
-  module _ (follows : FollowsReduction) (refuses : RefusesAtNo) (minimal : EndsMinimal) (start : List ℕ) (kept : holds_all keeps start ≡ true) (records : List Record) (plan : Plan) (state : LineState) (run : CameToEnd start records plan state) where
+  module _ (follows : FollowsReduction) (refuses : RefusesAtNo) (minimal : EndsMinimal) (start : List ℕ) (kept : holds_all keeps start ≡ true) (records : List Record) (plan : Plan) (result : StepResult) (run : CameToEnd start records plan result) where
     abbrev V : List ℕ → Option Verdict
     V = verdict_in records
 
@@ -108,16 +108,16 @@ module _ (keeps : List (List ℕ)) where
     has : HasVerdicts V r.questions
     has = (follows admits V start).defined (subst HasEnded run.followed run.ended)
 
-    found_is : gives state ≡ result_of r
+    found_is : result ≡ result_of r
     found_is =
-        let same : End (gives state) ≡ End (result_of r) = sym run.found ∙ run.followed ∙ (follows admits V start).ends has in
+        let same : End result ≡ End (result_of r) = sym run.found ∙ run.followed ∙ (follows admits V start).ends has in
         (cc)
 
-    is_reduction : (gives state).refused ≡ false → IsReductionOf keeps V start (gives state).text
+    is_reduction : result.refused ≡ false → IsReductionOf keeps V start result.text
     is_reduction stays =
         let interesting : r.refused ≡ false = ap (λ (x : StepResult). x.refused) (sym found_is) ∙ stays in
         let well = minimal admits V start (admits_start start kept) interesting has in
-        let text : (gives state).text ≡ text_of r.lines = ap (λ (x : StepResult). x.text) found_is in
+        let text : result.text ≡ text_of r.lines = ap (λ (x : StepResult). x.text) found_is in
         record {
           defined = has;
           interesting = interesting;
@@ -127,38 +127,38 @@ module _ (keeps : List (List ℕ)) where
           minimal = well.minimal;
         }
 
-    first_yes : (gives state).refused ≡ false → FirstIs start Yes records
+    first_yes : result.refused ≡ false → FirstIs start Yes records
     first_yes stays =
         ⊎_elim (λ yes_there. start_is start records Yes (begins_at start records run.begun) yes_there)
         (λ no_there. absurd (false≢true (sym stays ∙ ap (λ (x : StepResult). x.refused) found_is ∙ ((refuses admits V start).1 no_there).1)))
         (by_verdict (V start) (start_known V start has))
 
     -- the reducer's text is the start's reduction, unless it refused the start
-    pub reduces-from : (gives state).refused ≡ false → ReducesFrom keeps start records (gives state).text
+    pub reduces-from : result.refused ≡ false → ReducesFrom keeps start records result.text
     reduces-from stays = record { first = first_yes stays; reduced = is_reduction stays }
 
     -- the reducer refuses a start at its no, which is the only record
-    pub first-no : (gives state).refused ≡ true → FirstIs start No records
+    pub first-no : result.refused ≡ true → FirstIs start No records
     first-no refused =
         ⊎_elim (λ yes_there. absurd (false≢true (sym ((refuses admits V start).0 yes_there) ∙ ap (λ (x : StepResult). x.refused) (sym found_is) ∙ refused)))
         (λ no_there. start_is start records No (begins_at start records run.begun) no_there)
         (by_verdict (V start) (start_known V start has))
 
-    pub only-no : (gives state).refused ≡ true → OnlyNo records
+    pub only-no : result.refused ≡ true → OnlyNo records
     only-no refused = only_no start records run.one (no_is_first start records (first-no refused))
 
   -- a run that waits for a verdict doesn't begin with a no
-  not_waiting : RefusesAtNo → (start : List ℕ) (records : List Record) → BeginsWith (plan_of admits (Whole start)) records → FirstIsNo records
-      → asked (follow (verdict_in records) (plan_of admits (Whole start))) ≢ None → ⊥
+  not_waiting : RefusesAtNo → (start : List ℕ) (records : List Record) → BeginsWith (line_plan admits start) records → FirstIsNo records
+      → asked (follow (verdict_in records) (line_plan admits start)) ≢ None → ⊥
   not_waiting refuses start records begun no_first waits =
       waits ((refuses admits (verdict_in records) start).1 (first_no_is start records (begins_at start records begun) no_first)).0
 
   -- why a run didn't come to the reducer's end
-  pub run-fails : FollowsReduction → RefusesAtNo → (first : Plan) (start : List ℕ) (records : List Record) (gate gate' : SeenGate) (fault : GateFault) → first ≡ plan_of admits (Whole start) → BeginsWith first records
+  pub run-fails : FollowsReduction → RefusesAtNo → (first : Plan) (start : List ℕ) (records : List Record) (gate gate' : SeenGate) (fault : GateFault) → first ≡ line_plan admits start → BeginsWith first records
       → (fault ≡ GateFailed → asked (follow (verdict_in records) first) ≢ None) → (fault ≢ GateFailed → IsQuiet gate gate') → (fault ≡ GateFailed → CallFailed gate gate')
       → RunFails keeps start records gate gate' (refusal_of fault)
   run-fails follows refuses first start records gate gate' GateFailed same begun unfinished quiet failed =
-      let waits : asked (follow (verdict_in records) (plan_of admits (Whole start))) ≢ None = λ none. unfinished refl (ap (λ p. asked (follow (verdict_in records) p)) same ∙ none) in (
+      let waits : asked (follow (verdict_in records) (line_plan admits start)) ≢ None = λ none. unfinished refl (ap (λ p. asked (follow (verdict_in records) p)) same ∙ none) in (
         failed refl,
         λ no_first. not_waiting refuses start records (subst (λ p. BeginsWith p records) same begun) no_first waits,
         λ has. waits (ap asked ((follows admits (verdict_in records) start).ends has)),
@@ -166,10 +166,10 @@ module _ (keeps : List (List ℕ)) where
   run-fails follows refuses first start records gate gate' GateMemory same begun unfinished quiet failed = quiet (λ is. cc is)
 
   -- the same end by another name of what was done first
-  pub came-to-end : (first : Plan) (start : List ℕ) (records : List Record) (plan : Plan) (state : LineState) → first ≡ plan_of admits (Whole start)
-      → plan ≡ follow (verdict_in records) first → HasEnded plan → plan ≡ End (gives state) → BeginsWith first records → EndsAtFirst first records
-      → CameToEnd start records plan state
-  came-to-end first start records plan state same followed ended found begun one = record {
+  pub came-to-end : (first : Plan) (start : List ℕ) (records : List Record) (plan : Plan) (result : StepResult) → first ≡ line_plan admits start
+      → plan ≡ follow (verdict_in records) first → HasEnded plan → plan ≡ End result → BeginsWith first records → EndsAtFirst first records
+      → CameToEnd start records plan result
+  came-to-end first start records plan result same followed ended found begun one = record {
     followed = followed ∙ ap (follow (verdict_in records)) same;
     ended = ended;
     found = found;

@@ -11,8 +11,9 @@ use Rattle.verdict_table.specs.declared.record.Record.{Record}
 use Rattle.verdict_table.specs.TableState.{texts_of, verdict_in}
 use Rattle.keep_guard.specs.Keep.{first_missing, holds_all, keeps_admit}
 use Rattle.reduce_core.specs.Lines.{text_of}
-use Rattle.reduce_core.specs.Reduction.{reduction, says_yes}
-use Rattle.reduce_core.specs.Minimal.{HasVerdicts, IsCandidate, IsMinimal}
+use Rattle.reduction_rounds.specs.Laws.{HasVerdicts, says_yes}
+use Rattle.reduce_core.specs.Reduction.{reduction}
+use Rattle.reduce_core.specs.Minimal.{IsCandidate, IsMinimal}
 use Rattle.top_call.specs.declared.status.Refusal.{Refusal}
 use Rattle.top_call.specs.declared.status.Refusal.TheVariants.{Memory, KeepMissing, NotInteresting, Script}
 use Rattle.top_call.specs.Status.{IsKeepRefusal, keep_text, line_of, status_of}

@@ -6,7 +6,6 @@ ghost use Rattle.std.specs.Str.{bytes_eq};
 ghost use Rattle.keep_guard.specs.Keep.{holds_all};
 ghost use Rattle.script_gate.specs.Log.{with_opening};
 ghost use Rattle.verdict_table.specs.TableState.{texts_of};
-ghost use Rattle.reduce_core.specs.LineMachine.{gives};
 ghost use Rattle.top_call.specs.Reduce.{AreOf, KeepFails, RecordsAreSound, ReduceSteps, Reduces, ReducesFrom, RunFails};
 ghost use Rattle.sequential_run.specs.Run.{with_all_asked};
 ghost use Rattle.top_call.specs.Status.{OpenFails};
@@ -19,7 +18,11 @@ use crate::status::{NamedFile, Refusal};
 use crate::words::{ReduceLine, file_name_of, keep_texts};
 use edge_io::{Files, Sink};
 use keep_guard::{Guard, KeepTexts};
-use reduce_core::{LineReducer, asks_candidates, ends_minimal, follows_reduction, refuses_at_no};
+use reduce_core::{
+    LineRound, ReducerStep, asks_candidates, ends_minimal, follows_reduction, line_reducer,
+    refuses_at_no,
+};
+use reduction_rounds::Rounds;
 use script_gate::Gate;
 use sequential_run::run;
 use std::alloc::Global;
@@ -33,31 +36,31 @@ const WORK_FOLDER: &str = "perses-work";
 
 /// Reduces a start by its lines. The gate is asked once for each text, the start first; a start
 /// whose verdict is no ends the run. Each text that is asked has the keep texts of the guard.
-fn reduce_lines<'a, G: Gate>(
+fn reduce_lines<'a, 'k, G: Gate>(
     alloc: Global,
-    start: Vec<u8>,
-    guard: Guard<KeepTexts<'a>>,
+    start: &'a [u8],
+    guard: &'a Guard<KeepTexts<'k>>,
     gate: &mut G,
     table: &mut Table,
-) -> Result<LineReducer<KeepTexts<'a>>, Refusal>
-    requires few { length start.items ≤ 1048576 }
-    requires kept { holds_all guard start.items ≡ true }
+) -> Result<Rounds<LineRound<'a, KeepTexts<'k>>>, Refusal>
+    requires few { length start.now ≤ 1048576 }
+    requires kept { holds_all guard.now start.now ≡ true }
     requires empty { table.old.records ≡ [] }
     requires settled { table.old.claims ≡ [] }
     ensures distinct { IsDistinct bytes_eq (texts_of table.new.records) }
     ensures said { All (λ r. G.may_say r.text r.verdict) table.new.records }
-    ensures candidates { AreOf guard.entry start.items table.new.records }
+    ensures candidates { AreOf guard.now start.now table.new.records }
     ensures asked { G.log gate.new ≡ option_map (with_all_asked (texts_of table.new.records)) (G.log gate.old) }
-    ensures reduced { IfOk result (λ reducer. ReducesFrom guard.entry start.items table.new.records (gives reducer.state).text) }
+    ensures reduced { IfOk result (λ reducer. ReducesFrom guard.now start.now table.new.records (⟦<Rounds<LineRound<'a, KeepTexts<'k>>> as ReducerStep>⟧.so_far reducer).text) }
     ensures quiet { OnOk result (IsQuiet (seen G.log G.faults gate.old) (seen G.log G.faults gate.new)) }
-    ensures refused { IfErr result (λ refusal. RunFails guard.entry start.items table.new.records
+    ensures refused { IfErr result (λ refusal. RunFails guard.now start.now table.new.records
         (seen G.log G.faults gate.old) (seen G.log G.faults gate.new) refusal) }
 {
     follows_reduction();
     refuses_at_no();
     ends_minimal();
     asks_candidates();
-    let mut reducer = LineReducer::new(alloc, start, guard)?;
+    let mut reducer = line_reducer(alloc, start, guard)?;
     run(&mut reducer, gate, table)?;
     if reducer.refused() {
         return Err(Refusal::NotInteresting);
@@ -77,23 +80,23 @@ fn open_gate<G: Gate>(gate: &mut G, line: ReduceLine<'_>) -> Result<(), Refusal>
 }
 
 /// Opens the gate and reduces the start.
-fn reduce_start<'a, G: Gate>(
+fn reduce_start<'a, 'k, G: Gate>(
     alloc: Global,
-    line: ReduceLine<'a>,
-    start: Vec<u8>,
-    guard: Guard<KeepTexts<'a>>,
+    line: ReduceLine<'_>,
+    start: &'a [u8],
+    guard: &'a Guard<KeepTexts<'k>>,
     gate: &mut G,
     table: &mut Table,
-) -> Result<LineReducer<KeepTexts<'a>>, Refusal>
-    requires few { length start.items ≤ 1048576 }
-    requires kept { holds_all guard start.items ≡ true }
+) -> Result<Rounds<LineRound<'a, KeepTexts<'k>>>, Refusal>
+    requires few { length start.now ≤ 1048576 }
+    requires kept { holds_all guard.now start.now ≡ true }
     requires empty { table.old.records ≡ [] }
     requires settled { table.old.claims ≡ [] }
     ensures sound { RecordsAreSound (options_of line.entry) G.may_say table.new.records (seen G.log G.faults gate.old) (seen G.log G.faults gate.new) }
-    ensures candidates { AreOf guard.entry start.items table.new.records }
-    ensures reduced { IfOk result (λ reducer. ReducesFrom guard.entry start.items table.new.records (gives reducer.state).text) }
+    ensures candidates { AreOf guard.now start.now table.new.records }
+    ensures reduced { IfOk result (λ reducer. ReducesFrom guard.now start.now table.new.records (⟦<Rounds<LineRound<'a, KeepTexts<'k>>> as ReducerStep>⟧.so_far reducer).text) }
     ensures quiet { OnOk result (IsQuiet (seen G.log G.faults gate.old) (seen G.log G.faults gate.new)) }
-    ensures refused { IfErr result (λ refusal. RunFails guard.entry start.items table.new.records
+    ensures refused { IfErr result (λ refusal. RunFails guard.now start.now table.new.records
         (seen G.log G.faults gate.old) (seen G.log G.faults gate.new) refusal) }
 {
     open_gate(gate, line)?;
@@ -134,7 +137,7 @@ fn reduce_steps<F: Files, G: Gate>(
 {
     let start = read_file(files, line.input, INPUT_LIMIT, NamedFile::Input)?;
     let guard = guard_of(alloc, line, &start)?;
-    let reducer = reduce_start(alloc, line, start, guard, gate, table)?;
+    let reducer = reduce_start(alloc, line, &start, &guard, gate, table)?;
     write_file(files, line.output, reducer.result())
 }
 

@@ -4,7 +4,7 @@ use Rattle.keep_guard.specs.Relation.{Rises}
 use Rattle.reduce_core.specs.declared.lines.Line.{Line}
 use Rattle.reduce_core.specs.Lines.{numbered_lines, numbers_of}
 use Rattle.reduce_core.specs.Reduction.{Reduction, rounds_of}
-use Rattle.reduce_core.proofs.FieldLemmas.{limit-lines_of}
+use Rattle.reduce_core.proofs.Limits.{limit-lines_of}
 use Rattle.reduce_core.proofs.PlainLemmas.{reduction-no, reduction-yes}
 use Rattle.reduce_core.proofs.plain.plain_reduction.Goals as goal
 

@@ -9,9 +9,9 @@ pub returns-in_err-open_gate-clause-sound : goal.returns-in_err-open_gate-clause
 returns-in_err-open_gate-clause-sound g c = none_sound (options_of c.args.line) g.G.Gate.may_say _ _ _ c.requires.empty c.in_err-open_gate.ensures.kept
 
 pub returns-in_err-open_gate-clause-candidates : goal.returns-in_err-open_gate-clause-candidates
-returns-in_err-open_gate-clause-candidates g c = are-none c.args.guard c.args.start.items _ c.requires.empty
+returns-in_err-open_gate-clause-candidates g c = are-none c.args.guard.now c.args.start.now _ c.requires.empty
 
 pub returns-in_err-open_gate-clause-refused : goal.returns-in_err-open_gate-clause-refused
 returns-in_err-open_gate-clause-refused g c =
     let p = err_from_is_err_and c.from_residual.result c.from_residual.ensures.1 in
-    rw (p.1, p.2) (run_open c.args.guard c.args.start.items _ (seen g.G.Gate.log g.G.Gate.faults c.args.gate.now) (seen g.G.Gate.log g.G.Gate.faults c.open_gate.new.gate) c.in_err-open_gate.field-0.0 c.requires.empty c.in_err-open_gate.ensures.refused)
+    rw (p.1, p.2) (run_open c.args.guard.now c.args.start.now _ (seen g.G.Gate.log g.G.Gate.faults c.args.gate.now) (seen g.G.Gate.log g.G.Gate.faults c.open_gate.new.gate) c.in_err-open_gate.field-0.0 c.requires.empty c.in_err-open_gate.ensures.refused)
