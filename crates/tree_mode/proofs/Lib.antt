@@ -3,3 +3,4 @@ pub mod Listing
 pub mod Starts
 pub mod Styles
 pub mod Joining
+pub mod Lawful

@@ -15,3 +15,4 @@ pub mod Candidates
 pub mod Listed
 pub mod TreeMode
 pub mod Laws
+pub mod Lawful

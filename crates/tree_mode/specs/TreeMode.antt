@@ -2,7 +2,7 @@
 use Rattle.std.specs.Prelude.{◌&&◌, nat_lt, length, cond}
 use Rattle.syntax_tree.specs.Trees.{PlainTree, leaves, weight}
 use Rattle.reduction_rounds.specs.Trials.{Trials, Done, Try}
-use Rattle.reduction_rounds.specs.Mode.{Mode}
+use Rattle.reduction_rounds.specs.Mode.{RoundMode}
 use Rattle.token_print.specs.declared.style.Style.{Style}
 use Rattle.tree_mode.specs.Input.{TreeInput, TreeState}
 use Rattle.tree_mode.specs.Listed.{is_listed, text_in, text_of}
@@ -24,7 +24,7 @@ opening_of input =
     Done
 
 -- The reduction of an input's trees, where a round tries these trees from each tree. A tree has as many units as leaves, and keeps its style in a round.
-abbrev pub tree_mode : (PlainTree → Trials PlainTree) → TreeInput → Mode TreeState
+abbrev pub tree_mode : (PlainTree → Trials PlainTree) → TreeInput → RoundMode TreeState
 tree_mode round input =
     record {
       start = in_style Style.AsWas input.whole;

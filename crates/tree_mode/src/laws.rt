@@ -1,6 +1,7 @@
 //! The laws.
 
 ghost use Rattle.tree_mode.specs.InputParts.{PartsJoin};
+ghost use Rattle.tree_mode.specs.Lawful.{TreeModeIsLawful, TreeModeTriesEdits};
 ghost use Rattle.tree_mode.specs.Laws.{ListedAreCandidates, ListedIsDecided, OpeningIsKept, StylesStay, TextsAreNoLonger, WellFormedOnce, WholeIsStart};
 
 use normal_form::equal_languages;
@@ -75,3 +76,19 @@ pub fn opening_is_kept()
 pub fn styles_stay()
     ensures { StylesStay }
 {}
+
+/// The mode is lawful where a round of it tries kept trees alone and each yes makes the tree smaller.
+pub fn tree_mode_is_lawful()
+    ensures { TreeModeIsLawful }
+{
+    whole_is_start();
+    opening_is_kept();
+    styles_stay();
+}
+
+/// The mode tries each single edit of a state where a round of it tries each of its tree.
+pub fn tree_mode_tries_edits()
+    ensures { TreeModeTriesEdits }
+{
+    styles_stay();
+}

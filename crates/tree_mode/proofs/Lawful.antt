@@ -1,0 +1,24 @@
+-- The mode of trees is lawful where a round of it is.
+use Rattle.std.proofs.Common.{subst}
+use Rattle.reduction_rounds.specs.Trials.{IsTriedAtNo}
+use Rattle.token_print.specs.declared.style.Style.{Style}
+use Rattle.tree_mode.specs.TreeMode.{in_style, trials_in}
+use Rattle.tree_mode.specs.Laws.{OpeningIsKept, StylesStay, WholeIsStart}
+use Rattle.tree_mode.specs.Lawful.{TreeModeIsLawful, TreeModeTriesEdits}
+
+pub is_lawful : WholeIsStart → OpeningIsKept → StylesStay → TreeModeIsLawful
+is_lawful start opening stay input round of lawful =
+    record {
+      keeps =
+          record {
+            start = (start input of).kept;
+            opening = opening input of;
+            round = λ state kept. (stay input state (round state.tree)).kept kept (lawful.kept state.tree (kept.fits, kept.left));
+          };
+      smaller = λ state kept. (stay input state (round state.tree)).smaller _ (lawful.smaller state.tree (kept.fits, kept.left));
+    }
+
+pub tries_edits : StylesStay → TreeModeTriesEdits
+tries_edits stay input round tries state other kept edit =
+    let tried : IsTriedAtNo (trials_in state.style (round state.tree)) (in_style state.style other.tree) = (stay input state (round state.tree)).tried other.tree (tries state.tree other.tree (kept.fits, kept.left) edit.tree) in
+    subst (λ (style : Style). IsTriedAtNo (trials_in state.style (round state.tree)) (in_style style other.tree)) edit.style tried
