@@ -41,7 +41,7 @@ before_next n q m same le other =
       | inr ge ↦ absurd (other (let e : m ≡ q = omega (arith, same, le, ge) in e))
     ]
 
-some_size : (t : PlainTree) → 0 < size t
+pub some_size : (t : PlainTree) → 0 < size t
 some_size (PlainTree.leaf n k i) = omega arith
 some_size (PlainTree.node n r a ts) = omega arith
 

@@ -8,3 +8,7 @@ pub mod Splits
 pub mod CutFacts
 pub mod Positions
 pub mod CutCalls
+pub mod Ways
+pub mod Seen
+pub mod Questions
+pub mod Selections

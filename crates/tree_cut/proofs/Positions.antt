@@ -21,14 +21,14 @@ use Rattle.tree_cut.proofs.LeftTrees.{leaf_own, left_below, node_other, node_own
 use Rattle.tree_cut.proofs.CutEdits.{deeper_found, node_was, none_there, whole_rises}
 use Rattle.tree_cut.proofs.CutFacts.{index_is, nodes_count, root_number, subtree_there}
 
-own_number : (marks : List Mark) (q : ℕ) (x : PlainTree) → number_of x ≡ q → mark_at marks q ≡ Kept → option_map number_of (left_at marks q x) ≡ Some q
+pub own_number : (marks : List Mark) (q : ℕ) (x : PlainTree) → number_of x ≡ q → mark_at marks q ≡ Kept → option_map number_of (left_at marks q x) ≡ Some q
 own_number marks q (PlainTree.leaf n k i) e m =
     ap (option_map number_of) (leaf_own marks q n k i e ∙ ap (λ (y : Mark). by_mark y (PlainTree.leaf n k i) (λ by. None)) (ap (mark_at marks) e ∙ m)) ∙ ap Some e
 own_number marks q (PlainTree.node n r a ts) e m =
     ap (option_map number_of) (node_own marks q n r a ts e ∙ ap (λ (y : Mark). by_mark y (PlainTree.node n r a (left_of_each marks ts)) (λ by. left_among marks by ts)) (ap (mark_at marks) e ∙ m)) ∙ ap Some e
 
 -- what replaces a node leaves what it leaves
-replaced_leaves : (marks : List Mark) (q by : ℕ) (low high : ℕ) (x w : PlainTree) → Rises low high x → number_of x ≡ q → mark_at marks q ≡ Replaced by → subtree_among by (children_of x) ≡ Some w →
+pub replaced_leaves : (marks : List Mark) (q by : ℕ) (low high : ℕ) (x w : PlainTree) → Rises low high x → number_of x ≡ q → mark_at marks q ≡ Replaced by → subtree_among by (children_of x) ≡ Some w →
     (left_at marks q x ≡ left_at marks by x) × (subtree by x ≡ Some w)
 replaced_leaves marks q by low high (PlainTree.leaf n k i) w h e m f = absurd (none-some w f)
 replaced_leaves marks q by low high (PlainTree.node n r a ts) w h e m f =
@@ -44,7 +44,7 @@ children_rise low high (PlainTree.node n r a ts) h = h.1
 
 -- what is found in a numbered tree is numbered
 mutual
-  subtree_numbered : (n q : ℕ) (t u : PlainTree) → renumbered n t ≡ t → subtree q t ≡ Some u → renumbered q u ≡ u
+  pub subtree_numbered : (n q : ℕ) (t u : PlainTree) → renumbered n t ≡ t → subtree q t ≡ Some u → renumbered q u ≡ u
   subtree_numbered n q (PlainTree.leaf m k i) u e f =
       let same : n ≡ m = cc in
       elim (cases_eq m q) [
@@ -63,7 +63,7 @@ mutual
         | inr other ↦ subtree_among_numbered (n + 1) q ts u below (sym (subtree_below q m r a ts other) ∙ f)
       ]
 
-  subtree_among_numbered : (n q : ℕ) (ts : PlainTrees) (u : PlainTree) → renumbered_all n ts ≡ ts → subtree_among q ts ≡ Some u → renumbered q u ≡ u
+  pub subtree_among_numbered : (n q : ℕ) (ts : PlainTrees) (u : PlainTree) → renumbered_all n ts ≡ ts → subtree_among q ts ≡ Some u → renumbered q u ≡ u
   subtree_among_numbered n q PlainTrees.none u e f = absurd (none-some u f)
   subtree_among_numbered n q (PlainTrees.next t ts) u e f =
       let first : renumbered n t ≡ t = cc in

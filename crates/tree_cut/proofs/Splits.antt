@@ -1,5 +1,5 @@
 -- A list of tokens, split at bounds.
-use Rattle.std.proofs.Common.{◌≡◌, inl, inr, ℕ, zero, suc, ◌+◌, ◌-◌, ◌<◌, ◌≤◌, List, [], ◌∷◌, ◌++◌, length, take, drop, slice_index, refl, sym, ap, ◌∙◌, subst, arith, length-take, length-drop}
+use Rattle.std.proofs.Common.{◌≡◌, inl, inr, ℕ, zero, suc, ◌+◌, ◌-◌, ◌<◌, ◌≤◌, List, [], ◌∷◌, ◌++◌, Some, length, take, drop, slice_get, slice_index, refl, sym, ap, ◌∙◌, subst, arith, length-take, length-drop}
 use Rattle.std.proofs.lemmas.List.{drop-drop}
 use Rattle.std.proofs.lemmas.List.Edits.{drop-paste, take-paste}
 use lib.Seq.{paste}
@@ -155,3 +155,33 @@ replaced_part xs zs a b first end i j m n at to at' to' le up is =
     ∙ ap (λ (l : List ℕ). l ++ take (n - m) (drop m xs) ++ drop j xs) (take_is xs a i at)
     ∙ ap (λ (l : List ℕ). before a xs ++ l ++ drop j xs) (between_is xs first end m (n - m) at' (subst (λ k. IsSplitAt xs end k) same to') le)
     ∙ ap (λ (l : List ℕ). before a xs ++ within first end xs ++ l) (drop_is xs b j to)
+
+-- no token is within a span that ends before all of them
+none_within : (first end : ℕ) (tokens : List ℕ) → ((k : ℕ) → k < length tokens → end ≤ slice_index tokens k) → within first end tokens ≡ []
+none_within first end [] after = refl
+none_within first end (x ∷ xs) after =
+    untested (is_within first end x) x (within first end xs) (and_right (nat_le first x) (nat_lt x end) (le-ltb x end (after 0 (omega arith))))
+    ∙ none_within first end xs (λ k lt. after (suc k) (omega (arith, lt)))
+
+rest_rises : (x : ℕ) (xs : List ℕ) → IsStrictlyIncreasing (x ∷ xs) → IsStrictlyIncreasing xs
+rest_rises x xs up = λ k lt. subst (λ (m : ℕ). slice_index xs k < slice_index (x ∷ xs) m) (let e : suc k + 1 ≡ suc (k + 1) = omega arith in e) (up (suc k) (omega (arith, lt)))
+
+-- the first token of a span is the one that the span's beginning splits at
+pub first_is : (tokens : List ℕ) (first end from : ℕ) → IsStrictlyIncreasing tokens → IsSplitAt tokens first from → 0 < length (within first end tokens) →
+    (from < length tokens) × (slice_get (within first end tokens) 0 ≡ Some (slice_index tokens from))
+first_is [] first end from up at some = absurd (omega (arith, some))
+first_is (x ∷ xs) first end (suc from) up at some =
+    let skipped : within first end (x ∷ xs) ≡ within first end xs = untested (is_within first end x) x (within first end xs) (and_left (nat_le first x) (nat_lt x end) (lt-leb first x (at.less 0 (omega arith)))) in
+    let rest = first_is xs first end from (rest_rises x xs up) (rest_split x xs first from at) (subst (λ (l : List ℕ). 0 < length l) skipped some) in
+    (omega (arith, rest.0), ap (λ (l : List ℕ). slice_get l 0) skipped ∙ rest.1)
+first_is (x ∷ xs) first end zero up at some =
+    elim (cases_lt x end) [
+      | inl before ↦ (
+        omega arith,
+        ap (λ (l : List ℕ). slice_get l 0) (tested (is_within first end x) x (within first end xs) [] (and_from (nat_le first x) (nat_lt x end) (le-leb first x (at.others 0 (omega arith) (omega arith))) (lt-ltb x end before))),
+      )
+      | inr after ↦ absurd (
+          let above : (k : ℕ) → k < length (x ∷ xs) → end ≤ slice_index (x ∷ xs) k = λ k lt. (let up_to = not_falling (x ∷ xs) up 0 k (omega (arith, lt)) in let here : 0 + k ≡ k = omega arith in let le = subst (λ (m : ℕ). x ≤ slice_index (x ∷ xs) m) here up_to in omega (arith, after, le)) in
+          let nothing = ap length (none_within first end (x ∷ xs) above) in
+          omega (arith, some, nothing))
+    ]

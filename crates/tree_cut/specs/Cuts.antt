@@ -130,3 +130,18 @@ pub record CanReplace (N : NormalForm) (start : Sym) (t : PlainTree) (q by : ℕ
   pub other_is : subtree by t ≡ Some other
   pub below : IsBelow other (PlainTree.node q rule alt children)
   pub fits : Fits N (symbol_of other) slot
+
+-- The node `by` of the tree is below its node q.
+pub record HasBelow (t : PlainTree) (q by : ℕ) : Type 0 where
+  pub node : PlainTree
+  pub other : PlainTree
+  pub node_is : subtree q t ≡ Some node
+  pub other_is : subtree by t ≡ Some other
+  pub below : IsBelow other node
+
+-- The node `by` of the tree, which is for the slot, is below its node q, and fits that node's slot.
+pub record HasFitting (N : NormalForm) (start : Sym) (t : PlainTree) (q by : ℕ) : Type 0 where
+  pub below : HasBelow t q by
+  pub slot : Sym
+  pub slot_is : slot_at N start q t ≡ Some slot
+  pub fits : Fits N (symbol_of below.other) slot

@@ -1,21 +1,27 @@
 //! Cuts of trees.
 
-ghost use Rattle.std.specs.Prelude.{◌≡◌, ℕ, ◌+◌, ◌<◌, ◌≤◌, ◌++◌, Some, IfOk, IsSome, OnOk, length, option_map, option_to_list, replicate, slice_get};
-ghost use Rattle.std.specs.List.{range_with_len};
+ghost use Rattle.std.specs.Prelude.{◌≡◌, ◌↔◌, ℕ, ◌+◌, ◌<◌, ◌≤◌, ◌++◌, Some, IfOk, IsSome, IsTrue, OnOk, length, option_map, option_to_list, replicate, slice_get};
+ghost use Rattle.std.specs.Option.{option_and_then};
+ghost use Rattle.std.specs.List.{Contains, range_with_len};
 ghost use Rattle.std.specs.List.Sorted.{IsStrictlyIncreasing};
 ghost use Rattle.syntax_tree.specs.declared.node.Node.{Node as NodeEntry};
-ghost use Rattle.syntax_tree.specs.Trees.{PlainTree, PlainTrees, children_of, leaves, weight};
+ghost use Rattle.syntax_tree.specs.Trees.{PlainTree, PlainTrees, children_of, count, leaves, symbol_of, weight};
 ghost use Rattle.syntax_tree.specs.Numbered.{roots, subtree, with_subtree};
 ghost use Rattle.syntax_tree.specs.Valid.{slot_at};
 ghost use Rattle.syntax_tree.specs.Nodes.{whole};
-ghost use Rattle.tree_cut.specs.Cuts.{CanDelete, CanEmpty, CanReplace, HasChildren, IsCutOf, IsOccupant, ReplacementsRise, cut_tree, without};
+ghost use Rattle.tree_cut.specs.Cuts.{CanDelete, CanEmpty, CanReplace, HasBelow, HasChildren, HasFitting, IsCutOf, IsOccupant, ReplacementsRise, cut_tree, without};
+ghost use Rattle.tree_cut.specs.Children.{HasSeen};
+ghost use Rattle.tree_cut.specs.Shapes.{shape_of};
 ghost use Rattle.tree_cut.specs.Steps.{HasDeleted, HasReplaced};
 ghost use Rattle.tree_cut.specs.Tokens.{within};
 
+use crate::children::{Seen, with_occupant};
 use crate::laws::tree_laws;
 use crate::mark::{Mark, kept_marks};
 use crate::occupant::{occupant, push_occupant};
-use crate::tokens::{count_within, keep_within, numbers_below, remove_within};
+use crate::shape::{Shape, fewest_elements, is_optional, is_regular, symbol_shape};
+use crate::tokens::{count_within, first_within, keep_within, numbers_below, remove_within};
+use crate::way::leads_to;
 use compat_table::Compat;
 use faults::Memory;
 use normal_form::Sym;
@@ -74,6 +80,76 @@ impl Cut {
         })
     }
 
+    /// Whether the node is left; a number that no node has isn't. It takes no memory. Its time is
+    /// linear in the number of nodes that are above it, or come before it or one of these among the
+    /// children of another of these, and of replacements.
+    pub fn is_left(&self, tree: &Tree, node: u32) -> bool
+        requires { IsCutOf tree.now self.now }
+        ensures { IsTrue result ↔ IsSome (subtree node (cut_tree tree.now self.now)) }
+    {
+        tree_laws();
+        let nodes = tree.nodes();
+        if node as usize >= nodes.len() {
+            return false;
+        }
+        leads_to(tree, self.marks.as_slice(), 0, node)
+    }
+
+    /// What a node that is left is by its rule. It takes constant time.
+    pub fn shape(&self, tree: &Tree, node: u32) -> Shape
+        requires of { IsCutOf tree.now self.now }
+        requires left { IsSome (subtree node (cut_tree tree.now self.now)) }
+        ensures { option_and_then (shape_of tree.now.form) (subtree node (cut_tree tree.now self.now)) ≡ Some result }
+    {
+        tree_laws();
+        let _nodes = tree.nodes();
+        symbol_shape(tree.normal(), self.symbol(tree, node))
+    }
+
+    /// Whether `delete_element` can be called: whether the node `list` is a star or plus that is
+    /// left, and `element` one of its children, of which a plus has at least two. It takes no memory,
+    /// and the time of `is_left` and `children`.
+    pub fn can_delete(&self, tree: &Tree, list: u32, element: u32) -> bool
+        requires { IsCutOf tree.now self.now }
+        ensures { IsTrue result ↔ CanDelete tree.now.form (cut_tree tree.now self.now) list element }
+    {
+        tree_laws();
+        let _nodes = tree.nodes();
+        match fewest_elements(self.shape_if_left(tree, list)) {
+            Some(fewest) => self.has_element(tree, list, element, fewest),
+            None => false,
+        }
+    }
+
+    /// Whether `delete_optional` can be called: whether the node is left, and a present optional. It
+    /// takes no memory, and the time of `is_left`.
+    pub fn can_empty(&self, tree: &Tree, node: u32) -> bool
+        requires { IsCutOf tree.now self.now }
+        ensures { IsTrue result ↔ CanEmpty tree.now.form (cut_tree tree.now self.now) node }
+    {
+        tree_laws();
+        let _nodes = tree.nodes();
+        if !is_optional(self.shape_if_left(tree, node)) {
+            return false;
+        }
+        self.count_children(tree, node, node).count > 0
+    }
+
+    /// Whether `replace` can be called: whether the node is left, and regular, and `by` is below it
+    /// and fits its slot. It takes no memory, and the time of `is_left` for each of the two.
+    pub fn can_replace(&self, tree: &Tree, compat: &Compat, node: u32, by: u32) -> bool
+        requires of { IsCutOf tree.now self.now }
+        requires compat { compat.now ≡ tree.now.form }
+        ensures { IsTrue result ↔ CanReplace tree.now.form tree.now.start (cut_tree tree.now self.now) node by }
+    {
+        tree_laws();
+        let _nodes = tree.nodes();
+        if !is_regular(self.shape_if_left(tree, node)) {
+            return false;
+        }
+        self.has_fitting(tree, compat, node, by)
+    }
+
     /// How many tokens below a node that is left are left. It takes no memory, and time logarithmic
     /// in the number of tokens that are left.
     pub fn weight(&self, tree: &Tree, node: u32) -> u32
@@ -84,6 +160,19 @@ impl Cut {
         tree_laws();
         let _nodes = tree.nodes();
         self.count_tokens(tree, node) as u32
+    }
+
+    /// The first of the tokens that are left below a node that is left, where there is one. It takes
+    /// no memory, and time logarithmic in the number of tokens that are left.
+    pub fn first_token(&self, tree: &Tree, node: u32) -> u32
+        requires of { IsCutOf tree.now self.now }
+        requires left { IsSome (subtree node (cut_tree tree.now self.now)) }
+        requires some { (u : PlainTree) → subtree node (cut_tree tree.now self.now) ≡ Some u → 0 < weight u }
+        ensures { option_and_then (λ t. slice_get (leaves t) 0) (subtree node (cut_tree tree.now self.now)) ≡ Some result }
+    {
+        tree_laws();
+        let nodes = tree.nodes();
+        first_within(self.kept.as_slice(), &nodes[node as usize])
     }
 
     /// The slot that a node that is left is in: that of the position that it is at.
@@ -173,6 +262,87 @@ impl Cut {
         let _nodes = tree.nodes();
         let _ = compat;
         self.exchange(tree, node, by);
+    }
+
+    /// What the node is by its rule; None where it isn't left.
+    fn shape_if_left(&self, tree: &Tree, node: u32) -> Option<Shape>
+        requires { IsCutOf tree.now self.now }
+        ensures { result ≡ option_and_then (shape_of tree.now.form) (subtree node (cut_tree tree.now self.now)) }
+    {
+        if !self.is_left(tree, node) {
+            return None;
+        }
+        Some(self.shape(tree, node))
+    }
+
+    /// Goes through the children of a node that is left, and looks for one with a certain number.
+    fn count_children(&self, tree: &Tree, node: u32, child: u32) -> Seen
+        requires of { IsCutOf tree.now self.now }
+        requires left { IsSome (subtree node (cut_tree tree.now self.now)) }
+        ensures { (u : PlainTree) → subtree node (cut_tree tree.now self.now) ≡ Some u → HasSeen (roots (children_of u)) child result }
+    {
+        tree_laws();
+        let nodes = tree.nodes();
+        let mut remaining = nodes[node as usize].children;
+        let mut position = node + 1;
+        let mut seen = Seen {
+            count: 0,
+            found: false,
+        };
+        while remaining > 0 {
+            seen = with_occupant(seen, occupant(self.marks.as_slice(), position), child);
+            position = tree.after(position);
+            remaining -= 1;
+        }
+        seen
+    }
+
+    /// Whether a node that is left has this child, and has at least so many children.
+    fn has_element(&self, tree: &Tree, node: u32, child: u32, fewest: u32) -> bool
+        requires of { IsCutOf tree.now self.now }
+        requires left { IsSome (subtree node (cut_tree tree.now self.now)) }
+        ensures { (u : PlainTree) → subtree node (cut_tree tree.now self.now) ≡ Some u → IsTrue result ↔ (Contains (roots (children_of u)) child × (fewest ≤ count (children_of u))) }
+    {
+        let seen = self.count_children(tree, node, child);
+        seen.found && seen.count >= fewest
+    }
+
+    /// Whether the node `by` is below a node that is left.
+    fn has_below(&self, tree: &Tree, node: u32, by: u32) -> bool
+        requires of { IsCutOf tree.now self.now }
+        requires left { IsSome (subtree node (cut_tree tree.now self.now)) }
+        ensures { IsTrue result ↔ HasBelow (cut_tree tree.now self.now) node by }
+    {
+        tree_laws();
+        let _nodes = tree.nodes();
+        if by == node {
+            return false;
+        }
+        leads_to(tree, self.marks.as_slice(), node, by)
+    }
+
+    /// Whether the node `by` is below a node that is left, and fits its slot.
+    fn has_fitting(&self, tree: &Tree, compat: &Compat, node: u32, by: u32) -> bool
+        requires of { IsCutOf tree.now self.now }
+        requires left { IsSome (subtree node (cut_tree tree.now self.now)) }
+        requires compat { compat.now ≡ tree.now.form }
+        ensures { IsTrue result ↔ HasFitting tree.now.form tree.now.start (cut_tree tree.now self.now) node by }
+    {
+        if !self.has_below(tree, node, by) {
+            return false;
+        }
+        compat.fits(self.symbol(tree, by), self.slot(tree, node))
+    }
+
+    /// The symbol that a node that is left is itself.
+    fn symbol(&self, tree: &Tree, node: u32) -> Sym
+        requires of { IsCutOf tree.now self.now }
+        requires left { IsSome (subtree node (cut_tree tree.now self.now)) }
+        ensures { option_map symbol_of (subtree node (cut_tree tree.now self.now)) ≡ Some result }
+    {
+        tree_laws();
+        let nodes = tree.nodes();
+        nodes[node as usize].sym
     }
 
     /// How many of the tokens that are left are in the span of the node.

@@ -8,12 +8,20 @@
 //! holds of each cut of a tree. An edit gives exactly the tree that was left, with that one edit.
 #![tactic(auto)]
 
+mod children;
 mod cut;
 mod laws;
 mod mark;
 mod occupant;
+mod selection_laws;
+mod shape;
 mod tokens;
+mod way;
 
 pub use cut::Cut;
 pub use faults::Memory;
 pub use mark::Mark;
+pub use selection_laws::{
+    fewer_are_lighter, left_nodes_keep_symbols, one_is_left_out, weights_count_leaves,
+};
+pub use shape::Shape;

@@ -1,6 +1,6 @@
 //! Lists of tokens, by their numbers, which rise.
 
-ghost use Rattle.std.specs.Prelude.{◌≡◌, ◌≤◌, ◌++◌, IfOk, length, take, drop};
+ghost use Rattle.std.specs.Prelude.{◌≡◌, ◌≤◌, ◌<◌, ◌++◌, Some, IfOk, length, slice_get, take, drop};
 ghost use Rattle.std.specs.List.{range_with_len};
 ghost use Rattle.std.specs.List.Sorted.{IsStrictlyIncreasing};
 ghost use Rattle.tree_cut.specs.Tokens.{IsSplitAt, before, from_on, within};
@@ -24,6 +24,16 @@ pub(crate) fn count_within(tokens: &[u32], node: &Node) -> usize
     ensures { result ≡ length (within node.now.first node.now.end tokens.now) }
 {
     count_before(tokens, node.end) - count_before(tokens, node.first)
+}
+
+/// The first of the tokens in the span of the node.
+pub(crate) fn first_within(tokens: &[u32], node: &Node) -> u32
+    requires rising { IsStrictlyIncreasing tokens.now }
+    requires span { node.now.first ≤ node.now.end }
+    requires some { 0 < length (within node.now.first node.now.end tokens.now) }
+    ensures { slice_get (within node.now.first node.now.end tokens.now) 0 ≡ Some result }
+{
+    tokens[count_before(tokens, node.first)]
 }
 
 /// Removes the tokens from the index `from` on and before the index `to`.

@@ -1,0 +1,14 @@
+use Rattle.std.proofs.Common.{◌≡◌, sym, ap, ◌∙◌, subst}
+use Rattle.std.specs.Prelude.{IsTrue}
+use Rattle.std.specs.Option.{option_map}
+use Rattle.std.proofs.lemmas.Option.{same_Some}
+use Rattle.normal_form.specs.declared.normal.Sym.{Sym}
+use Rattle.normal_form.specs.Form.{NormalForm}
+use Rattle.compat_table.specs.Fits.{Fits}
+use Rattle.syntax_tree.specs.Trees.{symbol_of}
+use Rattle.tree_cut.proofs.Questions.{fitting_is}
+use Rattle.tree_cut.proofs.cut.Cut.has_fitting.Goals as goal
+
+pub returns : goal.returns
+returns c =
+    fitting_is c.args.tree.now.form c.args.tree.now.start _ c.args.node c.args.by c.fits.result c.args.compat.now c.symbol.result c.slot.result c.requires.compat (c.has_below.ensures.0 c.if-not-has_below.false) c.symbol.ensures c.slot.ensures c.fits.ensures
