@@ -2,6 +2,7 @@
 use Rattle.std.proofs.Common.{◌≡◌, ◌⊎◌, inl, inr, ℕ, ◌+◌, ◌<◌, ◌≤◌, [], ◌∷◌, ◌++◌, Option, Some, None, length, refl, sym, ap, ◌∙◌, subst, arith}
 use Rattle.std.specs.Prelude.{option_to_list}
 use Rattle.std.specs.List.{Contains}
+use Rattle.std.specs.Option.{option_map}
 use Rattle.std.proofs.lemmas.Option.{same_Some}
 use Rattle.normal_form.specs.Form.{RuleForm}
 use Rattle.syntax_tree.specs.Trees as trees
@@ -17,8 +18,8 @@ use Rattle.tree_cut.proofs.Rising.{subtree_below, subtree_own, subtree_within, w
 use Rattle.tree_cut.proofs.Deletions.{child_found, child_within, left_out_count, some_first, without_leaves_out}
 use Rattle.tree_cut.proofs.CutEdits.{child_gone, deeper_found, node_was, replaced_cut, tree_rises, whole_numbers, whole_rises}
 use Rattle.tree_cut.proofs.LeftTrees.{left_below}
-use Rattle.tree_cut.proofs.CutFacts.{NodeFacts, node_facts}
-use Rattle.tree_cut.proofs.Positions.{IsRest, children_begin, children_next, left_node, optional_children, position_within}
+use Rattle.tree_cut.proofs.CutFacts.{NodeFacts, node_facts, root_number}
+use Rattle.tree_cut.proofs.Positions.{IsRest, children_begin, children_next, left_node, occupant_is, optional_children, position_within}
 
 -- what is below a tree has no more leaves
 mutual
@@ -41,6 +42,12 @@ module _ (tree : SyntaxTree) (laws : TreeLaws) (are : AreNodesOf tree.form tree.
       let found = child_found (p + 1) (size (whole tree)) us at.1.1 q has in
       let within = child_within (p + 1) (size (whole tree)) us at.1.1 q has in
       (found.0, deeper_found 0 (size (whole tree)) (cut_tree tree c) (tree_rises tree laws are c of) p q (PlainTree.node p r a us) found.0 sub (subtree_below q p r a us (λ (e : p ≡ q). omega (arith, e, within)) ∙ found.1))
+
+  -- what is at the position of the parsed tree's root
+  pub root_is : (o : Option ℕ) → IsOccupant c.marks 0 o → o ≡ Some (number_of (cut_tree tree c))
+  root_is o at =
+      sym (occupant_is tree laws are c of 0 o at (whole tree) (subtree_own 0 (whole tree) (root_number 0 (whole tree) are.whole.numbered)))
+      ∙ ap (option_map number_of) of.root
 
   -- the same node by other names
   renamed : (p r a r' a' : ℕ) (us us' : PlainTrees) (f : PlainTrees → PlainTrees) (t u : PlainTree) → Some (PlainTree.node p r a us) ≡ Some (PlainTree.node p r' a' us') → u ≡ with_subtree p (PlainTree.node p r a (f us)) t → u ≡ with_subtree p (PlainTree.node p r' a' (f us')) t

@@ -1,9 +1,9 @@
 -- What is asked of nodes before edits.
 use Rattle.std.proofs.Common.{◌≡◌, ◌⊎◌, inl, inr, ℕ, ◌+◌, ◌-◌, ◌<◌, ◌≤◌, leb, ltb, List, [], ◌++◌, Option, Some, None, length, slice_get, refl, sym, ap, ◌∙◌, subst, arith}
-use Rattle.std.specs.Prelude.{◌↔◌, Bool, true, false, option_to_list, IsSome, IsTrue}
+use Rattle.std.specs.Prelude.{◌↔◌, Bool, true, false, nat_eq, option_to_list, IsSome, IsTrue}
 use Rattle.std.specs.List.{Contains}
 use Rattle.std.specs.Option.{option_and_then, option_map}
-use Rattle.std.proofs.lemmas.Bool.{both_ways, cases_eq, false≢true, le-leb, leb-true, lt-ltb, ltb-true}
+use Rattle.std.proofs.lemmas.Bool.{both_ways, cases_eq, eq-eqb, eqb-true, false≢true, le-leb, leb-true, lt-ltb, ltb-true}
 use Rattle.std.proofs.lemmas.Option.{none-some, same_Some}
 use Rattle.normal_form.specs.declared.normal.Sym.{Sym}
 use Rattle.normal_form.specs.Form.{RuleForm, NormalForm}
@@ -20,8 +20,8 @@ use Rattle.tree_cut.specs.declared.shape.Shape.{Shape}
 use Rattle.tree_cut.specs.declared.shape.Shape.TheVariants.{Leaf, Star, Plus, Optional, Regular}
 use Rattle.tree_cut.specs.declared.children.Seen.{Seen}
 use Rattle.tree_cut.specs.Children.{HasSeen}
-use Rattle.tree_cut.specs.Cuts.{CanDelete, CanEmpty, CanReplace, CutForm, HasBelow, HasFitting, IsCutOf, IsOccupant, by_mark, cut_tree, left_among, left_at, left_of_each, mark_at}
-use Rattle.tree_cut.specs.Shapes.{fewest_of, shape_of, shape_of_form}
+use Rattle.tree_cut.specs.Cuts.{CanDelete, CanEmpty, CanReplace, CanSelect, CutForm, HasBelow, HasFitting, IsCutOf, IsOccupant, by_mark, cut_tree, left_among, left_at, left_of_each, mark_at}
+use Rattle.tree_cut.specs.Shapes.{MayKeep, fewest_of, shape_of, shape_of_form}
 use Rattle.tree_cut.specs.Tokens.{within}
 use Rattle.tree_cut.specs.TreeLaws.{TreeLaws}
 use Rattle.tree_cut.proofs.Rising.{Rises, cases_option, cases_or, found_among_within, found_within, subtree_below, subtree_own, subtree_within, when_not}
@@ -143,6 +143,27 @@ fewest_node N (PlainTree.node m r a ts) n e = by_form (slice_get N.rules r) refl
 pub fewest_found : (N : NormalForm) (o : Option PlainTree) (n : ℕ) → fewest_of (option_and_then (shape_of N) o) ≡ Some n → (u : PlainTree) × (o ≡ Some u) × (fewest_of (shape_of N u) ≡ Some n)
 fewest_found N None n e = absurd (none-some n e)
 fewest_found N (Some u) n e = (u, refl, e)
+
+-- what can keep some of its children is there, and is a list
+pub may_there : (N : NormalForm) (o : Option PlainTree) (keep : List Bool) → MayKeep (option_and_then (shape_of N) o) keep → (u : PlainTree) × (o ≡ Some u) × MayKeep (shape_of N u) keep
+may_there N None keep may = absurd (may)
+may_there N (Some u) keep may = (u, refl, may)
+
+may_node : (N : NormalForm) (u : PlainTree) (keep : List Bool) → MayKeep (shape_of N u) keep →
+    (m : ℕ) × (r : ℕ) × (a : ℕ) × (ts : PlainTrees) × (form : RuleForm) × (u ≡ PlainTree.node m r a ts) × (slice_get N.rules r ≡ Some form) × MayKeep (Some (shape_of_form form)) keep
+may_node N (PlainTree.leaf m k i) keep may = absurd (may)
+may_node N (PlainTree.node m r a ts) keep may = by_form (slice_get N.rules r) refl
+  where
+    by_form : (o : Option RuleForm) → slice_get N.rules r ≡ o →
+        (m' : ℕ) × (r' : ℕ) × (a' : ℕ) × (ts' : PlainTrees) × (form : RuleForm) × (PlainTree.node m r a ts ≡ PlainTree.node m' r' a' ts') × (slice_get N.rules r' ≡ Some form) × MayKeep (Some (shape_of_form form)) keep
+    by_form None f = absurd (subst (λ (o : Option RuleForm). MayKeep (option_map shape_of_form o) keep) f may)
+    by_form (Some form) f = (m, r, a, ts, form, refl, f, subst (λ (o : Option RuleForm). MayKeep (option_map shape_of_form o) keep) f may)
+
+may_form : (form : RuleForm) (keep : List Bool) → MayKeep (Some (shape_of_form form)) keep → ((x : Sym) × (form ≡ RuleForm.star x)) ⊎ ((x : Sym) × (form ≡ RuleForm.plus x) × Contains keep true)
+may_form (RuleForm.regular alts) keep may = absurd (may)
+may_form (RuleForm.star x) keep may = inl (x, refl)
+may_form (RuleForm.plus x) keep may = inr (x, refl, may)
+may_form (RuleForm.opt x) keep may = absurd (may)
 
 pub through : {A B C : Type 0} → A ↔ B → B ↔ C → A ↔ C
 through f g = (λ a. g.0 (f.0 a), λ c. f.1 (g.1 c))
@@ -297,6 +318,26 @@ module _ (tree : SyntaxTree) (laws : TreeLaws) (are : AreNodesOf tree.form tree.
   pub delete_children : (list element : ℕ) (u : PlainTree) (can : CanDelete tree.form (cut_tree tree c) list element) → subtree list (cut_tree tree c) ≡ Some u → can.elements ≡ children_of u
   delete_children list element u can e = ap children_of (same_Some (PlainTree.node list can.rule can.alt can.elements) u (sym can.node ∙ e))
 
+  select_from : (list : ℕ) (keep : List Bool) (u : PlainTree) → subtree list (cut_tree tree c) ≡ Some u → MayKeep (shape_of tree.form u) keep → length keep ≡ count (children_of u) → CanSelect tree.form (cut_tree tree c) list keep
+  select_from list keep u e may each =
+      let node = may_node tree.form u keep may in
+      let at = named list node.0 node.1 node.2 node.3 u e node.5 in
+      let all : length keep ≡ count node.3 = each ∙ ap (λ (t : PlainTree). count (children_of t)) node.5 in
+      elim (may_form node.4 keep node.7) [
+        | inl star ↦ record { rule = node.1; alt = node.2; elements = node.3; symbol = star.0; node = at; is_list = inl (node.6 ∙ ap Some star.1); each = all }
+        | inr plus ↦ record { rule = node.1; alt = node.2; elements = node.3; symbol = plus.0; node = at; is_list = inr (node.6 ∙ ap Some plus.1, plus.2); each = all }
+      ]
+
+  -- a list that some elements of can be kept of has the shape of one
+  pub select_shape : (list : ℕ) (keep : List Bool) (can : CanSelect tree.form (cut_tree tree c) list keep) → MayKeep (option_and_then (shape_of tree.form) (subtree list (cut_tree tree c))) keep
+  select_shape list keep can =
+      let shape : (form : RuleForm) → slice_get tree.form.rules can.rule ≡ Some form → option_and_then (shape_of tree.form) (subtree list (cut_tree tree c)) ≡ Some (shape_of_form form) =
+      λ form e. ap (option_and_then (shape_of tree.form)) can.node ∙ ap (option_map shape_of_form) e in
+      elim can.is_list [
+        | inl star ↦ subst (λ (s : Option Shape). MayKeep s keep) (sym (shape (RuleForm.star can.symbol) star)) tt
+        | inr plus ↦ subst (λ (s : Option Shape). MayKeep s keep) (sym (shape (RuleForm.plus can.symbol) plus.0)) plus.1
+      ]
+
   pub empty_from : (q : ℕ) (u : PlainTree) → subtree q (cut_tree tree c) ≡ Some u → shape_of tree.form u ≡ Some Optional → 0 < count (children_of u) → CanEmpty tree.form (cut_tree tree c) q
   empty_from q u e shape many =
       let node = node_of_shape tree.form u Optional (λ (f : Leaf ≡ Optional). cc) shape in
@@ -373,6 +414,19 @@ module _ (tree : SyntaxTree) (laws : TreeLaws) (are : AreNodesOf tree.form tree.
               subst (λ (ts : PlainTrees). Contains (roots ts) element) children can.is_element,
               subst (λ (ts : PlainTrees). fewest ≤ count ts) children (subst (λ (n : ℕ). n ≤ count can.elements) same there.2),
             ),
+      )
+
+  pub select_is : (list : ℕ) (keep : List Bool) (seen : Seen) → MayKeep (option_and_then (shape_of tree.form) (subtree list (cut_tree tree c))) keep → ((u : PlainTree) → subtree list (cut_tree tree c) ≡ Some u → HasSeen (roots (children_of u)) list seen) →
+      IsTrue (nat_eq seen.count (length keep)) ↔ CanSelect tree.form (cut_tree tree c) list keep
+  select_is list keep seen may is =
+      let it = may_there tree.form (subtree list (cut_tree tree c)) keep may in
+      let counted = (is it.0 it.1).count in
+      let long = roots_count (children_of it.0) in (
+        λ t. let same = eqb-true seen.count (length keep) t in select_from list keep it.0 it.1 it.2 (omega (arith, same, counted, long)),
+        λ can.
+            let many : count can.elements ≡ count (children_of it.0) = ap (λ (t : PlainTree). count (children_of t)) (same_Some (PlainTree.node list can.rule can.alt can.elements) it.0 (sym can.node ∙ it.1)) in
+            let each = can.each in
+            eq-eqb seen.count (length keep) (omega (arith, counted, long, many, each)),
       )
 
   pub empty_is : (q : ℕ) (seen : Seen) → option_and_then (shape_of tree.form) (subtree q (cut_tree tree c)) ≡ Some Optional → ((u : PlainTree) → subtree q (cut_tree tree c) ≡ Some u → HasSeen (roots (children_of u)) q seen) →

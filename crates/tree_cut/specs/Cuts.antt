@@ -1,5 +1,5 @@
 -- What is left of a parsed tree after deletions and replacements.
-use Rattle.std.specs.Prelude.{◌≡◌, ◌⊎◌, ℕ, ◌<◌, ◌≤◌, if◌then◌else◌, nat_eq, List, Option, Some, None, length, slice_get, slice_index_or}
+use Rattle.std.specs.Prelude.{◌≡◌, ◌⊎◌, ℕ, ◌<◌, ◌≤◌, if◌then◌else◌, nat_eq, Bool, true, List, Option, Some, None, length, slice_get, slice_index_or}
 use Rattle.std.specs.List.{Contains}
 use Rattle.std.specs.Option.{option_and_then, option_map, option_map_or, option_or}
 use Rattle.normal_form.specs.declared.normal.Sym.{Sym}
@@ -106,6 +106,16 @@ pub record CanDelete (N : NormalForm) (t : PlainTree) (list element : ℕ) : Typ
   pub node : subtree list t ≡ Some (PlainTree.node list rule alt elements)
   pub is_list : (slice_get N.rules rule ≡ Some (RuleForm.star symbol)) ⊎ ((slice_get N.rules rule ≡ Some (RuleForm.plus symbol)) × (2 ≤ count elements))
   pub is_element : Contains (roots elements) element
+
+-- The node `list` of the tree is a star or plus with as many children as there are flags, and of a plus at least one is kept.
+pub record CanSelect (N : NormalForm) (t : PlainTree) (list : ℕ) (keep : List Bool) : Type 0 where
+  pub rule : ℕ
+  pub alt : ℕ
+  pub elements : PlainTrees
+  pub symbol : Sym
+  pub node : subtree list t ≡ Some (PlainTree.node list rule alt elements)
+  pub is_list : (slice_get N.rules rule ≡ Some (RuleForm.star symbol)) ⊎ ((slice_get N.rules rule ≡ Some (RuleForm.plus symbol)) × Contains keep true)
+  pub each : length keep ≡ count elements
 
 -- The node of the tree is a present optional.
 pub record CanEmpty (N : NormalForm) (t : PlainTree) (q : ℕ) : Type 0 where

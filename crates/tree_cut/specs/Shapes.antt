@@ -1,5 +1,6 @@
 -- What nodes are by their rules.
-use Rattle.std.specs.Prelude.{ℕ, Option, Some, None, slice_get}
+use Rattle.std.specs.Prelude.{ℕ, ⊤, Bool, true, List, Option, Some, None, slice_get}
+use Rattle.std.specs.List.{Contains}
 use Rattle.std.specs.Option.{option_map}
 use Rattle.normal_form.specs.declared.normal.Sym.{Sym}
 use Rattle.normal_form.specs.declared.normal.Sym.TheVariants.{Kind, Set, Rule}
@@ -32,3 +33,12 @@ fewest_of (Some Star) = Some 1
 fewest_of (Some Plus) = Some 2
 fewest_of (Some Optional) = None
 fewest_of (Some Regular) = None
+
+-- A node of this shape can keep these of its children: a star any, a plus at least one.
+abbrev pub MayKeep : Option Shape → List Bool → Type 0
+MayKeep None keep = ⊥
+MayKeep (Some Leaf) keep = ⊥
+MayKeep (Some Star) keep = ⊤
+MayKeep (Some Plus) keep = Contains keep true
+MayKeep (Some Optional) keep = ⊥
+MayKeep (Some Regular) keep = ⊥

@@ -6,10 +6,10 @@ ghost use Rattle.std.specs.List.{Contains, range_with_len};
 ghost use Rattle.std.specs.List.Sorted.{IsStrictlyIncreasing};
 ghost use Rattle.syntax_tree.specs.declared.node.Node.{Node as NodeEntry};
 ghost use Rattle.syntax_tree.specs.Trees.{PlainTree, PlainTrees, children_of, count, leaves, symbol_of, weight};
-ghost use Rattle.syntax_tree.specs.Numbered.{roots, subtree, with_subtree};
+ghost use Rattle.syntax_tree.specs.Numbered.{number_of, roots, subtree, with_subtree};
 ghost use Rattle.syntax_tree.specs.Valid.{slot_at};
 ghost use Rattle.syntax_tree.specs.Nodes.{whole};
-ghost use Rattle.tree_cut.specs.Cuts.{CanDelete, CanEmpty, CanReplace, HasBelow, HasChildren, HasFitting, IsCutOf, IsOccupant, ReplacementsRise, cut_tree, without};
+ghost use Rattle.tree_cut.specs.Cuts.{CanDelete, CanEmpty, CanReplace, CanSelect, HasBelow, HasChildren, HasFitting, IsCutOf, IsOccupant, ReplacementsRise, cut_tree, without};
 ghost use Rattle.tree_cut.specs.Children.{HasSeen};
 ghost use Rattle.tree_cut.specs.Shapes.{shape_of};
 ghost use Rattle.tree_cut.specs.Steps.{HasDeleted, HasReplaced};
@@ -19,7 +19,7 @@ use crate::children::{Seen, with_occupant};
 use crate::laws::tree_laws;
 use crate::mark::{Mark, kept_marks};
 use crate::occupant::{occupant, push_occupant};
-use crate::shape::{Shape, fewest_elements, is_optional, is_regular, symbol_shape};
+use crate::shape::{Shape, fewest_elements, is_optional, is_regular, may_keep, symbol_shape};
 use crate::tokens::{count_within, first_within, keep_within, numbers_below, remove_within};
 use crate::way::leads_to;
 use compat_table::Compat;
@@ -93,6 +93,20 @@ impl Cut {
             return false;
         }
         leads_to(tree, self.marks.as_slice(), 0, node)
+    }
+
+    /// The root of what is left: the node that is at the position of the parsed tree's root. It takes
+    /// time linear in the number of replacements, one after another, at that position.
+    pub fn root(&self, tree: &Tree) -> u32
+        requires { IsCutOf tree.now self.now }
+        ensures { result ≡ number_of (cut_tree tree.now self.now) }
+    {
+        tree_laws();
+        let _nodes = tree.nodes();
+        match occupant(self.marks.as_slice(), 0) {
+            Some(root) => root,
+            None => unreachable!(),
+        }
     }
 
     /// What a node that is left is by its rule. It takes constant time.
@@ -247,6 +261,21 @@ impl Cut {
             Some(content) => self.delete(tree, content),
             None => unreachable!(),
         }
+    }
+
+    /// Whether `keep_elements` can be called: whether the node is a star or plus that is left, with as
+    /// many children as there are flags, of which a plus keeps at least one. It takes no memory, and
+    /// the time of `is_left` and `children`.
+    pub fn can_keep(&self, tree: &Tree, list: u32, keep: &[bool]) -> bool
+        requires { IsCutOf tree.now self.now }
+        ensures { IsTrue result ↔ CanSelect tree.now.form (cut_tree tree.now self.now) list keep.now }
+    {
+        tree_laws();
+        let _nodes = tree.nodes();
+        if !may_keep(self.shape_if_left(tree, list), keep) {
+            return false;
+        }
+        self.count_children(tree, list, list).count as usize == keep.len()
     }
 
     /// Replaces a regular node by one below it that fits its slot. It takes no memory, and time

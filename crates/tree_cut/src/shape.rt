@@ -3,7 +3,7 @@
 ghost use Rattle.std.specs.Prelude.{◌≡◌, ◌↔◌, Some, IsSome, IsTrue};
 ghost use Rattle.normal_form.specs.View.{rule_form};
 ghost use Rattle.tree_cut.specs.declared.shape.Shape.TheVariants.{Optional, Regular};
-ghost use Rattle.tree_cut.specs.Shapes.{fewest_of, shape_of_form, shape_of_symbol};
+ghost use Rattle.tree_cut.specs.Shapes.{MayKeep, fewest_of, shape_of_form, shape_of_symbol};
 
 use normal_form::{Normal, NormalRule, Sym};
 
@@ -72,5 +72,16 @@ pub(crate) fn fewest_elements(shape: Option<Shape>) -> Option<u32>
         Some(Shape::Star) => Some(1),
         Some(Shape::Plus) => Some(2),
         _ => None,
+    }
+}
+
+/// Whether such a node can keep these of its children.
+pub(crate) fn may_keep(shape: Option<Shape>, keep: &[bool]) -> bool
+    ensures { IsTrue result ↔ MayKeep shape keep.now }
+{
+    match shape {
+        Some(Shape::Star) => true,
+        Some(Shape::Plus) => keep.contains(&true),
+        _ => false,
     }
 }
