@@ -13,13 +13,14 @@ use Rattle.syntax_tree.specs.Valid.{IsValid}
 use Rattle.syntax_tree.specs.Edits.{IsLocalDeletion, LeavesOut, of_opt, of_plus, of_star}
 use Rattle.tree_cut.specs.Cuts.{CanDelete, CanEmpty, CanReplace, CutForm, HasChildren, IsCutOf, IsOccupant, cut_tree, left_at, left_of_each, without}
 use Rattle.tree_cut.specs.TreeLaws.{TreeLaws}
+use Rattle.tree_cut.specs.Children.{IsRest}
 use Rattle.tree_cut.specs.Steps.{HasDeleted, HasReplaced}
 use Rattle.tree_cut.proofs.Rising.{subtree_below, subtree_own, subtree_within, when_equal}
 use Rattle.tree_cut.proofs.Deletions.{child_found, child_within, left_out_count, some_first, without_leaves_out}
 use Rattle.tree_cut.proofs.CutEdits.{child_gone, deeper_found, node_was, replaced_cut, tree_rises, whole_numbers, whole_rises}
 use Rattle.tree_cut.proofs.LeftTrees.{left_below}
 use Rattle.tree_cut.proofs.CutFacts.{NodeFacts, node_facts, root_number}
-use Rattle.tree_cut.proofs.Positions.{IsRest, children_begin, children_next, left_node, occupant_is, optional_children, position_within}
+use Rattle.tree_cut.proofs.Positions.{children_begin, children_next, left_node, occupant_is, optional_children, position_within}
 
 -- what is below a tree has no more leaves
 mutual
@@ -50,7 +51,7 @@ module _ (tree : SyntaxTree) (laws : TreeLaws) (are : AreNodesOf tree.form tree.
       ∙ ap (option_map number_of) of.root
 
   -- the same node by other names
-  renamed : (p r a r' a' : ℕ) (us us' : PlainTrees) (f : PlainTrees → PlainTrees) (t u : PlainTree) → Some (PlainTree.node p r a us) ≡ Some (PlainTree.node p r' a' us') → u ≡ with_subtree p (PlainTree.node p r a (f us)) t → u ≡ with_subtree p (PlainTree.node p r' a' (f us')) t
+  pub renamed : (p r a r' a' : ℕ) (us us' : PlainTrees) (f : PlainTrees → PlainTrees) (t u : PlainTree) → Some (PlainTree.node p r a us) ≡ Some (PlainTree.node p r' a' us') → u ≡ with_subtree p (PlainTree.node p r a (f us)) t → u ≡ with_subtree p (PlainTree.node p r' a' (f us')) t
   renamed p r a r' a' us us' f t u e is =
       let rules : r ≡ r' = cc in
       let alts : a ≡ a' = cc in

@@ -136,7 +136,7 @@ pub some_is : {A : Type 0} (o : Option A) (x : A) → o ≡ Some x → IsSome o
 some_is o x e = ap is_some e
 
 -- two parts of a list that has a third between them
-apart_again : (f : ℕ → Bool) (front middle back front' back' all : List ℕ) → middle ≡ filter f all → all ≡ front ++ (middle ++ back) → all ≡ front' ++ (middle ++ back') → front ++ back ≡ front' ++ back'
+pub apart_again : (f : ℕ → Bool) (front middle back front' back' all : List ℕ) → middle ≡ filter f all → all ≡ front ++ (middle ++ back) → all ≡ front' ++ (middle ++ back') → front ++ back ≡ front' ++ back'
 apart_again f front middle back front' back' all is e e' =
     sym (cut_out f front middle back (is ∙ ap (filter f) e))
     ∙ ap (filter (λ x. not (f x))) (sym e ∙ e')

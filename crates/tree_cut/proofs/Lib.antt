@@ -12,3 +12,5 @@ pub mod Ways
 pub mod Seen
 pub mod Questions
 pub mod Selections
+pub mod Joined
+pub mod Keeping

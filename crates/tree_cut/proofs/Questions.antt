@@ -24,7 +24,7 @@ use Rattle.tree_cut.specs.Cuts.{CanDelete, CanEmpty, CanReplace, CanSelect, CutF
 use Rattle.tree_cut.specs.Shapes.{MayKeep, fewest_of, shape_of, shape_of_form}
 use Rattle.tree_cut.specs.Tokens.{within}
 use Rattle.tree_cut.specs.TreeLaws.{TreeLaws}
-use Rattle.tree_cut.proofs.Rising.{Rises, cases_option, cases_or, found_among_within, found_within, subtree_below, subtree_own, subtree_within, when_not}
+use Rattle.tree_cut.proofs.Rising.{Rises, cases_or, found_among_within, found_within, subtree_below, subtree_own, subtree_within, when_not}
 use Rattle.tree_cut.proofs.Deletions.{leaves_count}
 use Rattle.tree_cut.proofs.LeftTrees.{leaf_own, left_below, node_own}
 use Rattle.tree_cut.proofs.CutEdits.{deeper_found, in_some_found, node_was, some_is, tree_numbers, tree_rises, whole_rises}

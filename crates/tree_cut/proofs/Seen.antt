@@ -1,6 +1,6 @@
 -- Children that are counted one after another.
-use Rattle.std.proofs.Common.{◌≡◌, inl, inr, ℕ, ◌+◌, List, [], ◌∷◌, ◌++◌, sym, ap, ◌∙◌, subst, arith, eq-eqb, length-append}
-use Rattle.std.specs.Prelude.{Bool, true, false, nat_eq}
+use Rattle.std.proofs.Common.{◌≡◌, inl, inr, ℕ, ◌+◌, List, [], ◌∷◌, ◌++◌, subst, arith, eq-eqb, length-append}
+use Rattle.std.specs.Prelude.{false, nat_eq}
 use Rattle.std.specs.List.{Contains}
 use Rattle.std.proofs.lemmas.Bool.{eqb-true, both_ways}
 use Rattle.std.proofs.lemmas.List.Elements.{Contains-push, Contains-push_cases}

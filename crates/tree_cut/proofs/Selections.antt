@@ -1,8 +1,8 @@
 -- Selections of trees, and their leaves.
-use Rattle.std.proofs.Common.{◌≡◌, ℕ, zero, suc, ◌+◌, ◌<◌, ◌≤◌, List, [], ◌∷◌, Some, length, slice_get, refl, sym, ap, subst, arith}
+use Rattle.std.proofs.Common.{◌≡◌, ℕ, zero, suc, ◌<◌, ◌≤◌, List, [], ◌∷◌, Some, slice_get, refl, sym, ap, subst, arith}
 use Rattle.std.specs.Prelude.{◌≢◌, Bool, true, false, replicate, slice_set}
 use Rattle.std.proofs.lemmas.Option.{slice_get_within}
-use Rattle.syntax_tree.specs.Trees.{PlainTree, PlainTrees, count, weight, weight_all}
+use Rattle.syntax_tree.specs.Trees.{PlainTrees, count, weight_all}
 use Rattle.syntax_tree.specs.Edits.{LeavesOut, first, later}
 use Rattle.syntax_tree.specs.Left.{selected_trees}
 use Rattle.tree_cut.specs.SelectionLaws.{EachHasLeaf}

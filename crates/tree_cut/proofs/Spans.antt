@@ -58,3 +58,13 @@ module _ (f : ℕ → Bool) where
       ∙ ap (λ (l : List ℕ). l ++ (others middle ++ others back)) (none_passes front no_front)
       ∙ ap (λ (l : List ℕ). front ++ (l ++ others back)) no_middle
       ∙ ap (λ (l : List ℕ). front ++ l) (none_passes back no_back)
+
+  -- in the part alone there are as many
+  pub as_many : (front middle back : List ℕ) → middle ≡ filter f (front ++ (middle ++ back)) → length (filter f (middle ++ back)) ≡ length middle
+  as_many front middle back is =
+      let passes : filter f middle ≡ middle = ap (filter f) is ∙ again (front ++ (middle ++ back)) ∙ sym is in
+      let total : length middle ≡ length (filter f front) + length (filter f (middle ++ back)) =
+      ap length (is ∙ filter_both f front (middle ++ back)) ∙ length-append (filter f front) (filter f (middle ++ back)) in
+      let inner : length (filter f (middle ++ back)) ≡ length (filter f middle) + length (filter f back) = ap length (filter_both f middle back) ∙ length-append (filter f middle) (filter f back) in
+      let same : length (filter f middle) ≡ length middle = ap length passes in
+      omega (arith, total, inner, same)

@@ -1,7 +1,7 @@
 -- A list of tokens, split at bounds.
 use Rattle.std.proofs.Common.{◌≡◌, inl, inr, ℕ, zero, suc, ◌+◌, ◌-◌, ◌<◌, ◌≤◌, List, [], ◌∷◌, ◌++◌, Some, length, take, drop, slice_get, slice_index, refl, sym, ap, ◌∙◌, subst, arith, length-take, length-drop}
 use Rattle.std.proofs.lemmas.List.{drop-drop}
-use Rattle.std.proofs.lemmas.List.Edits.{drop-paste, take-paste}
+use Rattle.std.proofs.lemmas.List.Edits.{drop-paste, length-paste, take-paste}
 use lib.Seq.{paste}
 use Rattle.std.specs.Prelude.{Bool, true, false, cond, nat_le, nat_lt}
 use Rattle.std.specs.List.Sorted.{IsNonDecreasing, IsStrictlyIncreasing}
@@ -185,3 +185,25 @@ first_is (x ∷ xs) first end zero up at some =
           let nothing = ap length (none_within first end (x ∷ xs) above) in
           omega (arith, some, nothing))
     ]
+
+pub rises_after : (xs ys : List ℕ) → IsStrictlyIncreasing (xs ++ ys) → IsStrictlyIncreasing ys
+rises_after [] ys up = up
+rises_after (x ∷ xs) ys up = rises_after xs ys (rest_rises x (xs ++ ys) up)
+
+-- the next elements moved to the front
+pub moved_front : (xs ys : List ℕ) (from to n m : ℕ) → m ≡ n → from ≤ to → to + n ≤ length xs → ys ≡ paste xs from (drop to xs) m →
+    (take (from + n) ys ≡ take from xs ++ take n (drop to xs)) × (drop (to + n) ys ≡ drop (to + n) xs) × (length ys ≡ length xs)
+moved_front xs ys from to n m e fits within is =
+    let rest = length-drop to xs in
+    let at : ys ≡ paste xs from (drop to xs) n = is ∙ ap (paste xs from (drop to xs)) e in
+    let k : ℕ = to - from in
+    let all : (from + n) + k ≡ to + n = omega (arith, fits) in (
+      ap (take (from + n)) at ∙ take-paste xs from (drop to xs) n (omega (arith, fits, within)) (omega (arith, rest, within)),
+      ap (λ (i : ℕ). drop i ys) (sym all)
+          ∙ sym (drop-drop k (from + n) ys)
+          ∙ ap (λ (l : List ℕ). drop k (drop (from + n) l)) at
+          ∙ ap (drop k) (drop-paste xs from (drop to xs) n (omega (arith, fits, within)) (omega (arith, rest, within)))
+          ∙ drop-drop k (from + n) xs
+          ∙ ap (λ (i : ℕ). drop i xs) all,
+      ap length at ∙ length-paste xs from (drop to xs) n (omega (arith, fits, within)) (omega (arith, rest, within)),
+    )

@@ -12,4 +12,5 @@ pub mod Steps
 pub mod Shapes
 pub mod Ways
 pub mod Children
+pub mod Keeping
 pub mod SelectionLaws

@@ -1,6 +1,6 @@
 -- The way from a node of the parsed tree down to one that is left.
-use Rattle.std.specs.Prelude.{◌≡◌, ℕ, ◌+◌, ◌<◌, List, Option, Some, None, IsSome}
-use Rattle.syntax_tree.specs.Trees.{PlainTree, PlainTrees, renumbered_all, size}
+use Rattle.std.specs.Prelude.{◌≡◌, ℕ, ◌<◌, List, Option, Some, None, IsSome}
+use Rattle.syntax_tree.specs.Trees.{PlainTree, PlainTrees, renumbered_all}
 use Rattle.syntax_tree.specs.Numbered.{subtree, subtree_among}
 use Rattle.syntax_tree.specs.Nodes.{SyntaxTree, whole}
 use Rattle.tree_cut.specs.declared.mark.Mark.{Mark}

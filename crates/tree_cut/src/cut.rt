@@ -1,11 +1,12 @@
 //! Cuts of trees.
 
-ghost use Rattle.std.specs.Prelude.{◌≡◌, ◌↔◌, ℕ, ◌+◌, ◌<◌, ◌≤◌, ◌++◌, Some, IfOk, IsSome, IsTrue, OnOk, length, option_map, option_to_list, replicate, slice_get};
+ghost use Rattle.std.specs.Prelude.{◌≡◌, ◌↔◌, ℕ, ◌+◌, ◌^◌, ◌<◌, ◌≤◌, ◌++◌, Some, IfOk, IsSome, IsTrue, OnOk, drop, length, option_map, option_to_list, replicate, slice_get, slice_set, take};
 ghost use Rattle.std.specs.Option.{option_and_then};
 ghost use Rattle.std.specs.List.{Contains, range_with_len};
 ghost use Rattle.std.specs.List.Sorted.{IsStrictlyIncreasing};
 ghost use Rattle.syntax_tree.specs.declared.node.Node.{Node as NodeEntry};
 ghost use Rattle.syntax_tree.specs.Trees.{PlainTree, PlainTrees, children_of, count, leaves, symbol_of, weight};
+ghost use Rattle.syntax_tree.specs.Left.{selected_trees};
 ghost use Rattle.syntax_tree.specs.Numbered.{number_of, roots, subtree, with_subtree};
 ghost use Rattle.syntax_tree.specs.Valid.{slot_at};
 ghost use Rattle.syntax_tree.specs.Nodes.{whole};
@@ -13,14 +14,20 @@ ghost use Rattle.tree_cut.specs.Cuts.{CanDelete, CanEmpty, CanReplace, CanSelect
 ghost use Rattle.tree_cut.specs.Children.{HasSeen};
 ghost use Rattle.tree_cut.specs.Shapes.{shape_of};
 ghost use Rattle.tree_cut.specs.Steps.{HasDeleted, HasReplaced};
-ghost use Rattle.tree_cut.specs.Tokens.{within};
+ghost use Rattle.tree_cut.specs.Keeping.{CanPass, HasPassed};
+ghost use Rattle.tree_cut.specs.Tokens.{IsSplitAt, within};
+ghost use Rattle.tree_cut.specs.declared.mark.Mark.TheVariants.{Deleted};
 
 use crate::children::{Seen, with_occupant};
 use crate::laws::tree_laws;
 use crate::mark::{Mark, kept_marks};
 use crate::occupant::{occupant, push_occupant};
+use crate::progress::Progress;
 use crate::shape::{Shape, fewest_elements, is_optional, is_regular, may_keep, symbol_shape};
-use crate::tokens::{count_within, first_within, keep_within, numbers_below, remove_within};
+use crate::tokens::{
+    Gap, count_before, count_within, first_within, keep_next, keep_within, numbers_below,
+    remove_between, remove_within, skip_next,
+};
 use crate::way::leads_to;
 use compat_table::Compat;
 use faults::Memory;
@@ -278,6 +285,27 @@ impl Cut {
         self.count_children(tree, list, list).count as usize == keep.len()
     }
 
+    /// Keeps those elements of a star or plus that are marked by true, and deletes the others. It
+    /// takes no memory. Its time is linear in the number of children that the list has in the parsed
+    /// tree, of the replacements at their positions, and of the tokens that are left, but for two
+    /// searches in these for each element.
+    pub fn keep_elements(&mut self, tree: &Tree, list: u32, keep: &[bool])
+        requires of { IsCutOf tree.now self.old }
+        requires can { CanSelect tree.now.form (cut_tree tree.now self.old) list keep.now }
+        ensures tree { HasChildren list (selected_trees keep.now) (cut_tree tree.now self.old) (cut_tree tree.now self.new) }
+        ensures of { IsCutOf tree.now self.new }
+    {
+        tree_laws();
+        let nodes = tree.nodes();
+        let mut remaining = nodes[list as usize].children;
+        let mut progress = self.before_children(tree, list);
+        while remaining > 0 {
+            progress = self.pass(tree, keep, progress);
+            remaining -= 1;
+        }
+        self.close(progress.gap);
+    }
+
     /// Replaces a regular node by one below it that fits its slot. It takes no memory, and time
     /// linear in the number of tokens that are left from the first one of the node on.
     pub fn replace(&mut self, tree: &Tree, compat: &Compat, node: u32, by: u32)
@@ -385,6 +413,128 @@ impl Cut {
         count_within(self.kept.as_slice(), &entry)
     }
 
+    /// No child of the node is gone through.
+    fn before_children(&self, tree: &Tree, node: u32) -> Progress
+        requires node { node + 1 < 2 ^ 32 }
+        requires entry { node < length tree.now.nodes }
+        requires rising { IsStrictlyIncreasing self.now.kept }
+        ensures position { result.position ≡ node + 1 }
+        ensures elements { result.elements ≡ 0 }
+        ensures gap { result.gap.to ≡ result.gap.from }
+        ensures split { (x : NodeEntry) → slice_get tree.now.nodes node ≡ Some x → IsSplitAt self.now.kept x.first result.gap.from }
+    {
+        let entry = tree.nodes()[node as usize];
+        let from = count_before(self.kept.as_slice(), entry.first);
+        Progress {
+            position: node + 1,
+            elements: 0,
+            gap: Gap { from, to: from },
+        }
+    }
+
+    /// Goes through the next child of a list: an element that is at its position is kept or deleted.
+    fn pass(&mut self, tree: &Tree, keep: &[bool], progress: Progress) -> Progress
+        requires { CanPass tree.now keep.now self.old progress }
+        ensures { HasPassed tree.now keep.now self.old progress self.new result }
+    {
+        tree_laws();
+        let _nodes = tree.nodes();
+        let position = tree.after(progress.position);
+        let node = match self.occupant_at(progress.position) {
+            Some(node) => node,
+            None => {
+                return Progress {
+                    position,
+                    elements: progress.elements,
+                    gap: progress.gap,
+                };
+            }
+        };
+        let count = self.count_next(tree, node, progress.gap);
+        let elements = progress.elements + 1;
+        if keep[progress.elements] {
+            let gap = self.keep_tokens(progress.gap, count);
+            return Progress {
+                position,
+                elements,
+                gap,
+            };
+        }
+        let gap = self.skip_tokens(progress.gap, count);
+        self.mark_deleted(node);
+        Progress {
+            position,
+            elements,
+            gap,
+        }
+    }
+
+    /// The node that is at a position.
+    fn occupant_at(&self, position: u32) -> Option<u32>
+        requires position { position < length self.now.marks }
+        requires rise { ReplacementsRise self.now.marks }
+        ensures { IsOccupant self.now.marks position result }
+    {
+        occupant(self.marks.as_slice(), position)
+    }
+
+    /// How many of the tokens after the gap are in the span of the node.
+    fn count_next(&self, tree: &Tree, node: u32, gap: Gap) -> usize
+        requires node { node < length tree.now.nodes }
+        requires gap { gap.to ≤ length self.now.kept }
+        requires rising { IsStrictlyIncreasing (drop gap.to self.now.kept) }
+        requires span { (x : NodeEntry) → slice_get tree.now.nodes node ≡ Some x → x.first ≤ x.end }
+        ensures { (x : NodeEntry) → slice_get tree.now.nodes node ≡ Some x → result ≡ length (within x.first x.end (drop gap.to self.now.kept)) }
+    {
+        let entry = tree.nodes()[node as usize];
+        count_within(&self.kept[gap.to..], &entry)
+    }
+
+    /// So many of the tokens after the gap stay.
+    fn keep_tokens(&mut self, gap: Gap, count: usize) -> Gap
+        requires from { gap.from ≤ gap.to }
+        requires to { gap.to + count ≤ length self.old.kept }
+        ensures marks { self.new.marks ≡ self.old.marks }
+        ensures positions { self.new.positions ≡ self.old.positions }
+        ensures from { result.from ≡ gap.from + count }
+        ensures to { result.to ≡ gap.to + count }
+        ensures stay { take (gap.from + count) self.new.kept ≡ take gap.from self.old.kept ++ take count (drop gap.to self.old.kept) }
+        ensures next { drop (gap.to + count) self.new.kept ≡ drop (gap.to + count) self.old.kept }
+        ensures len { length self.new.kept ≡ length self.old.kept }
+    {
+        keep_next(&mut self.kept, gap, count)
+    }
+
+    /// So many of the tokens after the gap are to be removed too.
+    fn skip_tokens(&self, gap: Gap, count: usize) -> Gap
+        requires { gap.to + count ≤ length self.now.kept }
+        ensures from { result.from ≡ gap.from }
+        ensures to { result.to ≡ gap.to + count }
+    {
+        skip_next(self.kept.as_slice(), gap, count)
+    }
+
+    /// Marks the node as deleted; its tokens are still there.
+    fn mark_deleted(&mut self, node: u32)
+        requires { node < length self.old.marks }
+        ensures marks { self.new.marks ≡ slice_set self.old.marks node Deleted }
+        ensures positions { self.new.positions ≡ self.old.positions }
+        ensures kept { self.new.kept ≡ self.old.kept }
+    {
+        self.marks[node as usize] = Mark::Deleted;
+    }
+
+    /// Removes the tokens in the gap.
+    fn close(&mut self, gap: Gap)
+        requires from { gap.from ≤ gap.to }
+        requires to { gap.to ≤ length self.old.kept }
+        ensures marks { self.new.marks ≡ self.old.marks }
+        ensures positions { self.new.positions ≡ self.old.positions }
+        ensures kept { self.new.kept ≡ take gap.from self.old.kept ++ drop gap.to self.old.kept }
+    {
+        remove_between(&mut self.kept, gap.from, gap.to);
+    }
+
     /// Lets the node `by`, which is below the other one, have its position.
     fn exchange(&mut self, tree: &Tree, node: u32, by: u32)
         requires mark { node < length self.old.marks }
@@ -415,7 +565,7 @@ impl Cut {
         ensures { HasDeleted tree.now self.old self.new node }
     {
         let gone = tree.nodes()[node as usize];
-        self.marks[node as usize] = Mark::Deleted;
+        self.mark_deleted(node);
         remove_within(&mut self.kept, &gone);
     }
 }

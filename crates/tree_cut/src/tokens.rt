@@ -1,6 +1,6 @@
 //! Lists of tokens, by their numbers, which rise.
 
-ghost use Rattle.std.specs.Prelude.{◌≡◌, ◌≤◌, ◌<◌, ◌++◌, Some, IfOk, length, slice_get, take, drop};
+ghost use Rattle.std.specs.Prelude.{◌≡◌, ◌+◌, ◌≤◌, ◌<◌, ◌++◌, Some, IfOk, length, slice_get, take, drop};
 ghost use Rattle.std.specs.List.{range_with_len};
 ghost use Rattle.std.specs.List.Sorted.{IsStrictlyIncreasing};
 ghost use Rattle.tree_cut.specs.Tokens.{IsSplitAt, before, from_on, within};
@@ -36,8 +36,49 @@ pub(crate) fn first_within(tokens: &[u32], node: &Node) -> u32
     tokens[count_before(tokens, node.first)]
 }
 
+/// A gap in a list of tokens that is gone through: those before the index `from` stay, those from the
+/// index `to` on are still to be gone through, and those between are to be removed.
+#[derive(Clone, Copy)]
+pub(crate) struct Gap {
+    pub(crate) from: usize,
+    pub(crate) to: usize,
+}
+
+/// So many of the tokens after the gap stay: they are moved to where it begins. It takes time linear
+/// in their number.
+pub(crate) fn keep_next(tokens: &mut Vec<u32>, gap: Gap, count: usize) -> Gap
+    requires from { gap.from ≤ gap.to }
+    requires to { gap.to + count ≤ length tokens.old.items }
+    ensures from { result.from ≡ gap.from + count }
+    ensures to { result.to ≡ gap.to + count }
+    ensures stay { take (gap.from + count) tokens.new.items ≡ take gap.from tokens.old.items ++ take count (drop gap.to tokens.old.items) }
+    ensures next { drop (gap.to + count) tokens.new.items ≡ drop (gap.to + count) tokens.old.items }
+    ensures len { length tokens.new.items ≡ length tokens.old.items }
+{
+    let end = gap.to + count;
+    tokens.copy_within(gap.to..end, gap.from);
+    Gap {
+        from: gap.from + count,
+        to: end,
+    }
+}
+
+/// So many of the tokens after the gap are to be removed too.
+pub(crate) fn skip_next(tokens: &[u32], gap: Gap, count: usize) -> Gap
+    requires { gap.to + count ≤ length tokens.now }
+    ensures from { result.from ≡ gap.from }
+    ensures to { result.to ≡ gap.to + count }
+{
+    // The sum is at most this.
+    let _len = tokens.len();
+    Gap {
+        from: gap.from,
+        to: gap.to + count,
+    }
+}
+
 /// Removes the tokens from the index `from` on and before the index `to`.
-fn remove_between(tokens: &mut Vec<u32>, from: usize, to: usize)
+pub(crate) fn remove_between(tokens: &mut Vec<u32>, from: usize, to: usize)
     requires from { from ≤ to }
     requires to { to ≤ length tokens.old.items }
     ensures { tokens.new.items ≡ take from tokens.old.items ++ drop to tokens.old.items }

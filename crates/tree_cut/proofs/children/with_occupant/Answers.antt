@@ -1,4 +1,4 @@
-use Rattle.std.proofs.Common.{ℕ, ◌+◌, List, Option, ◌++◌, sym, subst}
+use Rattle.std.proofs.Common.{ℕ, ◌+◌, Option, ◌++◌, sym, subst}
 use Rattle.std.specs.Prelude.{option_to_list, nat_eq}
 use Rattle.tree_cut.specs.Children.{HasSeen}
 use Rattle.tree_cut.proofs.Seen.{one_more}

@@ -1,13 +1,9 @@
-use Rattle.std.proofs.Common.{◌≡◌, ℕ, ◌+◌, ◌-◌, ◌<◌, Option, None, length, sym, ap, ◌∙◌, subst, arith}
-use Rattle.std.specs.Prelude.{IsSome}
+use Rattle.std.proofs.Common.{◌+◌, arith}
 use Rattle.std.specs.Option.{option_and_then}
-use Rattle.std.proofs.lemmas.Bool.{false≢true}
-use Rattle.syntax_tree.specs.Trees.{PlainTree, size}
+use Rattle.syntax_tree.specs.Trees.{size}
 use Rattle.syntax_tree.specs.Numbered.{subtree}
 use Rattle.syntax_tree.specs.Nodes.{whole}
-use Rattle.tree_cut.specs.declared.way.Way.{Way}
 use Rattle.tree_cut.specs.Cuts.{left_at}
-use Rattle.tree_cut.specs.Ways.{LeadsOn}
 use Rattle.tree_cut.proofs.Ways.{ahead_begins, ahead_within, node_there, none_sought, not_begun, outside_of}
 use Rattle.tree_cut.proofs.way.leads_to.Goals as goal
 

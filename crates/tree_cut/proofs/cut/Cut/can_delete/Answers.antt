@@ -1,4 +1,4 @@
-use Rattle.std.proofs.Common.{◌≡◌, Some, sym, ap, ◌∙◌, subst}
+use Rattle.std.proofs.Common.{sym, ap, ◌∙◌}
 use Rattle.tree_cut.specs.Shapes.{fewest_of}
 use Rattle.tree_cut.proofs.Questions.{delete_is}
 use Rattle.tree_cut.proofs.cut.Cut.can_delete.Goals as goal

@@ -1,4 +1,4 @@
-use Rattle.std.proofs.Common.{◌≡◌, Some, sym, ap, ◌∙◌, subst}
+use Rattle.std.proofs.Common.{sym, ◌∙◌}
 use Rattle.tree_cut.proofs.Questions.{empty_is}
 use Rattle.tree_cut.proofs.cut.Cut.can_empty.Goals as goal
 

@@ -1,11 +1,9 @@
-use Rattle.std.proofs.Common.{◌≡◌, Option, Some, sym, ap, ◌∙◌, subst}
-use Rattle.std.specs.Prelude.{Bool, IsTrue}
-use Rattle.std.specs.Option.{option_and_then}
+use Rattle.std.proofs.Common.{Option, sym, subst}
 use Rattle.std.proofs.lemmas.Bool.{both_ways, false≢true}
 use Rattle.syntax_tree.specs.Numbered.{subtree}
 use Rattle.tree_cut.specs.declared.shape.Shape.{Shape}
 use Rattle.tree_cut.specs.Cuts.{cut_tree}
-use Rattle.tree_cut.specs.Shapes.{MayKeep, shape_of}
+use Rattle.tree_cut.specs.Shapes.{MayKeep}
 use Rattle.tree_cut.proofs.CutEdits.{some_is}
 use Rattle.tree_cut.proofs.Questions.{may_there, select_is, select_shape}
 use Rattle.tree_cut.proofs.cut.Cut.can_keep.Goals as goal

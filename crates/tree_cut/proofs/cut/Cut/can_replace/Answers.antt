@@ -1,4 +1,4 @@
-use Rattle.std.proofs.Common.{◌≡◌, Some, sym, ap, ◌∙◌, subst}
+use Rattle.std.proofs.Common.{sym, ◌∙◌}
 use Rattle.tree_cut.proofs.Questions.{replace_is, through}
 use Rattle.tree_cut.proofs.cut.Cut.can_replace.Goals as goal
 

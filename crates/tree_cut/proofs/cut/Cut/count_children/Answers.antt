@@ -1,12 +1,8 @@
-use Rattle.std.proofs.Common.{◌≡◌, ℕ, ◌+◌, ◌-◌, ◌<◌, List, [], ◌++◌, Option, length, sym, ap, ◌∙◌, subst, arith, refl}
-use Rattle.std.specs.Prelude.{option_to_list}
+use Rattle.std.proofs.Common.{ℕ, ◌-◌, ◌<◌, List, [], length, sym, ap, ◌∙◌, subst, arith, refl}
 use Rattle.syntax_tree.specs.declared.node.Node.{Node}
-use Rattle.syntax_tree.specs.Trees.{PlainTree, children_of, size}
-use Rattle.syntax_tree.specs.Numbered.{roots}
 use Rattle.tree_cut.specs.declared.mark.Mark.{Mark}
-use Rattle.tree_cut.specs.Children.{HasSeen}
-use Rattle.tree_cut.specs.Cuts.{CutForm, IsOccupant, ReplacementsRise, cut_tree}
-use Rattle.tree_cut.proofs.CutFacts.{facts_of, some_size}
+use Rattle.tree_cut.specs.Cuts.{CutForm, IsOccupant, ReplacementsRise}
+use Rattle.tree_cut.proofs.CutFacts.{facts_of}
 use Rattle.tree_cut.proofs.Positions.{replacements_rise, walk_begin_at, walk_within}
 use Rattle.tree_cut.proofs.Questions.{IsSeenSoFar, nothing_seen, seen_all, seen_next}
 use Rattle.tree_cut.proofs.cut.Cut.count_children.Goals as goal

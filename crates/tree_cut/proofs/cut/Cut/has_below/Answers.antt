@@ -1,11 +1,11 @@
-use Rattle.std.proofs.Common.{◌≡◌, ◌<◌, ℕ, Option, List, length, sym, ap, ◌∙◌, subst}
+use Rattle.std.proofs.Common.{List, length, sym, ap, ◌∙◌, subst}
 use Rattle.std.specs.Prelude.{◌↔◌, IsSome, IsTrue}
 use Rattle.std.specs.Option.{option_and_then}
 use Rattle.std.proofs.lemmas.Bool.{false≢true}
 use Rattle.syntax_tree.specs.Numbered.{subtree}
 use Rattle.syntax_tree.specs.Nodes.{whole}
 use Rattle.tree_cut.specs.declared.mark.Mark.{Mark}
-use Rattle.tree_cut.specs.Cuts.{CutForm, HasBelow, left_at}
+use Rattle.tree_cut.specs.Cuts.{CutForm, left_at}
 use Rattle.tree_cut.proofs.CutFacts.{facts_of, nodes_count}
 use Rattle.tree_cut.proofs.Questions.{below_is, not_below_itself, through}
 use Rattle.tree_cut.proofs.cut.Cut.has_below.Goals as goal

@@ -1,4 +1,4 @@
-use Rattle.tree_cut.proofs.Questions.{element_not_seen, element_seen}
+use Rattle.tree_cut.proofs.Questions.{element_seen}
 use Rattle.tree_cut.proofs.cut.Cut.has_element.Goals as goal
 
 pub returns-then-seen : goal.returns-then-seen

@@ -1,11 +1,3 @@
-use Rattle.std.proofs.Common.{◌≡◌, sym, ap, ◌∙◌, subst}
-use Rattle.std.specs.Prelude.{IsTrue}
-use Rattle.std.specs.Option.{option_map}
-use Rattle.std.proofs.lemmas.Option.{same_Some}
-use Rattle.normal_form.specs.declared.normal.Sym.{Sym}
-use Rattle.normal_form.specs.Form.{NormalForm}
-use Rattle.compat_table.specs.Fits.{Fits}
-use Rattle.syntax_tree.specs.Trees.{symbol_of}
 use Rattle.tree_cut.proofs.Questions.{fitting_is}
 use Rattle.tree_cut.proofs.cut.Cut.has_fitting.Goals as goal
 
