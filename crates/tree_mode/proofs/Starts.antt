@@ -54,7 +54,7 @@ by_style than_start than_all part input of tree Style.AsWas kept =
 by_style than_start than_all part input of tree Style.Squeezed kept =
     let all = than_all (skips_of input) input.start input.tokens (leaves tree) (are_kept input of (in_style Style.Squeezed tree) kept part) in
     let same = ap (λ (l : List ℕ). length (text_in input l Style.Squeezed)) (leaves_whole input of) in
-    let short : length (text_in input (leaves input.whole) Style.Squeezed) < length input.start = kept.short in
+    let short : length (text_in input (leaves input.whole) Style.Squeezed) < length input.start = kept.short.1 in
     omega (arith, all, same, short)
 
 pub texts_are_no_longer : NoLongerThanStart → NoLongerThanAll → LeftIsPart → TextsAreNoLonger
@@ -67,5 +67,5 @@ opening_is_kept same input of = by_test (input.squeezes && nat_lt (length (text_
         AllTried (IsKept input) (cond b (Try (in_style Style.Squeezed input.whole) Done Done) Done)
     by_test true e =
         let short = and_true input.squeezes (nat_lt (length (text_in input (leaves input.whole) Style.Squeezed)) (length input.start)) e in
-        (whole_kept input of same Style.Squeezed (ltb-true (length (text_in input (leaves input.whole) Style.Squeezed)) (length input.start) short.1), (tt, tt))
+        (whole_kept input of same Style.Squeezed (short.0, ltb-true (length (text_in input (leaves input.whole) Style.Squeezed)) (length input.start) short.1), (tt, tt))
     by_test false e = tt

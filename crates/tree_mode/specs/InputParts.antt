@@ -39,10 +39,10 @@ symbol_same (Kind k) = refl
 symbol_same (Set i) = refl
 symbol_same (Rule r) = refl
 
-form_set : IsSet NormalForm
+pub form_set : IsSet NormalForm
 form_set = Coded-set normal_coded
 
-symbol_set : IsSet Sym
+pub symbol_set : IsSet Sym
 symbol_set = Coded-set (code_by (ℕ ⊎ (ℕ ⊎ ℕ)) (coded⊎ coded_ℕ (coded⊎ coded_ℕ coded_ℕ)) symbol_parts symbol_back symbol_same)
 
 tokens_set : IsSet (Option (List PlacedToken))
