@@ -1,0 +1,5 @@
+pub mod PersesLaws
+pub mod PartsLemmas
+pub mod CandidateLemmas
+pub mod TrialLemmas
+pub mod RoundLemmas

@@ -1,0 +1,42 @@
+use Rattle.std.proofs.Common.{◌≡◌, ◌∙◌, ap, sym, length, vec_len, arith, rules}
+use Rattle.std.specs.Prelude.{string_bytes}
+use Rattle.std.proofs.lemmas.List.{length-map}
+use Rattle.lexer.specs.Tokens.{token_of}
+use Rattle.reduction_rounds.specs.RoundsPlan.{plan_first}
+use Rattle.syntax_tree.specs.Trees.{weight}
+use Rattle.token_print.specs.declared.style.Style.{Style}
+use Rattle.tree_mode.specs.Input.{TreeInput}
+use Rattle.tree_mode.specs.Listed.{text_of}
+use Rattle.tree_mode.specs.TreeMode.{in_style}
+use Rattle.tree_mode.proofs.Listing.{weight_whole}
+use Rattle.tree_rounds.specs.InputOf.{input_of}
+use Rattle.tree_rounds.specs.PersesMode.{perses_mode}
+use Rattle.tree_rounds.proofs.reducer.tree_reducer.Goals as goal
+
+pub new-requires-2-clause-state : goal.new-requires-2-clause-state
+new-requires-2-clause-state g c = c.in_ok-round.ensures.state ∙ ap (λ (input : TreeInput). in_style Style.AsWas input.whole) (sym c.in_ok-round.ensures.input)
+
+pub new-requires-2-clause-rest : goal.new-requires-2-clause-rest
+new-requires-2-clause-rest g c = c.in_ok-round.ensures.rest ∙ ap (λ (input : TreeInput). (perses_mode input).opening) (sym c.in_ok-round.ensures.input)
+
+pub new-requires-2-clause-text : goal.new-requires-2-clause-text
+new-requires-2-clause-text g c =
+    let parts = c.args.parts.now in
+    let input = input_of parts.lexer parts.formed parts.tree (string_bytes parts.start) parts.tokens.items.items (g.F.Relation.admits parts.guard) parts.squeezes in
+    let bytes : c.in_ok-text.text.items ≡ string_bytes c.args.parts.now.start = search rules in
+    bytes ∙ sym (c.whole_is_start.ensures input c.is_input.ensures.is).text ∙ ap (λ (other : TreeInput). text_of other (in_style Style.AsWas other.whole)) (sym c.in_ok-round.ensures.input)
+
+pub new-requires-2-clause-units : goal.new-requires-2-clause-units
+new-requires-2-clause-units g c =
+    let parts = c.args.parts.now in
+    let input = input_of parts.lexer parts.formed parts.tree (string_bytes parts.start) parts.tokens.items.items (g.F.Relation.admits parts.guard) parts.squeezes in
+    let tokens = c.args.parts.now.tokens.items in
+    let many : vec_len tokens ≡ length tokens.items = omega (arith, tokens.ok.0) in
+    c.len-tokens.ensures ∙ many ∙ sym (length-map tokens.items token_of) ∙ sym (weight_whole input c.is_input.ensures.is)
+    ∙ ap (λ (other : TreeInput). weight other.whole) (sym c.in_ok-round.ensures.input)
+
+pub returns-clause-plan : goal.returns-clause-plan
+returns-clause-plan g c = c.new-2.ensures.plan ∙ ap (λ (input : TreeInput). plan_first (perses_mode input)) c.in_ok-round.ensures.input
+
+pub returns-clause-first : goal.returns-clause-first
+returns-clause-first g c = c.new-2.ensures.first ∙ ap (λ (input : TreeInput). plan_first (perses_mode input)) c.in_ok-round.ensures.input

@@ -1,0 +1,12 @@
+pub use Rattle.tree_trials.specs.Visit
+pub use Rattle.tree_mode.specs.Input
+pub use Rattle.tree_mode.specs.TreeMode
+pub use Rattle.reduction_rounds.specs.Mode
+pub use Rattle.tree_visits.specs.Visiting
+pub mod PersesMode
+pub mod InputOf
+pub mod Parts
+pub mod Candidates
+pub mod Fields
+pub mod FieldProps
+pub mod Laws
