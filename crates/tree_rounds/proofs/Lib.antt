@@ -1,4 +1,5 @@
 pub mod PersesLaws
+pub mod EndLaws
 pub mod PartsLemmas
 pub mod CandidateLemmas
 pub mod TrialLemmas

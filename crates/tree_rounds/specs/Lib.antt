@@ -1,7 +1,11 @@
 pub use Rattle.tree_trials.specs.Visit
 pub use Rattle.tree_mode.specs.Input
 pub use Rattle.tree_mode.specs.TreeMode
+pub use Rattle.tree_mode.specs.Listed
+pub use Rattle.tree_mode.specs.Lawful
+pub use Rattle.tree_mode.specs.Candidates as TreeCandidates
 pub use Rattle.reduction_rounds.specs.Mode
+pub use Rattle.reduction_rounds.specs.Laws as RoundLaws
 pub use Rattle.tree_visits.specs.Visiting
 pub mod PersesMode
 pub mod InputOf
@@ -10,3 +14,4 @@ pub mod Candidates
 pub mod Fields
 pub mod FieldProps
 pub mod Laws
+pub mod Ends
