@@ -12,6 +12,9 @@ use faults::Memory;
 use normal_form::{NormalRule, Sym};
 use std::alloc::Global;
 
+/// How many symbols may be found for all rules together, each as often as it is found.
+const SYMBOLS: usize = 1 << 24;
+
 /// Adds the symbol of an alternative that is one symbol alone.
 fn push_lone(symbols: &mut Vec<Sym>, alt: &[Sym]) -> Result<(), Memory>
     ensures { OnOk result (symbols.new.items ≡ symbols.old.items ++ option_to_list (lone_symbol alt.now)) }
@@ -54,9 +57,15 @@ pub(crate) fn edges(alloc: Global, rules: &[NormalRule]) -> Result<Vec<Vec<Sym>>
     Ok(edges)
 }
 
-/// The symbols that the rule leads to. Where the marks are all less than `number`, it takes time
-/// near linear in the edges of the rules that it leads to.
-fn row_of(alloc: Global, edges: &[Vec<Sym>], rule: u32, marks: &mut [u32]) -> Result<Row, Memory>
+/// The symbols that the rule leads to; `found` grows by how many were found, each as often as it was.
+/// It takes time near linear in the edges of the rules that it leads to.
+fn row_of(
+    alloc: Global,
+    edges: &[Vec<Sym>],
+    rule: u32,
+    marks: &mut [u32],
+    found: &mut usize,
+) -> Result<Row, Memory>
     requires rule { rule < length edges.now }
     requires closed { IsClosed (edges_of edges.now) }
     requires few { length edges.now < 2 ^ 32 }
@@ -74,10 +83,15 @@ fn row_of(alloc: Global, edges: &[Vec<Sym>], rule: u32, marks: &mut [u32]) -> Re
         row.add(&edges[next as usize], marks, rule + 1)?;
         done += 1;
     }
+    *found = found
+        .saturating_add(row.kinds.len())
+        .saturating_add(row.sets.len())
+        .saturating_add(row.rules.len());
     Ok(row.sorted())
 }
 
-/// For each rule the symbols that it leads to.
+/// For each rule the symbols that it leads to. It is out of memory where more than 16,777,216 symbols
+/// are found, so that a long chain of rules ends soon.
 pub(crate) fn rows(alloc: Global, edges: &[Vec<Sym>]) -> Result<Vec<Row>, Memory>
     requires closed { IsClosed (edges_of edges.now) }
     requires few { length edges.now < 2 ^ 32 }
@@ -86,8 +100,13 @@ pub(crate) fn rows(alloc: Global, edges: &[Vec<Sym>]) -> Result<Vec<Row>, Memory
     let mut table = vec![in alloc; 0u32; edges.len()]?;
     let marks = table.as_mut_slice();
     let mut rows = Vec::new(alloc);
+    let mut found = 0;
     for rule in 0..edges.len() as u32 {
-        rows.push(row_of(alloc, edges, rule, marks)?)?;
+        let row = row_of(alloc, edges, rule, marks, &mut found)?;
+        if found > SYMBOLS {
+            return Err(Memory);
+        }
+        rows.push(row)?;
     }
     Ok(rows)
 }
