@@ -1,0 +1,12 @@
+pub use Rattle.grammar_tree.specs.Checked
+pub use Rattle.grammar_tree.specs.Lexes
+pub use Rattle.lexer.specs.Tokens
+pub use Rattle.normal_form.specs.NormalOf
+pub use Rattle.syntax_tree.specs.Nodes
+pub use Rattle.syntax_tree.specs.Preferred
+pub use Rattle.tree_mode.specs.Candidates
+pub use Rattle.tree_mode.specs.Input
+pub mod Parsed
+pub mod Faults
+pub mod FaultText
+pub mod Laws
