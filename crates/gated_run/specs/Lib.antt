@@ -1,0 +1,10 @@
+pub use Rattle.faults.specs.Count
+pub use Rattle.reduction_rounds.specs.Mode
+pub use Rattle.reduction_rounds.specs.Laws
+pub use Rattle.reduction_rounds.specs.Reduction
+pub use Rattle.reduction_rounds.specs.RoundsPlan
+pub use Rattle.verdict_table.specs.TableState
+pub use Rattle.sequential_run.specs.Run
+pub mod Faults
+pub mod Records
+pub mod RunEnds
