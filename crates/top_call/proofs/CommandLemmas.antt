@@ -1,9 +1,7 @@
 -- How the steps of `reduce` end it.
-use Rattle.std.proofs.Common.{◌≡◌, ◌≤◌, inl, inr, ℕ, List, [], ◌∷◌, ◌++◌, All, length, Option, Some, None, option_map, codes, true, false, refl, sym, ap, ◌∙◌, subst, Result, Ok, Err, IfErr, MatchResult, OnOk}
+use Rattle.std.proofs.Common.{◌≡◌, ◌≤◌, inl, inr, ℕ, List, [], ◌∷◌, ◌++◌, length, Option, Some, None, option_map, codes, true, false, refl, sym, ap, ◌∙◌, subst, Result, Ok, Err, IfErr, MatchResult, OnOk}
 use Rattle.std.proofs.lemmas.Bool.{false≢true}
 use Rattle.std.proofs.lemmas.List.Elements.{All-nil}
-use Rattle.std.specs.List.{IsDistinct}
-use Rattle.std.specs.Str.{bytes_eq}
 use Rattle.faults.specs.Count.{Rose}
 use Rattle.keep_guard.specs.Keep.{first_missing, holds_all}
 use Rattle.keep_guard.proofs.KeepLemmas.{holds_all_or_misses}
@@ -17,15 +15,16 @@ use Rattle.verdict_table.specs.TableState.{texts_of}
 use Rattle.top_call.specs.declared.status.Refusal.{Refusal}
 use Rattle.top_call.specs.declared.status.Refusal.TheVariants.{Memory, CannotRead, CannotWrite, NotInteresting, KeepMissing, TooLong, Script}
 use Rattle.top_call.specs.declared.status.NamedFile.TheVariants as read_file
-use Rattle.top_call.specs.Reduce.{AreCandidates, AreOf, FirstIs, FirstIsNo, InputAccepted, InputRead, IsUnfinished, KeepFails, RecordsAreSound, ReducesFrom, RunFails, ReduceEnds, ReduceFails, ReduceMustEnd, ReduceSteps, Reduces, WritesReduced, opening_for}
+use Rattle.top_call.specs.Reduce.{AreCandidates, AreOf, InputAccepted, InputRead, IsUnfinished, KeepFails, RecordsAreSound, ReducesFrom, RunFails, ReduceEnds, ReduceFails, ReduceMustEnd, ReduceSteps, Reduces, WritesReduced, opening_for}
 use Rattle.top_call.specs.Reduce.ReduceEnds.{done, memory, unread, unwritten, uninteresting, keep_missing, too_long, script}
+use Rattle.gated_run.specs.Records.{AreAnswers, FirstIs, FirstIsNo}
 use Rattle.sequential_run.specs.Run.{with_all_asked}
 use Rattle.top_call.specs.Status.{EndsRefused, EndsSilent, OpenFails, ReadFails, WriteFails}
 use Rattle.top_call.specs.Words.{ReduceOptions, file_name_of}
 use Rattle.top_call.specs.World.{FilesKept, IsQuiet, IsShownWithin, PutsLine, SeenFiles, SeenGate, SeenOut, GateUntouched, WasRead, World, input_limit}
 use Rattle.top_call.proofs.FileLemmas.{longer_not_missing, not_both, not_longer, read_not_missing, read_not_over}
-use Rattle.top_call.proofs.ReduceLemmas.{none-unfinished}
-use Rattle.sequential_run.proofs.RunLemmas.{none_distinct}
+use Rattle.top_call.proofs.ReduceLemmas.{none_unfinished}
+use Rattle.sequential_run.proofs.RunLemmas.{none_asked, none_distinct}
 
 yes_no : (start : List ℕ) (records : List Record) → FirstIs start Yes records → FirstIsNo records → ⊥
 yes_no start [] first first_no = first
@@ -41,6 +40,14 @@ opened_and_asked : (options : ReduceOptions) (texts : List (List ℕ)) (log : Op
 opened_and_asked options texts None = refl
 opened_and_asked options texts (Some log) = refl
 
+-- no record was made, and the gate was not asked
+pub none_answers : (may_say : List ℕ → Verdict → Type 0) (records : List Record) (log : Option Log) → records ≡ [] → AreAnswers may_say log log records
+none_answers may_say records log none = subst (AreAnswers may_say log log) (sym none) (record {
+  distinct = none_distinct [] refl;
+  said = All-nil _;
+  asked = none_asked log;
+})
+
 module _ (options : ReduceOptions) (may_say : List ℕ → Verdict → Type 0) where
   -- no record was made, and the gate's log is the same
   pub none_sound : (records : List Record) (gate gate' : SeenGate) → records ≡ [] → gate'.shown ≡ gate.shown → RecordsAreSound options may_say records gate gate'
@@ -51,13 +58,13 @@ module _ (options : ReduceOptions) (may_say : List ℕ → Verdict → Type 0) w
   })
 
   -- the gate was opened, and then asked for the records' texts
-  pub asked_sound : (records : List Record) (gate opened gate' : SeenGate) → IsDistinct bytes_eq (texts_of records) → All (λ r. may_say r.text r.verdict) records
-      → opened.shown ≡ option_map (with_opening (codes "perses-work") options.script (file_name_of options.input) 1) gate.shown → gate'.shown ≡ option_map (with_all_asked (texts_of records)) opened.shown
+  pub asked_sound : (records : List Record) (gate opened gate' : SeenGate) → AreAnswers may_say opened.shown gate'.shown records
+      → opened.shown ≡ option_map (with_opening (codes "perses-work") options.script (file_name_of options.input) 1) gate.shown
       → RecordsAreSound options may_say records gate gate'
-  asked_sound records gate opened gate' distinct said is_open is_asked = record {
-    distinct = distinct;
-    said = said;
-    used = inr (is_asked ∙ ap (option_map (with_all_asked (texts_of records))) is_open ∙ opened_and_asked options (texts_of records) gate.shown);
+  asked_sound records gate opened gate' answers is_open = record {
+    distinct = answers.distinct;
+    said = answers.said;
+    used = inr (answers.asked ∙ ap (option_map (with_all_asked (texts_of records))) is_open ∙ opened_and_asked options (texts_of records) gate.shown);
   }
 
 -- the same by other names of the keep texts
@@ -84,7 +91,7 @@ module _ (keeps : List (List ℕ)) (start : List ℕ) (records : List Record) wh
   -- why the gate wasn't opened is why there is no reduction
   pub run_open : (gate gate' : SeenGate) (refusal : Refusal) → records ≡ [] → OpenFails gate gate' refusal → RunFails keeps start records gate gate' refusal
   run_open gate gate' Memory none why = why
-  run_open gate gate' Script none why = (why, subst (λ rs. ¬ FirstIsNo rs) (sym none) (λ first. first), subst (IsUnfinished keeps start) (sym none) (none-unfinished keeps start))
+  run_open gate gate' Script none why = (why, subst (λ rs. ¬ FirstIsNo rs) (sym none) (λ first. first), subst (IsUnfinished keeps start) (sym none) (none_unfinished keeps start))
   run_open gate gate' _ none why = absurd why
 
   -- why there is no reduction, seen from before the gate's opening, in which no call failed

@@ -1,6 +1,7 @@
 pub mod NameLemmas
 pub mod ReduceLemmas
 pub mod FileLemmas
+pub mod GrammarLemmas
 pub mod NormalLemmas
 pub mod CommandLemmas
 pub mod ReduceByStatusLemmas

@@ -4,7 +4,8 @@ use Rattle.std.proofs.lemmas.Bool.{false≢true}
 use Rattle.edge_io.specs.Files.{IsLonger}
 use Rattle.top_call.specs.declared.status.NamedFile.TheVariants as read_file
 use Rattle.top_call.specs.declared.status.Refusal.TheVariants.{Memory, CannotRead, TooLong}
-use Rattle.top_call.specs.Normal.{IsFaultIn, IsNormalOf, NormalEnds}
+use Rattle.top_call.specs.Grammar.{IsFaultIn}
+use Rattle.top_call.specs.Normal.{IsNormalOf, NormalEnds}
 use Rattle.top_call.specs.Normal.NormalEnds.{done, memory, unread, unput, faulty, too_long}
 use Rattle.top_call.specs.NormalByStatus.{NormalByStatus}
 use Rattle.top_call.specs.ReduceByStatus.{IsOneOf}

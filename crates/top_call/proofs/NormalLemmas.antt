@@ -1,60 +1,33 @@
 -- Why there is no normal form, and how `normal` ends.
-use Rattle.std.proofs.Common.{◌≡◌, ◌≢◌, ◌≤◌, arith, inl, inr, ℕ, List, length, None, refl, sym, subst, Result, Ok, Err, IfOk, IfErr, OnOk, MatchResult, Vec}
-use Rattle.edge_io.specs.Files.{Holds, SameFiles}
-use Rattle.grammar_tree.specs.Kinds.{kinds_of}
+use Rattle.std.proofs.Common.{◌≡◌, inl, inr, ℕ, List, None, Option, refl, sym, subst, Result, Ok, Err, IfOk, IfErr, OnOk, MatchResult, Vec}
+use Rattle.edge_io.specs.Files.{FileContent, SameFiles}
 use Rattle.grammar_tree.specs.Written.{CheckedGrammar}
-use Rattle.grammar_notation.proofs.Sizes.{profile_fits}
-use Rattle.checked_grammar.specs.Answer.{IsGrammarFault, Spells}
-use Rattle.checked_grammar.specs.Message.{fault_text}
-use Rattle.checked_grammar.specs.declared.fault.GrammarFault.{GrammarFault}
-use Rattle.checked_grammar.specs.declared.fault.GrammarFault.TheVariants as grammar_fault
+use Rattle.checked_grammar.specs.Answer.{Spells}
 use Rattle.top_call.specs.declared.status.Refusal.{Refusal}
 use Rattle.top_call.specs.declared.status.Refusal.TheVariants.{Memory, CannotRead, Grammar, TooLong}
-use Rattle.top_call.specs.declared.status.NamedFile.TheVariants as read_file
-use Rattle.top_call.specs.Normal.{IsFaultRefusal, IsGrammarText, IsNormalOf, NormalEnds, NormalFails, NormalMustEnd, PrintsNormal}
+use Rattle.top_call.specs.Grammar.{GrammarFails, GrammarRead, IsGrammarText}
+use Rattle.top_call.specs.Normal.{IsNormalOf, NormalEnds, NormalFails, NormalMustEnd, PrintsNormal}
 use Rattle.top_call.specs.Normal.NormalEnds.{done, memory, unread as cannot_read, unput, faulty, too_long}
-use Rattle.top_call.specs.Status.{EndsRefused, EndsWithAnswer, IsGrammarRefusal, ReadFails}
+use Rattle.top_call.specs.Status.{EndsRefused, EndsWithAnswer}
 use Rattle.top_call.specs.World.{IsQuiet, PutsLine, SeenFiles, SeenOut, WasRead, grammar_limit}
 use Rattle.top_call.proofs.FileLemmas.{not_both, not_longer, read_not_over, longer_not_missing, read_not_missing}
 
--- a well-formed grammar that so few bytes spell has its numbered kinds
-is_spelled : (bytes : List ℕ) → length bytes ≤ grammar_limit → (is : IsGrammarText bytes) → Spells bytes None (record { grammar = is.grammar; kinds = kinds_of is.grammar; start = is.start })
-is_spelled bytes within is = record {
-  text = is.spelled;
-  start = is.first;
-  checked = record { well_formed = is.well_formed; numbered = refl; small = let fits = profile_fits is.spelled in omega (arith, fits, within) };
-}
-
--- bytes with a fault that isn't out of memory spell no well-formed grammar
-pub has_fault : (bytes : List ℕ) (fault : GrammarFault) → length bytes ≤ grammar_limit → fault ≢ grammar_fault.Memory → IsGrammarFault bytes None fault
-    → ((it : CheckedGrammar) → Spells bytes None it → fault ≡ grammar_fault.Memory) → (refusal : Refusal) → IsGrammarRefusal (fault_text fault) refusal → IsFaultRefusal bytes refusal
-has_fault bytes fault within caused first only Memory line = tt
-has_fault bytes fault within caused first only (Grammar line) is = (
-  fault_text fault,
-  record { fault = fault; caused = caused; first = first; is_text = refl; refused = λ text. caused (only _ (is_spelled bytes within text)) },
-  is,
-)
-has_fault bytes fault within caused first only _ is = absurd is
+-- the form of a grammar that was read
+pub is_formed : (content : Option FileContent) (grammar : CheckedGrammar) (text : List ℕ) → GrammarRead content grammar → ((bytes : List ℕ) → Spells bytes None grammar → IsNormalOf bytes text) → WasRead grammar_limit content (λ bytes. IsNormalOf bytes text)
+is_formed content grammar text read formed = record { bytes = read.bytes; read = read.read; within = read.within; holds = formed read.bytes read.holds }
 
 module _ (grammar : List ℕ) (files files' : SeenFiles) where
-  -- a grammar that wasn't read ends the command
-  pub fails_read : (refusal : Refusal) → ReadFails grammar_limit read_file.Grammar (files.shown grammar) files files' refusal → NormalFails grammar files files' refusal
-  fails_read Memory why = λ out out' put. memory why put
-  fails_read (CannotRead file) why = subst (λ f. NormalFails grammar files files' (CannotRead f)) (sym why.0) (λ out out' put. cannot_read why.1 put)
-  fails_read (TooLong file) why = subst (λ f. NormalFails grammar files files' (TooLong f)) (sym why.0) (λ out out' put. too_long why.1 why.2 put)
-  fails_read _ why = absurd why
+  -- what gives no grammar ends the command
+  pub fails_grammar : (refusal : Refusal) → GrammarFails grammar files files' refusal → NormalFails grammar files files' refusal
+  fails_grammar Memory why = λ out out' put. memory why put
+  fails_grammar (CannotRead file) why = subst (λ f. NormalFails grammar files files' (CannotRead f)) (sym why.0) (λ out out' put. cannot_read why.1 put)
+  fails_grammar (TooLong file) why = subst (λ f. NormalFails grammar files files' (TooLong f)) (sym why.0) (λ out out' put. too_long why.1 why.2 put)
+  fails_grammar (Grammar line) why = λ out out' put. faulty why.0 why.1 why.3 (subst (λ l. PutsLine l out out') why.2 put)
+  fails_grammar _ why = absurd why
 
-  -- so does one that has no normal form
-  fails_fault : (bytes : List ℕ) → Holds bytes (files.shown grammar) → length bytes ≤ grammar_limit → IsQuiet files files' → (refusal : Refusal) → IsFaultRefusal bytes refusal → NormalFails grammar files files' refusal
-  fails_fault bytes here within quiet Memory why = λ out out' put. memory quiet put
-  fails_fault bytes here within quiet (Grammar line) why = λ out out' put.
-      faulty why.0 (record { bytes = bytes; read = here; within = within; holds = why.1 }) quiet (subst (λ l. PutsLine l out out') why.2 put)
-  fails_fault bytes here within quiet _ why = absurd why
-
-  pub form_fails : {A : Type 0} (held bytes : List ℕ) (outcome : Result (Vec ℕ A) Refusal) → bytes ≡ held → Holds held (files.shown grammar) → length held ≤ grammar_limit → IsQuiet files files' → IfErr outcome (λ refusal. IsFaultRefusal bytes refusal)
-      → IfErr outcome (λ refusal. NormalFails grammar files files' refusal)
-  form_fails held bytes (Ok form) same here within quiet why = tt
-  form_fails held bytes (Err refusal) same here within quiet why = fails_fault held here within quiet refusal (subst (λ b. IsFaultRefusal b refusal) same why)
+  -- so does the lack of memory after it was read
+  pub fails_memory : IsQuiet files files' → NormalFails grammar files files' Memory
+  fails_memory quiet = λ out out' put. memory quiet put
 
   module _ (out out' : SeenOut) where
     -- the end of the command

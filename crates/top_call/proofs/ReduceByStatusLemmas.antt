@@ -5,7 +5,8 @@ use Rattle.edge_io.specs.Files.{IsLonger, SameFiles, SameOthers}
 use Rattle.verdict_table.specs.declared.record.Record.{Record}
 use Rattle.top_call.specs.declared.status.NamedFile.TheVariants as read_file
 use Rattle.top_call.specs.declared.status.Refusal.TheVariants.{Memory, CannotRead, CannotWrite, NotInteresting, TooLong, Script}
-use Rattle.top_call.specs.Reduce.{InputRead, IsReduced, OnlyNo, ReduceEnds, ReducesTo}
+use Rattle.gated_run.specs.Records.{OnlyNo}
+use Rattle.top_call.specs.Reduce.{InputRead, IsReduced, ReduceEnds, ReducesTo}
 use Rattle.top_call.specs.Reduce.ReduceEnds.{done, memory, unread, unwritten, uninteresting, keep_missing, too_long, script}
 use Rattle.top_call.specs.ReduceByStatus.{IsOneOf, PutsItsLine, ReduceByStatus}
 use Rattle.top_call.specs.Words.{ReduceOptions}

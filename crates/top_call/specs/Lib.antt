@@ -1,7 +1,25 @@
+pub use Rattle.faults.specs.Count
+pub use Rattle.edge_io.specs.Files
+pub use Rattle.edge_io.specs.Sink
+pub use Rattle.verdict_table.specs.TableState
+pub use Rattle.keep_guard.specs.Keep
+pub use Rattle.gated_run.specs.Records
+pub use Rattle.reduction_rounds.specs.Laws as RoundLaws
+pub use Rattle.reduce_core.specs.Lines
+pub use Rattle.reduce_core.specs.Reduction
+pub use Rattle.reduce_core.specs.Minimal
+pub use Rattle.grammar_tree.specs.Faults
+pub use Rattle.grammar_tree.specs.Written
+pub use Rattle.checked_grammar.specs.Answer
+pub use Rattle.checked_grammar.specs.Message
+pub use Rattle.normal_form.specs.Laws as FormLaws
+pub use Rattle.normal_form.specs.NormalOf
+pub use Rattle.normal_form.specs.Print
 pub mod Words
 pub mod World
 pub mod Status
 pub mod Reduce
+pub mod Grammar
 pub mod Normal
 pub mod Call
 pub mod ReduceByStatus

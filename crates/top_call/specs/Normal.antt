@@ -1,28 +1,15 @@
 -- The command `normal`: the printed normal form of the grammar in a file.
-use Rattle.std.specs.Prelude.{◌≡◌, ◌≢◌, ◌⊎◌, ℕ, List, None, Some, codes, encode_utf8_all, string_bytes}
+use Rattle.std.specs.Prelude.{◌≡◌, ◌≢◌, ◌⊎◌, ℕ, List, None, Some, codes, encode_utf8_all}
 use Rattle.edge_io.specs.Files.{IsLonger, SameFiles}
-use Rattle.grammar_tree.specs.Faults.{IsWellFormed, start_of}
-use Rattle.grammar_tree.specs.Written.{CheckedGrammar, WrittenGrammar}
-use Rattle.checked_grammar.specs.Answer.{IsGrammarFault, Spells}
-use Rattle.checked_grammar.specs.Message.{fault_text}
-use Rattle.checked_grammar.specs.Reads.{IsProfile}
-use Rattle.checked_grammar.specs.declared.fault.GrammarFault.{GrammarFault}
-use Rattle.checked_grammar.specs.declared.fault.GrammarFault.TheVariants as grammar_fault
+use Rattle.grammar_tree.specs.Written.{CheckedGrammar}
+use Rattle.checked_grammar.specs.Answer.{Spells}
 use Rattle.normal_form.specs.Laws.{HasEqualLanguages}
 use Rattle.normal_form.specs.NormalOf.{normal_of}
 use Rattle.normal_form.specs.Print.{printed}
 use Rattle.top_call.specs.declared.status.Refusal.{Refusal}
-use Rattle.top_call.specs.declared.status.Refusal.TheVariants.{Memory, Grammar}
+use Rattle.top_call.specs.Grammar.{IsFaultIn, IsGrammarText}
 use Rattle.top_call.specs.Status.{fault_line, line_of, status_of}
 use Rattle.top_call.specs.World.{PutsPrefix, CallFailed, IsOver, IsQuiet, IsShownWithin, Puts, PutsLine, PutsMessage, SeenFiles, SeenOut, WasRead, grammar_limit}
-
--- The bytes spell a grammar that is well-formed for its first parser rule.
-pub record IsGrammarText (bytes : List ℕ) : Type 0 where
-  pub grammar : WrittenGrammar
-  pub start : ℕ
-  pub spelled : IsProfile bytes grammar
-  pub first : start_of grammar None ≡ Some start
-  pub well_formed : IsWellFormed grammar start
 
 -- The text is the printed normal form of the grammar that the bytes spell, with its first parser rule as its start, and the two have the same languages.
 pub record IsNormalOf (bytes text : List ℕ) : Type 0 where
@@ -30,14 +17,6 @@ pub record IsNormalOf (bytes text : List ℕ) : Type 0 where
   pub spelled : Spells bytes None grammar
   pub languages : HasEqualLanguages grammar (normal_of grammar)
   pub printed : text ≡ encode_utf8_all (printed grammar.kinds (normal_of grammar))
-
--- The bytes spell no grammar that is well-formed for its first parser rule, and the text is that of their first fault.
-pub record IsFaultIn (bytes text : List ℕ) : Type 0 where
-  pub fault : GrammarFault
-  pub caused : fault ≢ grammar_fault.Memory
-  pub first : IsGrammarFault bytes None fault
-  pub is_text : text ≡ fault_text fault
-  pub refused : ¬ IsGrammarText bytes
 
 -- How `normal` ends, by its status.
 pub data NormalEnds (grammar : List ℕ) (files files' : SeenFiles) (out out' : SeenOut) : ℕ → Type 0 where
@@ -93,12 +72,6 @@ pub record PrintsNormal (grammar : List ℕ) (files files' : SeenFiles) (out out
   pub ends : NormalEnds grammar files files' out out' status
   pub must_end : NormalMustEnd grammar files files' out out' status
   pub same : SameFiles files.shown files'.shown
-
--- why bytes have no normal form
-abbrev pub IsFaultRefusal : List ℕ → Refusal → Type 0
-IsFaultRefusal bytes Memory = Unit {0}
-IsFaultRefusal bytes (Grammar line) = (text : List ℕ) × IsFaultIn bytes text × (string_bytes line ≡ fault_line text)
-IsFaultRefusal bytes _ = ⊥
 
 -- the command ends with this refusal, whatever becomes of its line
 abbrev pub NormalFails : List ℕ → SeenFiles → SeenFiles → Refusal → Type 0

@@ -12,6 +12,7 @@ use Rattle.verdict_table.specs.TableState.{texts_of, verdict_in}
 use Rattle.keep_guard.specs.Keep.{first_missing, holds_all, keeps_admit}
 use Rattle.reduce_core.specs.Lines.{text_of}
 use Rattle.reduction_rounds.specs.Laws.{HasVerdicts, says_yes}
+use Rattle.gated_run.specs.Records.{BeginsAt, FirstIs, FirstIsNo, OnlyNo}
 use Rattle.reduce_core.specs.Reduction.{reduction}
 use Rattle.reduce_core.specs.Minimal.{IsCandidate, IsMinimal}
 use Rattle.top_call.specs.declared.status.Refusal.{Refusal}
@@ -19,26 +20,6 @@ use Rattle.top_call.specs.declared.status.Refusal.TheVariants.{Memory, KeepMissi
 use Rattle.top_call.specs.Status.{IsKeepRefusal, keep_text, line_of, status_of}
 use Rattle.top_call.specs.Words.{ReduceOptions, file_name_of}
 use Rattle.top_call.specs.World.{CallFailed, FilesKept, IsOver, IsQuiet, IsShownWithin, PutsLine, PutsMessage, SeenFiles, SeenGate, SeenOut, GateUntouched, WasRead, World, input_limit}
-
--- the first record is of this text, with this verdict
-abbrev pub FirstIs : List ℕ → Verdict → List Record → Type 0
-FirstIs text verdict [] = ⊥
-FirstIs text verdict (r ∷ records) = (r.text ≡ text) × (r.verdict ≡ verdict)
-
--- the only record's verdict is no
-abbrev pub OnlyNo : List Record → Type 0
-OnlyNo [] = ⊥
-OnlyNo (r ∷ records) = (r.verdict ≡ No) × (records ≡ [])
-
--- the first record's verdict is no
-abbrev pub FirstIsNo : List Record → Type 0
-FirstIsNo [] = ⊥
-FirstIsNo (r ∷ records) = r.verdict ≡ No
-
--- where there is a record, the first is of this text
-abbrev pub BeginsAt : List ℕ → List Record → Type 0
-BeginsAt text [] = Unit {0}
-BeginsAt text (r ∷ records) = r.text ≡ text
 
 -- The text is what the start is reduced to over a map of verdicts. The map has a verdict for each text that the reduction asks; the start is interesting, and so is the text, in which each keep text occurs; and of the texts with one line fewer in which each keep text occurs, none is interesting.
 pub record IsReductionOf (keeps : List (List ℕ)) (V : List ℕ → Option Verdict) (start text : List ℕ) : Type 0 where

@@ -5,7 +5,8 @@ use Rattle.keep_guard.specs.Keep.{first_missing}
 use Rattle.edge_io.specs.Files.{IsLonger, SameFiles, SameOthers}
 use Rattle.verdict_table.specs.declared.record.Record.{Record}
 use Rattle.top_call.specs.declared.status.NamedFile.TheVariants as read
-use Rattle.top_call.specs.Reduce.{InputRead, IsReduced, OnlyNo, ReduceEnds, ReducesTo}
+use Rattle.gated_run.specs.Records.{OnlyNo}
+use Rattle.top_call.specs.Reduce.{InputRead, IsReduced, ReduceEnds, ReducesTo}
 use Rattle.top_call.specs.Status.{PutsRefusal, keep_text}
 use Rattle.top_call.specs.Words.{ReduceOptions}
 use Rattle.top_call.specs.World.{CallFailed, GateUntouched, PutsMessage, SeenOut, World, input_limit}

@@ -4,6 +4,8 @@ use Rattle.std.specs.Fmt.{decimal}
 use Rattle.edge_io.specs.Files.{FileContent, IsLonger}
 use Rattle.script_gate.specs.declared.gate.GateFault.{GateFault}
 use Rattle.script_gate.specs.declared.gate.GateFault.TheVariants.{Failed as GateFailed, Memory as GateMemory}
+use Rattle.gated_run.specs.declared.fault.RunFault.{RunFault}
+use Rattle.gated_run.specs.declared.fault.RunFault.TheVariants as run
 use Rattle.top_call.specs.declared.status.NamedFile.{NamedFile}
 use Rattle.top_call.specs.declared.status.NamedFile.TheVariants as read
 use Rattle.top_call.specs.declared.status.Refusal.{Refusal}
@@ -45,6 +47,12 @@ line_of refusal = (ending_of refusal).1
 abbrev pub refusal_of : GateFault → Refusal
 refusal_of GateFailed = Script
 refusal_of GateMemory = Memory
+
+-- the refusal for a run that ended without a result
+abbrev pub refusal_of_run : RunFault → Refusal
+refusal_of_run run.NotInteresting = NotInteresting
+refusal_of_run run.Script = Script
+refusal_of_run run.Memory = Memory
 
 -- the status is that of the refusal, and its line was put
 pub record EndsRefused (old new : SeenOut) (status : ℕ) (refusal : Refusal) : Type 0 where

@@ -16,6 +16,7 @@
 mod call;
 mod end;
 mod file;
+mod grammar;
 mod laws;
 mod normal;
 mod reduce;

@@ -1,45 +1,26 @@
 //! The command `normal`, step by step.
 
-ghost use Rattle.std.specs.Prelude.{◌≡◌, ◌≤◌, IfErr, IfOk, None, OnOk, length};
+ghost use Rattle.std.specs.Prelude.{IfErr, IfOk, List, None, OnOk, ℕ};
 ghost use Rattle.edge_io.specs.Files.{SameFiles};
 ghost use Rattle.checked_grammar.specs.Answer.{Spells};
-ghost use Rattle.top_call.specs.Normal.{IsFaultRefusal, IsNormalOf, NormalFails, PrintsNormal};
+ghost use Rattle.top_call.specs.Normal.{IsNormalOf, NormalFails, PrintsNormal};
 ghost use Rattle.top_call.specs.World.{IsQuiet, WasRead, grammar_limit, seen};
 
 use crate::end::end_with;
-use crate::file::read_file;
-use crate::status::{NamedFile, Refusal};
-use checked_grammar::{GrammarFault, checked_grammar};
+use crate::grammar::read_grammar;
+use crate::status::Refusal;
 use edge_io::{Files, Sink};
+use faults::Memory;
 use grammar_tree::Checked;
 use normal_form::{normal_text, normalise};
 use std::alloc::Global;
 
-/// The longest grammar, in bytes.
-const GRAMMAR_LIMIT: u64 = 1_048_576;
-
-/// The grammar that a text spells, checked, with its first parser rule as its start.
-fn grammar_of_text(alloc: Global, text: &[u8]) -> Result<Checked, Refusal>
-    requires { length text.now ≤ grammar_limit }
-    ensures ok { IfOk result (Spells text.now None) }
-    ensures refused { IfErr result (λ refusal. IsFaultRefusal text.now refusal) }
+/// The printed normal form of the grammar.
+fn form_of(alloc: Global, checked: &Checked) -> Result<Vec<u8>, Memory>
+    ensures { IfOk result (λ form. (bytes : List ℕ) → Spells bytes None checked.now → IsNormalOf bytes form.items) }
 {
-    match checked_grammar(alloc, text, None) {
-        Ok(checked) => Ok(checked),
-        Err(GrammarFault::Memory) => Err(Refusal::Memory),
-        Err(fault) => Err(Refusal::of_grammar(alloc, &fault)),
-    }
-}
-
-/// The printed normal form of the grammar that a text spells.
-fn form_of_text(alloc: Global, text: &[u8]) -> Result<Vec<u8>, Refusal>
-    requires { length text.now ≤ grammar_limit }
-    ensures form { IfOk result (λ form. IsNormalOf text.now form.items) }
-    ensures refused { IfErr result (λ refusal. IsFaultRefusal text.now refusal) }
-{
-    let checked = grammar_of_text(alloc, text)?;
-    let normal = normalise(alloc, &checked)?;
-    Ok(normal_text(alloc, &checked, &normal)?)
+    let normal = normalise(alloc, checked)?;
+    Ok(normal_text(alloc, checked, &normal)?)
 }
 
 /// The printed normal form of the grammar in a file.
@@ -49,8 +30,9 @@ fn form_of_file<F: Files>(alloc: Global, grammar: &str, files: &mut F) -> Result
     ensures refused { IfErr result (λ refusal. NormalFails grammar.now (seen F.content F.faults files.old) (seen F.content F.faults files.new) refusal) }
     ensures same { SameFiles (F.content files.old) (F.content files.new) }
 {
-    let text = read_file(files, grammar, GRAMMAR_LIMIT, NamedFile::Grammar)?;
-    form_of_text(alloc, &text)
+    let checked = read_grammar(alloc, grammar, files)?;
+    let form = form_of(alloc, &checked)?;
+    Ok(form)
 }
 
 /// Puts the printed normal form of the grammar in a file on `out`, in one put, or the line that

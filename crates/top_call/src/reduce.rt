@@ -1,13 +1,10 @@
 //! The command `reduce`, step by step.
 
-ghost use Rattle.std.specs.Prelude.{◌≡◌, ◌≤◌, [], true, All, IfErr, IfOk, OnErr, OnOk, codes, length, option_map};
-ghost use Rattle.std.specs.List.{IsDistinct};
-ghost use Rattle.std.specs.Str.{bytes_eq};
+ghost use Rattle.std.specs.Prelude.{◌≡◌, ◌≤◌, [], true, IfErr, IfOk, OnErr, OnOk, codes, length, option_map};
 ghost use Rattle.keep_guard.specs.Keep.{holds_all};
 ghost use Rattle.script_gate.specs.Log.{with_opening};
-ghost use Rattle.verdict_table.specs.TableState.{texts_of};
+ghost use Rattle.gated_run.specs.Records.{AreAnswers};
 ghost use Rattle.top_call.specs.Reduce.{AreOf, KeepFails, RecordsAreSound, ReduceSteps, Reduces, ReducesFrom, RunFails};
-ghost use Rattle.sequential_run.specs.Run.{with_all_asked};
 ghost use Rattle.top_call.specs.Status.{OpenFails};
 ghost use Rattle.top_call.specs.Words.{file_name_of, options_of};
 ghost use Rattle.top_call.specs.World.{IsQuiet, seen};
@@ -17,14 +14,11 @@ use crate::file::{read_file, write_file};
 use crate::status::{NamedFile, Refusal};
 use crate::words::{ReduceLine, file_name_of, keep_texts};
 use edge_io::{Files, Sink};
+use gated_run::run_to_end;
 use keep_guard::{Guard, KeepTexts};
-use reduce_core::{
-    LineRound, ReducerStep, asks_candidates, ends_minimal, follows_reduction, line_reducer,
-    refuses_at_no,
-};
+use reduce_core::{LineRound, ReducerStep, ends_minimal, is_by_rounds, line_reducer};
 use reduction_rounds::Rounds;
 use script_gate::Gate;
-use sequential_run::run;
 use std::alloc::Global;
 use verdict_table::Table;
 
@@ -47,24 +41,17 @@ fn reduce_lines<'a, 'k, G: Gate>(
     requires kept { holds_all guard.now start.now ≡ true }
     requires empty { table.old.records ≡ [] }
     requires settled { table.old.claims ≡ [] }
-    ensures distinct { IsDistinct bytes_eq (texts_of table.new.records) }
-    ensures said { All (λ r. G.may_say r.text r.verdict) table.new.records }
+    ensures answers { AreAnswers G.may_say (G.log gate.old) (G.log gate.new) table.new.records }
     ensures candidates { AreOf guard.now start.now table.new.records }
-    ensures asked { G.log gate.new ≡ option_map (with_all_asked (texts_of table.new.records)) (G.log gate.old) }
     ensures reduced { IfOk result (λ reducer. ReducesFrom guard.now start.now table.new.records (⟦<Rounds<LineRound<'a, KeepTexts<'k>>> as ReducerStep>⟧.so_far reducer).text) }
     ensures quiet { OnOk result (IsQuiet (seen G.log G.faults gate.old) (seen G.log G.faults gate.new)) }
     ensures refused { IfErr result (λ refusal. RunFails guard.now start.now table.new.records
         (seen G.log G.faults gate.old) (seen G.log G.faults gate.new) refusal) }
 {
-    follows_reduction();
-    refuses_at_no();
+    is_by_rounds();
     ends_minimal();
-    asks_candidates();
     let mut reducer = line_reducer(alloc, start, guard)?;
-    run(&mut reducer, gate, table)?;
-    if reducer.refused() {
-        return Err(Refusal::NotInteresting);
-    }
+    run_to_end(&mut reducer, gate, table)?;
     Ok(reducer)
 }
 

@@ -6,6 +6,7 @@ ghost use Rattle.top_call.specs.Status.{IsGrammarRefusal, IsKeepRefusal, line_of
 
 use checked_grammar::GrammarFault;
 use faults::Memory;
+use gated_run::RunFault;
 use script_gate::GateFault;
 use std::alloc::Global;
 
@@ -103,6 +104,20 @@ impl From<GateFault> for Refusal {
         match fault {
             GateFault::Failed => Refusal::Script,
             GateFault::Memory => Refusal::Memory,
+        }
+    }
+}
+
+impl From<RunFault> for Refusal {
+    ghost use Rattle.top_call.specs.Status.{refusal_of_run};
+
+    ghost from_gives = { λ fault refusal. refusal ≡ refusal_of_run fault };
+
+    fn from(fault: RunFault) -> Refusal {
+        match fault {
+            RunFault::NotInteresting => Refusal::NotInteresting,
+            RunFault::Script => Refusal::Script,
+            RunFault::Memory => Refusal::Memory,
         }
     }
 }

@@ -1,7 +1,7 @@
 use Rattle.std.proofs.Common.{◌≢◌, rules}
 use Rattle.checked_grammar.specs.declared.fault.GrammarFault.TheVariants as fault
-use Rattle.top_call.proofs.NormalLemmas.{has_fault}
-use Rattle.top_call.proofs.normal.grammar_of_text.Goals as goal
+use Rattle.top_call.proofs.GrammarLemmas.{has_fault}
+use Rattle.top_call.proofs.grammar.grammar_of_text.Goals as goal
 
 pub returns-in-Err-clause-refused : goal.returns-in-Err-clause-refused
 returns-in-Err-clause-refused c =

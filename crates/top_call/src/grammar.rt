@@ -1,0 +1,41 @@
+//! Reading the grammar that a command line names.
+
+ghost use Rattle.std.specs.Prelude.{◌≤◌, IfErr, IfOk, None, OnOk, length};
+ghost use Rattle.edge_io.specs.Files.{SameFiles};
+ghost use Rattle.checked_grammar.specs.Answer.{Spells};
+ghost use Rattle.top_call.specs.Grammar.{GrammarFails, GrammarRead, IsFaultRefusal};
+ghost use Rattle.top_call.specs.World.{IsQuiet, grammar_limit, seen};
+
+use crate::file::read_file;
+use crate::status::{NamedFile, Refusal};
+use checked_grammar::{GrammarFault, checked_grammar};
+use edge_io::Files;
+use grammar_tree::Checked;
+use std::alloc::Global;
+
+/// The longest grammar, in bytes.
+const GRAMMAR_LIMIT: u64 = 1_048_576;
+
+/// The grammar that a text spells, checked, with its first parser rule as its start.
+fn grammar_of_text(alloc: Global, text: &[u8]) -> Result<Checked, Refusal>
+    requires { length text.now ≤ grammar_limit }
+    ensures ok { IfOk result (Spells text.now None) }
+    ensures refused { IfErr result (λ refusal. IsFaultRefusal text.now refusal) }
+{
+    match checked_grammar(alloc, text, None) {
+        Ok(checked) => Ok(checked),
+        Err(GrammarFault::Memory) => Err(Refusal::Memory),
+        Err(fault) => Err(Refusal::of_grammar(alloc, &fault)),
+    }
+}
+
+/// The grammar in a file, checked, with its first parser rule as its start.
+pub fn read_grammar<F: Files>(alloc: Global, name: &str, files: &mut F) -> Result<Checked, Refusal>
+    ensures grammar { IfOk result (λ grammar. GrammarRead (F.content files.old name.now) grammar) }
+    ensures quiet { OnOk result (IsQuiet (seen F.content F.faults files.old) (seen F.content F.faults files.new)) }
+    ensures refused { IfErr result (λ refusal. GrammarFails name.now (seen F.content F.faults files.old) (seen F.content F.faults files.new) refusal) }
+    ensures same { SameFiles (F.content files.old) (F.content files.new) }
+{
+    let text = read_file(files, name, GRAMMAR_LIMIT, NamedFile::Grammar)?;
+    grammar_of_text(alloc, &text)
+}
