@@ -1,0 +1,1 @@
+grammar Brackets; s : '(' s ')' | 'x' ;

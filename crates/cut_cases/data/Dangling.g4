@@ -1,0 +1,1 @@
+grammar Dangling; s : 'i' s 'e' s | 'i' s | 'x' ;

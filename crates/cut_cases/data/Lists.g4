@@ -1,0 +1,1 @@
+grammar Lists; s : a* ; a : '(' s ')' | b ; b : 'x' | 'y' ;

@@ -1,0 +1,1 @@
+grammar Optional; s : a? 'x' ; a : 'y'* ;

@@ -1,0 +1,1 @@
+grammar Plus; s : e+ 'x' ; e : 'x' | 'x' 'y' ;

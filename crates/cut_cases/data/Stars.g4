@@ -1,0 +1,1 @@
+grammar Stars; s : a* a* EOF ; a : 'x' ;

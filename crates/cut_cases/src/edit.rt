@@ -1,0 +1,53 @@
+//! Edits of trees, as text and as calls.
+
+use anyhow::{Result, bail};
+use std::alloc::Global;
+
+/// An edit, which names nodes by their numbers.
+#[derive(Clone, Copy)]
+pub(crate) enum Edit {
+    /// Deletes an element of a list.
+    Delete { list: u32, element: u32 },
+
+    /// Deletes the content of an optional.
+    Empty { node: u32 },
+
+    /// Lets a node have the position of one that it is below.
+    Replace { node: u32, by: u32 },
+}
+
+/// The edit of two words: its name and its last argument.
+fn edit_of_two(name: &str, last: &str) -> Result<Edit> {
+    match name {
+        "empty" => Ok(Edit::Empty {
+            node: last.parse::<u32>()?,
+        }),
+        _ => bail!("no edit with one argument: {name}"),
+    }
+}
+
+/// The edit of three words.
+fn edit_of_three(name: &str, first: &str, last: &str) -> Result<Edit> {
+    let first = first.parse::<u32>()?;
+    match name {
+        "delete" => Ok(Edit::Delete {
+            list: first,
+            element: last.parse::<u32>()?,
+        }),
+        "replace" => Ok(Edit::Replace {
+            node: first,
+            by: last.parse::<u32>()?,
+        }),
+        _ => bail!("no edit with two arguments: {name}"),
+    }
+}
+
+/// The edit that the text spells.
+pub(crate) fn edit_of(alloc: Global, text: &str) -> Result<Edit> {
+    let words: Vec<&str> = text.split_whitespace().collect(alloc)?;
+    match words.as_slice() {
+        [name, last] => edit_of_two(name, last),
+        [name, first, last] => edit_of_three(name, first, last),
+        _ => bail!("no edit: {text}"),
+    }
+}
