@@ -13,12 +13,12 @@
 //! and slots. Of more than 200 nodes only counts are printed.
 //!
 //! `below NODE` among the edits changes nothing: it prints the numbers of what is left below the node,
-//! level by level, and then of those of them that can take the node's position.
+//! level by level, and then those of them that fit the node's slot and have fewer tokens; or `not left`.
 //!
-//! `stdout` is worked out by hand: the nodes of a text are written down by the rules of its grammar's
-//! normal form, and numbered; an edit strikes some of them out; the tokens that are left give the
-//! text and the weights; and of what is below a node those can take its position that fit its slot
-//! and have fewer tokens. None of it comes from a run.
+//! `stdout` is worked out apart from the program, most of it by hand and the rest by a second program
+//! of the definitions: the nodes of a text are written down by the rules of its grammar's normal form,
+//! and numbered; an edit strikes some of them out; the tokens that are left give the text and the
+//! weights. None of it comes from a run.
 #![tactic(auto)]
 
 mod calls;
