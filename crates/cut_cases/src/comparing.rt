@@ -5,13 +5,13 @@ ghost use Rattle.syntax_tree.specs.Numbered.{subtree};
 ghost use Rattle.tree_cut.specs.Cuts.{IsCutOf, cut_tree};
 
 use crate::plain::{PlainNode, end_of, index_of, tokens_below};
-use anyhow::Result;
+use faults::Memory;
 use std::alloc::Global;
 use syntax_tree::Tree;
 use tree_cut::Cut;
 
 /// The numbers of the children of the node at this index.
-fn plain_children(alloc: Global, nodes: &[PlainNode], index: usize) -> Result<Vec<u32>> {
+fn plain_children(alloc: Global, nodes: &[PlainNode], index: usize) -> Result<Vec<u32>, Memory> {
     let mut numbers = Vec::new(alloc);
     let end = end_of(nodes, index);
     let mut child = index.saturating_add(1);
@@ -47,7 +47,7 @@ fn is_same_left(
     nodes: &[PlainNode],
     index: usize,
     node: PlainNode,
-) -> Result<bool>
+) -> Result<bool, Memory>
     requires of { IsCutOf tree.now cut.now }
     requires left { IsSome (subtree node.number (cut_tree tree.now cut.now)) }
 {
@@ -68,7 +68,7 @@ fn is_same_node(
     cut: &Cut,
     nodes: &[PlainNode],
     index: usize,
-) -> Result<bool>
+) -> Result<bool, Memory>
     requires { IsCutOf tree.now cut.now }
 {
     let Some(node) = nodes.get(index) else {
@@ -82,7 +82,12 @@ fn is_same_node(
 }
 
 /// Whether the cut says of each node of the list what the list says.
-fn are_same_nodes(alloc: Global, tree: &Tree, cut: &Cut, nodes: &[PlainNode]) -> Result<bool>
+fn are_same_nodes(
+    alloc: Global,
+    tree: &Tree,
+    cut: &Cut,
+    nodes: &[PlainNode],
+) -> Result<bool, Memory>
     requires { IsCutOf tree.now cut.now }
 {
     for index in 0..nodes.len() {
@@ -107,7 +112,12 @@ fn are_same_numbers(tree: &Tree, cut: &Cut, nodes: &[PlainNode]) -> bool
 
 /// Whether the cut says of all numbers what the list says: which are left, and of each that is left
 /// its children, its weight, its first token and its slot.
-pub(crate) fn is_same(alloc: Global, tree: &Tree, cut: &Cut, nodes: &[PlainNode]) -> Result<bool>
+pub(crate) fn is_same(
+    alloc: Global,
+    tree: &Tree,
+    cut: &Cut,
+    nodes: &[PlainNode],
+) -> Result<bool, Memory>
     requires { IsCutOf tree.now cut.now }
 {
     let same_nodes = are_same_nodes(alloc, tree, cut, nodes)?;

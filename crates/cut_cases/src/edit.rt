@@ -16,11 +16,16 @@ pub(crate) enum Edit {
     Replace { node: u32, by: u32 },
 }
 
+/// The number that the word spells.
+pub(crate) fn number_of(word: &str) -> Result<u32> {
+    Ok(word.parse::<u32>()?)
+}
+
 /// The edit of two words: its name and its last argument.
 fn edit_of_two(name: &str, last: &str) -> Result<Edit> {
     match name {
         "empty" => Ok(Edit::Empty {
-            node: last.parse::<u32>()?,
+            node: number_of(last)?,
         }),
         _ => bail!("no edit with one argument: {name}"),
     }
@@ -28,15 +33,15 @@ fn edit_of_two(name: &str, last: &str) -> Result<Edit> {
 
 /// The edit of three words.
 fn edit_of_three(name: &str, first: &str, last: &str) -> Result<Edit> {
-    let first = first.parse::<u32>()?;
+    let first = number_of(first)?;
     match name {
         "delete" => Ok(Edit::Delete {
             list: first,
-            element: last.parse::<u32>()?,
+            element: number_of(last)?,
         }),
         "replace" => Ok(Edit::Replace {
             node: first,
-            by: last.parse::<u32>()?,
+            by: number_of(last)?,
         }),
         _ => bail!("no edit with two arguments: {name}"),
     }

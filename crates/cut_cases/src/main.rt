@@ -36,7 +36,7 @@ ghost use Rattle.tree_cut.specs.Cuts.{IsCutOf};
 
 use crate::calls::make;
 use crate::descending::below_shown;
-use crate::edit::{Edit, edit_of};
+use crate::edit::{Edit, edit_of, number_of};
 use crate::language::{Language, kinds_of};
 use crate::plain::{PlainNode, edited, whole_nodes};
 use crate::showing::cut_shown;
@@ -86,7 +86,7 @@ fn show_step(
     ensures { IsCutOf tree.now cut.new }
 {
     if let Some(node) = text.strip_prefix("below ") {
-        let below = below_shown(alloc, tree, cut, compat, node.parse::<u32>()?)?;
+        let below = below_shown(alloc, tree, cut, compat, number_of(node)?)?;
         println!(rt; "    {text}: {below}")?;
         return Ok(nodes);
     }
@@ -159,7 +159,7 @@ fn nested_text(alloc: Global, words: &str) -> Result<String> {
     let [count, open, inner, close] = words.as_slice() else {
         bail!("give the count, and what opens, is inside and closes");
     };
-    let count = count.parse::<u32>()?;
+    let count = number_of(count)?;
     let open = repeated(alloc, open, count)?;
     let close = repeated(alloc, close, count)?;
     Ok(format!(in alloc; "{open}{inner}{close}")?)

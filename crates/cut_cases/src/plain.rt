@@ -5,13 +5,13 @@
 //! stay. It is slow, and knows nothing of marks, positions and spans.
 
 use crate::edit::Edit;
-use anyhow::Result;
+use faults::Memory;
 use normal_form::{Normal, NormalRule, Sym};
 use std::alloc::Global;
 use syntax_tree::Tree;
 
 /// A node that is left.
-#[derive(Clone, Copy, PartialEq, Eq)]
+#[derive(Clone, Copy)]
 pub(crate) struct PlainNode {
     pub(crate) number: u32,
     pub(crate) symbol: Sym,
@@ -22,7 +22,7 @@ pub(crate) struct PlainNode {
 }
 
 /// The nodes of a tree.
-pub(crate) fn whole_nodes(alloc: Global, tree: &Tree) -> Result<Vec<PlainNode>> {
+pub(crate) fn whole_nodes(alloc: Global, tree: &Tree) -> Result<Vec<PlainNode>, Memory> {
     let mut nodes = Vec::new(alloc);
     let mut number = 0u32;
     for node in tree.nodes() {
@@ -40,7 +40,20 @@ pub(crate) fn whole_nodes(alloc: Global, tree: &Tree) -> Result<Vec<PlainNode>> 
 
 /// The index of the node with this number.
 pub(crate) fn index_of(nodes: &[PlainNode], number: u32) -> Option<usize> {
-    nodes.iter().position(|node| node.number == number)
+    for index in 0..nodes.len() {
+        if nodes[index].number == number {
+            return Some(index);
+        }
+    }
+    None
+}
+
+/// Whether the node at this index has the number.
+fn has_number(nodes: &[PlainNode], index: usize, number: u32) -> bool {
+    match nodes.get(index) {
+        Some(node) => node.number == number,
+        None => false,
+    }
 }
 
 /// The index after the node at this index and all that is below it.
@@ -50,8 +63,7 @@ pub(crate) fn end_of(nodes: &[PlainNode], index: usize) -> usize {
         if awaited == 0 {
             return end;
         }
-        let children = nodes.get(end).map_or(0, |node| node.children);
-        awaited = (awaited - 1).saturating_add(children as u64);
+        awaited = (awaited - 1).saturating_add(nodes[end].children as u64);
     }
     nodes.len()
 }
@@ -62,7 +74,11 @@ pub(crate) fn is_leaf(node: &PlainNode) -> bool {
 }
 
 /// The numbers of the tokens that are left below the node at this index.
-pub(crate) fn tokens_below(alloc: Global, nodes: &[PlainNode], index: usize) -> Result<Vec<u32>> {
+pub(crate) fn tokens_below(
+    alloc: Global,
+    nodes: &[PlainNode],
+    index: usize,
+) -> Result<Vec<u32>, Memory> {
     let mut tokens = Vec::new(alloc);
     let end = end_of(nodes, index);
     for number in index..end {
@@ -74,7 +90,7 @@ pub(crate) fn tokens_below(alloc: Global, nodes: &[PlainNode], index: usize) -> 
 }
 
 /// Adds the token of a node that is a leaf.
-fn push_leaf(node: &PlainNode, tokens: &mut Vec<u32>) -> Result<()> {
+fn push_leaf(node: &PlainNode, tokens: &mut Vec<u32>) -> Result<(), Memory> {
     if is_leaf(node) {
         tokens.push(node.token)?;
     }
@@ -87,7 +103,7 @@ fn push_range(
     from: usize,
     to: usize,
     into: &mut Vec<PlainNode>,
-) -> Result<()> {
+) -> Result<(), Memory> {
     for index in from..to {
         if let Some(node) = nodes.get(index) {
             into.push(*node)?;
@@ -110,7 +126,7 @@ fn flags_without(
     nodes: &[PlainNode],
     index: usize,
     element: u32,
-) -> Result<Option<Vec<bool>>> {
+) -> Result<Option<Vec<bool>>, Memory> {
     let mut flags = Vec::new(alloc);
     let mut found = false;
     let end = end_of(nodes, index);
@@ -119,7 +135,7 @@ fn flags_without(
         if child >= end {
             break;
         }
-        let is_it = nodes.get(child).is_some_and(|node| node.number == element);
+        let is_it = has_number(nodes, child, element);
         found = found || is_it;
         flags.push(!is_it)?;
         child = end_of(nodes, child);
@@ -144,7 +160,7 @@ fn nodes_with_children(
     nodes: &[PlainNode],
     index: usize,
     flags: &[bool],
-) -> Result<Vec<PlainNode>> {
+) -> Result<Vec<PlainNode>, Memory> {
     let mut left = Vec::new(alloc);
     push_range(nodes, 0, index, &mut left)?;
     if let Some(node) = nodes.get(index) {
@@ -172,7 +188,7 @@ fn with_elements(
     nodes: &[PlainNode],
     list: u32,
     flags: &[bool],
-) -> Result<Option<Vec<PlainNode>>> {
+) -> Result<Option<Vec<PlainNode>>, Memory> {
     let Some(index) = index_of(nodes, list) else {
         return Ok(None);
     };
@@ -197,7 +213,7 @@ fn deleted(
     nodes: &[PlainNode],
     list: u32,
     element: u32,
-) -> Result<Option<Vec<PlainNode>>> {
+) -> Result<Option<Vec<PlainNode>>, Memory> {
     let Some(index) = index_of(nodes, list) else {
         return Ok(None);
     };
@@ -213,7 +229,7 @@ fn emptied(
     normal: &Normal,
     nodes: &[PlainNode],
     number: u32,
-) -> Result<Option<Vec<PlainNode>>> {
+) -> Result<Option<Vec<PlainNode>>, Memory> {
     let Some(index) = index_of(nodes, number) else {
         return Ok(None);
     };
@@ -229,7 +245,7 @@ fn emptied(
 }
 
 /// Adds what fits a slot by one step, where it isn't there yet.
-fn push_fitting(normal: &Normal, slot: Sym, fitting: &mut Vec<Sym>) -> Result<()> {
+fn push_fitting(normal: &Normal, slot: Sym, fitting: &mut Vec<Sym>) -> Result<(), Memory> {
     let Sym::Rule(rule) = slot else {
         return Ok(());
     };
@@ -245,7 +261,7 @@ fn push_fitting(normal: &Normal, slot: Sym, fitting: &mut Vec<Sym>) -> Result<()
 }
 
 /// Adds a symbol that isn't there yet.
-fn push_new(symbol: Sym, symbols: &mut Vec<Sym>) -> Result<()> {
+fn push_new(symbol: Sym, symbols: &mut Vec<Sym>) -> Result<(), Memory> {
     if !symbols.contains(&symbol) {
         symbols.push(symbol)?;
     }
@@ -264,7 +280,7 @@ fn is_of(normal: &Normal, symbol: Sym, other: Sym) -> bool {
 
 /// Whether the symbol fits the slot: whether it is the slot, is in it, or fits an alternative of it
 /// that is one symbol.
-fn fits(alloc: Global, normal: &Normal, symbol: Sym, slot: Sym) -> Result<bool> {
+fn fits(alloc: Global, normal: &Normal, symbol: Sym, slot: Sym) -> Result<bool, Memory> {
     let mut fitting = Vec::new(alloc);
     fitting.push(slot)?;
     for index in 0..u32::MAX {
@@ -288,7 +304,7 @@ fn can_replace(
     nodes: &[PlainNode],
     index: usize,
     below: usize,
-) -> Result<bool> {
+) -> Result<bool, Memory> {
     let (Some(node), Some(by)) = (nodes.get(index), nodes.get(below)) else {
         return Ok(false);
     };
@@ -308,7 +324,7 @@ fn replaced(
     nodes: &[PlainNode],
     number: u32,
     by: u32,
-) -> Result<Option<Vec<PlainNode>>> {
+) -> Result<Option<Vec<PlainNode>>, Memory> {
     let (Some(index), Some(below)) = (index_of(nodes, number), index_of(nodes, by)) else {
         return Ok(None);
     };
@@ -331,7 +347,7 @@ pub(crate) fn edited(
     normal: &Normal,
     nodes: &[PlainNode],
     edit: Edit,
-) -> Result<Option<Vec<PlainNode>>> {
+) -> Result<Option<Vec<PlainNode>>, Memory> {
     match edit {
         Edit::Delete { list, element } => deleted(alloc, normal, nodes, list, element),
         Edit::Empty { node } => emptied(alloc, normal, nodes, node),

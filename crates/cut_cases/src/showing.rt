@@ -9,6 +9,7 @@ ghost use Rattle.tree_cut.specs.Cuts.{IsCutOf, cut_tree};
 use crate::comparing::is_same;
 use crate::plain::{PlainNode, tokens_below};
 use anyhow::{Result, bail};
+use faults::Memory;
 use lexer::{Lexer, Tokens};
 use normal_form::Sym;
 use std::alloc::Global;
@@ -51,7 +52,7 @@ fn slot_shown(alloc: Global, tree: &Tree, cut: &Cut, node: u32) -> Result<String
 }
 
 /// Adds what comes after a node to what is still to be written: its children, and a bracket.
-fn push_parts(children: &[u32], parts: &mut Vec<Part>) -> Result<()> {
+fn push_parts(children: &[u32], parts: &mut Vec<Part>) -> Result<(), Memory> {
     parts.push(Part::Close)?;
     for child in children.iter().rev() {
         parts.push(Part::Node(*child))?;
@@ -131,7 +132,7 @@ fn text_shown(
     requires { HasTokens lexer.now.grammar (chars start.now) (map token_of tokens.now.items.items) }
 {
     if !are_kept(tokens, kept) {
-        bail!("no such tokens: {kept:?}");
+        bail!("no such tokens");
     }
     let as_was = print(alloc, start, tokens, lexer, kept, Style::AsWas)?;
     let squeezed = print(alloc, start, tokens, lexer, kept, Style::Squeezed)?;
