@@ -11,7 +11,7 @@ use Rattle.checked_grammar.specs.declared.fault.GrammarFault.TheVariants as gram
 use Rattle.top_call.specs.declared.status.Refusal.{Refusal}
 use Rattle.top_call.specs.declared.status.Refusal.TheVariants.{Memory, CannotRead, Grammar, TooLong}
 use Rattle.top_call.specs.declared.status.NamedFile.TheVariants as read_file
-use Rattle.top_call.specs.Grammar.{GrammarFails, GrammarRead, IsFaultRefusal, IsGrammarText}
+use Rattle.top_call.specs.Grammar.{GrammarFails, GrammarRead, IsFaultRefusal, IsGrammarText, SpellsTheGrammar}
 use Rattle.top_call.specs.Status.{IsGrammarRefusal, ReadFails}
 use Rattle.top_call.specs.World.{IsQuiet, SeenFiles, grammar_limit}
 
@@ -54,6 +54,6 @@ module _ (name : List ℕ) (files files' : SeenFiles) where
   fails_spelled held bytes (Err refusal) same here within quiet why = fails_fault held here within quiet refusal (subst (λ b. IsFaultRefusal b refusal) same why)
 
   -- a file whose bytes spell a grammar gives it
-  pub was_spelled : (held bytes : List ℕ) (outcome : Result CheckedGrammar Refusal) → bytes ≡ held → Holds held (files.shown name) → length held ≤ grammar_limit → IfOk outcome (Spells bytes None) → IfOk outcome (λ grammar. GrammarRead (files.shown name) grammar)
-  was_spelled held bytes (Ok it) same here within spelled = record { bytes = held; read = here; within = within; holds = subst (λ b. Spells b None it) same spelled }
+  pub was_spelled : (held bytes : List ℕ) (outcome : Result CheckedGrammar Refusal) → bytes ≡ held → Holds held (files.shown name) → length held ≤ grammar_limit → IfOk outcome (SpellsTheGrammar bytes) → IfOk outcome (λ grammar. GrammarRead (files.shown name) grammar)
+  was_spelled held bytes (Ok it) same here within spelled = record { bytes = held; read = here; within = within; holds = subst (λ b. SpellsTheGrammar b it) same spelled }
   was_spelled held bytes (Err refusal) same here within spelled = tt

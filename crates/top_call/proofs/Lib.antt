@@ -3,6 +3,10 @@ pub mod ReduceLemmas
 pub mod FileLemmas
 pub mod GrammarLemmas
 pub mod NormalLemmas
+pub mod ProblemLemmas
+pub mod ReadLemmas
+pub mod StartLemmas
+pub mod MustEndLemmas
 pub mod CommandLemmas
 pub mod ReduceByStatusLemmas
 pub mod NormalByStatusLemmas

@@ -8,8 +8,7 @@ use Rattle.top_call.specs.Grammar.{IsFaultIn}
 use Rattle.top_call.specs.Normal.{IsNormalOf, NormalEnds}
 use Rattle.top_call.specs.Normal.NormalEnds.{done, memory, unread, unput, faulty, too_long}
 use Rattle.top_call.specs.NormalByStatus.{NormalByStatus}
-use Rattle.top_call.specs.ReduceByStatus.{IsOneOf}
-use Rattle.top_call.specs.Status.{PutsRefusal, fault_line}
+use Rattle.top_call.specs.Status.{IsOneOf, PutsRefusal, fault_line}
 use Rattle.top_call.specs.World.{PutsPrefix, CallFailed, Puts, PutsLine, SeenFiles, SeenOut, WasRead, grammar_limit}
 
 module _ (grammar : List ℕ) (files files' : SeenFiles) (out out' : SeenOut) where

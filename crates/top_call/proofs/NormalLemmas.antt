@@ -1,5 +1,5 @@
 -- Why there is no normal form, and how `normal` ends.
-use Rattle.std.proofs.Common.{◌≡◌, inl, inr, ℕ, List, None, Option, refl, sym, subst, Result, Ok, Err, IfOk, IfErr, OnOk, MatchResult, Vec}
+use Rattle.std.proofs.Common.{inl, inr, ℕ, List, None, Option, refl, sym, subst, Result, Ok, Err, IfOk, IfErr, OnOk, MatchResult, Vec}
 use Rattle.edge_io.specs.Files.{FileContent, SameFiles}
 use Rattle.grammar_tree.specs.Written.{CheckedGrammar}
 use Rattle.checked_grammar.specs.Answer.{Spells}
@@ -14,7 +14,7 @@ use Rattle.top_call.proofs.FileLemmas.{not_both, not_longer, read_not_over, long
 
 -- the form of a grammar that was read
 pub is_formed : (content : Option FileContent) (grammar : CheckedGrammar) (text : List ℕ) → GrammarRead content grammar → ((bytes : List ℕ) → Spells bytes None grammar → IsNormalOf bytes text) → WasRead grammar_limit content (λ bytes. IsNormalOf bytes text)
-is_formed content grammar text read formed = record { bytes = read.bytes; read = read.read; within = read.within; holds = formed read.bytes read.holds }
+is_formed content grammar text read formed = record { bytes = read.bytes; read = read.read; within = read.within; holds = formed read.bytes read.holds.spelled }
 
 module _ (grammar : List ℕ) (files files' : SeenFiles) where
   -- what gives no grammar ends the command

@@ -1,17 +1,30 @@
 -- Each status of `reduce`, from how it ends.
-use Rattle.std.proofs.Common.{◌≡◌, ◌≢◌, ◌⊎◌, inl, inr, ℕ, ◌+◌, List, [], ◌∷◌, Some, refl}
+use Rattle.std.proofs.Common.{◌≡◌, ◌≢◌, inl, inr, ℕ, ◌+◌, Bool, List, [], ◌∷◌, Some, refl}
+use Rattle.std.proofs.lemmas.Bool.{false≢true}
 use Rattle.keep_guard.specs.Keep.{first_missing}
 use Rattle.edge_io.specs.Files.{IsLonger, SameFiles, SameOthers}
 use Rattle.verdict_table.specs.declared.record.Record.{Record}
-use Rattle.top_call.specs.declared.status.NamedFile.TheVariants as read_file
-use Rattle.top_call.specs.declared.status.Refusal.TheVariants.{Memory, CannotRead, CannotWrite, NotInteresting, TooLong, Script}
+use Rattle.grammar_input.specs.Faults.{IsInputFault}
+use Rattle.grammar_input.specs.FaultText.{fault_text}
+use Rattle.grammar_input.specs.declared.fault.InputFault.{InputFault}
+use Rattle.grammar_input.specs.declared.fault.InputFault.TheVariants as input_fault
+use Rattle.top_call.specs.declared.status.NamedFile.{NamedFile}
+use Rattle.top_call.specs.declared.status.NamedFile.TheVariants as named
+use Rattle.top_call.specs.declared.status.Refusal.TheVariants.{Memory, CannotRead, CannotWrite, NoParse, NotInteresting, TooLong, Script}
 use Rattle.gated_run.specs.Records.{OnlyNo}
-use Rattle.top_call.specs.Reduce.{InputRead, IsReduced, ReduceEnds, ReducesTo}
-use Rattle.top_call.specs.Reduce.ReduceEnds.{done, memory, unread, unwritten, uninteresting, keep_missing, too_long, script}
-use Rattle.top_call.specs.ReduceByStatus.{IsOneOf, PutsItsLine, ReduceByStatus}
-use Rattle.top_call.specs.Words.{ReduceOptions}
-use Rattle.top_call.specs.Status.{keep_text}
-use Rattle.top_call.specs.World.{CallFailed, GateUntouched, PutsMessage, World, input_limit}
+use Rattle.top_call.specs.Grammar.{IsFaultIn}
+use Rattle.top_call.specs.Problem.{start_of}
+use Rattle.top_call.specs.Reduce.{InputHas, IsReached, IsReduced, ProblemRead, ReduceEnds, ReducesTo, limit_of, name_of}
+use Rattle.top_call.specs.Reduce.ReduceEnds.{done, memory, unread, unwritten, faulty, no_token, unparsed, uninteresting, keep_missing, too_long, script}
+use Rattle.top_call.specs.ReduceByStatus.{PutsItsLine, ReduceByStatus}
+use Rattle.top_call.specs.Words.{ModeOptions, ReduceOptions}
+use Rattle.top_call.specs.Status.{IsOneOf, IsUncut, fault_line, keep_text}
+use Rattle.top_call.specs.World.{CallFailed, GateUntouched, PutsLine, PutsMessage, SeenFiles, WasRead, World, grammar_limit}
+
+-- some file is read in each mode
+file_of : (mode : ModeOptions) (files : SeenFiles) → (file : NamedFile) × IsReached mode file files
+file_of ModeOptions.lines files = (named.Input, tt)
+file_of (ModeOptions.perses grammar squeeze) files = (named.Grammar, tt)
 
 module _ (options : ReduceOptions) (records : List Record) (old new : World) where
   abbrev Ends : ℕ → Type 0
@@ -22,7 +35,7 @@ module _ (options : ReduceOptions) (records : List Record) (old new : World) whe
   is_done _ is = absurd (cc is)
 
   is_unread : {status : ℕ} → Ends status → status ≡ 3 → CallFailed old.files new.files
-  is_unread (unread failed same untouched put) is = failed
+  is_unread (unread file reached failed same untouched put) is = failed
   is_unread _ is = absurd (cc is)
 
   is_unwritten : {status : ℕ} → Ends status → status ≡ 4 → CallFailed old.files new.files
@@ -37,65 +50,91 @@ module _ (options : ReduceOptions) (records : List Record) (old new : World) whe
   is_uninteresting (uninteresting only read files gate_quiet put) is = only
   is_uninteresting _ is = absurd (cc is)
 
-  is_too_long : {status : ℕ} → Ends status → status ≡ 10 → IsLonger input_limit (old.files.shown options.input)
-  is_too_long (too_long longer files untouched put) is = longer
+  is_too_long : {status : ℕ} → Ends status → status ≡ 10 → (file : NamedFile) × IsReached options.mode file old.files × IsLonger (limit_of file) (old.files.shown (name_of options file))
+  is_too_long (too_long file reached longer files untouched put) is = (file, reached, longer)
   is_too_long _ is = absurd (cc is)
 
   is_script : {status : ℕ} → Ends status → status ≡ 11 → CallFailed old.gate new.gate
   is_script (script failed not_no read files put) is = failed
   is_script _ is = absurd (cc is)
 
-  is_keep_missing : {status : ℕ} → Ends status → status ≡ 9 → (index : ℕ) × InputRead options old.files (λ start. first_missing options.keeps start ≡ Some index) × PutsMessage (keep_text (index + 1)) old.out new.out
+  is_keep_missing : {status : ℕ} → Ends status → status ≡ 9 → (index : ℕ) × ProblemRead options old.files (λ problem. first_missing options.keeps (start_of problem) ≡ Some index) × PutsMessage (keep_text (index + 1)) old.out new.out
   is_keep_missing (keep_missing index read files untouched put) is = (index, read, put)
   is_keep_missing _ is = absurd (cc is)
 
-  is_early : {status : ℕ} → Ends status → ((status ≡ 3) ⊎ ((status ≡ 9) ⊎ (status ≡ 10))) → GateUntouched records old.gate new.gate
-  is_early (unread failed same untouched put) is = untouched
+  is_fault : {status : ℕ} → Ends status → status ≡ 5
+      → (grammar : List ℕ) × (squeeze : Bool) × (text : List ℕ) × (options.mode ≡ ModeOptions.perses grammar squeeze) × WasRead grammar_limit (old.files.shown grammar) (λ bytes. IsFaultIn bytes text) × PutsLine (fault_line text) old.out new.out
+  is_fault (faulty grammar squeeze text mode read files untouched put) is = (grammar, squeeze, text, mode, read, put)
+  is_fault _ is = absurd (cc is)
+
+  is_no_token : {status : ℕ} → Ends status → status ≡ 6
+      → (grammar : List ℕ) × (squeeze : Bool) × (fault : InputFault) × (options.mode ≡ ModeOptions.perses grammar squeeze) × IsUncut fault × InputHas grammar (λ c bytes. IsInputFault c bytes fault) options old.files × PutsMessage (fault_text fault) old.out new.out
+  is_no_token (no_token grammar squeeze fault mode uncut read files untouched put) is = (grammar, squeeze, fault, mode, uncut, read, put)
+  is_no_token _ is = absurd (cc is)
+
+  is_unparsed : {status : ℕ} → Ends status → status ≡ 7
+      → (grammar : List ℕ) × (squeeze : Bool) × (options.mode ≡ ModeOptions.perses grammar squeeze) × InputHas grammar (λ c bytes. IsInputFault c bytes input_fault.NoParse) options old.files
+  is_unparsed (unparsed grammar squeeze mode read files untouched put) is = (grammar, squeeze, mode, read)
+  is_unparsed _ is = absurd (cc is)
+
+  is_early : {status : ℕ} → Ends status → IsOneOf (3 ∷ 5 ∷ 6 ∷ 7 ∷ 9 ∷ 10 ∷ []) status → GateUntouched records old.gate new.gate
+  is_early (unread file reached failed same untouched put) is = untouched
+  is_early (faulty grammar squeeze text mode read files untouched put) is = untouched
+  is_early (no_token grammar squeeze fault mode uncut read files untouched put) is = untouched
+  is_early (unparsed grammar squeeze mode read files untouched put) is = untouched
   is_early (keep_missing index read files untouched put) is = untouched
-  is_early (too_long longer files untouched put) is = untouched
-  is_early _ (inl is) = absurd (cc is)
-  is_early _ (inr (inl is)) = absurd (cc is)
-  is_early _ (inr (inr is)) = absurd (cc is)
+  is_early (too_long file reached longer files untouched put) is = untouched
+  is_early _ is = absurd (false≢true is)
 
   same_others : {status : ℕ} → Ends status → SameOthers old.files.shown new.files.shown options.output
   same_others (done writes silent) = writes.others
   same_others (memory files gate_quiet put) = λ name other. files.same name
-  same_others (unread failed same untouched put) = λ name other. same name
+  same_others (unread file reached failed same untouched put) = λ name other. same name
   same_others (unwritten failed text reduces others gate_quiet put) = others
+  same_others (faulty grammar squeeze text mode read files untouched put) = λ name other. files.same name
+  same_others (no_token grammar squeeze fault mode uncut read files untouched put) = λ name other. files.same name
+  same_others (unparsed grammar squeeze mode read files untouched put) = λ name other. files.same name
   same_others (uninteresting only read files gate_quiet put) = λ name other. files.same name
   same_others (keep_missing index read files untouched put) = λ name other. files.same name
-  same_others (too_long longer files untouched put) = λ name other. files.same name
+  same_others (too_long file reached longer files untouched put) = λ name other. files.same name
   same_others (script failed not_no read files put) = λ name other. files.same name
 
   same_files : {status : ℕ} → Ends status → status ≢ 0 → status ≢ 4 → SameFiles old.files.shown new.files.shown
   same_files (done writes silent) not_done not_written = absurd (not_done refl)
   same_files (memory files gate_quiet put) not_done not_written = files.same
-  same_files (unread failed same untouched put) not_done not_written = same
+  same_files (unread file reached failed same untouched put) not_done not_written = same
   same_files (unwritten failed text reduces others gate_quiet put) not_done not_written = absurd (not_written refl)
+  same_files (faulty grammar squeeze text mode read files untouched put) not_done not_written = files.same
+  same_files (no_token grammar squeeze fault mode uncut read files untouched put) not_done not_written = files.same
+  same_files (unparsed grammar squeeze mode read files untouched put) not_done not_written = files.same
   same_files (uninteresting only read files gate_quiet put) not_done not_written = files.same
   same_files (keep_missing index read files untouched put) not_done not_written = files.same
-  same_files (too_long longer files untouched put) not_done not_written = files.same
+  same_files (too_long file reached longer files untouched put) not_done not_written = files.same
   same_files (script failed not_no read files put) not_done not_written = files.same
 
-  is_known : {status : ℕ} → Ends status → IsOneOf (0 ∷ 1 ∷ 3 ∷ 4 ∷ 8 ∷ 9 ∷ 10 ∷ 11 ∷ []) status
+  is_known : {status : ℕ} → Ends status → IsOneOf (0 ∷ 1 ∷ 3 ∷ 4 ∷ 5 ∷ 6 ∷ 7 ∷ 8 ∷ 9 ∷ 10 ∷ 11 ∷ []) status
   is_known (done writes silent) = refl
   is_known (memory files gate_quiet put) = refl
-  is_known (unread failed same untouched put) = refl
+  is_known (unread file reached failed same untouched put) = refl
   is_known (unwritten failed text reduces others gate_quiet put) = refl
+  is_known (faulty grammar squeeze text mode read files untouched put) = refl
+  is_known (no_token grammar squeeze fault mode uncut read files untouched put) = refl
+  is_known (unparsed grammar squeeze mode read files untouched put) = refl
   is_known (uninteresting only read files gate_quiet put) = refl
   is_known (keep_missing index read files untouched put) = refl
-  is_known (too_long longer files untouched put) = refl
+  is_known (too_long file reached longer files untouched put) = refl
   is_known (script failed not_no read files put) = refl
 
-  puts_line : {status : ℕ} → Ends status → status ≢ 9 → PutsItsLine old.out new.out status
-  puts_line (done writes silent) other = inl (refl, silent)
-  puts_line (memory files gate_quiet put) other = inr (Memory, tt, refl, put)
-  puts_line (unread failed same untouched put) other = inr (CannotRead read_file.Input, refl, refl, put)
-  puts_line (unwritten failed text reduces others gate_quiet put) other = inr (CannotWrite, tt, refl, put)
-  puts_line (uninteresting only read files gate_quiet put) other = inr (NotInteresting, tt, refl, put)
-  puts_line (keep_missing index read files untouched put) other = absurd (other refl)
-  puts_line (too_long longer files untouched put) other = inr (TooLong read_file.Input, refl, refl, put)
-  puts_line (script failed not_no read files put) other = inr (Script, tt, refl, put)
+  puts_line : {status : ℕ} → Ends status → IsOneOf (0 ∷ 1 ∷ 3 ∷ 4 ∷ 7 ∷ 8 ∷ 10 ∷ 11 ∷ []) status → PutsItsLine options.mode old.files old.out new.out status
+  puts_line (done writes silent) is = inl (refl, silent)
+  puts_line (memory files gate_quiet put) is = inr ((file_of options.mode old.files).0, (file_of options.mode old.files).1, (Memory, tt, refl, put))
+  puts_line (unread file reached failed same untouched put) is = inr (file, reached, (CannotRead file, refl, refl, put))
+  puts_line (unwritten failed text reduces others gate_quiet put) is = inr ((file_of options.mode old.files).0, (file_of options.mode old.files).1, (CannotWrite, tt, refl, put))
+  puts_line (unparsed grammar squeeze mode read files untouched put) is = inr ((file_of options.mode old.files).0, (file_of options.mode old.files).1, (NoParse, tt, refl, put))
+  puts_line (uninteresting only read files gate_quiet put) is = inr ((file_of options.mode old.files).0, (file_of options.mode old.files).1, (NotInteresting, tt, refl, put))
+  puts_line (too_long file reached longer files untouched put) is = inr (file, reached, (TooLong file, refl, refl, put))
+  puts_line (script failed not_no read files put) is = inr ((file_of options.mode old.files).0, (file_of options.mode old.files).1, (Script, tt, refl, put))
+  puts_line _ is = absurd (false≢true is)
 
 pub reduce_by_status : ReduceByStatus
 reduce_by_status options records old new status ends = record {
@@ -104,6 +143,9 @@ reduce_by_status options records old new status ends = record {
   unread = is_unread options records old new ends;
   write = is_unwritten options records old new ends;
   tried = is_tried options records old new ends;
+  fault = is_fault options records old new ends;
+  no_token = is_no_token options records old new ends;
+  unparsed = is_unparsed options records old new ends;
   not_interesting = is_uninteresting options records old new ends;
   keep_missing = is_keep_missing options records old new ends;
   too_long = is_too_long options records old new ends;

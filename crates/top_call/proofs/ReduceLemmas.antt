@@ -1,5 +1,5 @@
--- What a run of a reducer of lines says, in the words of the reduction of lines.
-use Rattle.std.proofs.Common.{◌≡◌, ℕ, List, [], ◌∷◌, Option, IsSome, All, true, false, refl, sym, ap, ◌∙◌, subst}
+-- What a run of a reducer says, in the words of the reduction of lines and of that of trees.
+use Rattle.std.proofs.Common.{◌≡◌, ℕ, List, [], Option, IsSome, true, false, sym, ap, ◌∙◌, subst, Bool}
 use Rattle.std.proofs.lemmas.Bool.{false≢true}
 use Rattle.std.proofs.lemmas.List.Elements.{All-nil, All-weaker}
 use Rattle.script_gate.specs.declared.gate.Verdict.{Verdict}
@@ -13,15 +13,23 @@ use Rattle.reduction_rounds.specs.Laws.{HasVerdicts, IsTextOf, says_yes}
 use Rattle.gated_run.specs.declared.fault.RunFault.{RunFault}
 use Rattle.gated_run.specs.declared.fault.RunFault.TheVariants as run
 use Rattle.gated_run.specs.Records.{AreOfMode, BeginsAt, FirstIs}
-use Rattle.gated_run.specs.RunEnds.{IsDefinedOver, ReducesIn, RunFailsIn, reduction_over}
+use Rattle.gated_run.specs.RunEnds.{ReducesIn, RunFailsIn, reduction_over}
 use Rattle.reduce_core.specs.declared.lines.Line.{Line}
 use Rattle.reduce_core.specs.Laws.{EndsMinimal, IsByRounds}
 use Rattle.reduce_core.specs.LineMode.{AreOfStart, LineInput, in_rounds, line_mode}
 use Rattle.reduce_core.specs.Minimal.{IsCandidate}
 use Rattle.reduce_core.specs.Lines.{numbered_lines, text_of}
-use Rattle.reduce_core.specs.Reduction.{Admits, Reduction, is_listed, reduction}
+use Rattle.reduce_core.specs.Reduction.{Reduction, is_listed, reduction}
+use Rattle.reduce_core.proofs.LineLaws.{line_lawful}
 use Rattle.reduce_core.proofs.LinesLemmas.{text-numbered_lines}
-use Rattle.top_call.specs.Reduce.{AreOf, IsReductionOf, IsUnfinished, ReducesFrom, RunFails}
+use Rattle.tree_mode.specs.Input.{IsInput, TreeInput, TreeState}
+use Rattle.tree_mode.specs.Candidates.{IsCandidate as IsTreeCandidate}
+use Rattle.tree_mode.specs.Listed.{IsKept, text_of as tree_text}
+use Rattle.tree_rounds.specs.Ends.{BeginsWithStart, IsTreeEnd, PersesAsksCandidates, PersesEndsMinimal}
+use Rattle.tree_rounds.specs.Laws.{PersesIsLawful}
+use Rattle.tree_rounds.specs.PersesMode.{perses_mode}
+use Rattle.top_call.specs.Problem.{Problem}
+use Rattle.top_call.specs.Reduce.{AreOf, IsUnfinished, ReducesFrom, RunFails}
 use Rattle.top_call.specs.Status.{refusal_of_run}
 use Rattle.top_call.specs.World.{SeenGate}
 
@@ -35,7 +43,7 @@ module _ (keeps : List (List ℕ)) where
   admits_start start kept = ap (holds_all keeps) (text-numbered_lines start) ∙ kept
 
   -- the records are of candidates of lines
-  pub are_of : (start : List ℕ) (records : List Record) → AreOfMode (line_mode (lines_of start)) (AreOfStart (lines_of start)) records → AreOf keeps start records
+  pub are_of : (start : List ℕ) (records : List Record) → AreOfMode (line_mode (lines_of start)) (AreOfStart (lines_of start)) records → AreOf keeps (Problem.of_lines start) records
   are_of start records of =
       record {
         candidates = All-weaker (λ (r : Record). IsTextOf (line_mode (lines_of start)) (AreOfStart (lines_of start)) r.text) (λ (r : Record). IsCandidate (keeps_admit keeps) start r.text)
@@ -45,15 +53,15 @@ module _ (keeps : List (List ℕ)) where
       }
 
   -- nothing was asked of the start
-  pub are_none : (start : List ℕ) (records : List Record) → records ≡ [] → AreOf keeps start records
-  are_none start records none = subst (AreOf keeps start) (sym none) (record { candidates = All-nil _; first = tt; ends_at_no = λ first_no. first_no })
+  pub are_none : (start : List ℕ) (records : List Record) → records ≡ [] → AreOf keeps (Problem.of_lines start) records
+  are_none start records none = subst (AreOf keeps (Problem.of_lines start)) (sym none) (record { candidates = All-nil _; first = tt; ends_at_no = λ first_no. first_no })
 
   -- the start is asked first, so without a record the reduction waits for its verdict
   start_known : (V : List ℕ → Option Verdict) (start : List ℕ) → HasVerdicts V (reduction (keeps_admit keeps) (says_yes V) start).questions → IsSome (V start)
   unfolding reduction
   start_known V start has = has.0
 
-  pub none_unfinished : (start : List ℕ) → IsUnfinished keeps start []
+  pub none_unfinished : (start : List ℕ) → IsUnfinished keeps (Problem.of_lines start) []
   none_unfinished start has = false≢true (start_known (verdict_in []) start has)
 
   module _ (by_rounds : IsByRounds) (start : List ℕ) (records : List Record) where
@@ -67,13 +75,15 @@ module _ (keeps : List (List ℕ)) where
     first_text verdict first = subst (λ (text : List ℕ). FirstIs text verdict records) (text-numbered_lines start) first
 
     -- the start is reduced to the text of the result
-    pub reduces : EndsMinimal → holds_all keeps start ≡ true → (result : StepResult) → ReducesIn (line_mode (lines_of start)) (AreOfStart (lines_of start)) records result → ReducesFrom keeps start records result.text
+    pub reduces : EndsMinimal → holds_all keeps start ≡ true → (result : StepResult) → ReducesIn (line_mode (lines_of start)) (AreOfStart (lines_of start)) records result → ReducesFrom keeps (Problem.of_lines start) records result.text
     reduces minimal kept result it =
         let V = verdict_in records in
         let defined : HasVerdicts V R.questions = subst (λ (r : rounds.Reduction (List Line)). HasVerdicts V r.questions) same_reduction it.defined in
         let interesting : R.refused ≡ false = sym (ap (λ (r : rounds.Reduction (List Line)). r.refused) same_reduction) ∙ it.interesting in
         let text : result.text ≡ text_of R.lines = ap (λ (r : StepResult). r.text) it.is_result ∙ ap (λ (r : rounds.Reduction (List Line)). text_of r.state) same_reduction in
         let well = minimal (keeps_admit keeps) V start (admits_start start kept) interesting defined in
+        let of_start : AreOfStart (lines_of start) R.lines =
+        subst (λ (r : rounds.Reduction (List Line)). AreOfStart (lines_of start) r.state) same_reduction (it.ends_well (line_lawful (lines_of start)) (admits_start start kept)).kept in
         record {
           first = first_text Yes it.first;
           reduced =
@@ -83,13 +93,70 @@ module _ (keeps : List (List ℕ)) where
                 is_text = text;
                 yes_at_end = ap V text ∙ well.yes_at_end;
                 keeps_stay = ap (holds_all keeps) text ∙ well.listed;
+                candidate = record { lines = R.lines; some = of_start; listed = well.listed; joined = text };
                 minimal = well.minimal;
               };
         }
 
     -- why the start has no reduction
-    pub fails : (gate gate' : SeenGate) (fault : RunFault) → RunFailsIn (line_mode (lines_of start)) records gate.faults gate'.faults fault → RunFails keeps start records gate gate' (refusal_of_run fault)
+    pub fails : (gate gate' : SeenGate) (fault : RunFault) → RunFailsIn (line_mode (lines_of start)) records gate.faults gate'.faults fault → RunFails keeps (Problem.of_lines start) records gate gate' (refusal_of_run fault)
     fails gate gate' run.NotInteresting why = (why.0, first_text No why.1, why.2)
     fails gate gate' run.Script why =
         (why.0, why.1, λ has. why.2 (subst (λ (r : rounds.Reduction (List Line)). HasVerdicts (verdict_in records) r.questions) (sym same_reduction) has))
     fails gate gate' run.Memory why = why
+
+-- nothing was asked of a problem
+pub none_of : (keeps : List (List ℕ)) (problem : Problem) (records : List Record) → records ≡ [] → AreOf keeps problem records
+none_of keeps problem records none = subst (AreOf keeps problem) (sym none) (record { candidates = All-nil _; first = tt; ends_at_no = λ first_no. first_no })
+
+-- the start of a tree is asked first, so without a record the reduction waits for its verdict
+tree_known : (V : List ℕ → Option Verdict) (input : TreeInput) → HasVerdicts V (rounds.reduction (perses_mode input) (says_yes V)).questions → IsSome (V ((perses_mode input).text (perses_mode input).start))
+unfolding rounds.reduction
+tree_known V input has = has.0
+
+pub unfinished_without : (keeps : List (List ℕ)) (problem : Problem) → IsUnfinished keeps problem []
+unfinished_without keeps (Problem.of_lines start) has = none_unfinished keeps start has
+unfinished_without keeps (Problem.of_tree input) has = false≢true (tree_known (verdict_in []) input has)
+
+-- What a run of a reducer of trees says, in the words of the reduction of trees.
+module _ (input : TreeInput) (is : IsInput input) (begins : BeginsWithStart input) (records : List Record) where
+  abbrev T : rounds.Reduction TreeState
+  T = reduction_over (perses_mode input) records
+
+  -- the records are of candidates
+  pub are_of_tree : PersesAsksCandidates → (keeps : List (List ℕ)) → AreOfMode (perses_mode input) (IsKept input) records → AreOf keeps (Problem.of_tree input) records
+  are_of_tree asks keeps of =
+      record {
+        candidates = All-weaker (λ (r : Record). IsTextOf (perses_mode input) (IsKept input) r.text) (λ (r : Record). IsTreeCandidate input r.text) (λ r one. asks input r.text is one) records of.candidates;
+        first = subst (λ (text : List ℕ). BeginsAt text records) begins.text of.first;
+        ends_at_no = of.ends_at_no;
+      }
+
+  -- the tree is reduced to the text of the result
+  pub tree_reduces : PersesIsLawful → PersesAsksCandidates → PersesEndsMinimal → (keeps : List (List ℕ)) → input.admits ≡ keeps_admit keeps → (result : StepResult)
+      → ReducesIn (perses_mode input) (IsKept input) records result → ReducesFrom keeps (Problem.of_tree input) records result.text
+  tree_reduces lawful asks minimal keeps admits result it =
+      let V = verdict_in records in
+      let well = it.ends_well (lawful input is) begins.listed in
+      let ends : IsTreeEnd input V T.state = minimal input V T.state is well in
+      let text : result.text ≡ tree_text input T.state = ap (λ (r : StepResult). r.text) it.is_result in
+      let candidate : IsTreeCandidate input result.text = asks input result.text is (record { state = T.state; kept = well.kept; listed = well.listed; same = text }) in
+      record {
+        first = subst (λ (start : List ℕ). FirstIs start Yes records) begins.text it.first;
+        reduced =
+            record {
+              defined = it.defined;
+              interesting = it.interesting;
+              is_text = text;
+              yes_at_end = ap V text ∙ well.yes_at_end;
+              keeps_stay = sym (ap (λ (a : List ℕ → List ℕ → Bool). a candidate.kept result.text) admits) ∙ candidate.admitted;
+              candidate = candidate;
+              minimal = ends.minimal;
+            };
+      }
+
+  -- why the tree has no reduction
+  pub tree_fails : (keeps : List (List ℕ)) (gate gate' : SeenGate) (fault : RunFault) → RunFailsIn (perses_mode input) records gate.faults gate'.faults fault → RunFails keeps (Problem.of_tree input) records gate gate' (refusal_of_run fault)
+  tree_fails keeps gate gate' run.NotInteresting why = (why.0, subst (λ (start : List ℕ). FirstIs start No records) begins.text why.1, why.2)
+  tree_fails keeps gate gate' run.Script why = why
+  tree_fails keeps gate gate' run.Memory why = why

@@ -30,15 +30,20 @@ pub record IsFaultIn (bytes text : List ℕ) : Type 0 where
   pub is_text : text ≡ fault_text fault
   pub refused : ¬ IsGrammarText bytes
 
--- why bytes have no normal form
+-- why bytes give no grammar
 abbrev pub IsFaultRefusal : List ℕ → Refusal → Type 0
 IsFaultRefusal bytes Memory = Unit {0}
 IsFaultRefusal bytes (Grammar line) = (text : List ℕ) × IsFaultIn bytes text × (string_bytes line ≡ fault_line text)
 IsFaultRefusal bytes _ = ⊥
 
+-- The bytes spell this grammar, well-formed for its first parser rule, and no other such grammar.
+pub record SpellsTheGrammar (bytes : List ℕ) (grammar : CheckedGrammar) : Type 0 where
+  pub spelled : Spells bytes None grammar
+  pub only : (other : CheckedGrammar) → Spells bytes None other → grammar ≡ other
+
 -- the file was read whole, within the limit, and its bytes spell the grammar
 abbrev pub GrammarRead : Option FileContent → CheckedGrammar → Type 0
-GrammarRead content grammar = WasRead grammar_limit content (λ bytes. Spells bytes None grammar)
+GrammarRead content grammar = WasRead grammar_limit content (λ bytes. SpellsTheGrammar bytes grammar)
 
 -- why the file of this name gives no grammar: a call of the files failed, it is longer than the limit, or it was read and has a fault, whose line this is; or out of memory
 abbrev pub GrammarFails : List ℕ → SeenFiles → SeenFiles → Refusal → Type 0

@@ -12,14 +12,24 @@ pub use Rattle.grammar_tree.specs.Faults
 pub use Rattle.grammar_tree.specs.Written
 pub use Rattle.checked_grammar.specs.Answer
 pub use Rattle.checked_grammar.specs.Message
+pub use Rattle.grammar_input.specs.Parsed
+pub use Rattle.grammar_input.specs.Faults as InputFaults
+pub use Rattle.grammar_input.specs.FaultText
+pub use Rattle.tree_mode.specs.Input
+pub use Rattle.tree_mode.specs.Candidates as TreeCandidates
+pub use Rattle.tree_mode.specs.Listed
+pub use Rattle.tree_rounds.specs.PersesMode
+pub use Rattle.tree_rounds.specs.Ends as TreeEnds
 pub use Rattle.normal_form.specs.Laws as FormLaws
 pub use Rattle.normal_form.specs.NormalOf
 pub use Rattle.normal_form.specs.Print
 pub mod Words
 pub mod World
 pub mod Status
-pub mod Reduce
 pub mod Grammar
+pub mod Problem
+pub mod Reduce
+pub mod Read
 pub mod Normal
 pub mod Call
 pub mod ReduceByStatus

@@ -4,8 +4,7 @@ use Rattle.edge_io.specs.Files.{IsLonger}
 use Rattle.top_call.specs.declared.status.NamedFile.TheVariants as read
 use Rattle.top_call.specs.Grammar.{IsFaultIn}
 use Rattle.top_call.specs.Normal.{IsNormalOf, NormalEnds}
-use Rattle.top_call.specs.ReduceByStatus.{IsOneOf}
-use Rattle.top_call.specs.Status.{PutsRefusal, fault_line}
+use Rattle.top_call.specs.Status.{IsOneOf, PutsRefusal, fault_line}
 use Rattle.top_call.specs.World.{PutsPrefix, CallFailed, Puts, PutsLine, SeenFiles, SeenOut, WasRead, grammar_limit}
 
 -- What `normal` has done, by the number of its status.

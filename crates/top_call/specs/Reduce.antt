@@ -1,55 +1,69 @@
 -- The command `reduce`: how it ends, by its status, and what its records are.
-use Rattle.std.specs.Prelude.{◌≡◌, ◌≢◌, ◌⊎◌, ℕ, ◌+◌, List, [], ◌∷◌, ◌++◌, true, false, Option, Some, None, All, MatchResult, Result, codes, option_map}
+use Rattle.std.specs.Prelude.{◌≡◌, ◌≢◌, ◌⊎◌, ℕ, ◌+◌, Bool, List, [], ◌∷◌, ◌++◌, true, false, Option, Some, None, Ok, Err, All, MatchResult, Result, codes, option_map, string_bytes}
+use Rattle.std.specs.Global.{Vec}
 use Rattle.std.specs.List.{IsDistinct}
 use Rattle.std.specs.Str.{bytes_eq}
 use Rattle.script_gate.specs.declared.gate.Verdict.{Verdict}
 use Rattle.script_gate.specs.declared.gate.Verdict.TheVariants.{Yes, No}
 use Rattle.script_gate.specs.declared.log.Log.{Log}
 use Rattle.script_gate.specs.declared.log.Opening.{Opening}
-use Rattle.edge_io.specs.Files.{FileContent, Holds, IsLonger, SameFiles, SameOthers}
+use Rattle.edge_io.specs.Files.{Holds, IsLonger, SameFiles, SameOthers}
 use Rattle.verdict_table.specs.declared.record.Record.{Record}
 use Rattle.verdict_table.specs.TableState.{texts_of, verdict_in}
 use Rattle.keep_guard.specs.Keep.{first_missing, holds_all, keeps_admit}
-use Rattle.reduce_core.specs.Lines.{text_of}
-use Rattle.reduction_rounds.specs.Laws.{HasVerdicts, says_yes}
+use Rattle.reduction_rounds.specs.Laws.{HasVerdicts}
 use Rattle.gated_run.specs.Records.{BeginsAt, FirstIs, FirstIsNo, OnlyNo}
-use Rattle.reduce_core.specs.Reduction.{reduction}
-use Rattle.reduce_core.specs.Minimal.{IsCandidate, IsMinimal}
+use Rattle.grammar_tree.specs.Written.{CheckedGrammar}
+use Rattle.checked_grammar.specs.Answer.{Spells}
+use Rattle.tree_mode.specs.Candidates.{InLanguage}
+use Rattle.tree_mode.specs.Input.{TreeInput}
+use Rattle.grammar_input.specs.Parsed.{IsInputOf}
+use Rattle.grammar_input.specs.Faults.{IsInputFault}
+use Rattle.grammar_input.specs.FaultText.{fault_text}
+use Rattle.grammar_input.specs.declared.fault.InputFault.{InputFault}
+use Rattle.grammar_input.specs.declared.fault.InputFault.TheVariants as input_fault
+use Rattle.top_call.specs.declared.status.NamedFile.{NamedFile}
+use Rattle.top_call.specs.declared.status.NamedFile.TheVariants as named
+use Rattle.top_call.specs.Grammar.{GrammarFails, GrammarRead, IsFaultIn, IsGrammarText}
+use Rattle.top_call.specs.Problem.{IsCandidateOf, IsReductionOf, Problem, questions_of, start_of}
 use Rattle.top_call.specs.declared.status.Refusal.{Refusal}
-use Rattle.top_call.specs.declared.status.Refusal.TheVariants.{Memory, KeepMissing, NotInteresting, Script}
-use Rattle.top_call.specs.Status.{IsKeepRefusal, keep_text, line_of, status_of}
-use Rattle.top_call.specs.Words.{ReduceOptions, file_name_of}
-use Rattle.top_call.specs.World.{CallFailed, FilesKept, IsOver, IsQuiet, IsShownWithin, PutsLine, PutsMessage, SeenFiles, SeenGate, SeenOut, GateUntouched, WasRead, World, input_limit}
+use Rattle.top_call.specs.declared.status.Refusal.TheVariants.{Memory, CannotRead, Grammar, KeepMissing, NoParse, NotInteresting, Script, TooLong, Uncut}
+use Rattle.top_call.specs.Status.{IsKeepRefusal, IsOneOf, IsUncut, fault_line, keep_text, line_of, status_of, word_for}
+use Rattle.top_call.specs.Words.{ModeOptions, ReduceOptions, file_name_of}
+use Rattle.top_call.specs.World.{CallFailed, FilesKept, IsOver, IsQuiet, IsShownWithin, PutsLine, PutsMessage, SeenFiles, SeenGate, SeenOut, GateUntouched, WasRead, World, grammar_limit, input_limit, line_of_text}
 
--- The text is what the start is reduced to over a map of verdicts. The map has a verdict for each text that the reduction asks; the start is interesting, and so is the text, in which each keep text occurs; and of the texts with one line fewer in which each keep text occurs, none is interesting.
-pub record IsReductionOf (keeps : List (List ℕ)) (V : List ℕ → Option Verdict) (start text : List ℕ) : Type 0 where
-  pub defined : HasVerdicts V (reduction (keeps_admit keeps) (says_yes V) start).questions
-  pub interesting : (reduction (keeps_admit keeps) (says_yes V) start).refused ≡ false
-  pub is_text : text ≡ text_of (reduction (keeps_admit keeps) (says_yes V) start).lines
-  pub yes_at_end : V text ≡ Some Yes
-  pub keeps_stay : holds_all keeps text ≡ true
-  pub minimal : IsMinimal (keeps_admit keeps) V (reduction (keeps_admit keeps) (says_yes V) start).lines
+-- the reduction asks for a text that has no record
+abbrev pub IsUnfinished : List (List ℕ) → Problem → List Record → Type 0
+IsUnfinished keeps problem records = ¬ HasVerdicts (verdict_in records) (questions_of keeps problem (verdict_in records))
 
--- the reduction of the start asks for a text that has no record
-abbrev pub IsUnfinished : List (List ℕ) → List ℕ → List Record → Type 0
-IsUnfinished keeps start records = ¬ HasVerdicts (verdict_in records) (reduction (keeps_admit keeps) (says_yes (verdict_in records)) start).questions
+-- a problem reduces to the text over the verdicts of the records, of which the first is the start's yes
+pub record ReducesFrom (keeps : List (List ℕ)) (problem : Problem) (records : List Record) (text : List ℕ) : Type 0 where
+  pub first : FirstIs (start_of problem) Yes records
+  pub reduced : IsReductionOf keeps (verdict_in records) problem text
 
--- a start reduces to the text over the verdicts of the records, of which the first is the start's yes
-pub record ReducesFrom (keeps : List (List ℕ)) (start : List ℕ) (records : List Record) (text : List ℕ) : Type 0 where
-  pub first : FirstIs start Yes records
-  pub reduced : IsReductionOf keeps (verdict_in records) start text
+-- The input is that of the text of the grammar, in which exactly texts with all keep texts are admitted, and of which the squeezed text is tried or not.
+pub record IsTreeProblem (keeps : List (List ℕ)) (grammar : CheckedGrammar) (squeeze : Bool) (text : List ℕ) (input : TreeInput) : Type 0 where
+  pub of_text : IsInputOf grammar text input
+  pub admits : input.admits ≡ keeps_admit keeps
+  pub squeezes : input.squeezes ≡ squeeze
 
--- the input was read whole, within its limit, and the fact holds of it
-abbrev pub InputRead : ReduceOptions → SeenFiles → (List ℕ → Type 0) → Type 0
-InputRead options files P = WasRead input_limit (files.shown options.input) P
+-- The files were read whole, each within its limit, and the fact holds of what they have to be reduced: the lines of the input; or, where the grammar's bytes spell a grammar that has the input in its language, its tree.
+abbrev pub ReadIn : ModeOptions → ReduceOptions → SeenFiles → (Problem → Type 0) → Type 0
+ReadIn ModeOptions.lines options files P = WasRead input_limit (files.shown options.input) (λ start. P (Problem.of_lines start))
+ReadIn (ModeOptions.perses grammar squeeze) options files P =
+    (c : CheckedGrammar) × GrammarRead (files.shown grammar) c
+    × WasRead input_limit (files.shown options.input) (λ text. (input : TreeInput) × IsTreeProblem options.keeps c squeeze text input × P (Problem.of_tree input))
 
--- the same of an input in which each keep text occurs
-abbrev pub InputAccepted : ReduceOptions → SeenFiles → (List ℕ → Type 0) → Type 0
-InputAccepted options files P = InputRead options files (λ start. (holds_all options.keeps start ≡ true) × P start)
+abbrev pub ProblemRead : ReduceOptions → SeenFiles → (Problem → Type 0) → Type 0
+ProblemRead options files P = ReadIn options.mode options files P
 
--- the input reduces to the text
+-- the same of a problem in whose start each keep text occurs
+abbrev pub ProblemAccepted : ReduceOptions → SeenFiles → (Problem → Type 0) → Type 0
+ProblemAccepted options files P = ProblemRead options files (λ problem. (holds_all options.keeps (start_of problem) ≡ true) × P problem)
+
+-- the problem reduces to the text
 abbrev pub ReducesTo : ReduceOptions → SeenFiles → List Record → List ℕ → Type 0
-ReducesTo options files records text = InputAccepted options files (λ start. ReducesFrom options.keeps start records text)
+ReducesTo options files records text = ProblemAccepted options files (λ problem. ReducesFrom options.keeps problem records text)
 
 -- the output file holds what the input reduces to
 pub record IsReduced (options : ReduceOptions) (files files' : SeenFiles) (records : List Record) : Type 0 where
@@ -57,16 +71,16 @@ pub record IsReduced (options : ReduceOptions) (files files' : SeenFiles) (recor
   pub reduces : ReducesTo options files records text
   pub written : Holds text (files'.shown options.output)
 
--- each text is some of the start's lines in their order, in which each keep text occurs, the first is the start, and after its no nothing was asked
-pub record AreOf (keeps : List (List ℕ)) (start : List ℕ) (records : List Record) : Type 0 where
-  pub candidates : All (λ r. IsCandidate (keeps_admit keeps) start r.text) records
-  pub first : BeginsAt start records
+-- each text may be asked, the first is the start, and after its no nothing was asked
+pub record AreOf (keeps : List (List ℕ)) (problem : Problem) (records : List Record) : Type 0 where
+  pub candidates : All (λ r. IsCandidateOf keeps problem r.text) records
+  pub first : BeginsAt (start_of problem) records
   pub ends_at_no : FirstIsNo records → OnlyNo records
 
 -- where there is a record, the texts are those of the input that was read, in which each keep text occurs
 abbrev pub AreCandidates : ReduceOptions → SeenFiles → List Record → Type 0
 AreCandidates options files [] = Unit {0}
-AreCandidates options files (r ∷ records) = InputAccepted options files (λ start. AreOf options.keeps start (r ∷ records))
+AreCandidates options files (r ∷ records) = ProblemAccepted options files (λ problem. AreOf options.keeps problem (r ∷ records))
 
 -- the opening of a worker's gate: the work folder, the script, the input's name without its folder, and the worker's number
 abbrev pub opening_for : ReduceOptions → ℕ → Opening
@@ -84,6 +98,30 @@ pub record WritesReduced (options : ReduceOptions) (records : List Record) (file
   pub files_quiet : IsQuiet files files'
   pub gate_quiet : IsQuiet gate gate'
 
+-- the file is read: the grammar, where the mode has one; and the input, in such a mode once the grammar was read
+abbrev pub IsReached : ModeOptions → NamedFile → SeenFiles → Type 0
+IsReached ModeOptions.lines named.Input files = Unit {0}
+IsReached ModeOptions.lines named.Grammar files = ⊥
+IsReached (ModeOptions.perses grammar squeeze) named.Input files = (c : CheckedGrammar) × GrammarRead (files.shown grammar) c
+IsReached (ModeOptions.perses grammar squeeze) named.Grammar files = Unit {0}
+
+-- the limit of such a file, and its path; of a mode without a grammar no path is asked for
+abbrev pub limit_of : NamedFile → ℕ
+limit_of named.Input = input_limit
+limit_of named.Grammar = grammar_limit
+
+abbrev pub grammar_in : ModeOptions → List ℕ
+grammar_in ModeOptions.lines = []
+grammar_in (ModeOptions.perses grammar squeeze) = grammar
+
+abbrev pub name_of : ReduceOptions → NamedFile → List ℕ
+name_of options named.Input = options.input
+name_of options named.Grammar = grammar_in options.mode
+
+-- the grammar's file spells a grammar, the input was read within its limit, and the fact holds of the two
+abbrev pub InputHas : List ℕ → (CheckedGrammar → List ℕ → Type 0) → ReduceOptions → SeenFiles → Type 0
+InputHas grammar P options files = (c : CheckedGrammar) × GrammarRead (files.shown grammar) c × WasRead input_limit (files.shown options.input) (λ bytes. P c bytes)
+
 -- How `reduce` ends, by its status.
 pub data ReduceEnds (options : ReduceOptions) (records : List Record) (old new : World) : ℕ → Type 0 where
   -- the result was written, and nothing was put on `out`
@@ -95,11 +133,13 @@ pub data ReduceEnds (options : ReduceOptions) (records : List Record) (old new :
       → (gate_quiet : IsQuiet old.gate new.gate)
       → (line : PutsMessage (codes "out of memory") old.out new.out)
       → ReduceEnds options records old new 1
-  -- a call of the files failed, the line names the input, and the gate was not reached
-  unread : (failed : CallFailed old.files new.files)
+  -- a call of the files failed, the line names one of the files that are read, and the gate was not reached
+  unread : (file : NamedFile)
+      → (reached : IsReached options.mode file old.files)
+      → (failed : CallFailed old.files new.files)
       → (same : SameFiles old.files.shown new.files.shown)
       → (untouched : GateUntouched records old.gate new.gate)
-      → (line : PutsMessage (codes "cannot read input") old.out new.out)
+      → (line : PutsMessage (codes "cannot read " ++ word_for file) old.out new.out)
       → ReduceEnds options records old new 3
   -- the input reduces to some text, but a call of the files failed, and the output file may hold anything
   unwritten : (failed : CallFailed old.files new.files)
@@ -109,49 +149,101 @@ pub data ReduceEnds (options : ReduceOptions) (records : List Record) (old new :
       → (gate_quiet : IsQuiet old.gate new.gate)
       → (line : PutsMessage (codes "cannot write") old.out new.out)
       → ReduceEnds options records old new 4
+  -- the file has no well-formed grammar, the line says why, and the gate was not reached
+  faulty : (grammar : List ℕ) (squeeze : Bool) (text : List ℕ)
+      → (mode : options.mode ≡ ModeOptions.perses grammar squeeze)
+      → (read : WasRead grammar_limit (old.files.shown grammar) (λ bytes. IsFaultIn bytes text))
+      → (files : FilesKept old.files new.files)
+      → (untouched : GateUntouched records old.gate new.gate)
+      → (line : PutsLine (fault_line text) old.out new.out)
+      → ReduceEnds options records old new 5
+  -- the grammar was read; the input isn't UTF-8, or isn't cut into tokens, and the line says from where on; and the gate was not reached
+  no_token : (grammar : List ℕ) (squeeze : Bool) (fault : InputFault)
+      → (mode : options.mode ≡ ModeOptions.perses grammar squeeze)
+      → (uncut : IsUncut fault)
+      → (read : InputHas grammar (λ c bytes. IsInputFault c bytes fault) options old.files)
+      → (files : FilesKept old.files new.files)
+      → (untouched : GateUntouched records old.gate new.gate)
+      → (line : PutsMessage (fault_text fault) old.out new.out)
+      → ReduceEnds options records old new 6
+  -- the grammar was read, its start rule doesn't derive the input's tokens, and the gate was not reached
+  unparsed : (grammar : List ℕ) (squeeze : Bool)
+      → (mode : options.mode ≡ ModeOptions.perses grammar squeeze)
+      → (read : InputHas grammar (λ c bytes. IsInputFault c bytes input_fault.NoParse) options old.files)
+      → (files : FilesKept old.files new.files)
+      → (untouched : GateUntouched records old.gate new.gate)
+      → (line : PutsMessage (codes "input does not parse") old.out new.out)
+      → ReduceEnds options records old new 7
   -- the input was read, the gate said no to it, and wasn't asked again
   uninteresting : (only : OnlyNo records)
-      → (read : InputAccepted options old.files (λ start. FirstIs start No records))
+      → (read : ProblemAccepted options old.files (λ problem. FirstIs (start_of problem) No records))
       → (files : FilesKept old.files new.files)
       → (gate_quiet : IsQuiet old.gate new.gate)
       → (line : PutsMessage (codes "start is not interesting") old.out new.out)
       → ReduceEnds options records old new 8
   -- the input was read, a keep text doesn't occur in it, the line names the first such by its number from 1, and the gate was not reached
   keep_missing : (index : ℕ)
-      → (read : InputRead options old.files (λ start. first_missing options.keeps start ≡ Some index))
+      → (read : ProblemRead options old.files (λ problem. first_missing options.keeps (start_of problem) ≡ Some index))
       → (files : FilesKept old.files new.files)
       → (untouched : GateUntouched records old.gate new.gate)
       → (line : PutsMessage (keep_text (index + 1)) old.out new.out)
       → ReduceEnds options records old new 9
-  -- the input is longer than its limit, and the gate was not reached
-  too_long : (longer : IsLonger input_limit (old.files.shown options.input))
+  -- a file that is read is longer than its limit, the line names it, and the gate was not reached
+  too_long : (file : NamedFile)
+      → (reached : IsReached options.mode file old.files)
+      → (longer : IsLonger (limit_of file) (old.files.shown (name_of options file)))
       → (files : FilesKept old.files new.files)
       → (untouched : GateUntouched records old.gate new.gate)
-      → (line : PutsMessage (codes "input is too long") old.out new.out)
+      → (line : PutsMessage (word_for file ++ codes " is too long") old.out new.out)
       → ReduceEnds options records old new 10
   -- the input was read, a call of the gate failed, the gate hadn't said no to the input, and its reduction wasn't finished
   script : (failed : CallFailed old.gate new.gate)
       → (not_no : ¬ FirstIsNo records)
-      → (read : InputAccepted options old.files (λ start. IsUnfinished options.keeps start records))
+      → (read : ProblemAccepted options old.files (λ problem. IsUnfinished options.keeps problem records))
       → (files : FilesKept old.files new.files)
       → (line : PutsMessage (codes "script fault at worker 1") old.out new.out)
       → ReduceEnds options records old new 11
 
+-- what is visible of the files has this fact of what is reduced: the input is within its limit; and in mode perses the grammar is too, and spells a grammar that has the input in its language
+abbrev pub ShownIn : ModeOptions → ReduceOptions → SeenFiles → (List ℕ → Type 0) → Type 0
+ShownIn ModeOptions.lines options files P = IsShownWithin input_limit (files.shown options.input) P
+ShownIn (ModeOptions.perses grammar squeeze) options files P =
+    IsShownWithin grammar_limit (files.shown grammar) (λ bytes. (c : CheckedGrammar) × Spells bytes None c
+    × IsShownWithin input_limit (files.shown options.input) (λ text. InLanguage c text × P text))
+
+abbrev pub IsShownProblem : ReduceOptions → SeenFiles → (List ℕ → Type 0) → Type 0
+IsShownProblem options files P = ShownIn options.mode options files P
+
+-- what is visible of the files is a grammar within its limit, and an input within its limit with such a fault
+abbrev pub IsShownFault : List ℕ → ReduceOptions → SeenFiles → (InputFault → Type 0) → Type 0
+IsShownFault grammar options files P =
+    IsShownWithin grammar_limit (files.shown grammar) (λ bytes. (c : CheckedGrammar) × Spells bytes None c
+    × IsShownWithin input_limit (files.shown options.input) (λ text. (fault : InputFault) × IsInputFault c text fault × P fault))
+
 -- Which status it has to be. This follows from how `reduce` ends.
 pub record ReduceMustEnd (options : ReduceOptions) (records : List Record) (old new : World) (status : ℕ) : Type 0 where
-  -- an input over its limit is refused
-  pub over : IsOver input_limit (old.files.shown options.input) → (status ≡ 10) ⊎ ((status ≡ 3) ⊎ (status ≡ 1))
-  -- an input that isn't there can't be read
-  pub missing : old.files.shown options.input ≡ Some None → (status ≡ 3) ⊎ (status ≡ 1)
-  -- an input in which a keep text doesn't occur is refused
-  pub keep_missing : IsShownWithin input_limit (old.files.shown options.input) (λ start. holds_all options.keeps start ≡ false) → (status ≡ 9) ⊎ ((status ≡ 3) ⊎ (status ≡ 1))
-  -- an input within its limit in which each keep text occurs is reduced, or isn't interesting, where no call failed
-  pub complete : IsShownWithin input_limit (old.files.shown options.input) (λ start. holds_all options.keeps start ≡ true) → ¬ CallFailed old.files new.files → ¬ CallFailed old.gate new.gate
-      → (status ≡ 0) ⊎ ((status ≡ 8) ⊎ (status ≡ 1))
+  -- a grammar over its limit is refused
+  pub grammar_over : (grammar : List ℕ) (squeeze : Bool) → options.mode ≡ ModeOptions.perses grammar squeeze → IsOver grammar_limit (old.files.shown grammar) → IsOneOf (10 ∷ 3 ∷ 1 ∷ []) status
+  -- a grammar that isn't there can't be read
+  pub grammar_missing : (grammar : List ℕ) (squeeze : Bool) → options.mode ≡ ModeOptions.perses grammar squeeze → old.files.shown grammar ≡ Some None → IsOneOf (3 ∷ 1 ∷ []) status
+  -- a faulty grammar within its limit is refused
+  pub faulty : (grammar : List ℕ) (squeeze : Bool) → options.mode ≡ ModeOptions.perses grammar squeeze → IsShownWithin grammar_limit (old.files.shown grammar) (λ bytes. ¬ IsGrammarText bytes) → IsOneOf (5 ∷ 3 ∷ 1 ∷ []) status
+  -- an input over its limit is refused, unless the grammar was refused before
+  pub over : IsOver input_limit (old.files.shown options.input) → IsOneOf (10 ∷ 3 ∷ 5 ∷ 1 ∷ []) status
+  -- an input that isn't there can't be read, unless the grammar was refused before
+  pub missing : old.files.shown options.input ≡ Some None → IsOneOf (3 ∷ 5 ∷ 10 ∷ 1 ∷ []) status
+  -- an input within its limit whose bytes aren't cut into tokens is refused, where the grammar is well-formed
+  pub no_token : (grammar : List ℕ) (squeeze : Bool) → options.mode ≡ ModeOptions.perses grammar squeeze → IsShownFault grammar options old.files (λ fault. IsUncut fault) → IsOneOf (6 ∷ 3 ∷ 1 ∷ []) status
+  -- one whose tokens the start rule doesn't derive is refused, where the grammar is well-formed
+  pub unparsed : (grammar : List ℕ) (squeeze : Bool) → options.mode ≡ ModeOptions.perses grammar squeeze → IsShownFault grammar options old.files (λ fault. fault ≡ input_fault.NoParse) → IsOneOf (7 ∷ 3 ∷ 1 ∷ []) status
+  -- an input in which a keep text doesn't occur is refused, where it is a problem of its mode
+  pub keep_missing : IsShownProblem options old.files (λ start. holds_all options.keeps start ≡ false) → IsOneOf (9 ∷ 3 ∷ 1 ∷ []) status
+  -- a problem in which each keep text occurs is reduced, or isn't interesting, where no call failed
+  pub complete : IsShownProblem options old.files (λ start. holds_all options.keeps start ≡ true) → ¬ CallFailed old.files new.files → ¬ CallFailed old.gate new.gate → IsOneOf (0 ∷ 8 ∷ 1 ∷ []) status
   -- a first no ends the run
-  pub first_no : FirstIsNo records → (status ≡ 8) ⊎ (status ≡ 1)
-  -- where a call of the files failed, the input wasn't read or the result wasn't written
-  pub files_failed : ¬ IsQuiet old.files new.files → (status ≡ 3) ⊎ (status ≡ 4)
+  pub first_no : FirstIsNo records → IsOneOf (8 ∷ 1 ∷ []) status
+  -- where a call of the files failed, a file wasn't read or the result wasn't written
+  pub files_failed : ¬ IsQuiet old.files new.files → IsOneOf (3 ∷ 4 ∷ []) status
   -- where a call of the gate failed, that is the status
   pub gate_failed : ¬ IsQuiet old.gate new.gate → status ≡ 11
   -- nothing is put where the command succeeds, so only the put of another status's line can fail
@@ -171,12 +263,31 @@ pub record Reduces (options : ReduceOptions) (may_say : List ℕ → Verdict →
   pub sound : RecordsAreSound options may_say records old.gate new.gate
   pub candidates : AreCandidates options old.files records
 
--- why a start has no reduction
-abbrev pub RunFails : List (List ℕ) → List ℕ → List Record → SeenGate → SeenGate → Refusal → Type 0
-RunFails keeps start records old new Memory = IsQuiet old new
-RunFails keeps start records old new NotInteresting = OnlyNo records × FirstIs start No records × IsQuiet old new
-RunFails keeps start records old new Script = CallFailed old new × (¬ FirstIsNo records) × IsUnfinished keeps start records
-RunFails keeps start records old new _ = ⊥
+-- why a problem has no reduction
+abbrev pub RunFails : List (List ℕ) → Problem → List Record → SeenGate → SeenGate → Refusal → Type 0
+RunFails keeps problem records old new Memory = IsQuiet old new
+RunFails keeps problem records old new NotInteresting = OnlyNo records × FirstIs (start_of problem) No records × IsQuiet old new
+RunFails keeps problem records old new Script = CallFailed old new × (¬ FirstIsNo records) × IsUnfinished keeps problem records
+RunFails keeps problem records old new _ = ⊥
+
+-- how the run of a problem ended: with the text that it reduces to, or why there is none
+abbrev pub ProblemEnds : List (List ℕ) → Problem → List Record → SeenGate → SeenGate → Result (Vec ℕ) Refusal → Type 0
+ProblemEnds keeps problem records old new (Ok text) = ReducesFrom keeps problem records text.items × IsQuiet old new
+ProblemEnds keeps problem records old new (Err refusal) = RunFails keeps problem records old new refusal
+
+-- why there is no problem: a file wasn't read, the grammar is faulty, or the input isn't in its language
+abbrev pub ProblemFails : ReduceOptions → SeenFiles → SeenFiles → Refusal → Type 0
+ProblemFails options files files' Memory = IsQuiet files files'
+ProblemFails options files files' (CannotRead file) = IsReached options.mode file files × CallFailed files files'
+ProblemFails options files files' (TooLong file) = IsReached options.mode file files × IsLonger (limit_of file) (files.shown (name_of options file)) × IsQuiet files files'
+ProblemFails options files files' (Grammar line) =
+    (grammar : List ℕ) × (squeeze : Bool) × (options.mode ≡ ModeOptions.perses grammar squeeze) × GrammarFails grammar files files' (Grammar line)
+ProblemFails options files files' (Uncut line) =
+    (grammar : List ℕ) × (squeeze : Bool) × (fault : InputFault) × (options.mode ≡ ModeOptions.perses grammar squeeze) × IsUncut fault × InputHas grammar (λ c bytes. IsInputFault c bytes fault) options files
+    × (string_bytes line ≡ line_of_text (fault_text fault)) × IsQuiet files files'
+ProblemFails options files files' NoParse =
+    (grammar : List ℕ) × (squeeze : Bool) × (options.mode ≡ ModeOptions.perses grammar squeeze) × InputHas grammar (λ c bytes. IsInputFault c bytes input_fault.NoParse) options files × IsQuiet files files'
+ProblemFails options files files' _ = ⊥
 
 -- why an input wasn't accepted: this keep text is the first that doesn't occur in it, or out of memory
 abbrev pub KeepFails : List (List ℕ) → List ℕ → Refusal → Type 0

@@ -1,39 +1,43 @@
 -- What each status of `reduce` means, read off how it ends.
-use Rattle.std.specs.Prelude.{◌≡◌, ◌≢◌, ◌⊎◌, ℕ, ◌+◌, ◌==◌, List, [], ◌∷◌, Some, IsTrue}
-use Rattle.std.specs.List.{list_any}
+use Rattle.std.specs.Prelude.{◌≡◌, ◌≢◌, ◌⊎◌, ℕ, ◌+◌, Bool, List, [], ◌∷◌, Some}
 use Rattle.keep_guard.specs.Keep.{first_missing}
 use Rattle.edge_io.specs.Files.{IsLonger, SameFiles, SameOthers}
 use Rattle.verdict_table.specs.declared.record.Record.{Record}
-use Rattle.top_call.specs.declared.status.NamedFile.TheVariants as read
 use Rattle.gated_run.specs.Records.{OnlyNo}
-use Rattle.top_call.specs.Reduce.{InputRead, IsReduced, ReduceEnds, ReducesTo}
-use Rattle.top_call.specs.Status.{PutsRefusal, keep_text}
-use Rattle.top_call.specs.Words.{ReduceOptions}
-use Rattle.top_call.specs.World.{CallFailed, GateUntouched, PutsMessage, SeenOut, World, input_limit}
+use Rattle.grammar_input.specs.Faults.{IsInputFault}
+use Rattle.grammar_input.specs.FaultText.{fault_text}
+use Rattle.grammar_input.specs.declared.fault.InputFault.{InputFault}
+use Rattle.grammar_input.specs.declared.fault.InputFault.TheVariants as input_fault
+use Rattle.top_call.specs.declared.status.NamedFile.{NamedFile}
+use Rattle.top_call.specs.Grammar.{IsFaultIn}
+use Rattle.top_call.specs.Problem.{start_of}
+use Rattle.top_call.specs.Reduce.{InputHas, IsReached, IsReduced, ProblemRead, ReduceEnds, ReducesTo, limit_of, name_of}
+use Rattle.top_call.specs.Status.{IsOneOf, IsUncut, PutsRefusal, fault_line, keep_text}
+use Rattle.top_call.specs.Words.{ModeOptions, ReduceOptions}
+use Rattle.top_call.specs.World.{CallFailed, GateUntouched, PutsLine, PutsMessage, SeenFiles, SeenOut, WasRead, World, grammar_limit}
 
--- the status is one of these
-abbrev pub IsOneOf : List ℕ → ℕ → Type 0
-IsOneOf statuses status = IsTrue (list_any (λ s. s == status) statuses)
-
--- nothing was put at status 0, and at another the line of a refusal that has it, which names the input if it names a file
-abbrev pub PutsItsLine : SeenOut → SeenOut → ℕ → Type 0
-PutsItsLine out out' status = ((status ≡ 0) × (out' ≡ out)) ⊎ PutsRefusal read.Input out out' status
+-- nothing was put at status 0, and at another the line of a refusal that has it, which names a file that is read if it names one
+abbrev pub PutsItsLine : ModeOptions → SeenFiles → SeenOut → SeenOut → ℕ → Type 0
+PutsItsLine mode files out out' status = ((status ≡ 0) × (out' ≡ out)) ⊎ ((file : NamedFile) × IsReached mode file files × PutsRefusal file out out' status)
 
 -- What `reduce` has done, by the number of its status.
 pub record ReduceMeans (options : ReduceOptions) (records : List Record) (old new : World) (status : ℕ) : Type 0 where
-  pub known : IsOneOf (0 ∷ 1 ∷ 3 ∷ 4 ∷ 8 ∷ 9 ∷ 10 ∷ 11 ∷ []) status
+  pub known : IsOneOf (0 ∷ 1 ∷ 3 ∷ 4 ∷ 5 ∷ 6 ∷ 7 ∷ 8 ∷ 9 ∷ 10 ∷ 11 ∷ []) status
   pub done : status ≡ 0 → IsReduced options old.files new.files records
   pub unread : status ≡ 3 → CallFailed old.files new.files
   pub write : status ≡ 4 → CallFailed old.files new.files
   pub tried : status ≡ 4 → (text : List ℕ) × ReducesTo options old.files records text
+  pub fault : status ≡ 5 → (grammar : List ℕ) × (squeeze : Bool) × (text : List ℕ) × (options.mode ≡ ModeOptions.perses grammar squeeze) × WasRead grammar_limit (old.files.shown grammar) (λ bytes. IsFaultIn bytes text) × PutsLine (fault_line text) old.out new.out
+  pub no_token : status ≡ 6 → (grammar : List ℕ) × (squeeze : Bool) × (fault : InputFault) × (options.mode ≡ ModeOptions.perses grammar squeeze) × IsUncut fault × InputHas grammar (λ c bytes. IsInputFault c bytes fault) options old.files × PutsMessage (fault_text fault) old.out new.out
+  pub unparsed : status ≡ 7 → (grammar : List ℕ) × (squeeze : Bool) × (options.mode ≡ ModeOptions.perses grammar squeeze) × InputHas grammar (λ c bytes. IsInputFault c bytes input_fault.NoParse) options old.files
   pub not_interesting : status ≡ 8 → OnlyNo records
-  pub keep_missing : status ≡ 9 → (index : ℕ) × InputRead options old.files (λ start. first_missing options.keeps start ≡ Some index) × PutsMessage (keep_text (index + 1)) old.out new.out
-  pub too_long : status ≡ 10 → IsLonger input_limit (old.files.shown options.input)
+  pub keep_missing : status ≡ 9 → (index : ℕ) × ProblemRead options old.files (λ problem. first_missing options.keeps (start_of problem) ≡ Some index) × PutsMessage (keep_text (index + 1)) old.out new.out
+  pub too_long : status ≡ 10 → (file : NamedFile) × IsReached options.mode file old.files × IsLonger (limit_of file) (old.files.shown (name_of options file))
   pub script : status ≡ 11 → CallFailed old.gate new.gate
-  pub early : ((status ≡ 3) ⊎ ((status ≡ 9) ⊎ (status ≡ 10))) → GateUntouched records old.gate new.gate
+  pub early : IsOneOf (3 ∷ 5 ∷ 6 ∷ 7 ∷ 9 ∷ 10 ∷ []) status → GateUntouched records old.gate new.gate
   pub others : SameOthers old.files.shown new.files.shown options.output
   pub unwritten : status ≢ 0 → status ≢ 4 → SameFiles old.files.shown new.files.shown
-  pub line : status ≢ 9 → PutsItsLine old.out new.out status
+  pub line : IsOneOf (0 ∷ 1 ∷ 3 ∷ 4 ∷ 7 ∷ 8 ∷ 10 ∷ 11 ∷ []) status → PutsItsLine options.mode old.files old.out new.out status
 
 abbrev pub ReduceByStatus : Type 0
 ReduceByStatus = (options : ReduceOptions) (records : List Record) (old new : World) (status : ℕ) → ReduceEnds options records old new status → ReduceMeans options records old new status

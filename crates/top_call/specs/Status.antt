@@ -1,15 +1,19 @@
 -- The refusals of the program: the status and the line of each, and which of them a step may give. The texts are also written where the ends of each command are defined, so that those can be read by themselves.
-use Rattle.std.specs.Prelude.{◌≡◌, ◌⊎◌, ℕ, List, ◌++◌, Option, codes, string_bytes}
+use Rattle.std.specs.Prelude.{◌≡◌, ◌⊎◌, ℕ, ◌==◌, List, ◌++◌, IsTrue, Option, codes, string_bytes}
+use Rattle.std.specs.List.{list_any}
 use Rattle.std.specs.Fmt.{decimal}
 use Rattle.edge_io.specs.Files.{FileContent, IsLonger}
 use Rattle.script_gate.specs.declared.gate.GateFault.{GateFault}
 use Rattle.script_gate.specs.declared.gate.GateFault.TheVariants.{Failed as GateFailed, Memory as GateMemory}
+use Rattle.grammar_input.specs.FaultText.{fault_text}
+use Rattle.grammar_input.specs.declared.fault.InputFault.{InputFault}
+use Rattle.grammar_input.specs.declared.fault.InputFault.TheVariants as input_fault
 use Rattle.gated_run.specs.declared.fault.RunFault.{RunFault}
 use Rattle.gated_run.specs.declared.fault.RunFault.TheVariants as run
 use Rattle.top_call.specs.declared.status.NamedFile.{NamedFile}
 use Rattle.top_call.specs.declared.status.NamedFile.TheVariants as read
 use Rattle.top_call.specs.declared.status.Refusal.{Refusal}
-use Rattle.top_call.specs.declared.status.Refusal.TheVariants.{Memory, Usage, CannotRead, CannotWrite, Grammar, NotInteresting, KeepMissing, TooLong, Script}
+use Rattle.top_call.specs.declared.status.Refusal.TheVariants.{Memory, Usage, CannotRead, CannotWrite, Grammar, Uncut, NoParse, NotInteresting, KeepMissing, TooLong, Script}
 use Rattle.top_call.specs.World.{PutsPrefix, CallFailed, FilesKept, IsQuiet, Puts, PutsLine, SeenFiles, SeenGate, SeenOut, line_of_text}
 
 -- how a line names a file that is read
@@ -25,6 +29,10 @@ fault_line text = line_of_text (codes "grammar: " ++ text)
 abbrev pub keep_text : ℕ → List ℕ
 keep_text number = codes "keep text " ++ (decimal number ++ codes " is missing")
 
+-- the status is one of these
+abbrev pub IsOneOf : List ℕ → ℕ → Type 0
+IsOneOf statuses status = IsTrue (list_any (λ s. s == status) statuses)
+
 -- the status and the line of a refusal
 abbrev pub ending_of : Refusal → ℕ × List ℕ
 ending_of Memory = (1, line_of_text (codes "out of memory"))
@@ -32,6 +40,8 @@ ending_of Usage = (2, line_of_text (codes "bad command line"))
 ending_of (CannotRead file) = (3, line_of_text (codes "cannot read " ++ word_for file))
 ending_of CannotWrite = (4, line_of_text (codes "cannot write"))
 ending_of (Grammar line) = (5, string_bytes line)
+ending_of (Uncut line) = (6, string_bytes line)
+ending_of NoParse = (7, line_of_text (codes "input does not parse"))
 ending_of NotInteresting = (8, line_of_text (codes "start is not interesting"))
 ending_of (KeepMissing line) = (9, string_bytes line)
 ending_of (TooLong file) = (10, line_of_text (word_for file ++ codes " is too long"))
@@ -102,6 +112,20 @@ abbrev pub IsGrammarRefusal : List ℕ → Refusal → Type 0
 IsGrammarRefusal text Memory = Unit {0}
 IsGrammarRefusal text (Grammar line) = string_bytes line ≡ fault_line text
 IsGrammarRefusal text _ = ⊥
+
+-- the fault is that bytes aren't UTF-8, or aren't cut into tokens
+abbrev pub IsUncut : InputFault → Type 0
+IsUncut (input_fault.NotUtf8 offset) = Unit {0}
+IsUncut (input_fault.NoToken offset) = Unit {0}
+IsUncut input_fault.NoParse = ⊥
+IsUncut input_fault.Memory = ⊥
+
+-- the refusal of an input that has this fault
+abbrev pub IsInputRefusal : InputFault → Refusal → Type 0
+IsInputRefusal fault Memory = Unit {0}
+IsInputRefusal fault (Uncut line) = IsUncut fault × (string_bytes line ≡ line_of_text (fault_text fault))
+IsInputRefusal fault NoParse = fault ≡ input_fault.NoParse
+IsInputRefusal fault _ = ⊥
 
 -- the refusal of an input in which this keep text doesn't occur, or out of memory
 abbrev pub IsKeepRefusal : ℕ → Refusal → Type 0

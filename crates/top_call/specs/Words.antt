@@ -3,11 +3,20 @@ use Rattle.std.specs.Prelude.{ℕ, zero, suc, ◌==◌, not, ◌&&◌, Bool, tru
 use Rattle.std.specs.List.{list_any}
 use Rattle.std.specs.Str.{bytes_eq}
 use Rattle.top_call.specs.declared.words.ReduceLine.{ReduceLine}
+use Rattle.top_call.specs.declared.words.FilesLine.{FilesLine}
+use Rattle.top_call.specs.declared.words.ModeLine.{ModeLine}
+use Rattle.top_call.specs.declared.words.ModeLine.TheVariants as mode_read
 use Rattle.top_call.specs.declared.words.CommandLine.{CommandLine}
 use Rattle.top_call.specs.declared.words.CommandLine.TheVariants as read
 
--- what a command line of `reduce` gives: the paths of the input, the output and the script, and the keep texts
+-- which states are tried: lists of lines; or trees of the grammar in a file, of which the squeezed text of the whole is tried or not
+pub data ModeOptions : Type 0 where
+  lines : ModeOptions
+  perses : (grammar : List ℕ) (squeeze : Bool) → ModeOptions
+
+-- what a command line of `reduce` gives: the mode, the paths of the input, the output and the script, and the keep texts
 pub record ReduceOptions : Type 0 where
+  pub mode : ModeOptions
   pub input : List ℕ
   pub output : List ℕ
   pub script : List ℕ
@@ -34,8 +43,8 @@ first_option name [] = None
 first_option name (word ∷ []) = None
 first_option name (word ∷ (value ∷ rest)) = if bytes_eq word name && is_value value then Some (record { value = value; rest = rest }) else None
 
--- what follows the option, where the words begin with it
-abbrev pub on_option : {X : Type 0} → (OptionValue → Option X) → Option OptionValue → Option X
+-- what follows the option or the options, where the words begin with them
+abbrev pub on_option : {X Y : Type 0} → (Y → Option X) → Option Y → Option X
 on_option next None = None
 on_option next (Some t) = next t
 
@@ -56,14 +65,50 @@ keeps_in [] = []
 keeps_in (word ∷ []) = []
 keeps_in (word ∷ (value ∷ rest)) = value ∷ keeps_in rest
 
--- `--mode lines --input F --output F --script F`, and then at most 8 times `--keep T`
-abbrev pub reduce_line : List (List ℕ) → Option ReduceOptions
-reduce_line words =
-    on_option (λ mode. if bytes_eq mode.value (codes "lines") then
+-- the paths of the input, the output and the script, and the words after them
+pub record FileOptions : Type 0 where
+  pub input : List ℕ
+  pub output : List ℕ
+  pub script : List ℕ
+  pub rest : List (List ℕ)
+
+-- `--input F --output F --script F`
+abbrev pub file_options : List (List ℕ) → Option FileOptions
+file_options words =
     on_option (λ input. on_option (λ output. on_option (λ script.
-    if are_keeps 8 script.rest then Some (record { input = input.value; output = output.value; script = script.value; keeps = keeps_in script.rest }) else None)
-    (first_option (codes "--script") output.rest)) (first_option (codes "--output") input.rest)) (first_option (codes "--input") mode.rest)
-    else None) (first_option (codes "--mode") words)
+    Some (record { input = input.value; output = output.value; script = script.value; rest = script.rest }))
+    (first_option (codes "--script") output.rest)) (first_option (codes "--output") input.rest)) (first_option (codes "--input") words)
+
+-- whether the words begin with `--squeeze`, and those after it
+pub record SqueezeOption : Type 0 where
+  pub squeeze : Bool
+  pub rest : List (List ℕ)
+
+abbrev pub squeeze_option : List (List ℕ) → SqueezeOption
+squeeze_option [] = record { squeeze = false; rest = [] }
+squeeze_option (word ∷ rest) = if bytes_eq word (codes "--squeeze") then record { squeeze = true; rest = rest } else record { squeeze = false; rest = word ∷ rest }
+
+-- these files in this mode, and then at most 8 times `--keep T`
+abbrev pub with_keeps : ModeOptions → FileOptions → List (List ℕ) → Option ReduceOptions
+with_keeps mode files words =
+    if are_keeps 8 words then Some (record { mode = mode; input = files.input; output = files.output; script = files.script; keeps = keeps_in words }) else None
+
+-- `--mode lines`, the files, and the keep texts
+abbrev pub lines_line : List (List ℕ) → Option ReduceOptions
+lines_line words =
+    on_option (λ mode. if bytes_eq mode.value (codes "lines") then on_option (λ files. with_keeps ModeOptions.lines files files.rest) (file_options mode.rest) else None)
+    (first_option (codes "--mode") words)
+
+-- `--grammar F`, the files, `--squeeze` or not, and the keep texts
+abbrev pub perses_line : List (List ℕ) → Option ReduceOptions
+perses_line words =
+    on_option (λ grammar. on_option (λ files. let after = squeeze_option files.rest in with_keeps (ModeOptions.perses grammar.value after.squeeze) files after.rest) (file_options grammar.rest))
+    (first_option (codes "--grammar") words)
+
+-- the first word says which of the two
+abbrev pub reduce_line : List (List ℕ) → Option ReduceOptions
+reduce_line [] = None
+reduce_line (word ∷ words) = if bytes_eq word (codes "--grammar") then perses_line (word ∷ words) else lines_line (word ∷ words)
 
 -- `--grammar F`
 abbrev pub normal_line : List (List ℕ) → Option (List ℕ)
@@ -78,9 +123,18 @@ command_line_of (program ∷ (command ∷ words)) =
     else if bytes_eq command (codes "normal") then option_map Command.normal (normal_line words)
     else None
 
+-- the files that were read
+abbrev pub files_of : FilesLine → FileOptions
+files_of files = record { input = files.input.now; output = files.output.now; script = files.script.now; rest = map string_bytes files.rest.now }
+
+-- the mode that was read
+abbrev pub mode_of : ModeLine → ModeOptions
+mode_of (mode_read.Lines) = ModeOptions.lines
+mode_of (mode_read.Perses grammar squeeze) = ModeOptions.perses grammar.now squeeze
+
 -- the options that were read
 abbrev pub options_of : ReduceLine → ReduceOptions
-options_of line = record { input = line.input.now; output = line.output.now; script = line.script.now; keeps = keeps_in (map string_bytes line.keeps.now) }
+options_of line = record { mode = mode_of line.mode; input = line.input.now; output = line.output.now; script = line.script.now; keeps = keeps_in (map string_bytes line.keeps.now) }
 
 -- the command line that was read
 abbrev pub command_read : CommandLine → Command

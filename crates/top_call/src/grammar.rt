@@ -1,9 +1,8 @@
 //! Reading the grammar that a command line names.
 
-ghost use Rattle.std.specs.Prelude.{◌≤◌, IfErr, IfOk, None, OnOk, length};
+ghost use Rattle.std.specs.Prelude.{◌≤◌, IfErr, IfOk, OnOk, length};
 ghost use Rattle.edge_io.specs.Files.{SameFiles};
-ghost use Rattle.checked_grammar.specs.Answer.{Spells};
-ghost use Rattle.top_call.specs.Grammar.{GrammarFails, GrammarRead, IsFaultRefusal};
+ghost use Rattle.top_call.specs.Grammar.{GrammarFails, GrammarRead, IsFaultRefusal, SpellsTheGrammar};
 ghost use Rattle.top_call.specs.World.{IsQuiet, grammar_limit, seen};
 
 use crate::file::read_file;
@@ -19,7 +18,7 @@ const GRAMMAR_LIMIT: u64 = 1_048_576;
 /// The grammar that a text spells, checked, with its first parser rule as its start.
 fn grammar_of_text(alloc: Global, text: &[u8]) -> Result<Checked, Refusal>
     requires { length text.now ≤ grammar_limit }
-    ensures ok { IfOk result (Spells text.now None) }
+    ensures ok { IfOk result (SpellsTheGrammar text.now) }
     ensures refused { IfErr result (λ refusal. IsFaultRefusal text.now refusal) }
 {
     match checked_grammar(alloc, text, None) {

@@ -2,13 +2,14 @@
 
 ghost use Rattle.std.specs.Prelude.{◌≡◌};
 ghost use Rattle.checked_grammar.specs.Message.{fault_text};
-ghost use Rattle.top_call.specs.Status.{IsGrammarRefusal, IsKeepRefusal, line_of, status_of};
+ghost use Rattle.top_call.specs.Status.{IsGrammarRefusal, IsInputRefusal, IsKeepRefusal, line_of, status_of};
 
 use checked_grammar::GrammarFault;
 use faults::Memory;
 use gated_run::RunFault;
+use grammar_input::InputFault;
 use script_gate::GateFault;
-use std::alloc::Global;
+use std::alloc::{AllocError, Global};
 
 /// A file that the program reads.
 #[derive(Clone, Copy, Debug, PartialEq, Eq)]
@@ -32,6 +33,10 @@ pub enum Refusal {
     CannotWrite,
     /// The grammar has a fault, which this line names.
     Grammar(String),
+    /// The input isn't UTF-8, or isn't cut into tokens, which this line says.
+    Uncut(String),
+    /// The grammar's start rule doesn't derive the input's tokens.
+    NoParse,
     /// A keep text doesn't occur in the input, which this line says.
     KeepMissing(String),
     /// The script says no to the start.
@@ -50,6 +55,22 @@ impl Refusal {
         match format!(in alloc; "perses: grammar: {fault}\n") {
             Ok(line) => Refusal::Grammar(line),
             Err(_) => Refusal::Memory,
+        }
+    }
+
+    /// The refusal of an input that has this fault; `Memory` where memory runs out.
+    pub fn of_input(alloc: Global, fault: &InputFault) -> Refusal
+        ensures { IsInputRefusal fault.now result }
+    {
+        match fault {
+            InputFault::NotUtf8 { .. } | InputFault::NoToken { .. } => {
+                match format!(in alloc; "perses: {fault}\n") {
+                    Ok(line) => Refusal::Uncut(line),
+                    Err(_) => Refusal::Memory,
+                }
+            }
+            InputFault::NoParse => Refusal::NoParse,
+            InputFault::Memory => Refusal::Memory,
         }
     }
 
@@ -76,6 +97,8 @@ impl Refusal {
             Refusal::CannotRead(NamedFile::Grammar) => (3, "perses: cannot read grammar\n"),
             Refusal::CannotWrite => (4, "perses: cannot write\n"),
             Refusal::Grammar(line) => (5, line.as_str()),
+            Refusal::Uncut(line) => (6, line.as_str()),
+            Refusal::NoParse => (7, "perses: input does not parse\n"),
             Refusal::NotInteresting => (8, "perses: start is not interesting\n"),
             Refusal::KeepMissing(line) => (9, line.as_str()),
             Refusal::TooLong(NamedFile::Input) => (10, "perses: input is too long\n"),
@@ -91,6 +114,16 @@ impl From<Memory> for Refusal {
     ghost from_gives = { λ _ refusal. refusal ≡ OutOfMemory };
 
     fn from(_: Memory) -> Refusal {
+        Refusal::Memory
+    }
+}
+
+impl From<AllocError> for Refusal {
+    ghost use Rattle.top_call.specs.declared.status.Refusal.TheVariants.{Memory as OutOfMemory};
+
+    ghost from_gives = { λ _ refusal. refusal ≡ OutOfMemory };
+
+    fn from(_: AllocError) -> Refusal {
         Refusal::Memory
     }
 }

@@ -1,13 +1,26 @@
+//! The words of a command line.
+
 ghost use Rattle.std.specs.Prelude.{◌≡◌, IfOk, None, Some, MatchOption, codes, map, string_bytes};
-ghost use Rattle.top_call.specs.Words.{are_keeps, command_line_of, command_read, file_name_of, first_option, is_value, keeps_in, normal_line, options_of, reduce_line};
+ghost use Rattle.top_call.specs.Words.{are_keeps, command_line_of, command_read, file_name_of, file_options, files_of, first_option, is_value, keeps_in, lines_line, mode_of, normal_line, options_of, perses_line, reduce_line, squeeze_option, with_keeps};
 
 use faults::Memory;
 use keep_guard::KeepTexts;
 use std::alloc::Global;
 
+/// Which states are tried.
+#[derive(Clone, Copy, Debug)]
+pub enum ModeLine<'a> {
+    /// Lists of the input's lines.
+    Lines,
+    /// Trees of the grammar in this file; and whether the squeezed text of the whole is tried.
+    Perses { grammar: &'a str, squeeze: bool },
+}
+
 /// What a command line of `reduce` gives.
 #[derive(Clone, Copy, Debug)]
 pub struct ReduceLine<'a> {
+    /// Which states are tried.
+    pub mode: ModeLine<'a>,
     /// The file to be reduced.
     pub input: &'a str,
     /// The file that the result is written to.
@@ -46,28 +59,102 @@ pub fn read_words(words: &[String]) -> Option<CommandLine<'_>>
     }
 }
 
+/// The files that a command line of `reduce` names, and the words after them.
+#[derive(Clone, Copy, Debug)]
+struct FilesLine<'a> {
+    input: &'a str,
+    output: &'a str,
+    script: &'a str,
+    rest: &'a [String],
+}
+
+/// The files, where the words begin with them.
+fn read_files(words: &[String]) -> Option<FilesLine<'_>>
+    ensures { MatchOption result
+        (file_options (map string_bytes words.entry.now) ≡ None)
+        (λ files. file_options (map string_bytes words.entry.now) ≡ Some (files_of files)) }
+{
+    let (input, words) = take_option(words, "--input")?;
+    let (output, words) = take_option(words, "--output")?;
+    let (script, rest) = take_option(words, "--script")?;
+    Some(FilesLine {
+        input,
+        output,
+        script,
+        rest,
+    })
+}
+
+/// Whether the words begin with `--squeeze`, and those after it.
+fn take_squeeze(words: &[String]) -> (bool, &[String])
+    ensures { squeeze_option (map string_bytes words.entry.now) ≡ record { squeeze = result.0; rest = map string_bytes result.1.now } }
+{
+    match words {
+        [word, rest @ ..] if word.as_str() == "--squeeze" => (true, rest),
+        _ => (false, words),
+    }
+}
+
+/// These files in this mode, where the words are keep texts.
+fn with_keeps<'a>(
+    mode: ModeLine<'a>,
+    files: FilesLine<'a>,
+    words: &'a [String],
+) -> Option<ReduceLine<'a>>
+    ensures { MatchOption result
+        (with_keeps (mode_of mode.entry) (files_of files.entry) (map string_bytes words.entry.now) ≡ None)
+        (λ line. with_keeps (mode_of mode.entry) (files_of files.entry) (map string_bytes words.entry.now) ≡ Some (options_of line)) }
+{
+    if !are_keeps(words) {
+        return None;
+    }
+    Some(ReduceLine {
+        mode,
+        input: files.input,
+        output: files.output,
+        script: files.script,
+        keeps: words,
+    })
+}
+
+/// What the words of mode `lines` give.
+fn read_lines(words: &[String]) -> Option<ReduceLine<'_>>
+    ensures { MatchOption result
+        (lines_line (map string_bytes words.entry.now) ≡ None)
+        (λ line. lines_line (map string_bytes words.entry.now) ≡ Some (options_of line)) }
+{
+    let (mode, words) = take_option(words, "--mode")?;
+    if mode != "lines" {
+        return None;
+    }
+    let files = read_files(words)?;
+    with_keeps(ModeLine::Lines, files, files.rest)
+}
+
+/// What the words of mode `perses` give.
+fn read_perses(words: &[String]) -> Option<ReduceLine<'_>>
+    ensures { MatchOption result
+        (perses_line (map string_bytes words.entry.now) ≡ None)
+        (λ line. perses_line (map string_bytes words.entry.now) ≡ Some (options_of line)) }
+{
+    let (grammar, words) = take_option(words, "--grammar")?;
+    let files = read_files(words)?;
+    let (squeeze, words) = take_squeeze(files.rest);
+    with_keeps(ModeLine::Perses { grammar, squeeze }, files, words)
+}
+
 /// What the words after `reduce` give.
 fn read_reduce(words: &[String]) -> Option<ReduceLine<'_>>
     ensures { MatchOption result
         (reduce_line (map string_bytes words.entry.now) ≡ None)
         (λ line. reduce_line (map string_bytes words.entry.now) ≡ Some (options_of line)) }
 {
-    let (mode, words) = take_option(words, "--mode")?;
-    if mode != "lines" {
-        return None;
+    let first = words.first()?;
+    if first.as_str() == "--grammar" {
+        read_perses(words)
+    } else {
+        read_lines(words)
     }
-    let (input, words) = take_option(words, "--input")?;
-    let (output, words) = take_option(words, "--output")?;
-    let (script, keeps) = take_option(words, "--script")?;
-    if !are_keeps(keeps) {
-        return None;
-    }
-    Some(ReduceLine {
-        input,
-        output,
-        script,
-        keeps,
-    })
 }
 
 /// The most keep texts of a command line.

@@ -1,0 +1,206 @@
+-- What the files had to be reduced isn't at odds with what is visible of them.
+use Rattle.std.proofs.Common.{◌≡◌, ◌≢◌, ℕ, Bool, List, Option, Some, None, true, ap, sym, ◌∙◌, subst}
+use Rattle.std.proofs.lemmas.Option.{same_Some}
+use Rattle.edge_io.specs.Files.{FileContent, Holds, IsLonger}
+use Rattle.keep_guard.specs.Keep.{holds_all}
+use Rattle.grammar_tree.specs.Written.{CheckedGrammar}
+use Rattle.checked_grammar.specs.Answer.{Spells}
+use Rattle.tree_mode.specs.Candidates.{InLanguage}
+use Rattle.tree_mode.specs.Input.{TreeInput}
+use Rattle.grammar_input.specs.Faults.{IsInputFault}
+use Rattle.grammar_input.specs.Laws.{InputFaultOnce, InputsAreInLanguage}
+use Rattle.grammar_input.specs.declared.fault.InputFault.{InputFault}
+use Rattle.grammar_input.specs.declared.fault.InputFault.TheVariants as input_fault
+use Rattle.top_call.specs.declared.reduce.ReadProblem.{ReadProblem}
+use Rattle.top_call.specs.declared.reduce.ReadProblem.TheVariants as read_problem
+use Rattle.top_call.specs.declared.status.NamedFile.TheVariants as named
+use Rattle.top_call.specs.Grammar.{GrammarRead, IsFaultIn, IsGrammarText}
+use Rattle.top_call.specs.Problem.{Problem, start_of}
+use Rattle.top_call.specs.Read.{IsReadAs, start_read}
+use Rattle.top_call.specs.Reduce.{InputHas, IsReached, IsShownFault, IsTreeProblem, ProblemAccepted, ProblemRead, ReadIn, ShownIn, grammar_in}
+use Rattle.top_call.specs.Status.{IsUncut}
+use Rattle.top_call.specs.Words.{ModeOptions, ReduceOptions}
+use Rattle.top_call.specs.World.{IsOver, IsShownWithin, SeenFiles, WasRead, grammar_limit, input_limit}
+use Rattle.top_call.proofs.FileLemmas.{not_longer, read_not_missing, read_not_over}
+
+-- what is visible of a file holds of the bytes that were read
+pub shown_holds : (limit : ℕ) (P : List ℕ → Type 0) (content : Option FileContent) → IsShownWithin limit content P → (bytes : List ℕ) → Holds bytes content → P bytes
+shown_holds limit P None shown bytes here = absurd shown
+shown_holds limit P (Some None) shown bytes here = absurd shown
+shown_holds limit P (Some (Some held)) shown bytes here = subst P (same_Some held bytes here) shown.1
+
+-- bytes that spell a grammar are the text of one
+pub is_text_of : (bytes : List ℕ) (c : CheckedGrammar) → Spells bytes None c → IsGrammarText bytes
+is_text_of bytes c is = record { grammar = c.grammar; start = c.start; spelled = is.text; first = is.start; well_formed = is.checked.well_formed }
+
+-- a grammar that was read isn't a faulty text
+pub not_faulty : (content : Option FileContent) (c : CheckedGrammar) → GrammarRead content c → IsShownWithin grammar_limit content (λ bytes. ¬ IsGrammarText bytes) → ⊥
+not_faulty content c read shown = shown_holds grammar_limit (λ bytes. ¬ IsGrammarText bytes) content shown read.bytes read.read (is_text_of read.bytes c read.holds.spelled)
+
+-- and it is the one that is visible
+pub of_grammar : (content : Option FileContent) (c : CheckedGrammar) → GrammarRead content c → (S : CheckedGrammar → Type 0)
+    → IsShownWithin grammar_limit content (λ bytes. (other : CheckedGrammar) × Spells bytes None other × S other) → S c
+of_grammar content c read S shown =
+    let it : (other : CheckedGrammar) × Spells read.bytes None other × S other =
+    shown_holds grammar_limit (λ bytes. (other : CheckedGrammar) × Spells bytes None other × S other) content shown read.bytes read.read in
+    subst S (sym (read.holds.only it.0 it.1)) it.2
+
+-- where a fault was read, no grammar is visible
+pub no_grammar : (content : Option FileContent) (text : List ℕ) → WasRead grammar_limit content (λ bytes. IsFaultIn bytes text) → (S : CheckedGrammar → Type 0)
+    → IsShownWithin grammar_limit content (λ bytes. (other : CheckedGrammar) × Spells bytes None other × S other) → ⊥
+no_grammar content text read S shown =
+    let it : (other : CheckedGrammar) × Spells read.bytes None other × S other =
+    shown_holds grammar_limit (λ bytes. (other : CheckedGrammar) × Spells bytes None other × S other) content shown read.bytes read.read in
+    read.holds.refused (is_text_of read.bytes it.0 it.1)
+
+-- faults that bytes have aren't out of memory
+pub uncut_caused : (fault : InputFault) → IsUncut fault → fault ≢ input_fault.Memory
+uncut_caused fault uncut is = subst IsUncut is uncut
+
+pub parse_caused : (fault : InputFault) → fault ≡ input_fault.NoParse → fault ≢ input_fault.Memory
+parse_caused fault no_parse is = cc (sym no_parse ∙ is)
+
+-- the start of what was read is its text
+pub start_as : (keeps : List (List ℕ)) (read : ReadProblem) (problem : Problem) → IsReadAs keeps read problem → start_of problem ≡ start_read read
+start_as keeps (read_problem.Lines start) problem is = ap start_of is
+start_as keeps (read_problem.Tree found squeeze) problem is = ap start_of is.1
+
+module _ (options : ReduceOptions) (files : SeenFiles) where
+  -- what holds of a problem that was read also holds of another fact
+  read_as : (mode : ModeOptions) (P Q : Problem → Type 0) → ((problem : Problem) → P problem → Q problem) → ReadIn mode options files P → ReadIn mode options files Q
+  read_as ModeOptions.lines P Q then read = record { bytes = read.bytes; read = read.read; within = read.within; holds = then _ read.holds }
+  read_as (ModeOptions.perses grammar squeeze) P Q then read = (
+    read.0,
+    read.1,
+    record { bytes = read.2.bytes; read = read.2.read; within = read.2.within; holds = (read.2.holds.0, read.2.holds.1, then _ read.2.holds.2) },
+  )
+
+  pub problem_map : (P Q : Problem → Type 0) → ((problem : Problem) → P problem → Q problem) → ProblemRead options files P → ProblemRead options files Q
+  problem_map P Q then read = read_as options.mode P Q then read
+
+  -- what was read, in whose text each keep text occurs, is accepted
+  pub accepted_as : (read : ReadProblem) (Q : Problem → Type 0) → holds_all options.keeps (start_read read) ≡ true → ((problem : Problem) → IsReadAs options.keeps read problem → Q problem)
+      → ProblemRead options files (IsReadAs options.keeps read) → ProblemAccepted options files Q
+  accepted_as read Q kept then was =
+      problem_map (IsReadAs options.keeps read) (λ problem. (holds_all options.keeps (start_of problem) ≡ true) × Q problem)
+      (λ problem is. (ap (holds_all options.keeps) (start_as options.keeps read problem is) ∙ kept, then problem is)) was
+
+  any_in : (mode : ModeOptions) (P : Problem → Type 0) → ReadIn mode options files P → (problem : Problem) × P problem
+  any_in ModeOptions.lines P read = (Problem.of_lines read.bytes, read.holds)
+  any_in (ModeOptions.perses grammar squeeze) P read = (Problem.of_tree read.2.holds.0, read.2.holds.2)
+
+  -- where there is a problem with a fact, some problem has it
+  pub any_problem : (P : Problem → Type 0) → ProblemRead options files P → (problem : Problem) × P problem
+  any_problem P read = any_in options.mode P read
+
+  input_in : (mode : ModeOptions) (P : Problem → Type 0) → ReadIn mode options files P → WasRead input_limit (files.shown options.input) (λ bytes. Unit {0})
+  input_in ModeOptions.lines P read = record { bytes = read.bytes; read = read.read; within = read.within; holds = tt }
+  input_in (ModeOptions.perses grammar squeeze) P read = record { bytes = read.2.bytes; read = read.2.read; within = read.2.within; holds = tt }
+
+  -- the input was read then
+  pub input_read : (P : Problem → Type 0) → ProblemRead options files P → WasRead input_limit (files.shown options.input) (λ bytes. Unit {0})
+  input_read P read = input_in options.mode P read
+
+  both_in : (mode : ModeOptions) (P : Problem → Type 0) (S : List ℕ → Type 0) → ReadIn mode options files P → ShownIn mode options files S → (problem : Problem) × P problem × S (start_of problem)
+  both_in ModeOptions.lines P S read shown = (Problem.of_lines read.bytes, read.holds, shown_holds input_limit S (files.shown options.input) shown read.bytes read.read)
+  both_in (ModeOptions.perses grammar squeeze) P S read shown =
+      let content = files.shown options.input in
+      let visible : IsShownWithin input_limit content (λ text. InLanguage read.0 text × S text) =
+      of_grammar (files.shown grammar) read.0 read.1 (λ c. IsShownWithin input_limit content (λ text. InLanguage c text × S text)) shown in
+      let it : InLanguage read.0 read.2.bytes × S read.2.bytes = shown_holds input_limit (λ text. InLanguage read.0 text × S text) content visible read.2.bytes read.2.read in
+      (Problem.of_tree read.2.holds.0, read.2.holds.2, subst S (sym read.2.holds.1.of_text.same_text) it.1)
+
+  -- what is visible of a problem holds of the one that was read
+  pub read_and_shown : (P : Problem → Type 0) (S : List ℕ → Type 0) → ProblemRead options files P → ShownIn options.mode options files S → (problem : Problem) × P problem × S (start_of problem)
+  read_and_shown P S read shown = both_in options.mode P S read shown
+
+  -- the grammar was read too
+  module _ (P : Problem → Type 0) (read : ProblemRead options files P) (grammar : List ℕ) (squeeze : Bool) (mode : options.mode ≡ ModeOptions.perses grammar squeeze) where
+    in_perses : ReadIn (ModeOptions.perses grammar squeeze) options files P
+    in_perses = subst (λ m. ReadIn m options files P) mode read
+
+    pub grammar_not_over : IsOver grammar_limit (files.shown grammar) → ⊥
+    grammar_not_over over = read_not_over in_perses.1 over
+
+    pub grammar_not_missing : files.shown grammar ≡ Some None → ⊥
+    grammar_not_missing none = read_not_missing in_perses.1 none
+
+    pub grammar_not_faulty : IsShownWithin grammar_limit (files.shown grammar) (λ bytes. ¬ IsGrammarText bytes) → ⊥
+    grammar_not_faulty shown = not_faulty (files.shown grammar) in_perses.0 in_perses.1 shown
+
+    -- and the input has no fault
+    pub no_fault : InputFaultOnce → InputsAreInLanguage → (Q : InputFault → Type 0) → ((fault : InputFault) → Q fault → fault ≢ input_fault.Memory) → IsShownFault grammar options files Q → ⊥
+    no_fault faults languages Q caused shown =
+        let content = files.shown options.input in
+        let c : CheckedGrammar = in_perses.0 in
+        let input : WasRead input_limit content (λ text. (input : TreeInput) × IsTreeProblem options.keeps c squeeze text input × P (Problem.of_tree input)) = in_perses.2 in
+        let visible : IsShownWithin input_limit content (λ text. (fault : InputFault) × IsInputFault c text fault × Q fault) =
+        of_grammar (files.shown grammar) c in_perses.1 (λ c. IsShownWithin input_limit content (λ text. (fault : InputFault) × IsInputFault c text fault × Q fault)) shown in
+        let it : (fault : InputFault) × IsInputFault c input.bytes fault × Q fault =
+        shown_holds input_limit (λ text. (fault : InputFault) × IsInputFault c text fault × Q fault) content visible input.bytes input.read in
+        (faults c input.bytes).refused it.0 (caused it.0 it.2) it.1 (languages c input.bytes input.holds.0 input.holds.1.of_text)
+
+  -- an input with a fault
+  module _ (faults : InputFaultOnce) (grammar : List ℕ) (squeeze : Bool) (fault : InputFault) (caused : fault ≢ input_fault.Memory) (read : InputHas grammar (λ c bytes. IsInputFault c bytes fault) options files) where
+    content : Option FileContent
+    content = files.shown options.input
+
+    -- isn't in the language
+    fault_in : (mode : ModeOptions) (S : List ℕ → Type 0) → mode ≡ ModeOptions.perses grammar squeeze → ShownIn mode options files S → ⊥
+    unfolding content
+    fault_in mode S is shown =
+        let visible : IsShownWithin input_limit content (λ text. InLanguage read.0 text × S text) =
+        of_grammar (files.shown grammar) read.0 read.1 (λ c. IsShownWithin input_limit content (λ text. InLanguage c text × S text)) (subst (λ m. ShownIn m options files S) is shown) in
+        let it : InLanguage read.0 read.2.bytes × S read.2.bytes = shown_holds input_limit (λ text. InLanguage read.0 text × S text) content visible read.2.bytes read.2.read in
+        (faults read.0 read.2.bytes).refused fault caused read.2.holds it.0
+
+    pub fault_not_shown : (S : List ℕ → Type 0) → options.mode ≡ ModeOptions.perses grammar squeeze → ShownIn options.mode options files S → ⊥
+    fault_not_shown S is shown = fault_in options.mode S is shown
+
+    -- and has no other
+    pub fault_is : (Q : InputFault → Type 0) → ((fault : InputFault) → Q fault → fault ≢ input_fault.Memory) → IsShownFault grammar options files Q → Q fault
+    unfolding content
+    fault_is Q not_memory shown =
+        let visible : IsShownWithin input_limit content (λ text. (fault : InputFault) × IsInputFault read.0 text fault × Q fault) =
+        of_grammar (files.shown grammar) read.0 read.1 (λ c. IsShownWithin input_limit content (λ text. (fault : InputFault) × IsInputFault c text fault × Q fault)) shown in
+        let it : (fault : InputFault) × IsInputFault read.0 read.2.bytes fault × Q fault =
+        shown_holds input_limit (λ text. (fault : InputFault) × IsInputFault read.0 text fault × Q fault) content visible read.2.bytes read.2.read in
+        subst Q (sym ((faults read.0 read.2.bytes).once fault it.0 caused (not_memory it.0 it.2) read.2.holds it.1)) it.2
+
+  -- a grammar that has a fault isn't that of a problem
+  pub faulty_not_shown : (grammar : List ℕ) (squeeze : Bool) (text : List ℕ) (S : List ℕ → Type 0) → options.mode ≡ ModeOptions.perses grammar squeeze
+      → WasRead grammar_limit (files.shown grammar) (λ bytes. IsFaultIn bytes text) → ShownIn options.mode options files S → ⊥
+  faulty_not_shown grammar squeeze text S is read shown =
+      no_grammar (files.shown grammar) text read (λ c. IsShownWithin input_limit (files.shown options.input) (λ bytes. InLanguage c bytes × S bytes)) (subst (λ m. ShownIn m options files S) is shown)
+
+  -- neither is one, nor an input, that is too long
+  long_input_in : (mode : ModeOptions) (S : List ℕ → Type 0) → IsReached mode named.Input files → IsLonger input_limit (files.shown options.input) → ShownIn mode options files S → ⊥
+  long_input_in ModeOptions.lines S reached longer shown = not_longer input_limit S (files.shown options.input) shown longer
+  long_input_in (ModeOptions.perses grammar squeeze) S reached longer shown =
+      not_longer input_limit (λ text. InLanguage reached.0 text × S text) (files.shown options.input)
+      (of_grammar (files.shown grammar) reached.0 reached.1 (λ c. IsShownWithin input_limit (files.shown options.input) (λ text. InLanguage c text × S text)) shown) longer
+
+  pub long_input_not_shown : (S : List ℕ → Type 0) → IsReached options.mode named.Input files → IsLonger input_limit (files.shown options.input) → ShownIn options.mode options files S → ⊥
+  long_input_not_shown S reached longer shown = long_input_in options.mode S reached longer shown
+
+  long_grammar_in : (mode : ModeOptions) (S : List ℕ → Type 0) → IsReached mode named.Grammar files → IsLonger grammar_limit (files.shown (grammar_in mode)) → ShownIn mode options files S → ⊥
+  long_grammar_in ModeOptions.lines S reached longer shown = reached
+  long_grammar_in (ModeOptions.perses grammar squeeze) S reached longer shown = not_longer grammar_limit _ (files.shown grammar) shown longer
+
+  pub long_grammar_not_shown : (S : List ℕ → Type 0) → IsReached options.mode named.Grammar files → IsLonger grammar_limit (files.shown (grammar_in options.mode)) → ShownIn options.mode options files S → ⊥
+  long_grammar_not_shown S reached longer shown = long_grammar_in options.mode S reached longer shown
+
+  module _ (grammar : List ℕ) (squeeze : Bool) (mode : options.mode ≡ ModeOptions.perses grammar squeeze) where
+    -- the grammar of an input that is reached was read
+    pub reached_grammar : IsReached options.mode named.Input files → (c : CheckedGrammar) × GrammarRead (files.shown grammar) c
+    reached_grammar reached = subst (λ m. IsReached m named.Input files) mode reached
+
+    pub long_grammar : IsLonger grammar_limit (files.shown (grammar_in options.mode)) → IsLonger grammar_limit (files.shown grammar)
+    long_grammar longer = subst (λ m. IsLonger grammar_limit (files.shown (grammar_in m))) mode longer
+
+    -- an input that is too long has no fault that is named
+    pub long_input_no_fault : (Q : InputFault → Type 0) → IsReached options.mode named.Input files → IsLonger input_limit (files.shown options.input) → IsShownFault grammar options files Q → ⊥
+    long_input_no_fault Q reached longer shown =
+        let it : (c : CheckedGrammar) × GrammarRead (files.shown grammar) c = reached_grammar reached in
+        not_longer input_limit (λ text. (fault : InputFault) × IsInputFault it.0 text fault × Q fault) (files.shown options.input)
+        (of_grammar (files.shown grammar) it.0 it.1 (λ c. IsShownWithin input_limit (files.shown options.input) (λ text. (fault : InputFault) × IsInputFault c text fault × Q fault)) shown) longer

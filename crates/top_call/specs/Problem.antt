@@ -1,0 +1,63 @@
+-- What is reduced, and what its reduction is: the lines of some bytes, or the tree of a text of a grammar.
+use Rattle.std.specs.Prelude.{◌≡◌, ℕ, Bool, true, false, List, Option, Some}
+use Rattle.script_gate.specs.declared.gate.Verdict.{Verdict}
+use Rattle.script_gate.specs.declared.gate.Verdict.TheVariants.{Yes}
+use Rattle.keep_guard.specs.Keep.{holds_all, keeps_admit}
+use Rattle.reduction_rounds.specs.Laws.{HasVerdicts, says_yes}
+use Rattle.reduction_rounds.specs.Reduction as rounds
+use Rattle.reduce_core.specs.Lines.{text_of}
+use Rattle.reduce_core.specs.Minimal as lines
+use Rattle.reduce_core.specs.Reduction.{reduction}
+use Rattle.tree_mode.specs.Candidates as trees
+use Rattle.tree_mode.specs.Input.{TreeInput, TreeState}
+use Rattle.tree_mode.specs.Listed as listed
+use Rattle.tree_rounds.specs.Ends.{IsMinimalTree}
+use Rattle.tree_rounds.specs.PersesMode.{perses_mode}
+
+pub data Problem : Type 0 where
+  of_lines : (start : List ℕ) → Problem
+  of_tree : (input : TreeInput) → Problem
+
+-- the text that is reduced
+abbrev pub start_of : Problem → List ℕ
+start_of (Problem.of_lines start) = start
+start_of (Problem.of_tree input) = input.start
+
+-- the text may be asked: it has some of the start's lines, or is printed of some of its tokens, is in the grammar's language, and each keep text occurs in it
+abbrev pub IsCandidateOf : List (List ℕ) → Problem → List ℕ → Type 0
+IsCandidateOf keeps (Problem.of_lines start) text = lines.IsCandidate (keeps_admit keeps) start text
+IsCandidateOf keeps (Problem.of_tree input) text = trees.IsCandidate input text
+
+-- the reduction of trees over a map of verdicts
+abbrev pub tree_reduction : TreeInput → (List ℕ → Option Verdict) → rounds.Reduction TreeState
+tree_reduction input V = rounds.reduction (perses_mode input) (says_yes V)
+
+-- the texts that the reduction asks, in order
+abbrev pub questions_of : List (List ℕ) → Problem → (List ℕ → Option Verdict) → List (List ℕ)
+questions_of keeps (Problem.of_lines start) V = (reduction (keeps_admit keeps) (says_yes V) start).questions
+questions_of keeps (Problem.of_tree input) V = (tree_reduction input V).questions
+
+-- whether it refuses the start
+abbrev pub refuses : List (List ℕ) → Problem → (List ℕ → Option Verdict) → Bool
+refuses keeps (Problem.of_lines start) V = (reduction (keeps_admit keeps) (says_yes V) start).refused
+refuses keeps (Problem.of_tree input) V = (tree_reduction input V).refused
+
+-- the text that it ends with
+abbrev pub reduced_text : List (List ℕ) → Problem → (List ℕ → Option Verdict) → List ℕ
+reduced_text keeps (Problem.of_lines start) V = text_of (reduction (keeps_admit keeps) (says_yes V) start).lines
+reduced_text keeps (Problem.of_tree input) V = listed.text_of input (tree_reduction input V).state
+
+-- what it ends with is minimal: without any one of its lines, or after any single edit of its tree, what is left may not be asked, or its verdict is no
+abbrev pub EndsMinimally : List (List ℕ) → Problem → (List ℕ → Option Verdict) → Type 0
+EndsMinimally keeps (Problem.of_lines start) V = lines.IsMinimal (keeps_admit keeps) V (reduction (keeps_admit keeps) (says_yes V) start).lines
+EndsMinimally keeps (Problem.of_tree input) V = IsMinimalTree input V (tree_reduction input V).state
+
+-- The text is what is reduced to over a map of verdicts. The map has a verdict for each text that the reduction asks; the start is interesting, and so is the text, in which each keep text occurs and which may be asked; and it is minimal.
+pub record IsReductionOf (keeps : List (List ℕ)) (V : List ℕ → Option Verdict) (problem : Problem) (text : List ℕ) : Type 0 where
+  pub defined : HasVerdicts V (questions_of keeps problem V)
+  pub interesting : refuses keeps problem V ≡ false
+  pub is_text : text ≡ reduced_text keeps problem V
+  pub yes_at_end : V text ≡ Some Yes
+  pub keeps_stay : holds_all keeps text ≡ true
+  pub candidate : IsCandidateOf keeps problem text
+  pub minimal : EndsMinimally keeps problem V
