@@ -1,0 +1,3 @@
+unsigned int hash_type; entry
+{ entry->hash >> 33 ;
+}
