@@ -1,0 +1,19 @@
+CREATE TABLE articles (
+    article ,
+    name ,
+    price
+);
+CREATE TABLE order_lines (
+    number ,
+    price
+);
+WITH sold AS (
+    SELECT article
+), wanted AS (
+    SELECT articles.article, name
+FROM articles
+)
+SELECT wanted.name , price
+FROM wanted
+    JOIN articles
+JOIN order_lines ;
