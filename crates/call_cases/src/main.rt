@@ -1,5 +1,6 @@
 //! Prints how the top call ends over files, a gate and an output in memory, for `rt ci` to compare with
-//! `stdout`, which was worked out by hand; none of it comes from a run.
+//! `stdout`, which was worked out by hand; none of it comes from a run. The ends of reductions by a
+//! grammar were worked out apart from the program, by an independent model.
 //!
 //! Its input is a list of cases. `case` and what it shows begins one: there is no file, the gate always
 //! says yes, no call fails, and the output takes all. The lines after it change that, as [`Case::set`]
