@@ -19,7 +19,7 @@ use Rattle.top_call.specs.Status.{IsUncut}
 use Rattle.top_call.specs.Words.{ModeOptions, ReduceOptions}
 use Rattle.top_call.specs.World.{IsShownWithin, SeenGate, SeenOut, WasRead, World, grammar_limit, input_limit}
 use Rattle.top_call.proofs.FileLemmas.{longer_not_missing, not_longer, read_not_missing, read_not_over}
-use Rattle.top_call.proofs.ProblemLemmas.{any_problem, fault_is, fault_not_shown, faulty_not_shown, grammar_not_faulty, grammar_not_missing, grammar_not_over, input_read, long_grammar, long_grammar_not_shown, long_input_no_fault, long_input_not_shown, no_fault, no_grammar, not_faulty, parse_caused, reached_grammar, read_and_shown, uncut_caused}
+use Rattle.top_call.proofs.ProblemLemmas.{any_problem, fault_is, fault_not_shown, faulty_not_shown, grammar_not_faulty, grammar_not_missing, grammar_not_over, input_read, long_grammar, long_grammar_not_shown, long_input_no_fault, long_input_not_shown, no_fault, no_grammar, not_faulty, parse_caused, reached_grammar, read_and_shown, shown_not_faulty, shown_not_long, uncut_caused}
 
 yes_no : (start : List ℕ) (records : List Record) → FirstIs start Yes records → FirstIsNo records → ⊥
 yes_no start [] first first_no = first
@@ -71,6 +71,8 @@ module _ (faults : InputFaultOnce) (languages : InputsAreInLanguage) (options : 
     grammar_over = λ g s is over. absurd (grammar_not_over options old.files _ writes.reduced.reduces g s is over);
     grammar_missing = λ g s is none. absurd (grammar_not_missing options old.files _ writes.reduced.reduces g s is none);
     faulty = λ g s is shown. absurd (grammar_not_faulty options old.files _ writes.reduced.reduces g s is shown);
+    input_over = λ fine over. absurd (read_not_over (input_read options old.files _ writes.reduced.reduces) over);
+    input_missing = λ fine none. absurd (read_not_missing (input_read options old.files _ writes.reduced.reduces) none);
     over = λ over. absurd (read_not_over (input_read options old.files _ writes.reduced.reduces) over);
     missing = λ none. absurd (read_not_missing (input_read options old.files _ writes.reduced.reduces) none);
     no_token = λ g s is shown. absurd (no_fault options old.files _ writes.reduced.reduces g s is faults languages IsUncut uncut_caused shown);
@@ -86,6 +88,8 @@ module _ (faults : InputFaultOnce) (languages : InputsAreInLanguage) (options : 
     grammar_over = λ g s is over. refl;
     grammar_missing = λ g s is none. refl;
     faulty = λ g s is shown. refl;
+    input_over = λ fine over. refl;
+    input_missing = λ fine none. refl;
     over = λ over. refl;
     missing = λ none. refl;
     no_token = λ g s is shown. refl;
@@ -101,6 +105,8 @@ module _ (faults : InputFaultOnce) (languages : InputsAreInLanguage) (options : 
     grammar_over = λ g s is over. refl;
     grammar_missing = λ g s is none. refl;
     faulty = λ g s is shown. refl;
+    input_over = λ fine over. refl;
+    input_missing = λ fine none. refl;
     over = λ over. refl;
     missing = λ none. refl;
     no_token = λ g s is shown. refl;
@@ -116,6 +122,8 @@ module _ (faults : InputFaultOnce) (languages : InputsAreInLanguage) (options : 
     grammar_over = λ g s is over. absurd (grammar_not_over options old.files _ reduces g s is over);
     grammar_missing = λ g s is none. absurd (grammar_not_missing options old.files _ reduces g s is none);
     faulty = λ g s is shown. absurd (grammar_not_faulty options old.files _ reduces g s is shown);
+    input_over = λ fine over. absurd (read_not_over (input_read options old.files _ reduces) over);
+    input_missing = λ fine none. absurd (read_not_missing (input_read options old.files _ reduces) none);
     over = λ over. absurd (read_not_over (input_read options old.files _ reduces) over);
     missing = λ none. absurd (read_not_missing (input_read options old.files _ reduces) none);
     no_token = λ g s is shown. absurd (no_fault options old.files _ reduces g s is faults languages IsUncut uncut_caused shown);
@@ -131,6 +139,8 @@ module _ (faults : InputFaultOnce) (languages : InputsAreInLanguage) (options : 
     grammar_over = λ g s is over. absurd (read_not_over (fault_at mode is read) over);
     grammar_missing = λ g s is none. absurd (read_not_missing (fault_at mode is read) none);
     faulty = λ g s is shown. refl;
+    input_over = λ fine over. absurd (shown_not_faulty options old.files mode read fine);
+    input_missing = λ fine none. absurd (shown_not_faulty options old.files mode read fine);
     over = λ over. refl;
     missing = λ none. refl;
     no_token = λ g s is shown. absurd (faulty_no_fault mode is read IsUncut shown);
@@ -146,6 +156,8 @@ module _ (faults : InputFaultOnce) (languages : InputsAreInLanguage) (options : 
     grammar_over = λ g s is over. absurd (read_not_over (has_at mode is fault read).1 over);
     grammar_missing = λ g s is none. absurd (read_not_missing (has_at mode is fault read).1 none);
     faulty = λ g s is shown. absurd (not_faulty _ _ (has_at mode is fault read).1 shown);
+    input_over = λ fine over. absurd (read_not_over read.2 over);
+    input_missing = λ fine none. absurd (read_not_missing read.2 none);
     over = λ over. absurd (read_not_over read.2 over);
     missing = λ none. absurd (read_not_missing read.2 none);
     no_token = λ g s is shown. refl;
@@ -161,6 +173,8 @@ module _ (faults : InputFaultOnce) (languages : InputsAreInLanguage) (options : 
     grammar_over = λ g s is over. absurd (read_not_over (has_at mode is input_fault.NoParse read).1 over);
     grammar_missing = λ g s is none. absurd (read_not_missing (has_at mode is input_fault.NoParse read).1 none);
     faulty = λ g s is shown. absurd (not_faulty _ _ (has_at mode is input_fault.NoParse read).1 shown);
+    input_over = λ fine over. absurd (read_not_over read.2 over);
+    input_missing = λ fine none. absurd (read_not_missing read.2 none);
     over = λ over. absurd (read_not_over read.2 over);
     missing = λ none. absurd (read_not_missing read.2 none);
     no_token = λ g s is shown. absurd (fault_is options old.files faults g s input_fault.NoParse (parse_caused input_fault.NoParse refl) (has_at mode is input_fault.NoParse read) IsUncut uncut_caused shown);
@@ -176,6 +190,8 @@ module _ (faults : InputFaultOnce) (languages : InputsAreInLanguage) (options : 
     grammar_over = λ g s is over. absurd (grammar_not_over options old.files _ read g s is over);
     grammar_missing = λ g s is none. absurd (grammar_not_missing options old.files _ read g s is none);
     faulty = λ g s is shown. absurd (grammar_not_faulty options old.files _ read g s is shown);
+    input_over = λ fine over. absurd (read_not_over (input_read options old.files _ read) over);
+    input_missing = λ fine none. absurd (read_not_missing (input_read options old.files _ read) none);
     over = λ over. absurd (read_not_over (input_read options old.files _ read) over);
     missing = λ none. absurd (read_not_missing (input_read options old.files _ read) none);
     no_token = λ g s is shown. absurd (no_fault options old.files _ read g s is faults languages IsUncut uncut_caused shown);
@@ -191,6 +207,8 @@ module _ (faults : InputFaultOnce) (languages : InputsAreInLanguage) (options : 
     grammar_over = λ g s is over. absurd (grammar_not_over options old.files _ read g s is over);
     grammar_missing = λ g s is none. absurd (grammar_not_missing options old.files _ read g s is none);
     faulty = λ g s is shown. absurd (grammar_not_faulty options old.files _ read g s is shown);
+    input_over = λ fine over. absurd (read_not_over (input_read options old.files _ read) over);
+    input_missing = λ fine none. absurd (read_not_missing (input_read options old.files _ read) none);
     over = λ over. absurd (read_not_over (input_read options old.files _ read) over);
     missing = λ none. absurd (read_not_missing (input_read options old.files _ read) none);
     no_token = λ g s is shown. absurd (no_fault options old.files _ read g s is faults languages IsUncut uncut_caused shown);
@@ -206,6 +224,8 @@ module _ (faults : InputFaultOnce) (languages : InputsAreInLanguage) (options : 
     grammar_over = λ g s is over. refl;
     grammar_missing = λ g s is none. absurd (read_not_missing (reached_grammar options old.files g s is reached).1 none);
     faulty = λ g s is shown. absurd (not_faulty _ _ (reached_grammar options old.files g s is reached).1 shown);
+    input_over = λ fine over. refl;
+    input_missing = λ fine none. absurd (longer_not_missing input_limit _ longer none);
     over = λ over. refl;
     missing = λ none. refl;
     no_token = λ g s is shown. absurd (long_input_no_fault options old.files g s is IsUncut reached longer shown);
@@ -221,6 +241,8 @@ module _ (faults : InputFaultOnce) (languages : InputsAreInLanguage) (options : 
     grammar_over = λ g s is over. refl;
     grammar_missing = λ g s is none. absurd (longer_not_missing grammar_limit _ (long_grammar options old.files g s is longer) none);
     faulty = λ g s is shown. absurd (not_longer grammar_limit _ _ shown (long_grammar options old.files g s is longer));
+    input_over = λ fine over. refl;
+    input_missing = λ fine none. absurd (shown_not_long options old.files fine reached longer);
     over = λ over. refl;
     missing = λ none. refl;
     no_token = λ g s is shown. absurd (not_longer grammar_limit _ _ shown (long_grammar options old.files g s is longer));
@@ -236,6 +258,8 @@ module _ (faults : InputFaultOnce) (languages : InputsAreInLanguage) (options : 
     grammar_over = λ g s is over. absurd (grammar_not_over options old.files _ read g s is over);
     grammar_missing = λ g s is none. absurd (grammar_not_missing options old.files _ read g s is none);
     faulty = λ g s is shown. absurd (grammar_not_faulty options old.files _ read g s is shown);
+    input_over = λ fine over. absurd (read_not_over (input_read options old.files _ read) over);
+    input_missing = λ fine none. absurd (read_not_missing (input_read options old.files _ read) none);
     over = λ over. absurd (read_not_over (input_read options old.files _ read) over);
     missing = λ none. absurd (read_not_missing (input_read options old.files _ read) none);
     no_token = λ g s is shown. absurd (no_fault options old.files _ read g s is faults languages IsUncut uncut_caused shown);

@@ -17,7 +17,7 @@ use Rattle.top_call.specs.declared.status.NamedFile.TheVariants as named
 use Rattle.top_call.specs.Grammar.{GrammarRead, IsFaultIn, IsGrammarText}
 use Rattle.top_call.specs.Problem.{Problem, start_of}
 use Rattle.top_call.specs.Read.{IsReadAs, start_read}
-use Rattle.top_call.specs.Reduce.{InputHas, IsReached, IsShownFault, IsTreeProblem, ProblemAccepted, ProblemRead, ReadIn, ShownIn, grammar_in}
+use Rattle.top_call.specs.Reduce.{InputHas, IsReached, IsShownFault, IsShownGrammar, IsTreeProblem, ProblemAccepted, ProblemRead, ReadIn, ShownIn, grammar_in}
 use Rattle.top_call.specs.Status.{IsUncut}
 use Rattle.top_call.specs.Words.{ModeOptions, ReduceOptions}
 use Rattle.top_call.specs.World.{IsOver, IsShownWithin, SeenFiles, WasRead, grammar_limit, input_limit}
@@ -189,6 +189,20 @@ module _ (options : ReduceOptions) (files : SeenFiles) where
 
   pub long_grammar_not_shown : (S : List ℕ → Type 0) → IsReached options.mode named.Grammar files → IsLonger grammar_limit (files.shown (grammar_in options.mode)) → ShownIn options.mode options files S → ⊥
   long_grammar_not_shown S reached longer shown = long_grammar_in options.mode S reached longer shown
+
+  -- a grammar that is visible and well-formed has no fault
+  pub shown_not_faulty : {grammar : List ℕ} {squeeze : Bool} {text : List ℕ} → options.mode ≡ ModeOptions.perses grammar squeeze
+      → WasRead grammar_limit (files.shown grammar) (λ bytes. IsFaultIn bytes text) → IsShownGrammar options.mode files → ⊥
+  shown_not_faulty {grammar = grammar} is read shown =
+      read.holds.refused (shown_holds grammar_limit IsGrammarText (files.shown grammar) (subst (λ m. IsShownGrammar m files) is shown) read.bytes read.read)
+
+  -- and isn't too long
+  shown_short_in : (mode : ModeOptions) → IsShownGrammar mode files → IsReached mode named.Grammar files → IsLonger grammar_limit (files.shown (grammar_in mode)) → ⊥
+  shown_short_in ModeOptions.lines shown reached longer = reached
+  shown_short_in (ModeOptions.perses grammar squeeze) shown reached longer = not_longer grammar_limit IsGrammarText (files.shown grammar) shown longer
+
+  pub shown_not_long : IsShownGrammar options.mode files → IsReached options.mode named.Grammar files → IsLonger grammar_limit (files.shown (grammar_in options.mode)) → ⊥
+  shown_not_long shown reached longer = shown_short_in options.mode shown reached longer
 
   module _ (grammar : List ℕ) (squeeze : Bool) (mode : options.mode ≡ ModeOptions.perses grammar squeeze) where
     -- the grammar of an input that is reached was read

@@ -1,5 +1,5 @@
 -- Each status of `reduce`, from how it ends.
-use Rattle.std.proofs.Common.{◌≡◌, ◌≢◌, inl, inr, ℕ, ◌+◌, Bool, List, [], ◌∷◌, Some, refl}
+use Rattle.std.proofs.Common.{◌≡◌, ◌≢◌, inl, inr, ℕ, ◌+◌, Bool, List, [], ◌∷◌, Some, refl, sym, ◌∙◌}
 use Rattle.std.proofs.lemmas.Bool.{false≢true}
 use Rattle.keep_guard.specs.Keep.{first_missing}
 use Rattle.edge_io.specs.Files.{IsLonger, SameFiles, SameOthers}
@@ -29,6 +29,20 @@ file_of (ModeOptions.perses grammar squeeze) files = (named.Grammar, tt)
 module _ (options : ReduceOptions) (records : List Record) (old new : World) where
   abbrev Ends : ℕ → Type 0
   Ends status = ReduceEnds options records old new status
+
+  -- only a mode with a grammar has faults of it, and texts that aren't in its language
+  is_of_lines : {status : ℕ} → Ends status → options.mode ≡ ModeOptions.lines → IsOneOf (0 ∷ 1 ∷ 3 ∷ 4 ∷ 8 ∷ 9 ∷ 10 ∷ 11 ∷ []) status
+  is_of_lines (faulty grammar squeeze text mode read files untouched put) is = absurd (cc (sym mode ∙ is))
+  is_of_lines (no_token grammar squeeze fault mode uncut read files untouched put) is = absurd (cc (sym mode ∙ is))
+  is_of_lines (unparsed grammar squeeze mode read files untouched put) is = absurd (cc (sym mode ∙ is))
+  is_of_lines (done writes silent) is = refl
+  is_of_lines (memory files gate_quiet put) is = refl
+  is_of_lines (unread file reached failed same untouched put) is = refl
+  is_of_lines (unwritten failed text reduces others gate_quiet put) is = refl
+  is_of_lines (uninteresting only read files gate_quiet put) is = refl
+  is_of_lines (keep_missing index read files untouched put) is = refl
+  is_of_lines (too_long file reached longer files untouched put) is = refl
+  is_of_lines (script failed not_no read files put) is = refl
 
   is_done : {status : ℕ} → Ends status → status ≡ 0 → IsReduced options old.files new.files records
   is_done (done writes silent) is = writes.reduced
@@ -139,6 +153,7 @@ module _ (options : ReduceOptions) (records : List Record) (old new : World) whe
 pub reduce_by_status : ReduceByStatus
 reduce_by_status options records old new status ends = record {
   known = is_known options records old new ends;
+  of_lines = is_of_lines options records old new ends;
   done = is_done options records old new ends;
   unread = is_unread options records old new ends;
   write = is_unwritten options records old new ends;

@@ -220,6 +220,11 @@ IsShownFault grammar options files P =
     IsShownWithin grammar_limit (files.shown grammar) (λ bytes. (c : CheckedGrammar) × Spells bytes None c
     × IsShownWithin input_limit (files.shown options.input) (λ text. (fault : InputFault) × IsInputFault c text fault × P fault))
 
+-- where the mode has a grammar, it is visible, within its limit and well-formed
+abbrev pub IsShownGrammar : ModeOptions → SeenFiles → Type 0
+IsShownGrammar ModeOptions.lines files = Unit {0}
+IsShownGrammar (ModeOptions.perses grammar squeeze) files = IsShownWithin grammar_limit (files.shown grammar) IsGrammarText
+
 -- Which status it has to be. This follows from how `reduce` ends.
 pub record ReduceMustEnd (options : ReduceOptions) (records : List Record) (old new : World) (status : ℕ) : Type 0 where
   -- a grammar over its limit is refused
@@ -228,9 +233,13 @@ pub record ReduceMustEnd (options : ReduceOptions) (records : List Record) (old 
   pub grammar_missing : (grammar : List ℕ) (squeeze : Bool) → options.mode ≡ ModeOptions.perses grammar squeeze → old.files.shown grammar ≡ Some None → IsOneOf (3 ∷ 1 ∷ []) status
   -- a faulty grammar within its limit is refused
   pub faulty : (grammar : List ℕ) (squeeze : Bool) → options.mode ≡ ModeOptions.perses grammar squeeze → IsShownWithin grammar_limit (old.files.shown grammar) (λ bytes. ¬ IsGrammarText bytes) → IsOneOf (5 ∷ 3 ∷ 1 ∷ []) status
-  -- an input over its limit is refused, unless the grammar was refused before
+  -- an input over its limit is refused as such, where the mode has no grammar or a well-formed one
+  pub input_over : IsShownGrammar options.mode old.files → IsOver input_limit (old.files.shown options.input) → IsOneOf (10 ∷ 3 ∷ 1 ∷ []) status
+  -- an input that isn't there can't be read, where the mode has no grammar or a well-formed one
+  pub input_missing : IsShownGrammar options.mode old.files → old.files.shown options.input ≡ Some None → IsOneOf (3 ∷ 1 ∷ []) status
+  -- whatever the grammar is, an input over its limit is refused, unless the grammar was refused before
   pub over : IsOver input_limit (old.files.shown options.input) → IsOneOf (10 ∷ 3 ∷ 5 ∷ 1 ∷ []) status
-  -- an input that isn't there can't be read, unless the grammar was refused before
+  -- whatever the grammar is, an input that isn't there can't be read, unless the grammar was refused before
   pub missing : old.files.shown options.input ≡ Some None → IsOneOf (3 ∷ 5 ∷ 10 ∷ 1 ∷ []) status
   -- an input within its limit whose bytes aren't cut into tokens is refused, where the grammar is well-formed
   pub no_token : (grammar : List ℕ) (squeeze : Bool) → options.mode ≡ ModeOptions.perses grammar squeeze → IsShownFault grammar options old.files (λ fault. IsUncut fault) → IsOneOf (6 ∷ 3 ∷ 1 ∷ []) status

@@ -23,6 +23,7 @@ PutsItsLine mode files out out' status = ((status ≡ 0) × (out' ≡ out)) ⊎ 
 -- What `reduce` has done, by the number of its status.
 pub record ReduceMeans (options : ReduceOptions) (records : List Record) (old new : World) (status : ℕ) : Type 0 where
   pub known : IsOneOf (0 ∷ 1 ∷ 3 ∷ 4 ∷ 5 ∷ 6 ∷ 7 ∷ 8 ∷ 9 ∷ 10 ∷ 11 ∷ []) status
+  pub of_lines : options.mode ≡ ModeOptions.lines → IsOneOf (0 ∷ 1 ∷ 3 ∷ 4 ∷ 8 ∷ 9 ∷ 10 ∷ 11 ∷ []) status
   pub done : status ≡ 0 → IsReduced options old.files new.files records
   pub unread : status ≡ 3 → CallFailed old.files new.files
   pub write : status ≡ 4 → CallFailed old.files new.files
