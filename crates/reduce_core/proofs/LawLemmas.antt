@@ -1,6 +1,9 @@
 -- The laws of the reducer of lines, from those of reductions by rounds.
 use Rattle.std.proofs.Common.{ℕ, List, remove, refl, sym, ap, ◌∙◌, subst}
-use Rattle.verdict_table.specs.Plan.{End}
+use Rattle.std.proofs.lemmas.List.Elements.{All-weaker}
+use Rattle.verdict_table.specs.Plan.{End, MayAsk}
+use Rattle.verdict_table.specs.Ahead.{after_all, ahead}
+use Rattle.verdict_table.proofs.AheadLemmas.{ahead_may}
 use Rattle.reduction_rounds.specs.Mode.{RoundMode}
 use Rattle.reduction_rounds.specs.Reduction as rounds
 use Rattle.reduction_rounds.specs.Laws as round_laws
@@ -9,8 +12,9 @@ use Rattle.reduction_rounds.proofs.Following as following
 use Rattle.reduction_rounds.proofs.Ends as ends
 use Rattle.reduction_rounds.proofs.Candidates as candidates
 use Rattle.reduce_core.specs.declared.lines.Line.{Line}
-use Rattle.reduce_core.specs.LineMode.{AreOfStart, IsLineEdit, LineInput, line_mode}
-use Rattle.reduce_core.specs.Laws.{AsksCandidates, EndsMinimal, FollowsReduction, RefusesAtNo}
+use Rattle.reduce_core.specs.LineMode.{AreOfStart, IsLineEdit, LineInput, line_mode, line_plan}
+use Rattle.reduce_core.specs.Laws.{AheadAreCandidates, AsksCandidates, EndsMinimal, FollowsReduction, RefusesAtNo}
+use Rattle.reduce_core.specs.Minimal.{IsCandidate}
 use Rattle.reduce_core.specs.Reduction.{Admits, reduction}
 use Rattle.reduce_core.proofs.ByRounds.{by_rounds}
 use Rattle.reduce_core.proofs.LineLaws.{line_lawful, line_tries_edits}
@@ -56,3 +60,9 @@ asks_candidates admits start text admitted may =
     let input : LineInput = of_input admits start in
     let one = candidates.asks_candidates (line_mode input) (AreOfStart input) (line_lawful input).keeps admitted text may in
     record { lines = one.state; some = one.kept; listed = one.listed; joined = one.same }
+
+pub ahead_are_candidates : AheadAreCandidates
+ahead_are_candidates admits start admitted answers most =
+    All-weaker (λ text. MayAsk (line_plan admits start) text) (λ text. IsCandidate admits start text)
+    (λ text may. asks_candidates admits start text admitted may)
+    (ahead most (after_all answers (line_plan admits start))) (ahead_may (line_plan admits start) answers most)

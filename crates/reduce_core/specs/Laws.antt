@@ -1,8 +1,9 @@
 -- What holds of the reducer of lines, whatever it is answered.
-use Rattle.std.specs.Prelude.{◌≡◌, ℕ, List, Bool, true, false, length, Option, Some}
+use Rattle.std.specs.Prelude.{◌≡◌, ℕ, List, All, Bool, true, false, length, Option, Some}
 use Rattle.script_gate.specs.declared.gate.Verdict.{Verdict}
 use Rattle.script_gate.specs.declared.gate.Verdict.TheVariants.{Yes, No}
 use Rattle.verdict_table.specs.Plan.{StepResult, End, HasEnded, MayAsk, follow}
+use Rattle.verdict_table.specs.Ahead.{after_all, ahead}
 use Rattle.reduction_rounds.specs.RoundsPlan.{capped_count}
 use Rattle.reduction_rounds.specs.Reduction as rounds
 use Rattle.reduction_rounds.specs.Laws.{HasVerdicts, says_yes}
@@ -46,6 +47,11 @@ EndsMinimal = (admits : Admits) (V : List ℕ → Option Verdict) (start : List 
 -- All that may be asked is some of an admitted start's lines, and admitted.
 abbrev pub AsksCandidates : Type 0
 AsksCandidates = (admits : Admits) (start text : List ℕ) → is_listed admits (numbered_lines start) ≡ true → MayAsk (line_plan admits start) text → IsCandidate admits start text
+
+-- Whatever was answered, all that is ahead is some of an admitted start's lines, and admitted.
+abbrev pub AheadAreCandidates : Type 0
+AheadAreCandidates = (admits : Admits) (start : List ℕ) → is_listed admits (numbered_lines start) ≡ true → (answers : List Verdict) (most : ℕ)
+    → All (λ text. IsCandidate admits start text) (ahead most (after_all answers (line_plan admits start)))
 
 -- The rounds of a reduction are one round and what follows: the bound in their definition is never met.
 abbrev pub GoesByItsRounds : Type 0

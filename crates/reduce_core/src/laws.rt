@@ -1,6 +1,6 @@
 //! What holds of the reducer of lines, for the proofs of callers.
 
-ghost use Rattle.reduce_core.specs.Laws.{AsksCandidates, EndsMinimal, FollowsReduction, GoesByItsRounds, IsByRounds, RefusesAtNo};
+ghost use Rattle.reduce_core.specs.Laws.{AheadAreCandidates, AsksCandidates, EndsMinimal, FollowsReduction, GoesByItsRounds, IsByRounds, RefusesAtNo};
 
 /// Followed over a map of verdicts, the reducer ends exactly where the map has a verdict for each
 /// text that the recursive reduction asks, and then with the reduction's result and counts.
@@ -28,6 +28,12 @@ pub fn ends_minimal()
 /// order, and admitted.
 pub fn asks_candidates()
     ensures { AsksCandidates }
+{}
+
+/// Whatever the reducer was answered, all that is ahead of it is some of an admitted start's lines, one
+/// after another in their order, and admitted.
+pub fn ahead_are_candidates()
+    ensures { AheadAreCandidates }
 {}
 
 /// The rounds of a reduction are one round and what follows it, until one changes nothing.

@@ -16,8 +16,8 @@ mod reducer;
 
 pub use faults::Memory;
 pub use laws::{
-    asks_candidates, ends_minimal, follows_reduction, goes_by_its_rounds, is_by_rounds,
-    refuses_at_no,
+    ahead_are_candidates, asks_candidates, ends_minimal, follows_reduction, goes_by_its_rounds,
+    is_by_rounds, refuses_at_no,
 };
 pub use line_round::LineRound;
 pub use lines::{Candidate, Line, Lines};

@@ -4,4 +4,5 @@ pub mod Following
 pub mod Ends
 pub mod Candidates
 pub mod Agreement
+pub mod LookingAhead
 pub mod FieldLemmas

@@ -1,9 +1,10 @@
 -- What holds of each reduction, whatever its mode.
-use Rattle.std.specs.Prelude.{◌≡◌, ℕ, List, Bool, true, false, length, Option, Some, None, IsSome}
+use Rattle.std.specs.Prelude.{◌≡◌, ◌≤◌, ℕ, List, [], ◌∷◌, All, Bool, true, false, length, Option, Some, None, IsSome}
 use Rattle.std.specs.List.{AllByRecursion}
 use Rattle.script_gate.specs.declared.gate.Verdict.{Verdict}
 use Rattle.script_gate.specs.declared.gate.Verdict.TheVariants.{Yes, No}
 use Rattle.verdict_table.specs.Plan.{StepResult, End, HasEnded, MayAsk, follow}
+use Rattle.verdict_table.specs.Ahead.{after_all, ahead}
 use Rattle.reduction_rounds.specs.Mode.{RoundMode, IsLawful, TriesEdits, Keeps}
 use Rattle.reduction_rounds.specs.Reduction.{Reduction, after_round, next_rounds, reduction, round_of, rounds_of}
 use Rattle.reduction_rounds.specs.RoundsPlan.{capped_count, plan_first, step_result}
@@ -59,6 +60,15 @@ pub record IsTextOf {T : Type 0} (mode : RoundMode T) (Kept : T → Type 0) (tex
 -- All that may be asked of a listed start is the text of a listed state that is kept.
 abbrev pub AsksCandidates : {T : Type 0} → RoundMode T → (T → Type 0) → Type 0
 AsksCandidates mode Kept = Keeps mode Kept → mode.is_listed mode.start ≡ true → (text : List ℕ) → MayAsk (plan_first mode) text → IsTextOf mode Kept text
+
+-- Whatever was answered, all that is ahead of a listed start is the text of a listed state that is kept.
+abbrev pub AheadAreCandidates : {T : Type 0} → RoundMode T → (T → Type 0) → Type 0
+AheadAreCandidates mode Kept = Keeps mode Kept → mode.is_listed mode.start ≡ true → (answers : List Verdict) (most : ℕ)
+    → All (λ text. IsTextOf mode Kept text) (ahead most (after_all answers (plan_first mode)))
+
+-- Before the start is answered it is ahead alone, since its no ends the reduction.
+abbrev pub AheadIsStartAlone : {T : Type 0} → RoundMode T → Type 0
+AheadIsStartAlone mode = (most : ℕ) → 1 ≤ most → ahead most (plan_first mode) ≡ mode.text mode.start ∷ []
 
 -- The rounds from a kept state are one round and what follows: the bound in their definition is never met.
 abbrev pub GoesByItsRounds : {T : Type 0} → RoundMode T → (T → Type 0) → Type 0

@@ -1,4 +1,5 @@
 pub use Rattle.verdict_table.specs.Plan
+pub use Rattle.verdict_table.specs.Ahead
 pub mod Trials
 pub mod Mode
 pub mod Reduction

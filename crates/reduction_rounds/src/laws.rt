@@ -4,7 +4,7 @@
 ghost use Rattle.std.specs.Prelude.{List, ℕ, Option};
 ghost use Rattle.script_gate.specs.declared.gate.Verdict.{Verdict};
 ghost use Rattle.reduction_rounds.specs.Trials.{IsTriedAtNo};
-ghost use Rattle.reduction_rounds.specs.Laws.{AgreeingMapsReduceAlike, AsksCandidates, EndsMinimal, GoesByItsRounds, IsTheReduction, RefusesAtNo};
+ghost use Rattle.reduction_rounds.specs.Laws.{AgreeingMapsReduceAlike, AheadAreCandidates, AheadIsStartAlone, AsksCandidates, EndsMinimal, GoesByItsRounds, IsTheReduction, RefusesAtNo};
 
 use crate::round::Round;
 
@@ -28,6 +28,17 @@ pub fn ends_minimal<R: Round>()
 /// All that may be asked of a listed start is the text of a listed state that is kept.
 pub fn asks_candidates<R: Round>()
     ensures { (input : R.Input) → AsksCandidates (R.mode input) (R.Kept input) }
+{}
+
+/// Whatever was answered, all that is ahead of a listed start is the text of a listed state that is
+/// kept.
+pub fn ahead_are_candidates<R: Round>()
+    ensures { (input : R.Input) → AheadAreCandidates (R.mode input) (R.Kept input) }
+{}
+
+/// Before the start is answered it is ahead alone.
+pub fn ahead_is_start_alone<R: Round>()
+    ensures { (input : R.Input) → AheadIsStartAlone (R.mode input) }
 {}
 
 /// The rounds of a reduction are one round and what follows it, until one has no yes.

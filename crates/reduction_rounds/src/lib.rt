@@ -10,6 +10,7 @@
 //! law.
 #![tactic(auto)]
 
+mod ahead;
 mod laws;
 mod reducer;
 mod round;
@@ -18,8 +19,8 @@ mod stage;
 
 pub use faults::Memory;
 pub use laws::{
-    agreeing_maps, asks_candidates, ends_minimal, follows_reduction, goes_by_its_rounds,
-    refuses_at_no,
+    agreeing_maps, ahead_are_candidates, ahead_is_start_alone, asks_candidates, ends_minimal,
+    follows_reduction, goes_by_its_rounds, refuses_at_no,
 };
 pub use reducer::ReducerStep;
 pub use round::Round;

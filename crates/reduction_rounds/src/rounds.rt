@@ -7,11 +7,12 @@ ghost use Rattle.reduction_rounds.specs.FieldProps.{ready_prop};
 ghost use Rattle.reduction_rounds.specs.RoundsPlan.{plan_first, plan_rounds};
 ghost use Rattle.verdict_table.specs.Plan.{after as plan_after, asked};
 
+use crate::ahead::texts_at_no;
 use crate::reducer::ReducerStep;
 use crate::round::Round;
 use crate::stage::{Progress, Stage};
 use faults::Memory;
-use script_gate::Verdict;
+use script_gate::{Bytes, Verdict};
 use std::alloc::Global;
 use std::mem;
 use verdict_table::Step;
@@ -21,7 +22,8 @@ use verdict_table::Step;
 /// no, and is neither asked nor counted.
 ///
 /// An answer costs what the mode's own answer costs, and so much again for each state that isn't
-/// listed before the next one that is; a yes costs a copy of its text too.
+/// listed before the next one that is; a yes costs a copy of its text too. Looking ahead costs a copy,
+/// and then what as many answers as texts cost.
 #[derive(Drop)]
 pub struct Rounds<R: Round + Drop> {
     alloc: Global,
@@ -106,6 +108,12 @@ impl<R: Round + Drop> Step for Rounds<R> {
             &mut self.progress,
         )?;
         Ok(())
+    }
+
+    fn ahead(&self, most: u32) -> Result<Vec<Bytes>, Memory> {
+        let mut reducer = self.copy()?;
+        let texts = texts_at_no(self.alloc, &mut reducer, most)?;
+        Ok(texts)
     }
 }
 

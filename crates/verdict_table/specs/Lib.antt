@@ -1,3 +1,4 @@
 pub mod Plan
+pub mod Ahead
 pub mod TableState
 pub mod Grow

@@ -1,9 +1,10 @@
-ghost use Rattle.std.specs.Prelude.{◌≡◌, ◌≤◌, IsSome, IfSome, OnOk, length};
+ghost use Rattle.std.specs.Prelude.{◌≡◌, ◌≤◌, All, IsSome, IfSome, IfOk, OnOk, length};
 ghost use Rattle.std.specs.Option.{option_copied};
 ghost use Rattle.verdict_table.specs.Plan.{Plan, after, asked};
+ghost use Rattle.verdict_table.specs.Ahead.{ahead};
 
 use faults::Memory;
-use script_gate::Verdict;
+use script_gate::{Bytes, Verdict};
 
 /// One reducer: it asks a text, is answered, and goes on from there until it asks nothing more.
 pub trait Step {
@@ -23,4 +24,11 @@ pub trait Step {
         requires asking { IsSome (asked (plan self.old)) }
         ensures answered { OnOk result (plan self.new ≡ after (plan self.old) verdict) }
         ensures first { first self.new ≡ first self.old };
+
+    /// The texts that it would ask in turn, beginning with the present one, if every answer were no:
+    /// so many of them, and fewer only where it would end. A text that would be asked again is there
+    /// again.
+    fn ahead(&self, most: u32) -> Result<Vec<Bytes>, Memory>
+        ensures texts { IfOk result (λ texts. texts.items ≡ ahead most (plan self.now)) }
+        ensures short { IfOk result (λ texts. All (λ text. length text ≤ 1048576) texts.items) };
 }
