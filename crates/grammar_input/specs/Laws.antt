@@ -8,7 +8,7 @@ use Rattle.grammar_input.specs.Faults.{IsInputFault}
 use Rattle.grammar_input.specs.declared.fault.InputFault.{InputFault}
 use Rattle.grammar_input.specs.declared.fault.InputFault.TheVariants.{Memory}
 
--- A text of a grammar has one input at most, for what is admitted and whether the squeezed text is tried.
+-- A text has one input at most by a grammar, for what is admitted and whether the squeezed text is tried.
 abbrev pub InputsAreOne : Type 0
 InputsAreOne = (grammar : CheckedGrammar) (text : List ℕ) (one other : TreeInput) → IsInputOf grammar text one → IsInputOf grammar text other → one.admits ≡ other.admits → one.squeezes ≡ other.squeezes → one ≡ other
 

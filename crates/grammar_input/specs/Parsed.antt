@@ -1,4 +1,4 @@
--- What a reduction's input is made of, where it is found in a text of a grammar.
+-- What a reduction's input is made of, where it is found in a text by a grammar.
 use Rattle.std.specs.Prelude.{◌≡◌, ℕ, Bool, List, length, map, string_bytes}
 use Rattle.grammar_tree.specs.Written.{CheckedGrammar}
 use Rattle.std.specs.Str.{chars, IsUtf8}
@@ -33,7 +33,7 @@ pub record IsParsed (grammar : CheckedGrammar) (text : List ℕ) (found : Parsed
   pub parse : IsParse (normal_of grammar) (Rule (normal_of grammar).start) (kinds_in (tokens_in found.tokens)) found.tree
   pub is_whole : IsWhole found.tree.form found.tree.start (whole found.tree)
 
--- The input is that of the text of the grammar, and its tree is the preferred one of all of its tokens.
+-- The input is made of this text by this grammar, and its tree is the preferred one of all of its tokens.
 pub record IsInputOf (grammar : CheckedGrammar) (text : List ℕ) (input : TreeInput) : Type 0 where
   pub same_grammar : input.grammar ≡ grammar
   pub same_text : input.start ≡ text

@@ -9,7 +9,7 @@ use syntax_tree::{preferred_trees_are_one, valid_trees_are_derived};
 use token_laws::{tokens_are_unique, tokens_have_no_stop};
 use tree_mode::well_formed_once;
 
-/// A text of a grammar has one input at most, for what is admitted and whether the squeezed text is
+/// A text has one input at most by a grammar, for what is admitted and whether the squeezed text is
 /// tried.
 pub fn inputs_are_one()
     ensures { InputsAreOne }

@@ -25,8 +25,8 @@ use std::alloc::Global;
 use syntax_tree::{Tree, preferred_trees_are_valid, valid_trees_are_derived};
 use token_laws::tokens_are_in_order;
 
-/// What is found in a text of a grammar: the text itself, its tokens, the lexer of the grammar, and
-/// the preferred tree of all tokens, for the start rule.
+/// What is found in a text in a grammar's language: the text itself, its tokens, the lexer of the
+/// grammar, and the preferred tree of all tokens, for the start rule.
 #[derive(Drop)]
 pub struct ParsedInput {
     pub text: String,
@@ -118,10 +118,13 @@ fn found_in(alloc: Global, grammar: &Checked, bytes: &[u8]) -> Result<ParsedInpu
     })
 }
 
-/// What is found in the bytes, which are a text of the grammar; or why they aren't: they aren't UTF-8,
-/// they aren't cut into tokens, or the start rule doesn't derive these. The first that is so is named.
+/// What is found in the bytes, which are in the grammar's language; or why they aren't: they aren't
+/// UTF-8, they aren't cut into tokens, or the start rule doesn't derive these. The first that is so is
+/// named.
 ///
-/// Its time is that of the lexer and of the parser (see [`Lexer::lex`] and [`parse`]).
+/// Each call builds the lexer and the normal form of the grammar (see [`Lexer::build`] and
+/// [`normalise`]); beside that its time is that of the lexer and of the parser (see [`Lexer::lex`] and
+/// [`parse`]).
 pub fn parsed_input(
     alloc: Global,
     grammar: &Checked,

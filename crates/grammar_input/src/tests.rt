@@ -65,6 +65,7 @@ fn finds_the_tokens_and_their_tree_or_the_first_fault(rt: HostRuntime) -> Result
         ),
         (MINI, b"int f() { return; ", "input does not parse"),
         (MINI, b"int f() { return \"; }", "no token at byte 17"),
+        (MINI, b"\"\xc3\xa9\" $", "no token at byte 5"),
         (
             JSON,
             b"{\"a\": [1, -2.5, {}], \"b\": null}",
