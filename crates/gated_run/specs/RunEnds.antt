@@ -1,5 +1,6 @@
 -- How a run of a reducer ends.
 use Rattle.std.specs.Prelude.{◌≡◌, ℕ, List, true, false, Result, Ok, Err}
+use Rattle.std.specs.Global.{Vec}
 use Rattle.faults.specs.Count.{Rose}
 use Rattle.script_gate.specs.declared.gate.Verdict.TheVariants.{Yes, No}
 use Rattle.verdict_table.specs.declared.record.Record.{Record}
@@ -39,3 +40,8 @@ RunFailsIn mode records count count' Memory = count' ≡ count
 abbrev pub RunEndsIn : {T : Type 0} → RoundMode T → (T → Type 0) → List Record → ℕ → ℕ → StepResult → Result (Unit {0}) RunFault → Type 0
 RunEndsIn mode Kept records count count' result (Ok _) = ReducesIn mode Kept records result × (count' ≡ count)
 RunEndsIn mode Kept records count count' result (Err fault) = RunFailsIn mode records count count' fault
+
+-- how it ended, by the text that it answered: that of the reduction's result
+abbrev pub TextEndsIn : {T : Type 0} → RoundMode T → (T → Type 0) → List Record → ℕ → ℕ → Result (Vec ℕ) RunFault → Type 0
+TextEndsIn mode Kept records count count' (Ok text) = ((result : StepResult) × (text.items ≡ result.text) × ReducesIn mode Kept records result) × (count' ≡ count)
+TextEndsIn mode Kept records count count' (Err fault) = RunFailsIn mode records count count' fault

@@ -1,6 +1,8 @@
 //! Why a run ends without a result.
 
+use faults::Memory;
 use script_gate::GateFault;
+use std::alloc::AllocError;
 
 /// Why a run ends without a result.
 #[derive(Clone, Copy, Debug, PartialEq, Eq)]
@@ -24,5 +26,27 @@ impl From<GateFault> for RunFault {
             GateFault::Failed => RunFault::Script,
             GateFault::Memory => RunFault::Memory,
         }
+    }
+}
+
+impl From<Memory> for RunFault {
+    ghost use Rattle.std.specs.Prelude.{◌≡◌};
+    ghost use Rattle.gated_run.specs.declared.fault.RunFault.{RunFault};
+
+    ghost from_gives = { λ _ fault. fault ≡ RunFault.Memory };
+
+    fn from(_: Memory) -> RunFault {
+        RunFault::Memory
+    }
+}
+
+impl From<AllocError> for RunFault {
+    ghost use Rattle.std.specs.Prelude.{◌≡◌};
+    ghost use Rattle.gated_run.specs.declared.fault.RunFault.{RunFault};
+
+    ghost from_gives = { λ _ fault. fault ≡ RunFault.Memory };
+
+    fn from(_: AllocError) -> RunFault {
+        RunFault::Memory
     }
 }

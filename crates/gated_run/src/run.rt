@@ -4,7 +4,7 @@ ghost use Rattle.std.specs.Prelude.{◌≡◌, [], true};
 ghost use Rattle.reduction_rounds.specs.Mode.{Keeps};
 ghost use Rattle.reduction_rounds.specs.RoundsPlan.{plan_first};
 ghost use Rattle.gated_run.specs.Records.{AreAnswers, AreOfMode};
-ghost use Rattle.gated_run.specs.RunEnds.{RunEndsIn};
+ghost use Rattle.gated_run.specs.RunEnds.{RunEndsIn, TextEndsIn};
 
 use crate::fault::RunFault;
 use reduction_rounds::{
@@ -12,6 +12,7 @@ use reduction_rounds::{
 };
 use script_gate::Gate;
 use sequential_run::run;
+use std::alloc::Global;
 use verdict_table::{Step, Table};
 
 /// Asks the gate for what the reducer asks, once for each text, until it asks nothing more, and
@@ -42,4 +43,25 @@ pub fn run_to_end<R: Round + Drop, G: Gate>(
         return Err(RunFault::NotInteresting);
     }
     Ok(())
+}
+
+/// Asks the gate to the reducer's end, as [`run_to_end`] does, and gives the text that the reducer has
+/// come to.
+pub fn run_to_text<R: Round + Drop, G: Gate>(
+    alloc: Global,
+    reducer: &mut Rounds<R>,
+    gate: &mut G,
+    table: &mut Table,
+) -> Result<Vec<u8>, RunFault>
+    requires new { ⟦<Rounds<R> as Step>⟧.first reducer.old ≡ ⟦<Rounds<R> as Step>⟧.plan reducer.old }
+    requires empty { table.old.records ≡ [] }
+    requires settled { table.old.claims ≡ [] }
+    ensures answers { AreAnswers G.may_say (G.log gate.old) (G.log gate.new) table.new.records }
+    ensures candidates { (input : R.Input) → ⟦<Rounds<R> as Step>⟧.first reducer.old ≡ plan_first (R.mode input) → Keeps (R.mode input) (R.Kept input) → (R.mode input).is_listed (R.mode input).start ≡ true
+        → AreOfMode (R.mode input) (R.Kept input) table.new.records }
+    ensures ends { (input : R.Input) → ⟦<Rounds<R> as Step>⟧.first reducer.old ≡ plan_first (R.mode input)
+        → TextEndsIn (R.mode input) (R.Kept input) table.new.records (G.faults gate.old) (G.faults gate.new) result }
+{
+    run_to_end(reducer, gate, table)?;
+    Ok(Vec::from_slice(alloc, reducer.result())?)
 }
