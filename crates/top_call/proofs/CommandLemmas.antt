@@ -12,18 +12,21 @@ use Rattle.verdict_table.specs.declared.record.Record.{Record}
 use Rattle.verdict_table.specs.TableState.{texts_of}
 use Rattle.grammar_input.specs.Laws.{InputFaultOnce, InputsAreInLanguage}
 use Rattle.top_call.specs.declared.status.Refusal.{Refusal}
-use Rattle.top_call.specs.declared.status.Refusal.TheVariants.{Memory, CannotRead, CannotWrite, Grammar, KeepMissing, NoParse, NotInteresting, Script, TooLong, Uncut}
-use Rattle.top_call.specs.Problem.{Problem, start_of}
-use Rattle.top_call.specs.Reduce.{AreCandidates, AreOf, IsUnfinished, KeepFails, ProblemAccepted, ProblemFails, ProblemRead, RecordsAreSound, ReducesFrom, RunFails, ReduceEnds, ReduceFails, ReduceSteps, Reduces, WritesReduced, opening_for}
+use Rattle.top_call.specs.declared.status.Refusal.TheVariants.{Memory, CannotRead, CannotWrite, Grammar, KeepMissing, NoParse, TooLong, Uncut}
+use Rattle.problem_run.specs.Problem.{Problem, start_of}
+use Rattle.problem_run.specs.Ends.{AreOf, IsUnfinished, ReducesFrom, RunFails}
+use Rattle.top_call.specs.Reduce.{AreCandidates, KeepFails, ProblemAccepted, ProblemFails, ProblemRead, RecordsAreSound, ReduceEnds, ReduceFails, ReduceSteps, Reduces, WritesReduced, opening_for}
 use Rattle.top_call.specs.Reduce.ReduceEnds.{done, memory, unread, unwritten, faulty, no_token, unparsed, uninteresting, keep_missing, too_long, script}
+use Rattle.gated_run.specs.declared.fault.RunFault.{RunFault}
+use Rattle.gated_run.specs.declared.fault.RunFault.TheVariants as run
 use Rattle.gated_run.specs.Records.{AreAnswers, FirstIs, FirstIsNo, OnlyNo}
 use Rattle.sequential_run.specs.Run.{with_all_asked}
-use Rattle.top_call.specs.Status.{EndsRefused, EndsSilent, OpenFails, WriteFails}
+use Rattle.top_call.specs.Status.{EndsRefused, EndsSilent, WriteFails, refusal_of_run}
 use Rattle.top_call.specs.Words.{ReduceOptions, file_name_of}
 use Rattle.top_call.specs.World.{CallFailed, FilesKept, IsQuiet, PutsLine, SeenFiles, SeenGate, GateUntouched, World}
 use Rattle.top_call.proofs.MustEndLemmas.{must_end}
 use Rattle.top_call.proofs.ProblemLemmas.{any_problem, problem_map}
-use Rattle.sequential_run.proofs.RunLemmas.{none_asked, none_distinct}
+use Rattle.sequential_run.proofs.RunLemmas.{none_distinct}
 
 -- a gate that was opened and then asked for these texts
 opened_and_asked : (options : ReduceOptions) (texts : List (List ℕ)) (log : Option Log) →
@@ -31,14 +34,6 @@ opened_and_asked : (options : ReduceOptions) (texts : List (List ℕ)) (log : Op
     ≡ option_map (λ (l : Log). record l { asked = l.asked ++ texts; opening = Some (opening_for options 1) }) log
 opened_and_asked options texts None = refl
 opened_and_asked options texts (Some log) = refl
-
--- no record was made, and the gate was not asked
-pub none_answers : (may_say : List ℕ → Verdict → Type 0) (records : List Record) (log : Option Log) → records ≡ [] → AreAnswers may_say log log records
-none_answers may_say records log none = subst (AreAnswers may_say log log) (sym none) (record {
-  distinct = none_distinct [] refl;
-  said = All-nil _;
-  asked = none_asked log;
-})
 
 module _ (options : ReduceOptions) (may_say : List ℕ → Verdict → Type 0) where
   -- no record was made, and the gate's log is the same
@@ -58,20 +53,6 @@ module _ (options : ReduceOptions) (may_say : List ℕ → Verdict → Type 0) w
     said = answers.said;
     used = inr (answers.asked ∙ ap (option_map (with_all_asked (texts_of records))) is_open ∙ opened_and_asked options (texts_of records) gate.shown);
   }
-
-module _ (keeps : List (List ℕ)) (problem : Problem) (records : List Record) where
-  -- why the gate wasn't opened is why there is no reduction
-  pub run_open : (gate gate' : SeenGate) (refusal : Refusal) → records ≡ [] → IsUnfinished keeps problem [] → OpenFails gate gate' refusal → RunFails keeps problem records gate gate' refusal
-  run_open gate gate' Memory none unfinished why = why
-  run_open gate gate' Script none unfinished why = (why, subst (λ rs. ¬ FirstIsNo rs) (sym none) (λ first. first), subst (IsUnfinished keeps problem) (sym none) unfinished)
-  run_open gate gate' _ none unfinished why = absurd why
-
-  -- why there is no reduction, seen from before the gate's opening, in which no call failed
-  pub run_later : (gate opened gate' : SeenGate) (refusal : Refusal) → IsQuiet gate opened → RunFails keeps problem records opened gate' refusal → RunFails keeps problem records gate gate' refusal
-  run_later gate opened gate' Memory quiet why = why ∙ quiet
-  run_later gate opened gate' NotInteresting quiet (only, first, same) = (only, first, same ∙ quiet)
-  run_later gate opened gate' Script quiet (failed, not_no, unfinished) = (subst (λ count. Rose count gate'.faults) quiet failed, not_no, unfinished)
-  run_later gate opened gate' _ quiet why = absurd why
 
 module _ (options : ReduceOptions) (may_say : List ℕ → Verdict → Type 0) (records : List Record) (files files' : SeenFiles) where
   -- the records of a problem that was accepted
@@ -122,9 +103,9 @@ module _ (options : ReduceOptions) (may_say : List ℕ → Verdict → Type 0) (
 
   module _ (gate gate' : SeenGate) (sound : RecordsAreSound options may_say records gate gate') (are : ProblemAccepted options files (λ problem. AreOf options.keeps problem records)) where
     -- the problem has no reduction
-    pub stops_run : (refusal : Refusal) → SameFiles files.shown files'.shown → IsQuiet files files' → ProblemAccepted options files (λ problem. RunFails options.keeps problem records gate gate' refusal)
-        → ReduceSteps options may_say records files files' gate gate' (Err refusal)
-    stops_run refusal same quiet why = record { sound = sound; candidates = candidates_of records are; ends = at refusal why }
+    pub stops_run : (fault : RunFault) → SameFiles files.shown files'.shown → IsQuiet files files' → ProblemAccepted options files (λ problem. RunFails options.keeps problem records gate.faults gate'.faults fault)
+        → ReduceSteps options may_say records files files' gate gate' (Err (refusal_of_run fault))
+    stops_run fault same quiet why = record { sound = sound; candidates = candidates_of records are; ends = at fault why }
       where
         kept : FilesKept files files'
         kept = record { same = same; quiet = quiet }
@@ -137,15 +118,14 @@ module _ (options : ReduceOptions) (may_say : List ℕ → Verdict → Type 0) (
             problem_map options files (λ problem. (holds_all options.keeps (start_of problem) ≡ true) × P problem) (λ problem. (holds_all options.keeps (start_of problem) ≡ true) × Q problem)
             (λ problem is. (is.0, then problem is.1)) read
 
-        at : (refusal : Refusal) → ProblemAccepted options files (λ problem. RunFails options.keeps problem records gate gate' refusal) → ReduceFails options records files files' gate gate' refusal
-        at Memory why = λ out out' put. memory kept (some (λ problem. IsQuiet gate gate') why).1.1 put
-        at NotInteresting why = λ out out' put.
+        at : (fault : RunFault) → ProblemAccepted options files (λ problem. RunFails options.keeps problem records gate.faults gate'.faults fault) → ReduceFails options records files files' gate gate' (refusal_of_run fault)
+        at run.Memory why = λ out out' put. memory kept (some (λ problem. IsQuiet gate gate') why).1.1 put
+        at run.NotInteresting why = λ out out' put.
             let P : Problem → Type 0 = λ problem. OnlyNo records × FirstIs (start_of problem) No records × IsQuiet gate gate' in
             uninteresting (some P why).1.1.0 (but P (λ problem. FirstIs (start_of problem) No records) (λ problem is. is.1) why) kept (some P why).1.1.2 put
-        at Script why = λ out out' put.
+        at run.Script why = λ out out' put.
             let P : Problem → Type 0 = λ problem. CallFailed gate gate' × (¬ FirstIsNo records) × IsUnfinished options.keeps problem records in
             script (some P why).1.1.0 (some P why).1.1.1 (but P (λ problem. IsUnfinished options.keeps problem records) (λ problem is. is.2) why) kept put
-        at _ why = absurd (some (λ problem. ⊥) why).1.1
 
     -- the result was written, or it wasn't
     pub stops_write : (read : SeenFiles) (text : List ℕ) (outcome : Result (Unit {0}) Refusal) → SameFiles files.shown read.shown → IsQuiet files read → IsQuiet gate gate'

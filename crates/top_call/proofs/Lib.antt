@@ -1,5 +1,4 @@
 pub mod NameLemmas
-pub mod ReduceLemmas
 pub mod FileLemmas
 pub mod GrammarLemmas
 pub mod NormalLemmas

@@ -12,8 +12,9 @@ use Rattle.grammar_input.specs.declared.fault.InputFault.{InputFault}
 use Rattle.grammar_input.specs.declared.fault.InputFault.TheVariants as input_fault
 use Rattle.top_call.specs.declared.status.NamedFile.TheVariants as named
 use Rattle.top_call.specs.Grammar.{IsFaultIn}
-use Rattle.top_call.specs.Problem.{Problem, start_of}
-use Rattle.top_call.specs.Reduce.{InputHas, IsShownFault, IsShownProblem, ProblemAccepted, ProblemRead, ReduceEnds, ReduceMustEnd, ReducesFrom, ReducesTo, grammar_in}
+use Rattle.problem_run.specs.Problem.{Problem, start_of}
+use Rattle.problem_run.specs.Ends.{ReducesFrom}
+use Rattle.top_call.specs.Reduce.{InputHas, IsShownFault, IsShownProblem, ProblemAccepted, ProblemRead, ReduceEnds, ReduceMustEnd, ReducesTo, grammar_in}
 use Rattle.top_call.specs.Reduce.ReduceEnds.{done, memory, unread, unwritten, faulty, no_token, unparsed, uninteresting, keep_missing, too_long, script}
 use Rattle.top_call.specs.Status.{IsUncut}
 use Rattle.top_call.specs.Words.{ModeOptions, ReduceOptions}

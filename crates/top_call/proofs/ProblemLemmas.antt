@@ -11,12 +11,12 @@ use Rattle.grammar_input.specs.Faults.{IsInputFault}
 use Rattle.grammar_input.specs.Laws.{InputFaultOnce, InputsAreInLanguage}
 use Rattle.grammar_input.specs.declared.fault.InputFault.{InputFault}
 use Rattle.grammar_input.specs.declared.fault.InputFault.TheVariants as input_fault
-use Rattle.top_call.specs.declared.reduce.ReadProblem.{ReadProblem}
-use Rattle.top_call.specs.declared.reduce.ReadProblem.TheVariants as read_problem
+use Rattle.problem_run.specs.declared.problem.ReadProblem.{ReadProblem}
+use Rattle.problem_run.specs.declared.problem.ReadProblem.TheVariants as read_problem
 use Rattle.top_call.specs.declared.status.NamedFile.TheVariants as named
 use Rattle.top_call.specs.Grammar.{GrammarRead, IsFaultIn, IsGrammarText}
-use Rattle.top_call.specs.Problem.{Problem, start_of}
-use Rattle.top_call.specs.Read.{IsReadAs, start_read}
+use Rattle.problem_run.specs.Problem.{Problem, start_of}
+use Rattle.problem_run.specs.Read.{IsReadAs, start_read}
 use Rattle.top_call.specs.Reduce.{InputHas, IsReached, IsShownFault, IsShownGrammar, IsTreeProblem, ProblemAccepted, ProblemRead, ReadIn, ShownIn, grammar_in}
 use Rattle.top_call.specs.Status.{IsUncut}
 use Rattle.top_call.specs.Words.{ModeOptions, ReduceOptions}

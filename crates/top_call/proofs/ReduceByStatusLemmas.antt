@@ -13,7 +13,7 @@ use Rattle.top_call.specs.declared.status.NamedFile.TheVariants as named
 use Rattle.top_call.specs.declared.status.Refusal.TheVariants.{Memory, CannotRead, CannotWrite, NoParse, NotInteresting, TooLong, Script}
 use Rattle.gated_run.specs.Records.{OnlyNo}
 use Rattle.top_call.specs.Grammar.{IsFaultIn}
-use Rattle.top_call.specs.Problem.{start_of}
+use Rattle.problem_run.specs.Problem.{start_of}
 use Rattle.top_call.specs.Reduce.{InputHas, IsReached, IsReduced, ProblemRead, ReduceEnds, ReducesTo, limit_of, name_of}
 use Rattle.top_call.specs.Reduce.ReduceEnds.{done, memory, unread, unwritten, faulty, no_token, unparsed, uninteresting, keep_missing, too_long, script}
 use Rattle.top_call.specs.ReduceByStatus.{PutsItsLine, ReduceByStatus}

@@ -4,10 +4,8 @@ pub use Rattle.edge_io.specs.Sink
 pub use Rattle.verdict_table.specs.TableState
 pub use Rattle.keep_guard.specs.Keep
 pub use Rattle.gated_run.specs.Records
-pub use Rattle.reduction_rounds.specs.Laws as RoundLaws
-pub use Rattle.reduce_core.specs.Lines
-pub use Rattle.reduce_core.specs.Reduction
-pub use Rattle.reduce_core.specs.Minimal
+pub use Rattle.problem_run.specs.Problem
+pub use Rattle.problem_run.specs.Ends
 pub use Rattle.grammar_tree.specs.Faults
 pub use Rattle.grammar_tree.specs.Written
 pub use Rattle.checked_grammar.specs.Answer
@@ -17,9 +15,6 @@ pub use Rattle.grammar_input.specs.Faults as InputFaults
 pub use Rattle.grammar_input.specs.FaultText
 pub use Rattle.tree_mode.specs.Input
 pub use Rattle.tree_mode.specs.Candidates as TreeCandidates
-pub use Rattle.tree_mode.specs.Listed
-pub use Rattle.tree_rounds.specs.PersesMode
-pub use Rattle.tree_rounds.specs.Ends as TreeEnds
 pub use Rattle.normal_form.specs.Laws as FormLaws
 pub use Rattle.normal_form.specs.NormalOf
 pub use Rattle.normal_form.specs.Print
@@ -27,7 +22,6 @@ pub mod Words
 pub mod World
 pub mod Status
 pub mod Grammar
-pub mod Problem
 pub mod Reduce
 pub mod Read
 pub mod Normal

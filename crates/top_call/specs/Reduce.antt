@@ -1,18 +1,16 @@
 -- The command `reduce`: how it ends, by its status, and what its records are.
-use Rattle.std.specs.Prelude.{◌≡◌, ◌≢◌, ◌⊎◌, ℕ, ◌+◌, Bool, List, [], ◌∷◌, ◌++◌, true, false, Option, Some, None, Ok, Err, All, MatchResult, Result, codes, option_map, string_bytes}
-use Rattle.std.specs.Global.{Vec}
+use Rattle.std.specs.Prelude.{◌≡◌, ◌≢◌, ◌⊎◌, ℕ, ◌+◌, Bool, List, [], ◌∷◌, ◌++◌, true, false, Option, Some, None, All, MatchResult, Result, codes, option_map, string_bytes}
 use Rattle.std.specs.List.{IsDistinct}
 use Rattle.std.specs.Str.{bytes_eq}
 use Rattle.script_gate.specs.declared.gate.Verdict.{Verdict}
-use Rattle.script_gate.specs.declared.gate.Verdict.TheVariants.{Yes, No}
+use Rattle.script_gate.specs.declared.gate.Verdict.TheVariants.{No}
 use Rattle.script_gate.specs.declared.log.Log.{Log}
 use Rattle.script_gate.specs.declared.log.Opening.{Opening}
 use Rattle.edge_io.specs.Files.{Holds, IsLonger, SameFiles, SameOthers}
 use Rattle.verdict_table.specs.declared.record.Record.{Record}
-use Rattle.verdict_table.specs.TableState.{texts_of, verdict_in}
+use Rattle.verdict_table.specs.TableState.{texts_of}
 use Rattle.keep_guard.specs.Keep.{first_missing, holds_all, keeps_admit}
-use Rattle.reduction_rounds.specs.Laws.{HasVerdicts}
-use Rattle.gated_run.specs.Records.{BeginsAt, FirstIs, FirstIsNo, OnlyNo}
+use Rattle.gated_run.specs.Records.{FirstIs, FirstIsNo, OnlyNo}
 use Rattle.grammar_tree.specs.Written.{CheckedGrammar}
 use Rattle.checked_grammar.specs.Answer.{Spells}
 use Rattle.tree_mode.specs.Candidates.{InLanguage}
@@ -25,23 +23,15 @@ use Rattle.grammar_input.specs.declared.fault.InputFault.TheVariants as input_fa
 use Rattle.top_call.specs.declared.status.NamedFile.{NamedFile}
 use Rattle.top_call.specs.declared.status.NamedFile.TheVariants as named
 use Rattle.top_call.specs.Grammar.{GrammarFails, GrammarRead, IsFaultIn, IsGrammarText}
-use Rattle.top_call.specs.Problem.{IsCandidateOf, IsReductionOf, Problem, questions_of, start_of}
+use Rattle.problem_run.specs.Problem.{Problem, start_of}
+use Rattle.problem_run.specs.Ends.{AreOf, IsUnfinished, ReducesFrom}
 use Rattle.top_call.specs.declared.status.Refusal.{Refusal}
-use Rattle.top_call.specs.declared.status.Refusal.TheVariants.{Memory, CannotRead, Grammar, KeepMissing, NoParse, NotInteresting, Script, TooLong, Uncut}
+use Rattle.top_call.specs.declared.status.Refusal.TheVariants.{Memory, CannotRead, Grammar, KeepMissing, NoParse, TooLong, Uncut}
 use Rattle.top_call.specs.Status.{IsKeepRefusal, IsOneOf, IsUncut, fault_line, keep_text, line_of, status_of, word_for}
 use Rattle.top_call.specs.Words.{ModeOptions, ReduceOptions, file_name_of}
 use Rattle.top_call.specs.World.{CallFailed, FilesKept, IsOver, IsQuiet, IsShownWithin, PutsLine, PutsMessage, SeenFiles, SeenGate, SeenOut, GateUntouched, WasRead, World, grammar_limit, input_limit, line_of_text}
 
--- the reduction asks for a text that has no record
-abbrev pub IsUnfinished : List (List ℕ) → Problem → List Record → Type 0
-IsUnfinished keeps problem records = ¬ HasVerdicts (verdict_in records) (questions_of keeps problem (verdict_in records))
-
--- a problem reduces to the text over the verdicts of the records, of which the first is the start's yes
-pub record ReducesFrom (keeps : List (List ℕ)) (problem : Problem) (records : List Record) (text : List ℕ) : Type 0 where
-  pub first : FirstIs (start_of problem) Yes records
-  pub reduced : IsReductionOf keeps (verdict_in records) problem text
-
--- The input is that of the text of the grammar, in which exactly texts with all keep texts are admitted, and of which the squeezed text is tried or not.
+-- The input is made of this text by this grammar, what is admitted is what has each keep text, and the squeezed text of the whole is tried or not.
 pub record IsTreeProblem (keeps : List (List ℕ)) (grammar : CheckedGrammar) (squeeze : Bool) (text : List ℕ) (input : TreeInput) : Type 0 where
   pub of_text : IsInputOf grammar text input
   pub admits : input.admits ≡ keeps_admit keeps
@@ -70,12 +60,6 @@ pub record IsReduced (options : ReduceOptions) (files files' : SeenFiles) (recor
   pub text : List ℕ
   pub reduces : ReducesTo options files records text
   pub written : Holds text (files'.shown options.output)
-
--- each text may be asked, the first is the start, and after its no nothing was asked
-pub record AreOf (keeps : List (List ℕ)) (problem : Problem) (records : List Record) : Type 0 where
-  pub candidates : All (λ r. IsCandidateOf keeps problem r.text) records
-  pub first : BeginsAt (start_of problem) records
-  pub ends_at_no : FirstIsNo records → OnlyNo records
 
 -- where there is a record, the texts are those of the input that was read, in which each keep text occurs
 abbrev pub AreCandidates : ReduceOptions → SeenFiles → List Record → Type 0
@@ -271,18 +255,6 @@ pub record Reduces (options : ReduceOptions) (may_say : List ℕ → Verdict →
   pub must_end : ReduceMustEnd options records old new status
   pub sound : RecordsAreSound options may_say records old.gate new.gate
   pub candidates : AreCandidates options old.files records
-
--- why a problem has no reduction
-abbrev pub RunFails : List (List ℕ) → Problem → List Record → SeenGate → SeenGate → Refusal → Type 0
-RunFails keeps problem records old new Memory = IsQuiet old new
-RunFails keeps problem records old new NotInteresting = OnlyNo records × FirstIs (start_of problem) No records × IsQuiet old new
-RunFails keeps problem records old new Script = CallFailed old new × (¬ FirstIsNo records) × IsUnfinished keeps problem records
-RunFails keeps problem records old new _ = ⊥
-
--- how the run of a problem ended: with the text that it reduces to, or why there is none
-abbrev pub ProblemEnds : List (List ℕ) → Problem → List Record → SeenGate → SeenGate → Result (Vec ℕ) Refusal → Type 0
-ProblemEnds keeps problem records old new (Ok text) = ReducesFrom keeps problem records text.items × IsQuiet old new
-ProblemEnds keeps problem records old new (Err refusal) = RunFails keeps problem records old new refusal
 
 -- why there is no problem: a file wasn't read, the grammar is faulty, or the input isn't in its language
 abbrev pub ProblemFails : ReduceOptions → SeenFiles → SeenFiles → Refusal → Type 0

@@ -10,7 +10,7 @@ use Rattle.grammar_input.specs.declared.fault.InputFault.{InputFault}
 use Rattle.grammar_input.specs.declared.fault.InputFault.TheVariants as input_fault
 use Rattle.top_call.specs.declared.status.NamedFile.{NamedFile}
 use Rattle.top_call.specs.Grammar.{IsFaultIn}
-use Rattle.top_call.specs.Problem.{start_of}
+use Rattle.problem_run.specs.Problem.{start_of}
 use Rattle.top_call.specs.Reduce.{InputHas, IsReached, IsReduced, ProblemRead, ReduceEnds, ReducesTo, limit_of, name_of}
 use Rattle.top_call.specs.Status.{IsOneOf, IsUncut, PutsRefusal, fault_line, keep_text}
 use Rattle.top_call.specs.Words.{ModeOptions, ReduceOptions}

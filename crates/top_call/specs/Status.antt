@@ -53,11 +53,6 @@ status_of refusal = (ending_of refusal).0
 abbrev pub line_of : Refusal → List ℕ
 line_of refusal = (ending_of refusal).1
 
--- the refusal for a gate's fault
-abbrev pub refusal_of : GateFault → Refusal
-refusal_of GateFailed = Script
-refusal_of GateMemory = Memory
-
 -- the refusal for a run that ended without a result
 abbrev pub refusal_of_run : RunFault → Refusal
 refusal_of_run run.NotInteresting = NotInteresting
@@ -86,10 +81,9 @@ ReadFails limit file content old new (TooLong named) = (named ≡ file) × IsLon
 ReadFails limit file content old new _ = ⊥
 
 -- why the gate wasn't opened
-abbrev pub OpenFails : SeenGate → SeenGate → Refusal → Type 0
-OpenFails old new Memory = IsQuiet old new
-OpenFails old new Script = CallFailed old new
-OpenFails old new _ = ⊥
+abbrev pub OpenFails : SeenGate → SeenGate → GateFault → Type 0
+OpenFails old new GateFailed = CallFailed old new
+OpenFails old new GateMemory = IsQuiet old new
 
 -- why a file wasn't written
 abbrev pub WriteFails : SeenFiles → SeenFiles → Refusal → Type 0

@@ -29,7 +29,11 @@ fn grammar_of_text(alloc: Global, text: &[u8]) -> Result<Checked, Refusal>
 }
 
 /// The grammar in a file, checked, with its first parser rule as its start.
-pub fn read_grammar<F: Files>(alloc: Global, name: &str, files: &mut F) -> Result<Checked, Refusal>
+pub fn grammar_of_file<F: Files>(
+    alloc: Global,
+    name: &str,
+    files: &mut F,
+) -> Result<Checked, Refusal>
     ensures grammar { IfOk result (λ grammar. GrammarRead (F.content files.old name.now) grammar) }
     ensures quiet { OnOk result (IsQuiet (seen F.content F.faults files.old) (seen F.content F.faults files.new)) }
     ensures refused { IfErr result (λ refusal. GrammarFails name.now (seen F.content F.faults files.old) (seen F.content F.faults files.new) refusal) }

@@ -19,6 +19,7 @@ mod file;
 mod grammar;
 mod laws;
 mod normal;
+mod read;
 mod reduce;
 mod status;
 mod words;

@@ -7,7 +7,7 @@ ghost use Rattle.top_call.specs.Normal.{IsNormalOf, NormalFails, PrintsNormal};
 ghost use Rattle.top_call.specs.World.{IsQuiet, WasRead, grammar_limit, seen};
 
 use crate::end::end_with;
-use crate::grammar::read_grammar;
+use crate::grammar::grammar_of_file;
 use crate::status::Refusal;
 use edge_io::{Files, Sink};
 use faults::Memory;
@@ -30,7 +30,7 @@ fn form_of_file<F: Files>(alloc: Global, grammar: &str, files: &mut F) -> Result
     ensures refused { IfErr result (λ refusal. NormalFails grammar.now (seen F.content F.faults files.old) (seen F.content F.faults files.new) refusal) }
     ensures same { SameFiles (F.content files.old) (F.content files.new) }
 {
-    let checked = read_grammar(alloc, grammar, files)?;
+    let checked = grammar_of_file(alloc, grammar, files)?;
     let form = form_of(alloc, &checked)?;
     Ok(form)
 }

@@ -8,7 +8,6 @@ use checked_grammar::GrammarFault;
 use faults::Memory;
 use gated_run::RunFault;
 use grammar_input::InputFault;
-use script_gate::GateFault;
 use std::alloc::{AllocError, Global};
 
 /// A file that the program reads.
@@ -125,19 +124,6 @@ impl From<AllocError> for Refusal {
 
     fn from(_: AllocError) -> Refusal {
         Refusal::Memory
-    }
-}
-
-impl From<GateFault> for Refusal {
-    ghost use Rattle.top_call.specs.Status.{refusal_of};
-
-    ghost from_gives = { λ fault refusal. refusal ≡ refusal_of fault };
-
-    fn from(fault: GateFault) -> Refusal {
-        match fault {
-            GateFault::Failed => Refusal::Script,
-            GateFault::Memory => Refusal::Memory,
-        }
     }
 }
 

@@ -2,9 +2,10 @@ use Rattle.std.proofs.Common.{◌≡◌, ℕ, List, OnOk, subst, true}
 use Rattle.std.proofs.lemmas.Result.{err_from_is_err_and}
 use Rattle.edge_io.specs.Files.{Holds}
 use Rattle.keep_guard.specs.Keep.{holds_all}
-use Rattle.top_call.specs.Problem.{Problem}
-use Rattle.top_call.specs.Read.{IsReadAs, start_read}
-use Rattle.top_call.specs.Reduce.{AreOf, KeepFails, ReducesFrom, RunFails}
+use Rattle.problem_run.specs.Problem.{Problem}
+use Rattle.problem_run.specs.Read.{IsReadAs, start_read}
+use Rattle.problem_run.specs.Ends.{AreOf, ReducesFrom, RunFails}
+use Rattle.top_call.specs.Reduce.{KeepFails}
 use Rattle.top_call.specs.Words.{options_of}
 use Rattle.top_call.specs.World.{IsQuiet, seen}
 use Rattle.top_call.proofs.CommandLemmas.{stops_keep, stops_problem, stops_run, stops_write}
@@ -38,11 +39,11 @@ returns-in_err-text g c =
     subst (λ (k : List (List ℕ)). holds_all k (start_read read) ≡ true) same (subst (λ (s : List ℕ). holds_all c.in_ok-guard.guard s ≡ true) c.start.ensures c.in_ok-guard.ensures.kept) in
     let are : (one : Problem) → IsReadAs options.keeps read one → AreOf options.keeps one records =
     subst (λ (k : List (List ℕ)). (one : Problem) → IsReadAs k read one → AreOf k one records) same c.in_err-text.ensures.candidates in
-    let fails : (one : Problem) → IsReadAs options.keeps read one → RunFails options.keeps one records gate gate' c.in_err-text.field-0.0 =
-    subst (λ (k : List (List ℕ)). (one : Problem) → IsReadAs k read one → RunFails k one records gate gate' c.in_err-text.field-0.0) same c.in_err-text.ensures.ends in
+    let fails : (one : Problem) → IsReadAs options.keeps read one → RunFails options.keeps one records gate.faults gate'.faults c.in_err-text.field-0.0 =
+    subst (λ (k : List (List ℕ)). (one : Problem) → IsReadAs k read one → RunFails k one records gate.faults gate'.faults c.in_err-text.field-0.0) same c.in_err-text.ensures.ends in
     rw (p.1, p.2) (stops_run options g.G.Gate.may_say records files _ gate gate' c.in_err-text.ensures.sound (accepted_as options files read (λ (one : Problem). AreOf options.keeps one records) kept are c.in_ok-problem.ensures.problem)
     c.in_err-text.field-0.0 c.in_ok-problem.ensures.same c.in_ok-problem.ensures.quiet
-    (accepted_as options files read (λ (one : Problem). RunFails options.keeps one records gate gate' c.in_err-text.field-0.0) kept fails c.in_ok-problem.ensures.problem))
+    (accepted_as options files read (λ (one : Problem). RunFails options.keeps one records gate.faults gate'.faults c.in_err-text.field-0.0) kept fails c.in_ok-problem.ensures.problem))
 
 pub returns : goal.returns
 returns g c =

@@ -1,4 +1,4 @@
--- What is reduced, and what its reduction is: the lines of some bytes, or the tree of a text of a grammar.
+-- What is reduced, and what its reduction is: the lines of some bytes, or the tree of a text by a grammar.
 use Rattle.std.specs.Prelude.{◌≡◌, ℕ, Bool, true, false, List, Option, Some}
 use Rattle.script_gate.specs.declared.gate.Verdict.{Verdict}
 use Rattle.script_gate.specs.declared.gate.Verdict.TheVariants.{Yes}

@@ -4,7 +4,7 @@ use Rattle.grammar_input.specs.Faults.{IsInputFault}
 use Rattle.grammar_input.specs.Parsed.{IsParsed, MakesInputOf}
 use Rattle.top_call.specs.World.{seen}
 use Rattle.top_call.proofs.ReadLemmas.{fault_fails, gives_tree}
-use Rattle.top_call.proofs.reduce.read_tree.Goals as goal
+use Rattle.top_call.proofs.read.read_tree.Goals as goal
 
 pub returns-in-Ok-clause-found : goal.returns-in-Ok-clause-found
 returns-in-Ok-clause-found g c =

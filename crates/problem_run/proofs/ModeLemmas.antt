@@ -1,9 +1,11 @@
 -- What a run of a reducer says, in the words of the reduction of lines and of that of trees.
-use Rattle.std.proofs.Common.{◌≡◌, ℕ, List, [], Option, IsSome, true, false, sym, ap, ◌∙◌, subst, Bool}
+use Rattle.std.proofs.Common.{◌≡◌, ℕ, Bool, List, [], Option, IsSome, true, false, refl, sym, ap, ◌∙◌, subst, Result, Ok, Err}
+use Rattle.std.specs.Global.{Vec}
 use Rattle.std.proofs.lemmas.Bool.{false≢true}
 use Rattle.std.proofs.lemmas.List.Elements.{All-nil, All-weaker}
 use Rattle.script_gate.specs.declared.gate.Verdict.{Verdict}
 use Rattle.script_gate.specs.declared.gate.Verdict.TheVariants.{Yes, No}
+use Rattle.script_gate.specs.declared.log.Log.{Log}
 use Rattle.verdict_table.specs.declared.record.Record.{Record}
 use Rattle.verdict_table.specs.Plan.{StepResult}
 use Rattle.verdict_table.specs.TableState.{verdict_in}
@@ -12,8 +14,9 @@ use Rattle.reduction_rounds.specs.Reduction as rounds
 use Rattle.reduction_rounds.specs.Laws.{HasVerdicts, IsTextOf, says_yes}
 use Rattle.gated_run.specs.declared.fault.RunFault.{RunFault}
 use Rattle.gated_run.specs.declared.fault.RunFault.TheVariants as run
-use Rattle.gated_run.specs.Records.{AreOfMode, BeginsAt, FirstIs}
-use Rattle.gated_run.specs.RunEnds.{ReducesIn, RunFailsIn, reduction_over}
+use Rattle.sequential_run.proofs.RunLemmas.{none_asked, none_distinct}
+use Rattle.gated_run.specs.Records.{AreAnswers, AreOfMode, BeginsAt, FirstIs}
+use Rattle.gated_run.specs.RunEnds.{ReducesIn, RunFailsIn, TextEndsIn, reduction_over}
 use Rattle.reduce_core.specs.declared.lines.Line.{Line}
 use Rattle.reduce_core.specs.Laws.{EndsMinimal, IsByRounds}
 use Rattle.reduce_core.specs.LineMode.{AreOfStart, LineInput, in_rounds, line_mode}
@@ -28,10 +31,16 @@ use Rattle.tree_mode.specs.Listed.{IsKept, text_of as tree_text}
 use Rattle.tree_rounds.specs.Ends.{BeginsWithStart, IsTreeEnd, PersesAsksCandidates, PersesEndsMinimal}
 use Rattle.tree_rounds.specs.Laws.{PersesIsLawful}
 use Rattle.tree_rounds.specs.PersesMode.{perses_mode}
-use Rattle.top_call.specs.Problem.{Problem}
-use Rattle.top_call.specs.Reduce.{AreOf, IsUnfinished, ReducesFrom, RunFails}
-use Rattle.top_call.specs.Status.{refusal_of_run}
-use Rattle.top_call.specs.World.{SeenGate}
+use Rattle.problem_run.specs.Problem.{Problem}
+use Rattle.problem_run.specs.Ends.{AreOf, IsUnfinished, ProblemEnds, ReducesFrom, RunFails}
+
+-- no record was made, and the gate was not asked
+pub none_answers : (may_say : List ℕ → Verdict → Type 0) (records : List Record) (log : Option Log) → records ≡ [] → AreAnswers may_say log log records
+none_answers may_say records log none = subst (AreAnswers may_say log log) (sym none) (record {
+  distinct = none_distinct [] refl;
+  said = All-nil _;
+  asked = none_asked log;
+})
 
 module _ (keeps : List (List ℕ)) where
   -- the input of mode lines
@@ -52,10 +61,6 @@ module _ (keeps : List (List ℕ)) where
         ends_at_no = of.ends_at_no;
       }
 
-  -- nothing was asked of the start
-  pub are_none : (start : List ℕ) (records : List Record) → records ≡ [] → AreOf keeps (Problem.of_lines start) records
-  are_none start records none = subst (AreOf keeps (Problem.of_lines start)) (sym none) (record { candidates = All-nil _; first = tt; ends_at_no = λ first_no. first_no })
-
   -- the start is asked first, so without a record the reduction waits for its verdict
   start_known : (V : List ℕ → Option Verdict) (start : List ℕ) → HasVerdicts V (reduction (keeps_admit keeps) (says_yes V) start).questions → IsSome (V start)
   unfolding reduction
@@ -75,7 +80,7 @@ module _ (keeps : List (List ℕ)) where
     first_text verdict first = subst (λ (text : List ℕ). FirstIs text verdict records) (text-numbered_lines start) first
 
     -- the start is reduced to the text of the result
-    pub reduces : EndsMinimal → holds_all keeps start ≡ true → (result : StepResult) → ReducesIn (line_mode (lines_of start)) (AreOfStart (lines_of start)) records result → ReducesFrom keeps (Problem.of_lines start) records result.text
+    reduces : EndsMinimal → holds_all keeps start ≡ true → (result : StepResult) → ReducesIn (line_mode (lines_of start)) (AreOfStart (lines_of start)) records result → ReducesFrom keeps (Problem.of_lines start) records result.text
     reduces minimal kept result it =
         let V = verdict_in records in
         let defined : HasVerdicts V R.questions = subst (λ (r : rounds.Reduction (List Line)). HasVerdicts V r.questions) same_reduction it.defined in
@@ -99,11 +104,17 @@ module _ (keeps : List (List ℕ)) where
         }
 
     -- why the start has no reduction
-    pub fails : (gate gate' : SeenGate) (fault : RunFault) → RunFailsIn (line_mode (lines_of start)) records gate.faults gate'.faults fault → RunFails keeps (Problem.of_lines start) records gate gate' (refusal_of_run fault)
-    fails gate gate' run.NotInteresting why = (why.0, first_text No why.1, why.2)
-    fails gate gate' run.Script why =
+    fails : (count count' : ℕ) (fault : RunFault) → RunFailsIn (line_mode (lines_of start)) records count count' fault → RunFails keeps (Problem.of_lines start) records count count' fault
+    fails count count' run.NotInteresting why = (why.0, first_text No why.1, why.2)
+    fails count count' run.Script why =
         (why.0, why.1, λ has. why.2 (subst (λ (r : rounds.Reduction (List Line)). HasVerdicts (verdict_in records) r.questions) (sym same_reduction) has))
-    fails gate gate' run.Memory why = why
+    fails count count' run.Memory why = why
+
+    -- how the run of the start's lines ends
+    pub lines_end : EndsMinimal → holds_all keeps start ≡ true → (count count' : ℕ) (result : Result (Vec ℕ) RunFault) → TextEndsIn (line_mode (lines_of start)) (AreOfStart (lines_of start)) records count count' result
+        → ProblemEnds keeps (Problem.of_lines start) records count count' result
+    lines_end minimal kept count count' (Ok text) ends = (subst (ReducesFrom keeps (Problem.of_lines start) records) (sym ends.0.1) (reduces minimal kept ends.0.0 ends.0.2), ends.1)
+    lines_end minimal kept count count' (Err fault) ends = fails count count' fault ends
 
 -- nothing was asked of a problem
 pub none_of : (keeps : List (List ℕ)) (problem : Problem) (records : List Record) → records ≡ [] → AreOf keeps problem records
@@ -133,7 +144,7 @@ module _ (input : TreeInput) (is : IsInput input) (begins : BeginsWithStart inpu
       }
 
   -- the tree is reduced to the text of the result
-  pub tree_reduces : PersesIsLawful → PersesAsksCandidates → PersesEndsMinimal → (keeps : List (List ℕ)) → input.admits ≡ keeps_admit keeps → (result : StepResult)
+  tree_reduces : PersesIsLawful → PersesAsksCandidates → PersesEndsMinimal → (keeps : List (List ℕ)) → input.admits ≡ keeps_admit keeps → (result : StepResult)
       → ReducesIn (perses_mode input) (IsKept input) records result → ReducesFrom keeps (Problem.of_tree input) records result.text
   tree_reduces lawful asks minimal keeps admits result it =
       let V = verdict_in records in
@@ -156,7 +167,14 @@ module _ (input : TreeInput) (is : IsInput input) (begins : BeginsWithStart inpu
       }
 
   -- why the tree has no reduction
-  pub tree_fails : (keeps : List (List ℕ)) (gate gate' : SeenGate) (fault : RunFault) → RunFailsIn (perses_mode input) records gate.faults gate'.faults fault → RunFails keeps (Problem.of_tree input) records gate gate' (refusal_of_run fault)
-  tree_fails keeps gate gate' run.NotInteresting why = (why.0, subst (λ (start : List ℕ). FirstIs start No records) begins.text why.1, why.2)
-  tree_fails keeps gate gate' run.Script why = why
-  tree_fails keeps gate gate' run.Memory why = why
+  tree_fails : (keeps : List (List ℕ)) (count count' : ℕ) (fault : RunFault) → RunFailsIn (perses_mode input) records count count' fault → RunFails keeps (Problem.of_tree input) records count count' fault
+  tree_fails keeps count count' run.NotInteresting why = (why.0, subst (λ (start : List ℕ). FirstIs start No records) begins.text why.1, why.2)
+  tree_fails keeps count count' run.Script why = why
+  tree_fails keeps count count' run.Memory why = why
+
+  -- how the run of the tree ends
+  pub tree_ends : PersesIsLawful → PersesAsksCandidates → PersesEndsMinimal → (keeps : List (List ℕ)) → input.admits ≡ keeps_admit keeps → (count count' : ℕ) (result : Result (Vec ℕ) RunFault)
+      → TextEndsIn (perses_mode input) (IsKept input) records count count' result → ProblemEnds keeps (Problem.of_tree input) records count count' result
+  tree_ends lawful asks minimal keeps admits count count' (Ok text) ends =
+      (subst (ReducesFrom keeps (Problem.of_tree input) records) (sym ends.0.1) (tree_reduces lawful asks minimal keeps admits ends.0.0 ends.0.2), ends.1)
+  tree_ends lawful asks minimal keeps admits count count' (Err fault) ends = tree_fails keeps count count' fault ends

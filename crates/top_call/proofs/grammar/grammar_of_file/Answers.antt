@@ -1,7 +1,7 @@
 use Rattle.std.proofs.lemmas.Result.{err_from_is_err_and}
 use Rattle.top_call.specs.World.{seen}
 use Rattle.top_call.proofs.GrammarLemmas.{fails_read, fails_spelled, was_spelled}
-use Rattle.top_call.proofs.grammar.read_grammar.Goals as goal
+use Rattle.top_call.proofs.grammar.grammar_of_file.Goals as goal
 
 pub returns-in_err-text-clause-refused : goal.returns-in_err-text-clause-refused
 returns-in_err-text-clause-refused g c =

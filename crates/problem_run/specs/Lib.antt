@@ -1,0 +1,22 @@
+pub use Rattle.faults.specs.Count
+pub use Rattle.verdict_table.specs.TableState
+pub use Rattle.keep_guard.specs.Keep
+pub use Rattle.gated_run.specs.Records
+pub use Rattle.reduction_rounds.specs.Laws as RoundLaws
+pub use Rattle.reduction_rounds.specs.Reduction as Rounds
+pub use Rattle.reduce_core.specs.Lines
+pub use Rattle.reduce_core.specs.Reduction
+pub use Rattle.reduce_core.specs.Minimal
+pub use Rattle.grammar_tree.specs.Checked
+pub use Rattle.grammar_tree.specs.Faults
+pub use Rattle.syntax_tree.specs.Nodes
+pub use Rattle.syntax_tree.specs.Trees
+pub use Rattle.grammar_input.specs.Parsed
+pub use Rattle.tree_mode.specs.Input
+pub use Rattle.tree_mode.specs.Candidates as TreeCandidates
+pub use Rattle.tree_mode.specs.Listed
+pub use Rattle.tree_rounds.specs.PersesMode
+pub use Rattle.tree_rounds.specs.Ends as TreeEnds
+pub mod Problem
+pub mod Read
+pub mod Ends
