@@ -5,6 +5,7 @@ pub mod Descending
 pub mod Visits
 pub mod Forms
 pub mod Going
+pub mod Ending
 pub mod Tried
 pub mod Following
 pub mod AtNo

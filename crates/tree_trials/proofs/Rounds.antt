@@ -13,13 +13,14 @@ use Rattle.syntax_tree.proofs.LeftTrees.{part}
 use Rattle.syntax_tree.proofs.SingleEdits.{numbered}
 use Rattle.descend_replace.specs.Compatible.{DecidesFits, compatible}
 use Rattle.tree_trials.specs.Queued.{nodes_in, with_trees}
-use Rattle.tree_trials.specs.Laws.{GoesOn, IsNextVisit, LosesLeaves, RoundBegins, RoundsGoByVisits, TriesEditsAndSelections, TriesKeptTrees, TriesSingleEdits, VisitsGoOn}
+use Rattle.tree_trials.specs.Laws.{GoesOn, IsNextVisit, LosesLeaves, RoundBegins, RoundsEndByVisits, RoundsGoByVisits, TriesEditsAndSelections, TriesKeptTrees, TriesSingleEdits, VisitsGoOn}
 use Rattle.tree_trials.proofs.NodeFacts.{first_found}
 use Rattle.tree_trials.proofs.Queues.{AreIn, queue_more}
 use Rattle.tree_trials.proofs.Descending.{IsCompatible, all_compatible}
 use Rattle.tree_trials.proofs.Visits.{GoesTo, IsVisited}
 use Rattle.tree_trials.proofs.Forms.{content_goes, descendant_goes, goes_down, goes_past, list_goes, next_of}
 use Rattle.tree_trials.proofs.Going as going
+use Rattle.tree_trials.proofs.Ending as ending
 use Rattle.tree_trials.proofs.Tried as tried
 use Rattle.tree_trials.proofs.Following as following
 use Rattle.tree_trials.proofs.AtNo as at_no
@@ -44,6 +45,13 @@ pub rounds_go_by_visits : RoundsGoByVisits
 rounds_go_by_visits N fits s decides = record {
   ends = going.ends N fits decides s;
   visits = going.goes_by_visits N fits decides s;
+}
+
+pub rounds_end_by_visits : RoundsEndByVisits
+rounds_end_by_visits mode verdict N fits s decides = record {
+  round = λ t tree rise. ending.visits_within_end mode verdict N fits decides s (nodes_in t (with_trees (PlainTrees.next t PlainTrees.none) [])) t (with_trees (PlainTrees.next t PlainTrees.none) []) (round_begins N s t tree rise);
+  ends = ending.ends_with_none mode verdict N fits decides s;
+  visits = ending.ends_by_visits mode verdict N fits decides s;
 }
 
 optional_goes : (N : NormalForm) (s : Sym) (t : PlainTree) (later : List Waiting) (n r a : ℕ) (ts : PlainTrees) (slot : Sym) → IsVisited N s t n slot (PlainTree.node n r a ts) later → 0 < weight_all ts →

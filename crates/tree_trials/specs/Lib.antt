@@ -8,10 +8,13 @@ pub use Rattle.syntax_tree.specs.Edits
 pub use Rattle.syntax_tree.specs.Left
 pub use Rattle.node_queue.specs.Waiting
 pub use Rattle.reduction_rounds.specs.Trials
+pub use Rattle.reduction_rounds.specs.Reduction
 pub use Rattle.list_trials.specs.ListTrials
+pub use Rattle.list_trials.specs.ListEnd
 pub use Rattle.list_trials.specs.Selections
 pub use Rattle.descend_replace.specs.Compatible
 pub mod Queued
 pub mod Visit
+pub mod VisitEnd
 pub mod Laws
 pub mod Worked

@@ -1,7 +1,7 @@
 //! What holds of rounds of mode `perses`. Each law is a function that does nothing: a caller calls
 //! it so that its proof has the law.
 
-ghost use Rattle.tree_trials.specs.Laws.{LosesLeaves, RoundBegins, RoundsGoByVisits, TriesEditsAndSelections, TriesKeptTrees, TriesSingleEdits, VisitsGoOn};
+ghost use Rattle.tree_trials.specs.Laws.{LosesLeaves, RoundBegins, RoundsEndByVisits, RoundsGoByVisits, TriesEditsAndSelections, TriesKeptTrees, TriesSingleEdits, VisitsGoOn};
 ghost use Rattle.tree_trials.specs.Worked.{BlocksGo, BracketsGo, PlusKeepsOne};
 
 use syntax_tree::elements_have_tokens;
@@ -14,6 +14,12 @@ pub fn round_begins()
 /// A round visits node after node until none waits: the bound in its definition is never met.
 pub fn rounds_go_by_visits()
     ensures { RoundsGoByVisits }
+{}
+
+/// Over a mode and a verdict on every text a round comes to what its recursion does: node after node is
+/// visited until none waits.
+pub fn rounds_end_by_visits()
+    ensures { RoundsEndByVisits }
 {}
 
 /// After a visit a round is at a tree and a queue again, whatever the answers were.
