@@ -4,7 +4,7 @@ use Rattle.reduction_rounds.specs.Trials.{IsTriedAtNo}
 use Rattle.token_print.specs.declared.style.Style.{Style}
 use Rattle.tree_mode.specs.TreeMode.{in_style, trials_in}
 use Rattle.tree_mode.specs.Laws.{OpeningIsKept, StylesStay, WholeIsStart}
-use Rattle.tree_mode.specs.Lawful.{TreeModeIsLawful, TreeModeTriesEdits}
+use Rattle.tree_mode.specs.Lawful.{TreeModeIsLawful, TreeModeTriesTrees}
 
 pub is_lawful : WholeIsStart → OpeningIsKept → StylesStay → TreeModeIsLawful
 is_lawful start opening stay input round of lawful =
@@ -18,7 +18,7 @@ is_lawful start opening stay input round of lawful =
       smaller = λ state kept. (stay input state (round state.tree)).smaller _ (lawful.smaller state.tree (kept.fits, kept.left));
     }
 
-pub tries_edits : StylesStay → TreeModeTriesEdits
-tries_edits stay input round tries state other kept edit =
-    let tried : IsTriedAtNo (trials_in state.style (round state.tree)) (in_style state.style other.tree) = (stay input state (round state.tree)).tried other.tree (tries state.tree other.tree (kept.fits, kept.left) edit.tree) in
-    subst (λ (style : Style). IsTriedAtNo (trials_in state.style (round state.tree)) (in_style style other.tree)) edit.style tried
+pub tries_trees : StylesStay → TreeModeTriesTrees
+tries_trees stay input round state other tried_tree same =
+    let tried : IsTriedAtNo (trials_in state.style (round state.tree)) (in_style state.style other.tree) = (stay input state (round state.tree)).tried other.tree tried_tree in
+    subst (λ (style : Style). IsTriedAtNo (trials_in state.style (round state.tree)) (in_style style other.tree)) same tried

@@ -11,7 +11,7 @@ use Rattle.token_print.specs.declared.style.Style.{Style}
 use Rattle.token_print.specs.Kept.{KeepsTokens}
 use Rattle.token_print.specs.Laws.{AllKeptIsStart, NoLongerThanAll, NoLongerThanStart, StartKeepsTokens}
 use Rattle.tree_mode.specs.Input.{IsInput, TreeInput}
-use Rattle.tree_mode.specs.Listed.{IsKept, IsListed, IsShortEnough, skips_of, text_in, text_of}
+use Rattle.tree_mode.specs.Listed.{IsKept, IsListed, MayKeepStyle, skips_of, text_in, text_of}
 use Rattle.tree_mode.specs.TreeMode.{in_style}
 use Rattle.tree_mode.specs.Laws.{OpeningIsKept, TextsAreNoLonger, WholeIsStart}
 use Rattle.tree_mode.proofs.Leaves.{range_rises}
@@ -21,8 +21,8 @@ module _ (input : TreeInput) (of : IsInput input) where
   whole_for : IsTreeFor input.form input.symbol input.whole
   whole_for = record { valid = of.is_whole.valid; rising = subst (λ (l : List ℕ). IsStrictlyIncreasing l) (sym (leaves_whole input of)) (range_rises 0 (length input.tokens)) }
 
-  whole_kept : LeftIsReflexive → (style : Style) → IsShortEnough input style → IsKept input (in_style style input.whole)
-  whole_kept same style short = record { fits = whole_for; left = same input.whole; short = short }
+  whole_kept : LeftIsReflexive → (style : Style) → MayKeepStyle input style → IsKept input (in_style style input.whole)
+  whole_kept same style may_keep = record { fits = whole_for; left = same input.whole; may_keep = may_keep }
 
   whole_text : AllKeptIsStart → text_of input (in_style Style.AsWas input.whole) ≡ input.start
   whole_text is_start =
@@ -54,7 +54,7 @@ by_style than_start than_all part input of tree Style.AsWas kept =
 by_style than_start than_all part input of tree Style.Squeezed kept =
     let all = than_all (skips_of input) input.start input.tokens (leaves tree) (are_kept input of (in_style Style.Squeezed tree) kept part) in
     let same = ap (λ (l : List ℕ). length (text_in input l Style.Squeezed)) (leaves_whole input of) in
-    let short : length (text_in input (leaves input.whole) Style.Squeezed) < length input.start = kept.short.1 in
+    let short : length (text_in input (leaves input.whole) Style.Squeezed) < length input.start = kept.may_keep.1 in
     omega (arith, all, same, short)
 
 pub texts_are_no_longer : NoLongerThanStart → NoLongerThanAll → LeftIsPart → TextsAreNoLonger

@@ -2,10 +2,9 @@
 use Rattle.std.specs.Prelude.{◌≡◌}
 use Rattle.syntax_tree.specs.Trees.{PlainTree, weight}
 use Rattle.syntax_tree.specs.Valid.{IsTreeFor}
-use Rattle.syntax_tree.specs.Edits.{IsSingleEdit}
 use Rattle.syntax_tree.specs.Left.{IsLeftOf}
 use Rattle.reduction_rounds.specs.Trials.{Trials, AllTried, EachIsSmaller, IsTriedAtNo}
-use Rattle.reduction_rounds.specs.Mode.{IsLawful, TriesEdits}
+use Rattle.reduction_rounds.specs.Mode.{IsLawful}
 use Rattle.tree_mode.specs.Input.{IsInput, TreeInput, TreeState}
 use Rattle.tree_mode.specs.Listed.{IsKept}
 use Rattle.tree_mode.specs.TreeMode.{tree_mode}
@@ -23,15 +22,12 @@ pub record IsLawfulRound (input : TreeInput) (round : PlainTree → Trials Plain
 abbrev pub TreeModeIsLawful : Type 0
 TreeModeIsLawful = (input : TreeInput) (round : PlainTree → Trials PlainTree) → IsInput input → IsLawfulRound input round → IsLawful (tree_mode round input) (IsKept input)
 
--- One state is a single edit of another: its tree is, and the style is the same.
-pub record IsEditOf (input : TreeInput) (state other : TreeState) : Type 0 where
-  pub tree : IsSingleEdit input.form input.symbol state.tree other.tree
+-- One state is an edit of another: its tree is, and the style is the same.
+pub record IsEditIn (IsEdit : PlainTree → PlainTree → Type 0) (state other : TreeState) : Type 0 where
+  pub tree : IsEdit state.tree other.tree
   pub style : state.style ≡ other.style
 
--- A round from each such tree tries each of its single edits, if all its answers are no.
-abbrev pub TriesTreeEdits : TreeInput → (PlainTree → Trials PlainTree) → Type 0
-TriesTreeEdits input round = (tree other : PlainTree) → IsKeptTree input tree → IsSingleEdit input.form input.symbol tree other → IsTriedAtNo (round tree) other
-
--- So does the mode.
-abbrev pub TreeModeTriesEdits : Type 0
-TreeModeTriesEdits = (input : TreeInput) (round : PlainTree → Trials PlainTree) → TriesTreeEdits input round → TriesEdits (tree_mode round input) (IsKept input) (IsEditOf input)
+-- If all its answers are no, a round of the mode tries the trees that the round from its tree tries, in the same style.
+abbrev pub TreeModeTriesTrees : Type 0
+TreeModeTriesTrees = (input : TreeInput) (round : PlainTree → Trials PlainTree) (state other : TreeState) → IsTriedAtNo (round state.tree) other.tree → state.style ≡ other.style
+    → IsTriedAtNo ((tree_mode round input).round state) other

@@ -1,17 +1,18 @@
 -- What follows from the definitions, for the proofs of other crates.
-use Rattle.std.specs.Prelude.{◌≡◌, ◌↔◌, ℕ, ◌≤◌, true, IsTrue, length}
+use Rattle.std.specs.Prelude.{◌≡◌, ◌↔◌, ℕ, ◌≤◌, Bool, true, IsTrue, List, length}
 use Rattle.grammar_tree.specs.Written.{WrittenGrammar}
 use Rattle.grammar_tree.specs.Faults.{IsWellFormed}
 use Rattle.syntax_tree.specs.Trees.{PlainTree, leaves, weight}
 use Rattle.syntax_tree.specs.Valid.{IsTreeFor}
 use Rattle.syntax_tree.specs.Left.{IsLeftOf}
+use Rattle.reduction_rounds.specs.Reduction.{round_of, trials_end}
 use Rattle.reduction_rounds.specs.Trials.{Trials, AllTried, EachIsSmaller, IsTriedAtNo}
 use Rattle.token_print.specs.Laws.{all_kept}
 use Rattle.token_print.specs.declared.style.Style.{Style}
 use Rattle.tree_mode.specs.Input.{IsInput, TreeInput, TreeState}
 use Rattle.tree_mode.specs.Candidates.{IsCandidate}
 use Rattle.tree_mode.specs.Listed.{IsKept, IsListed, is_listed, text_of}
-use Rattle.tree_mode.specs.TreeMode.{in_style, opening_of, trials_in}
+use Rattle.tree_mode.specs.TreeMode.{end_in, in_style, opening_of, tree_mode, trees_in, trials_in}
 
 -- There is at most one proof that a grammar is well-formed.
 abbrev pub WellFormedOnce : Type 0
@@ -53,3 +54,8 @@ pub record AreTrialsIn (input : TreeInput) (state : TreeState) (trials : Trials 
 
 abbrev pub StylesStay : Type 0
 StylesStay = (input : TreeInput) (state : TreeState) (trials : Trials PlainTree) → AreTrialsIn input state trials
+
+-- Over a verdict a round of the mode comes to what the round from its tree comes to over the trees in its style.
+abbrev pub RoundsKeepStyle : Type 0
+RoundsKeepStyle = (input : TreeInput) (round : PlainTree → Trials PlainTree) (verdict : List ℕ → Bool) (state : TreeState)
+    → round_of (tree_mode round input) verdict state ≡ end_in state.style (trials_end (trees_in input state.style) verdict state.tree (round state.tree))

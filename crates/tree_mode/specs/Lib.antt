@@ -8,8 +8,10 @@ pub use Rattle.token_print.specs.Printed
 pub use Rattle.token_print.specs.Kept
 pub use Rattle.reduction_rounds.specs.Trials
 pub use Rattle.reduction_rounds.specs.Mode
+pub use Rattle.reduction_rounds.specs.Reduction
 pub mod FormedProp
 pub mod Input
+pub mod InputOf
 pub mod InputParts
 pub mod Candidates
 pub mod Listed

@@ -36,13 +36,13 @@ is_listed input state =
     spells_by each_is_read input.grammar.grammar input.grammar.start input.formed (text_of input state) (kinds_and_spellings input.start input.tokens (leaves state.tree))
     && input.admits (leaves state.tree) (text_of input state)
 
--- Squeezed texts are kept only where they are asked for, and where that of the whole has fewer bytes than the start.
-abbrev pub IsShortEnough : TreeInput → Style → Type 0
-IsShortEnough input Style.AsWas = ⊤
-IsShortEnough input Style.Squeezed = IsTrue input.squeezes × (length (text_in input (leaves input.whole) Style.Squeezed) < length input.start)
+-- The style is one that a reduction may reach: squeezed texts are kept only where they are asked for, and where that of the whole has fewer bytes than the start.
+abbrev pub MayKeepStyle : TreeInput → Style → Type 0
+MayKeepStyle input Style.AsWas = ⊤
+MayKeepStyle input Style.Squeezed = IsTrue input.squeezes × (length (text_in input (leaves input.whole) Style.Squeezed) < length input.start)
 
 -- What holds of each state that a reduction reaches: its tree is valid for the start rule and is left of the tree of all tokens, and its style is one that may be kept.
 pub record IsKept (input : TreeInput) (state : TreeState) : Type 0 where
   pub fits : IsTreeFor input.form input.symbol state.tree
   pub left : IsLeftOf input.whole state.tree
-  pub short : IsShortEnough input state.style
+  pub may_keep : MayKeepStyle input state.style

@@ -3,6 +3,7 @@ use Rattle.std.specs.Prelude.{◌&&◌, nat_lt, length, cond}
 use Rattle.syntax_tree.specs.Trees.{PlainTree, leaves, weight}
 use Rattle.reduction_rounds.specs.Trials.{Trials, Done, Try}
 use Rattle.reduction_rounds.specs.Mode.{RoundMode}
+use Rattle.reduction_rounds.specs.Reduction.{TrialsEnd}
 use Rattle.token_print.specs.declared.style.Style.{Style}
 use Rattle.tree_mode.specs.Input.{TreeInput, TreeState}
 use Rattle.tree_mode.specs.Listed.{is_listed, text_in, text_of}
@@ -34,3 +35,19 @@ tree_mode round input =
       opening = opening_of input;
       round = λ state. trials_in state.style (round state.tree);
     }
+
+-- The trees of an input in one style, with their texts and which of them may be asked. Nothing is tried by itself.
+abbrev pub trees_in : TreeInput → Style → RoundMode PlainTree
+trees_in input style =
+    record {
+      start = input.whole;
+      text = λ tree. text_of input (in_style style tree);
+      is_listed = λ tree. is_listed input (in_style style tree);
+      size = weight;
+      opening = Done;
+      round = λ tree. Done;
+    }
+
+-- what trials of trees come to, as states in one style
+abbrev pub end_in : Style → TrialsEnd PlainTree → TrialsEnd TreeState
+end_in style end = record { questions = end.questions; state = in_style style end.state; changed = end.changed }

@@ -1,8 +1,8 @@
 //! The laws.
 
 ghost use Rattle.tree_mode.specs.InputParts.{PartsJoin};
-ghost use Rattle.tree_mode.specs.Lawful.{TreeModeIsLawful, TreeModeTriesEdits};
-ghost use Rattle.tree_mode.specs.Laws.{ListedAreCandidates, ListedIsDecided, OpeningIsKept, StylesStay, TextsAreNoLonger, WellFormedOnce, WholeIsStart};
+ghost use Rattle.tree_mode.specs.Lawful.{TreeModeIsLawful, TreeModeTriesTrees};
+ghost use Rattle.tree_mode.specs.Laws.{ListedAreCandidates, ListedIsDecided, OpeningIsKept, RoundsKeepStyle, StylesStay, TextsAreNoLonger, WellFormedOnce, WholeIsStart};
 
 use normal_form::equal_languages;
 use syntax_tree::{leaves_keep_kinds, left_is_part, left_is_reflexive, valid_trees_are_derived};
@@ -77,6 +77,12 @@ pub fn styles_stay()
     ensures { StylesStay }
 {}
 
+/// Over a verdict on every text a round of the mode comes to what the round from its tree comes to, over
+/// the trees in its style.
+pub fn rounds_keep_style()
+    ensures { RoundsKeepStyle }
+{}
+
 /// The mode is lawful where a round of it tries kept trees alone and each yes makes the tree smaller.
 pub fn tree_mode_is_lawful()
     ensures { TreeModeIsLawful }
@@ -86,9 +92,9 @@ pub fn tree_mode_is_lawful()
     styles_stay();
 }
 
-/// The mode tries each single edit of a state where a round of it tries each of its tree.
-pub fn tree_mode_tries_edits()
-    ensures { TreeModeTriesEdits }
+/// The mode tries the trees that a round of it tries, in the style of the state.
+pub fn tree_mode_tries_trees()
+    ensures { TreeModeTriesTrees }
 {
     styles_stay();
 }

@@ -10,7 +10,7 @@
 mod laws;
 
 pub use laws::{
-    listed_are_candidates, listed_is_decided, opening_is_kept, parts_join, styles_stay,
-    texts_are_no_longer, tree_mode_is_lawful, tree_mode_tries_edits, well_formed_once,
+    listed_are_candidates, listed_is_decided, opening_is_kept, parts_join, rounds_keep_style,
+    styles_stay, texts_are_no_longer, tree_mode_is_lawful, tree_mode_tries_trees, well_formed_once,
     whole_is_start,
 };

@@ -1,4 +1,5 @@
-pub mod PersesLaws
+pub mod WalkLaws
+pub mod PersesRounds
 pub mod EndLaws
 pub mod PartsLemmas
 pub mod CandidateLemmas

@@ -17,7 +17,7 @@ use Rattle.token_laws.proofs.Reading.{each_is_read}
 use Rattle.tree_mode.specs.FormedProp.{well_formed_prop}
 use Rattle.tree_mode.specs.Input.{IsInput, TreeInput}
 use Rattle.tree_mode.specs.InputParts.{PartsJoin}
-use Rattle.tree_rounds.specs.InputOf.{input_of}
+use Rattle.tree_mode.specs.InputOf.{input_of}
 use Rattle.tree_rounds.specs.Parts.{BelongTogether}
 
 module _ (grammar : CheckedGrammar) (tree : SyntaxTree) (start : List ℕ) (tokens : List Token) (admits : List ℕ → List ℕ → Bool) (squeezes : Bool) where

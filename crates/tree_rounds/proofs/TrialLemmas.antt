@@ -8,16 +8,14 @@ use Rattle.syntax_tree.specs.Valid.{IsTreeFor}
 use Rattle.syntax_tree.specs.Nodes.{SyntaxTree, whole}
 use Rattle.syntax_tree.specs.Left.{IsLeftOf}
 use Rattle.syntax_tree.specs.LeftLaws.{LeftIsPart}
-use Rattle.reduction_rounds.specs.Trials.{tried_state}
+use Rattle.reduction_rounds.specs.Trials.{Trials, tried_state}
 use Rattle.token_print.specs.declared.style.Style.{Style}
 use Rattle.token_print.specs.Kept.{AreKept}
 use Rattle.tree_mode.specs.Input.{IsInput, TreeInput}
 use Rattle.tree_mode.specs.Laws.{IsStart, TextsAreNoLonger}
-use Rattle.tree_mode.specs.Listed.{IsKept, IsShortEnough, text_in}
+use Rattle.tree_mode.specs.Listed.{IsKept, MayKeepStyle, text_in}
 use Rattle.tree_mode.specs.TreeMode.{in_style}
 use Rattle.tree_mode.proofs.Listing.{are_kept}
-use Rattle.tree_trials.specs.Queued.{IsKeptTree}
-use Rattle.tree_visits.specs.Visiting.{VisitState}
 use Rattle.tree_rounds.specs.Fields.{IsTreeOf}
 
 module _ (input : TreeInput) where
@@ -26,31 +24,31 @@ module _ (input : TreeInput) where
   whole_are_kept of part start kept same = subst (AreKept input.tokens) (sym same) (are_kept input of (in_style Style.AsWas input.whole) start.kept part)
 
   -- the squeezed text of the whole may be kept
-  pub squeezed_short : (text kept : List ℕ) → kept ≡ leaves input.whole → text ≡ text_in input kept Style.Squeezed → input.squeezes ≡ true → length text < length input.start → IsShortEnough input Style.Squeezed
+  pub squeezed_short : (text kept : List ℕ) → kept ≡ leaves input.whole → text ≡ text_in input kept Style.Squeezed → input.squeezes ≡ true → length text < length input.start → MayKeepStyle input Style.Squeezed
   squeezed_short text kept same text_is asked short =
       (asked, subst (λ (t : List ℕ). length t < length input.start) (text_is ∙ ap (λ (k : List ℕ). text_in input k Style.Squeezed) same) short)
 
-  -- a tree that visits try is kept
-  kept_in : (style : Style) (tree_of_all : SyntaxTree) (tree : PlainTree) → IsTreeOf input tree_of_all → IsShortEnough input style → IsKeptTree tree_of_all.form tree_of_all.start (whole tree_of_all) tree → IsKept input (in_style style tree)
-  kept_in style tree_of_all tree of short kept =
+  -- a tree that a walk tries is kept
+  kept_in : (style : Style) (tree_of_all : SyntaxTree) (tree : PlainTree) → IsTreeOf input tree_of_all → MayKeepStyle input style → IsTreeFor tree_of_all.form tree_of_all.start tree → IsLeftOf (whole tree_of_all) tree → IsKept input (in_style style tree)
+  kept_in style tree_of_all tree of may_keep fits left =
       record {
-        fits = subst (λ (N : NormalForm). IsTreeFor N input.symbol tree) of.form (subst (λ (s : Sym). IsTreeFor tree_of_all.form s tree) of.symbol kept.0);
-        left = subst (λ (w : PlainTree). IsLeftOf w tree) of.whole_is kept.1;
-        short = short;
+        fits = subst (λ (N : NormalForm). IsTreeFor N input.symbol tree) of.form (subst (λ (s : Sym). IsTreeFor tree_of_all.form s tree) of.symbol fits);
+        left = subst (λ (w : PlainTree). IsLeftOf w tree) of.whole_is left;
+        may_keep = may_keep;
       }
 
 tokens_of : (tried : Option PlainTree) (kept : List ℕ) → option_map leaves tried ≡ Some kept → (tree : PlainTree) × (tried ≡ Some tree) × (leaves tree ≡ kept)
 tokens_of None kept e = absurd (cc e)
 tokens_of (Some tree) kept e = (tree, refl, let same : leaves tree ≡ kept = cc e in same)
 
-module _ (input : TreeInput) (of : IsInput input) (style : Style) (visits : VisitState) (tree_of : IsTreeOf input visits.tree) (short : IsShortEnough input style)
-    (keeps : (tree : PlainTree) → tried_state visits.rest ≡ Some tree → IsKeptTree visits.tree.form visits.tree.start (whole visits.tree) tree)
-    (kept : List ℕ) (tokens : option_map leaves (tried_state visits.rest) ≡ Some kept) where
-  found : (tree : PlainTree) × (tried_state visits.rest ≡ Some tree) × (leaves tree ≡ kept)
-  found = tokens_of (tried_state visits.rest) kept tokens
+module _ (input : TreeInput) (of : IsInput input) (style : Style) (parsed : SyntaxTree) (rest : Trials PlainTree) (tree_of : IsTreeOf input parsed) (may_keep : MayKeepStyle input style)
+    (fits : (tree : PlainTree) → tried_state rest ≡ Some tree → IsTreeFor parsed.form parsed.start tree) (left : (tree : PlainTree) → tried_state rest ≡ Some tree → IsLeftOf (whole parsed) tree)
+    (kept : List ℕ) (tokens : option_map leaves (tried_state rest) ≡ Some kept) where
+  found : (tree : PlainTree) × (tried_state rest ≡ Some tree) × (leaves tree ≡ kept)
+  found = tokens_of (tried_state rest) kept tokens
 
   state_kept : IsKept input (in_style style found.0)
-  state_kept = kept_in input style visits.tree found.0 tree_of short (keeps found.0 found.1)
+  state_kept = kept_in input style parsed found.0 tree_of may_keep (fits found.0 found.1) (left found.0 found.1)
 
   pub tried_are_kept : LeftIsPart → AreKept input.tokens kept
   tried_are_kept part = subst (AreKept input.tokens) found.2 (are_kept input of (in_style style found.0) state_kept part)

@@ -2,44 +2,71 @@
 use Rattle.std.specs.Prelude.{◌≡◌, ℕ, true, List, Option, Some, IsTrue}
 use Rattle.script_gate.specs.declared.gate.Verdict.{Verdict}
 use Rattle.script_gate.specs.declared.gate.Verdict.TheVariants.{Yes, No}
-use Rattle.reduction_rounds.specs.Trials.{IsTriedAtNo}
+use Rattle.normal_form.specs.declared.normal.Sym.{Sym}
+use Rattle.normal_form.specs.Form.{NormalForm}
+use Rattle.reduction_rounds.specs.Mode.{RoundMode}
+use Rattle.reduction_rounds.specs.Trials.{IsTriedAtNo, Trials}
 use Rattle.reduction_rounds.specs.Laws.{EndsWell, IsTextOf}
-use Rattle.syntax_tree.specs.Trees.{leaves}
+use Rattle.syntax_tree.specs.Edits.{IsSingleEdit}
+use Rattle.syntax_tree.specs.Trees.{PlainTree, leaves}
 use Rattle.tree_mode.specs.Input.{IsInput, TreeInput, TreeState}
 use Rattle.tree_mode.specs.Candidates.{IsCandidate}
 use Rattle.tree_mode.specs.Listed.{IsKept, IsListed, text_of}
-use Rattle.tree_mode.specs.Lawful.{IsEditOf}
+use Rattle.tree_mode.specs.Lawful.{IsEditIn}
+use Rattle.tree_visits.specs.VisitRounds.{visit_round}
 use Rattle.tree_rounds.specs.PersesMode.{perses_mode}
+use Rattle.tree_rounds.specs.WalkMode.{walk_mode}
 
--- Each single edit of the state's tree, in the state's style, that may be asked has a no.
+-- Each of these edits of the state's tree, in the state's style, that may be asked has a no.
+abbrev pub IsMinimalBy : (NormalForm → Sym → PlainTree → PlainTree → Type 0) → TreeInput → (List ℕ → Option Verdict) → TreeState → Type 0
+IsMinimalBy IsEdit input V state = (other : TreeState) → IsEditIn (IsEdit input.form input.symbol) state other → IsListed input other → V (text_of input other) ≡ Some No
+
+-- It is so of the single edits.
 abbrev pub IsMinimalTree : TreeInput → (List ℕ → Option Verdict) → TreeState → Type 0
-IsMinimalTree input V state = (other : TreeState) → IsEditOf input state other → IsListed input other → V (text_of input other) ≡ Some No
+IsMinimalTree = IsMinimalBy IsSingleEdit
 
 -- The start is admitted with all its tokens.
 abbrev pub AdmitsStart : TreeInput → Type 0
 AdmitsStart input = IsTrue (input.admits (leaves input.whole) input.start)
 
--- What a reduction asks first is the start, byte for byte, and it may be asked.
-pub record BeginsWithStart (input : TreeInput) : Type 0 where
-  pub text : (perses_mode input).text (perses_mode input).start ≡ input.start
-  pub listed : (perses_mode input).is_listed (perses_mode input).start ≡ true
+-- What a reduction in this mode asks first is this start, byte for byte, and it may be asked.
+pub record BeginsWith (mode : RoundMode TreeState) (start : List ℕ) : Type 0 where
+  pub text : mode.text mode.start ≡ start
+  pub listed : mode.is_listed mode.start ≡ true
 
--- It is so of each input that admits its start.
-abbrev pub PersesBegins : Type 0
-PersesBegins = (input : TreeInput) → IsInput input → AdmitsStart input → BeginsWithStart input
-
--- The text of a listed state that is kept is a candidate.
-abbrev pub PersesAsksCandidates : Type 0
-PersesAsksCandidates = (input : TreeInput) (text : List ℕ) → IsInput input → IsTextOf (perses_mode input) (IsKept input) text → IsCandidate input text
-
--- The end of a reduction: it has a yes, it may be asked, it is kept, and it is minimal.
-pub record IsTreeEnd (input : TreeInput) (V : List ℕ → Option Verdict) (state : TreeState) : Type 0 where
+-- The end of a reduction: it has a yes, it may be asked, it is kept, and it is minimal by these edits.
+pub record IsEndBy (IsEdit : NormalForm → Sym → PlainTree → PlainTree → Type 0) (input : TreeInput) (V : List ℕ → Option Verdict) (state : TreeState) : Type 0 where
   pub yes_at_end : V (text_of input state) ≡ Some Yes
   pub listed : IsListed input state
   pub kept : IsKept input state
-  pub minimal : IsMinimalTree input V state
+  pub minimal : IsMinimalBy IsEdit input V state
 
--- A state that ends well, as reductions by rounds do, is such an end: its edits are then all that a round from it tries if each answer is no.
+module _ (round : NormalForm → Sym → PlainTree → Trials PlainTree) where
+  -- A reduction with these rounds begins with its start, where that is admitted.
+  abbrev pub WalksBegin : Type 0
+  WalksBegin = (input : TreeInput) → IsInput input → AdmitsStart input → BeginsWith (walk_mode round input) input.start
+
+  -- The text of a listed state that is kept is a candidate.
+  abbrev pub WalksAskCandidates : Type 0
+  WalksAskCandidates = (input : TreeInput) (text : List ℕ) → IsInput input → IsTextOf (walk_mode round input) (IsKept input) text → IsCandidate input text
+
+  -- A state that ends well, as reductions by rounds do, is such an end: its edits are among what a round from it tries if each answer is no.
+  abbrev pub WalksEndMinimal : (NormalForm → Sym → PlainTree → PlainTree → Type 0) → Type 0
+  WalksEndMinimal IsEdit = (input : TreeInput) (V : List ℕ → Option Verdict) (state : TreeState) → IsInput input
+      → EndsWell (walk_mode round input) (IsKept input) (λ one other. IsTriedAtNo ((walk_mode round input).round one) other) V state → IsEndBy IsEdit input V state
+
+-- The same of mode `perses`, by single edits.
+abbrev pub BeginsWithStart : TreeInput → Type 0
+BeginsWithStart input = BeginsWith (perses_mode input) input.start
+
+abbrev pub IsTreeEnd : TreeInput → (List ℕ → Option Verdict) → TreeState → Type 0
+IsTreeEnd = IsEndBy IsSingleEdit
+
+abbrev pub PersesBegins : Type 0
+PersesBegins = WalksBegin visit_round
+
+abbrev pub PersesAsksCandidates : Type 0
+PersesAsksCandidates = WalksAskCandidates visit_round
+
 abbrev pub PersesEndsMinimal : Type 0
-PersesEndsMinimal = (input : TreeInput) (V : List ℕ → Option Verdict) (state : TreeState) → IsInput input
-    → EndsWell (perses_mode input) (IsKept input) (λ one other. IsTriedAtNo ((perses_mode input).round one) other) V state → IsTreeEnd input V state
+PersesEndsMinimal = WalksEndMinimal visit_round IsSingleEdit

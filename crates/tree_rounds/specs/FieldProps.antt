@@ -8,9 +8,8 @@ use Rattle.syntax_tree.specs.Nodes.{SyntaxTree}
 use Rattle.token_print.specs.declared.style.Style.{Style}
 use Rattle.tree_mode.specs.Input.{TreeInput}
 use Rattle.tree_mode.specs.InputParts.{form_set, symbol_set}
-use Rattle.tree_mode.specs.Listed.{IsShortEnough}
-use Rattle.tree_visits.specs.Codes.{tree_coded}
-use Rattle.tree_visits.specs.Visiting.{VisitState}
+use Rattle.tree_mode.specs.Listed.{MayKeepStyle}
+use Rattle.tree_walk.specs.Codes.{tree_coded}
 use Rattle.tree_rounds.specs.declared.candidate.Candidate.{Candidate}
 use Rattle.tree_rounds.specs.declared.trial.Trial.{Trial}
 use Rattle.tree_rounds.specs.declared.trial.Trial.TheVariants.{Over, Squeezed, Edit}
@@ -23,9 +22,9 @@ tree_set = Coded-set tree_coded
 tree_of_prop : (input : TreeInput) (tree : SyntaxTree) → IsProp (IsTreeOf input tree)
 tree_of_prop input tree = hlevel (props, form_set, symbol_set, tree_set)
 
-short_prop : (input : TreeInput) (style : Style) → IsProp (IsShortEnough input style)
-short_prop input Style.AsWas = hlevel props
-short_prop input Style.Squeezed = hlevel props
+may_keep_prop : (input : TreeInput) (style : Style) → IsProp (MayKeepStyle input style)
+may_keep_prop input Style.AsWas = hlevel props
+may_keep_prop input Style.Squeezed = hlevel props
 
 candidate_prop : (input : TreeInput) (kept : List ℕ) (style : Style) (candidate : Candidate) → IsProp (IsCandidateIn input kept style candidate)
 candidate_prop input kept style candidate = hlevel props
@@ -39,5 +38,5 @@ tried_prop input style left rest Over = hlevel props
 tried_prop input style left rest (Squeezed candidate) = hlevel (props, tree_set, candidate_prop)
 tried_prop input style left rest (Edit candidate) = hlevel (props, candidate_if_prop)
 
-pub agrees_prop : (input : TreeInput) (style : Style) (visits : VisitState) (trial : Trial) → IsProp (Agrees input style visits trial)
-agrees_prop input style visits trial = hlevel (props, tree_of_prop, short_prop, tried_prop)
+pub agrees_prop : (input : TreeInput) (style : Style) (tree : SyntaxTree) (left : PlainTree) (rest : Trials PlainTree) (trial : Trial) → IsProp (Agrees input style tree left rest trial)
+agrees_prop input style tree left rest trial = hlevel (props, tree_of_prop, may_keep_prop, tried_prop)

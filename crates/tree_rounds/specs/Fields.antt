@@ -5,10 +5,9 @@ use Rattle.syntax_tree.specs.Trees.{PlainTree, leaves}
 use Rattle.syntax_tree.specs.Nodes.{SyntaxTree, whole}
 use Rattle.token_print.specs.declared.style.Style.{Style}
 use Rattle.tree_mode.specs.Input.{TreeInput, TreeState}
-use Rattle.tree_mode.specs.Listed.{IsShortEnough}
+use Rattle.tree_mode.specs.Listed.{MayKeepStyle}
 use Rattle.tree_mode.specs.TreeMode.{in_style, trials_in}
 use Rattle.tree_rounds.specs.Candidates.{IsCandidateIn}
-use Rattle.tree_visits.specs.Visiting.{VisitState}
 use Rattle.tree_rounds.specs.declared.candidate.Candidate.{Candidate}
 use Rattle.tree_rounds.specs.declared.trial.Trial.{Trial}
 use Rattle.tree_rounds.specs.declared.trial.Trial.TheVariants.{Over, Squeezed, Edit}
@@ -46,16 +45,16 @@ AreCopies (Squeezed candidate) (Edit copy) = ⊥
 AreCopies (Edit candidate) Over = ⊥
 AreCopies (Edit candidate) (Squeezed copy) = ⊥
 
--- what is still tried, where the visits still try this
+-- what is still tried, where the walk still tries this
 abbrev pub rest_of : TreeInput → Style → Trials PlainTree → Trial → Trials TreeState
 rest_of input style rest Over = Done
 rest_of input style rest (Squeezed candidate) = Try (in_style Style.Squeezed input.whole) Done Done
 rest_of input style rest (Edit candidate) = trials_in style rest
 
--- It is what is tried: nothing; the squeezed text of the whole tree before the first round; or what the visits try.
+-- It is what is tried: nothing; the squeezed text of the whole tree before the first round; or what the walk tries.
 abbrev pub IsTried : TreeInput → Style → PlainTree → Trials PlainTree → Trial → Type 0
 IsTried input style left rest Over = Unit {0}
-IsTried input style left rest (Squeezed candidate) = (left ≡ input.whole) × IsShortEnough input Style.Squeezed × IsCandidateOf input (in_style Style.Squeezed input.whole) candidate
+IsTried input style left rest (Squeezed candidate) = (left ≡ input.whole) × MayKeepStyle input Style.Squeezed × IsCandidateOf input (in_style Style.Squeezed input.whole) candidate
 IsTried input style left rest (Edit candidate) = IsCandidateIf input style (tried_state rest) candidate
 
 -- The tree is that of the input.
@@ -65,7 +64,7 @@ pub record IsTreeOf (input : TreeInput) (tree : SyntaxTree) : Type 0 where
   pub whole_is : whole tree ≡ input.whole
 
 -- What holds of the fields between two calls.
-pub record Agrees (input : TreeInput) (style : Style) (visits : VisitState) (trial : Trial) : Type 0 where
-  pub tree : IsTreeOf input visits.tree
-  pub short : IsShortEnough input style
-  pub tried : IsTried input style visits.left visits.rest trial
+pub record Agrees (input : TreeInput) (style : Style) (tree : SyntaxTree) (left : PlainTree) (rest : Trials PlainTree) (trial : Trial) : Type 0 where
+  pub tree_of : IsTreeOf input tree
+  pub may_keep : MayKeepStyle input style
+  pub tried : IsTried input style left rest trial

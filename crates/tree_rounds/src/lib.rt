@@ -1,24 +1,30 @@
-//! The machine of mode `perses`: rounds that reduce a tree node by node, as trees are left and texts
-//! are asked.
+//! The machine of the modes that reduce trees: rounds of a walk over what is left of a tree, whose trees
+//! are asked as texts.
 //!
-//! Read `tree_trials/specs/Visit.antt` first: what a round tries of a tree; then
-//! `tree_mode/specs/Listed.antt`: which of these trees are asked, and as which texts. Enter by
-//! [`TreeParts::new`] and [`tree_reducer`]. What never changes is in [`TreeParts`], which is lent;
-//! [`TreeRound`] has what is left of the tree, the nodes that wait, and what is tried now
-//! (`specs/Fields.antt`). What a reduction asks and what it ends with are in `specs/Ends.antt`.
+//! What a round tries of a tree is the walk's ([`TreeWalk`](tree_walk::TreeWalk)): in mode `perses` read
+//! `tree_trials/specs/Visit.antt`; which of these trees are asked, and as which texts, is in
+//! `tree_mode/specs/Listed.antt`. Enter by [`TreeParts::new`] and [`tree_reducer`], or
+//! [`perses_reducer`] in mode `perses`. What never changes is in [`TreeParts`], which is lent;
+//! [`TreeRound`] has the walk, and what is tried now (`specs/Fields.antt`). What a reduction asks and
+//! what it ends with are in `specs/Ends.antt`, for any walk and for mode `perses`.
 #![tactic(auto)]
 
 mod candidate;
 mod ends;
 mod laws;
 mod parts;
+mod perses;
 mod reducer;
 mod tree_round;
 mod trial;
 
-pub use ends::{perses_asks_candidates, perses_begins, perses_ends_minimal};
+pub use ends::{walks_ask_candidates, walks_begin, walks_end_minimal};
 pub use faults::Memory;
-pub use laws::{perses_is_lawful, perses_tries_edits};
+pub use laws::{walks_are_lawful, walks_try_edits};
 pub use parts::{HasInput, TreeParts};
+pub use perses::{
+    PersesReducer, perses_asks_candidates, perses_begins, perses_ends_minimal, perses_is_lawful,
+    perses_reducer, perses_rounds_are_visits, perses_tries_edits,
+};
 pub use reducer::{TreeReducer, tree_reducer};
 pub use tree_round::TreeRound;

@@ -12,7 +12,7 @@ ghost use Rattle.syntax_tree.specs.Trees.{kinds_of};
 ghost use Rattle.syntax_tree.specs.Nodes.{whole};
 ghost use Rattle.tree_mode.specs.Input.{IsInput};
 ghost use Rattle.tree_mode.specs.FormedProp.{well_formed_prop};
-ghost use Rattle.tree_rounds.specs.InputOf.{input_of};
+ghost use Rattle.tree_mode.specs.InputOf.{input_of};
 ghost use Rattle.tree_rounds.specs.Parts.{BelongTogether, together_prop};
 
 use compat_table::Compat;

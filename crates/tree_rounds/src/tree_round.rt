@@ -1,13 +1,14 @@
-//! Mode `perses`: rounds over what is left of a tree.
+//! Rounds over what is left of a tree.
 
 ghost use Rattle.std.specs.Prelude.{◌≡◌, IfOk, if◌then◌else◌, string_bytes};
 ghost use Rattle.token_print.specs.declared.style.Style.TheVariants.{Squeezed};
-ghost use Rattle.tree_rounds.specs.Fields.{Agrees};
+ghost use Rattle.reduction_rounds.specs.Trials.{Done};
+ghost use Rattle.tree_rounds.specs.Fields.{Agrees, IsTreeOf};
 ghost use Rattle.tree_rounds.specs.FieldProps.{agrees_prop};
-ghost use Rattle.tree_rounds.specs.InputOf.{input_of};
-ghost use Rattle.tree_rounds.specs.PersesMode.{perses_mode};
+ghost use Rattle.tree_mode.specs.InputOf.{input_of};
+ghost use Rattle.tree_rounds.specs.WalkMode.{walk_mode};
 
-use crate::laws::perses_is_lawful;
+use crate::laws::walks_are_lawful;
 use crate::parts::{HasInput, TreeParts};
 use crate::trial::{Trial, opening_trial, trial_of};
 use faults::Memory;
@@ -16,65 +17,70 @@ use reduction_rounds::Round;
 use std::alloc::Global;
 use std::mem;
 use token_print::Style;
-use tree_visits::TreeVisits;
+use tree_walk::TreeWalk;
 
-/// A round of mode `perses` over what is left of a tree. The parts are lent, so that a copy doesn't
-/// copy them.
+/// A round of a walk over what is left of a tree. The parts are lent, so that a copy doesn't copy them.
 ///
-/// An answer takes what [`TreeVisits::answer`] takes, and time and memory linear in the nodes of the
+/// An answer takes what [`TreeWalk::answer`] takes, and time and memory linear in the nodes of the
 /// parsed tree and in the text of the candidate that is tried next: that is printed once and cut into
 /// tokens once, and the guard is called at most once.
 #[derive(Drop)]
-pub struct TreeRound<'a, F: Relation> {
+pub struct TreeRound<'a, F: Relation, W: TreeWalk + Drop> {
     alloc: Global,
     parts: &'a TreeParts<F>,
     style: Style,
-    visits: TreeVisits<'a>,
+    walk: W,
 
     /// It is over after an error.
     trial: Trial,
-    ghost agrees: { Agrees (input_of parts.now.lexer parts.now.formed parts.now.tree (string_bytes parts.now.start) parts.now.tokens.items.items (F.admits parts.now.guard) parts.now.squeezes) style visits trial } by { agrees_prop (input_of parts.now.lexer parts.now.formed parts.now.tree (string_bytes parts.now.start) parts.now.tokens.items.items (F.admits parts.now.guard) parts.now.squeezes) style visits trial },
+    ghost agrees: { Agrees (input_of parts.now.lexer parts.now.formed parts.now.tree (string_bytes parts.now.start) parts.now.tokens.items.items (F.admits parts.now.guard) parts.now.squeezes) style (W.tree walk) (W.left walk) (W.rest walk) trial } by { agrees_prop (input_of parts.now.lexer parts.now.formed parts.now.tree (string_bytes parts.now.start) parts.now.tokens.items.items (F.admits parts.now.guard) parts.now.squeezes) style (W.tree walk) (W.left walk) (W.rest walk) trial },
 }
 
-impl<'a, F: Relation> TreeRound<'a, F> {
-    /// Before the first round: the whole tree, and where it is asked for its squeezed text.
-    pub(crate) fn new(alloc: Global, parts: &'a TreeParts<F>) -> Result<TreeRound<'a, F>, Memory>
-        ensures input { IfOk result (λ round. ⟦<TreeRound<'a, F> as Round>⟧.input round ≡ ⟦<TreeParts<F> as HasInput>⟧.input parts.now) }
-        ensures state { IfOk result (λ round. ⟦<TreeRound<'a, F> as Round>⟧.state round ≡ (perses_mode (⟦<TreeParts<F> as HasInput>⟧.input parts.now)).start) }
-        ensures rest { IfOk result (λ round. ⟦<TreeRound<'a, F> as Round>⟧.rest round ≡ (perses_mode (⟦<TreeParts<F> as HasInput>⟧.input parts.now)).opening) }
+impl<'a, F: Relation, W: TreeWalk + Drop> TreeRound<'a, F, W> {
+    /// Before the first round: the whole tree, and where it is asked for its squeezed text. The walk is a
+    /// new one of the parts' tree.
+    pub(crate) fn new(
+        alloc: Global,
+        parts: &'a TreeParts<F>,
+        walk: W,
+    ) -> Result<TreeRound<'a, F, W>, Memory>
+        requires tree { IsTreeOf (⟦<TreeParts<F> as HasInput>⟧.input parts.now) (W.tree walk) }
+        requires left { W.left walk ≡ (⟦<TreeParts<F> as HasInput>⟧.input parts.now).whole }
+        requires rest { W.rest walk ≡ Done }
+        ensures input { IfOk result (λ round. ⟦<TreeRound<'a, F, W> as Round>⟧.input round ≡ ⟦<TreeParts<F> as HasInput>⟧.input parts.now) }
+        ensures state { IfOk result (λ round. ⟦<TreeRound<'a, F, W> as Round>⟧.state round ≡ (walk_mode W.round (⟦<TreeParts<F> as HasInput>⟧.input parts.now)).start) }
+        ensures rest { IfOk result (λ round. ⟦<TreeRound<'a, F, W> as Round>⟧.rest round ≡ (walk_mode W.round (⟦<TreeParts<F> as HasInput>⟧.input parts.now)).opening) }
     {
-        let visits = TreeVisits::new(alloc, &parts.tree, &parts.compat)?;
         let trial = opening_trial(alloc, parts)?;
         Ok(TreeRound {
             alloc,
             parts,
             style: Style::AsWas,
-            visits,
+            walk,
             trial,
         })
     }
 }
 
-impl<'a, F: Relation> Round for TreeRound<'a, F> {
+impl<'a, F: Relation, W: TreeWalk + Drop> Round for TreeRound<'a, F, W> {
     ghost use Rattle.tree_mode.specs.Input.{TreeInput, TreeState};
     ghost use Rattle.tree_mode.specs.Listed.{IsKept};
     ghost use Rattle.tree_mode.specs.TreeMode.{in_style};
     ghost use Rattle.tree_rounds.specs.Fields.{rest_of};
-    ghost use Rattle.tree_rounds.specs.PersesMode.{perses_mode};
 
     ghost Input = { TreeInput };
 
     ghost State = { TreeState };
 
-    ghost mode = { perses_mode };
+    ghost mode = { walk_mode W.round };
 
     ghost Kept = { IsKept };
 
     ghost input = { λ r. input_of r.parts.now.lexer r.parts.now.formed r.parts.now.tree (string_bytes r.parts.now.start) r.parts.now.tokens.items.items (F.admits r.parts.now.guard) r.parts.now.squeezes };
 
-    ghost state = { λ r. in_style r.style r.visits.left };
+    ghost state = { λ r. in_style r.style (W.left r.walk) };
 
-    ghost rest = { λ r. rest_of (input_of r.parts.now.lexer r.parts.now.formed r.parts.now.tree (string_bytes r.parts.now.start) r.parts.now.tokens.items.items (F.admits r.parts.now.guard) r.parts.now.squeezes) r.style r.visits.rest r.trial };
+    ghost rest = { λ r. rest_of (input_of r.parts.now.lexer r.parts.now.formed r.parts.now.tree (string_bytes r.parts.now.start) r.parts.now.tokens.items.items (F.admits r.parts.now.guard) r.parts.now.squeezes) r.style (W.rest r.walk) r.trial };
 
     fn is_over(&self) -> bool {
         self.trial.candidate().is_none()
@@ -108,8 +114,8 @@ impl<'a, F: Relation> Round for TreeRound<'a, F> {
                 Ok(())
             }
             Trial::Edit(_) => {
-                self.visits.answer(yes)?;
-                self.trial = trial_of(self.alloc, self.parts, self.style, &self.visits)?;
+                self.walk.answer(yes)?;
+                self.trial = trial_of(self.alloc, self.parts, self.style, &self.walk)?;
                 Ok(())
             }
         }
@@ -117,21 +123,21 @@ impl<'a, F: Relation> Round for TreeRound<'a, F> {
 
     fn begin_round(&mut self) -> Result<(), Memory> {
         self.parts.is_input();
-        perses_is_lawful();
+        walks_are_lawful::<W>();
         self.trial = Trial::Over;
-        self.visits.begin_round()?;
-        self.trial = trial_of(self.alloc, self.parts, self.style, &self.visits)?;
+        self.walk.begin_round()?;
+        self.trial = trial_of(self.alloc, self.parts, self.style, &self.walk)?;
         Ok(())
     }
 
-    fn copy(&self) -> Result<TreeRound<'a, F>, Memory> {
-        let visits = self.visits.copy()?;
+    fn copy(&self) -> Result<TreeRound<'a, F, W>, Memory> {
+        let walk = self.walk.copy()?;
         let trial = self.trial.copy()?;
         Ok(TreeRound {
             alloc: self.alloc,
             parts: self.parts,
             style: self.style,
-            visits,
+            walk,
             trial,
         })
     }

@@ -1,7 +1,7 @@
 //! What is tried now, with its candidate.
 
 ghost use Rattle.std.specs.Prelude.{◌≡◌, IfOk, option_copied};
-ghost use Rattle.tree_mode.specs.Listed.{IsShortEnough};
+ghost use Rattle.tree_mode.specs.Listed.{MayKeepStyle};
 ghost use Rattle.tree_mode.specs.TreeMode.{opening_of, trials_in};
 ghost use Rattle.tree_rounds.specs.Fields.{AreCopies, IsTreeOf, IsTried, candidate_in, rest_of};
 ghost use Rattle.token_print.specs.declared.style.Style.{Style as TextStyle};
@@ -16,7 +16,7 @@ use syntax_tree::left_is_part;
 use token_print::Style;
 use tree_cut::Cut;
 use tree_mode::{texts_are_no_longer, whole_is_start};
-use tree_visits::TreeVisits;
+use tree_walk::TreeWalk;
 
 /// What is tried now, with its candidate.
 #[derive(Drop)]
@@ -27,7 +27,7 @@ pub(crate) enum Trial {
     /// The whole tree, squeezed.
     Squeezed(Candidate),
 
-    /// The tree that the visits try, in the style of the last yes.
+    /// The tree that the walk tries, in the style of the last yes.
     Edit(Candidate),
 }
 
@@ -86,26 +86,26 @@ pub(crate) fn opening_trial<F: Relation>(
     Ok(Trial::Squeezed(candidate))
 }
 
-/// The tree that the visits try now, with its candidate.
-pub(crate) fn trial_of<F: Relation>(
+/// The tree that the walk tries now, with its candidate.
+pub(crate) fn trial_of<F: Relation, W: TreeWalk>(
     alloc: Global,
     parts: &TreeParts<F>,
     style: Style,
-    visits: &TreeVisits,
+    walk: &W,
 ) -> Result<Trial, Memory>
-    requires tree { IsTreeOf (⟦<TreeParts<F> as HasInput>⟧.input parts.now) visits.now.tree }
-    requires short { IsShortEnough (⟦<TreeParts<F> as HasInput>⟧.input parts.now) style }
-    ensures tried { IfOk result (IsTried (⟦<TreeParts<F> as HasInput>⟧.input parts.now) style visits.now.left visits.now.rest) }
-    ensures rest { IfOk result (λ trial. rest_of (⟦<TreeParts<F> as HasInput>⟧.input parts.now) style visits.now.rest trial ≡ trials_in style visits.now.rest) }
+    requires tree { IsTreeOf (⟦<TreeParts<F> as HasInput>⟧.input parts.now) (W.tree walk.now) }
+    requires may_keep { MayKeepStyle (⟦<TreeParts<F> as HasInput>⟧.input parts.now) style }
+    ensures tried { IfOk result (IsTried (⟦<TreeParts<F> as HasInput>⟧.input parts.now) style (W.left walk.now) (W.rest walk.now)) }
+    ensures rest { IfOk result (λ trial. rest_of (⟦<TreeParts<F> as HasInput>⟧.input parts.now) style (W.rest walk.now) trial ≡ trials_in style (W.rest walk.now)) }
 {
-    if visits.is_over() {
+    if walk.is_over() {
         return Ok(Trial::Over);
     }
     parts.is_input();
     texts_are_no_longer();
     left_is_part();
-    visits.tries_kept();
-    let kept = visits.tried_tokens()?;
+    walk.tries_kept();
+    let kept = walk.tried_tokens()?;
     let candidate = candidate_of(alloc, parts, &kept, style)?;
     Ok(Trial::Edit(candidate))
 }

@@ -4,3 +4,4 @@ pub mod DescendantsLemmas
 pub mod ContentLemmas
 pub mod VisitLemmas
 pub mod NextLemmas
+pub mod RoundLemmas

@@ -1,7 +1,6 @@
 -- What holds within a visit of a node, and what contracts see of visits.
-use Rattle.std.specs.Prelude.{◌≡◌, ◌<◌, ◌+◌, ℕ, refl, Bool, true, false, List, length, map, Option, Some, None, IsSome, slice_get}
+use Rattle.std.specs.Prelude.{◌≡◌, ◌<◌, ◌+◌, ℕ, Bool, true, false, List, length, map, Option, Some, None, IsSome, slice_get}
 use Rattle.std.specs.Option.{option_map_or}
-use Rattle.std.specs.Coded.{Coded, code_by, coded×}
 use Rattle.normal_form.specs.declared.normal.Sym.{Sym}
 use Rattle.normal_form.specs.Form.{RuleForm, NormalForm}
 use Rattle.list_ddmin.specs.Machine.{State, IsSound, asks, kept}
@@ -17,9 +16,9 @@ use Rattle.descend_replace.specs.Compatible.{compatible}
 use Rattle.tree_trials.specs.Queued.{IsInRound, nodes_in}
 use Rattle.tree_trials.specs.Visit.{node_visited}
 use Rattle.tree_trials.specs.Laws.{IsNextVisit}
+use Rattle.tree_walk.specs.WalkState.{WalkState}
 use Rattle.tree_visits.specs.declared.visit.Visit.{Visit}
 use Rattle.tree_visits.specs.declared.visit.Visit.TheVariants.{Elements, Content, Descendants}
-use Rattle.tree_visits.specs.Codes.{syntax_tree_coded, tree_coded, trials_coded}
 use Rattle.tree_visits.specs.FitsIn.{fits_in}
 use Rattle.tree_visits.specs.VisitTrials.{descendants_tried, goes_on, trials_from, trials_within, tree_left}
 
@@ -146,18 +145,7 @@ pub record AreVisits (tree : SyntaxTree) (compat : NormalForm) (cut : CutForm) (
   pub compat_is : compat ≡ tree.form
   pub visiting : IsVisiting tree.form tree.start (cut_tree tree cut) queue visit
 
--- What contracts see of visits: the tree, what is left of it, and what is still tried.
-pub record VisitState : Type 0 where
-  pub tree : SyntaxTree
-  pub left : PlainTree
-  pub rest : Trials PlainTree
-
--- it has a code, by those of its fields
-abbrev pub visit_state_coded : Coded VisitState
-visit_state_coded =
-    code_by (SyntaxTree × (PlainTree × Trials PlainTree)) (coded× syntax_tree_coded (coded× tree_coded (trials_coded tree_coded)))
-    (λ v. (v.tree, (v.left, v.rest))) (λ p. record { tree = p.0; left = p.1.0; rest = p.1.1 }) (λ _. refl)
-
-abbrev pub visit_state : SyntaxTree → CutForm → List Waiting → Option Visit → VisitState
+-- what contracts see of visits
+abbrev pub visit_state : SyntaxTree → CutForm → List Waiting → Option Visit → WalkState
 visit_state tree cut queue visit =
     record { tree = tree; left = tree_left (cut_tree tree cut) visit; rest = trials_within tree.form tree.start (cut_tree tree cut) queue visit }

@@ -1,14 +1,9 @@
 //! Rounds of visits of a tree's nodes.
 
-ghost use Rattle.std.specs.Prelude.{◌≡◌, Some, IfOk, IsSome, OnErr, OnOk, option_map};
-ghost use Rattle.std.specs.List.Sorted.{IsStrictlyIncreasing};
-ghost use Rattle.reduction_rounds.specs.Trials.{Done, is_done, state_after, tried_state, trials_after};
-ghost use Rattle.syntax_tree.specs.Trees.{PlainTree, leaves};
+ghost use Rattle.std.specs.Prelude.{◌≡◌, IfOk};
+ghost use Rattle.reduction_rounds.specs.Trials.{Done};
 ghost use Rattle.syntax_tree.specs.Nodes.{whole};
 ghost use Rattle.tree_cut.specs.Cuts.{IsCutOf, cut_tree};
-ghost use Rattle.tree_trials.specs.Queued.{IsKeptTree};
-ghost use Rattle.tree_trials.specs.Visit.{visit as visit_round};
-ghost use Rattle.tree_visits.specs.FitsIn.{fits_in};
 ghost use Rattle.tree_visits.specs.Visiting.{IsGoing, IsVisiting};
 ghost use Rattle.tree_visits.specs.VisitTrials.{tree_left, trials_from, trials_within};
 
@@ -21,12 +16,13 @@ use std::alloc::Global;
 use std::marker::Model;
 use syntax_tree::Tree;
 use tree_cut::Cut;
+use tree_trials::{loses_leaves, tries_kept_trees, tries_single_edits};
+use tree_walk::TreeWalk;
 
 /// What is left of a tree, and what a round still tries of it: the heaviest node that waits is visited,
 /// and after it the next one, until none waits.
 ///
-/// Contracts see the tree, what is left of it, and what is still tried. After an error nothing more is
-/// tried.
+/// Contracts see the tree, what is left of it, and what is still tried.
 #[derive(Drop)]
 pub struct TreeVisits<'a> {
     alloc: Global,
@@ -44,11 +40,12 @@ pub struct TreeVisits<'a> {
 }
 
 impl<'a> Model for TreeVisits<'a> {
-    ghost use Rattle.tree_visits.specs.Visiting.{AreVisits, VisitState, visit_state, visit_state_coded};
+    ghost use Rattle.tree_visits.specs.Visiting.{AreVisits, visit_state};
+    ghost use Rattle.tree_walk.specs.WalkState.{WalkState, walk_state_coded};
 
-    ghost Value = { VisitState };
+    ghost Value = { WalkState };
 
-    ghost coded = { visit_state_coded };
+    ghost coded = { walk_state_coded };
 
     ghost view = { λ v. visit_state v.tree.now v.cut v.queue v.visit };
 
@@ -71,21 +68,29 @@ impl<'a> TreeVisits<'a> {
             visit: None,
         })
     }
+}
 
-    /// Whether nothing more is tried.
-    pub fn is_over(&self) -> bool
-        ensures { result ≡ is_done self.now.rest }
-    {
+impl<'a> TreeWalk for TreeVisits<'a> {
+    ghost use Rattle.syntax_tree.specs.Edits.{IsSingleEdit};
+    ghost use Rattle.tree_visits.specs.VisitRounds.{visit_round};
+    ghost use Rattle.tree_walk.specs.Rounds.{RoundsKeepTrees, RoundsLoseLeaves, RoundsTryEdits};
+
+    ghost round = { visit_round };
+
+    ghost IsEdit = { IsSingleEdit };
+
+    ghost tree = { λ v. v.tree };
+
+    ghost left = { λ v. v.left };
+
+    ghost rest = { λ v. v.rest };
+
+    fn is_over(&self) -> bool {
         self.visit.is_none()
     }
 
-    /// The tokens of the tree that is tried now, by their numbers, which rise. It takes time and memory
-    /// linear in the number of nodes of the parsed tree.
-    pub fn tried_tokens(&self) -> Result<Vec<u32>, Memory>
-        requires { IsSome (tried_state self.now.rest) }
-        ensures tokens { IfOk result (λ tokens. option_map leaves (tried_state self.now.rest) ≡ Some tokens.items) }
-        ensures rising { IfOk result (λ tokens. IsStrictlyIncreasing tokens.items) }
-    {
+    /// It takes time and memory linear in the number of nodes of the parsed tree.
+    fn tried_tokens(&self) -> Result<Vec<u32>, Memory> {
         match &self.visit {
             None => unreachable!(),
             Some(visit) => {
@@ -96,23 +101,15 @@ impl<'a> TreeVisits<'a> {
         }
     }
 
-    /// The tree that is tried now is one for the start symbol, and left of the whole tree.
-    pub fn tries_kept(&self)
-        ensures { (tree : PlainTree) → tried_state self.now.rest ≡ Some tree → IsKeptTree self.now.tree.form self.now.tree.start (whole self.now.tree) tree }
-    {
+    fn tries_kept(&self) {
         let _ = &self.visit;
     }
 
-    /// Takes the answer to the tree that is tried now. At yes it is left. Nodes at which nothing can be
-    /// tried are passed over. Each such node costs a search of the queue, a visit of its children, and
-    /// where it is regular a walk over all that is below it.
-    pub fn answer(&mut self, yes: bool) -> Result<(), Memory>
-        requires { IsSome (tried_state self.old.rest) }
-        ensures rest { OnOk result (self.new.rest ≡ trials_after self.old.rest yes) }
-        ensures left { OnOk result (self.new.left ≡ state_after self.old.left self.old.rest yes) }
-        ensures tree { self.new.tree ≡ self.old.tree }
-        ensures spent { OnErr result (self.new.rest ≡ Done) }
-    {
+    /// Nodes at which nothing can be tried are passed over. Each such node costs a search of the
+    /// queue, a visit of its children, and where it is regular a walk over all that is below it. A
+    /// node isn't passed over that has one of its own rule with fewer tokens below it, so the nodes of
+    /// one rule that are passed over on a way down have equally many tokens.
+    fn answer(&mut self, yes: bool) -> Result<(), Memory> {
         let Some(visit) = self.visit.take() else {
             return Ok(());
         };
@@ -136,14 +133,8 @@ impl<'a> TreeVisits<'a> {
         Ok(())
     }
 
-    /// Begins a round with what is left: the root waits, if it can. What the last round still tries is
-    /// given up.
-    pub fn begin_round(&mut self) -> Result<(), Memory>
-        ensures rest { OnOk result (self.new.rest ≡ visit_round self.old.tree.form (fits_in self.old.tree.form) self.old.tree.start self.old.left) }
-        ensures left { OnOk result (self.new.left ≡ self.old.left) }
-        ensures tree { self.new.tree ≡ self.old.tree }
-        ensures spent { OnErr result (self.new.rest ≡ Done) }
-    {
+    /// The root waits, if it can.
+    fn begin_round(&mut self) -> Result<(), Memory> {
         let last = self.visit.take();
         settle(self.tree, &mut self.cut, &last);
         let _nodes = self.tree.nodes();
@@ -160,10 +151,7 @@ impl<'a> TreeVisits<'a> {
         Ok(())
     }
 
-    /// An equal one, which goes on by its own answers.
-    pub fn copy(&self) -> Result<TreeVisits<'a>, Memory>
-        ensures { IfOk result (λ visits. visits ≡ self.now) }
-    {
+    fn copy(&self) -> Result<TreeVisits<'a>, Memory> {
         let cut = self.cut.copy()?;
         let queue = self.queue.copy()?;
         let visit = copy_of(&self.visit)?;
@@ -175,6 +163,27 @@ impl<'a> TreeVisits<'a> {
             queue,
             visit,
         })
+    }
+
+    #[tactic(auto, using(crate::proofs::RoundLemmas::keep_trees))]
+    fn rounds_keep_trees()
+        ensures { RoundsKeepTrees visit_round }
+    {
+        tries_kept_trees();
+    }
+
+    #[tactic(auto, using(crate::proofs::RoundLemmas::lose_leaves))]
+    fn rounds_lose_leaves()
+        ensures { RoundsLoseLeaves visit_round }
+    {
+        loses_leaves();
+    }
+
+    #[tactic(auto, using(crate::proofs::RoundLemmas::try_edits))]
+    fn rounds_try_edits()
+        ensures { RoundsTryEdits visit_round IsSingleEdit }
+    {
+        tries_single_edits();
     }
 }
 

@@ -9,15 +9,15 @@ use Rattle.tree_mode.specs.Input.{TreeInput}
 use Rattle.tree_mode.specs.Listed.{text_of}
 use Rattle.tree_mode.specs.TreeMode.{in_style}
 use Rattle.tree_mode.proofs.Listing.{weight_whole}
-use Rattle.tree_rounds.specs.InputOf.{input_of}
-use Rattle.tree_rounds.specs.PersesMode.{perses_mode}
+use Rattle.tree_mode.specs.InputOf.{input_of}
+use Rattle.tree_rounds.specs.WalkMode.{walk_mode}
 use Rattle.tree_rounds.proofs.reducer.tree_reducer.Goals as goal
 
 pub new-requires-2-clause-state : goal.new-requires-2-clause-state
 new-requires-2-clause-state g c = c.in_ok-round.ensures.state ∙ ap (λ (input : TreeInput). in_style Style.AsWas input.whole) (sym c.in_ok-round.ensures.input)
 
 pub new-requires-2-clause-rest : goal.new-requires-2-clause-rest
-new-requires-2-clause-rest g c = c.in_ok-round.ensures.rest ∙ ap (λ (input : TreeInput). (perses_mode input).opening) (sym c.in_ok-round.ensures.input)
+new-requires-2-clause-rest g c = c.in_ok-round.ensures.rest ∙ ap (λ (input : TreeInput). (walk_mode g.W.TreeWalk.round input).opening) (sym c.in_ok-round.ensures.input)
 
 pub new-requires-2-clause-text : goal.new-requires-2-clause-text
 new-requires-2-clause-text g c =
@@ -36,7 +36,7 @@ new-requires-2-clause-units g c =
     ∙ ap (λ (other : TreeInput). weight other.whole) (sym c.in_ok-round.ensures.input)
 
 pub returns-clause-plan : goal.returns-clause-plan
-returns-clause-plan g c = c.new-2.ensures.plan ∙ ap (λ (input : TreeInput). plan_first (perses_mode input)) c.in_ok-round.ensures.input
+returns-clause-plan g c = c.new-2.ensures.plan ∙ ap (λ (input : TreeInput). plan_first (walk_mode g.W.TreeWalk.round input)) c.in_ok-round.ensures.input
 
 pub returns-clause-first : goal.returns-clause-first
-returns-clause-first g c = c.new-2.ensures.first ∙ ap (λ (input : TreeInput). plan_first (perses_mode input)) c.in_ok-round.ensures.input
+returns-clause-first g c = c.new-2.ensures.first ∙ ap (λ (input : TreeInput). plan_first (walk_mode g.W.TreeWalk.round input)) c.in_ok-round.ensures.input

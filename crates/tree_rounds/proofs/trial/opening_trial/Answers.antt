@@ -4,7 +4,7 @@ use Rattle.syntax_tree.specs.Trees.{leaves}
 use Rattle.token_print.specs.declared.style.Style.{Style}
 use Rattle.tree_mode.specs.Listed.{text_in}
 use Rattle.tree_rounds.specs.Candidates.{IsCandidateIn}
-use Rattle.tree_rounds.specs.InputOf.{input_of}
+use Rattle.tree_mode.specs.InputOf.{input_of}
 use Rattle.tree_rounds.proofs.TrialLemmas.{squeezed_short, whole_are_kept}
 use Rattle.tree_rounds.proofs.trial.opening_trial.Goals as goal
 

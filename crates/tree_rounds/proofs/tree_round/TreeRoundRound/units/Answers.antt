@@ -1,7 +1,7 @@
 use Rattle.std.proofs.Common.{◌≡◌, Some, rules}
 use Rattle.std.specs.Prelude.{string_bytes}
 use Rattle.tree_rounds.specs.Fields.{candidate_in}
-use Rattle.tree_rounds.specs.InputOf.{input_of}
+use Rattle.tree_mode.specs.InputOf.{input_of}
 use Rattle.tree_rounds.proofs.RoundLemmas.{units_now}
 use Rattle.tree_rounds.proofs.tree_round.TreeRoundRound.units.Goals as goal
 
@@ -9,4 +9,4 @@ pub returns : goal.returns
 returns g c =
     let parts = c.args.self.now.parts.now in
     let now : candidate_in c.args.self.now.trial ≡ Some c.in-Some.candidate.now = search rules in
-    units_now (input_of parts.lexer parts.formed parts.tree (string_bytes parts.start) parts.tokens.items.items (g.F.Relation.admits parts.guard) parts.squeezes) c.args.self.now.style c.args.self.now.visits.left c.args.self.now.visits.rest c.args.self.now.trial c.in-Some.candidate.now c.args.self.now.agrees.tried now
+    units_now (input_of parts.lexer parts.formed parts.tree (string_bytes parts.start) parts.tokens.items.items (g.F.Relation.admits parts.guard) parts.squeezes) c.args.self.now.style (g.W.TreeWalk.left c.args.self.now.walk) (g.W.TreeWalk.rest c.args.self.now.walk) c.args.self.now.trial c.in-Some.candidate.now c.args.self.now.agrees.tried now

@@ -1,7 +1,7 @@
 use Rattle.std.proofs.Common.{subst}
 use Rattle.tree_cut.specs.Cuts.{cut_tree}
 use Rattle.tree_visits.specs.Visiting.{IsVisiting}
-use Rattle.tree_visits.proofs.tree_visits.TreeVisits.tried_tokens.Goals as goal
+use Rattle.tree_visits.proofs.tree_visits.TreeVisitsTreeWalk.tried_tokens.Goals as goal
 
 pub tried_cut-requires-clause-queue : goal.tried_cut-requires-clause-queue
 tried_cut-requires-clause-queue c =

@@ -1,5 +1,5 @@
 use Rattle.tree_visits.proofs.VisitLemmas.{visits_copied}
-use Rattle.tree_visits.proofs.tree_visits.TreeVisits.copy.Goals as goal
+use Rattle.tree_visits.proofs.tree_visits.TreeVisitsTreeWalk.copy.Goals as goal
 
 pub invariant_of-result : goal.invariant_of-result
 invariant_of-result c =

@@ -3,7 +3,7 @@ use Rattle.tree_cut.specs.Cuts.{cut_tree}
 use Rattle.descend_replace.proofs.Found.{cut_rises}
 use Rattle.tree_visits.specs.Visiting.{IsVisiting}
 use Rattle.tree_visits.proofs.NextLemmas.{root_waits}
-use Rattle.tree_visits.proofs.tree_visits.TreeVisits.begin_round.Goals as goal
+use Rattle.tree_visits.proofs.tree_visits.TreeVisitsTreeWalk.begin_round.Goals as goal
 
 pub settle-requires-clause-queue : goal.settle-requires-clause-queue
 settle-requires-clause-queue c = (

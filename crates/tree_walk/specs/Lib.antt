@@ -1,0 +1,11 @@
+pub use Rattle.normal_form.specs.Form
+pub use Rattle.normal_form.specs.NormalOf
+pub use Rattle.reduction_rounds.specs.Trials
+pub use Rattle.syntax_tree.specs.Trees
+pub use Rattle.syntax_tree.specs.Valid
+pub use Rattle.syntax_tree.specs.Numbered
+pub use Rattle.syntax_tree.specs.Left
+pub use Rattle.syntax_tree.specs.Nodes
+pub mod Codes
+pub mod WalkState
+pub mod Rounds
