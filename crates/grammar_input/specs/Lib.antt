@@ -6,6 +6,7 @@ pub use Rattle.syntax_tree.specs.Nodes
 pub use Rattle.syntax_tree.specs.Preferred
 pub use Rattle.tree_mode.specs.Candidates
 pub use Rattle.tree_mode.specs.Input
+pub use Rattle.tree_mode.specs.InputOf
 pub mod Parsed
 pub mod Faults
 pub mod FaultText

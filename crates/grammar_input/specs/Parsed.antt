@@ -13,6 +13,7 @@ use Rattle.chart_parser.specs.Parse.{IsParse}
 use Rattle.syntax_tree.specs.Nodes.{IsWhole, whole}
 use Rattle.syntax_tree.specs.Preferred.{Preferred}
 use Rattle.tree_mode.specs.Input.{IsInput, TreeInput}
+use Rattle.tree_mode.specs.InputOf.{input_of}
 use Rattle.grammar_input.specs.declared.parsed.ParsedInput.{ParsedInput}
 
 -- the tokens, as definitions see them
@@ -42,18 +43,7 @@ pub record IsInputOf (grammar : CheckedGrammar) (text : List ℕ) (input : TreeI
 
 -- the input of a reduction, by what was found in a text, which candidates are admitted, and whether the squeezed text is tried
 abbrev pub tree_input : (found : ParsedInput) → IsWellFormed found.lexer.grammar found.lexer.start → (List ℕ → List ℕ → Bool) → Bool → TreeInput
-tree_input found formed admits squeezes =
-    record {
-      grammar = found.lexer;
-      formed = formed;
-      form = found.tree.form;
-      symbol = found.tree.start;
-      start = string_bytes found.text;
-      tokens = tokens_in found.tokens;
-      whole = whole found.tree;
-      admits = admits;
-      squeezes = squeezes;
-    }
+tree_input found formed admits squeezes = input_of found.lexer formed found.tree (string_bytes found.text) found.tokens.items.items admits squeezes
 
 -- What was found makes the input of the text, whatever is admitted.
 abbrev pub MakesInputOf : CheckedGrammar → List ℕ → ParsedInput → Type 0

@@ -21,7 +21,7 @@ use script_gate::Gate;
 use std::alloc::Global;
 use tree_rounds::{
     HasInput, TreeParts, perses_asks_candidates, perses_begins, perses_ends_minimal,
-    perses_is_lawful, tree_reducer,
+    perses_is_lawful, perses_reducer,
 };
 use verdict_table::Table;
 
@@ -88,7 +88,7 @@ fn tree_result<'a, G: Gate>(
     perses_asks_candidates();
     perses_ends_minimal();
     parts.is_input();
-    let mut reducer = tree_reducer(alloc, parts)?;
+    let mut reducer = perses_reducer(alloc, parts)?;
     run_to_text(alloc, &mut reducer, gate, table)
 }
 

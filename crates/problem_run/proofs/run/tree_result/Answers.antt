@@ -1,7 +1,7 @@
 use Rattle.std.specs.Prelude.{string_bytes}
 use Rattle.keep_guard.specs.Keep.{keeps_admit}
 use Rattle.tree_mode.specs.Input.{TreeInput}
-use Rattle.tree_rounds.specs.InputOf.{input_of}
+use Rattle.tree_mode.specs.InputOf.{input_of}
 use Rattle.problem_run.proofs.ModeLemmas.{are_of_tree, none_answers, tree_ends}
 use Rattle.problem_run.proofs.run.tree_result.Goals as goal
 
