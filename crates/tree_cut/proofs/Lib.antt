@@ -14,3 +14,5 @@ pub mod Questions
 pub mod Selections
 pub mod Joined
 pub mod Keeping
+pub mod WithoutNodes
+pub mod Dropping

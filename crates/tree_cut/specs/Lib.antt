@@ -14,3 +14,5 @@ pub mod Ways
 pub mod Children
 pub mod Keeping
 pub mod SelectionLaws
+pub mod WithoutNodes
+pub mod Dropping

@@ -16,6 +16,8 @@ ghost use Rattle.tree_cut.specs.Shapes.{shape_of};
 ghost use Rattle.tree_cut.specs.Steps.{HasDeleted, HasReplaced};
 ghost use Rattle.tree_cut.specs.Keeping.{CanPass, HasPassed};
 ghost use Rattle.tree_cut.specs.Tokens.{IsSplitAt, within};
+ghost use Rattle.tree_cut.specs.WithoutNodes.{CanDrop, dropped, without_nodes};
+ghost use Rattle.tree_cut.specs.Dropping.{CanDropNext, HasDroppedNext};
 ghost use Rattle.tree_cut.specs.declared.mark.Mark.TheVariants.{Deleted};
 
 use crate::children::{Seen, with_occupant};
@@ -80,10 +82,11 @@ impl Cut {
     pub fn copy(&self) -> Result<Cut, Memory>
         ensures { IfOk result (λ c. c ≡ self.now) }
     {
+        let alloc = *self.marks.allocator();
         Ok(Cut {
-            marks: self.marks.clone()?,
-            positions: self.positions.clone()?,
-            kept: self.kept.clone()?,
+            marks: Vec::from_slice(alloc, self.marks.as_slice())?,
+            positions: Vec::from_slice(alloc, self.positions.as_slice())?,
+            kept: Vec::from_slice(alloc, self.kept.as_slice())?,
         })
     }
 
@@ -306,6 +309,28 @@ impl Cut {
         self.close(progress.gap);
     }
 
+    /// Keeps those of the nodes that are marked by true, and deletes the others, each with all that is
+    /// below it. The nodes come from left to right. It takes no memory, and time linear in the number
+    /// of nodes and of tokens that are left, but for two searches in these for each node that is
+    /// deleted.
+    pub fn keep_nodes(&mut self, tree: &Tree, nodes: &[u32], keep: &[bool])
+        requires of { IsCutOf tree.now self.old }
+        requires each { length keep.now ≡ length nodes.now }
+        requires can { CanDrop tree.now.form tree.now.start (cut_tree tree.now self.old) (dropped nodes.now keep.now) }
+        ensures tree { cut_tree tree.now self.new ≡ without_nodes (dropped nodes.now keep.now) (cut_tree tree.now self.old) }
+        ensures of { IsCutOf tree.now self.new }
+    {
+        tree_laws();
+        let _entries = tree.nodes();
+        let mut gap = Gap { from: 0, to: 0 };
+        for index in 0..nodes.len() {
+            if !keep[index] {
+                gap = self.drop_node(tree, nodes[index], gap);
+            }
+        }
+        self.close(gap);
+    }
+
     /// Replaces a regular node by one below it that fits its slot. It takes no memory, and time
     /// linear in the number of tokens that are left from the first one of the node on.
     pub fn replace(&mut self, tree: &Tree, compat: &Compat, node: u32, by: u32)
@@ -512,6 +537,30 @@ impl Cut {
         ensures to { result.to ≡ gap.to + count }
     {
         skip_next(self.kept.as_slice(), gap, count)
+    }
+
+    /// Deletes the next of several nodes: the tokens that are between the gap and the node's stay, and
+    /// the node's are to be removed.
+    fn drop_node(&mut self, tree: &Tree, node: u32, gap: Gap) -> Gap
+        requires { CanDropNext tree.now node self.old gap }
+        ensures { HasDroppedNext tree.now node self.old gap self.new result }
+    {
+        tree_laws();
+        let entry = tree.nodes()[node as usize];
+        let before = self.count_until(entry.first, gap);
+        let end = self.count_until(entry.end, gap);
+        let kept = self.keep_tokens(gap, before);
+        self.mark_deleted(node);
+        self.skip_tokens(kept, end - before)
+    }
+
+    /// How many of the tokens after the gap are before the bound.
+    fn count_until(&self, bound: u32, gap: Gap) -> usize
+        requires gap { gap.to ≤ length self.now.kept }
+        requires rising { IsStrictlyIncreasing (drop gap.to self.now.kept) }
+        ensures { IsSplitAt (drop gap.to self.now.kept) bound result }
+    {
+        count_before(&self.kept[gap.to..], bound)
     }
 
     /// Marks the node as deleted; its tokens are still there.

@@ -6,7 +6,8 @@
 //!
 //! Read `specs/Cuts.antt` first: `cut_tree` is the plain tree that is left, and `IsCutOf` says what
 //! holds of each cut of a tree. An edit gives exactly the tree that was left, with that one edit;
-//! `keep_elements` keeps some elements of a list and deletes the others at once.
+//! `keep_elements` keeps some elements of a list and deletes the others at once, and `keep_nodes` does
+//! so with nodes of several lists and optionals (`specs/WithoutNodes.antt`).
 #![tactic(auto)]
 
 mod children;
