@@ -1,0 +1,96 @@
+-- Each list of bytes lacks the first line, is a journal, or is bad at some offset.
+use Rattle.std.proofs.Common.{◌≡◌, ◌⊎◌, inl, inr, ℕ, zero, suc, ◌+◌, ◌^◌, ◌<◌, List, [], ◌∷◌, ◌++◌, Ok, Err, eqb, length, take, drop, refl, sym, ap, ◌∙◌, subst, arith, append_assoc, length-append}
+use Rattle.std.specs.Cmp.Lexicographic.{pointwise}
+use Rattle.std.proofs.lemmas.Bool.{both_ways, cases_Bool}
+use Rattle.std.proofs.lemmas.Bool.Decides.{Decides-eqb}
+use Rattle.std.proofs.lemmas.Slice.Eq.{starts_is}
+use Rattle.reduce_journal.specs.declared.event.Event.{Event}
+use Rattle.reduce_journal.specs.declared.numbers.Mismatch.TheVariants.{Torn, Bad}
+use Rattle.reduce_journal.specs.History.{History, records_with, AllMayFollow}
+use Rattle.reduce_journal.specs.Journal.{head, event_text, journal_text, LacksHead, BeginsWithEvent, IsTorn, IsJournalOf, IsBadAt}
+use Rattle.reduce_journal.specs.Reading.{Parse, event_at}
+use Rattle.reduce_journal.proofs.Events.{event_decides}
+use Rattle.reduce_journal.proofs.Journals.{count_after, count_from_none, few_records, some_text, texts}
+
+-- these bytes after so many records: events, and a tail that is torn or bad
+record Parts (records : ℕ) (bytes : List ℕ) : Type 0 where
+  events : History
+  tail : List ℕ
+  follow : AllMayFollow records events
+  whole : bytes ≡ texts events ++ tail
+  ends : IsTorn (count_after records events) tail ⊎ ((¬ BeginsWithEvent (count_after records events) tail) × (¬ IsTorn (count_after records events) tail))
+
+one_step : (k : ℕ) (bytes : List ℕ) → k < 2 ^ 64 → ((e : Event) (later : List ℕ) → length later < length bytes → Parts (records_with k e) later)
+    → (r : Parse Event) → event_at k bytes ≡ r → Parts k bytes
+one_step k bytes fits later (Ok found) e =
+    let s = (event_decides k fits).sound bytes found e in
+    let rest = later found.0 found.1 (omega (arith, ap length s.1, length-append (event_text found.0) found.1, some_text found.0)) in
+    record {
+      events = found.0 ∷ rest.events;
+      tail = rest.tail;
+      follow = (s.0, rest.follow);
+      whole = s.1 ∙ (ap (λ t. event_text found.0 ++ t) rest.whole ∙ sym (append_assoc (event_text found.0) (texts rest.events) rest.tail));
+      ends = rest.ends;
+    }
+one_step k bytes fits later (Err Torn) e = record {
+  events = [];
+  tail = bytes;
+  follow = tt;
+  whole = refl;
+  ends = inl ((event_decides k fits).torn bytes e);
+}
+one_step k bytes fits later (Err Bad) e =
+    let d = event_decides k fits in
+    record {
+      events = [];
+      tail = bytes;
+      follow = tt;
+      whole = refl;
+      ends = inr ((λ b. let there = sym e ∙ (ap (event_at k) b.3 ∙ d.back b.0 b.1 b.2) in cc there), (λ b. let there = sym e ∙ d.cut bytes b in cc there));
+    }
+
+parts : (fuel k : ℕ) (bytes : List ℕ) → length bytes < fuel → k + length bytes < 2 ^ 64 → Parts k bytes
+parts zero k bytes less fits = absurd (omega arith)
+parts (suc fuel) k bytes less fits =
+    one_step k bytes (omega (arith, fits))
+    (λ e later shorter. let few = few_records k e in parts fuel (records_with k e) later (omega (arith, less, shorter)) (omega (arith, fits, shorter, few)))
+    (event_at k bytes) refl
+
+after_head : (bytes rest : List ℕ) → bytes ≡ head ++ rest → Parts 0 rest → ((events : History) × (torn : ℕ) × IsJournalOf bytes events torn) ⊎ ((offset : ℕ) × IsBadAt bytes offset)
+after_head bytes rest begins p =
+    let whole : bytes ≡ journal_text p.events ++ p.tail = begins ∙ (ap (λ t. head ++ t) p.whole ∙ sym (append_assoc head (texts p.events) p.tail)) in
+    elim p.ends [
+      | inl torn ↦ inl (
+        p.events,
+        length p.tail,
+        record {
+          tail = p.tail;
+          before = record { history = p.follow; whole = whole };
+          is_torn = subst (λ n. IsTorn n p.tail) (count_from_none p.events) torn;
+          torn_bytes = refl;
+        },
+      )
+      | inr bad ↦ inr (
+        length (journal_text p.events),
+        record {
+          events = p.events;
+          tail = p.tail;
+          before = record { history = p.follow; whole = whole };
+          at_offset = refl;
+          no_event = subst (λ n. ¬ BeginsWithEvent n p.tail) (count_from_none p.events) bad.0;
+          not_torn = subst (λ n. ¬ IsTorn n p.tail) (count_from_none p.events) bad.1;
+        },
+      )
+    ]
+
+pub each_bytes : (bytes : List ℕ) → length bytes < 2 ^ 64 → LacksHead bytes ⊎ (((events : History) × (torn : ℕ) × IsJournalOf bytes events torn) ⊎ ((offset : ℕ) × IsBadAt bytes offset))
+each_bytes bytes fits =
+    let test = pointwise eqb head (take 17 bytes) in
+    let is = starts_is Decides-eqb bytes head test refl in
+    elim (cases_Bool test) [
+      | inl there ↦
+          let begins = is.0 there in
+          inr (after_head bytes (drop 17 bytes) begins (parts (suc (length (drop 17 bytes))) 0 (drop 17 bytes) (omega arith)
+          (omega (arith, fits, ap length begins, length-append head (drop 17 bytes)))))
+      | inr missing ↦ inl (λ rest e. both_ways test missing (is.1 rest e))
+    ]

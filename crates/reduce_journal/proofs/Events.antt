@@ -1,0 +1,327 @@
+-- An event of a journal is read exactly.
+use Rattle.std.proofs.Common.{◌≡◌, ◌≢◌, inl, inr, ℕ, ◌+◌, ◌-◌, ◌^◌, ◌<◌, ◌≤◌, List, [], ◌∷◌, ◌++◌, Ok, Err, length, take, drop, replicate, Bool, refl, sym, ap, ◌∙◌, subst, arith, append_assoc, length-append, eqb, ltb}
+use Rattle.std.specs.Prelude.{if◌then◌else◌}
+use Rattle.std.proofs.lemmas.Bool.{cases_Bool, cases_lt, eqb-true, ltb-true, ltb-false, le-ltb, ne_eqb}
+use Rattle.std.proofs.lemmas.List.{take_at, drop_at, take-append-drop, length-take-le, length-replicate, length-drop, drop_all}
+use Rattle.script_gate.specs.declared.gate.Verdict.{Verdict}
+use Rattle.script_gate.specs.declared.gate.Verdict.TheVariants.{Yes, No}
+use Rattle.reduce_journal.specs.declared.event.Event.{Event}
+use Rattle.reduce_journal.specs.declared.event.Event.TheVariants.{Recorded, Committed}
+use Rattle.reduce_journal.specs.declared.numbers.Mismatch.TheVariants.{Torn, Bad}
+use Rattle.reduce_journal.specs.History.{MayFollow}
+use Rattle.reduce_journal.specs.Journal.{event_text}
+use Rattle.reduce_journal.specs.Reading.{Parse, ◌>>=◌, after, verdict_at, text_at, number_at, positive_at, record_at, commit_at, event_at}
+use Rattle.reduce_journal.proofs.Lists.{one_cut, same_found, some_after, step_ok, step_err}
+use Rattle.reduce_journal.proofs.Decides.{Begins, Decides, after_byte, after_ok, after_torn, in_order, renamed}
+use Rattle.reduce_journal.proofs.DecimalNumbers.{IsPositive, ended, number_decides, positive_decides}
+
+-- the letter of a verdict
+abbrev letter : Verdict → ℕ
+letter Yes = 121
+letter No = 110
+
+abbrev any_verdict : Verdict → Type 0
+any_verdict verdict = Unit {0}
+
+abbrev spelled_verdict : Verdict → List ℕ
+spelled_verdict verdict = letter verdict ∷ []
+
+verdict_found : (b : ℕ) (rest : List ℕ) (found : Verdict × List ℕ) → verdict_at (b ∷ rest) ≡ Ok found → b ∷ rest ≡ spelled_verdict found.0 ++ found.1
+verdict_found b rest found e = elim (cases_Bool (eqb b 121)) [
+  | inl holds ↦
+      let is = same_found _ _ (rw holds at e) in
+      ap (λ c. c ∷ rest) (eqb-true b 121 holds) ∙ ap (λ (f : Verdict × List ℕ). spelled_verdict f.0 ++ f.1) is
+  | inr other ↦ elim (cases_Bool (eqb b 110)) [
+    | inl holds ↦
+        let is = same_found _ _ (rw (other, holds) at e) in
+        ap (λ c. c ∷ rest) (eqb-true b 110 holds) ∙ ap (λ (f : Verdict × List ℕ). spelled_verdict f.0 ++ f.1) is
+    | inr neither ↦ cc (rw (other, neither) at e)
+  ]
+]
+
+verdict_torn : (bytes : List ℕ) → verdict_at bytes ≡ Err Torn → bytes ≡ []
+verdict_torn [] e = refl
+verdict_torn (b ∷ rest) e = elim (cases_Bool (eqb b 121)) [
+  | inl holds ↦ cc (rw holds at e)
+  | inr other ↦ elim (cases_Bool (eqb b 110)) [
+    | inl holds ↦ cc (rw (other, holds) at e)
+    | inr neither ↦ cc (rw (other, neither) at e)
+  ]
+]
+
+verdict_decides : Decides any_verdict spelled_verdict verdict_at
+verdict_decides = record {
+  back = back;
+  sound = sound;
+  torn = λ bytes e. (Yes, 121 ∷ [], tt, (λ n. cc n), ap (λ bs. bs ++ 121 ∷ []) (sym (verdict_torn bytes e)));
+  cut = λ bytes b. ap verdict_at (one_cut (letter b.0) bytes b.1 b.4 b.3).0;
+}
+  where
+    back : (v : Verdict) (rest : List ℕ) → any_verdict v → verdict_at (spelled_verdict v ++ rest) ≡ Ok (v, rest)
+    back Yes rest p = refl
+    back No rest p = refl
+
+    sound : (bytes : List ℕ) (found : Verdict × List ℕ) → verdict_at bytes ≡ Ok found → any_verdict found.0 × (bytes ≡ spelled_verdict found.0 ++ found.1)
+    sound [] found e = cc e
+    sound (b ∷ rest) found e = (tt, verdict_found b rest found e)
+
+-- a text and its newline
+abbrev with_newline : List ℕ → List ℕ
+with_newline text = text ++ 10 ∷ []
+
+-- some elements are no more than their length less one
+some_length : {A : Type 0} (xs : List A) → xs ≢ [] → 0 < length xs
+some_length [] some = absurd (some refl)
+some_length (x ∷ xs) some = omega arith
+
+module _ (count : ℕ) where
+  abbrev HasLength : List ℕ → Type 0
+  HasLength text = length text ≡ count
+
+  text_back : (text rest : List ℕ) → HasLength text → text_at count (with_newline text ++ rest) ≡ Ok (text, rest)
+  unfolding text_at
+  text_back text rest has =
+      let whole = append_assoc text (10 ∷ []) rest in
+      let long = le-ltb (length (text ++ 10 ∷ rest)) count (omega (arith, length-append text (10 ∷ rest), has)) in
+      ap (text_at count) whole ∙ rw (long, drop_at text (10 ∷ rest) count has, take_at text (10 ∷ rest) count has) refl
+
+  text_sound : (bytes : List ℕ) (found : List ℕ × List ℕ) → text_at count bytes ≡ Ok found → HasLength found.0 × (bytes ≡ with_newline found.0 ++ found.1)
+  unfolding text_at
+  text_sound bytes found e = elim (cases_Bool (ltb (length bytes) count)) [
+    | inl short ↦ cc (rw short at e)
+    | inr long ↦
+        let s = step_ok (after 10 (drop count bytes)) (λ rest. Ok (take count bytes, rest)) found (rw long at e) in
+        let is = same_found _ _ s.2 in
+        let text : take count bytes ≡ found.0 = ap (λ (f : List ℕ × List ℕ). f.0) is in
+        let rest : s.0 ≡ found.1 = ap (λ (f : List ℕ × List ℕ). f.1) is in (
+          ap length (sym text) ∙ length-take-le count bytes (ltb-false _ _ long),
+          sym (take-append-drop count bytes) ∙ (ap (λ r. take count bytes ++ r) (after_ok 10 (drop count bytes) s.0 s.1)
+              ∙ (ap (λ t. t ++ 10 ∷ s.0) text ∙ (ap (λ r. found.0 ++ 10 ∷ r) rest ∙ sym (append_assoc found.0 (10 ∷ []) found.1)))),
+        )
+  ]
+
+  text_torn : (bytes : List ℕ) → text_at count bytes ≡ Err Torn → Begins HasLength with_newline bytes
+  unfolding text_at
+  text_torn bytes e = elim (cases_Bool (ltb (length bytes) count)) [
+    | inl short ↦
+        let missing : List ℕ = replicate (count - length bytes) 0 in (
+          bytes ++ missing,
+          missing ++ 10 ∷ [],
+          omega (arith, length-append bytes missing, length-replicate {A = ℕ} (count - length bytes) 0, ltb-true _ _ short),
+          some_after missing (10 ∷ []) (λ n. cc n),
+          append_assoc bytes missing (10 ∷ []),
+        )
+    | inr long ↦ elim (step_err (after 10 (drop count bytes)) (λ rest. Ok (take count bytes, rest)) Torn (rw long at e)) [
+      | inl h ↦
+          let all : length (drop count bytes) ≡ 0 = ap length (after_torn 10 (drop count bytes) h) in
+          (bytes, 10 ∷ [], omega (arith, all, length-drop count bytes, ltb-false _ _ long), (λ n. cc n), refl)
+      | inr s ↦ cc (s.2)
+    ]
+  ]
+
+  text_cut : (bytes : List ℕ) → Begins HasLength with_newline bytes → text_at count bytes ≡ Err Torn
+  unfolding text_at
+  text_cut bytes b =
+      let lengths : length b.0 + 1 ≡ length bytes + length b.1 = sym (length-append b.0 (10 ∷ [])) ∙ (ap length b.4 ∙ length-append bytes b.1) in
+      let some = some_length b.1 b.3 in
+      elim (cases_Bool (ltb (length bytes) count)) [
+        | inl short ↦ rw short refl
+        | inr long ↦
+            let none = drop_all count bytes (omega (arith, lengths, some, b.2)) in
+            rw (long, none) refl
+      ]
+
+  text_decides : Decides HasLength with_newline (text_at count)
+  text_decides = record { back = text_back; sound = text_sound; torn = text_torn; cut = text_cut }
+
+-- the parts of a record
+abbrev text_of : Event → List ℕ
+text_of (Recorded text verdict) = text
+text_of (Committed number) = []
+
+abbrev verdict_of : Event → Verdict
+verdict_of (Recorded text verdict) = verdict
+verdict_of (Committed number) = No
+
+abbrev number_of : Event → ℕ
+number_of (Recorded text verdict) = 0
+number_of (Committed number) = number
+
+abbrev IsShortRecord : Event → Type 0
+IsShortRecord (Recorded text verdict) = length text ≤ 1048576
+IsShortRecord (Committed number) = ⊥
+
+abbrev IsCommitTo : ℕ → Event → Type 0
+IsCommitTo records (Recorded text verdict) = ⊥
+IsCommitTo records (Committed number) = IsPositive records number
+
+-- what comes after a record's first letter
+abbrev record_text : Event → List ℕ
+record_text e = 32 ∷ (spelled_verdict (verdict_of e) ++ (32 ∷ (ended (length (text_of e)) ++ with_newline (text_of e))))
+
+-- the records with this verdict
+abbrev HasVerdict : Verdict → Event → Type 0
+HasVerdict verdict e = (verdict_of e ≡ verdict) × IsShortRecord e
+
+of_length : (verdict : Verdict) (count : ℕ) → count ≤ 1048576
+    → Decides (λ e. (length (text_of e) ≡ count) × HasVerdict verdict e) (λ e. with_newline (text_of e)) (λ bytes. text_at count bytes >>= λ found. Ok (Recorded found.0 verdict, found.1))
+of_length verdict count short =
+    renamed (HasLength count) with_newline (text_at count) (λ e. (length (text_of e) ≡ count) × HasVerdict verdict e) text_of (λ text. Recorded text verdict)
+    has (λ text is. ((is, (refl, omega (arith, is, short))), refl)) (text_decides count)
+  where
+    has : (e : Event) → (length (text_of e) ≡ count) × HasVerdict verdict e → HasLength count (text_of e) × (Recorded (text_of e) verdict ≡ e)
+    has (Recorded text v) p = (p.0, ap (λ w. Recorded text w) (sym p.1.0))
+    has (Committed number) p = absurd p.1.1
+
+with_verdict : (verdict : Verdict) → Decides (HasVerdict verdict) (λ e. ended (length (text_of e)) ++ with_newline (text_of e))
+    (λ bytes. number_at 1048576 bytes >>= λ count. text_at count.0 count.1 >>= λ found. Ok (Recorded found.0 verdict, found.1))
+with_verdict verdict =
+    in_order (λ n. n ≤ 1048576) ended (number_at 1048576) (HasVerdict verdict) (λ e. length (text_of e)) (λ e. with_newline (text_of e))
+    (λ count bytes. text_at count bytes >>= λ found. Ok (Recorded found.0 verdict, found.1))
+    (number_decides 1048576 (omega arith)) has (of_length verdict)
+    (λ count short. (Recorded (replicate count 0) verdict, length-replicate {A = ℕ} count 0, (refl, omega (arith, short, length-replicate {A = ℕ} count 0))))
+  where
+    has : (e : Event) → HasVerdict verdict e → length (text_of e) ≤ 1048576
+    has (Recorded text v) p = p.1
+    has (Committed number) p = absurd p.1
+
+record_decides : Decides IsShortRecord record_text record_at
+unfolding record_at
+record_decides =
+    after_byte 32 IsShortRecord (λ e. spelled_verdict (verdict_of e) ++ (32 ∷ (ended (length (text_of e)) ++ with_newline (text_of e))))
+    (λ bytes. verdict_at bytes >>= λ verdict. after 32 verdict.1 >>= λ number. number_at 1048576 number >>= λ count. text_at count.0 count.1 >>= λ found. Ok (Recorded found.0 verdict.0, found.1))
+    (Recorded [] Yes, omega arith)
+    (in_order any_verdict spelled_verdict verdict_at IsShortRecord verdict_of (λ e. 32 ∷ (ended (length (text_of e)) ++ with_newline (text_of e)))
+    (λ verdict bytes. after 32 bytes >>= λ number. number_at 1048576 number >>= λ count. text_at count.0 count.1 >>= λ found. Ok (Recorded found.0 verdict, found.1))
+    verdict_decides (λ e p. tt)
+    (λ verdict _. after_byte 32 (HasVerdict verdict) (λ e. ended (length (text_of e)) ++ with_newline (text_of e))
+    (λ bytes. number_at 1048576 bytes >>= λ count. text_at count.0 count.1 >>= λ found. Ok (Recorded found.0 verdict, found.1))
+    (Recorded [] verdict, (refl, omega arith)) (with_verdict verdict))
+    (λ verdict _. (Recorded [] verdict, refl, omega arith)))
+
+-- what comes after a commit's first letter
+abbrev commit_text : Event → List ℕ
+commit_text e = 32 ∷ ended (number_of e)
+
+commit_rest : (records : ℕ) → records < 2 ^ 64 → 0 < records
+    → Decides (IsCommitTo records) commit_text (λ bytes. after 32 bytes >>= λ rest. positive_at records rest >>= λ number. Ok (Committed number.0, number.1))
+commit_rest records fits some =
+    after_byte 32 (IsCommitTo records) (λ e. ended (number_of e)) (λ rest. positive_at records rest >>= λ number. Ok (Committed number.0, number.1))
+    (Committed 1, (omega arith, some))
+    (renamed (IsPositive records) ended (positive_at records) (IsCommitTo records) number_of (λ n. Committed n)
+    has (λ n p. (p, refl)) (positive_decides records fits some))
+  where
+    has : (e : Event) → IsCommitTo records e → IsPositive records (number_of e) × (Committed (number_of e) ≡ e)
+    has (Recorded text v) p = absurd p
+    has (Committed number) p = (p, refl)
+
+commit_decides : (records : ℕ) → records < 2 ^ 64 → 0 < records → Decides (IsCommitTo records) commit_text (commit_at records)
+unfolding commit_at
+commit_decides records fits some =
+    let there = ne_eqb records 0 (λ e. omega (arith, e, some)) in
+    let read : Bool → List ℕ → Parse Event = λ none bytes.
+    if none then Err Bad else (after 32 bytes >>= λ rest. positive_at records rest >>= λ number. Ok (Committed number.0, number.1)) in
+    subst (λ none. Decides (IsCommitTo records) commit_text (read none)) (sym there) (commit_rest records fits some)
+
+-- the texts of both events, by their first letter
+record_spelled : (records : ℕ) (e : Event) → IsShortRecord e → MayFollow records e × (event_text e ≡ 82 ∷ record_text e)
+record_spelled records (Recorded text Yes) p = (record { text = p; names = tt }, refl)
+record_spelled records (Recorded text No) p = (record { text = p; names = tt }, refl)
+record_spelled records (Committed number) p = absurd p
+
+commit_spelled : (records : ℕ) (e : Event) → records < 2 ^ 64 → IsCommitTo records e → MayFollow records e × (event_text e ≡ 67 ∷ commit_text e)
+commit_spelled records (Recorded text verdict) fits p = absurd p
+commit_spelled records (Committed number) fits p = (record { text = tt; names = (p.0, p.1, omega (arith, p, fits)) }, refl)
+
+-- without a record there is no commit
+no_commit : (bytes : List ℕ) → commit_at 0 bytes ≡ Err Bad
+unfolding commit_at
+no_commit bytes = refl
+
+module _ (records : ℕ) (fits : records < 2 ^ 64) where
+  event_back : (e : Event) (rest : List ℕ) → MayFollow records e → event_at records (event_text e ++ rest) ≡ Ok (e, rest)
+  unfolding event_at
+  event_back (Recorded text Yes) rest p = record_decides.back (Recorded text Yes) rest p.text
+  event_back (Recorded text No) rest p = record_decides.back (Recorded text No) rest p.text
+  event_back (Committed number) rest p =
+      (commit_decides records fits (omega (arith, p.names))).back (Committed number) rest (p.names.0, p.names.1)
+
+  event_sound : (bytes : List ℕ) (found : Event × List ℕ) → event_at records bytes ≡ Ok found → MayFollow records found.0 × (bytes ≡ event_text found.0 ++ found.1)
+  unfolding event_at
+  event_sound [] found e = cc e
+  event_sound (b ∷ bytes) found e = elim (cases_Bool (eqb b 82)) [
+    | inl is ↦
+        let s = record_decides.sound bytes found (rw is at e) in
+        let t = record_spelled records found.0 s.0 in
+        (t.0, ap (λ c. c ∷ bytes) (eqb-true b 82 is) ∙ (ap (λ r. 82 ∷ r) s.1 ∙ ap (λ r. r ++ found.1) (sym t.1)))
+    | inr other ↦ elim (cases_Bool (eqb b 67)) [
+      | inl is ↦
+          let at_rest : commit_at records bytes ≡ Ok found = rw (other, is) at e in
+          let some : 0 < records = some_record bytes found at_rest in
+          let s = (commit_decides records fits some).sound bytes found at_rest in
+          let t = commit_spelled records found.0 fits s.0 in
+          (t.0, ap (λ c. c ∷ bytes) (eqb-true b 67 is) ∙ (ap (λ r. 67 ∷ r) s.1 ∙ ap (λ r. r ++ found.1) (sym t.1)))
+      | inr neither ↦ cc (rw (other, neither) at e)
+    ]
+  ]
+    where
+      some_record : (bytes : List ℕ) (found : Event × List ℕ) → commit_at records bytes ≡ Ok found → 0 < records
+      some_record bytes found e = elim (cases_lt 0 records) [
+        | inl some ↦ some
+        | inr none ↦ let is_zero : records ≡ 0 = omega (arith, none) in cc (sym (no_commit bytes) ∙ (ap (λ k. commit_at k bytes) (sym is_zero) ∙ e))
+      ]
+
+  event_torn : (bytes : List ℕ) → event_at records bytes ≡ Err Torn → Begins (MayFollow records) event_text bytes
+  unfolding event_at
+  event_torn [] e = (Recorded [] Yes, event_text (Recorded [] Yes), record { text = omega arith; names = tt }, (λ n. cc n), refl)
+  event_torn (b ∷ bytes) e = elim (cases_Bool (eqb b 82)) [
+    | inl is ↦
+        let s = record_decides.torn bytes (rw is at e) in
+        let t = record_spelled records s.0 s.2 in
+        (s.0, s.1, t.0, s.3, t.1 ∙ (ap (λ r. 82 ∷ r) s.4 ∙ ap (λ c. c ∷ (bytes ++ s.1)) (sym (eqb-true b 82 is))))
+    | inr other ↦ elim (cases_Bool (eqb b 67)) [
+      | inl is ↦
+          let at_rest : commit_at records bytes ≡ Err Torn = rw (other, is) at e in
+          let some : 0 < records = some_record bytes at_rest in
+          let s = (commit_decides records fits some).torn bytes at_rest in
+          let t = commit_spelled records s.0 fits s.2 in
+          (s.0, s.1, t.0, s.3, t.1 ∙ (ap (λ r. 67 ∷ r) s.4 ∙ ap (λ c. c ∷ (bytes ++ s.1)) (sym (eqb-true b 67 is))))
+      | inr neither ↦ cc (rw (other, neither) at e)
+    ]
+  ]
+    where
+      some_record : (bytes : List ℕ) → commit_at records bytes ≡ Err Torn → 0 < records
+      some_record bytes e = elim (cases_lt 0 records) [
+        | inl some ↦ some
+        | inr none ↦ let is_zero : records ≡ 0 = omega (arith, none) in cc (sym (no_commit bytes) ∙ (ap (λ k. commit_at k bytes) (sym is_zero) ∙ e))
+      ]
+
+  record_cut : (b : ℕ) (bytes : List ℕ) (text : List ℕ) (verdict : Verdict) (more : List ℕ) → length text ≤ 1048576 → more ≢ []
+      → 82 ∷ record_text (Recorded text verdict) ≡ b ∷ (bytes ++ more) → event_at records (b ∷ bytes) ≡ Err Torn
+  unfolding event_at
+  record_cut b bytes text verdict more short some e =
+      let first : 82 ≡ b = cc in
+      let rest : record_text (Recorded text verdict) ≡ bytes ++ more = cc in
+      ap (λ c. event_at records (c ∷ bytes)) (sym first) ∙ record_decides.cut bytes (Recorded text verdict, more, short, some, rest)
+
+  commit_cut : (b : ℕ) (bytes : List ℕ) (number : ℕ) (more : List ℕ) → IsPositive records number → more ≢ []
+      → 67 ∷ commit_text (Committed number) ≡ b ∷ (bytes ++ more) → event_at records (b ∷ bytes) ≡ Err Torn
+  unfolding event_at
+  commit_cut b bytes number more p some e =
+      let first : 67 ≡ b = cc in
+      let rest : commit_text (Committed number) ≡ bytes ++ more = cc in
+      ap (λ c. event_at records (c ∷ bytes)) (sym first) ∙ (commit_decides records fits (omega (arith, p))).cut bytes (Committed number, more, p, some, rest)
+
+  event_cut : (bytes : List ℕ) → Begins (MayFollow records) event_text bytes → event_at records bytes ≡ Err Torn
+  unfolding event_at
+  event_cut [] b = refl
+  event_cut (c ∷ bytes) b = by_event b.0 b.1 b.2 b.3 b.4
+    where
+      by_event : (e : Event) (more : List ℕ) → MayFollow records e → more ≢ [] → event_text e ≡ c ∷ (bytes ++ more) → event_at records (c ∷ bytes) ≡ Err Torn
+      by_event (Recorded text Yes) more p some e = record_cut c bytes text Yes more p.text some e
+      by_event (Recorded text No) more p some e = record_cut c bytes text No more p.text some e
+      by_event (Committed number) more p some e = commit_cut c bytes number more (p.names.0, p.names.1) some e
+
+  -- events after so many records
+  pub event_decides : Decides (MayFollow records) event_text (event_at records)
+  event_decides = record { back = event_back; sound = event_sound; torn = event_torn; cut = event_cut }

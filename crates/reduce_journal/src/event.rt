@@ -1,0 +1,11 @@
+use script_gate::{Bytes, Verdict};
+
+/// What happened in a reduction.
+#[derive(Drop)]
+pub enum Event {
+    /// A text got its verdict: a record. The records of a history are numbered from 1, in their
+    /// order.
+    Recorded { text: Bytes, verdict: Verdict },
+    /// The reducer was answered with the verdict of the record with this number.
+    Committed { number: u64 },
+}

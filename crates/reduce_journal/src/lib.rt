@@ -1,0 +1,31 @@
+//! The journal of a reduction, as it is written and read, and the report at its end.
+//!
+//! A reduction's history is a list of [`Event`]s: verdicts as they came, and the answers that the
+//! reducer was given. Read `specs/History.antt` and `specs/Journal.antt` first. [`write_head`] begins
+//! a journal and [`write_event`] adds to it; [`read_journal`] reads it back, also where the run that
+//! wrote it was killed. [`report`] makes the five lines that a reduction ends with. So a history is
+//! kept:
+//!
+//! ```
+//! write_head(&mut journal)?;
+//! write_event(&mut journal, &Event::Recorded { text, verdict })?;
+//! write_event(&mut journal, &Event::Committed { number: 1 })?;
+//! ```
+#![tactic(auto)]
+
+mod counts;
+mod event;
+mod laws;
+mod numbers;
+mod parts;
+mod read;
+mod write;
+
+pub use counts::{Counts, report};
+pub use event::Event;
+pub use faults::Memory;
+pub use laws::{
+    bytes_are_journals_or_bad, equal_bytes_have_one_history, prefixes_are_read, written_is_read,
+};
+pub use read::{Journal, JournalFault, read_journal};
+pub use write::{write_event, write_head};

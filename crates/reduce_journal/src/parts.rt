@@ -1,0 +1,104 @@
+//! One event of a journal.
+
+ghost use Rattle.std.specs.Prelude.{◌≡◌, IfOk};
+ghost use Rattle.reduce_journal.specs.Reading.{Gives, commit_at, event_at, lent_event, record_at, text_at, verdict_at};
+
+use crate::event::Event;
+use crate::numbers::{Mismatch, after, number_at, positive_at};
+use faults::Memory;
+use script_gate::{Bytes, Verdict};
+use std::alloc::Global;
+
+/// The most bytes that the text of a record has.
+const LONGEST_TEXT: u64 = 1_048_576;
+
+/// An event whose text lies in the journal.
+#[derive(Clone, Copy)]
+pub(crate) enum LentEvent<'a> {
+    /// A text got its verdict.
+    Recorded { text: &'a [u8], verdict: Verdict },
+    /// The reducer was answered with the record of this number.
+    Committed { number: u64 },
+}
+
+impl LentEvent<'_> {
+    /// The event, with a copy of its text.
+    pub(crate) fn to_event(&self, alloc: Global) -> Result<Event, Memory>
+        ensures { IfOk result (λ event. event ≡ lent_event self.now) }
+    {
+        match self {
+            LentEvent::Recorded { text, verdict } => {
+                let text = Bytes::from_slice(alloc, *text)?;
+                Ok(Event::Recorded {
+                    text,
+                    verdict: *verdict,
+                })
+            }
+            LentEvent::Committed { number } => Ok(Event::Committed { number: *number }),
+        }
+    }
+}
+
+/// The event that these bytes begin with, after so many records, and the bytes after it.
+#[tactic(auto, unfolding(crate::specs::Reading::event_at))]
+pub(crate) fn event_at(records: u64, bytes: &[u8]) -> Result<(LentEvent<'_>, &[u8]), Mismatch>
+    ensures { Gives (λ found. (lent_event found.0, found.1.now)) result (event_at records bytes.now) }
+{
+    match bytes {
+        [] => Err(Mismatch::Torn),
+        [b'R', rest @ ..] => record_at(rest),
+        [b'C', rest @ ..] => commit_at(records, rest),
+        [_, ..] => Err(Mismatch::Bad),
+    }
+}
+
+/// The record that these bytes begin with but for its first letter.
+#[tactic(auto, unfolding(crate::specs::Reading::record_at))]
+fn record_at(bytes: &[u8]) -> Result<(LentEvent<'_>, &[u8]), Mismatch>
+    ensures { Gives (λ found. (lent_event found.0, found.1.now)) result (record_at bytes.now) }
+{
+    let letter = after(b' ', bytes)?;
+    let (verdict, rest) = verdict_at(letter)?;
+    let number = after(b' ', rest)?;
+    let (count, rest) = number_at(LONGEST_TEXT, number)?;
+    let (text, rest) = text_at(count as usize, rest)?;
+    Ok((LentEvent::Recorded { text, verdict }, rest))
+}
+
+/// The commit that these bytes begin with but for its first letter, after so many records.
+#[tactic(auto, unfolding(crate::specs::Reading::commit_at))]
+fn commit_at(records: u64, bytes: &[u8]) -> Result<(LentEvent<'_>, &[u8]), Mismatch>
+    ensures { Gives (λ found. (lent_event found.0, found.1.now)) result (commit_at records bytes.now) }
+{
+    if records == 0 {
+        return Err(Mismatch::Bad);
+    }
+    let rest = after(b' ', bytes)?;
+    let (number, rest) = positive_at(records, rest)?;
+    Ok((LentEvent::Committed { number }, rest))
+}
+
+/// The verdict whose letter these bytes begin with.
+fn verdict_at(bytes: &[u8]) -> Result<(Verdict, &[u8]), Mismatch>
+    ensures { Gives (λ found. (found.0, found.1.now)) result (verdict_at bytes.now) }
+{
+    match bytes {
+        [] => Err(Mismatch::Torn),
+        [b'y', rest @ ..] => Ok((Verdict::Yes, rest)),
+        [b'n', rest @ ..] => Ok((Verdict::No, rest)),
+        [_, ..] => Err(Mismatch::Bad),
+    }
+}
+
+/// The text of so many bytes that these bytes begin with, and what follows the newline after it.
+#[tactic(auto, unfolding(crate::specs::Reading::text_at))]
+fn text_at(count: usize, bytes: &[u8]) -> Result<(&[u8], &[u8]), Mismatch>
+    ensures { Gives (λ found. (found.0.now, found.1.now)) result (text_at count bytes.now) }
+{
+    if bytes.len() < count {
+        return Err(Mismatch::Torn);
+    }
+    let (text, rest) = bytes.split_at(count);
+    let rest = after(b'\n', rest)?;
+    Ok((text, rest))
+}
