@@ -1,0 +1,5 @@
+pub mod AllowedTrials
+pub mod KeptDepth
+pub mod Lighter
+pub mod Going
+pub mod Rounds
