@@ -18,7 +18,7 @@ use Rattle.tree_cut.specs.declared.progress.Progress.{Progress}
 use Rattle.tree_cut.specs.declared.tokens.Gap.{Gap}
 use Rattle.tree_cut.specs.Children.{IsRest}
 use Rattle.tree_cut.specs.Cuts.{CanDelete, CanSelect, CutForm, HasChildren, IsCutOf, IsOccupant, ReplacementsRise, cut_tree, left_at, left_of_each, or_next, without}
-use Rattle.tree_cut.specs.Keeping.{CanPass, HasPassed, IsKeptSoFar, joined}
+use Rattle.tree_cut.specs.Keeping.{CanPass, HasPassed, IsKeptSoFar, with_trees_after}
 use Rattle.tree_cut.specs.Steps.{HasDeleted}
 use Rattle.tree_cut.specs.Tokens.{IsSplitAt, before, from_on, within}
 use Rattle.tree_cut.specs.TreeLaws.{TreeLaws}
@@ -32,7 +32,7 @@ use Rattle.tree_cut.proofs.Splits.{rises_after, take_is}
 use Rattle.tree_cut.proofs.CutFacts.{NodeFacts, index_is, node_facts}
 use Rattle.tree_cut.proofs.Positions.{children_begin, occupant_is, position_within, replacements_rise, rest_next}
 use Rattle.tree_cut.proofs.CutCalls.{element_deleted, renamed}
-use Rattle.tree_cut.proofs.Joined.{found_with, joined_count, joined_found, joined_has, joined_more, joined_without, next_flag, selected_count, selected_none, some_selected, with_again}
+use Rattle.tree_cut.proofs.TreesAfter.{found_with, after_count, after_found, after_has, after_more, after_without, next_flag, selected_count, selected_none, some_selected, with_again}
 
 none_numbered : (o : Option PlainTree) → option_map number_of o ≡ None → o ≡ None
 none_numbered None e = refl
@@ -141,20 +141,20 @@ module _ (tree : SyntaxTree) (laws : TreeLaws) (are : AreNodesOf tree.form tree.
       ahead : so.ahead ≡ PlainTrees.next u later
       ahead = sym so.ahead_is ∙ ap (λ (o : Option PlainTree). or_next o later) element.1
 
-      node : subtree list (cut_tree tree so.cut) ≡ Some (list_of (joined so.done (PlainTrees.next u later)))
-      node = so.node ∙ ap (λ (us : PlainTrees). Some (list_of (joined so.done us))) ahead
+      node : subtree list (cut_tree tree so.cut) ≡ Some (list_of (with_trees_after so.done (PlainTrees.next u later)))
+      node = so.node ∙ ap (λ (us : PlainTrees). Some (list_of (with_trees_after so.done us))) ahead
 
-      rising : RiseAll (list + 1) (size (whole tree)) (joined so.done (PlainTrees.next u later))
-      rising = (subtree_within 0 (size (whole tree)) (cut_tree tree so.cut) (tree_rises tree laws are so.cut so.of) list (list_of (joined so.done (PlainTrees.next u later))) node).1.1
+      rising : RiseAll (list + 1) (size (whole tree)) (with_trees_after so.done (PlainTrees.next u later))
+      rising = (subtree_within 0 (size (whole tree)) (cut_tree tree so.cut) (tree_rises tree laws are so.cut so.of) list (list_of (with_trees_after so.done (PlainTrees.next u later))) node).1.1
 
       found : subtree n (cut_tree tree so.cut) ≡ Some u
       found =
-          let children = joined_found (list + 1) (size (whole tree)) so.done u later rising in
-          let within = found_among_within (list + 1) (size (whole tree)) (joined so.done (PlainTrees.next u later)) rising (number_of u) u children in
-          let below : subtree (number_of u) (list_of (joined so.done (PlainTrees.next u later))) ≡ Some u =
-          subtree_below (number_of u) list can.rule can.alt (joined so.done (PlainTrees.next u later)) (λ (e : list ≡ number_of u). omega (arith, e, within)) ∙ children in
+          let children = after_found (list + 1) (size (whole tree)) so.done u later rising in
+          let within = found_among_within (list + 1) (size (whole tree)) (with_trees_after so.done (PlainTrees.next u later)) rising (number_of u) u children in
+          let below : subtree (number_of u) (list_of (with_trees_after so.done (PlainTrees.next u later))) ≡ Some u =
+          subtree_below (number_of u) list can.rule can.alt (with_trees_after so.done (PlainTrees.next u later)) (λ (e : list ≡ number_of u). omega (arith, e, within)) ∙ children in
           subst (λ (m : ℕ). subtree m (cut_tree tree so.cut) ≡ Some u) element.2
-          (deeper_found 0 (size (whole tree)) (cut_tree tree so.cut) (tree_rises tree laws are so.cut so.of) list (number_of u) (list_of (joined so.done (PlainTrees.next u later))) u node below)
+          (deeper_found 0 (size (whole tree)) (cut_tree tree so.cut) (tree_rises tree laws are so.cut so.of) list (number_of u) (list_of (with_trees_after so.done (PlainTrees.next u later))) u node below)
 
       facts : NodeFacts tree so.cut n u
       facts = node_facts tree laws are so.cut so.of n u found
@@ -208,8 +208,8 @@ module _ (tree : SyntaxTree) (laws : TreeLaws) (are : AreNodesOf tree.form tree.
           let many = ap count ahead in
           omega (arith, flags, many)
 
-      selected_so : selected_trees keep can.elements ≡ joined so.done (selected_trees (drop p.elements keep) (PlainTrees.next u later))
-      selected_so = so.selected ∙ ap (λ (us : PlainTrees). joined so.done (selected_trees (drop p.elements keep) us)) ahead
+      selected_so : selected_trees keep can.elements ≡ with_trees_after so.done (selected_trees (drop p.elements keep) (PlainTrees.next u later))
+      selected_so = so.selected ∙ ap (λ (us : PlainTrees). with_trees_after so.done (selected_trees (drop p.elements keep) us)) ahead
 
       -- the element is kept
       pub passes_kept : (x : PlainTree) (q : ℕ) (y : Node) (m : ℕ) (after : CutForm) (gap : Gap) → subtree p.position (whole tree) ≡ Some x → q ≡ p.position + size x → slice_get tree.nodes n ≡ Some y →
@@ -224,18 +224,18 @@ module _ (tree : SyntaxTree) (laws : TreeLaws) (are : AreNodesOf tree.form tree.
           let rest : drop gap.to after.kept ≡ tokens_later = ap (λ (i : ℕ). drop i after.kept) to ∙ next ∙ after_tokens m many in
           record {
             cut = so.cut;
-            done = joined so.done (PlainTrees.next u PlainTrees.none);
+            done = with_trees_after so.done (PlainTrees.next u PlainTrees.none);
             ahead = later;
             back = so.back;
             of = so.of;
             marks = so.marks ∙ sym marks;
             positions = so.positions ∙ sym positions;
             kept = so.kept ∙ ap (λ (l : List ℕ). A ++ l) tokens ∙ sym (append_assoc A (leaves u) tokens_later) ∙ ap (λ (l : List ℕ). l ++ tokens_later) (sym front) ∙ ap (λ (l : List ℕ). take gap.from after.kept ++ l) (sym rest);
-            node = node ∙ ap (λ (us : PlainTrees). Some (list_of us)) (sym (joined_more so.done u later));
-            tree_is = so.tree_is ∙ ap (λ (us : PlainTrees). with_subtree list (list_of us) (cut_tree tree c)) (ap (joined so.done) ahead ∙ sym (joined_more so.done u later));
+            node = node ∙ ap (λ (us : PlainTrees). Some (list_of us)) (sym (after_more so.done u later));
+            tree_is = so.tree_is ∙ ap (λ (us : PlainTrees). with_subtree list (list_of us) (cut_tree tree c)) (ap (with_trees_after so.done) ahead ∙ sym (after_more so.done u later));
             rest_is = rest_after x q e is;
             ahead_is = refl;
-            selected = selected_so ∙ ap (λ (l : List Bool). joined so.done (selected_trees l (PlainTrees.next u later))) (next_flag keep p.elements true flag) ∙ sym (joined_more so.done u (selected_trees (drop (p.elements + 1) keep) later));
+            selected = selected_so ∙ ap (λ (l : List Bool). with_trees_after so.done (selected_trees l (PlainTrees.next u later))) (next_flag keep p.elements true flag) ∙ sym (after_more so.done u (selected_trees (drop (p.elements + 1) keep) later));
             flags = more_flags;
             next = rest;
             gap = (let g = so.gap in omega (arith, from, to, g));
@@ -250,37 +250,37 @@ module _ (tree : SyntaxTree) (laws : TreeLaws) (are : AreNodesOf tree.form tree.
         did : HasDeleted tree so.cut cut' n
         did = record { marks = refl; positions = refl; kept = λ x e. ap (λ (z : Node). before z.first so.cut.kept ++ from_on z.end so.cut.kept) (same_Some y x (sym ye ∙ e)) }
 
-        selected_later : selected_trees keep can.elements ≡ joined so.done (selected_trees (drop (p.elements + 1) keep) later)
-        selected_later = selected_so ∙ ap (λ (l : List Bool). joined so.done (selected_trees l (PlainTrees.next u later))) (next_flag keep p.elements false flag)
+        selected_later : selected_trees keep can.elements ≡ with_trees_after so.done (selected_trees (drop (p.elements + 1) keep) later)
+        selected_later = selected_so ∙ ap (λ (l : List Bool). with_trees_after so.done (selected_trees l (PlainTrees.next u later))) (next_flag keep p.elements false flag)
 
-        enough : Contains keep true → 2 ≤ count (joined so.done (PlainTrees.next u later))
+        enough : Contains keep true → 2 ≤ count (with_trees_after so.done (PlainTrees.next u later))
         enough has =
             let some = some_selected keep can.elements has can.each in
             let parts = ap count selected_later in
-            let both = joined_count so.done (selected_trees (drop (p.elements + 1) keep) later) in
+            let both = after_count so.done (selected_trees (drop (p.elements + 1) keep) later) in
             let few = selected_count (drop (p.elements + 1) keep) later in
-            let all = joined_count so.done (PlainTrees.next u later) in
+            let all = after_count so.done (PlainTrees.next u later) in
             omega (arith, some, parts, both, few, all)
 
         can_delete : CanDelete tree.form (cut_tree tree so.cut) list n
         can_delete = record {
           rule = can.rule;
           alt = can.alt;
-          elements = joined so.done (PlainTrees.next u later);
+          elements = with_trees_after so.done (PlainTrees.next u later);
           symbol = can.symbol;
           node = node;
           is_list = elim can.is_list [ inl star ↦ inl star | inr plus ↦ inr (plus.0, enough plus.1) ];
-          is_element = subst (λ (m : ℕ). Contains (roots (joined so.done (PlainTrees.next u later))) m) element.2 (joined_has so.done u later);
+          is_element = subst (λ (m : ℕ). Contains (roots (with_trees_after so.done (PlainTrees.next u later))) m) element.2 (after_has so.done u later);
         }
 
         deleted_both : HasChildren list (without n) (cut_tree tree so.cut) (cut_tree tree cut') × IsCutOf tree cut'
         deleted_both = element_deleted tree laws are so.cut so.of cut' list n can_delete did
 
-        tree_after : cut_tree tree cut' ≡ with_subtree list (list_of (joined so.done later)) (cut_tree tree so.cut)
+        tree_after : cut_tree tree cut' ≡ with_subtree list (list_of (with_trees_after so.done later)) (cut_tree tree so.cut)
         tree_after =
-            deleted_both.0 can.rule can.alt (joined so.done (PlainTrees.next u later)) node
+            deleted_both.0 can.rule can.alt (with_trees_after so.done (PlainTrees.next u later)) node
             ∙ ap (λ (us : PlainTrees). with_subtree list (list_of us) (cut_tree tree so.cut))
-            (ap (λ (m : ℕ). without m (joined so.done (PlainTrees.next u later))) (sym element.2) ∙ joined_without (list + 1) (size (whole tree)) so.done u later rising)
+            (ap (λ (m : ℕ). without m (with_trees_after so.done (PlainTrees.next u later))) (sym element.2) ∙ after_without (list + 1) (size (whole tree)) so.done u later rising)
 
         same_later : left_of_each cut'.marks ts ≡ later
         same_later =
@@ -319,8 +319,8 @@ module _ (tree : SyntaxTree) (laws : TreeLaws) (are : AreNodesOf tree.form tree.
               positions = so.positions ∙ sym positions;
               kept = kept_after ∙ ap (λ (l : List ℕ). l ++ tokens_later) (sym front) ∙ ap (λ (l : List ℕ). take gap.from after.kept ++ l) (sym rest);
               node = ap (subtree list) tree_after
-                  ∙ found_with list (list_of (joined so.done later)) refl 0 (size (whole tree)) (cut_tree tree so.cut) (tree_rises tree laws are so.cut so.of) (list_of (joined so.done (PlainTrees.next u later))) node;
-              tree_is = tree_after ∙ ap (with_subtree list (list_of (joined so.done later))) so.tree_is ∙ with_again list (list_of (joined so.done so.ahead)) refl (list_of (joined so.done later)) (cut_tree tree c);
+                  ∙ found_with list (list_of (with_trees_after so.done later)) refl 0 (size (whole tree)) (cut_tree tree so.cut) (tree_rises tree laws are so.cut so.of) (list_of (with_trees_after so.done (PlainTrees.next u later))) node;
+              tree_is = tree_after ∙ ap (with_subtree list (list_of (with_trees_after so.done later))) so.tree_is ∙ with_again list (list_of (with_trees_after so.done so.ahead)) refl (list_of (with_trees_after so.done later)) (cut_tree tree c);
               rest_is = rest_after x q e is;
               ahead_is = same_later;
               selected = selected_later;
@@ -396,8 +396,8 @@ module _ (tree : SyntaxTree) (laws : TreeLaws) (are : AreNodesOf tree.form tree.
         let so = is.2 in
         let same : so.cut ≡ after = same_cut so.cut after (so.marks ∙ sym marks) (so.positions ∙ sym positions) (so.kept ∙ sym kept) in
         let none : so.ahead ≡ PlainTrees.none = sym so.ahead_is ∙ ap (left_of_each so.cut.marks) (no_more is.0 (is.1 ∙ end)) in
-        let all : selected_trees keep can.elements ≡ joined so.done so.ahead =
-        so.selected ∙ ap (λ (us : PlainTrees). joined so.done (selected_trees (drop p.elements keep) us)) none ∙ ap (joined so.done) (selected_none (drop p.elements keep) ∙ sym none) in
+        let all : selected_trees keep can.elements ≡ with_trees_after so.done so.ahead =
+        so.selected ∙ ap (λ (us : PlainTrees). with_trees_after so.done (selected_trees (drop p.elements keep) us)) none ∙ ap (with_trees_after so.done) (selected_none (drop p.elements keep) ∙ sym none) in
         let tree_is : cut_tree tree so.cut ≡ with_subtree list (list_of (selected_trees keep can.elements)) (cut_tree tree c) =
         so.tree_is ∙ ap (λ (us : PlainTrees). with_subtree list (list_of us) (cut_tree tree c)) (sym all) in
         subst (λ (d : CutForm). HasChildren list (selected_trees keep) (cut_tree tree c) (cut_tree tree d) × IsCutOf tree d) same

@@ -12,7 +12,7 @@ pub mod Ways
 pub mod Seen
 pub mod Questions
 pub mod Selections
-pub mod Joined
+pub mod TreesAfter
 pub mod Keeping
 pub mod WithoutNodes
 pub mod Dropping

@@ -16,7 +16,7 @@ use Rattle.tree_cut.specs.declared.mark.Mark.{Mark}
 use Rattle.tree_cut.specs.declared.mark.Mark.TheVariants.{Kept, Deleted, Replaced}
 use Rattle.tree_cut.specs.Cuts.{CutForm, IsCutOf, IsOccupant, ReplacementsRise, by_mark, cut_tree, deleted, itself, left_among, left_at, left_of_each, mark_at, or_next, replaced}
 use Rattle.tree_cut.specs.TreeLaws.{TreeLaws}
-use Rattle.tree_cut.specs.Children.{AreFound, IsRest}
+use Rattle.tree_cut.specs.Children.{AreSubtrees, IsRest}
 use Rattle.tree_cut.proofs.Rising.{Rises, RiseAll, cases_or, found_among_within, found_within, not_found, or_first, or_second, subtree_below, subtree_own, subtree_within, when_not}
 use Rattle.tree_cut.proofs.LeftTrees.{leaf_own, left_below, node_other, node_own}
 use Rattle.tree_cut.proofs.CutEdits.{deeper_found, node_was, none_there, whole_rises}
@@ -74,8 +74,8 @@ mutual
         | inr both ↦ subtree_among_numbered (n + size t) q ts u later both.1
       ]
 
-children_found : (find : ℕ → Option PlainTree) (t : PlainTree) (low high : ℕ) (us : PlainTrees) → RiseAll low high us → ((q : ℕ) (u : PlainTree) → subtree_among q us ≡ Some u → subtree q t ≡ Some u) → AreFound t us
-children_found find t low high PlainTrees.none h each = omega arith
+children_found : (find : ℕ → Option PlainTree) (t : PlainTree) (low high : ℕ) (us : PlainTrees) → RiseAll low high us → ((q : ℕ) (u : PlainTree) → subtree_among q us ≡ Some u → subtree q t ≡ Some u) → AreSubtrees t us
+children_found find t low high PlainTrees.none h each = tt
 children_found find t low high (PlainTrees.next u us) h each = (
   each (number_of u) u (or_first (subtree (number_of u) u) (subtree_among (number_of u) us) u (subtree_own (number_of u) u refl)),
   children_found find t h.0 high us h.2 (λ q v e. each q v (let within = found_among_within h.0 high us h.2 q v e in or_second (subtree q u) (subtree_among q us) (not_found low h.0 u h.1 q (inr within.0)) ∙ e)),

@@ -9,9 +9,9 @@ use Rattle.tree_cut.specs.Cuts.{CanSelect, CutForm, IsCutOf, cut_tree, left_of_e
 use Rattle.tree_cut.specs.Children.{IsRest}
 
 -- the trees of two lists, one after the other
-abbrev pub joined : PlainTrees → PlainTrees → PlainTrees
-joined PlainTrees.none us = us
-joined (PlainTrees.next t ts) us = PlainTrees.next t (joined ts us)
+abbrev pub with_trees_after : PlainTrees → PlainTrees → PlainTrees
+with_trees_after PlainTrees.none us = us
+with_trees_after (PlainTrees.next t ts) us = PlainTrees.next t (with_trees_after ts us)
 
 -- The elements of a list of the cut c are gone through, but for those at the positions of the trees `rest`: those that the flags don't keep are deleted. Of this, `now` has the marks, and the tokens with a gap.
 pub record IsKeptSoFar (tree : SyntaxTree) (c : CutForm) (list : ℕ) (keep : List Bool) (can : CanSelect tree.form (cut_tree tree c) list keep) (rest : PlainTrees) (now : CutForm) (p : Progress) : Type 0 where
@@ -24,12 +24,12 @@ pub record IsKeptSoFar (tree : SyntaxTree) (c : CutForm) (list : ℕ) (keep : Li
   pub marks : cut.marks ≡ now.marks
   pub positions : cut.positions ≡ now.positions
   pub kept : cut.kept ≡ take p.gap.from now.kept ++ drop p.gap.to now.kept
-  pub node : subtree list (cut_tree tree cut) ≡ Some (PlainTree.node list can.rule can.alt (joined done ahead))
-  pub tree_is : cut_tree tree cut ≡ with_subtree list (PlainTree.node list can.rule can.alt (joined done ahead)) (cut_tree tree c)
+  pub node : subtree list (cut_tree tree cut) ≡ Some (PlainTree.node list can.rule can.alt (with_trees_after done ahead))
+  pub tree_is : cut_tree tree cut ≡ with_subtree list (PlainTree.node list can.rule can.alt (with_trees_after done ahead)) (cut_tree tree c)
   -- what is left at the other positions, and what the flags keep of it
   pub rest_is : IsRest (whole tree) p.position rest
   pub ahead_is : left_of_each cut.marks rest ≡ ahead
-  pub selected : selected_trees keep can.elements ≡ joined done (selected_trees (drop p.elements keep) ahead)
+  pub selected : selected_trees keep can.elements ≡ with_trees_after done (selected_trees (drop p.elements keep) ahead)
   pub flags : length keep ≡ p.elements + count ahead
   -- its tokens come after the gap
   pub next : drop p.gap.to now.kept ≡ of_leaves_all (λ k i. i) ahead ++ back

@@ -9,21 +9,21 @@ use Rattle.syntax_tree.specs.Trees.{PlainTree, PlainTrees, count}
 use Rattle.syntax_tree.specs.Numbered.{number_of, roots, subtree, subtree_among, with_subtree, with_subtree_among}
 use Rattle.syntax_tree.specs.Left.{selected_trees}
 use Rattle.tree_cut.specs.Cuts.{without}
-use Rattle.tree_cut.specs.Keeping.{joined}
+use Rattle.tree_cut.specs.Keeping.{with_trees_after}
 use Rattle.tree_cut.proofs.Rising.{Rises, RiseAll, cases_or, found_among_within, not_found, number_within, or_first, or_second, subtree_below, subtree_own, when_equal, when_not}
 use Rattle.tree_cut.proofs.Deletions.{with_outside}
 
-pub joined_none : (ts : PlainTrees) → joined ts PlainTrees.none ≡ ts
-joined_none PlainTrees.none = refl
-joined_none (PlainTrees.next t ts) = ap (λ (us : PlainTrees). PlainTrees.next t us) (joined_none ts)
+pub after_none : (ts : PlainTrees) → with_trees_after ts PlainTrees.none ≡ ts
+after_none PlainTrees.none = refl
+after_none (PlainTrees.next t ts) = ap (λ (us : PlainTrees). PlainTrees.next t us) (after_none ts)
 
-pub joined_more : (ts : PlainTrees) (t : PlainTree) (us : PlainTrees) → joined (joined ts (PlainTrees.next t PlainTrees.none)) us ≡ joined ts (PlainTrees.next t us)
-joined_more PlainTrees.none t us = refl
-joined_more (PlainTrees.next u ts) t us = ap (λ (vs : PlainTrees). PlainTrees.next u vs) (joined_more ts t us)
+pub after_more : (ts : PlainTrees) (t : PlainTree) (us : PlainTrees) → with_trees_after (with_trees_after ts (PlainTrees.next t PlainTrees.none)) us ≡ with_trees_after ts (PlainTrees.next t us)
+after_more PlainTrees.none t us = refl
+after_more (PlainTrees.next u ts) t us = ap (λ (vs : PlainTrees). PlainTrees.next u vs) (after_more ts t us)
 
-pub joined_count : (ts us : PlainTrees) → count (joined ts us) ≡ count ts + count us
-joined_count PlainTrees.none us = omega arith
-joined_count (PlainTrees.next t ts) us = let rest = joined_count ts us in omega (arith, rest)
+pub after_count : (ts us : PlainTrees) → count (with_trees_after ts us) ≡ count ts + count us
+after_count PlainTrees.none us = omega arith
+after_count (PlainTrees.next t ts) us = let rest = after_count ts us in omega (arith, rest)
 
 pub selected_count : (mask : List Bool) (ts : PlainTrees) → count (selected_trees mask ts) ≤ count ts
 selected_count [] ts = omega arith
@@ -50,25 +50,25 @@ pub next_flag : (mask : List Bool) (k : ℕ) (b : Bool) → slice_get mask k ≡
 next_flag mask k b e = drop_more mask k b (slice_get_within mask k b e) ∙ ap (λ (x : Bool). x ∷ drop (k + 1) mask) (get_or_from_slice_get mask k b b e)
 
 -- a tree between others is one of them
-pub joined_has : (ts : PlainTrees) (t : PlainTree) (us : PlainTrees) → Contains (roots (joined ts (PlainTrees.next t us))) (number_of t)
-joined_has PlainTrees.none t us = (zero, omega arith, refl)
-joined_has (PlainTrees.next u ts) t us = let rest = joined_has ts t us in (suc rest.0, (let lt = rest.1 in omega (arith, lt)), rest.2)
+pub after_has : (ts : PlainTrees) (t : PlainTree) (us : PlainTrees) → Contains (roots (with_trees_after ts (PlainTrees.next t us))) (number_of t)
+after_has PlainTrees.none t us = (zero, omega arith, refl)
+after_has (PlainTrees.next u ts) t us = let rest = after_has ts t us in (suc rest.0, (let lt = rest.1 in omega (arith, lt)), rest.2)
 
-pub joined_found : (low high : ℕ) (ts : PlainTrees) (t : PlainTree) (us : PlainTrees) → RiseAll low high (joined ts (PlainTrees.next t us)) → subtree_among (number_of t) (joined ts (PlainTrees.next t us)) ≡ Some t
-joined_found low high PlainTrees.none t us h = or_first (subtree (number_of t) t) (subtree_among (number_of t) us) t (subtree_own (number_of t) t refl)
-joined_found low high (PlainTrees.next u ts) t us h =
-    let rest = joined_found h.0 high ts t us h.2 in
-    let within = found_among_within h.0 high (joined ts (PlainTrees.next t us)) h.2 (number_of t) t rest in
-    or_second (subtree (number_of t) u) (subtree_among (number_of t) (joined ts (PlainTrees.next t us))) (not_found low h.0 u h.1 (number_of t) (inr within.0)) ∙ rest
+pub after_found : (low high : ℕ) (ts : PlainTrees) (t : PlainTree) (us : PlainTrees) → RiseAll low high (with_trees_after ts (PlainTrees.next t us)) → subtree_among (number_of t) (with_trees_after ts (PlainTrees.next t us)) ≡ Some t
+after_found low high PlainTrees.none t us h = or_first (subtree (number_of t) t) (subtree_among (number_of t) us) t (subtree_own (number_of t) t refl)
+after_found low high (PlainTrees.next u ts) t us h =
+    let rest = after_found h.0 high ts t us h.2 in
+    let within = found_among_within h.0 high (with_trees_after ts (PlainTrees.next t us)) h.2 (number_of t) t rest in
+    or_second (subtree (number_of t) u) (subtree_among (number_of t) (with_trees_after ts (PlainTrees.next t us))) (not_found low h.0 u h.1 (number_of t) (inr within.0)) ∙ rest
 
-pub joined_without : (low high : ℕ) (ts : PlainTrees) (t : PlainTree) (us : PlainTrees) → RiseAll low high (joined ts (PlainTrees.next t us)) → without (number_of t) (joined ts (PlainTrees.next t us)) ≡ joined ts us
-joined_without low high PlainTrees.none t us h = when_equal (number_of t) (number_of t) us (PlainTrees.next t (without (number_of t) us)) refl
-joined_without low high (PlainTrees.next u ts) t us h =
-    let found = joined_found h.0 high ts t us h.2 in
-    let within = found_among_within h.0 high (joined ts (PlainTrees.next t us)) h.2 (number_of t) t found in
+pub after_without : (low high : ℕ) (ts : PlainTrees) (t : PlainTree) (us : PlainTrees) → RiseAll low high (with_trees_after ts (PlainTrees.next t us)) → without (number_of t) (with_trees_after ts (PlainTrees.next t us)) ≡ with_trees_after ts us
+after_without low high PlainTrees.none t us h = when_equal (number_of t) (number_of t) us (PlainTrees.next t (without (number_of t) us)) refl
+after_without low high (PlainTrees.next u ts) t us h =
+    let found = after_found h.0 high ts t us h.2 in
+    let within = found_among_within h.0 high (with_trees_after ts (PlainTrees.next t us)) h.2 (number_of t) t found in
     let own = number_within low h.0 u h.1 in
-    when_not (number_of u) (number_of t) (joined ts (PlainTrees.next t us)) (PlainTrees.next u (without (number_of t) (joined ts (PlainTrees.next t us)))) (λ (e : number_of u ≡ number_of t). omega (arith, e, own, within))
-    ∙ ap (λ (vs : PlainTrees). PlainTrees.next u vs) (joined_without h.0 high ts t us h.2)
+    when_not (number_of u) (number_of t) (with_trees_after ts (PlainTrees.next t us)) (PlainTrees.next u (without (number_of t) (with_trees_after ts (PlainTrees.next t us)))) (λ (e : number_of u ≡ number_of t). omega (arith, e, own, within))
+    ∙ ap (λ (vs : PlainTrees). PlainTrees.next u vs) (after_without h.0 high ts t us h.2)
 
 with_own : (q : ℕ) (w u : PlainTree) → number_of u ≡ q → with_subtree q w u ≡ w
 with_own q w (PlainTree.leaf n k i) e = when_equal n q w (PlainTree.leaf n k i) e
