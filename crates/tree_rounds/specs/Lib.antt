@@ -10,8 +10,10 @@ pub use Rattle.reduction_rounds.specs.Laws as RoundLaws
 pub use Rattle.tree_mode.specs.InputOf
 pub use Rattle.tree_walk.specs.Rounds as WalkRounds
 pub use Rattle.tree_visits.specs.VisitRounds
+pub use Rattle.level_walks.specs.LevelRounds
 pub mod WalkMode
 pub mod PersesMode
+pub mod HddMode
 pub mod Parts
 pub mod Candidates
 pub mod Fields
