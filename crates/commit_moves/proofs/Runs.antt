@@ -27,36 +27,36 @@ use Rattle.commit_moves.specs.Laws.{AnyOrderHolds, HoldsOf, all_texts}
 
 -- ---- histories that grow
 
-records_more : (h : History) (t : List ℕ) (v : Verdict) → records_of (h ++ Recorded t v ∷ []) ≡ records_of h ++ record { text = t; verdict = v } ∷ []
+pub records_more : (h : History) (t : List ℕ) (v : Verdict) → records_of (h ++ Recorded t v ∷ []) ≡ records_of h ++ record { text = t; verdict = v } ∷ []
 records_more [] t v = refl
 records_more (Recorded a b ∷ h) t v = ap (λ (rs : List Record). record { text = a; verdict = b } ∷ rs) (records_more h t v)
 records_more (Committed n ∷ h) t v = records_more h t v
 
-records_same : (h : History) (n : ℕ) → records_of (h ++ Committed n ∷ []) ≡ records_of h
+pub records_same : (h : History) (n : ℕ) → records_of (h ++ Committed n ∷ []) ≡ records_of h
 records_same [] n = refl
 records_same (Recorded a b ∷ h) n = ap (λ (rs : List Record). record { text = a; verdict = b } ∷ rs) (records_same h n)
 records_same (Committed m ∷ h) n = records_same h n
 
 -- a record leads the reducer nowhere
-replay_record : (es : List Record) (p : Plan) (h : History) (t : List ℕ) (v : Verdict) → replay_from es p (h ++ Recorded t v ∷ []) ≡ replay_from es p h
+pub replay_record : (es : List Record) (p : Plan) (h : History) (t : List ℕ) (v : Verdict) → replay_from es p (h ++ Recorded t v ∷ []) ≡ replay_from es p h
 replay_record es p [] t v = refl
 replay_record es p (Recorded a b ∷ h) t v = replay_record (es ++ record { text = a; verdict = b } ∷ []) p h t v
 replay_record es p (Committed n ∷ h) t v = replay_record es (answered (record_at n es) p) h t v
 
 -- a commit answers it with the record that it names
-replay_commit : (es : List Record) (p : Plan) (h : History) (n : ℕ) → replay_from es p (h ++ Committed n ∷ []) ≡ answered (record_at n (es ++ records_of h)) (replay_from es p h)
+pub replay_commit : (es : List Record) (p : Plan) (h : History) (n : ℕ) → replay_from es p (h ++ Committed n ∷ []) ≡ answered (record_at n (es ++ records_of h)) (replay_from es p h)
 replay_commit es p [] n = ap (λ (rs : List Record). answered (record_at n rs) p) (sym (append-nil es))
 replay_commit es p (Recorded a b ∷ h) n =
     let r : Record = record { text = a; verdict = b } in
     replay_commit (es ++ r ∷ []) p h n ∙ ap (λ (rs : List Record). answered (record_at n rs) (replay_from (es ++ r ∷ []) p h)) (append_assoc es (r ∷ []) (records_of h))
 replay_commit es p (Committed m ∷ h) n = replay_commit es (answered (record_at m es) p) h n
 
-commits_record : (es : List Record) (p : Plan) (h : History) (t : List ℕ) (v : Verdict) → CommitsWhatIsAsked es p h → CommitsWhatIsAsked es p (h ++ Recorded t v ∷ [])
+pub commits_record : (es : List Record) (p : Plan) (h : History) (t : List ℕ) (v : Verdict) → CommitsWhatIsAsked es p h → CommitsWhatIsAsked es p (h ++ Recorded t v ∷ [])
 commits_record es p [] t v c = tt
 commits_record es p (Recorded a b ∷ h) t v c = commits_record (es ++ record { text = a; verdict = b } ∷ []) p h t v c
 commits_record es p (Committed n ∷ h) t v c = (c.0, c.1, c.2, commits_record es (after p (c.0).verdict) h t v c.3)
 
-commits_commit : (es : List Record) (p : Plan) (h : History) (n : ℕ) (r : Record) → CommitsWhatIsAsked es p h → record_at n (es ++ records_of h) ≡ Some r → asked (replay_from es p h) ≡ Some r.text → CommitsWhatIsAsked es p (h ++ Committed n ∷ [])
+pub commits_commit : (es : List Record) (p : Plan) (h : History) (n : ℕ) (r : Record) → CommitsWhatIsAsked es p h → record_at n (es ++ records_of h) ≡ Some r → asked (replay_from es p h) ≡ Some r.text → CommitsWhatIsAsked es p (h ++ Committed n ∷ [])
 commits_commit es p [] n r c at is = (r, ap (record_at n) (sym (append-nil es)) ∙ at, is, tt)
 commits_commit es p (Recorded a b ∷ h) n r c at is =
     let q : Record = record { text = a; verdict = b } in
@@ -67,7 +67,7 @@ commits_commit es p (Committed m ∷ h) n r c at is =
 
 -- ---- records by number
 
-extends_at : (V : List ℕ → Option Verdict) (rs : List Record) (n : ℕ) (r : Record) → record_at n rs ≡ Some r → Extends V rs → V r.text ≡ Some r.verdict
+pub extends_at : (V : List ℕ → Option Verdict) (rs : List Record) (n : ℕ) (r : Record) → record_at n rs ≡ Some r → Extends V rs → V r.text ≡ Some r.verdict
 extends_at V rs zero r at e = absurd (cc at)
 extends_at V [] (suc n) r at e = absurd (cc at)
 extends_at V (q ∷ rs) (suc zero) r at e = let same : q ≡ r = cc at in subst (λ (s : Record). V s.text ≡ Some s.verdict) same e.0
@@ -85,7 +85,7 @@ numbered_at : (q : Record) (rs : List Record) (t : List ℕ) (v : Verdict) (b : 
 numbered_at q rs t v true e k later = (1, q, refl, sym ((bytes_eq-Decides t q.text).0 (sym e)))
 numbered_at q rs t v false e k later = next_number q rs t (later k)
 
-numbered : (rs : List Record) (t : List ℕ) (v : Verdict) → verdict_in rs t ≡ Some v → (n : ℕ) × (r : Record) × (record_at n rs ≡ Some r) × (r.text ≡ t)
+pub numbered : (rs : List Record) (t : List ℕ) (v : Verdict) → verdict_in rs t ≡ Some v → (n : ℕ) × (r : Record) × (record_at n rs ≡ Some r) × (r.text ≡ t)
 numbered [] t v k = absurd (cc k)
 numbered (q ∷ rs) t v k = numbered_at q rs t v (bytes_eq t q.text) refl k (λ k. numbered rs t v k)
 

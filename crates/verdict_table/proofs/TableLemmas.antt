@@ -183,7 +183,7 @@ not_claimed text (c ∷ cs) absent =
     let current : (bytes_eq text c.text ≡ false) × (unwrap_or (claim_in text cs) Absent ≡ Absent) = unclaimed_at (bytes_eq text c.text) c (find (λ d. bytes_eq text d.text) cs) absent in
     rw current.0 (not_claimed text cs current.1)
 
-absent_everywhere : (table : TableState) (text : List ℕ) → IsSound table → found_in table text ≡ Absent → list_any (bytes_eq text) (all_texts table) ≡ false
+pub absent_everywhere : (table : TableState) (text : List ℕ) → IsSound table → found_in table text ≡ Absent → list_any (bytes_eq text) (all_texts table) ≡ false
 absent_everywhere table text sound absent =
     let none : (list_any (bytes_eq text) (texts_of table.records) ≡ false) × (unwrap_or (claim_in text table.claims) Absent ≡ Absent) = not_recorded 1 text table.records table.filled (unwrap_or (claim_in text table.claims) Absent) sound.filled absent in
     rw (list_any-append (bytes_eq text) (texts_of table.records) (claimed_texts table.claims), none.0) (not_claimed text table.claims none.1)
