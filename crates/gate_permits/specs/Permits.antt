@@ -1,0 +1,30 @@
+-- Permits to ask about claimed texts, and what comes of them.
+use Rattle.std.specs.Prelude.{◌≡◌, ℕ, List, Result, Ok, Err}
+use Rattle.script_gate.specs.declared.gate.Verdict.{Verdict}
+use Rattle.script_gate.specs.declared.gate.GateFault.{GateFault}
+use Rattle.script_gate.specs.declared.gate.GateFault.TheVariants.{Failed}
+
+-- the number of a claim, and its text
+pub record ClaimedText : Type 0 where
+  pub claim : ℕ
+  pub text : List ℕ
+
+-- the number of a claim, its text, and a verdict on this text
+pub record AnsweredText : Type 0 where
+  pub claim : ℕ
+  pub text : List ℕ
+  pub verdict : Verdict
+
+-- a permit's claim and text, and why its gate gave no verdict
+pub record RefusedAsk : Type 0 where
+  pub permit : ClaimedText
+  pub fault : GateFault
+
+-- the answer is to the claim of this permit, and on its text
+abbrev pub IsAnswerTo : ClaimedText → AnsweredText → Type 0
+IsAnswerTo permit answer = (answer.claim ≡ permit.claim) × (answer.text ≡ permit.text)
+
+-- there is no answer because the gate failed
+abbrev pub GateFailed : {A : Type 0} → Result A RefusedAsk → Type 0
+GateFailed (Ok answer) = ⊥
+GateFailed (Err unasked) = unasked.fault ≡ Failed
