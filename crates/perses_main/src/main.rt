@@ -1,10 +1,10 @@
-//! Perses reduces an input that makes something fail to the few lines that matter.
+//! Perses reduces an input that makes something fail to the parts that matter.
 //!
-//! `perses reduce --mode lines --input F --output F --script F`, with `--keep T` up to eight times,
-//! asks the script for one candidate after another and writes the lines that are left.
-//! `perses normal --grammar F` prints the normal form of a grammar. The work is done by the top call,
-//! [`top_call::perses`], whose contract is the program's; here it gets the machine's files, processes
-//! and standard output.
+//! `perses reduce` asks the script for one candidate after another and writes what is left: by a grammar
+//! (`--grammar F`), of the input's tree, with `--mode hdd` by deletions alone; or of the input's lines
+//! (`--mode lines`). `perses normal --grammar F` prints the normal form of a grammar. All words are in
+//! `docs/FORMATS.md`. The work is done by the top call, [`top_call::perses`], whose contract is the
+//! program's; here it gets the machine's files, processes and standard output.
 #![tactic(auto)]
 
 mod args;

@@ -12,6 +12,7 @@ use Rattle.verdict_table.specs.TableState.{verdict_in}
 use Rattle.keep_guard.specs.Keep.{holds_all, keeps_admit}
 use Rattle.reduction_rounds.specs.Reduction as rounds
 use Rattle.reduction_rounds.specs.Laws.{HasVerdicts, IsTextOf, says_yes}
+use Rattle.reduction_rounds.specs.Mode.{RoundMode}
 use Rattle.gated_run.specs.declared.fault.RunFault.{RunFault}
 use Rattle.gated_run.specs.declared.fault.RunFault.TheVariants as run
 use Rattle.sequential_run.proofs.RunLemmas.{none_asked, none_distinct}
@@ -28,10 +29,11 @@ use Rattle.reduce_core.proofs.LinesLemmas.{text-numbered_lines}
 use Rattle.tree_mode.specs.Input.{IsInput, TreeInput, TreeState}
 use Rattle.tree_mode.specs.Candidates.{IsCandidate as IsTreeCandidate}
 use Rattle.tree_mode.specs.Listed.{IsKept, text_of as tree_text}
-use Rattle.tree_rounds.specs.Ends.{BeginsWithStart, IsTreeEnd, PersesAsksCandidates, PersesEndsMinimal}
-use Rattle.tree_rounds.specs.Laws.{PersesIsLawful}
-use Rattle.tree_rounds.specs.PersesMode.{perses_mode}
-use Rattle.problem_run.specs.Problem.{Problem}
+use Rattle.tree_rounds.specs.Ends.{AdmitsStart, BeginsWith, IsEndBy}
+use Rattle.tree_rounds.specs.WalkMode.{walk_mode}
+use Rattle.problem_run.specs.declared.problem.GrammarMode.{GrammarMode}
+use Rattle.problem_run.specs.Problem.{IsEditBy, Problem, round_of}
+use Rattle.problem_run.specs.Walks.{IsTreeMode}
 use Rattle.problem_run.specs.Ends.{AreOf, IsUnfinished, ProblemEnds, ReducesFrom, RunFails}
 
 -- no record was made, and the gate was not asked
@@ -121,37 +123,42 @@ pub none_of : (keeps : List (List ℕ)) (problem : Problem) (records : List Reco
 none_of keeps problem records none = subst (AreOf keeps problem) (sym none) (record { candidates = All-nil _; first = tt; ends_at_no = λ first_no. first_no })
 
 -- the start of a tree is asked first, so without a record the reduction waits for its verdict
-tree_known : (V : List ℕ → Option Verdict) (input : TreeInput) → HasVerdicts V (rounds.reduction (perses_mode input) (says_yes V)).questions → IsSome (V ((perses_mode input).text (perses_mode input).start))
+tree_known : (V : List ℕ → Option Verdict) (mode : RoundMode TreeState) → HasVerdicts V (rounds.reduction mode (says_yes V)).questions → IsSome (V (mode.text mode.start))
 unfolding rounds.reduction
-tree_known V input has = has.0
+tree_known V mode has = has.0
 
 pub unfinished_without : (keeps : List (List ℕ)) (problem : Problem) → IsUnfinished keeps problem []
 unfinished_without keeps (Problem.of_lines start) has = none_unfinished keeps start has
-unfinished_without keeps (Problem.of_tree input) has = false≢true (tree_known (verdict_in []) input has)
+unfinished_without keeps (Problem.of_tree mode input) has = false≢true (tree_known (verdict_in []) (walk_mode (round_of mode) input) has)
 
 -- What a run of a reducer of trees says, in the words of the reduction of trees.
-module _ (input : TreeInput) (is : IsInput input) (begins : BeginsWithStart input) (records : List Record) where
+module _ (mode : GrammarMode) (laws : IsTreeMode (round_of mode) (IsEditBy mode)) (input : TreeInput) (is : IsInput input) (admitted : AdmitsStart input) (records : List Record) where
+  abbrev trees : RoundMode TreeState
+  trees = walk_mode (round_of mode) input
+
   abbrev T : rounds.Reduction TreeState
-  T = reduction_over (perses_mode input) records
+  T = reduction_over trees records
+
+  begins : BeginsWith trees input.start
+  begins = laws.begins input is admitted
 
   -- the records are of candidates
-  pub are_of_tree : PersesAsksCandidates → (keeps : List (List ℕ)) → AreOfMode (perses_mode input) (IsKept input) records → AreOf keeps (Problem.of_tree input) records
-  are_of_tree asks keeps of =
+  pub are_of_tree : (keeps : List (List ℕ)) → AreOfMode trees (IsKept input) records → AreOf keeps (Problem.of_tree mode input) records
+  are_of_tree keeps of =
       record {
-        candidates = All-weaker (λ (r : Record). IsTextOf (perses_mode input) (IsKept input) r.text) (λ (r : Record). IsTreeCandidate input r.text) (λ r one. asks input r.text is one) records of.candidates;
+        candidates = All-weaker (λ (r : Record). IsTextOf trees (IsKept input) r.text) (λ (r : Record). IsTreeCandidate input r.text) (λ r one. laws.asks input r.text is one) records of.candidates;
         first = subst (λ (text : List ℕ). BeginsAt text records) begins.text of.first;
         ends_at_no = of.ends_at_no;
       }
 
   -- the tree is reduced to the text of the result
-  tree_reduces : PersesIsLawful → PersesAsksCandidates → PersesEndsMinimal → (keeps : List (List ℕ)) → input.admits ≡ keeps_admit keeps → (result : StepResult)
-      → ReducesIn (perses_mode input) (IsKept input) records result → ReducesFrom keeps (Problem.of_tree input) records result.text
-  tree_reduces lawful asks minimal keeps admits result it =
+  tree_reduces : (keeps : List (List ℕ)) → input.admits ≡ keeps_admit keeps → (result : StepResult) → ReducesIn trees (IsKept input) records result → ReducesFrom keeps (Problem.of_tree mode input) records result.text
+  tree_reduces keeps admits result it =
       let V = verdict_in records in
-      let well = it.ends_well (lawful input is) begins.listed in
-      let ends : IsTreeEnd input V T.state = minimal input V T.state is well in
+      let well = it.ends_well (laws.lawful input is) begins.listed in
+      let ends : IsEndBy (IsEditBy mode) input V T.state = laws.minimal input V T.state is well in
       let text : result.text ≡ tree_text input T.state = ap (λ (r : StepResult). r.text) it.is_result in
-      let candidate : IsTreeCandidate input result.text = asks input result.text is (record { state = T.state; kept = well.kept; listed = well.listed; same = text }) in
+      let candidate : IsTreeCandidate input result.text = laws.asks input result.text is (record { state = T.state; kept = well.kept; listed = well.listed; same = text }) in
       record {
         first = subst (λ (start : List ℕ). FirstIs start Yes records) begins.text it.first;
         reduced =
@@ -167,14 +174,13 @@ module _ (input : TreeInput) (is : IsInput input) (begins : BeginsWithStart inpu
       }
 
   -- why the tree has no reduction
-  tree_fails : (keeps : List (List ℕ)) (count count' : ℕ) (fault : RunFault) → RunFailsIn (perses_mode input) records count count' fault → RunFails keeps (Problem.of_tree input) records count count' fault
+  tree_fails : (keeps : List (List ℕ)) (count count' : ℕ) (fault : RunFault) → RunFailsIn trees records count count' fault → RunFails keeps (Problem.of_tree mode input) records count count' fault
   tree_fails keeps count count' run.NotInteresting why = (why.0, subst (λ (start : List ℕ). FirstIs start No records) begins.text why.1, why.2)
   tree_fails keeps count count' run.Script why = why
   tree_fails keeps count count' run.Memory why = why
 
   -- how the run of the tree ends
-  pub tree_ends : PersesIsLawful → PersesAsksCandidates → PersesEndsMinimal → (keeps : List (List ℕ)) → input.admits ≡ keeps_admit keeps → (count count' : ℕ) (result : Result (Vec ℕ) RunFault)
-      → TextEndsIn (perses_mode input) (IsKept input) records count count' result → ProblemEnds keeps (Problem.of_tree input) records count count' result
-  tree_ends lawful asks minimal keeps admits count count' (Ok text) ends =
-      (subst (ReducesFrom keeps (Problem.of_tree input) records) (sym ends.0.1) (tree_reduces lawful asks minimal keeps admits ends.0.0 ends.0.2), ends.1)
-  tree_ends lawful asks minimal keeps admits count count' (Err fault) ends = tree_fails keeps count count' fault ends
+  pub tree_ends : (keeps : List (List ℕ)) → input.admits ≡ keeps_admit keeps → (count count' : ℕ) (result : Result (Vec ℕ) RunFault) → TextEndsIn trees (IsKept input) records count count' result
+      → ProblemEnds keeps (Problem.of_tree mode input) records count count' result
+  tree_ends keeps admits count count' (Ok text) ends = (subst (ReducesFrom keeps (Problem.of_tree mode input) records) (sym ends.0.1) (tree_reduces keeps admits ends.0.0 ends.0.2), ends.1)
+  tree_ends keeps admits count count' (Err fault) ends = tree_fails keeps count count' fault ends

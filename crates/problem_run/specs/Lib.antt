@@ -15,8 +15,13 @@ pub use Rattle.grammar_input.specs.Parsed
 pub use Rattle.tree_mode.specs.Input
 pub use Rattle.tree_mode.specs.Candidates as TreeCandidates
 pub use Rattle.tree_mode.specs.Listed
-pub use Rattle.tree_rounds.specs.PersesMode
+pub use Rattle.syntax_tree.specs.Edits
+pub use Rattle.normal_form.specs.Form
+pub use Rattle.tree_visits.specs.VisitRounds
+pub use Rattle.level_walks.specs.LevelRounds
+pub use Rattle.tree_rounds.specs.WalkMode
 pub use Rattle.tree_rounds.specs.Ends as TreeEnds
 pub mod Problem
+pub mod Walks
 pub mod Read
 pub mod Ends

@@ -5,52 +5,71 @@ use Rattle.script_gate.specs.declared.gate.Verdict.TheVariants.{Yes}
 use Rattle.keep_guard.specs.Keep.{holds_all, keeps_admit}
 use Rattle.reduction_rounds.specs.Laws.{HasVerdicts, says_yes}
 use Rattle.reduction_rounds.specs.Reduction as rounds
+use Rattle.reduction_rounds.specs.Trials.{Trials}
+use Rattle.normal_form.specs.declared.normal.Sym.{Sym}
+use Rattle.normal_form.specs.Form.{NormalForm}
+use Rattle.syntax_tree.specs.Edits.{IsSingleEdit}
+use Rattle.syntax_tree.specs.Trees.{PlainTree}
 use Rattle.reduce_core.specs.Lines.{text_of}
 use Rattle.reduce_core.specs.Minimal as lines
 use Rattle.reduce_core.specs.Reduction.{reduction}
 use Rattle.tree_mode.specs.Candidates as trees
 use Rattle.tree_mode.specs.Input.{TreeInput, TreeState}
 use Rattle.tree_mode.specs.Listed as listed
-use Rattle.tree_rounds.specs.Ends.{IsMinimalTree}
-use Rattle.tree_rounds.specs.PersesMode.{perses_mode}
+use Rattle.tree_visits.specs.VisitRounds.{visit_round}
+use Rattle.level_walks.specs.LevelRounds.{IsDeletion, level_round}
+use Rattle.tree_rounds.specs.Ends.{IsMinimalBy}
+use Rattle.tree_rounds.specs.WalkMode.{walk_mode}
+use Rattle.problem_run.specs.declared.problem.GrammarMode.{GrammarMode}
+use Rattle.problem_run.specs.declared.problem.GrammarMode.TheVariants.{Hdd, Perses}
 
 pub data Problem : Type 0 where
   of_lines : (start : List ℕ) → Problem
-  of_tree : (input : TreeInput) → Problem
+  of_tree : (mode : GrammarMode) (input : TreeInput) → Problem
+
+-- what a round of the mode tries of a tree for a symbol of a normal form: by the nodes, the heaviest first, or by the levels of the tree
+abbrev pub round_of : GrammarMode → NormalForm → Sym → PlainTree → Trials PlainTree
+round_of Perses = visit_round
+round_of Hdd = level_round
+
+-- the edits of a tree that it tries each by itself: deletions and replacements, or deletions alone
+abbrev pub IsEditBy : GrammarMode → NormalForm → Sym → PlainTree → PlainTree → Type 0
+IsEditBy Perses = IsSingleEdit
+IsEditBy Hdd = IsDeletion
 
 -- the text that is reduced
 abbrev pub start_of : Problem → List ℕ
 start_of (Problem.of_lines start) = start
-start_of (Problem.of_tree input) = input.start
+start_of (Problem.of_tree mode input) = input.start
 
 -- the text may be asked: it has some of the start's lines, or is printed of some of its tokens, is in the grammar's language, and each keep text occurs in it
 abbrev pub IsCandidateOf : List (List ℕ) → Problem → List ℕ → Type 0
 IsCandidateOf keeps (Problem.of_lines start) text = lines.IsCandidate (keeps_admit keeps) start text
-IsCandidateOf keeps (Problem.of_tree input) text = trees.IsCandidate input text
+IsCandidateOf keeps (Problem.of_tree mode input) text = trees.IsCandidate input text
 
 -- the reduction of trees over a map of verdicts
-abbrev pub tree_reduction : TreeInput → (List ℕ → Option Verdict) → rounds.Reduction TreeState
-tree_reduction input V = rounds.reduction (perses_mode input) (says_yes V)
+abbrev pub tree_reduction : GrammarMode → TreeInput → (List ℕ → Option Verdict) → rounds.Reduction TreeState
+tree_reduction mode input V = rounds.reduction (walk_mode (round_of mode) input) (says_yes V)
 
 -- the texts that the reduction asks, in order
 abbrev pub questions_of : List (List ℕ) → Problem → (List ℕ → Option Verdict) → List (List ℕ)
 questions_of keeps (Problem.of_lines start) V = (reduction (keeps_admit keeps) (says_yes V) start).questions
-questions_of keeps (Problem.of_tree input) V = (tree_reduction input V).questions
+questions_of keeps (Problem.of_tree mode input) V = (tree_reduction mode input V).questions
 
 -- whether it refuses the start
 abbrev pub refuses : List (List ℕ) → Problem → (List ℕ → Option Verdict) → Bool
 refuses keeps (Problem.of_lines start) V = (reduction (keeps_admit keeps) (says_yes V) start).refused
-refuses keeps (Problem.of_tree input) V = (tree_reduction input V).refused
+refuses keeps (Problem.of_tree mode input) V = (tree_reduction mode input V).refused
 
 -- the text that it ends with
 abbrev pub reduced_text : List (List ℕ) → Problem → (List ℕ → Option Verdict) → List ℕ
 reduced_text keeps (Problem.of_lines start) V = text_of (reduction (keeps_admit keeps) (says_yes V) start).lines
-reduced_text keeps (Problem.of_tree input) V = listed.text_of input (tree_reduction input V).state
+reduced_text keeps (Problem.of_tree mode input) V = listed.text_of input (tree_reduction mode input V).state
 
--- what it ends with is minimal: without any one of its lines, or after any single edit of its tree, what is left may not be asked, or its verdict is no
+-- what it ends with is minimal: without any one of its lines, or after any single edit of its tree that the mode makes, what is left may not be asked, or its verdict is no
 abbrev pub EndsMinimally : List (List ℕ) → Problem → (List ℕ → Option Verdict) → Type 0
 EndsMinimally keeps (Problem.of_lines start) V = lines.IsMinimal (keeps_admit keeps) V (reduction (keeps_admit keeps) (says_yes V) start).lines
-EndsMinimally keeps (Problem.of_tree input) V = IsMinimalTree input V (tree_reduction input V).state
+EndsMinimally keeps (Problem.of_tree mode input) V = IsMinimalBy (IsEditBy mode) input V (tree_reduction mode input V).state
 
 -- The text is what is reduced to over a map of verdicts. The map has a verdict for each text that the reduction asks; the start is interesting, and so is the text, in which each keep text occurs and which may be asked; and it is minimal.
 pub record IsReductionOf (keeps : List (List ℕ)) (V : List ℕ → Option Verdict) (problem : Problem) (text : List ℕ) : Type 0 where

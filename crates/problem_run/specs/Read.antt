@@ -14,7 +14,7 @@ use Rattle.problem_run.specs.Problem.{Problem}
 -- the text of what was read
 abbrev pub start_read : ReadProblem → List ℕ
 start_read (read.Lines start) = start.items
-start_read (read.Tree found squeeze) = string_bytes found.text
+start_read (read.Tree found mode squeeze) = string_bytes found.text
 
 -- What was found is of its own grammar, which is checked, and of its own text, and the tree is that of all of its tokens.
 pub record IsFoundIn (found : ParsedInput) : Type 0 where
@@ -26,10 +26,10 @@ pub record IsFoundIn (found : ParsedInput) : Type 0 where
 -- it can be reduced
 abbrev pub IsReady : ReadProblem → Type 0
 IsReady (read.Lines start) = length start.items ≤ 1048576
-IsReady (read.Tree found squeeze) = IsFoundIn found
+IsReady (read.Tree found mode squeeze) = IsFoundIn found
 
 -- it is this problem, where these keep texts say what is admitted
 abbrev pub IsReadAs : List (List ℕ) → ReadProblem → Problem → Type 0
 IsReadAs keeps (read.Lines start) problem = problem ≡ Problem.of_lines start.items
-IsReadAs keeps (read.Tree found squeeze) problem =
-    (formed : IsWellFormed found.lexer.grammar found.lexer.start) × (problem ≡ Problem.of_tree (tree_input found formed (keeps_admit keeps) squeeze))
+IsReadAs keeps (read.Tree found mode squeeze) problem =
+    (formed : IsWellFormed found.lexer.grammar found.lexer.start) × (problem ≡ Problem.of_tree mode (tree_input found formed (keeps_admit keeps) squeeze))

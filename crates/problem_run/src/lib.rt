@@ -2,11 +2,11 @@
 //! one gate on one thread.
 //!
 //! Enter by [`run_problem`]. Read `specs/Problem.antt` first, what is reduced and what its reduction is
-//! in either mode, and then `specs/Ends.antt`, what the records of a run are and how it ends.
+//! in any mode, and then `specs/Ends.antt`, what the records of a run are and how it ends.
 #![tactic(auto)]
 
 mod problem;
 mod run;
 
-pub use problem::ReadProblem;
+pub use problem::{GrammarMode, ReadProblem};
 pub use run::run_problem;

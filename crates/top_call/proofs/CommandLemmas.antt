@@ -76,10 +76,10 @@ module _ (options : ReduceOptions) (may_say : List ℕ → Verdict → Type 0) (
       at (CannotRead file) why = λ out out' put. unread file why.0 why.1 same untouched put
       at (TooLong file) why = λ out out' put. too_long file why.0 why.1 (record { same = same; quiet = why.2 }) untouched put
       at (Grammar line) why = λ out out' put.
-          faulty why.0 why.1 why.3.0 why.2 why.3.1 (record { same = same; quiet = why.3.3 }) untouched (subst (λ l. PutsLine l out out') why.3.2 put)
+          faulty why.0 why.2.0 why.1 why.2.1 (record { same = same; quiet = why.2.3 }) untouched (subst (λ l. PutsLine l out out') why.2.2 put)
       at (Uncut line) why = λ out out' put.
-          no_token why.0 why.1 why.2 why.3 why.4 why.5 (record { same = same; quiet = why.7 }) untouched (subst (λ l. PutsLine l out out') why.6 put)
-      at NoParse why = λ out out' put. unparsed why.0 why.1 why.2 why.3 (record { same = same; quiet = why.4 }) untouched put
+          no_token why.0 why.1 why.2 why.3 why.4 (record { same = same; quiet = why.6 }) untouched (subst (λ l. PutsLine l out out') why.5 put)
+      at NoParse why = λ out out' put. unparsed why.0 why.1 why.2 (record { same = same; quiet = why.3 }) untouched put
       at _ why = absurd why
 
   -- a keep text doesn't occur in the text of the problem

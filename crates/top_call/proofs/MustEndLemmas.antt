@@ -1,5 +1,5 @@
 -- Which status `reduce` has to end with, from how it ends.
-use Rattle.std.proofs.Common.{◌≡◌, ℕ, Bool, List, [], ◌∷◌, Some, true, false, refl, sym, ap, ◌∙◌, subst}
+use Rattle.std.proofs.Common.{◌≡◌, ℕ, List, [], ◌∷◌, Some, true, false, refl, sym, ap, ◌∙◌, subst}
 use Rattle.std.proofs.lemmas.Bool.{false≢true}
 use Rattle.keep_guard.specs.Keep.{first_missing, holds_all}
 use Rattle.keep_guard.proofs.KeepLemmas.{holds_all_or_misses}
@@ -17,7 +17,7 @@ use Rattle.problem_run.specs.Ends.{ReducesFrom}
 use Rattle.top_call.specs.Reduce.{InputHas, IsShownFault, IsShownProblem, ProblemAccepted, ProblemRead, ReduceEnds, ReduceMustEnd, ReducesTo, grammar_in}
 use Rattle.top_call.specs.Reduce.ReduceEnds.{done, memory, unread, unwritten, faulty, no_token, unparsed, uninteresting, keep_missing, too_long, script}
 use Rattle.top_call.specs.Status.{IsUncut}
-use Rattle.top_call.specs.Words.{ModeOptions, ReduceOptions}
+use Rattle.top_call.specs.Words.{GrammarOptions, ModeOptions, ReduceOptions}
 use Rattle.top_call.specs.World.{IsShownWithin, SeenGate, SeenOut, WasRead, World, grammar_limit, input_limit}
 use Rattle.top_call.proofs.FileLemmas.{longer_not_missing, not_longer, read_not_missing, read_not_over}
 use Rattle.top_call.proofs.ProblemLemmas.{any_problem, fault_is, fault_not_shown, faulty_not_shown, grammar_not_faulty, grammar_not_missing, grammar_not_over, input_read, long_grammar, long_grammar_not_shown, long_input_no_fault, long_input_not_shown, no_fault, no_grammar, not_faulty, parse_caused, reached_grammar, read_and_shown, shown_not_faulty, shown_not_long, uncut_caused}
@@ -33,7 +33,7 @@ none_missing : (keeps : List (List ℕ)) (start : List ℕ) (index : ℕ) → ho
 none_missing keeps start index holds missing = absurd (cc (sym missing ∙ (holds_all_or_misses keeps start).0 holds))
 
 -- a mode has one grammar
-same_grammar : {mode : ModeOptions} {one other : List ℕ} {squeeze squeeze' : Bool} → mode ≡ ModeOptions.perses one squeeze → mode ≡ ModeOptions.perses other squeeze' → one ≡ other
+same_grammar : {mode : ModeOptions} {one other : GrammarOptions} → mode ≡ ModeOptions.by_grammar one → mode ≡ ModeOptions.by_grammar other → one.grammar ≡ other.grammar
 same_grammar is is' = ap grammar_in (sym is ∙ is')
 
 module _ (faults : InputFaultOnce) (languages : InputsAreInLanguage) (options : ReduceOptions) (records : List Record) (old new : World) where
@@ -55,29 +55,29 @@ module _ (faults : InputFaultOnce) (languages : InputsAreInLanguage) (options : 
       any_problem options old.files (λ problem. (holds_all options.keeps (start_of problem) ≡ true) × ReducesFrom options.keeps problem records text) reduces in
       yes_no (start_of it.0) records it.1.1.first first_no
 
-  module _ {grammar g : List ℕ} {squeeze s : Bool} (mode : options.mode ≡ ModeOptions.perses grammar squeeze) (is : options.mode ≡ ModeOptions.perses g s) where
-    fault_at : {text : List ℕ} → WasRead grammar_limit (old.files.shown grammar) (λ bytes. IsFaultIn bytes text) → WasRead grammar_limit (old.files.shown g) (λ bytes. IsFaultIn bytes text)
+  module _ {trees g : GrammarOptions} (mode : options.mode ≡ ModeOptions.by_grammar trees) (is : options.mode ≡ ModeOptions.by_grammar g) where
+    fault_at : {text : List ℕ} → WasRead grammar_limit (old.files.shown trees.grammar) (λ bytes. IsFaultIn bytes text) → WasRead grammar_limit (old.files.shown g.grammar) (λ bytes. IsFaultIn bytes text)
     fault_at {text = text} read = subst (λ name. WasRead grammar_limit (old.files.shown name) (λ bytes. IsFaultIn bytes text)) (same_grammar mode is) read
 
-    faulty_no_fault : {text : List ℕ} → WasRead grammar_limit (old.files.shown grammar) (λ bytes. IsFaultIn bytes text) → (Q : InputFault → Type 0) → IsShownFault g options old.files Q → ⊥
+    faulty_no_fault : {text : List ℕ} → WasRead grammar_limit (old.files.shown trees.grammar) (λ bytes. IsFaultIn bytes text) → (Q : InputFault → Type 0) → IsShownFault g.grammar options old.files Q → ⊥
     faulty_no_fault {text = text} read Q shown =
-        no_grammar (old.files.shown g) text (fault_at read) (λ c. IsShownWithin input_limit (old.files.shown options.input) (λ bytes. (fault : InputFault) × IsInputFault c bytes fault × Q fault)) shown
+        no_grammar (old.files.shown g.grammar) text (fault_at read) (λ c. IsShownWithin input_limit (old.files.shown options.input) (λ bytes. (fault : InputFault) × IsInputFault c bytes fault × Q fault)) shown
 
-    has_at : (fault : InputFault) → InputHas grammar (λ c bytes. IsInputFault c bytes fault) options old.files → InputHas g (λ c bytes. IsInputFault c bytes fault) options old.files
+    has_at : (fault : InputFault) → InputHas trees.grammar (λ c bytes. IsInputFault c bytes fault) options old.files → InputHas g.grammar (λ c bytes. IsInputFault c bytes fault) options old.files
     has_at fault read = subst (λ name. InputHas name (λ c bytes. IsInputFault c bytes fault) options old.files) (same_grammar mode is) read
 
   -- which status it has to be
   pub must_end : {status : ℕ} → ReduceEnds options records old new status → ReduceMustEnd options records old new status
   must_end (done writes silent) = record {
-    grammar_over = λ g s is over. absurd (grammar_not_over options old.files _ writes.reduced.reduces g s is over);
-    grammar_missing = λ g s is none. absurd (grammar_not_missing options old.files _ writes.reduced.reduces g s is none);
-    faulty = λ g s is shown. absurd (grammar_not_faulty options old.files _ writes.reduced.reduces g s is shown);
+    grammar_over = λ g is over. absurd (grammar_not_over options old.files _ writes.reduced.reduces g is over);
+    grammar_missing = λ g is none. absurd (grammar_not_missing options old.files _ writes.reduced.reduces g is none);
+    faulty = λ g is shown. absurd (grammar_not_faulty options old.files _ writes.reduced.reduces g is shown);
     input_over = λ fine over. absurd (read_not_over (input_read options old.files _ writes.reduced.reduces) over);
     input_missing = λ fine none. absurd (read_not_missing (input_read options old.files _ writes.reduced.reduces) none);
     over = λ over. absurd (read_not_over (input_read options old.files _ writes.reduced.reduces) over);
     missing = λ none. absurd (read_not_missing (input_read options old.files _ writes.reduced.reduces) none);
-    no_token = λ g s is shown. absurd (no_fault options old.files _ writes.reduced.reduces g s is faults languages IsUncut uncut_caused shown);
-    unparsed = λ g s is shown. absurd (no_fault options old.files _ writes.reduced.reduces g s is faults languages (λ fault. fault ≡ input_fault.NoParse) parse_caused shown);
+    no_token = λ g is shown. absurd (no_fault options old.files _ writes.reduced.reduces g is faults languages IsUncut uncut_caused shown);
+    unparsed = λ g is shown. absurd (no_fault options old.files _ writes.reduced.reduces g is faults languages (λ fault. fault ≡ input_fault.NoParse) parse_caused shown);
     keep_missing = λ shown. absurd (keeps_all _ writes.reduced.reduces shown);
     complete = λ shown files_fine gate_fine. refl;
     first_no = λ first_no. absurd (yes_first _ writes.reduced.reduces first_no);
@@ -86,15 +86,15 @@ module _ (faults : InputFaultOnce) (languages : InputsAreInLanguage) (options : 
     out_failed = λ failed. absurd (failed (ap (λ (out : SeenOut). out.faults) silent));
   }
   must_end (memory files gate_quiet put) = record {
-    grammar_over = λ g s is over. refl;
-    grammar_missing = λ g s is none. refl;
-    faulty = λ g s is shown. refl;
+    grammar_over = λ g is over. refl;
+    grammar_missing = λ g is none. refl;
+    faulty = λ g is shown. refl;
     input_over = λ fine over. refl;
     input_missing = λ fine none. refl;
     over = λ over. refl;
     missing = λ none. refl;
-    no_token = λ g s is shown. refl;
-    unparsed = λ g s is shown. refl;
+    no_token = λ g is shown. refl;
+    unparsed = λ g is shown. refl;
     keep_missing = λ shown. refl;
     complete = λ shown files_fine gate_fine. refl;
     first_no = λ first_no. refl;
@@ -103,15 +103,15 @@ module _ (faults : InputFaultOnce) (languages : InputsAreInLanguage) (options : 
     out_failed = λ failed is. cc is;
   }
   must_end (unread file reached call_failed same untouched put) = record {
-    grammar_over = λ g s is over. refl;
-    grammar_missing = λ g s is none. refl;
-    faulty = λ g s is shown. refl;
+    grammar_over = λ g is over. refl;
+    grammar_missing = λ g is none. refl;
+    faulty = λ g is shown. refl;
     input_over = λ fine over. refl;
     input_missing = λ fine none. refl;
     over = λ over. refl;
     missing = λ none. refl;
-    no_token = λ g s is shown. refl;
-    unparsed = λ g s is shown. refl;
+    no_token = λ g is shown. refl;
+    unparsed = λ g is shown. refl;
     keep_missing = λ shown. refl;
     complete = λ shown files_fine gate_fine. absurd (files_fine call_failed);
     first_no = λ first_no. absurd (none_no records untouched.no_records first_no);
@@ -120,15 +120,15 @@ module _ (faults : InputFaultOnce) (languages : InputsAreInLanguage) (options : 
     out_failed = λ failed is. cc is;
   }
   must_end (unwritten call_failed text reduces others gate_quiet put) = record {
-    grammar_over = λ g s is over. absurd (grammar_not_over options old.files _ reduces g s is over);
-    grammar_missing = λ g s is none. absurd (grammar_not_missing options old.files _ reduces g s is none);
-    faulty = λ g s is shown. absurd (grammar_not_faulty options old.files _ reduces g s is shown);
+    grammar_over = λ g is over. absurd (grammar_not_over options old.files _ reduces g is over);
+    grammar_missing = λ g is none. absurd (grammar_not_missing options old.files _ reduces g is none);
+    faulty = λ g is shown. absurd (grammar_not_faulty options old.files _ reduces g is shown);
     input_over = λ fine over. absurd (read_not_over (input_read options old.files _ reduces) over);
     input_missing = λ fine none. absurd (read_not_missing (input_read options old.files _ reduces) none);
     over = λ over. absurd (read_not_over (input_read options old.files _ reduces) over);
     missing = λ none. absurd (read_not_missing (input_read options old.files _ reduces) none);
-    no_token = λ g s is shown. absurd (no_fault options old.files _ reduces g s is faults languages IsUncut uncut_caused shown);
-    unparsed = λ g s is shown. absurd (no_fault options old.files _ reduces g s is faults languages (λ fault. fault ≡ input_fault.NoParse) parse_caused shown);
+    no_token = λ g is shown. absurd (no_fault options old.files _ reduces g is faults languages IsUncut uncut_caused shown);
+    unparsed = λ g is shown. absurd (no_fault options old.files _ reduces g is faults languages (λ fault. fault ≡ input_fault.NoParse) parse_caused shown);
     keep_missing = λ shown. absurd (keeps_all _ reduces shown);
     complete = λ shown files_fine gate_fine. absurd (files_fine call_failed);
     first_no = λ first_no. absurd (yes_first _ reduces first_no);
@@ -136,67 +136,67 @@ module _ (faults : InputFaultOnce) (languages : InputsAreInLanguage) (options : 
     gate_failed = λ failed. absurd (failed gate_quiet);
     out_failed = λ failed is. cc is;
   }
-  must_end (faulty grammar squeeze text mode read files untouched put) = record {
-    grammar_over = λ g s is over. absurd (read_not_over (fault_at mode is read) over);
-    grammar_missing = λ g s is none. absurd (read_not_missing (fault_at mode is read) none);
-    faulty = λ g s is shown. refl;
+  must_end (faulty trees text mode read files untouched put) = record {
+    grammar_over = λ g is over. absurd (read_not_over (fault_at mode is read) over);
+    grammar_missing = λ g is none. absurd (read_not_missing (fault_at mode is read) none);
+    faulty = λ g is shown. refl;
     input_over = λ fine over. absurd (shown_not_faulty options old.files mode read fine);
     input_missing = λ fine none. absurd (shown_not_faulty options old.files mode read fine);
     over = λ over. refl;
     missing = λ none. refl;
-    no_token = λ g s is shown. absurd (faulty_no_fault mode is read IsUncut shown);
-    unparsed = λ g s is shown. absurd (faulty_no_fault mode is read (λ fault. fault ≡ input_fault.NoParse) shown);
-    keep_missing = λ shown. absurd (faulty_not_shown options old.files grammar squeeze text _ mode read shown);
-    complete = λ shown files_fine gate_fine. absurd (faulty_not_shown options old.files grammar squeeze text _ mode read shown);
+    no_token = λ g is shown. absurd (faulty_no_fault mode is read IsUncut shown);
+    unparsed = λ g is shown. absurd (faulty_no_fault mode is read (λ fault. fault ≡ input_fault.NoParse) shown);
+    keep_missing = λ shown. absurd (faulty_not_shown options old.files trees text _ mode read shown);
+    complete = λ shown files_fine gate_fine. absurd (faulty_not_shown options old.files trees text _ mode read shown);
     first_no = λ first_no. absurd (none_no records untouched.no_records first_no);
     files_failed = λ failed. absurd (failed files.quiet);
     gate_failed = λ failed. absurd (failed (ap (λ (gate : SeenGate). gate.faults) untouched.same));
     out_failed = λ failed is. cc is;
   }
-  must_end (no_token grammar squeeze fault mode uncut read files untouched put) = record {
-    grammar_over = λ g s is over. absurd (read_not_over (has_at mode is fault read).1 over);
-    grammar_missing = λ g s is none. absurd (read_not_missing (has_at mode is fault read).1 none);
-    faulty = λ g s is shown. absurd (not_faulty _ _ (has_at mode is fault read).1 shown);
+  must_end (no_token trees fault mode uncut read files untouched put) = record {
+    grammar_over = λ g is over. absurd (read_not_over (has_at mode is fault read).1 over);
+    grammar_missing = λ g is none. absurd (read_not_missing (has_at mode is fault read).1 none);
+    faulty = λ g is shown. absurd (not_faulty _ _ (has_at mode is fault read).1 shown);
     input_over = λ fine over. absurd (read_not_over read.2 over);
     input_missing = λ fine none. absurd (read_not_missing read.2 none);
     over = λ over. absurd (read_not_over read.2 over);
     missing = λ none. absurd (read_not_missing read.2 none);
-    no_token = λ g s is shown. refl;
-    unparsed = λ g s is shown. absurd (subst IsUncut (fault_is options old.files faults g s fault (uncut_caused fault uncut) (has_at mode is fault read) (λ f. f ≡ input_fault.NoParse) parse_caused shown) uncut);
-    keep_missing = λ shown. absurd (fault_not_shown options old.files faults grammar squeeze fault (uncut_caused fault uncut) read _ mode shown);
-    complete = λ shown files_fine gate_fine. absurd (fault_not_shown options old.files faults grammar squeeze fault (uncut_caused fault uncut) read _ mode shown);
+    no_token = λ g is shown. refl;
+    unparsed = λ g is shown. absurd (subst IsUncut (fault_is options old.files faults g fault (uncut_caused fault uncut) (has_at mode is fault read) (λ f. f ≡ input_fault.NoParse) parse_caused shown) uncut);
+    keep_missing = λ shown. absurd (fault_not_shown options old.files faults trees fault (uncut_caused fault uncut) read _ mode shown);
+    complete = λ shown files_fine gate_fine. absurd (fault_not_shown options old.files faults trees fault (uncut_caused fault uncut) read _ mode shown);
     first_no = λ first_no. absurd (none_no records untouched.no_records first_no);
     files_failed = λ failed. absurd (failed files.quiet);
     gate_failed = λ failed. absurd (failed (ap (λ (gate : SeenGate). gate.faults) untouched.same));
     out_failed = λ failed is. cc is;
   }
-  must_end (unparsed grammar squeeze mode read files untouched put) = record {
-    grammar_over = λ g s is over. absurd (read_not_over (has_at mode is input_fault.NoParse read).1 over);
-    grammar_missing = λ g s is none. absurd (read_not_missing (has_at mode is input_fault.NoParse read).1 none);
-    faulty = λ g s is shown. absurd (not_faulty _ _ (has_at mode is input_fault.NoParse read).1 shown);
+  must_end (unparsed trees mode read files untouched put) = record {
+    grammar_over = λ g is over. absurd (read_not_over (has_at mode is input_fault.NoParse read).1 over);
+    grammar_missing = λ g is none. absurd (read_not_missing (has_at mode is input_fault.NoParse read).1 none);
+    faulty = λ g is shown. absurd (not_faulty _ _ (has_at mode is input_fault.NoParse read).1 shown);
     input_over = λ fine over. absurd (read_not_over read.2 over);
     input_missing = λ fine none. absurd (read_not_missing read.2 none);
     over = λ over. absurd (read_not_over read.2 over);
     missing = λ none. absurd (read_not_missing read.2 none);
-    no_token = λ g s is shown. absurd (fault_is options old.files faults g s input_fault.NoParse (parse_caused input_fault.NoParse refl) (has_at mode is input_fault.NoParse read) IsUncut uncut_caused shown);
-    unparsed = λ g s is shown. refl;
-    keep_missing = λ shown. absurd (fault_not_shown options old.files faults grammar squeeze input_fault.NoParse (parse_caused input_fault.NoParse refl) read _ mode shown);
-    complete = λ shown files_fine gate_fine. absurd (fault_not_shown options old.files faults grammar squeeze input_fault.NoParse (parse_caused input_fault.NoParse refl) read _ mode shown);
+    no_token = λ g is shown. absurd (fault_is options old.files faults g input_fault.NoParse (parse_caused input_fault.NoParse refl) (has_at mode is input_fault.NoParse read) IsUncut uncut_caused shown);
+    unparsed = λ g is shown. refl;
+    keep_missing = λ shown. absurd (fault_not_shown options old.files faults trees input_fault.NoParse (parse_caused input_fault.NoParse refl) read _ mode shown);
+    complete = λ shown files_fine gate_fine. absurd (fault_not_shown options old.files faults trees input_fault.NoParse (parse_caused input_fault.NoParse refl) read _ mode shown);
     first_no = λ first_no. absurd (none_no records untouched.no_records first_no);
     files_failed = λ failed. absurd (failed files.quiet);
     gate_failed = λ failed. absurd (failed (ap (λ (gate : SeenGate). gate.faults) untouched.same));
     out_failed = λ failed is. cc is;
   }
   must_end (uninteresting only read files gate_quiet put) = record {
-    grammar_over = λ g s is over. absurd (grammar_not_over options old.files _ read g s is over);
-    grammar_missing = λ g s is none. absurd (grammar_not_missing options old.files _ read g s is none);
-    faulty = λ g s is shown. absurd (grammar_not_faulty options old.files _ read g s is shown);
+    grammar_over = λ g is over. absurd (grammar_not_over options old.files _ read g is over);
+    grammar_missing = λ g is none. absurd (grammar_not_missing options old.files _ read g is none);
+    faulty = λ g is shown. absurd (grammar_not_faulty options old.files _ read g is shown);
     input_over = λ fine over. absurd (read_not_over (input_read options old.files _ read) over);
     input_missing = λ fine none. absurd (read_not_missing (input_read options old.files _ read) none);
     over = λ over. absurd (read_not_over (input_read options old.files _ read) over);
     missing = λ none. absurd (read_not_missing (input_read options old.files _ read) none);
-    no_token = λ g s is shown. absurd (no_fault options old.files _ read g s is faults languages IsUncut uncut_caused shown);
-    unparsed = λ g s is shown. absurd (no_fault options old.files _ read g s is faults languages (λ fault. fault ≡ input_fault.NoParse) parse_caused shown);
+    no_token = λ g is shown. absurd (no_fault options old.files _ read g is faults languages IsUncut uncut_caused shown);
+    unparsed = λ g is shown. absurd (no_fault options old.files _ read g is faults languages (λ fault. fault ≡ input_fault.NoParse) parse_caused shown);
     keep_missing = λ shown. absurd (keeps_all _ read shown);
     complete = λ shown files_fine gate_fine. refl;
     first_no = λ first_no. refl;
@@ -205,15 +205,15 @@ module _ (faults : InputFaultOnce) (languages : InputsAreInLanguage) (options : 
     out_failed = λ failed is. cc is;
   }
   must_end (keep_missing index read files untouched put) = record {
-    grammar_over = λ g s is over. absurd (grammar_not_over options old.files _ read g s is over);
-    grammar_missing = λ g s is none. absurd (grammar_not_missing options old.files _ read g s is none);
-    faulty = λ g s is shown. absurd (grammar_not_faulty options old.files _ read g s is shown);
+    grammar_over = λ g is over. absurd (grammar_not_over options old.files _ read g is over);
+    grammar_missing = λ g is none. absurd (grammar_not_missing options old.files _ read g is none);
+    faulty = λ g is shown. absurd (grammar_not_faulty options old.files _ read g is shown);
     input_over = λ fine over. absurd (read_not_over (input_read options old.files _ read) over);
     input_missing = λ fine none. absurd (read_not_missing (input_read options old.files _ read) none);
     over = λ over. absurd (read_not_over (input_read options old.files _ read) over);
     missing = λ none. absurd (read_not_missing (input_read options old.files _ read) none);
-    no_token = λ g s is shown. absurd (no_fault options old.files _ read g s is faults languages IsUncut uncut_caused shown);
-    unparsed = λ g s is shown. absurd (no_fault options old.files _ read g s is faults languages (λ fault. fault ≡ input_fault.NoParse) parse_caused shown);
+    no_token = λ g is shown. absurd (no_fault options old.files _ read g is faults languages IsUncut uncut_caused shown);
+    unparsed = λ g is shown. absurd (no_fault options old.files _ read g is faults languages (λ fault. fault ≡ input_fault.NoParse) parse_caused shown);
     keep_missing = λ shown. refl;
     complete = λ shown files_fine gate_fine. absurd (missing_keeps index read shown);
     first_no = λ first_no. absurd (none_no records untouched.no_records first_no);
@@ -222,15 +222,15 @@ module _ (faults : InputFaultOnce) (languages : InputsAreInLanguage) (options : 
     out_failed = λ failed is. cc is;
   }
   must_end (too_long named.Input reached longer files untouched put) = record {
-    grammar_over = λ g s is over. refl;
-    grammar_missing = λ g s is none. absurd (read_not_missing (reached_grammar options old.files g s is reached).1 none);
-    faulty = λ g s is shown. absurd (not_faulty _ _ (reached_grammar options old.files g s is reached).1 shown);
+    grammar_over = λ g is over. refl;
+    grammar_missing = λ g is none. absurd (read_not_missing (reached_grammar options old.files g is reached).1 none);
+    faulty = λ g is shown. absurd (not_faulty _ _ (reached_grammar options old.files g is reached).1 shown);
     input_over = λ fine over. refl;
     input_missing = λ fine none. absurd (longer_not_missing input_limit _ longer none);
     over = λ over. refl;
     missing = λ none. refl;
-    no_token = λ g s is shown. absurd (long_input_no_fault options old.files g s is IsUncut reached longer shown);
-    unparsed = λ g s is shown. absurd (long_input_no_fault options old.files g s is (λ fault. fault ≡ input_fault.NoParse) reached longer shown);
+    no_token = λ g is shown. absurd (long_input_no_fault options old.files g is IsUncut reached longer shown);
+    unparsed = λ g is shown. absurd (long_input_no_fault options old.files g is (λ fault. fault ≡ input_fault.NoParse) reached longer shown);
     keep_missing = λ shown. absurd (long_input_not_shown options old.files _ reached longer shown);
     complete = λ shown files_fine gate_fine. absurd (long_input_not_shown options old.files _ reached longer shown);
     first_no = λ first_no. absurd (none_no records untouched.no_records first_no);
@@ -239,15 +239,15 @@ module _ (faults : InputFaultOnce) (languages : InputsAreInLanguage) (options : 
     out_failed = λ failed is. cc is;
   }
   must_end (too_long named.Grammar reached longer files untouched put) = record {
-    grammar_over = λ g s is over. refl;
-    grammar_missing = λ g s is none. absurd (longer_not_missing grammar_limit _ (long_grammar options old.files g s is longer) none);
-    faulty = λ g s is shown. absurd (not_longer grammar_limit _ _ shown (long_grammar options old.files g s is longer));
+    grammar_over = λ g is over. refl;
+    grammar_missing = λ g is none. absurd (longer_not_missing grammar_limit _ (long_grammar options old.files g is longer) none);
+    faulty = λ g is shown. absurd (not_longer grammar_limit _ _ shown (long_grammar options old.files g is longer));
     input_over = λ fine over. refl;
     input_missing = λ fine none. absurd (shown_not_long options old.files fine reached longer);
     over = λ over. refl;
     missing = λ none. refl;
-    no_token = λ g s is shown. absurd (not_longer grammar_limit _ _ shown (long_grammar options old.files g s is longer));
-    unparsed = λ g s is shown. absurd (not_longer grammar_limit _ _ shown (long_grammar options old.files g s is longer));
+    no_token = λ g is shown. absurd (not_longer grammar_limit _ _ shown (long_grammar options old.files g is longer));
+    unparsed = λ g is shown. absurd (not_longer grammar_limit _ _ shown (long_grammar options old.files g is longer));
     keep_missing = λ shown. absurd (long_grammar_not_shown options old.files _ reached longer shown);
     complete = λ shown files_fine gate_fine. absurd (long_grammar_not_shown options old.files _ reached longer shown);
     first_no = λ first_no. absurd (none_no records untouched.no_records first_no);
@@ -256,15 +256,15 @@ module _ (faults : InputFaultOnce) (languages : InputsAreInLanguage) (options : 
     out_failed = λ failed is. cc is;
   }
   must_end (script call_failed not_no read files put) = record {
-    grammar_over = λ g s is over. absurd (grammar_not_over options old.files _ read g s is over);
-    grammar_missing = λ g s is none. absurd (grammar_not_missing options old.files _ read g s is none);
-    faulty = λ g s is shown. absurd (grammar_not_faulty options old.files _ read g s is shown);
+    grammar_over = λ g is over. absurd (grammar_not_over options old.files _ read g is over);
+    grammar_missing = λ g is none. absurd (grammar_not_missing options old.files _ read g is none);
+    faulty = λ g is shown. absurd (grammar_not_faulty options old.files _ read g is shown);
     input_over = λ fine over. absurd (read_not_over (input_read options old.files _ read) over);
     input_missing = λ fine none. absurd (read_not_missing (input_read options old.files _ read) none);
     over = λ over. absurd (read_not_over (input_read options old.files _ read) over);
     missing = λ none. absurd (read_not_missing (input_read options old.files _ read) none);
-    no_token = λ g s is shown. absurd (no_fault options old.files _ read g s is faults languages IsUncut uncut_caused shown);
-    unparsed = λ g s is shown. absurd (no_fault options old.files _ read g s is faults languages (λ fault. fault ≡ input_fault.NoParse) parse_caused shown);
+    no_token = λ g is shown. absurd (no_fault options old.files _ read g is faults languages IsUncut uncut_caused shown);
+    unparsed = λ g is shown. absurd (no_fault options old.files _ read g is faults languages (λ fault. fault ≡ input_fault.NoParse) parse_caused shown);
     keep_missing = λ shown. absurd (keeps_all _ read shown);
     complete = λ shown files_fine gate_fine. absurd (gate_fine call_failed);
     first_no = λ first_no. absurd (not_no first_no);

@@ -1,5 +1,5 @@
 -- What the files had to be reduced isn't at odds with what is visible of them.
-use Rattle.std.proofs.Common.{◌≡◌, ◌≢◌, ℕ, Bool, List, Option, Some, None, true, ap, sym, ◌∙◌, subst}
+use Rattle.std.proofs.Common.{◌≡◌, ◌≢◌, ℕ, List, Option, Some, None, true, ap, sym, ◌∙◌, subst}
 use Rattle.std.proofs.lemmas.Option.{same_Some}
 use Rattle.edge_io.specs.Files.{FileContent, Holds, IsLonger}
 use Rattle.keep_guard.specs.Keep.{holds_all}
@@ -19,7 +19,7 @@ use Rattle.problem_run.specs.Problem.{Problem, start_of}
 use Rattle.problem_run.specs.Read.{IsReadAs, start_read}
 use Rattle.top_call.specs.Reduce.{InputHas, IsReached, IsShownFault, IsShownGrammar, IsTreeProblem, ProblemAccepted, ProblemRead, ReadIn, ShownIn, grammar_in}
 use Rattle.top_call.specs.Status.{IsUncut}
-use Rattle.top_call.specs.Words.{ModeOptions, ReduceOptions}
+use Rattle.top_call.specs.Words.{GrammarOptions, ModeOptions, ReduceOptions}
 use Rattle.top_call.specs.World.{IsOver, IsShownWithin, SeenFiles, WasRead, grammar_limit, input_limit}
 use Rattle.top_call.proofs.FileLemmas.{not_longer, read_not_missing, read_not_over}
 
@@ -63,13 +63,13 @@ parse_caused fault no_parse is = cc (sym no_parse ∙ is)
 -- the start of what was read is its text
 pub start_as : (keeps : List (List ℕ)) (read : ReadProblem) (problem : Problem) → IsReadAs keeps read problem → start_of problem ≡ start_read read
 start_as keeps (read_problem.Lines start) problem is = ap start_of is
-start_as keeps (read_problem.Tree found squeeze) problem is = ap start_of is.1
+start_as keeps (read_problem.Tree found mode squeeze) problem is = ap start_of is.1
 
 module _ (options : ReduceOptions) (files : SeenFiles) where
   -- what holds of a problem that was read also holds of another fact
   read_as : (mode : ModeOptions) (P Q : Problem → Type 0) → ((problem : Problem) → P problem → Q problem) → ReadIn mode options files P → ReadIn mode options files Q
   read_as ModeOptions.lines P Q then read = record { bytes = read.bytes; read = read.read; within = read.within; holds = then _ read.holds }
-  read_as (ModeOptions.perses grammar squeeze) P Q then read = (
+  read_as (ModeOptions.by_grammar trees) P Q then read = (
     read.0,
     read.1,
     record { bytes = read.2.bytes; read = read.2.read; within = read.2.within; holds = (read.2.holds.0, read.2.holds.1, then _ read.2.holds.2) },
@@ -87,7 +87,7 @@ module _ (options : ReduceOptions) (files : SeenFiles) where
 
   any_in : (mode : ModeOptions) (P : Problem → Type 0) → ReadIn mode options files P → (problem : Problem) × P problem
   any_in ModeOptions.lines P read = (Problem.of_lines read.bytes, read.holds)
-  any_in (ModeOptions.perses grammar squeeze) P read = (Problem.of_tree read.2.holds.0, read.2.holds.2)
+  any_in (ModeOptions.by_grammar trees) P read = (Problem.of_tree trees.mode read.2.holds.0, read.2.holds.2)
 
   -- where there is a problem with a fact, some problem has it
   pub any_problem : (P : Problem → Type 0) → ProblemRead options files P → (problem : Problem) × P problem
@@ -95,7 +95,7 @@ module _ (options : ReduceOptions) (files : SeenFiles) where
 
   input_in : (mode : ModeOptions) (P : Problem → Type 0) → ReadIn mode options files P → WasRead input_limit (files.shown options.input) (λ bytes. Unit {0})
   input_in ModeOptions.lines P read = record { bytes = read.bytes; read = read.read; within = read.within; holds = tt }
-  input_in (ModeOptions.perses grammar squeeze) P read = record { bytes = read.2.bytes; read = read.2.read; within = read.2.within; holds = tt }
+  input_in (ModeOptions.by_grammar trees) P read = record { bytes = read.2.bytes; read = read.2.read; within = read.2.within; holds = tt }
 
   -- the input was read then
   pub input_read : (P : Problem → Type 0) → ProblemRead options files P → WasRead input_limit (files.shown options.input) (λ bytes. Unit {0})
@@ -103,118 +103,118 @@ module _ (options : ReduceOptions) (files : SeenFiles) where
 
   both_in : (mode : ModeOptions) (P : Problem → Type 0) (S : List ℕ → Type 0) → ReadIn mode options files P → ShownIn mode options files S → (problem : Problem) × P problem × S (start_of problem)
   both_in ModeOptions.lines P S read shown = (Problem.of_lines read.bytes, read.holds, shown_holds input_limit S (files.shown options.input) shown read.bytes read.read)
-  both_in (ModeOptions.perses grammar squeeze) P S read shown =
+  both_in (ModeOptions.by_grammar trees) P S read shown =
       let content = files.shown options.input in
       let visible : IsShownWithin input_limit content (λ text. InLanguage read.0 text × S text) =
-      of_grammar (files.shown grammar) read.0 read.1 (λ c. IsShownWithin input_limit content (λ text. InLanguage c text × S text)) shown in
+      of_grammar (files.shown trees.grammar) read.0 read.1 (λ c. IsShownWithin input_limit content (λ text. InLanguage c text × S text)) shown in
       let it : InLanguage read.0 read.2.bytes × S read.2.bytes = shown_holds input_limit (λ text. InLanguage read.0 text × S text) content visible read.2.bytes read.2.read in
-      (Problem.of_tree read.2.holds.0, read.2.holds.2, subst S (sym read.2.holds.1.of_text.same_text) it.1)
+      (Problem.of_tree trees.mode read.2.holds.0, read.2.holds.2, subst S (sym read.2.holds.1.of_text.same_text) it.1)
 
   -- what is visible of a problem holds of the one that was read
   pub read_and_shown : (P : Problem → Type 0) (S : List ℕ → Type 0) → ProblemRead options files P → ShownIn options.mode options files S → (problem : Problem) × P problem × S (start_of problem)
   read_and_shown P S read shown = both_in options.mode P S read shown
 
   -- the grammar was read too
-  module _ (P : Problem → Type 0) (read : ProblemRead options files P) (grammar : List ℕ) (squeeze : Bool) (mode : options.mode ≡ ModeOptions.perses grammar squeeze) where
-    in_perses : ReadIn (ModeOptions.perses grammar squeeze) options files P
-    in_perses = subst (λ m. ReadIn m options files P) mode read
+  module _ (P : Problem → Type 0) (read : ProblemRead options files P) (trees : GrammarOptions) (mode : options.mode ≡ ModeOptions.by_grammar trees) where
+    grammar_read : ReadIn (ModeOptions.by_grammar trees) options files P
+    grammar_read = subst (λ m. ReadIn m options files P) mode read
 
-    pub grammar_not_over : IsOver grammar_limit (files.shown grammar) → ⊥
-    grammar_not_over over = read_not_over in_perses.1 over
+    pub grammar_not_over : IsOver grammar_limit (files.shown trees.grammar) → ⊥
+    grammar_not_over over = read_not_over grammar_read.1 over
 
-    pub grammar_not_missing : files.shown grammar ≡ Some None → ⊥
-    grammar_not_missing none = read_not_missing in_perses.1 none
+    pub grammar_not_missing : files.shown trees.grammar ≡ Some None → ⊥
+    grammar_not_missing none = read_not_missing grammar_read.1 none
 
-    pub grammar_not_faulty : IsShownWithin grammar_limit (files.shown grammar) (λ bytes. ¬ IsGrammarText bytes) → ⊥
-    grammar_not_faulty shown = not_faulty (files.shown grammar) in_perses.0 in_perses.1 shown
+    pub grammar_not_faulty : IsShownWithin grammar_limit (files.shown trees.grammar) (λ bytes. ¬ IsGrammarText bytes) → ⊥
+    grammar_not_faulty shown = not_faulty (files.shown trees.grammar) grammar_read.0 grammar_read.1 shown
 
     -- and the input has no fault
-    pub no_fault : InputFaultOnce → InputsAreInLanguage → (Q : InputFault → Type 0) → ((fault : InputFault) → Q fault → fault ≢ input_fault.Memory) → IsShownFault grammar options files Q → ⊥
+    pub no_fault : InputFaultOnce → InputsAreInLanguage → (Q : InputFault → Type 0) → ((fault : InputFault) → Q fault → fault ≢ input_fault.Memory) → IsShownFault trees.grammar options files Q → ⊥
     no_fault faults languages Q caused shown =
         let content = files.shown options.input in
-        let c : CheckedGrammar = in_perses.0 in
-        let input : WasRead input_limit content (λ text. (input : TreeInput) × IsTreeProblem options.keeps c squeeze text input × P (Problem.of_tree input)) = in_perses.2 in
+        let c : CheckedGrammar = grammar_read.0 in
+        let input : WasRead input_limit content (λ text. (input : TreeInput) × IsTreeProblem options.keeps c trees.squeeze text input × P (Problem.of_tree trees.mode input)) = grammar_read.2 in
         let visible : IsShownWithin input_limit content (λ text. (fault : InputFault) × IsInputFault c text fault × Q fault) =
-        of_grammar (files.shown grammar) c in_perses.1 (λ c. IsShownWithin input_limit content (λ text. (fault : InputFault) × IsInputFault c text fault × Q fault)) shown in
+        of_grammar (files.shown trees.grammar) c grammar_read.1 (λ c. IsShownWithin input_limit content (λ text. (fault : InputFault) × IsInputFault c text fault × Q fault)) shown in
         let it : (fault : InputFault) × IsInputFault c input.bytes fault × Q fault =
         shown_holds input_limit (λ text. (fault : InputFault) × IsInputFault c text fault × Q fault) content visible input.bytes input.read in
         (faults c input.bytes).refused it.0 (caused it.0 it.2) it.1 (languages c input.bytes input.holds.0 input.holds.1.of_text)
 
   -- an input with a fault
-  module _ (faults : InputFaultOnce) (grammar : List ℕ) (squeeze : Bool) (fault : InputFault) (caused : fault ≢ input_fault.Memory) (read : InputHas grammar (λ c bytes. IsInputFault c bytes fault) options files) where
+  module _ (faults : InputFaultOnce) (trees : GrammarOptions) (fault : InputFault) (caused : fault ≢ input_fault.Memory) (read : InputHas trees.grammar (λ c bytes. IsInputFault c bytes fault) options files) where
     content : Option FileContent
     content = files.shown options.input
 
     -- isn't in the language
-    fault_in : (mode : ModeOptions) (S : List ℕ → Type 0) → mode ≡ ModeOptions.perses grammar squeeze → ShownIn mode options files S → ⊥
+    fault_in : (mode : ModeOptions) (S : List ℕ → Type 0) → mode ≡ ModeOptions.by_grammar trees → ShownIn mode options files S → ⊥
     unfolding content
     fault_in mode S is shown =
         let visible : IsShownWithin input_limit content (λ text. InLanguage read.0 text × S text) =
-        of_grammar (files.shown grammar) read.0 read.1 (λ c. IsShownWithin input_limit content (λ text. InLanguage c text × S text)) (subst (λ m. ShownIn m options files S) is shown) in
+        of_grammar (files.shown trees.grammar) read.0 read.1 (λ c. IsShownWithin input_limit content (λ text. InLanguage c text × S text)) (subst (λ m. ShownIn m options files S) is shown) in
         let it : InLanguage read.0 read.2.bytes × S read.2.bytes = shown_holds input_limit (λ text. InLanguage read.0 text × S text) content visible read.2.bytes read.2.read in
         (faults read.0 read.2.bytes).refused fault caused read.2.holds it.0
 
-    pub fault_not_shown : (S : List ℕ → Type 0) → options.mode ≡ ModeOptions.perses grammar squeeze → ShownIn options.mode options files S → ⊥
+    pub fault_not_shown : (S : List ℕ → Type 0) → options.mode ≡ ModeOptions.by_grammar trees → ShownIn options.mode options files S → ⊥
     fault_not_shown S is shown = fault_in options.mode S is shown
 
     -- and has no other
-    pub fault_is : (Q : InputFault → Type 0) → ((fault : InputFault) → Q fault → fault ≢ input_fault.Memory) → IsShownFault grammar options files Q → Q fault
+    pub fault_is : (Q : InputFault → Type 0) → ((fault : InputFault) → Q fault → fault ≢ input_fault.Memory) → IsShownFault trees.grammar options files Q → Q fault
     unfolding content
     fault_is Q not_memory shown =
         let visible : IsShownWithin input_limit content (λ text. (fault : InputFault) × IsInputFault read.0 text fault × Q fault) =
-        of_grammar (files.shown grammar) read.0 read.1 (λ c. IsShownWithin input_limit content (λ text. (fault : InputFault) × IsInputFault c text fault × Q fault)) shown in
+        of_grammar (files.shown trees.grammar) read.0 read.1 (λ c. IsShownWithin input_limit content (λ text. (fault : InputFault) × IsInputFault c text fault × Q fault)) shown in
         let it : (fault : InputFault) × IsInputFault read.0 read.2.bytes fault × Q fault =
         shown_holds input_limit (λ text. (fault : InputFault) × IsInputFault read.0 text fault × Q fault) content visible read.2.bytes read.2.read in
         subst Q (sym ((faults read.0 read.2.bytes).once fault it.0 caused (not_memory it.0 it.2) read.2.holds it.1)) it.2
 
   -- a grammar that has a fault isn't that of a problem
-  pub faulty_not_shown : (grammar : List ℕ) (squeeze : Bool) (text : List ℕ) (S : List ℕ → Type 0) → options.mode ≡ ModeOptions.perses grammar squeeze
-      → WasRead grammar_limit (files.shown grammar) (λ bytes. IsFaultIn bytes text) → ShownIn options.mode options files S → ⊥
-  faulty_not_shown grammar squeeze text S is read shown =
-      no_grammar (files.shown grammar) text read (λ c. IsShownWithin input_limit (files.shown options.input) (λ bytes. InLanguage c bytes × S bytes)) (subst (λ m. ShownIn m options files S) is shown)
+  pub faulty_not_shown : (trees : GrammarOptions) (text : List ℕ) (S : List ℕ → Type 0) → options.mode ≡ ModeOptions.by_grammar trees
+      → WasRead grammar_limit (files.shown trees.grammar) (λ bytes. IsFaultIn bytes text) → ShownIn options.mode options files S → ⊥
+  faulty_not_shown trees text S is read shown =
+      no_grammar (files.shown trees.grammar) text read (λ c. IsShownWithin input_limit (files.shown options.input) (λ bytes. InLanguage c bytes × S bytes)) (subst (λ m. ShownIn m options files S) is shown)
 
   -- neither is one, nor an input, that is too long
   long_input_in : (mode : ModeOptions) (S : List ℕ → Type 0) → IsReached mode named.Input files → IsLonger input_limit (files.shown options.input) → ShownIn mode options files S → ⊥
   long_input_in ModeOptions.lines S reached longer shown = not_longer input_limit S (files.shown options.input) shown longer
-  long_input_in (ModeOptions.perses grammar squeeze) S reached longer shown =
+  long_input_in (ModeOptions.by_grammar trees) S reached longer shown =
       not_longer input_limit (λ text. InLanguage reached.0 text × S text) (files.shown options.input)
-      (of_grammar (files.shown grammar) reached.0 reached.1 (λ c. IsShownWithin input_limit (files.shown options.input) (λ text. InLanguage c text × S text)) shown) longer
+      (of_grammar (files.shown trees.grammar) reached.0 reached.1 (λ c. IsShownWithin input_limit (files.shown options.input) (λ text. InLanguage c text × S text)) shown) longer
 
   pub long_input_not_shown : (S : List ℕ → Type 0) → IsReached options.mode named.Input files → IsLonger input_limit (files.shown options.input) → ShownIn options.mode options files S → ⊥
   long_input_not_shown S reached longer shown = long_input_in options.mode S reached longer shown
 
   long_grammar_in : (mode : ModeOptions) (S : List ℕ → Type 0) → IsReached mode named.Grammar files → IsLonger grammar_limit (files.shown (grammar_in mode)) → ShownIn mode options files S → ⊥
   long_grammar_in ModeOptions.lines S reached longer shown = reached
-  long_grammar_in (ModeOptions.perses grammar squeeze) S reached longer shown = not_longer grammar_limit _ (files.shown grammar) shown longer
+  long_grammar_in (ModeOptions.by_grammar trees) S reached longer shown = not_longer grammar_limit _ (files.shown trees.grammar) shown longer
 
   pub long_grammar_not_shown : (S : List ℕ → Type 0) → IsReached options.mode named.Grammar files → IsLonger grammar_limit (files.shown (grammar_in options.mode)) → ShownIn options.mode options files S → ⊥
   long_grammar_not_shown S reached longer shown = long_grammar_in options.mode S reached longer shown
 
   -- a grammar that is visible and well-formed has no fault
-  pub shown_not_faulty : {grammar : List ℕ} {squeeze : Bool} {text : List ℕ} → options.mode ≡ ModeOptions.perses grammar squeeze
-      → WasRead grammar_limit (files.shown grammar) (λ bytes. IsFaultIn bytes text) → IsShownGrammar options.mode files → ⊥
-  shown_not_faulty {grammar = grammar} is read shown =
-      read.holds.refused (shown_holds grammar_limit IsGrammarText (files.shown grammar) (subst (λ m. IsShownGrammar m files) is shown) read.bytes read.read)
+  pub shown_not_faulty : {trees : GrammarOptions} {text : List ℕ} → options.mode ≡ ModeOptions.by_grammar trees
+      → WasRead grammar_limit (files.shown trees.grammar) (λ bytes. IsFaultIn bytes text) → IsShownGrammar options.mode files → ⊥
+  shown_not_faulty {trees = trees} is read shown =
+      read.holds.refused (shown_holds grammar_limit IsGrammarText (files.shown trees.grammar) (subst (λ m. IsShownGrammar m files) is shown) read.bytes read.read)
 
   -- and isn't too long
   shown_short_in : (mode : ModeOptions) → IsShownGrammar mode files → IsReached mode named.Grammar files → IsLonger grammar_limit (files.shown (grammar_in mode)) → ⊥
   shown_short_in ModeOptions.lines shown reached longer = reached
-  shown_short_in (ModeOptions.perses grammar squeeze) shown reached longer = not_longer grammar_limit IsGrammarText (files.shown grammar) shown longer
+  shown_short_in (ModeOptions.by_grammar trees) shown reached longer = not_longer grammar_limit IsGrammarText (files.shown trees.grammar) shown longer
 
   pub shown_not_long : IsShownGrammar options.mode files → IsReached options.mode named.Grammar files → IsLonger grammar_limit (files.shown (grammar_in options.mode)) → ⊥
   shown_not_long shown reached longer = shown_short_in options.mode shown reached longer
 
-  module _ (grammar : List ℕ) (squeeze : Bool) (mode : options.mode ≡ ModeOptions.perses grammar squeeze) where
+  module _ (trees : GrammarOptions) (mode : options.mode ≡ ModeOptions.by_grammar trees) where
     -- the grammar of an input that is reached was read
-    pub reached_grammar : IsReached options.mode named.Input files → (c : CheckedGrammar) × GrammarRead (files.shown grammar) c
+    pub reached_grammar : IsReached options.mode named.Input files → (c : CheckedGrammar) × GrammarRead (files.shown trees.grammar) c
     reached_grammar reached = subst (λ m. IsReached m named.Input files) mode reached
 
-    pub long_grammar : IsLonger grammar_limit (files.shown (grammar_in options.mode)) → IsLonger grammar_limit (files.shown grammar)
+    pub long_grammar : IsLonger grammar_limit (files.shown (grammar_in options.mode)) → IsLonger grammar_limit (files.shown trees.grammar)
     long_grammar longer = subst (λ m. IsLonger grammar_limit (files.shown (grammar_in m))) mode longer
 
     -- an input that is too long has no fault that is named
-    pub long_input_no_fault : (Q : InputFault → Type 0) → IsReached options.mode named.Input files → IsLonger input_limit (files.shown options.input) → IsShownFault grammar options files Q → ⊥
+    pub long_input_no_fault : (Q : InputFault → Type 0) → IsReached options.mode named.Input files → IsLonger input_limit (files.shown options.input) → IsShownFault trees.grammar options files Q → ⊥
     long_input_no_fault Q reached longer shown =
-        let it : (c : CheckedGrammar) × GrammarRead (files.shown grammar) c = reached_grammar reached in
+        let it : (c : CheckedGrammar) × GrammarRead (files.shown trees.grammar) c = reached_grammar reached in
         not_longer input_limit (λ text. (fault : InputFault) × IsInputFault it.0 text fault × Q fault) (files.shown options.input)
-        (of_grammar (files.shown grammar) it.0 it.1 (λ c. IsShownWithin input_limit (files.shown options.input) (λ text. (fault : InputFault) × IsInputFault c text fault × Q fault)) shown) longer
+        (of_grammar (files.shown trees.grammar) it.0 it.1 (λ c. IsShownWithin input_limit (files.shown options.input) (λ text. (fault : InputFault) × IsInputFault c text fault × Q fault)) shown) longer

@@ -1,6 +1,6 @@
 -- What was read of the files, and why nothing was.
-use Rattle.std.proofs.Common.{arith, ◌≡◌, ◌≤◌, ℕ, Bool, List, length, Option, true, false, refl, sym, subst}
-use Rattle.edge_io.specs.Files.{FileContent, Holds}
+use Rattle.std.proofs.Common.{arith, ◌≡◌, ◌≤◌, ℕ, List, length, Option, true, false, refl, sym, subst}
+use Rattle.edge_io.specs.Files.{FileContent, Holds, IsLonger}
 use Rattle.grammar_tree.specs.Checked.{IsChecked}
 use Rattle.grammar_tree.specs.Written.{CheckedGrammar}
 use Rattle.keep_guard.specs.Keep.{keeps_admit}
@@ -11,13 +11,14 @@ use Rattle.grammar_input.specs.declared.parsed.ParsedInput.{ParsedInput}
 use Rattle.problem_run.specs.declared.problem.ReadProblem.TheVariants as read
 use Rattle.problem_run.specs.Read.{IsReadAs}
 use Rattle.top_call.specs.declared.status.Refusal.{Refusal}
-use Rattle.top_call.specs.declared.status.Refusal.TheVariants.{Memory, Uncut, NoParse}
+use Rattle.top_call.specs.declared.status.NamedFile.TheVariants as named
+use Rattle.top_call.specs.declared.status.Refusal.TheVariants.{Memory, CannotRead, Grammar, NoParse, TooLong, Uncut}
 use Rattle.top_call.specs.Grammar.{GrammarRead}
 use Rattle.top_call.specs.Read.{GivesTree, TreeFails}
-use Rattle.top_call.specs.Reduce.{ProblemRead, ReadIn}
+use Rattle.top_call.specs.Reduce.{IsReached, ProblemFails, ProblemRead, ReadIn, grammar_in}
 use Rattle.top_call.specs.Status.{IsInputRefusal}
-use Rattle.top_call.specs.Words.{ModeOptions, ReduceOptions}
-use Rattle.top_call.specs.World.{IsQuiet, SeenFiles, input_limit}
+use Rattle.top_call.specs.Words.{GrammarOptions, ModeOptions, ReduceOptions}
+use Rattle.top_call.specs.World.{IsQuiet, SeenFiles, grammar_limit, input_limit}
 
 -- an input within its limit can be reduced
 within_more : {n : ℕ} → n ≤ input_limit → n ≤ 1048576
@@ -48,19 +49,32 @@ module _ (grammar input : List ℕ) (files files' : SeenFiles) (c : CheckedGramm
   fault_fails bytes here within quiet fault is NoParse why = ((c, spelled, record { bytes = bytes; read = here; within = within; holds = subst (IsInputFault c bytes) why is }), quiet)
   fault_fails bytes here within quiet fault is _ why = absurd why
 
-module _ (options : ReduceOptions) (files : SeenFiles) (grammar : List ℕ) (squeeze : Bool) (mode : options.mode ≡ ModeOptions.perses grammar squeeze) where
+module _ (options : ReduceOptions) (files : SeenFiles) (trees : GrammarOptions) (mode : options.mode ≡ ModeOptions.by_grammar trees) where
   -- the tree of the input
-  pub tree_read : (found : ParsedInput) → GivesTree (files.shown grammar) (files.shown options.input) found → ProblemRead options files (IsReadAs options.keeps (read.Tree found squeeze))
+  pub tree_read : (found : ParsedInput) → GivesTree (files.shown trees.grammar) (files.shown options.input) found → ProblemRead options files (IsReadAs options.keeps (read.Tree found trees.mode trees.squeeze))
   tree_read found gives =
       let formed = gives.ready.checked.well_formed in
       let admits = keeps_admit options.keeps in
-      subst (λ (m : ModeOptions). ReadIn m options files (IsReadAs options.keeps (read.Tree found squeeze))) (sym mode) (
+      subst (λ (m : ModeOptions). ReadIn m options files (IsReadAs options.keeps (read.Tree found trees.mode trees.squeeze))) (sym mode) (
         gives.checked,
         gives.spelled,
         record {
           bytes = gives.read.bytes;
           read = gives.read.read;
           within = gives.read.within;
-          holds = (tree_input found formed admits squeeze, record { of_text = gives.read.holds formed admits squeeze; admits = refl; squeezes = refl }, (formed, refl));
+          holds = (tree_input found formed admits trees.squeeze, record { of_text = gives.read.holds formed admits trees.squeeze; admits = refl; squeezes = refl }, (formed, refl));
         },
       )
+
+  -- why there is no tree
+  pub tree_fails : (files' : SeenFiles) (refusal : Refusal) → TreeFails trees.grammar options.input files files' refusal → ProblemFails options files files' refusal
+  tree_fails files' Memory why = why
+  tree_fails files' (CannotRead named.Input) why = (subst (λ (m : ModeOptions). IsReached m named.Input files) (sym mode) why.0, why.1)
+  tree_fails files' (CannotRead named.Grammar) why = (subst (λ (m : ModeOptions). IsReached m named.Grammar files) (sym mode) tt, why)
+  tree_fails files' (TooLong named.Input) why = (subst (λ (m : ModeOptions). IsReached m named.Input files) (sym mode) why.0, why.1, why.2)
+  tree_fails files' (TooLong named.Grammar) why =
+      subst (λ (m : ModeOptions). IsReached m named.Grammar files × IsLonger grammar_limit (files.shown (grammar_in m)) × IsQuiet files files') (sym mode) (tt, why.1, why.2)
+  tree_fails files' (Grammar line) why = (trees, mode, why)
+  tree_fails files' (Uncut line) why = (trees, why.0, mode, why.1, why.2, why.3, why.4)
+  tree_fails files' NoParse why = (trees, mode, why.0, why.1)
+  tree_fails files' _ why = absurd why

@@ -1,5 +1,5 @@
 -- Each status of `reduce`, from how it ends.
-use Rattle.std.proofs.Common.{◌≡◌, ◌≢◌, inl, inr, ℕ, ◌+◌, Bool, List, [], ◌∷◌, Some, refl, sym, ◌∙◌}
+use Rattle.std.proofs.Common.{◌≡◌, ◌≢◌, inl, inr, ℕ, ◌+◌, List, [], ◌∷◌, Some, refl, sym, ◌∙◌}
 use Rattle.std.proofs.lemmas.Bool.{false≢true}
 use Rattle.keep_guard.specs.Keep.{first_missing}
 use Rattle.edge_io.specs.Files.{IsLonger, SameFiles, SameOthers}
@@ -17,14 +17,14 @@ use Rattle.problem_run.specs.Problem.{start_of}
 use Rattle.top_call.specs.Reduce.{InputHas, IsReached, IsReduced, ProblemRead, ReduceEnds, ReducesTo, limit_of, name_of}
 use Rattle.top_call.specs.Reduce.ReduceEnds.{done, memory, unread, unwritten, faulty, no_token, unparsed, uninteresting, keep_missing, too_long, script}
 use Rattle.top_call.specs.ReduceByStatus.{PutsItsLine, ReduceByStatus}
-use Rattle.top_call.specs.Words.{ModeOptions, ReduceOptions}
+use Rattle.top_call.specs.Words.{GrammarOptions, ModeOptions, ReduceOptions}
 use Rattle.top_call.specs.Status.{IsOneOf, IsUncut, fault_line, keep_text}
 use Rattle.top_call.specs.World.{CallFailed, GateUntouched, PutsLine, PutsMessage, SeenFiles, WasRead, World, grammar_limit}
 
 -- some file is read in each mode
 file_of : (mode : ModeOptions) (files : SeenFiles) → (file : NamedFile) × IsReached mode file files
 file_of ModeOptions.lines files = (named.Input, tt)
-file_of (ModeOptions.perses grammar squeeze) files = (named.Grammar, tt)
+file_of (ModeOptions.by_grammar trees) files = (named.Grammar, tt)
 
 module _ (options : ReduceOptions) (records : List Record) (old new : World) where
   abbrev Ends : ℕ → Type 0
@@ -32,9 +32,9 @@ module _ (options : ReduceOptions) (records : List Record) (old new : World) whe
 
   -- only a mode with a grammar has faults of it, and texts that aren't in its language
   is_of_lines : {status : ℕ} → Ends status → options.mode ≡ ModeOptions.lines → IsOneOf (0 ∷ 1 ∷ 3 ∷ 4 ∷ 8 ∷ 9 ∷ 10 ∷ 11 ∷ []) status
-  is_of_lines (faulty grammar squeeze text mode read files untouched put) is = absurd (cc (sym mode ∙ is))
-  is_of_lines (no_token grammar squeeze fault mode uncut read files untouched put) is = absurd (cc (sym mode ∙ is))
-  is_of_lines (unparsed grammar squeeze mode read files untouched put) is = absurd (cc (sym mode ∙ is))
+  is_of_lines (faulty trees text mode read files untouched put) is = absurd (cc (sym mode ∙ is))
+  is_of_lines (no_token trees fault mode uncut read files untouched put) is = absurd (cc (sym mode ∙ is))
+  is_of_lines (unparsed trees mode read files untouched put) is = absurd (cc (sym mode ∙ is))
   is_of_lines (done writes silent) is = refl
   is_of_lines (memory files gate_quiet put) is = refl
   is_of_lines (unread file reached failed same untouched put) is = refl
@@ -77,25 +77,25 @@ module _ (options : ReduceOptions) (records : List Record) (old new : World) whe
   is_keep_missing _ is = absurd (cc is)
 
   is_fault : {status : ℕ} → Ends status → status ≡ 5
-      → (grammar : List ℕ) × (squeeze : Bool) × (text : List ℕ) × (options.mode ≡ ModeOptions.perses grammar squeeze) × WasRead grammar_limit (old.files.shown grammar) (λ bytes. IsFaultIn bytes text) × PutsLine (fault_line text) old.out new.out
-  is_fault (faulty grammar squeeze text mode read files untouched put) is = (grammar, squeeze, text, mode, read, put)
+      → (trees : GrammarOptions) × (text : List ℕ) × (options.mode ≡ ModeOptions.by_grammar trees) × WasRead grammar_limit (old.files.shown trees.grammar) (λ bytes. IsFaultIn bytes text) × PutsLine (fault_line text) old.out new.out
+  is_fault (faulty trees text mode read files untouched put) is = (trees, text, mode, read, put)
   is_fault _ is = absurd (cc is)
 
   is_no_token : {status : ℕ} → Ends status → status ≡ 6
-      → (grammar : List ℕ) × (squeeze : Bool) × (fault : InputFault) × (options.mode ≡ ModeOptions.perses grammar squeeze) × IsUncut fault × InputHas grammar (λ c bytes. IsInputFault c bytes fault) options old.files × PutsMessage (fault_text fault) old.out new.out
-  is_no_token (no_token grammar squeeze fault mode uncut read files untouched put) is = (grammar, squeeze, fault, mode, uncut, read, put)
+      → (trees : GrammarOptions) × (fault : InputFault) × (options.mode ≡ ModeOptions.by_grammar trees) × IsUncut fault × InputHas trees.grammar (λ c bytes. IsInputFault c bytes fault) options old.files × PutsMessage (fault_text fault) old.out new.out
+  is_no_token (no_token trees fault mode uncut read files untouched put) is = (trees, fault, mode, uncut, read, put)
   is_no_token _ is = absurd (cc is)
 
   is_unparsed : {status : ℕ} → Ends status → status ≡ 7
-      → (grammar : List ℕ) × (squeeze : Bool) × (options.mode ≡ ModeOptions.perses grammar squeeze) × InputHas grammar (λ c bytes. IsInputFault c bytes input_fault.NoParse) options old.files
-  is_unparsed (unparsed grammar squeeze mode read files untouched put) is = (grammar, squeeze, mode, read)
+      → (trees : GrammarOptions) × (options.mode ≡ ModeOptions.by_grammar trees) × InputHas trees.grammar (λ c bytes. IsInputFault c bytes input_fault.NoParse) options old.files
+  is_unparsed (unparsed trees mode read files untouched put) is = (trees, mode, read)
   is_unparsed _ is = absurd (cc is)
 
   is_early : {status : ℕ} → Ends status → IsOneOf (3 ∷ 5 ∷ 6 ∷ 7 ∷ 9 ∷ 10 ∷ []) status → GateUntouched records old.gate new.gate
   is_early (unread file reached failed same untouched put) is = untouched
-  is_early (faulty grammar squeeze text mode read files untouched put) is = untouched
-  is_early (no_token grammar squeeze fault mode uncut read files untouched put) is = untouched
-  is_early (unparsed grammar squeeze mode read files untouched put) is = untouched
+  is_early (faulty trees text mode read files untouched put) is = untouched
+  is_early (no_token trees fault mode uncut read files untouched put) is = untouched
+  is_early (unparsed trees mode read files untouched put) is = untouched
   is_early (keep_missing index read files untouched put) is = untouched
   is_early (too_long file reached longer files untouched put) is = untouched
   is_early _ is = absurd (false≢true is)
@@ -105,9 +105,9 @@ module _ (options : ReduceOptions) (records : List Record) (old new : World) whe
   same_others (memory files gate_quiet put) = λ name other. files.same name
   same_others (unread file reached failed same untouched put) = λ name other. same name
   same_others (unwritten failed text reduces others gate_quiet put) = others
-  same_others (faulty grammar squeeze text mode read files untouched put) = λ name other. files.same name
-  same_others (no_token grammar squeeze fault mode uncut read files untouched put) = λ name other. files.same name
-  same_others (unparsed grammar squeeze mode read files untouched put) = λ name other. files.same name
+  same_others (faulty trees text mode read files untouched put) = λ name other. files.same name
+  same_others (no_token trees fault mode uncut read files untouched put) = λ name other. files.same name
+  same_others (unparsed trees mode read files untouched put) = λ name other. files.same name
   same_others (uninteresting only read files gate_quiet put) = λ name other. files.same name
   same_others (keep_missing index read files untouched put) = λ name other. files.same name
   same_others (too_long file reached longer files untouched put) = λ name other. files.same name
@@ -118,9 +118,9 @@ module _ (options : ReduceOptions) (records : List Record) (old new : World) whe
   same_files (memory files gate_quiet put) not_done not_written = files.same
   same_files (unread file reached failed same untouched put) not_done not_written = same
   same_files (unwritten failed text reduces others gate_quiet put) not_done not_written = absurd (not_written refl)
-  same_files (faulty grammar squeeze text mode read files untouched put) not_done not_written = files.same
-  same_files (no_token grammar squeeze fault mode uncut read files untouched put) not_done not_written = files.same
-  same_files (unparsed grammar squeeze mode read files untouched put) not_done not_written = files.same
+  same_files (faulty trees text mode read files untouched put) not_done not_written = files.same
+  same_files (no_token trees fault mode uncut read files untouched put) not_done not_written = files.same
+  same_files (unparsed trees mode read files untouched put) not_done not_written = files.same
   same_files (uninteresting only read files gate_quiet put) not_done not_written = files.same
   same_files (keep_missing index read files untouched put) not_done not_written = files.same
   same_files (too_long file reached longer files untouched put) not_done not_written = files.same
@@ -131,9 +131,9 @@ module _ (options : ReduceOptions) (records : List Record) (old new : World) whe
   is_known (memory files gate_quiet put) = refl
   is_known (unread file reached failed same untouched put) = refl
   is_known (unwritten failed text reduces others gate_quiet put) = refl
-  is_known (faulty grammar squeeze text mode read files untouched put) = refl
-  is_known (no_token grammar squeeze fault mode uncut read files untouched put) = refl
-  is_known (unparsed grammar squeeze mode read files untouched put) = refl
+  is_known (faulty trees text mode read files untouched put) = refl
+  is_known (no_token trees fault mode uncut read files untouched put) = refl
+  is_known (unparsed trees mode read files untouched put) = refl
   is_known (uninteresting only read files gate_quiet put) = refl
   is_known (keep_missing index read files untouched put) = refl
   is_known (too_long file reached longer files untouched put) = refl
@@ -144,7 +144,7 @@ module _ (options : ReduceOptions) (records : List Record) (old new : World) whe
   puts_line (memory files gate_quiet put) is = inr ((file_of options.mode old.files).0, (file_of options.mode old.files).1, (Memory, tt, refl, put))
   puts_line (unread file reached failed same untouched put) is = inr (file, reached, (CannotRead file, refl, refl, put))
   puts_line (unwritten failed text reduces others gate_quiet put) is = inr ((file_of options.mode old.files).0, (file_of options.mode old.files).1, (CannotWrite, tt, refl, put))
-  puts_line (unparsed grammar squeeze mode read files untouched put) is = inr ((file_of options.mode old.files).0, (file_of options.mode old.files).1, (NoParse, tt, refl, put))
+  puts_line (unparsed trees mode read files untouched put) is = inr ((file_of options.mode old.files).0, (file_of options.mode old.files).1, (NoParse, tt, refl, put))
   puts_line (uninteresting only read files gate_quiet put) is = inr ((file_of options.mode old.files).0, (file_of options.mode old.files).1, (NotInteresting, tt, refl, put))
   puts_line (too_long file reached longer files untouched put) is = inr (file, reached, (TooLong file, refl, refl, put))
   puts_line (script failed not_no read files put) is = inr ((file_of options.mode old.files).0, (file_of options.mode old.files).1, (Script, tt, refl, put))

@@ -28,7 +28,7 @@ use Rattle.problem_run.specs.Ends.{AreOf, IsUnfinished, ReducesFrom}
 use Rattle.top_call.specs.declared.status.Refusal.{Refusal}
 use Rattle.top_call.specs.declared.status.Refusal.TheVariants.{Memory, CannotRead, Grammar, KeepMissing, NoParse, TooLong, Uncut}
 use Rattle.top_call.specs.Status.{IsKeepRefusal, IsOneOf, IsUncut, fault_line, keep_text, line_of, status_of, word_for}
-use Rattle.top_call.specs.Words.{ModeOptions, ReduceOptions, file_name_of}
+use Rattle.top_call.specs.Words.{GrammarOptions, ModeOptions, ReduceOptions, file_name_of}
 use Rattle.top_call.specs.World.{CallFailed, FilesKept, IsOver, IsQuiet, IsShownWithin, PutsLine, PutsMessage, SeenFiles, SeenGate, SeenOut, GateUntouched, WasRead, World, grammar_limit, input_limit, line_of_text}
 
 -- The input is made of this text by this grammar, what is admitted is what has each keep text, and the squeezed text of the whole is tried or not.
@@ -40,9 +40,9 @@ pub record IsTreeProblem (keeps : List (List ℕ)) (grammar : CheckedGrammar) (s
 -- The files were read whole, each within its limit, and the fact holds of what they have to be reduced: the lines of the input; or, where the grammar's bytes spell a grammar that has the input in its language, its tree.
 abbrev pub ReadIn : ModeOptions → ReduceOptions → SeenFiles → (Problem → Type 0) → Type 0
 ReadIn ModeOptions.lines options files P = WasRead input_limit (files.shown options.input) (λ start. P (Problem.of_lines start))
-ReadIn (ModeOptions.perses grammar squeeze) options files P =
-    (c : CheckedGrammar) × GrammarRead (files.shown grammar) c
-    × WasRead input_limit (files.shown options.input) (λ text. (input : TreeInput) × IsTreeProblem options.keeps c squeeze text input × P (Problem.of_tree input))
+ReadIn (ModeOptions.by_grammar trees) options files P =
+    (c : CheckedGrammar) × GrammarRead (files.shown trees.grammar) c
+    × WasRead input_limit (files.shown options.input) (λ text. (input : TreeInput) × IsTreeProblem options.keeps c trees.squeeze text input × P (Problem.of_tree trees.mode input))
 
 abbrev pub ProblemRead : ReduceOptions → SeenFiles → (Problem → Type 0) → Type 0
 ProblemRead options files P = ReadIn options.mode options files P
@@ -86,8 +86,8 @@ pub record WritesReduced (options : ReduceOptions) (records : List Record) (file
 abbrev pub IsReached : ModeOptions → NamedFile → SeenFiles → Type 0
 IsReached ModeOptions.lines named.Input files = Unit {0}
 IsReached ModeOptions.lines named.Grammar files = ⊥
-IsReached (ModeOptions.perses grammar squeeze) named.Input files = (c : CheckedGrammar) × GrammarRead (files.shown grammar) c
-IsReached (ModeOptions.perses grammar squeeze) named.Grammar files = Unit {0}
+IsReached (ModeOptions.by_grammar trees) named.Input files = (c : CheckedGrammar) × GrammarRead (files.shown trees.grammar) c
+IsReached (ModeOptions.by_grammar trees) named.Grammar files = Unit {0}
 
 -- the limit of such a file, and its path; of a mode without a grammar no path is asked for
 abbrev pub limit_of : NamedFile → ℕ
@@ -96,7 +96,7 @@ limit_of named.Grammar = grammar_limit
 
 abbrev pub grammar_in : ModeOptions → List ℕ
 grammar_in ModeOptions.lines = []
-grammar_in (ModeOptions.perses grammar squeeze) = grammar
+grammar_in (ModeOptions.by_grammar trees) = trees.grammar
 
 abbrev pub name_of : ReduceOptions → NamedFile → List ℕ
 name_of options named.Input = options.input
@@ -134,26 +134,26 @@ pub data ReduceEnds (options : ReduceOptions) (records : List Record) (old new :
       → (line : PutsMessage (codes "cannot write") old.out new.out)
       → ReduceEnds options records old new 4
   -- the file has no well-formed grammar, the line says why, and the gate was not reached
-  faulty : (grammar : List ℕ) (squeeze : Bool) (text : List ℕ)
-      → (mode : options.mode ≡ ModeOptions.perses grammar squeeze)
-      → (read : WasRead grammar_limit (old.files.shown grammar) (λ bytes. IsFaultIn bytes text))
+  faulty : (trees : GrammarOptions) (text : List ℕ)
+      → (mode : options.mode ≡ ModeOptions.by_grammar trees)
+      → (read : WasRead grammar_limit (old.files.shown trees.grammar) (λ bytes. IsFaultIn bytes text))
       → (files : FilesKept old.files new.files)
       → (untouched : GateUntouched records old.gate new.gate)
       → (line : PutsLine (fault_line text) old.out new.out)
       → ReduceEnds options records old new 5
   -- the grammar was read; the input isn't UTF-8, or isn't cut into tokens, and the line says from where on; and the gate was not reached
-  no_token : (grammar : List ℕ) (squeeze : Bool) (fault : InputFault)
-      → (mode : options.mode ≡ ModeOptions.perses grammar squeeze)
+  no_token : (trees : GrammarOptions) (fault : InputFault)
+      → (mode : options.mode ≡ ModeOptions.by_grammar trees)
       → (uncut : IsUncut fault)
-      → (read : InputHas grammar (λ c bytes. IsInputFault c bytes fault) options old.files)
+      → (read : InputHas trees.grammar (λ c bytes. IsInputFault c bytes fault) options old.files)
       → (files : FilesKept old.files new.files)
       → (untouched : GateUntouched records old.gate new.gate)
       → (line : PutsMessage (fault_text fault) old.out new.out)
       → ReduceEnds options records old new 6
   -- the grammar was read, its start rule doesn't derive the input's tokens, and the gate was not reached
-  unparsed : (grammar : List ℕ) (squeeze : Bool)
-      → (mode : options.mode ≡ ModeOptions.perses grammar squeeze)
-      → (read : InputHas grammar (λ c bytes. IsInputFault c bytes input_fault.NoParse) options old.files)
+  unparsed : (trees : GrammarOptions)
+      → (mode : options.mode ≡ ModeOptions.by_grammar trees)
+      → (read : InputHas trees.grammar (λ c bytes. IsInputFault c bytes input_fault.NoParse) options old.files)
       → (files : FilesKept old.files new.files)
       → (untouched : GateUntouched records old.gate new.gate)
       → (line : PutsMessage (codes "input does not parse") old.out new.out)
@@ -188,11 +188,11 @@ pub data ReduceEnds (options : ReduceOptions) (records : List Record) (old new :
       → (line : PutsMessage (codes "script fault at worker 1") old.out new.out)
       → ReduceEnds options records old new 11
 
--- what is visible of the files has this fact of what is reduced: the input is within its limit; and in mode perses the grammar is too, and spells a grammar that has the input in its language
+-- what is visible of the files has this fact of what is reduced: the input is within its limit; and by a grammar that is too, and spells a grammar that has the input in its language
 abbrev pub ShownIn : ModeOptions → ReduceOptions → SeenFiles → (List ℕ → Type 0) → Type 0
 ShownIn ModeOptions.lines options files P = IsShownWithin input_limit (files.shown options.input) P
-ShownIn (ModeOptions.perses grammar squeeze) options files P =
-    IsShownWithin grammar_limit (files.shown grammar) (λ bytes. (c : CheckedGrammar) × Spells bytes None c
+ShownIn (ModeOptions.by_grammar trees) options files P =
+    IsShownWithin grammar_limit (files.shown trees.grammar) (λ bytes. (c : CheckedGrammar) × Spells bytes None c
     × IsShownWithin input_limit (files.shown options.input) (λ text. InLanguage c text × P text))
 
 abbrev pub IsShownProblem : ReduceOptions → SeenFiles → (List ℕ → Type 0) → Type 0
@@ -207,16 +207,16 @@ IsShownFault grammar options files P =
 -- where the mode has a grammar, it is visible, within its limit and well-formed
 abbrev pub IsShownGrammar : ModeOptions → SeenFiles → Type 0
 IsShownGrammar ModeOptions.lines files = Unit {0}
-IsShownGrammar (ModeOptions.perses grammar squeeze) files = IsShownWithin grammar_limit (files.shown grammar) IsGrammarText
+IsShownGrammar (ModeOptions.by_grammar trees) files = IsShownWithin grammar_limit (files.shown trees.grammar) IsGrammarText
 
 -- Which status it has to be. This follows from how `reduce` ends.
 pub record ReduceMustEnd (options : ReduceOptions) (records : List Record) (old new : World) (status : ℕ) : Type 0 where
   -- a grammar over its limit is refused
-  pub grammar_over : (grammar : List ℕ) (squeeze : Bool) → options.mode ≡ ModeOptions.perses grammar squeeze → IsOver grammar_limit (old.files.shown grammar) → IsOneOf (10 ∷ 3 ∷ 1 ∷ []) status
+  pub grammar_over : (trees : GrammarOptions) → options.mode ≡ ModeOptions.by_grammar trees → IsOver grammar_limit (old.files.shown trees.grammar) → IsOneOf (10 ∷ 3 ∷ 1 ∷ []) status
   -- a grammar that isn't there can't be read
-  pub grammar_missing : (grammar : List ℕ) (squeeze : Bool) → options.mode ≡ ModeOptions.perses grammar squeeze → old.files.shown grammar ≡ Some None → IsOneOf (3 ∷ 1 ∷ []) status
+  pub grammar_missing : (trees : GrammarOptions) → options.mode ≡ ModeOptions.by_grammar trees → old.files.shown trees.grammar ≡ Some None → IsOneOf (3 ∷ 1 ∷ []) status
   -- a faulty grammar within its limit is refused
-  pub faulty : (grammar : List ℕ) (squeeze : Bool) → options.mode ≡ ModeOptions.perses grammar squeeze → IsShownWithin grammar_limit (old.files.shown grammar) (λ bytes. ¬ IsGrammarText bytes) → IsOneOf (5 ∷ 3 ∷ 1 ∷ []) status
+  pub faulty : (trees : GrammarOptions) → options.mode ≡ ModeOptions.by_grammar trees → IsShownWithin grammar_limit (old.files.shown trees.grammar) (λ bytes. ¬ IsGrammarText bytes) → IsOneOf (5 ∷ 3 ∷ 1 ∷ []) status
   -- an input over its limit is refused as such, where the mode has no grammar or a well-formed one
   pub input_over : IsShownGrammar options.mode old.files → IsOver input_limit (old.files.shown options.input) → IsOneOf (10 ∷ 3 ∷ 1 ∷ []) status
   -- an input that isn't there can't be read, where the mode has no grammar or a well-formed one
@@ -226,9 +226,9 @@ pub record ReduceMustEnd (options : ReduceOptions) (records : List Record) (old 
   -- whatever the grammar is, an input that isn't there can't be read, unless the grammar was refused before
   pub missing : old.files.shown options.input ≡ Some None → IsOneOf (3 ∷ 5 ∷ 10 ∷ 1 ∷ []) status
   -- an input within its limit whose bytes aren't cut into tokens is refused, where the grammar is well-formed
-  pub no_token : (grammar : List ℕ) (squeeze : Bool) → options.mode ≡ ModeOptions.perses grammar squeeze → IsShownFault grammar options old.files (λ fault. IsUncut fault) → IsOneOf (6 ∷ 3 ∷ 1 ∷ []) status
+  pub no_token : (trees : GrammarOptions) → options.mode ≡ ModeOptions.by_grammar trees → IsShownFault trees.grammar options old.files (λ fault. IsUncut fault) → IsOneOf (6 ∷ 3 ∷ 1 ∷ []) status
   -- one whose tokens the start rule doesn't derive is refused, where the grammar is well-formed
-  pub unparsed : (grammar : List ℕ) (squeeze : Bool) → options.mode ≡ ModeOptions.perses grammar squeeze → IsShownFault grammar options old.files (λ fault. fault ≡ input_fault.NoParse) → IsOneOf (7 ∷ 3 ∷ 1 ∷ []) status
+  pub unparsed : (trees : GrammarOptions) → options.mode ≡ ModeOptions.by_grammar trees → IsShownFault trees.grammar options old.files (λ fault. fault ≡ input_fault.NoParse) → IsOneOf (7 ∷ 3 ∷ 1 ∷ []) status
   -- an input in which a keep text doesn't occur is refused, where it is a problem of its mode
   pub keep_missing : IsShownProblem options old.files (λ start. holds_all options.keeps start ≡ false) → IsOneOf (9 ∷ 3 ∷ 1 ∷ []) status
   -- a problem in which each keep text occurs is reduced, or isn't interesting, where no call failed
@@ -262,12 +262,12 @@ ProblemFails options files files' Memory = IsQuiet files files'
 ProblemFails options files files' (CannotRead file) = IsReached options.mode file files × CallFailed files files'
 ProblemFails options files files' (TooLong file) = IsReached options.mode file files × IsLonger (limit_of file) (files.shown (name_of options file)) × IsQuiet files files'
 ProblemFails options files files' (Grammar line) =
-    (grammar : List ℕ) × (squeeze : Bool) × (options.mode ≡ ModeOptions.perses grammar squeeze) × GrammarFails grammar files files' (Grammar line)
+    (trees : GrammarOptions) × (options.mode ≡ ModeOptions.by_grammar trees) × GrammarFails trees.grammar files files' (Grammar line)
 ProblemFails options files files' (Uncut line) =
-    (grammar : List ℕ) × (squeeze : Bool) × (fault : InputFault) × (options.mode ≡ ModeOptions.perses grammar squeeze) × IsUncut fault × InputHas grammar (λ c bytes. IsInputFault c bytes fault) options files
+    (trees : GrammarOptions) × (fault : InputFault) × (options.mode ≡ ModeOptions.by_grammar trees) × IsUncut fault × InputHas trees.grammar (λ c bytes. IsInputFault c bytes fault) options files
     × (string_bytes line ≡ line_of_text (fault_text fault)) × IsQuiet files files'
 ProblemFails options files files' NoParse =
-    (grammar : List ℕ) × (squeeze : Bool) × (options.mode ≡ ModeOptions.perses grammar squeeze) × InputHas grammar (λ c bytes. IsInputFault c bytes input_fault.NoParse) options files × IsQuiet files files'
+    (trees : GrammarOptions) × (options.mode ≡ ModeOptions.by_grammar trees) × InputHas trees.grammar (λ c bytes. IsInputFault c bytes input_fault.NoParse) options files × IsQuiet files files'
 ProblemFails options files files' _ = ⊥
 
 -- why an input wasn't accepted: this keep text is the first that doesn't occur in it, or out of memory

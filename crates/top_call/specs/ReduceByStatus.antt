@@ -1,5 +1,5 @@
 -- What each status of `reduce` means, read off how it ends.
-use Rattle.std.specs.Prelude.{◌≡◌, ◌≢◌, ◌⊎◌, ℕ, ◌+◌, Bool, List, [], ◌∷◌, Some}
+use Rattle.std.specs.Prelude.{◌≡◌, ◌≢◌, ◌⊎◌, ℕ, ◌+◌, List, [], ◌∷◌, Some}
 use Rattle.keep_guard.specs.Keep.{first_missing}
 use Rattle.edge_io.specs.Files.{IsLonger, SameFiles, SameOthers}
 use Rattle.verdict_table.specs.declared.record.Record.{Record}
@@ -13,7 +13,7 @@ use Rattle.top_call.specs.Grammar.{IsFaultIn}
 use Rattle.problem_run.specs.Problem.{start_of}
 use Rattle.top_call.specs.Reduce.{InputHas, IsReached, IsReduced, ProblemRead, ReduceEnds, ReducesTo, limit_of, name_of}
 use Rattle.top_call.specs.Status.{IsOneOf, IsUncut, PutsRefusal, fault_line, keep_text}
-use Rattle.top_call.specs.Words.{ModeOptions, ReduceOptions}
+use Rattle.top_call.specs.Words.{GrammarOptions, ModeOptions, ReduceOptions}
 use Rattle.top_call.specs.World.{CallFailed, GateUntouched, PutsLine, PutsMessage, SeenFiles, SeenOut, WasRead, World, grammar_limit}
 
 -- nothing was put at status 0, and at another the line of a refusal that has it, which names a file that is read if it names one
@@ -28,9 +28,9 @@ pub record ReduceMeans (options : ReduceOptions) (records : List Record) (old ne
   pub unread : status ≡ 3 → CallFailed old.files new.files
   pub write : status ≡ 4 → CallFailed old.files new.files
   pub tried : status ≡ 4 → (text : List ℕ) × ReducesTo options old.files records text
-  pub fault : status ≡ 5 → (grammar : List ℕ) × (squeeze : Bool) × (text : List ℕ) × (options.mode ≡ ModeOptions.perses grammar squeeze) × WasRead grammar_limit (old.files.shown grammar) (λ bytes. IsFaultIn bytes text) × PutsLine (fault_line text) old.out new.out
-  pub no_token : status ≡ 6 → (grammar : List ℕ) × (squeeze : Bool) × (fault : InputFault) × (options.mode ≡ ModeOptions.perses grammar squeeze) × IsUncut fault × InputHas grammar (λ c bytes. IsInputFault c bytes fault) options old.files × PutsMessage (fault_text fault) old.out new.out
-  pub unparsed : status ≡ 7 → (grammar : List ℕ) × (squeeze : Bool) × (options.mode ≡ ModeOptions.perses grammar squeeze) × InputHas grammar (λ c bytes. IsInputFault c bytes input_fault.NoParse) options old.files
+  pub fault : status ≡ 5 → (trees : GrammarOptions) × (text : List ℕ) × (options.mode ≡ ModeOptions.by_grammar trees) × WasRead grammar_limit (old.files.shown trees.grammar) (λ bytes. IsFaultIn bytes text) × PutsLine (fault_line text) old.out new.out
+  pub no_token : status ≡ 6 → (trees : GrammarOptions) × (fault : InputFault) × (options.mode ≡ ModeOptions.by_grammar trees) × IsUncut fault × InputHas trees.grammar (λ c bytes. IsInputFault c bytes fault) options old.files × PutsMessage (fault_text fault) old.out new.out
+  pub unparsed : status ≡ 7 → (trees : GrammarOptions) × (options.mode ≡ ModeOptions.by_grammar trees) × InputHas trees.grammar (λ c bytes. IsInputFault c bytes input_fault.NoParse) options old.files
   pub not_interesting : status ≡ 8 → OnlyNo records
   pub keep_missing : status ≡ 9 → (index : ℕ) × ProblemRead options old.files (λ problem. first_missing options.keeps (start_of problem) ≡ Some index) × PutsMessage (keep_text (index + 1)) old.out new.out
   pub too_long : status ≡ 10 → (file : NamedFile) × IsReached options.mode file old.files × IsLonger (limit_of file) (old.files.shown (name_of options file))

@@ -2,6 +2,8 @@
 use Rattle.std.specs.Prelude.{ℕ, zero, suc, ◌==◌, not, ◌&&◌, Bool, true, false, List, [], ◌∷◌, Option, Some, None, if◌then◌else◌, codes, length, map, option_map, string_bytes}
 use Rattle.std.specs.List.{list_any}
 use Rattle.std.specs.Str.{bytes_eq}
+use Rattle.problem_run.specs.declared.problem.GrammarMode.{GrammarMode}
+use Rattle.problem_run.specs.declared.problem.GrammarMode.TheVariants.{Hdd, Perses}
 use Rattle.top_call.specs.declared.words.ReduceLine.{ReduceLine}
 use Rattle.top_call.specs.declared.words.FilesLine.{FilesLine}
 use Rattle.top_call.specs.declared.words.ModeLine.{ModeLine}
@@ -9,10 +11,16 @@ use Rattle.top_call.specs.declared.words.ModeLine.TheVariants as mode_read
 use Rattle.top_call.specs.declared.words.CommandLine.{CommandLine}
 use Rattle.top_call.specs.declared.words.CommandLine.TheVariants as read
 
--- which states are tried: lists of lines; or trees of the grammar in a file, of which the squeezed text of the whole is tried or not
+-- what is said of a reduction by a grammar: the path of the grammar, how a round goes through a tree, and whether the squeezed text of the whole tree is tried
+pub record GrammarOptions : Type 0 where
+  pub grammar : List ℕ
+  pub mode : GrammarMode
+  pub squeeze : Bool
+
+-- which states are tried: lists of lines, or trees of a grammar
 pub data ModeOptions : Type 0 where
   lines : ModeOptions
-  perses : (grammar : List ℕ) (squeeze : Bool) → ModeOptions
+  by_grammar : GrammarOptions → ModeOptions
 
 -- what a command line of `reduce` gives: the mode, the paths of the input, the output and the script, and the keep texts
 pub record ReduceOptions : Type 0 where
@@ -99,16 +107,31 @@ lines_line words =
     on_option (λ mode. if bytes_eq mode.value (codes "lines") then on_option (λ files. with_keeps ModeOptions.lines files files.rest) (file_options mode.rest) else None)
     (first_option (codes "--mode") words)
 
--- `--grammar F`, the files, `--squeeze` or not, and the keep texts
-abbrev pub perses_line : List (List ℕ) → Option ReduceOptions
-perses_line words =
-    on_option (λ grammar. on_option (λ files. let after = squeeze_option files.rest in with_keeps (ModeOptions.perses grammar.value after.squeeze) files after.rest) (file_options grammar.rest))
+-- whether the words begin with `--mode hdd`, and those after it; the mode is `perses` where they don't
+pub record HddOption : Type 0 where
+  pub mode : GrammarMode
+  pub rest : List (List ℕ)
+
+abbrev pub hdd_option : List (List ℕ) → HddOption
+hdd_option [] = record { mode = Perses; rest = [] }
+hdd_option (word ∷ []) = record { mode = Perses; rest = word ∷ [] }
+hdd_option (word ∷ (value ∷ rest)) =
+    if bytes_eq word (codes "--mode") && bytes_eq value (codes "hdd") then record { mode = Hdd; rest = rest } else record { mode = Perses; rest = word ∷ (value ∷ rest) }
+
+-- these files by a grammar in this mode, `--squeeze` or not, and the keep texts
+abbrev pub with_squeeze : List ℕ → GrammarMode → FileOptions → Option ReduceOptions
+with_squeeze grammar mode files = let after = squeeze_option files.rest in with_keeps (ModeOptions.by_grammar (record { grammar = grammar; mode = mode; squeeze = after.squeeze })) files after.rest
+
+-- `--grammar F`, `--mode hdd` or not, the files, `--squeeze` or not, and the keep texts
+abbrev pub grammar_line : List (List ℕ) → Option ReduceOptions
+grammar_line words =
+    on_option (λ grammar. let after = hdd_option grammar.rest in on_option (λ files. with_squeeze grammar.value after.mode files) (file_options after.rest))
     (first_option (codes "--grammar") words)
 
 -- the first word says which of the two
 abbrev pub reduce_line : List (List ℕ) → Option ReduceOptions
 reduce_line [] = None
-reduce_line (word ∷ words) = if bytes_eq word (codes "--grammar") then perses_line (word ∷ words) else lines_line (word ∷ words)
+reduce_line (word ∷ words) = if bytes_eq word (codes "--grammar") then grammar_line (word ∷ words) else lines_line (word ∷ words)
 
 -- `--grammar F`
 abbrev pub normal_line : List (List ℕ) → Option (List ℕ)
@@ -130,7 +153,7 @@ files_of files = record { input = files.input.now; output = files.output.now; sc
 -- the mode that was read
 abbrev pub mode_of : ModeLine → ModeOptions
 mode_of (mode_read.Lines) = ModeOptions.lines
-mode_of (mode_read.Perses grammar squeeze) = ModeOptions.perses grammar.now squeeze
+mode_of (mode_read.ByGrammar grammar mode squeeze) = ModeOptions.by_grammar (record { grammar = grammar.now; mode = mode; squeeze = squeeze })
 
 -- the options that were read
 abbrev pub options_of : ReduceLine → ReduceOptions

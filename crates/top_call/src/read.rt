@@ -61,9 +61,17 @@ pub fn read_problem<F: Files>(
             let start = read_file(files, line.input, INPUT_LIMIT, NamedFile::Input)?;
             Ok(ReadProblem::Lines(start))
         }
-        ModeLine::Perses { grammar, squeeze } => {
+        ModeLine::ByGrammar {
+            grammar,
+            mode,
+            squeeze,
+        } => {
             let found = read_tree(alloc, grammar, line.input, files)?;
-            Ok(ReadProblem::Tree(found, squeeze))
+            Ok(ReadProblem::Tree {
+                found,
+                mode,
+                squeeze,
+            })
         }
     }
 }

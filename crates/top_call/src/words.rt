@@ -1,10 +1,11 @@
 //! The words of a command line.
 
 ghost use Rattle.std.specs.Prelude.{◌≡◌, IfOk, None, Some, MatchOption, codes, map, string_bytes};
-ghost use Rattle.top_call.specs.Words.{are_keeps, command_line_of, command_read, file_name_of, file_options, files_of, first_option, is_value, keeps_in, lines_line, mode_of, normal_line, options_of, perses_line, reduce_line, squeeze_option, with_keeps};
+ghost use Rattle.top_call.specs.Words.{are_keeps, command_line_of, command_read, file_name_of, file_options, files_of, first_option, grammar_line, hdd_option, is_value, keeps_in, lines_line, mode_of, normal_line, options_of, reduce_line, squeeze_option, with_keeps, with_squeeze};
 
 use faults::Memory;
 use keep_guard::KeepTexts;
+use problem_run::GrammarMode;
 use std::alloc::Global;
 
 /// Which states are tried.
@@ -12,8 +13,13 @@ use std::alloc::Global;
 pub enum ModeLine<'a> {
     /// Lists of the input's lines.
     Lines,
-    /// Trees of the grammar in this file; and whether the squeezed text of the whole is tried.
-    Perses { grammar: &'a str, squeeze: bool },
+    /// Trees of the grammar in this file; how a round goes through one; and whether the squeezed text
+    /// of the whole tree is tried.
+    ByGrammar {
+        grammar: &'a str,
+        mode: GrammarMode,
+        squeeze: bool,
+    },
 }
 
 /// What a command line of `reduce` gives.
@@ -131,16 +137,52 @@ fn read_lines(words: &[String]) -> Option<ReduceLine<'_>>
     with_keeps(ModeLine::Lines, files, files.rest)
 }
 
-/// What the words of mode `perses` give.
-fn read_perses(words: &[String]) -> Option<ReduceLine<'_>>
+/// How a round goes through a tree: as `--mode hdd` says, where the words begin with it. And the words
+/// after it.
+fn take_hdd(words: &[String]) -> (GrammarMode, &[String])
+    ensures { hdd_option (map string_bytes words.entry.now) ≡ record { mode = result.0; rest = map string_bytes result.1.now } }
+{
+    match words {
+        [word, value, rest @ ..] if word.as_str() == "--mode" && value.as_str() == "hdd" => {
+            (GrammarMode::Hdd, rest)
+        }
+        _ => (GrammarMode::Perses, words),
+    }
+}
+
+/// These files by this grammar in this mode, where the words after them are `--squeeze` or not, and
+/// keep texts.
+fn with_squeeze<'a>(
+    grammar: &'a str,
+    mode: GrammarMode,
+    files: FilesLine<'a>,
+) -> Option<ReduceLine<'a>>
     ensures { MatchOption result
-        (perses_line (map string_bytes words.entry.now) ≡ None)
-        (λ line. perses_line (map string_bytes words.entry.now) ≡ Some (options_of line)) }
+        (with_squeeze grammar.entry.now mode (files_of files.entry) ≡ None)
+        (λ line. with_squeeze grammar.entry.now mode (files_of files.entry) ≡ Some (options_of line)) }
+{
+    let (squeeze, words) = take_squeeze(files.rest);
+    with_keeps(
+        ModeLine::ByGrammar {
+            grammar,
+            mode,
+            squeeze,
+        },
+        files,
+        words,
+    )
+}
+
+/// What the words of a reduction by a grammar give.
+fn read_by_grammar(words: &[String]) -> Option<ReduceLine<'_>>
+    ensures { MatchOption result
+        (grammar_line (map string_bytes words.entry.now) ≡ None)
+        (λ line. grammar_line (map string_bytes words.entry.now) ≡ Some (options_of line)) }
 {
     let (grammar, words) = take_option(words, "--grammar")?;
+    let (mode, words) = take_hdd(words);
     let files = read_files(words)?;
-    let (squeeze, words) = take_squeeze(files.rest);
-    with_keeps(ModeLine::Perses { grammar, squeeze }, files, words)
+    with_squeeze(grammar, mode, files)
 }
 
 /// What the words after `reduce` give.
@@ -151,7 +193,7 @@ fn read_reduce(words: &[String]) -> Option<ReduceLine<'_>>
 {
     let first = words.first()?;
     if first.as_str() == "--grammar" {
-        read_perses(words)
+        read_by_grammar(words)
     } else {
         read_lines(words)
     }

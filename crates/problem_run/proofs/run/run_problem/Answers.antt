@@ -20,11 +20,11 @@ tree_result-requires-clause-kept g c =
 pub returns-in_ok-parts-in-Tree-clause-candidates : goal.returns-in_ok-parts-in-Tree-clause-candidates
 returns-in_ok-parts-in-Tree-clause-candidates g c one is =
     let it = subst (λ (p : ReadProblem). IsReadAs c.args.guard p one) c.in-Tree.is is in
-    subst (λ (p : Problem). AreOf c.args.guard p c.tree_result.new.table.records) (ap Problem.of_tree (c.in_ok-parts-in-Tree.ensures it.0) ∙ sym it.1) (c.tree_result.ensures.candidates c.args.guard)
+    subst (λ (p : Problem). AreOf c.args.guard p c.tree_result.new.table.records) (ap (Problem.of_tree c.in-Tree.mode) (c.in_ok-parts-in-Tree.ensures it.0) ∙ sym it.1) (c.tree_result.ensures.candidates c.args.guard)
 
 pub returns-in_ok-parts-in-Tree-clause-ends : goal.returns-in_ok-parts-in-Tree-clause-ends
 returns-in_ok-parts-in-Tree-clause-ends g c one is =
     let it = subst (λ (p : ReadProblem). IsReadAs c.args.guard p one) c.in-Tree.is is in
     let same = c.in_ok-parts-in-Tree.ensures it.0 in
-    subst (λ (p : Problem). ProblemEnds c.args.guard p c.tree_result.new.table.records (g.G.Gate.faults c.args.gate.now) (g.G.Gate.faults c.tree_result.new.gate) c.tree_result.result) (ap Problem.of_tree same ∙ sym it.1)
+    subst (λ (p : Problem). ProblemEnds c.args.guard p c.tree_result.new.table.records (g.G.Gate.faults c.args.gate.now) (g.G.Gate.faults c.tree_result.new.gate) c.tree_result.result) (ap (Problem.of_tree c.in-Tree.mode) same ∙ sym it.1)
     (c.tree_result.ensures.ends c.args.guard (ap (λ (i : TreeInput). i.admits) same))
