@@ -1,0 +1,14 @@
+mod Threads
+mod Scan
+mod MiniKinds
+mod Derivations
+mod Spelled
+mod Pieces
+mod Names
+mod Functions
+mod Language
+mod Sets
+mod Profile
+mod Emptiness
+mod WellFormed
+mod Verdicts
