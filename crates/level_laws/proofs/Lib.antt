@@ -1,0 +1,3 @@
+mod KeptLevels
+mod Following
+mod WorkedLemmas
