@@ -3,6 +3,7 @@ use Rattle.std.proofs.Common.{◌≡◌, inl, inr, ℕ, zero, suc, ◌<◌, Bool
 use Rattle.std.proofs.lemmas.Bool.{and_parts, and_from, ltb-true}
 use Rattle.grammar_tree.specs.Derives.{Alts, Seq, Term, Derives, DerivesAlts, DerivesSeq}
 use Rattle.grammar_tree.specs.Corners.{Begins, BeginsAlts, BeginsSeq, HasEmptyLoop, HasEmptyLoopAlts, HasEmptyLoopSeq, bases, rests}
+use Rattle.case_language.proofs.Tests.{not_both, or_later}
 
 abbrev flag_at : List Bool → ℕ → Bool
 flag_at [] r = true
@@ -41,10 +42,6 @@ flags_hold E (e ∷ es) (a ∷ G) = implies (may_empty_alts E a) e && flags_hold
 pub implied : (b e : Bool) → implies b e ≡ true → b ≡ true → e ≡ true
 implied true e h f = h
 implied false e h f = absurd (true≢false (sym f))
-
-or_later : (b c : Bool) → c ≡ true → (b || c) ≡ true
-or_later true c h = refl
-or_later false c h = h
 
 flag_of : (E es : List Bool) (G : List Alts) (r : ℕ) (a : Alts) → flags_hold E es G ≡ true → slice_get G r ≡ Some a → may_empty_alts E a ≡ true → flag_at es r ≡ true
 flag_of E es [] r a h is m = cc is
@@ -96,10 +93,6 @@ abbrev mutual
   pub loops_fill_alts : List Bool → Alts → Bool
   loops_fill_alts E Alts.none = true
   loops_fill_alts E (Alts.or s a) = loops_fill_seq E s && loops_fill_alts E a
-
-not_both : (b : Bool) → not b ≡ true → b ≡ true → ⊥
-not_both true e f = true≢false (sym e)
-not_both false e f = true≢false (sym f)
 
 module _ (E : List Bool) (G : List Alts) (holds : flags_hold E E G ≡ true) where
   mutual

@@ -11,7 +11,7 @@ use Rattle.case_language.specs.Mini.{mini}
 use Rattle.case_language.proofs.MiniKinds.{kinds_mini, mini_bodies, mini_kinds}
 use Rattle.case_language.proofs.Derivations.{block_of, file, first_form, fourth_form, function, second_form, target, third_form}
 use Rattle.case_language.proofs.Names.{name_reads}
-use Rattle.case_language.proofs.Pieces.{Line, after_name, after_reads, before_name, before_reads, end_pieces, end_reads, last_reads, line_pieces, line_reads, newline, newline_reads, p, reads_on, texts}
+use Rattle.case_language.proofs.Pieces.{Line, after_name, after_reads, before_name, before_reads, end_pieces, end_reads, last_reads, line_pieces, line_reads, newline, newline_reads, of_kind, reads_on, texts}
 
 texts-append : (ps qs : List Piece) → texts (ps ++ qs) ≡ texts ps ++ texts qs
 texts-append [] qs = refl
@@ -27,7 +27,7 @@ abbrev body_pieces : List Line → List Piece
 body_pieces lines = lines_pieces lines ++ end_pieces
 
 abbrev function_pieces : ℕ → List Line → List Piece
-function_pieces index lines = before_name ++ ((p 17 (102 ∷ decimal index) ∷ []) ++ (after_name ++ (body_pieces lines ++ (newline ∷ []))))
+function_pieces index lines = before_name ++ ((of_kind 17 (102 ∷ decimal index) ∷ []) ++ (after_name ++ (body_pieces lines ++ (newline ∷ []))))
 
 -- the lines of a function
 abbrev lines_of : ℕ → Bool → List Line

@@ -1,3 +1,4 @@
+mod Tests
 mod Threads
 mod Scan
 mod MiniKinds

@@ -37,52 +37,52 @@ abbrev alts : List (List Term) → Alts
 alts [] = Alts.none
 alts (s ∷ ss) = Alts.or (seq s) (alts ss)
 
-abbrev k : ℕ → Term
-k = Term.kind
+abbrev kind : ℕ → Term
+kind = Term.kind
 
-abbrev r : ℕ → Term
-r = Term.rule
+abbrev rule : ℕ → Term
+rule = Term.rule
 
-abbrev b : List (List Term) → Term
-b ss = Term.block (alts ss)
+abbrev block : List (List Term) → Term
+block ss = Term.block (alts ss)
 
 -- file, func, params, type, block, stmt and expr have the numbers 0 to 6
 abbrev pub file_alts : Alts
-file_alts = alts ((Term.star (r 1) ∷ Term.eof ∷ []) ∷ [])
+file_alts = alts ((Term.star (rule 1) ∷ Term.eof ∷ []) ∷ [])
 
 abbrev pub func_alts : Alts
-func_alts = alts ((r 3 ∷ k 17 ∷ k 0 ∷ Term.opt (r 2) ∷ k 1 ∷ r 4 ∷ []) ∷ [])
+func_alts = alts ((rule 3 ∷ kind 17 ∷ kind 0 ∷ Term.opt (rule 2) ∷ kind 1 ∷ rule 4 ∷ []) ∷ [])
 
 abbrev pub params_alts : Alts
-params_alts = alts ((r 3 ∷ k 17 ∷ Term.star (b ((k 2 ∷ r 3 ∷ k 17 ∷ []) ∷ [])) ∷ []) ∷ [])
+params_alts = alts ((rule 3 ∷ kind 17 ∷ Term.star (block ((kind 2 ∷ rule 3 ∷ kind 17 ∷ []) ∷ [])) ∷ []) ∷ [])
 
 abbrev pub type_alts : Alts
-type_alts = alts ((k 3 ∷ []) ∷ (k 4 ∷ []) ∷ [])
+type_alts = alts ((kind 3 ∷ []) ∷ (kind 4 ∷ []) ∷ [])
 
 abbrev pub block_alts : Alts
-block_alts = alts ((k 5 ∷ Term.star (r 5) ∷ k 6 ∷ []) ∷ [])
+block_alts = alts ((kind 5 ∷ Term.star (rule 5) ∷ kind 6 ∷ []) ∷ [])
 
 abbrev pub stmt_alts : Alts
 stmt_alts =
     alts (
-    (r 3 ∷ k 17 ∷ Term.opt (b ((k 7 ∷ r 6 ∷ []) ∷ [])) ∷ k 8 ∷ [])
-    ∷ (k 17 ∷ k 7 ∷ r 6 ∷ k 8 ∷ [])
-    ∷ (k 9 ∷ k 0 ∷ r 6 ∷ k 1 ∷ r 4 ∷ Term.opt (b ((k 10 ∷ r 4 ∷ []) ∷ [])) ∷ [])
-    ∷ (k 11 ∷ k 0 ∷ r 6 ∷ k 1 ∷ r 4 ∷ [])
-    ∷ (k 12 ∷ Term.opt (r 6) ∷ k 8 ∷ [])
-    ∷ (r 4 ∷ [])
+    (rule 3 ∷ kind 17 ∷ Term.opt (block ((kind 7 ∷ rule 6 ∷ []) ∷ [])) ∷ kind 8 ∷ [])
+    ∷ (kind 17 ∷ kind 7 ∷ rule 6 ∷ kind 8 ∷ [])
+    ∷ (kind 9 ∷ kind 0 ∷ rule 6 ∷ kind 1 ∷ rule 4 ∷ Term.opt (block ((kind 10 ∷ rule 4 ∷ []) ∷ [])) ∷ [])
+    ∷ (kind 11 ∷ kind 0 ∷ rule 6 ∷ kind 1 ∷ rule 4 ∷ [])
+    ∷ (kind 12 ∷ Term.opt (rule 6) ∷ kind 8 ∷ [])
+    ∷ (rule 4 ∷ [])
     ∷ [])
 
 abbrev pub expr_alts : Alts
 expr_alts =
     alts (
-    (r 6 ∷ b ((k 13 ∷ []) ∷ (k 14 ∷ []) ∷ []) ∷ r 6 ∷ [])
-    ∷ (r 6 ∷ b ((k 15 ∷ []) ∷ (k 16 ∷ []) ∷ []) ∷ r 6 ∷ [])
-    ∷ (k 17 ∷ k 0 ∷ Term.opt (b ((r 6 ∷ Term.star (b ((k 2 ∷ r 6 ∷ []) ∷ [])) ∷ []) ∷ [])) ∷ k 1 ∷ [])
-    ∷ (k 0 ∷ r 6 ∷ k 1 ∷ [])
-    ∷ (k 17 ∷ [])
-    ∷ (k 18 ∷ [])
-    ∷ (k 19 ∷ [])
+    (rule 6 ∷ block ((kind 13 ∷ []) ∷ (kind 14 ∷ []) ∷ []) ∷ rule 6 ∷ [])
+    ∷ (rule 6 ∷ block ((kind 15 ∷ []) ∷ (kind 16 ∷ []) ∷ []) ∷ rule 6 ∷ [])
+    ∷ (kind 17 ∷ kind 0 ∷ Term.opt (block ((rule 6 ∷ Term.star (block ((kind 2 ∷ rule 6 ∷ []) ∷ [])) ∷ []) ∷ [])) ∷ kind 1 ∷ [])
+    ∷ (kind 0 ∷ rule 6 ∷ kind 1 ∷ [])
+    ∷ (kind 17 ∷ [])
+    ∷ (kind 18 ∷ [])
+    ∷ (kind 19 ∷ [])
     ∷ [])
 
 abbrev pub mini_bodies : List Alts

@@ -12,7 +12,7 @@ use Rattle.case_language.proofs.Threads.{moved, run}
 use Rattle.case_language.proofs.Scan.{all_end, ends_all, kind_threads, next_before, none_below, states}
 use Rattle.case_language.proofs.MiniKinds.{kinds_mini, mini_kinds, mini_nameless}
 use Rattle.case_language.proofs.Spelled.{all_in, spelled, spelled_matches}
-use Rattle.case_language.proofs.Pieces.{p}
+use Rattle.case_language.proofs.Pieces.{of_kind}
 
 digit_is_part : (d : ℕ) → d < 10 → has letters_digits (48 + d) ≡ true
 unfolding in_ranges in_range
@@ -83,7 +83,7 @@ unfolding in_ranges in_range
 bracket_ends = refl
 
 -- a name before a bracket
-pub name_reads : (n : ℕ) (more : List ℕ) → n < 2 ^ 64 → LexesTo mini (102 ∷ (decimal n ++ (40 ∷ more))) (p 17 (102 ∷ decimal n) ∷ []) (40 ∷ more)
+pub name_reads : (n : ℕ) (more : List ℕ) → n < 2 ^ 64 → LexesTo mini (102 ∷ (decimal n ++ (40 ∷ more))) (of_kind 17 (102 ∷ decimal n) ∷ []) (40 ∷ more)
 name_reads n more small =
     LexesTo.by_piece (102 ∷ (decimal n ++ (40 ∷ more))) 17 (102 ∷ decimal n) (40 ∷ more) (40 ∷ more) []
     (next_before mini mini_kinds kinds_mini mini_nameless 17 (102 ∷ decimal n) 40 more (λ e. cc e) (spelled_matches 17 (102 ∷ decimal n) is_name) below

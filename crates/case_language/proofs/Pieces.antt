@@ -10,8 +10,9 @@ use Rattle.case_language.proofs.Scan.{all_end, ends_all, ends_but, next_before, 
 use Rattle.case_language.proofs.MiniKinds.{kinds_mini, literals, mini_kinds, mini_nameless}
 use Rattle.case_language.proofs.Spelled.{note_ends, spelled, spelled_matches}
 
-abbrev pub p : ℕ → List ℕ → Piece
-p k w = record { kind = k; text = w }
+-- a piece of this kind
+abbrev pub of_kind : ℕ → List ℕ → Piece
+of_kind k w = record { kind = k; text = w }
 
 -- the texts of pieces, one after another
 abbrev pub texts : List Piece → List ℕ
@@ -23,23 +24,23 @@ literal_at None = []
 literal_at (Some w) = w
 
 -- a literal, an ID, an INT, a space, and a newline with two spaces
-abbrev l : ℕ → Piece
-l k = p k (literal_at (slice_get literals k))
+abbrev literal : ℕ → Piece
+literal k = of_kind k (literal_at (slice_get literals k))
 
 abbrev id : List ℕ → Piece
-id w = p 17 w
+id w = of_kind 17 w
 
 abbrev int : List ℕ → Piece
-int w = p 18 w
+int w = of_kind 18 w
 
-abbrev sp : Piece
-sp = p 22 (codes " ")
+abbrev space : Piece
+space = of_kind 22 (codes " ")
 
 abbrev indent : Piece
-indent = p 22 (codes "\n  ")
+indent = of_kind 22 (codes "\n  ")
 
 abbrev pub newline : Piece
-newline = p 22 (codes "\n")
+newline = of_kind 22 (codes "\n")
 
 -- a line of a function's body, with the newline before it: one of four forms, or the target line
 pub data Line : Type 0 where
@@ -47,28 +48,28 @@ pub data Line : Type 0 where
   target : Line
 
 abbrev pub line_pieces : Line → List Piece
-line_pieces (Line.form zero) = indent ∷ l 3 ∷ sp ∷ id (codes "c") ∷ sp ∷ l 7 ∷ sp ∷ id (codes "a") ∷ sp ∷ l 13 ∷ sp ∷ int (codes "2") ∷ l 8 ∷ []
+line_pieces (Line.form zero) = indent ∷ literal 3 ∷ space ∷ id (codes "c") ∷ space ∷ literal 7 ∷ space ∷ id (codes "a") ∷ space ∷ literal 13 ∷ space ∷ int (codes "2") ∷ literal 8 ∷ []
 line_pieces (Line.form (suc zero)) =
-    indent ∷ l 9 ∷ sp ∷ l 0 ∷ id (codes "a") ∷ l 1 ∷ sp ∷ l 5 ∷ sp ∷ id (codes "b") ∷ sp ∷ l 7 ∷ sp ∷ id (codes "f0") ∷ l 0 ∷ id (codes "a") ∷ l 2 ∷ sp ∷ int (codes "1") ∷ l 1 ∷ l 8
-    ∷ sp ∷ l 6 ∷ sp ∷ l 10 ∷ sp ∷ l 5 ∷ sp ∷ l 12 ∷ sp ∷ id (codes "b") ∷ l 8 ∷ sp ∷ l 6 ∷ []
+    indent ∷ literal 9 ∷ space ∷ literal 0 ∷ id (codes "a") ∷ literal 1 ∷ space ∷ literal 5 ∷ space ∷ id (codes "b") ∷ space ∷ literal 7 ∷ space ∷ id (codes "f0") ∷ literal 0 ∷ id (codes "a") ∷ literal 2 ∷ space ∷ int (codes "1") ∷ literal 1 ∷ literal 8
+    ∷ space ∷ literal 6 ∷ space ∷ literal 10 ∷ space ∷ literal 5 ∷ space ∷ literal 12 ∷ space ∷ id (codes "b") ∷ literal 8 ∷ space ∷ literal 6 ∷ []
 line_pieces (Line.form (suc (suc zero))) =
-    indent ∷ l 11 ∷ sp ∷ l 0 ∷ id (codes "b") ∷ sp ∷ l 16 ∷ sp ∷ int (codes "1") ∷ l 1 ∷ sp ∷ l 5 ∷ sp ∷ id (codes "b") ∷ sp ∷ l 7 ∷ sp ∷ l 0 ∷ id (codes "a") ∷ sp ∷ l 15 ∷ sp ∷ id (codes "b")
-    ∷ l 1 ∷ sp ∷ l 14 ∷ sp ∷ int (codes "3") ∷ l 8 ∷ sp ∷ l 6 ∷ sp ∷ p 21 (codes "// loop") ∷ []
+    indent ∷ literal 11 ∷ space ∷ literal 0 ∷ id (codes "b") ∷ space ∷ literal 16 ∷ space ∷ int (codes "1") ∷ literal 1 ∷ space ∷ literal 5 ∷ space ∷ id (codes "b") ∷ space ∷ literal 7 ∷ space ∷ literal 0 ∷ id (codes "a") ∷ space ∷ literal 15 ∷ space ∷ id (codes "b")
+    ∷ literal 1 ∷ space ∷ literal 14 ∷ space ∷ int (codes "3") ∷ literal 8 ∷ space ∷ literal 6 ∷ space ∷ of_kind 21 (codes "// loop") ∷ []
 line_pieces (Line.form (suc (suc (suc n)))) =
-    indent ∷ p 20 (codes "/* note */") ∷ sp ∷ l 12 ∷ sp ∷ p 19 (codes "\"s\"") ∷ sp ∷ l 15 ∷ sp ∷ id (codes "a") ∷ l 8 ∷ []
+    indent ∷ of_kind 20 (codes "/* note */") ∷ space ∷ literal 12 ∷ space ∷ of_kind 19 (codes "\"s\"") ∷ space ∷ literal 15 ∷ space ∷ id (codes "a") ∷ literal 8 ∷ []
 line_pieces Line.target =
-    indent ∷ id (codes "Q") ∷ sp ∷ l 7 ∷ sp ∷ id (codes "f0") ∷ l 0 ∷ id (codes "a") ∷ l 2 ∷ sp ∷ l 0 ∷ id (codes "b") ∷ sp ∷ l 15 ∷ sp ∷ p 19 (codes "\"Z\"") ∷ l 1 ∷ l 1 ∷ l 8 ∷ []
+    indent ∷ id (codes "Q") ∷ space ∷ literal 7 ∷ space ∷ id (codes "f0") ∷ literal 0 ∷ id (codes "a") ∷ literal 2 ∷ space ∷ literal 0 ∷ id (codes "b") ∷ space ∷ literal 15 ∷ space ∷ of_kind 19 (codes "\"Z\"") ∷ literal 1 ∷ literal 1 ∷ literal 8 ∷ []
 
 -- before a function's number, and after it
 abbrev pub before_name : List Piece
-before_name = l 3 ∷ sp ∷ []
+before_name = literal 3 ∷ space ∷ []
 
 abbrev pub after_name : List Piece
-after_name = l 0 ∷ l 3 ∷ sp ∷ id (codes "a") ∷ l 2 ∷ sp ∷ l 4 ∷ sp ∷ id (codes "b") ∷ l 1 ∷ sp ∷ l 5 ∷ []
+after_name = literal 0 ∷ literal 3 ∷ space ∷ id (codes "a") ∷ literal 2 ∷ space ∷ literal 4 ∷ space ∷ id (codes "b") ∷ literal 1 ∷ space ∷ literal 5 ∷ []
 
 -- the end of a function
 abbrev pub end_pieces : List Piece
-end_pieces = newline ∷ l 6 ∷ []
+end_pieces = newline ∷ literal 6 ∷ []
 
 abbrev first : List ℕ → ℕ → ℕ
 first [] c = c

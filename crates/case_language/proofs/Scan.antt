@@ -5,6 +5,7 @@ use Rattle.grammar_tree.specs.Written.{LexerTerm, LexerSeq, LexerAlts, LexerRule
 use Rattle.grammar_tree.specs.Kinds.{kinds_of, lexer_rules}
 use Rattle.grammar_tree.specs.Matches.{MatchesRule, MatchesSeq, Matches}
 use Rattle.grammar_tree.specs.Lexes.{IsNext, KindMatches, SourceMatches}
+use Rattle.case_language.proofs.Tests.{not_both}
 use Rattle.case_language.proofs.Threads.{Any, accepts, all_nameless, any_accepts, any_moved, any_run, moved, run, run_nameless}
 
 abbrev rule_alts : Option WrittenRule → LexerAlts
@@ -74,10 +75,6 @@ source_any G Source.declared name w m = absurd m
 ended_none : (R : List LexerRule) (ks : List LexerSeq) (w : List ℕ) → ended ks ≡ true → Any R ks w → ⊥
 ended_none R [] w e a = elim a [ ]
 ended_none R (k ∷ ks) w e a = true≢false (sym e)
-
-not_both : (b : Bool) → not b ≡ true → b ≡ true → ⊥
-not_both true e f = true≢false (sym e)
-not_both false e f = true≢false (sym f)
 
 end_of : (G : WrittenGrammar) (kinds : List TokenKind) (c : ℕ) (w : List ℕ) (i : ℕ) (kind : TokenKind) → slice_get kinds i ≡ Some kind → all_end c (states G kinds w) ≡ true → ended (moved c (run (kind_threads G kind) w)) ≡ true
 end_of G [] c w i kind is h = cc is

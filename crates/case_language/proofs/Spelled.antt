@@ -10,6 +10,7 @@ use Rattle.grammar_tree.specs.Faults.{AtLexerRule}
 use Rattle.grammar_tree.specs.Matches.{Matches, MatchesAlternative, MatchesAlts, MatchesMany, MatchesRule, MatchesSeq, is_short}
 use Rattle.grammar_tree.specs.Lexes.{KindMatches, SourceMatches}
 use Rattle.case_language.specs.Mini.{all_chars, blank_token, blanks, comment_token, digits, id_token, int_token, letters, letters_digits, line_chars, line_token, mini, plain_chars, str_token, string_part}
+use Rattle.case_language.proofs.Tests.{not_both, or_parts}
 use Rattle.case_language.proofs.Threads.{Any, accepts, any_accepts, any_run, moved, run, run_nameless}
 use Rattle.case_language.proofs.MiniKinds.{kinds_mini, mini_kinds}
 
@@ -123,10 +124,6 @@ z_is_plain : has plain_chars 90 ≡ true
 unfolding in_ranges in_range
 z_is_plain = refl
 
-or_parts : (x y : Bool) → (x || y) ≡ true → (x ≡ true) ⊎ (y ≡ true)
-or_parts true y h = inl refl
-or_parts false y h = inr h
-
 string_matches : (w : List ℕ) → is_string w ≡ true → MatchesRule R str_token.alts w
 string_matches w h =
     let P : List ℕ → Type 0 = λ x. MatchesRule R str_token.alts x in
@@ -140,12 +137,8 @@ abbrev no_early : List LexerSeq → List ℕ → Bool
 no_early ks [] = true
 no_early ks (c ∷ w) = not (accepts ks) && no_early (moved c ks) w
 
-not_true : (b : Bool) → not b ≡ true → b ≡ true → ⊥
-not_true true e f = true≢false (sym e)
-not_true false e f = true≢false (sym f)
-
 never_early : (ks : List LexerSeq) (u : List ℕ) (c : ℕ) (v : List ℕ) → no_early ks (u ++ (c ∷ v)) ≡ true → accepts (run ks u) ≡ true → ⊥
-never_early ks [] c v h a = not_true (accepts ks) (and_parts (not (accepts ks)) (no_early (moved c ks) v) h).0 a
+never_early ks [] c v h a = not_both (accepts ks) (and_parts (not (accepts ks)) (no_early (moved c ks) v) h).0 a
 never_early ks (d ∷ u) c v h a = never_early (moved d ks) u c v (and_parts (not (accepts ks)) (no_early (moved d ks) (u ++ (c ∷ v))) h).1 a
 
 abbrev comment_seq : LexerSeq

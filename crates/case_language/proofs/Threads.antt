@@ -5,6 +5,7 @@ use Rattle.grammar_tree.specs.Chars.{has}
 use Rattle.grammar_tree.specs.Written.{LexerTerm, LexerSeq, LexerAlts, LexerRule}
 use Rattle.grammar_tree.specs.Matches.{Matches, MatchesAlts, MatchesMany, MatchesSeq}
 use Rattle.grammar_tree.proofs.MatchForms.{by_form}
+use Rattle.case_language.proofs.Tests.{or_later}
 
 -- no name is used
 abbrev mutual
@@ -145,10 +146,6 @@ pub run_nameless : (ks : List LexerSeq) (w : List ℕ) → all_nameless ks ≡ t
 run_nameless ks [] p = p
 run_nameless ks (c ∷ w) p = run_nameless (moved c ks) w (moved_nameless c ks p)
 
-or_right : (b c : Bool) → c ≡ true → (b || c) ≡ true
-or_right true c h = refl
-or_right false c h = h
-
 module _ (R : List LexerRule) where
   -- one of the threads matches the text
   pub data Any : List LexerSeq → List ℕ → Type 0 where
@@ -200,7 +197,7 @@ module _ (R : List LexerRule) where
     empty_found_alts _ _ (MatchesAlts.by_first s a w m) p e =
         let (one, other) = and_parts (nameless_seq s) (nameless_alts a) p in ap (λ b. b || empty_alts a) (empty_found_seq s w m one e)
     empty_found_alts _ _ (MatchesAlts.by_later s a w m) p e =
-        let (one, other) = and_parts (nameless_seq s) (nameless_alts a) p in or_right (empty_seq s) (empty_alts a) (empty_found_alts a w m other e)
+        let (one, other) = and_parts (nameless_seq s) (nameless_alts a) p in or_later (empty_seq s) (empty_alts a) (empty_found_alts a w m other e)
 
   -- a character further
   mutual
@@ -292,4 +289,4 @@ module _ (R : List LexerRule) where
   any_accepts (k ∷ ks) p (Any.here _ _ _ m) =
       let (one, other) = and_parts (nameless_seq k) (all_nameless ks) p in ap (λ b. b || accepts ks) (empty_found_seq k [] m one refl)
   any_accepts (k ∷ ks) p (Any.there _ _ _ a) =
-      let (one, other) = and_parts (nameless_seq k) (all_nameless ks) p in or_right (empty_seq k) (accepts ks) (any_accepts ks other a)
+      let (one, other) = and_parts (nameless_seq k) (all_nameless ks) p in or_later (empty_seq k) (accepts ks) (any_accepts ks other a)

@@ -1,5 +1,5 @@
 -- The gate that asks for Q and Z says yes to each program.
-use Rattle.std.proofs.Common.{◌≡◌, ℕ, zero, suc, ◌<◌, Bool, true, false, ◌||◌, ◌==◌, if◌then◌else◌, List, [], ◌∷◌, length, slice_index_or, refl, ap, arith}
+use Rattle.std.proofs.Common.{◌≡◌, ℕ, zero, suc, ◌<◌, Bool, true, ◌||◌, ◌==◌, if◌then◌else◌, List, [], ◌∷◌, length, slice_index_or, refl, ap, arith}
 use Rattle.std.specs.List.{Contains, list_any}
 use Rattle.std.proofs.lemmas.Bool.{and_from, eq-eqb}
 use Rattle.script_gate.specs.Rule.{occur_all}
@@ -8,10 +8,7 @@ use Rattle.case_maker.specs.Cases.{case_text}
 use Rattle.case_maker.specs.Laws.{HoldsQAndZ}
 use Rattle.case_maker.proofs.Letters.{holds}
 use Rattle.case_language.specs.Laws.{CasesGetYes}
-
-or_later : (b c : Bool) → c ≡ true → (b || c) ≡ true
-or_later true c h = refl
-or_later false c h = h
+use Rattle.case_language.proofs.Tests.{or_later}
 
 found : (xs : List ℕ) (k y : ℕ) → k < length xs → slice_index_or xs k y ≡ y → list_any (λ x. x == y) xs ≡ true
 found [] k y less e = absurd (omega (arith, less))

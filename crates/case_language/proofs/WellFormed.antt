@@ -1,5 +1,5 @@
 -- Mini is well-formed.
-use Rattle.std.proofs.Common.{◌≡◌, ◌⊎◌, inl, inr, ℕ, zero, suc, ◌+◌, ◌<◌, ◌≤◌, Bool, true, false, ◌&&◌, ◌||◌, not, cond, List, [], ◌∷◌, map, filter, Some, slice_get, refl, sym, ap, ◌∙◌, subst, arith, true≢false}
+use Rattle.std.proofs.Common.{◌≡◌, inl, inr, ℕ, zero, suc, ◌+◌, ◌<◌, ◌≤◌, Bool, true, false, ◌&&◌, ◌||◌, not, cond, List, [], ◌∷◌, map, filter, Some, slice_get, refl, sym, ap, ◌∙◌, subst, arith, true≢false}
 use Rattle.std.specs.Prelude.{count_by}
 use Rattle.std.specs.List.{Contains}
 use Rattle.std.proofs.lemmas.Bool.{and_parts}
@@ -13,6 +13,7 @@ use Rattle.grammar_tree.specs.Corners.{HasEmptyLoopAlts, IsLeftCorner, LeadsTo, 
 use Rattle.grammar_tree.specs.Faults.{EmptyLoop, EmptyToken, EofPlace, FragmentLoop, IsUnknown, IsWellFormed, LeftRecursion, LexerHasEmptyLoop, LexerHasEmptyLoopAlts, LexerHasEmptyLoopSeq, NameUse, NoBase, NoRule, ShortUse, TooManyRules, TwoRules, Uses, UsesThrough, any_has_eof, is_misplaced, name_uses, number_at, used_names}
 use Rattle.grammar_tree.proofs.Places.{contains_at, contains_later, lexer_places, numbers}
 use Rattle.case_language.specs.Mini.{mini}
+use Rattle.case_language.proofs.Tests.{neither, not_both, not_false, or_parts}
 use Rattle.case_language.proofs.Threads.{accepts, all_nameless, any_accepts, empty, empty_found, nameless}
 use Rattle.case_language.proofs.Scan.{rule_any, threads}
 use Rattle.case_language.proofs.MiniKinds.{bodies_mini, mini_bodies}
@@ -74,10 +75,6 @@ body i rule is =
     let at : slice_get mini_bodies (number_at mini i) ≡ Some (resolved_alts mini rule.alts) =
     ap (λ l. slice_get l (number_at mini i)) (sym bodies_mini) ∙ (numbers mini).body i rule is in
     record { at = at; it = fits_at mini_bodies 0 (number_at mini i) (number_at mini i) (resolved_alts mini rule.alts) (omega arith) fit at }
-
-not_both : (b : Bool) → not b ≡ true → b ≡ true → ⊥
-not_both true e f = true≢false (sym e)
-not_both false e f = true≢false (sym f)
 
 has_bases : (i : ℕ) → ¬ NoBase mini i
 has_bases i (rule, is, none) = true≢false (sym (body i rule is).it.base ∙ ap some_alts none)
@@ -244,10 +241,6 @@ abbrev among : List ℕ → List (List ℕ) → Bool
 among n [] = false
 among n (m ∷ ms) = same_text m n || among n ms
 
-or_parts : (x y : Bool) → (x || y) ≡ true → (x ≡ true) ⊎ (y ≡ true)
-or_parts true y h = inl refl
-or_parts false y h = inr h
-
 among_contains : (n : List ℕ) (ms : List (List ℕ)) → among n ms ≡ true → Contains ms n
 among_contains n [] h = absurd (true≢false (sym h))
 among_contains n (m ∷ ms) h = elim (or_parts (same_text m n) (among n ms) h) [
@@ -294,14 +287,6 @@ is_named name rule = same_text (rule_name rule) name
 
 abbrev weight : List ℕ → WrittenRule → ℕ
 weight name rule = cond (is_named name rule) 1 0
-
-neither : (x y : Bool) → (x || y) ≡ false → (x ≡ false) × (y ≡ false)
-neither true y h = absurd (true≢false h)
-neither false y h = (refl, h)
-
-not_false : (b : Bool) → not b ≡ true → b ≡ false
-not_false true h = absurd (true≢false (sym h))
-not_false false h = refl
 
 count_none : (name : List ℕ) (rules : List WrittenRule) → among name (map rule_name rules) ≡ false → count_by (is_named name) rules ≡ 0
 count_none name [] h = refl

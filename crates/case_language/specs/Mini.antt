@@ -1,4 +1,4 @@
--- The grammar Mini, as it is written, and its kinds.
+-- The grammar Mini, as it is written.
 use Rattle.std.specs.Prelude.{ℕ, Bool, true, false, List, [], ◌∷◌, map, codes}
 use Rattle.grammar_tree.specs.Written.{WrittenTerm, LexerTerm, LexerRule, WrittenRule, WrittenGrammar, written_alts, lexer_alts}
 
@@ -9,8 +9,8 @@ rule name alts = WrittenRule.parser_rule (record { name = name; alts = written_a
 abbrev token : List ℕ → Bool → List LexerTerm → LexerRule
 token name gap terms = record { name = name; fragment = false; gap = gap; alts = lexer_alts (terms ∷ []) }
 
-abbrev lit : List ℕ → WrittenTerm
-lit = WrittenTerm.literal
+abbrev literal : List ℕ → WrittenTerm
+literal = WrittenTerm.literal
 
 abbrev name : List ℕ → WrittenTerm
 name = WrittenTerm.name
@@ -31,34 +31,34 @@ file_rule = rule (codes "file") ((WrittenTerm.star (name (codes "func")) ∷ Wri
 -- func : type ID '(' params? ')' block ;
 abbrev func_rule : WrittenRule
 func_rule =
-    rule (codes "func") ((name (codes "type") ∷ id ∷ lit (codes "(") ∷ WrittenTerm.opt (name (codes "params")) ∷ lit (codes ")") ∷ name (codes "block") ∷ []) ∷ [])
+    rule (codes "func") ((name (codes "type") ∷ id ∷ literal (codes "(") ∷ WrittenTerm.opt (name (codes "params")) ∷ literal (codes ")") ∷ name (codes "block") ∷ []) ∷ [])
 
 -- params : type ID (',' type ID)* ;
 abbrev params_rule : WrittenRule
 params_rule =
-    rule (codes "params") ((name (codes "type") ∷ id ∷ WrittenTerm.star (block ((lit (codes ",") ∷ name (codes "type") ∷ id ∷ []) ∷ [])) ∷ []) ∷ [])
+    rule (codes "params") ((name (codes "type") ∷ id ∷ WrittenTerm.star (block ((literal (codes ",") ∷ name (codes "type") ∷ id ∷ []) ∷ [])) ∷ []) ∷ [])
 
 -- type : 'int' | 'char' ;
 abbrev type_rule : WrittenRule
-type_rule = rule (codes "type") ((lit (codes "int") ∷ []) ∷ (lit (codes "char") ∷ []) ∷ [])
+type_rule = rule (codes "type") ((literal (codes "int") ∷ []) ∷ (literal (codes "char") ∷ []) ∷ [])
 
 -- block : '{' stmt* '}' ;
 abbrev block_rule : WrittenRule
-block_rule = rule (codes "block") ((lit (codes "{") ∷ WrittenTerm.star (name (codes "stmt")) ∷ lit (codes "}") ∷ []) ∷ [])
+block_rule = rule (codes "block") ((literal (codes "{") ∷ WrittenTerm.star (name (codes "stmt")) ∷ literal (codes "}") ∷ []) ∷ [])
 
 abbrev stmt_rule : WrittenRule
 stmt_rule =
     rule (codes "stmt") (
     -- type ID ('=' expr)? ';'
-    (name (codes "type") ∷ id ∷ WrittenTerm.opt (block ((lit (codes "=") ∷ expr ∷ []) ∷ [])) ∷ lit (codes ";") ∷ [])
+    (name (codes "type") ∷ id ∷ WrittenTerm.opt (block ((literal (codes "=") ∷ expr ∷ []) ∷ [])) ∷ literal (codes ";") ∷ [])
     -- ID '=' expr ';'
-    ∷ (id ∷ lit (codes "=") ∷ expr ∷ lit (codes ";") ∷ [])
+    ∷ (id ∷ literal (codes "=") ∷ expr ∷ literal (codes ";") ∷ [])
     -- 'if' '(' expr ')' block ('else' block)?
-    ∷ (lit (codes "if") ∷ lit (codes "(") ∷ expr ∷ lit (codes ")") ∷ name (codes "block") ∷ WrittenTerm.opt (block ((lit (codes "else") ∷ name (codes "block") ∷ []) ∷ [])) ∷ [])
+    ∷ (literal (codes "if") ∷ literal (codes "(") ∷ expr ∷ literal (codes ")") ∷ name (codes "block") ∷ WrittenTerm.opt (block ((literal (codes "else") ∷ name (codes "block") ∷ []) ∷ [])) ∷ [])
     -- 'while' '(' expr ')' block
-    ∷ (lit (codes "while") ∷ lit (codes "(") ∷ expr ∷ lit (codes ")") ∷ name (codes "block") ∷ [])
+    ∷ (literal (codes "while") ∷ literal (codes "(") ∷ expr ∷ literal (codes ")") ∷ name (codes "block") ∷ [])
     -- 'return' expr? ';'
-    ∷ (lit (codes "return") ∷ WrittenTerm.opt expr ∷ lit (codes ";") ∷ [])
+    ∷ (literal (codes "return") ∷ WrittenTerm.opt expr ∷ literal (codes ";") ∷ [])
     -- block
     ∷ (name (codes "block") ∷ [])
     ∷ [])
@@ -67,13 +67,13 @@ abbrev expr_rule : WrittenRule
 expr_rule =
     rule (codes "expr") (
     -- expr ('*' | '/') expr
-    (expr ∷ block ((lit (codes "*") ∷ []) ∷ (lit (codes "/") ∷ []) ∷ []) ∷ expr ∷ [])
+    (expr ∷ block ((literal (codes "*") ∷ []) ∷ (literal (codes "/") ∷ []) ∷ []) ∷ expr ∷ [])
     -- expr ('+' | '-') expr
-    ∷ (expr ∷ block ((lit (codes "+") ∷ []) ∷ (lit (codes "-") ∷ []) ∷ []) ∷ expr ∷ [])
+    ∷ (expr ∷ block ((literal (codes "+") ∷ []) ∷ (literal (codes "-") ∷ []) ∷ []) ∷ expr ∷ [])
     -- ID '(' (expr (',' expr)*)? ')'
-    ∷ (id ∷ lit (codes "(") ∷ WrittenTerm.opt (block ((expr ∷ WrittenTerm.star (block ((lit (codes ",") ∷ expr ∷ []) ∷ [])) ∷ []) ∷ [])) ∷ lit (codes ")") ∷ [])
+    ∷ (id ∷ literal (codes "(") ∷ WrittenTerm.opt (block ((expr ∷ WrittenTerm.star (block ((literal (codes ",") ∷ expr ∷ []) ∷ [])) ∷ []) ∷ [])) ∷ literal (codes ")") ∷ [])
     -- '(' expr ')'
-    ∷ (lit (codes "(") ∷ expr ∷ lit (codes ")") ∷ [])
+    ∷ (literal (codes "(") ∷ expr ∷ literal (codes ")") ∷ [])
     ∷ (id ∷ [])
     ∷ (name (codes "INT") ∷ [])
     ∷ (name (codes "STR") ∷ [])
