@@ -1,0 +1,122 @@
+//! How a worker gets a text to ask about.
+
+ghost use Rattle.std.specs.Prelude.{◌≡◌, ◌≤◌, ◌*◌, ◌+◌, None, IfOk, IfSome, find, length, position, vec_capacity};
+ghost use Rattle.verdict_table.specs.Ahead.{ahead};
+ghost use Rattle.ordered_commit.specs.BoardState.{IsSettled};
+ghost use Rattle.verdict_table.specs.TableState.{found_in};
+ghost use Rattle.ordered_commit.specs.Claiming.{ClaimsNext, is_absent, is_claimed};
+ghost use Rattle.ordered_commit.specs.Seats.{Agrees, SameForOthers};
+ghost use Rattle.ordered_commit.specs.TakeEnds.{TakeEnds};
+
+use crate::board::Board;
+use crate::fault::PoolFault;
+use crate::seat::{Seat, put_seat, with_claim};
+use crate::take::Take;
+use edge_io::Sink;
+use faults::Memory;
+use gate_permits::Permit;
+use reduce_journal::Event;
+use script_gate::{Bytes, Gate};
+use verdict_table::{Found, Step, Table};
+
+/// Whether the table holds neither a record nor an open claim of the text.
+fn is_absent(table: &Table, text: &[u8]) -> bool
+    ensures { result ≡ is_absent table.now text.now }
+{
+    matches!(table.find(text), Found::Absent)
+}
+
+/// Whether this is the open claim of the text.
+pub(crate) fn is_claimed(table: &Table, text: &[u8], claim: u64) -> bool
+    ensures { result ≡ is_claimed claim (found_in table.now text.now) }
+{
+    match table.find(text) {
+        Found::Claimed(number) => number == claim,
+        Found::Absent | Found::Filled { .. } => false,
+    }
+}
+
+/// Where the first of these texts is that the table doesn't hold.
+fn first_absent(table: &Table, texts: &[Bytes]) -> Option<usize>
+    ensures { result ≡ position (is_absent table.now) texts.now }
+{
+    texts
+        .iter()
+        .position(|text| is_absent(table, text.as_slice()))
+}
+
+/// The first of so many texts ahead of the front that the table doesn't hold.
+fn next_text<S: Step>(front: &S, table: &Table, most: u32) -> Result<Option<Bytes>, Memory>
+    ensures text { IfOk result (λ text. text ≡ find (is_absent table.now) (ahead most (S.plan front.now))) }
+    ensures short { IfOk result (λ text. IfSome text (λ text. length text ≤ 1048576)) }
+{
+    let mut texts = front.ahead(most)?;
+    match first_absent(table, &texts) {
+        None => Ok(None),
+        Some(index) => Ok(Some(texts.swap_remove(index))),
+    }
+}
+
+/// Claims the first free text ahead of the front, two for each worker, and reserves the places of its
+/// record and of its event.
+fn claim_next<S: Step>(
+    front: &S,
+    table: &mut Table,
+    events: &mut Vec<Event>,
+    workers: usize,
+) -> Result<Option<Permit>, Memory>
+    requires { workers ≤ 16 }
+    ensures claim { ClaimsNext (ahead (2 * workers) (S.plan front.now)) result table.old table.new }
+    ensures short { IfOk result (λ permit. IfSome permit (λ permit. length permit.text ≤ 1048576)) }
+    ensures events { events.new.items ≡ events.old.items }
+    ensures capacity { vec_capacity events.old ≤ vec_capacity events.new }
+    ensures places { IfOk result (λ permit. IfSome permit (λ permit. length events.old.items + workers ≤ vec_capacity events.new)) }
+{
+    let Some(text) = next_text(front, table, 2 * workers as u32)? else {
+        return Ok(None);
+    };
+    events.reserve(workers)?;
+    let claim = table.claim(text.as_slice())?;
+    Ok(Some(Permit::new(claim, text)))
+}
+
+impl<S: Step + Drop, G: Gate, J: Sink + Drop> Board<S, G, J> {
+    /// Claims the first free text ahead of the front for the worker of this seat, if there is one. What
+    /// its record takes is reserved, so that a verdict that comes is never lost for memory. It waits for
+    /// nobody.
+    ///
+    /// It costs a look ahead of two texts for each worker, a look into the table for each, and a copy of
+    /// the text.
+    pub fn take(&mut self, seat: &mut Seat) -> Result<Take, Memory>
+        requires agrees { Agrees self.old.seats seat.old }
+        requires free { seat.old.claim ≡ None }
+        requires settled { IsSettled S.plan self.old }
+        ensures ends { TakeEnds S.plan result seat.old seat.new self.old self.new }
+        ensures agrees { Agrees self.new.seats seat.new }
+        ensures others { SameForOthers seat.old.worker self.old.seats self.new.seats }
+    {
+        if self.fault.is_some() {
+            return Ok(Take::Stopped);
+        }
+        if self.front.asks().is_none() {
+            return Ok(Take::Done);
+        }
+        match claim_next(
+            &self.front,
+            &mut self.table,
+            &mut self.events,
+            self.seats.len(),
+        ) {
+            Err(memory) => {
+                self.fault = Some(PoolFault::Memory);
+                Err(memory)
+            }
+            Ok(None) => Ok(Take::NotYet),
+            Ok(Some(permit)) => {
+                *seat = with_claim(*seat, permit.claim());
+                put_seat(&mut self.seats, *seat);
+                Ok(Take::Work(permit))
+            }
+        }
+    }
+}

@@ -1,0 +1,97 @@
+//! How the front is answered with what was recorded.
+
+ghost use Rattle.std.specs.Prelude.{◌≡◌, ◌≤◌, ◌<◌, ◌+◌, IsSome, IsErrOf, length, vec_capacity};
+ghost use Rattle.faults.specs.Count.{Rose};
+ghost use Rattle.verdict_table.specs.Plan.{asked};
+ghost use Rattle.ordered_commit.specs.CommitEnds.{CommitEnds, WritesCommit};
+ghost use Rattle.ordered_commit.specs.Numbers.{number_asked};
+ghost use Rattle.ordered_commit.specs.Writes.{HasSameName};
+
+use crate::board::Board;
+use crate::fault::{BoardFault, PoolFault};
+use edge_io::Sink;
+use reduce_journal::{Event, write_event};
+use script_gate::{Gate, Verdict};
+use verdict_table::{Found, Step, Table};
+
+/// The number and the verdict of the record of the text that the front asks.
+fn next_commit<S: Step>(front: &S, table: &Table) -> Option<(u64, Verdict)>
+    ensures { result ≡ number_asked (asked (S.plan front.now)) table.now }
+{
+    let text = front.asks()?;
+    match table.find(text) {
+        Found::Filled {
+            number,
+            verdict,
+            ..
+        } => Some((number, verdict)),
+        Found::Absent | Found::Claimed(_) => None,
+    }
+}
+
+/// Writes the commit of this number, adds it to the history, where its place is reserved, and answers the
+/// front.
+fn commit_record<S: Step, J: Sink>(
+    front: &mut S,
+    events: &mut Vec<Event>,
+    journal: &mut J,
+    number: u64,
+    verdict: Verdict,
+) -> Result<(), BoardFault>
+    requires asking { IsSome (asked (S.plan front.old)) }
+    requires place { length events.old.items < vec_capacity events.old }
+    ensures ends { WritesCommit S.plan J.put_so_far number verdict result front.old front.new events.old.items events.new.items journal.old journal.new }
+    ensures capacity { vec_capacity events.old ≤ vec_capacity events.new }
+    ensures one { length events.new.items ≤ length events.old.items + 1 }
+    ensures first { S.first front.new ≡ S.first front.old }
+    ensures failed { IsErrOf result BoardFault.Journal → Rose (J.faults journal.old) (J.faults journal.new) }
+    ensures quiet { (¬ IsErrOf result BoardFault.Journal) → J.faults journal.new ≡ J.faults journal.old }
+    ensures count { J.faults journal.old ≤ J.faults journal.new }
+{
+    let event = Event::Committed { number };
+    write_event(journal, &event)?;
+    events.push(event).unwrap();
+    front.answer(verdict)?;
+    Ok(())
+}
+
+impl<S: Step + Drop, G: Gate, J: Sink + Drop> Board<S, G, J> {
+    /// Answers the front with the record of the text that it asks, and says whether there was one. After
+    /// `Memory` the front may be spent; the board keeps the fault, and answers the front no more.
+    ///
+    /// It costs a look into the table, and what the front's answer costs.
+    pub fn commit(&mut self) -> Result<bool, BoardFault>
+        ensures ends { CommitEnds S.plan J.put_so_far result self.old self.new }
+        ensures table { self.new.table ≡ self.old.table }
+        ensures seats { self.new.seats ≡ self.old.seats }
+        ensures first { S.first self.new.front ≡ S.first self.old.front }
+        ensures name { HasSameName J.put_so_far self.old.journal self.new.journal }
+        ensures failed { IsErrOf result BoardFault.Journal → Rose (J.faults self.old.journal) (J.faults self.new.journal) }
+        ensures quiet { (¬ IsErrOf result BoardFault.Journal) → J.faults self.new.journal ≡ J.faults self.old.journal }
+        ensures count { J.faults self.old.journal ≤ J.faults self.new.journal }
+    {
+        if self.fault.is_some() {
+            return Ok(false);
+        }
+        let Some((number, verdict)) = next_commit(&self.front, &self.table) else {
+            return Ok(false);
+        };
+        if self.events.reserve(self.seats.len() + 1).is_err() {
+            self.fault = Some(PoolFault::Memory);
+            return Err(BoardFault::Memory);
+        }
+        match commit_record(
+            &mut self.front,
+            &mut self.events,
+            &mut self.journal,
+            number,
+            verdict,
+        ) {
+            Ok(()) => Ok(true),
+            Err(fault) => {
+                self.fault = Some(fault.into());
+                Err(fault)
+            }
+        }
+    }
+}

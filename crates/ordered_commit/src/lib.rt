@@ -1,0 +1,35 @@
+//! The board that the workers of a run share: over it they claim texts, record verdicts, and answer the
+//! one reducer that is committed to.
+//!
+//! Read `specs/BoardState.antt` first, then `specs/Kept.antt`: what holds of every board. Enter by
+//! [`Board::new`], which gives a [`Seat`] for each worker. A worker commits while it can and takes,
+//! asks, and records or gives up; each call is a move of `commit_moves` or none
+//! (`specs/CommitEnds.antt`, `specs/TakeEnds.antt`, `specs/RecordEnds.antt`). No call waits. So a
+//! worker goes on:
+//!
+//! ```
+//! while board.commit()? {}
+//! if let Take::Work(permit) = board.take(&mut seat)? {
+//!     match ask_once(&mut gate, permit) {
+//!         Ok(answer) => { board.record(&mut seat, answer)?; }
+//!         Err(unasked) => board.give_up(&mut seat, unasked),
+//!     }
+//! }
+//! ```
+#![tactic(auto)]
+
+mod board;
+mod claiming;
+mod committing;
+mod fault;
+mod outcome;
+mod recording;
+mod seat;
+mod take;
+
+pub use board::Board;
+pub use fault::{BoardFault, PoolFault};
+pub use faults::Memory;
+pub use outcome::{Outcome, Refused};
+pub use seat::Seat;
+pub use take::Take;
