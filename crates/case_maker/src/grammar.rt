@@ -11,7 +11,8 @@ pub fn mini_grammar() -> &'static [u8]
     MINI.as_bytes()
 }
 
-const MINI: &str = r##"grammar Mini;
+/// The text that [`mini_grammar`] gives, as characters.
+pub const MINI: &str = r##"grammar Mini;
 file : func* EOF ;
 func : type ID '(' params? ')' block ;
 params : type ID (',' type ID)* ;

@@ -15,5 +15,5 @@ mod tests;
 
 pub use case::make_case;
 pub use faults::Memory;
-pub use grammar::mini_grammar;
+pub use grammar::{MINI, mini_grammar};
 pub use laws::{cases_are_short, cases_hold_q_and_z};
