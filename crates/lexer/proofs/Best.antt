@@ -161,14 +161,18 @@ module _ (P : List State) (a : Alternative) (text : List ℕ) where
         let none = m.shortest short s.done x same r in
         omega (arith, h, ap length same, length-append s.done x, ap length none))) best
 
-    -- no beginning of the rest is read
-    pub at_stop : (now : ℕ) → ((u v : List ℕ) → chars rest ≡ u ++ v → ¬ ReadsFrom P states u) → IsBestBelow (IsRead P a) (chars text) (suc (length s.done)) now → IsLongestLen (IsRead P a) (chars text) now
-    at_stop now stuck best =
+    -- no beginning of the rest of at least one character is read
+    pub at_stuck : (now : ℕ) → ((u v : List ℕ) → chars rest ≡ u ++ v → u ≢ [] → ¬ ReadsFrom P states u) → IsBestBelow (IsRead P a) (chars text) (suc (length s.done)) now → IsLongestLen (IsRead P a) (chars text) now
+    at_stuck now stuck best =
         best_all (IsRead P a) (chars text) (suc (length s.done)) now (λ f g e m. below_by f (λ h.
         let (x, same) = longer_by f g e h in
         let Q : List ℕ → Type 0 = λ z. Reads P a.start z in
         let cut : chars rest ≡ x ++ g = same_back s.done (chars rest) (x ++ g) (sym s.cut ∙ e ∙ ap (λ l. l ++ g) same ∙ append_assoc s.done x g) in
-        absurd (stuck x g cut ((s.reads x).1 (subst Q same m.reads))))) best
+        absurd (stuck x g cut (λ none. omega (arith, h, ap length same, length-append s.done x, ap length none)) ((s.reads x).1 (subst Q same m.reads))))) best
+
+    -- no beginning of the rest is read
+    pub at_stop : (now : ℕ) → ((u v : List ℕ) → chars rest ≡ u ++ v → ¬ ReadsFrom P states u) → IsBestBelow (IsRead P a) (chars text) (suc (length s.done)) now → IsLongestLen (IsRead P a) (chars text) now
+    at_stop now stuck best = at_stuck now (λ u v e some. stuck u v e) best
 
     -- the text is at its end
     pub at_end : (now : ℕ) → length rest ≡ 0 → IsBestBelow (IsRead P a) (chars text) (suc (length s.done)) now → IsLongestLen (IsRead P a) (chars text) now

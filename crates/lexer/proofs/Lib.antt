@@ -15,3 +15,5 @@ pub mod Cut
 pub mod Order
 pub mod EmptyTexts
 pub mod Singles
+pub mod Found
+pub mod Walked

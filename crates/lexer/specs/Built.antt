@@ -4,11 +4,13 @@ use Rattle.lexer.specs.declared.rules.Rules.{Rules}
 use Rattle.lexer.specs.Alternatives.{IsNfa, IsNfaOf}
 use Rattle.lexer.specs.Candidates.{AreListed}
 use Rattle.lexer.specs.Gaps.{AreGapChars}
+use Rattle.lexer.specs.Table.{IsTable}
 
--- each rule can be read, and each list has the candidates for its first character
+-- Each rule can be read, each list has the candidates for its first character, and the table is right.
 pub record IsRunnable (r : Rules) : Type 0 where
   pub nfa : IsNfa r.states.items r.alternatives.items
   pub listed : AreListed r.states.items r.alternatives.items r.by_first.items
+  pub table : IsTable r.states.items r.table
 
 -- the rules are those of the grammar, and the characters those that are gap text by themselves
 pub record IsBuilt (c : CheckedGrammar) (r : Rules) : Type 0 where

@@ -6,6 +6,8 @@ pub mod StateSets
 pub mod Longest
 pub mod Dead
 pub mod Reading
+pub mod Table
+pub mod Subsets
 pub mod Alternatives
 pub mod Candidates
 pub mod Tokens

@@ -18,7 +18,8 @@ use std::marker::Model;
 /// their kinds. What can be decided once is decided when it is built: each rule is an NFA, in which
 /// the rules that it names are written out where they are named; for each character below 128 it is
 /// known which alternatives can begin with it, and of all characters which are gap text by
-/// themselves.
+/// themselves. What comes after a set of states by a character below 128 is in a table, as far as
+/// it goes.
 #[derive(Drop)]
 pub struct Lexer {
     checked: Checked,
@@ -47,7 +48,8 @@ impl Lexer {
     /// written out where they are named. There are at most 1,000,000 states, and 4,000,000 ranges of
     /// characters in them; more are refused as `Memory`. It takes time and memory near linear in the
     /// states, their ranges and the rules, and 128 times as much time for the states at which
-    /// alternatives begin.
+    /// alternatives begin. A table of what comes after sets of states by each character below 128 is
+    /// made up to a bound: it has at most 4,096 sets, and 8,388,608 states are looked at for it.
     pub fn build(alloc: Global, checked: &Checked) -> Result<Lexer, Memory>
         ensures { IfOk result (λ lexer. lexer ≡ checked.now) }
     {
@@ -60,14 +62,19 @@ impl Lexer {
     /// character, and of the least kind on a tie. Pieces of gap kinds are left out.
     ///
     /// A piece is read one character after another, by each alternative that can begin with its
-    /// first character, up to where no state of that alternative remains: each character takes time
-    /// in proportion to the states that are reached. Where a reading went on after its last match and
-    /// failed, the states that it went through are kept at one position in each 16 bytes, up to
-    /// 1,048,576 pairs of a state and a position; and a later reading ends at such a position if it
-    /// reaches kept states alone. So for a given grammar the time grows with the text's length, also
-    /// where many tokens begin that never end, as long as all pairs are kept: with n states for texts
-    /// of up to 16,777,216 / n bytes. In a longer text each such token may be read to the end of the
-    /// text, and the time can grow with the square of the length.
+    /// first character, up to where no state of that alternative remains. By the table each character
+    /// takes constant time. Where the table doesn't go on, as at a character of 128 or more, the
+    /// alternative is read by its states from the piece's beginning, and each character takes time in
+    /// proportion to the states that are reached. So is all that comes after 65,536 bytes, and 4 for
+    /// each byte that was matched, were read by the table in vain.
+    ///
+    /// Where a reading by states went on after its last match and failed, the states that it went
+    /// through are kept at one position in each 16 bytes, up to 1,048,576 pairs of a state and a
+    /// position; and a later reading ends at such a position if it reaches kept states alone. So for a
+    /// given grammar the time grows with the text's length, also where many tokens begin that never
+    /// end, as long as all pairs are kept: with n states for texts of up to 16,777,216 / n bytes. In a
+    /// longer text each such token may be read to the end of the text, and the time can grow with the
+    /// square of the length.
     pub fn lex(&self, text: &str) -> Result<Tokens, LexFault>
         requires { length text.now < 2 ^ 32 }
         ensures tokens { IfOk result (λ tokens. HasTokens self.now.grammar (chars text.now) (map token_of tokens.items.items)) }

@@ -5,11 +5,12 @@
 //!
 //! [`Lexer::build`] makes of each alternative of each kind the states of an NFA (Thompson 1968; `nfa`,
 //! `compile`), which is read one character after another from the set of states that it has reached
-//! (`state_set`, `reading`). What comes next in a text is the longest match of the alternatives that
-//! can begin with its first character (`candidates`, `pieces`), and the text is cut so from its
-//! beginning on (`tokens`). Where a reading went on after its last match and failed, its states are
-//! kept as dead (`dead`; Reps 1998). Which characters are gap text by themselves is found when the
-//! lexer is built (`empty`, `gaps`). What the states mean is defined in `specs/` of this crate.
+//! (`state_set`, `reading`), or by a table of such sets (`table`; the subset construction, `subsets`).
+//! What comes next in a text is the longest match of the alternatives that can begin with its first
+//! character (`candidates`, `pieces`), and the text is cut so from its beginning on (`tokens`). Where
+//! a reading went on after its last match and failed, its states are kept as dead (`dead`; Reps
+//! 1998). Which characters are gap text by themselves is found when the lexer is built (`empty`,
+//! `gaps`). What the states mean is defined in `specs/` of this crate.
 #![tactic(auto)]
 
 mod alternatives;
@@ -25,6 +26,8 @@ mod pieces;
 mod reading;
 mod rules;
 mod state_set;
+mod subsets;
+mod table;
 mod token;
 mod tokens;
 

@@ -9,10 +9,12 @@ ghost use Rattle.lexer.specs.Candidates.{AreListed, ComesNext, HasNoNext, IsBest
 ghost use Rattle.lexer.specs.Dead.{AreDead, StayDead};
 ghost use Rattle.lexer.specs.Nfa.{IsClosed};
 ghost use Rattle.lexer.specs.Reading.{IsReady};
+ghost use Rattle.lexer.specs.Table.{IsTable};
 
 use crate::candidates::candidates;
 use crate::nfa::State;
 use crate::reading::{Alternative, Reading};
+use crate::table::Table;
 use faults::Memory;
 
 /// A match at the beginning of a text: the number of its kind, and its length in bytes. The length
@@ -41,12 +43,14 @@ fn better(best: Match, other: Match) -> Match
 /// The best match of the alternatives.
 fn best_match(
     nfa: &[State],
+    table: &Table,
     alternatives: &[Alternative],
     reading: &mut Reading,
     text: &str,
 ) -> Result<Match, Memory>
     requires nfa { IsClosed nfa.now }
     requires inside { (a : Alternative) → Contains alternatives.now a → a.start < length nfa.now }
+    requires table { IsTable nfa.now table.now }
     requires ready { IsReady (length nfa.now) reading.old }
     requires dead { AreDead nfa.now text.now reading.old.dead }
     ensures ready { OnOk result (IsReady (length nfa.now) reading.new) }
@@ -56,7 +60,7 @@ fn best_match(
     let mut best = Match { kind: 0, len: 0 };
     for alternative in alternatives {
         let alternative = *alternative;
-        let len = reading.longest(nfa, alternative, text)?;
+        let len = reading.longest(nfa, table, alternative, text)?;
         let other = Match {
             kind: alternative.kind,
             len,
@@ -69,6 +73,7 @@ fn best_match(
 /// What comes next in the text. None where no alternative matches at least one character.
 pub(crate) fn next_match(
     nfa: &[State],
+    table: &Table,
     alternatives: &[Alternative],
     lists: &[Vec<Alternative>],
     reading: &mut Reading,
@@ -76,6 +81,7 @@ pub(crate) fn next_match(
 ) -> Result<Option<Match>, Memory>
     requires nfa { IsNfa nfa.now alternatives.now }
     requires listed { AreListed nfa.now alternatives.now lists.now }
+    requires table { IsTable nfa.now table.now }
     requires ready { IsReady (length nfa.now) reading.old }
     requires dead { AreDead nfa.now text.now reading.old.dead }
     ensures ready { OnOk result (IsReady (length nfa.now) reading.new) }
@@ -86,7 +92,7 @@ pub(crate) fn next_match(
         return Ok(None);
     };
     let list = candidates(lists, alternatives, c);
-    let best = best_match(nfa, list, reading, text)?;
+    let best = best_match(nfa, table, list, reading, text)?;
     if best.len == 0 {
         return Ok(None);
     }

@@ -1,6 +1,6 @@
 //! How far an alternative matches.
 
-ghost use Rattle.std.specs.Prelude.{◌≡◌, ◌⊎◌, ◌↔◌, ◌<◌, ◌∷◌, [], ℕ, List, true, false, IfOk, OnOk, length, slice_index_or};
+ghost use Rattle.std.specs.Prelude.{◌≡◌, ◌⊎◌, ◌↔◌, ◌<◌, ◌∷◌, [], ℕ, List, true, false, IfOk, MatchOption, OnOk, ⊤, length, slice_index_or};
 ghost use Rattle.std.specs.List.{Contains};
 ghost use Rattle.std.specs.Str.{chars};
 ghost use Rattle.lexer.specs.declared.dead.StateAt.{StateAt};
@@ -10,10 +10,13 @@ ghost use Rattle.lexer.specs.Longest.{IsLongestLen};
 ghost use Rattle.lexer.specs.Nfa.{IsClosed, Reads};
 ghost use Rattle.lexer.specs.Reading.{IsRead, IsReady};
 ghost use Rattle.lexer.specs.StateSets.{IsFollowed, ReadsFrom};
+ghost use Rattle.lexer.specs.Table.{IsTable};
+ghost use Rattle.lexer.specs.declared.nfa.State.{State};
 
 use crate::dead::{DeadStates, StateAt};
 use crate::nfa::State;
 use crate::state_set::StateSet;
+use crate::table::Table;
 use faults::Memory;
 use std::alloc::Global;
 
@@ -31,6 +34,13 @@ pub(crate) struct Alternative {
 /// could have.
 const SPACING: usize = 16;
 
+/// How many bytes of a text the table may read in vain before anything is matched. It bounds the time
+/// where many tokens begin that never end, and no result depends on it.
+const FIRST_CREDIT: usize = 65_536;
+
+/// How many more it may read in vain for each byte that is matched.
+const CREDIT_FOR_A_BYTE: usize = 4;
+
 /// Whether one of these positions lies between the two, of which the first has more bytes after it.
 fn is_checkpoint(before: usize, remaining: usize) -> bool {
     before / SPACING != remaining / SPACING
@@ -47,6 +57,9 @@ pub(crate) struct Reading {
 
     /// States from which nothing is read within the text, as earlier readings found out.
     pub(crate) dead: DeadStates,
+
+    /// How many bytes the table may still read in vain: those that it reads after its last match.
+    pub(crate) credit: usize,
 }
 
 impl Reading {
@@ -62,6 +75,7 @@ impl Reading {
             next,
             trace: Vec::new(alloc),
             dead: DeadStates::new(alloc),
+            credit: FIRST_CREDIT,
         })
     }
 
@@ -72,6 +86,7 @@ impl Reading {
         ensures none { (r n : ℕ) → ¬ HasDead self.new.dead r n }
     {
         self.dead = DeadStates::new(alloc);
+        self.credit = FIRST_CREDIT;
     }
 
     /// Goes on after the character.
@@ -236,13 +251,32 @@ impl Reading {
         }
     }
 
-    /// The length, in bytes, of the longest beginning of the text, of at least one character, that
-    /// the alternative matches. 0 where it matches none.
+    /// The longest match as the table has it. None where the table doesn't say, or where too much was
+    /// read by it in vain.
+    fn walk(&mut self, table: &Table, alternative: Alternative, text: &str) -> Option<usize>
+        ensures current { self.new.current ≡ self.old.current }
+        ensures next { self.new.next ≡ self.old.next }
+        ensures dead { self.new.dead ≡ self.old.dead }
+        ensures longest { (P : List State) → IsTable P table.now → MatchOption result ⊤ (IsLongestLen (IsRead P alternative) (chars text.now)) }
+    {
+        if self.credit == 0 {
+            return None;
+        }
+        let walk = table.walk(alternative, text);
+        let gained = walk
+            .longest
+            .unwrap_or(0)
+            .saturating_mul(1 + CREDIT_FOR_A_BYTE);
+        self.credit = self.credit.saturating_add(gained).saturating_sub(walk.read);
+        walk.longest
+    }
+
+    /// The longest match, by the states that are reached.
     ///
     /// A reading ends at the latest at the first checkpoint after its last match at which all its
     /// states are kept as dead. Where it goes on further and fails, its states at the checkpoints
     /// since that match are kept as dead for the later readings of the same text, up to a bound.
-    pub(crate) fn longest(
+    fn read_from_states(
         &mut self,
         nfa: &[State],
         alternative: Alternative,
@@ -259,5 +293,32 @@ impl Reading {
         let longest = self.read_longest(nfa, alternative, text)?;
         self.keep_dead()?;
         Ok(longest)
+    }
+
+    /// The length, in bytes, of the longest beginning of the text, of at least one character, that
+    /// the alternative matches. 0 where it matches none.
+    pub(crate) fn longest(
+        &mut self,
+        nfa: &[State],
+        table: &Table,
+        alternative: Alternative,
+        text: &str,
+    ) -> Result<usize, Memory>
+        requires nfa { IsClosed nfa.now }
+        requires table { IsTable nfa.now table.now }
+        requires ready { IsReady (length nfa.now) self.old }
+        requires start { alternative.start < length nfa.now }
+        requires dead { AreDead nfa.now text.now self.old.dead }
+        ensures ready { OnOk result (IsReady (length nfa.now) self.new) }
+        ensures longest { IfOk result (λ len. IsLongestLen (IsRead nfa.now alternative) (chars text.now) len) }
+        ensures dead { OnOk result (StayDead nfa.now text.now self.old.dead self.new.dead) }
+    {
+        match self.walk(table, alternative, text) {
+            Some(longest) => Ok(longest),
+            None => {
+                let longest = self.read_from_states(nfa, alternative, text)?;
+                Ok(longest)
+            }
+        }
     }
 }

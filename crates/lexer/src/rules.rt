@@ -13,6 +13,8 @@ use crate::gaps::gap_characters;
 use crate::nfa::State;
 use crate::pieces::{Match, next_match};
 use crate::reading::{Alternative, Reading};
+use crate::subsets::table_of;
+use crate::table::Table;
 use faults::Memory;
 use grammar_tree::{CharSet, Checked};
 use std::alloc::Global;
@@ -25,6 +27,9 @@ pub(crate) struct Rules {
 
     /// By its first character, for each below 128, the alternatives that can match a text.
     pub(crate) by_first: Vec<Vec<Alternative>>,
+
+    /// What comes after sets of the states, for characters below 128.
+    pub(crate) table: Table,
 
     /// The characters that are gap text by themselves.
     pub(crate) gaps: CharSet,
@@ -42,10 +47,12 @@ impl Rules {
         let by_first = by_first_character(alloc, &states, &beginnings)?;
         checked.is_checked();
         let gaps = gap_characters(alloc, checked.kinds(), &states, &beginnings)?;
+        let table = table_of(alloc, &states, &alternatives)?;
         Ok(Rules {
             states,
             alternatives,
             by_first,
+            table,
             gaps,
         })
     }
@@ -69,6 +76,7 @@ impl Rules {
     {
         let found = next_match(
             &self.states,
+            &self.table,
             &self.alternatives,
             &self.by_first,
             reading,

@@ -179,8 +179,29 @@ impl StateSet {
         ensures followed { OnOk result (IsFollowed nfa.now self.new.states.items) }
         ensures reads { OnOk result ((w : List ℕ) → ReadsFrom nfa.now self.new.states.items w ↔ ReadsFrom nfa.now before.now.states.items (c ∷ w)) }
     {
+        self.step_from(nfa, &before.states, c)?;
+        Ok(())
+    }
+
+    /// The same, of states that are given by themselves.
+    pub(crate) fn step_from(
+        &mut self,
+        nfa: &[State],
+        before: &[usize],
+        c: char,
+    ) -> Result<(), Memory>
+        requires nfa { IsClosed nfa.now }
+        requires size { length self.old.marks.items ≡ length nfa.now }
+        requires marked { AreMarked self.old.states.items self.old.marks.items }
+        requires before { (n : ℕ) → Contains before.now n → n < length nfa.now }
+        requires before_followed { IsFollowed nfa.now before.now }
+        ensures marked { OnOk result (AreMarked self.new.states.items self.new.marks.items) }
+        ensures size { OnOk result (length self.new.marks.items ≡ length self.old.marks.items) }
+        ensures followed { OnOk result (IsFollowed nfa.now self.new.states.items) }
+        ensures reads { OnOk result ((w : List ℕ) → ReadsFrom nfa.now self.new.states.items w ↔ ReadsFrom nfa.now before.now (c ∷ w)) }
+    {
         self.clear();
-        self.add_after(nfa, &before.states, c)?;
+        self.add_after(nfa, before, c)?;
         self.follow(nfa)?;
         Ok(())
     }

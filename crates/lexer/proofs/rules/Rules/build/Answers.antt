@@ -5,8 +5,9 @@ use Rattle.grammar_tree.specs.Kinds.{kinds_of}
 use Rattle.lexer.specs.declared.candidates.Beginning.{Beginning}
 use Rattle.lexer.specs.declared.nfa.State.{State}
 use Rattle.lexer.specs.declared.reading.Alternative.{Alternative}
-use Rattle.lexer.specs.Alternatives.{IsNfaOf}
+use Rattle.lexer.specs.Alternatives.{IsNfa, IsNfaOf}
 use Rattle.lexer.specs.Candidates.{AreBeginnings, AreListed, IsBeginning}
+use Rattle.lexer.specs.Table.{IsTable}
 use Rattle.lexer.proofs.Listed.{beginnings_order}
 use Rattle.lexer.proofs.rules.Rules.build.Goals as goal
 
@@ -49,6 +50,13 @@ gap_characters-requires-clause-order c =
     let are = begun S c.deref.result.now A c.deref-2.result.now B c.deref.ensures.value c.deref-2.ensures.value c.in_ok-beginnings.ensures in
     beginnings_order c.deref-6.result.now A (ap (λ l. map alternative_of l) c.deref-6.ensures.value ∙ are.alternatives) c.in_ok-add_kinds.ensures.order
 
+pub table_of-requires : goal.table_of-requires
+table_of-requires c =
+    let S = c.add_kinds.new.states.items in
+    let T : List State → Type 0 = λ x. IsNfa x c.add_kinds.new.alternatives.items in
+    let U : List Alternative → Type 0 = λ x. IsNfa c.deref-7.result.now x in
+    subst U (sym c.deref-8.ensures.value) (subst T (sym c.deref-7.ensures.value) c.in_ok-add_kinds.ensures.nfa)
+
 pub returns : goal.returns
 returns c =
     let G = c.args.checked.now.grammar in
@@ -62,9 +70,10 @@ returns c =
     let R : List Alternative → Type 0 = λ x. AreListed S x c.in_ok-by_first.by_first.items in
     let T : List State → Type 0 = λ x. IsNfaOf G x A in
     let U : List Alternative → Type 0 = λ x. IsNfaOf G c.deref-5.result.now x in
+    let V : List State → Type 0 = λ x. IsTable x c.in_ok-table.table in
     let named : kinds_of G ≡ map kind_of c.kinds.result.now = sym c.is_checked.ensures.numbered ∙ sym c.kinds.ensures in
     record {
       of_grammar = c.in_ok-add_kinds.ensures;
-      runnable = record { nfa = c.in_ok-add_kinds.ensures.nfa; listed = subst R listed (subst Q c.deref-3.ensures.value c.in_ok-by_first.ensures) };
+      runnable = record { nfa = c.in_ok-add_kinds.ensures.nfa; listed = subst R listed (subst Q c.deref-3.ensures.value c.in_ok-by_first.ensures); table = subst V c.deref-7.ensures.value c.in_ok-table.ensures };
       gaps = c.in_ok-gaps.ensures G named (subst U (sym lent) (subst T (sym c.deref-5.ensures.value) c.in_ok-add_kinds.ensures));
     }
