@@ -1,13 +1,14 @@
 //! The reducer of mode `lines`.
 
 ghost use Rattle.std.specs.Prelude.{◌≡◌, ◌≤◌, length, IfOk};
-ghost use Rattle.reduce_core.specs.LineMode.{line_plan};
+ghost use Rattle.reduce_core.specs.LineMode.{line_mode, line_plan};
+ghost use Rattle.reduction_rounds.specs.RoundsPlan.{IsStart};
 
 use crate::line_round::LineRound;
 use crate::lines::Lines;
 use faults::Memory;
 use keep_guard::{Guard, Relation};
-use reduction_rounds::Rounds;
+use reduction_rounds::{ReducerStep, Rounds};
 use std::alloc::Global;
 use verdict_table::Step;
 
@@ -31,6 +32,7 @@ pub fn line_reducer<'a, F: Relation>(
     requires { length start.now ≤ 1048576 }
     ensures plan { IfOk result (λ reducer. ⟦<Rounds<LineRound<'a, F>> as Step>⟧.plan reducer ≡ line_plan (F.admits guard.now) start.now) }
     ensures first { IfOk result (λ reducer. ⟦<Rounds<LineRound<'a, F>> as Step>⟧.first reducer ≡ line_plan (F.admits guard.now) start.now) }
+    ensures start { IfOk result (λ reducer. IsStart (line_mode (record { admits = F.admits guard.now; start = start.now })) (⟦<Rounds<LineRound<'a, F>> as ReducerStep>⟧.so_far reducer)) }
 {
     let lines = Lines::split(alloc, start)?;
     let units = lines.len() as u64;

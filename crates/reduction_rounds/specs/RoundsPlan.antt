@@ -1,5 +1,5 @@
 -- The reduction as a plan: what a machine asks, and how it goes on at each answer. Counts of 64 bits stay at their greatest value.
-use Rattle.std.specs.Prelude.{◌+◌, ◌-◌, ◌^◌, min, ℕ, zero, suc, Bool, true, false, List, if◌then◌else◌}
+use Rattle.std.specs.Prelude.{◌≡◌, ◌+◌, ◌-◌, ◌^◌, min, ℕ, zero, suc, Bool, true, false, List, if◌then◌else◌}
 use Rattle.verdict_table.specs.Plan.{Plan, StepResult, End, Ask}
 use Rattle.reduction_rounds.specs.Trials.{Trials, Done, Try}
 use Rattle.reduction_rounds.specs.Mode.{RoundMode}
@@ -12,6 +12,10 @@ capped_count n = min n (2 ^ 64 - 1)
 abbrev pub step_result : {T : Type 0} → RoundMode T → T → ℕ → ℕ → Bool → StepResult
 step_result mode state used rounds refused =
     record { text = mode.text state; units = mode.size state; used = used; rounds = rounds; refused = refused }
+
+-- a result that is no more than the start
+abbrev pub IsStart : {T : Type 0} → RoundMode T → StepResult → Type 0
+IsStart mode result = (result.text ≡ mode.text mode.start) × (result.units ≡ mode.size mode.start)
 
 -- a text is asked where its state is listed; else it goes on as at no, which isn't counted
 abbrev pub ask_if : Bool → List ℕ → Plan → Plan → Plan → Plan

@@ -4,7 +4,7 @@ ghost use Rattle.std.specs.Prelude.{◌≡◌, ◌≤◌, length, OnOk, IsSome, 
 ghost use Rattle.reduction_rounds.specs.Trials.{Done, height, state_after};
 ghost use Rattle.reduction_rounds.specs.Fields.{Becomes, HasState, IsReady, IsTrying, StaysKept, listed_text, listed_trials, plan_of, result_so_far, stage_after};
 ghost use Rattle.reduction_rounds.specs.FieldProps.{ready_prop};
-ghost use Rattle.reduction_rounds.specs.RoundsPlan.{plan_first, plan_rounds};
+ghost use Rattle.reduction_rounds.specs.RoundsPlan.{IsStart, plan_first, plan_rounds};
 ghost use Rattle.verdict_table.specs.Plan.{after as plan_after, asked};
 
 use crate::ahead::texts_at_no;
@@ -45,6 +45,7 @@ impl<R: Round + Drop> Rounds<R> {
         requires units { units ≡ (R.mode (R.input round)).size (R.mode (R.input round)).start }
         ensures plan { ⟦<Rounds<R> as Step>⟧.plan result ≡ plan_first (R.mode (R.input round)) }
         ensures first { ⟦<Rounds<R> as Step>⟧.first result ≡ plan_first (R.mode (R.input round)) }
+        ensures start { IsStart (R.mode (R.input round)) (⟦<Rounds<R> as ReducerStep>⟧.so_far result) }
     {
         Rounds {
             alloc,

@@ -1,7 +1,7 @@
 //! Mode `perses`: what is true of any walk, at [`TreeVisits`].
 
 ghost use Rattle.std.specs.Prelude.{◌≡◌, IfOk};
-ghost use Rattle.reduction_rounds.specs.RoundsPlan.{plan_first};
+ghost use Rattle.reduction_rounds.specs.RoundsPlan.{IsStart, plan_first};
 ghost use Rattle.tree_rounds.specs.Ends.{PersesAsksCandidates, PersesBegins, PersesEndsMinimal};
 ghost use Rattle.tree_rounds.specs.Laws.{PersesIsLawful, PersesRoundsAreVisits, PersesTriesEdits};
 ghost use Rattle.tree_rounds.specs.PersesMode.{perses_mode};
@@ -13,7 +13,7 @@ use crate::reducer::tree_reducer;
 use crate::tree_round::TreeRound;
 use faults::Memory;
 use keep_guard::Relation;
-use reduction_rounds::Rounds;
+use reduction_rounds::{ReducerStep, Rounds};
 use std::alloc::Global;
 use syntax_tree::{left_is_part, whole_trees_rise};
 use tree_mode::rounds_keep_style;
@@ -31,6 +31,7 @@ pub fn perses_reducer<'a, F: Relation>(
 ) -> Result<Rounds<TreeRound<'a, F, TreeVisits<'a>>>, Memory>
     ensures plan { IfOk result (λ reducer. ⟦<Rounds<TreeRound<'a, F, TreeVisits<'a>>> as Step>⟧.plan reducer ≡ plan_first (perses_mode (⟦<TreeParts<F> as HasInput>⟧.input parts.now))) }
     ensures first { IfOk result (λ reducer. ⟦<Rounds<TreeRound<'a, F, TreeVisits<'a>>> as Step>⟧.first reducer ≡ plan_first (perses_mode (⟦<TreeParts<F> as HasInput>⟧.input parts.now))) }
+    ensures start { IfOk result (λ reducer. IsStart (perses_mode (⟦<TreeParts<F> as HasInput>⟧.input parts.now)) (⟦<Rounds<TreeRound<'a, F, TreeVisits<'a>>> as ReducerStep>⟧.so_far reducer)) }
 {
     let walk = TreeVisits::new(alloc, &parts.tree, &parts.compat)?;
     tree_reducer(alloc, parts, walk)

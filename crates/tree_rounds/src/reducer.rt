@@ -1,7 +1,7 @@
 //! The reducers of trees.
 
 ghost use Rattle.std.specs.Prelude.{◌≡◌, IfOk};
-ghost use Rattle.reduction_rounds.specs.RoundsPlan.{plan_first};
+ghost use Rattle.reduction_rounds.specs.RoundsPlan.{IsStart, plan_first};
 ghost use Rattle.reduction_rounds.specs.Trials.{Done};
 ghost use Rattle.tree_rounds.specs.Fields.{IsTreeOf};
 ghost use Rattle.tree_rounds.specs.WalkMode.{walk_mode};
@@ -10,7 +10,7 @@ use crate::parts::{HasInput, TreeParts};
 use crate::tree_round::TreeRound;
 use faults::Memory;
 use keep_guard::Relation;
-use reduction_rounds::Rounds;
+use reduction_rounds::{ReducerStep, Rounds};
 use std::alloc::Global;
 use tree_mode::whole_is_start;
 use tree_walk::TreeWalk;
@@ -37,6 +37,7 @@ pub fn tree_reducer<'a, F: Relation, W: TreeWalk + Drop>(
     requires rest { W.rest walk ≡ Done }
     ensures plan { IfOk result (λ reducer. ⟦<Rounds<TreeRound<'a, F, W>> as Step>⟧.plan reducer ≡ plan_first (walk_mode W.round (⟦<TreeParts<F> as HasInput>⟧.input parts.now))) }
     ensures first { IfOk result (λ reducer. ⟦<Rounds<TreeRound<'a, F, W>> as Step>⟧.first reducer ≡ plan_first (walk_mode W.round (⟦<TreeParts<F> as HasInput>⟧.input parts.now))) }
+    ensures start { IfOk result (λ reducer. IsStart (walk_mode W.round (⟦<TreeParts<F> as HasInput>⟧.input parts.now)) (⟦<Rounds<TreeRound<'a, F, W>> as ReducerStep>⟧.so_far reducer)) }
 {
     parts.is_input();
     whole_is_start();

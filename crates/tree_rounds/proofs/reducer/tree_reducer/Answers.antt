@@ -40,3 +40,10 @@ returns-clause-plan g c = c.new-2.ensures.plan ∙ ap (λ (input : TreeInput). p
 
 pub returns-clause-first : goal.returns-clause-first
 returns-clause-first g c = c.new-2.ensures.first ∙ ap (λ (input : TreeInput). plan_first (walk_mode g.W.TreeWalk.round input)) c.in_ok-round.ensures.input
+
+pub returns-clause-start : goal.returns-clause-start
+returns-clause-start g c =
+    let start = c.new-2.ensures.start in (
+      start.0 ∙ ap (λ (input : TreeInput). (walk_mode g.W.TreeWalk.round input).text (walk_mode g.W.TreeWalk.round input).start) c.in_ok-round.ensures.input,
+      start.1 ∙ ap (λ (input : TreeInput). (walk_mode g.W.TreeWalk.round input).size (walk_mode g.W.TreeWalk.round input).start) c.in_ok-round.ensures.input,
+    )
