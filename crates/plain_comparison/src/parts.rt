@@ -1,0 +1,60 @@
+//! What is found in a start, and the parts of its reduction.
+
+ghost use Rattle.std.specs.Prelude.{◌≤◌, IfOk, length};
+ghost use Rattle.std.specs.Option.{IfSome};
+ghost use Rattle.plain_comparison.specs.Found.{IsFound};
+
+use compat_table::compat;
+use faults::Memory;
+use grammar_input::{InputFault, ParsedInput, parsed_input};
+use grammar_tree::Checked;
+use keep_guard::{Guard, KeepTexts};
+use std::alloc::Global;
+use tree_rounds::TreeParts;
+
+/// What is found in a text of the grammar.
+fn found_in(alloc: Global, grammar: &Checked, start: &str) -> Result<ParsedInput, InputFault>
+    requires { length start.now ≤ 1048576 }
+    ensures { IfOk result IsFound }
+{
+    grammar.is_checked();
+    Ok(parsed_input(alloc, grammar, start.as_bytes())?)
+}
+
+/// What is found in a text of the grammar; None where it isn't in its language, or has more than
+/// 1,048,576 bytes.
+pub(crate) fn found(
+    alloc: Global,
+    grammar: &Checked,
+    start: &str,
+) -> Result<Option<ParsedInput>, Memory>
+    ensures { IfOk result (λ found. IfSome found IsFound) }
+{
+    if start.len() > 1_048_576 {
+        return Ok(None);
+    }
+    match found_in(alloc, grammar, start) {
+        Ok(found) => Ok(Some(found)),
+        Err(InputFault::Memory) => Err(Memory),
+        Err(_) => Ok(None),
+    }
+}
+
+/// The parts of the reducer, where each candidate is admitted.
+pub(crate) fn tree_parts<'a>(
+    alloc: Global,
+    found: ParsedInput,
+    squeezes: bool,
+) -> Result<TreeParts<KeepTexts<'a>>, Memory>
+    requires { IsFound found }
+{
+    let compat = compat(alloc, found.tree.normal())?;
+    let guard = Guard::new(KeepTexts::new(alloc));
+    let ParsedInput {
+        text,
+        tokens,
+        lexer,
+        tree,
+    } = found;
+    Ok(TreeParts::new(text, tokens, lexer, compat, tree, guard, squeezes))
+}

@@ -1,0 +1,4 @@
+pub mod Verdicts
+pub mod Texts
+pub mod Forms
+pub mod Results
