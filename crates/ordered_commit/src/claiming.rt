@@ -1,7 +1,8 @@
 //! How a worker gets a text to ask about.
 
-ghost use Rattle.std.specs.Prelude.{◌≡◌, ◌≤◌, ◌*◌, ◌+◌, None, IfOk, IfSome, find, length, position, vec_capacity};
+ghost use Rattle.std.specs.Prelude.{◌≡◌, ◌≤◌, ◌*◌, ◌+◌, None, Some, true, IfOk, IfSome, find, length, position, vec_capacity};
 ghost use Rattle.verdict_table.specs.Ahead.{ahead};
+ghost use Rattle.verdict_table.specs.Plan.{asked};
 ghost use Rattle.ordered_commit.specs.BoardState.{IsSettled};
 ghost use Rattle.verdict_table.specs.TableState.{found_in};
 ghost use Rattle.ordered_commit.specs.Claiming.{ClaimsNext, is_absent, is_claimed};
@@ -17,6 +18,7 @@ use faults::Memory;
 use gate_permits::Permit;
 use reduce_journal::Event;
 use script_gate::{Bytes, Gate};
+use std::alloc::Global;
 use verdict_table::{Found, Step, Table};
 
 /// Whether the table holds neither a record nor an open claim of the text.
@@ -45,11 +47,32 @@ fn first_absent(table: &Table, texts: &[Bytes]) -> Option<usize>
         .position(|text| is_absent(table, text.as_slice()))
 }
 
-/// The first of so many texts ahead of the front that the table doesn't hold.
-fn next_text<S: Step>(front: &S, table: &Table, most: u32) -> Result<Option<Bytes>, Memory>
+/// A copy of the text that the front asks, where the table doesn't hold it.
+fn own_text<S: Step>(alloc: Global, front: &S, table: &Table) -> Result<Option<Bytes>, Memory>
+    ensures own { IfOk result (λ text. IfSome text (λ text. (asked (S.plan front.now) ≡ Some text) × (is_absent table.now text ≡ true))) }
+    ensures short { IfOk result (λ text. IfSome text (λ text. length text ≤ 1048576)) }
+{
+    match front.asks() {
+        Some(text) if is_absent(table, text) => Ok(Some(Bytes::from_slice(alloc, text)?)),
+        _ => Ok(None),
+    }
+}
+
+/// The first of so many texts ahead of the front that the table doesn't hold. It looks further than the
+/// front's own text only where the table holds that, since a look ahead copies the front.
+fn next_text<S: Step>(
+    alloc: Global,
+    front: &S,
+    table: &Table,
+    most: u32,
+) -> Result<Option<Bytes>, Memory>
+    requires { 1 ≤ most }
     ensures text { IfOk result (λ text. text ≡ find (is_absent table.now) (ahead most (S.plan front.now))) }
     ensures short { IfOk result (λ text. IfSome text (λ text. length text ≤ 1048576)) }
 {
+    if let Some(text) = own_text(alloc, front, table)? {
+        return Ok(Some(text));
+    }
     let mut texts = front.ahead(most)?;
     match first_absent(table, &texts) {
         None => Ok(None),
@@ -65,14 +88,15 @@ fn claim_next<S: Step>(
     events: &mut Vec<Event>,
     workers: usize,
 ) -> Result<Option<Permit>, Memory>
-    requires { workers ≤ 16 }
+    requires { (1 ≤ workers) × (workers ≤ 16) }
     ensures claim { ClaimsNext (ahead (2 * workers) (S.plan front.now)) result table.old table.new }
     ensures short { IfOk result (λ permit. IfSome permit (λ permit. length permit.text ≤ 1048576)) }
     ensures events { events.new.items ≡ events.old.items }
     ensures capacity { vec_capacity events.old ≤ vec_capacity events.new }
     ensures places { IfOk result (λ permit. IfSome permit (λ permit. length events.old.items + workers ≤ vec_capacity events.new)) }
 {
-    let Some(text) = next_text(front, table, 2 * workers as u32)? else {
+    let alloc = *events.allocator();
+    let Some(text) = next_text(alloc, front, table, 2 * workers as u32)? else {
         return Ok(None);
     };
     events.reserve(workers)?;
@@ -85,8 +109,8 @@ impl<S: Step + Drop, G: Gate, J: Sink + Drop> Board<S, G, J> {
     /// its record takes is reserved, so that a verdict that comes is never lost for memory. It waits for
     /// nobody.
     ///
-    /// It costs a look ahead of two texts for each worker, a look into the table for each, and a copy of
-    /// the text.
+    /// It costs a look into the table and a copy of the text. Where the front's own text is claimed, it
+    /// also costs a look ahead of two texts for each worker, and a look into the table for each.
     pub fn take(&mut self, seat: &mut Seat) -> Result<Take, Memory>
         requires agrees { Agrees self.old.seats seat.old }
         requires free { seat.old.claim ≡ None }
