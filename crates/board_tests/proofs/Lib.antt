@@ -1,0 +1,3 @@
+pub mod FreeSeats
+pub mod Questions
+pub mod Settled

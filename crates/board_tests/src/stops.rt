@@ -1,0 +1,85 @@
+//! Boards that stop.
+
+use crate::hands::Got;
+use crate::rows::{Row, outcome_by};
+use crate::small_step::SmallStep;
+use edge_io::MemSink;
+use ordered_commit::{Board, BoardFault, PoolFault};
+use script_gate::{ListGate, RuleGate, Said};
+use std::test::Fail;
+
+/// While the second worker has a claim the script of the first one fails: the second one's record is
+/// made, and nothing is committed.
+const FAILS: [Row; 9] = [
+    Row::Works(0, b"a=1;b=2;c=3;"),
+    Row::Records(0, 1),
+    Row::Commits(1),
+    Row::Works(1, b""),
+    Row::Gets(0, Got::Unasked),
+    Row::Gets(0, Got::Stopped),
+    Row::Records(1, 2),
+    Row::Commits(0),
+    Row::Gets(1, Got::Stopped),
+];
+
+#[test]
+fn keeps_the_fault_of_a_script(rt: HostRuntime) -> Result<(), Fail> {
+    let alloc = rt.alloc();
+    let mut answers = Vec::new(alloc);
+    answers.push(Said::Yes)?;
+    let mut gates = Vec::new(alloc);
+    gates.push(ListGate::new(alloc, answers, Said::Fail))?;
+    gates.push(ListGate::new(alloc, Vec::new(alloc), Said::No))?;
+    let outcome = outcome_by(alloc, Vec::new(alloc), gates, &FAILS)?;
+    assert_eq!(rt; outcome.fault, Some(PoolFault::Script { worker: 1 }));
+    assert_eq!(rt; outcome.events.len(), 3);
+    assert_eq!(rt;
+        outcome.journal.bytes(),
+        b"perses-journal 1\nR y 12\na=1;b=2;c=3;\nC 1\nR n 0\n\n".as_slice()
+    );
+    Ok(())
+}
+
+/// The text of the first record can't be put: the record is made, and nothing is committed.
+const UNWRITTEN: [Row; 4] = [
+    Row::Works(0, b"a=1;b=2;c=3;"),
+    Row::Unwritten(0, 1),
+    Row::Commits(0),
+    Row::Gets(1, Got::Stopped),
+];
+
+#[test]
+fn makes_a_record_that_cannot_be_written(rt: HostRuntime) -> Result<(), Fail> {
+    let alloc = rt.alloc();
+    let mut fail = Vec::new(alloc);
+    fail.push(3)?;
+    let mut gates = Vec::new(alloc);
+    gates.push(RuleGate::<98>::new(alloc, false))?;
+    gates.push(RuleGate::<98>::new(alloc, false))?;
+    let outcome = outcome_by(alloc, fail, gates, &UNWRITTEN)?;
+    assert_eq!(rt; outcome.fault, Some(PoolFault::Journal));
+    assert_eq!(rt; outcome.events.len(), 1);
+    assert_eq!(rt;
+        outcome.journal.bytes(),
+        b"perses-journal 1\nR y 12\n".as_slice()
+    );
+    Ok(())
+}
+
+#[test]
+fn hands_the_journal_back_where_its_head_cannot_be_put(rt: HostRuntime) -> Result<(), Fail> {
+    let alloc = rt.alloc();
+    let journal = MemSink::new(alloc, 10, Vec::new(alloc))?;
+    let made = Board::<SmallStep, RuleGate<98>, MemSink>::new(
+        alloc,
+        SmallStep::new(alloc),
+        journal,
+        2,
+    );
+    let Err(refused) = made else {
+        return Err("there is no board")?;
+    };
+    assert_eq!(rt; refused.fault, BoardFault::Journal);
+    assert_eq!(rt; refused.journal.bytes().len(), 0);
+    Ok(())
+}
