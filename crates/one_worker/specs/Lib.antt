@@ -1,0 +1,12 @@
+pub use Rattle.faults.specs.Count
+pub use Rattle.edge_io.specs.Sink
+pub use Rattle.verdict_table.specs.Plan
+pub use Rattle.verdict_table.specs.TableState
+pub use Rattle.reduce_journal.specs.History
+pub use Rattle.reduce_journal.specs.Journal
+pub use Rattle.commit_moves.specs.Replay
+pub use Rattle.ordered_commit.specs.Kept
+pub mod Sequential
+pub mod RunHistory
+pub mod RunEnds
+pub mod UnderWay
