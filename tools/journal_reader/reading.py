@@ -1,0 +1,114 @@
+"""Reads a journal by its format, version 1, as docs/FORMATS.md has it."""
+import re
+from typing import NamedTuple
+
+HEAD = b"perses-journal 1\n"
+LONGEST_TEXT = 1048576
+
+# Whole first lines of events, and what such a line can begin with before its newline has come.
+RECORD_LINE = re.compile(rb"R ([yn]) (0|[1-9][0-9]*)\n")
+COMMIT_LINE = re.compile(rb"C ([1-9][0-9]*)\n")
+RECORD_FRONT = re.compile(rb"R(?: (?:[yn](?: (0|[1-9][0-9]*)?)?)?)?\Z")
+COMMIT_FRONT = re.compile(rb"C(?: ([1-9][0-9]*)?)?\Z")
+
+
+class Record(NamedTuple):
+    """A text got its verdict."""
+
+    yes: bool
+    text: bytes
+
+
+class Commit(NamedTuple):
+    """The reducer was answered with the record of this number, from 1."""
+
+    number: int
+
+
+class Journal(NamedTuple):
+    """The whole events in their order, and the bytes of a torn tail."""
+
+    events: list
+    torn: int
+
+    def records(self):
+        return [event for event in self.events if isinstance(event, Record)]
+
+    def last_yes(self):
+        """The record of the last yes that the reducer was answered with: what it had come to. None before the first."""
+        records = self.records()
+        found = None
+        for event in self.events:
+            if isinstance(event, Commit) and records[event.number - 1].yes:
+                found = records[event.number - 1]
+        return found
+
+
+class BadHead(Exception):
+    """The bytes don't begin with the first line."""
+
+
+class BadEvent(Exception):
+    """At this offset is neither an event, nor the end, nor a torn tail."""
+
+    def __init__(self, offset):
+        super().__init__(offset)
+        self.offset = offset
+
+
+def read_journal(data):
+    """The journal of these bytes. BadHead and BadEvent say why there is none."""
+    if not data.startswith(HEAD):
+        raise BadHead()
+    events = []
+    records = 0
+    at = len(HEAD)
+    while at < len(data):
+        event, end = event_at(data, at, records)
+        if event is None:
+            return Journal(events, len(data) - at)
+        events.append(event)
+        records += isinstance(event, Record)
+        at = end
+    return Journal(events, 0)
+
+
+def event_at(data, at, records):
+    """The event at this offset after so many records, and where it ends; no event at a torn tail."""
+    line_end = data.find(b"\n", at)
+    if line_end < 0:
+        if is_front(data[at:], records):
+            return None, at
+        raise BadEvent(at)
+    line = data[at:line_end + 1]
+    commit = COMMIT_LINE.fullmatch(line)
+    if commit and is_number(commit[1], records):
+        return Commit(int(commit[1])), line_end + 1
+    record = RECORD_LINE.fullmatch(line)
+    if record and is_number(record[2], LONGEST_TEXT):
+        return record_at(data, at, line_end + 1, record[1] == b"y", int(record[2]))
+    raise BadEvent(at)
+
+
+def record_at(data, at, text_start, yes, length):
+    """The record whose first line is at this offset, and where it ends."""
+    text_end = text_start + length
+    if text_end >= len(data):
+        return None, at
+    if data[text_end:text_end + 1] != b"\n":
+        raise BadEvent(at)
+    return Record(yes, data[text_start:text_end]), text_end + 1
+
+
+def is_front(rest, records):
+    """Whether the first line of some event that can come after so many records begins with these bytes."""
+    commit = COMMIT_FRONT.match(rest)
+    if commit and records > 0:
+        return commit[1] is None or is_number(commit[1], records)
+    record = RECORD_FRONT.match(rest)
+    return record is not None and (record[1] is None or is_number(record[1], LONGEST_TEXT))
+
+
+def is_number(digits, greatest):
+    """Whether these digits are at most the greatest. Longer ones aren't turned into a number."""
+    return len(digits) <= len(str(greatest)) and int(digits) <= greatest

@@ -1,0 +1,93 @@
+"""The journal reader: the worked journal, each of its prefixes, torn tails beside bad records, and its command line."""
+import subprocess
+import tempfile
+import unittest
+from pathlib import Path
+
+from support import TOOL
+
+from journal_reader.reading import BadEvent, BadHead, Commit, Record, read_journal
+
+COMMAND = TOOL.parent / "journal"
+
+# The journal of a reduction of `a=1;b=2;c=3;` whose script says yes where there is a `b`.
+WORKED = b"perses-journal 1\nR y 12\na=1;b=2;c=3;\nC 1\nR n 0\n\nC 2\nR n 5\na=1;\n\nC 3\nR y 8\nb=2;c=3;\nC 4\nR y 5\nb=2;\n\nC 5\nC 2\n"
+HEAD = b"perses-journal 1\n"
+ONE = HEAD + b"R y 1\na\n"
+
+EVENTS = [
+    Record(True, b"a=1;b=2;c=3;"), Commit(1), Record(False, b""), Commit(2), Record(False, b"a=1;\n"), Commit(3),
+    Record(True, b"b=2;c=3;"), Commit(4), Record(True, b"b=2;\n"), Commit(5), Commit(2),
+]
+
+# What comes after some bytes, and whether it is a torn tail.
+TAILS = [
+    (ONE, b"C", True), (ONE, b"C ", True), (ONE, b"C 1", True), (ONE, b"C 2", False), (ONE, b"C 0", False), (ONE, b"C 01", False), (ONE, b"C 1 ", False),
+    (HEAD, b"C", False), (HEAD, b"R", True), (HEAD, b"R y ", True), (HEAD, b"R y 1048576", True), (HEAD, b"R y 1048577", False), (HEAD, b"R y 00", False),
+    (HEAD, b"R x", False), (HEAD, b"R y 0", True), (HEAD, b"R y 0\n", True), (HEAD, b"R y 0\nx", False), (HEAD, b"R y 2\nab", True), (HEAD, b"R y 2\nabc", False),
+    (HEAD, b"\n", False), (HEAD, b"r", False), (HEAD, b"R y 1\n\xff", True), (HEAD, b"R  ", False), (HEAD, b"R y -1", False), (HEAD, b"R y 9999999999", False),
+]
+
+
+class Reading(unittest.TestCase):
+    def test_reads_the_worked_journal(self):
+        self.assertEqual(len(WORKED), 107)
+        self.assertEqual(read_journal(WORKED), (EVENTS, 0))
+
+    def test_reads_each_prefix_as_its_first_events(self):
+        for length in range(len(WORKED) + 1):
+            with self.subTest(length=length):
+                if length < len(HEAD):
+                    self.assertRaises(BadHead, read_journal, WORKED[:length])
+                    continue
+                journal = read_journal(WORKED[:length])
+                self.assertEqual(journal.events, EVENTS[:len(journal.events)])
+                self.assertLess(journal.torn, 20)
+
+    def test_tells_torn_tails_from_bad_records(self):
+        for front, tail, is_torn in TAILS:
+            with self.subTest(tail=tail):
+                if is_torn:
+                    self.assertEqual(read_journal(front + tail).torn, len(tail))
+                    continue
+                with self.assertRaises(BadEvent) as caught:
+                    read_journal(front + tail)
+                self.assertEqual(caught.exception.offset, len(front))
+
+    def test_names_the_place_of_a_bad_record(self):
+        with self.assertRaises(BadEvent) as caught:
+            read_journal(WORKED[:19] + b"z" + WORKED[20:])
+        self.assertEqual(caught.exception.offset, 17)
+
+
+class CommandLine(unittest.TestCase):
+    def run_on(self, data, *words):
+        with tempfile.TemporaryDirectory() as folder:
+            path = Path(folder, "journal")
+            path.write_bytes(data)
+            done = subprocess.run([str(COMMAND), str(path), *words], capture_output=True)
+        return done.returncode, done.stdout, done.stderr
+
+    def test_prints_a_line_for_each_event(self):
+        status, output, errors = self.run_on(WORKED + b"R y 3\nab")
+        self.assertEqual((status, errors), (0, b""))
+        lines = output.decode().splitlines()
+        self.assertEqual(lines[0], "record 1: yes, 12 bytes, 'a=1;b=2;c=3;'")
+        self.assertEqual(lines[-2:], ["  answered with record 2", "torn tail of 8 bytes"])
+
+    def test_writes_the_text_of_a_record(self):
+        self.assertEqual(self.run_on(WORKED, "--text", "3"), (0, b"a=1;\n", b""))
+        self.assertEqual(self.run_on(WORKED, "--text", "6"), (1, b"", b"journal: no such record\n"))
+
+    def test_writes_what_the_reduction_had_come_to(self):
+        self.assertEqual(self.run_on(WORKED, "--last-yes"), (0, b"b=2;\n", b""))
+        self.assertEqual(self.run_on(WORKED[:79], "--last-yes"), (0, b"a=1;b=2;c=3;", b""))
+        self.assertEqual(self.run_on(HEAD, "--last-yes")[0], 1)
+
+    def test_refuses_what_is_no_journal(self):
+        self.assertEqual(self.run_on(b"perses-journal 2\n"), (1, b"", b"journal: no journal: its first line isn't there\n"))
+        self.assertEqual(self.run_on(HEAD + b"x"), (1, b"", b"journal: no event at byte 17\n"))
+
+
+if __name__ == "__main__":
+    unittest.main()
