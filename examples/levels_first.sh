@@ -1,6 +1,7 @@
 #!/bin/sh
 # Reduces an input level by level (mode hdd), which asks little of a wide one, and then what is left of it
 # in mode perses: levels_first.sh GRAMMAR INPUT OUTPUT SCRIPT.
+# Each run prints its report. The journal of the first one goes with its folder; that of the second is OUTPUT.journal.
 # Ends with the status of the run that didn't end with 0, and then writes no output.
 [ $# -eq 4 ] || { echo 'usage: levels_first.sh GRAMMAR INPUT OUTPUT SCRIPT' >&2; exit 2; }
 perses=$(dirname -- "$(readlink -f -- "$0")")/../perses

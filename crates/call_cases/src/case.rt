@@ -18,6 +18,8 @@ pub struct Case {
     pub failing_calls: Vec<u64>,
     /// Which puts on the output fail, counted from 1.
     pub failing_puts: Vec<u64>,
+    /// Which puts into the journal fail, counted from 1.
+    pub failing_events: Vec<u64>,
     /// The most bytes that the output takes.
     pub capacity: u64,
     /// The rule of the gate, as the number of a `RuleGate`.
@@ -33,6 +35,7 @@ impl Case {
             files: Vec::new(alloc),
             failing_calls: Vec::new(alloc),
             failing_puts: Vec::new(alloc),
+            failing_events: Vec::new(alloc),
             capacity: CAPACITY,
             rule: 0,
             answers: Vec::new(alloc),
@@ -41,7 +44,8 @@ impl Case {
 
     /// Takes a line of a case, by its first word: `case TEXT`, `file NAME TEXT`, `more COUNT TEXT`
     /// (so many times at the end of the last file), `rule N`, `answers yes no fail ..`,
-    /// `failing_calls N ..`, `failing_puts N ..` and `capacity N`.
+    /// `failing_calls N ..`, `failing_puts N ..`, `failing_events N ..` (puts into the journal) and
+    /// `capacity N`.
     pub fn set(&mut self, alloc: Global, key: &str, text: &str) -> Result<()> {
         match key {
             "case" => *self = Case::new(alloc),
@@ -51,6 +55,7 @@ impl Case {
             "answers" => self.answers = answers_in(alloc, text)?,
             "failing_calls" => self.failing_calls = numbers_in(alloc, text)?,
             "failing_puts" => self.failing_puts = numbers_in(alloc, text)?,
+            "failing_events" => self.failing_events = numbers_in(alloc, text)?,
             "capacity" => self.capacity = text.parse::<u64>()?,
             _ => bail!("no such line: {key}"),
         }
@@ -86,6 +91,12 @@ impl Case {
         }
         let failing = Vec::from_slice(alloc, &self.failing_calls)?;
         Ok(MemFiles::new(alloc, files, failing))
+    }
+
+    /// The journal in memory.
+    pub fn mem_journal(&self, alloc: Global) -> Result<MemSink> {
+        let failing = Vec::from_slice(alloc, &self.failing_events)?;
+        Ok(MemSink::new(alloc, CAPACITY, failing)?)
     }
 
     /// The output in memory.

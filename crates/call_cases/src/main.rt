@@ -1,12 +1,14 @@
-//! Prints how the top call ends over files, a gate and an output in memory, for `rt ci` to compare with
-//! `stdout`, which was worked out by hand; none of it comes from a run. The ends of reductions by a
-//! grammar were worked out apart from the program, by an independent model.
+//! Prints how the top call ends over files, a gate, a journal and an output in memory, for `rt ci` to
+//! compare with `stdout`, which was worked out by hand; none of it comes from a run. The ends of
+//! reductions by a grammar, and the journals and reports, were worked out apart from the program, by an
+//! independent model.
 //!
 //! Its input is a list of cases. `case` and what it shows begins one: there is no file, the gate always
 //! says yes, no call fails, and the output takes all. The lines after it change that, as [`Case::set`]
 //! says. `run` and the words of a command line run the program. After each run comes how it ended: the
-//! status, and then, where there are any, what was put, the records, the gate's opening, and the files
-//! that changed. In a word or a text `%` and two hexadecimal digits are a byte, as `%0A` for a newline.
+//! status, and then, where there are any, what was put, the journal's records, commits, torn tail and
+//! name, the gate's opening, and the files that changed. In a word or a text `%` and two hexadecimal
+//! digits are a byte, as `%0A` for a newline.
 #![tactic(auto)]
 
 mod case;

@@ -4,10 +4,10 @@ use crate::case::Case;
 use anyhow::{Result, bail};
 use edge_io::{MemFiles, MemSink};
 use percent_encoding::{CONTROLS, percent_encode};
-use script_gate::{Gate, ListGate, Log, RuleGate, Verdict};
+use reduce_journal::{Event, JournalFault, read_journal};
+use script_gate::{Bytes, Gate, ListGate, Log, RuleGate, Verdict};
 use std::alloc::Global;
 use top_call::{Ended, perses};
-use verdict_table::Records;
 
 /// The most bytes that are printed; of a longer text its length is.
 const SHOWN: usize = 400;
@@ -15,7 +15,7 @@ const SHOWN: usize = 400;
 /// What a run leaves, beside the gate.
 #[derive(Drop)]
 struct Outcome {
-    ended: Ended,
+    ended: Ended<MemSink>,
     files: MemFiles,
     out: MemSink,
 }
@@ -28,8 +28,9 @@ fn run_over<G: Gate>(
     gate: &mut G,
 ) -> Result<Outcome> {
     let mut files = case.mem_files(alloc)?;
+    let journal = case.mem_journal(alloc)?;
     let mut out = case.mem_sink(alloc)?;
-    let ended = perses(alloc, words, &mut files, gate, &mut out);
+    let ended = perses(alloc, words, &mut files, gate, journal, &mut out);
     Ok(Outcome { ended, files, out })
 }
 
@@ -80,28 +81,88 @@ fn add_bytes(shown: &mut String, alloc: Global, bytes: &[u8]) -> Result<()> {
     Ok(())
 }
 
-fn add_records(shown: &mut String, alloc: Global, records: &Records) -> Result<()> {
-    for record in records.as_slice() {
-        let verdict = match record.verdict {
-            Verdict::Yes => "yes",
-            Verdict::No => "no",
-        };
-        add_line(shown, verdict)?;
-        add_bytes(shown, alloc, record.text.as_slice())?;
+/// The events that the journal has, and the length of a torn tail, which is all of a journal without its
+/// first line.
+fn events_of(alloc: Global, journal: &MemSink) -> Result<(Vec<Event>, u64)> {
+    match read_journal(alloc, journal.bytes()) {
+        Ok(read) => Ok((read.events, read.torn)),
+        Err(JournalFault::BadHead) => Ok((Vec::new(alloc), journal.bytes().len() as u64)),
+        Err(fault) => bail!("the journal can't be read: {fault}"),
+    }
+}
+
+fn add_record(shown: &mut String, alloc: Global, text: &Bytes, verdict: Verdict) -> Result<()> {
+    let verdict = match verdict {
+        Verdict::Yes => "yes",
+        Verdict::No => "no",
+    };
+    add_line(shown, verdict)?;
+    add_bytes(shown, alloc, text.as_slice())
+}
+
+/// The records of the journal, each on a line.
+fn add_records(shown: &mut String, alloc: Global, events: &[Event]) -> Result<()> {
+    for event in events {
+        if let Event::Recorded { text, verdict } = event {
+            add_record(shown, alloc, text, *verdict)?;
+        }
     }
     Ok(())
 }
 
-/// Whether the texts that were asked are those of the records.
-fn has_asked(log: &Log, records: &Records) -> bool {
-    let (asked, records) = (log.asked.as_slice(), records.as_slice());
-    asked.len() == records.len()
-        && asked.iter().zip(records).all(|(asked, record)| asked.as_slice()
-            == record.text.as_slice())
+/// The numbers of the journal's commits, if there are any.
+fn add_commits(shown: &mut String, alloc: Global, events: &[Event]) -> Result<()> {
+    let mut is_first = true;
+    for event in events {
+        if let Event::Committed { number } = event {
+            if is_first {
+                add_line(shown, "commits")?;
+                is_first = false;
+            }
+            shown.push_str(format!(in alloc; " {number}")?.as_str())?;
+        }
+    }
+    Ok(())
+}
+
+/// The journal's name and events, where it was opened.
+fn add_journal(
+    shown: &mut String,
+    alloc: Global,
+    journal: &MemSink,
+    events: &[Event],
+    torn: u64,
+) -> Result<()> {
+    add_records(shown, alloc, events)?;
+    add_commits(shown, alloc, events)?;
+    if torn > 0 {
+        let line = format!(in alloc; "torn tail of {torn} bytes")?;
+        add_line(shown, line.as_str())?;
+    }
+    if !journal.name().is_empty() {
+        add_line(shown, "journal")?;
+        add_bytes(shown, alloc, journal.name().as_bytes())?;
+    }
+    Ok(())
+}
+
+/// How many of the texts that were asked are those of the records, in their order; none where a record is
+/// of another text.
+fn recorded_of(asked: &[Bytes], events: &[Event]) -> Option<usize> {
+    let mut count = 0;
+    for event in events {
+        if let Event::Recorded { text, .. } = event {
+            if asked.get(count)?.as_slice() != text.as_slice() {
+                return None;
+            }
+            count += 1;
+        }
+    }
+    Some(count)
 }
 
 /// The gate's opening, and whether it was asked for other texts than the recorded ones.
-fn add_log(shown: &mut String, alloc: Global, log: &Log, records: &Records) -> Result<()> {
+fn add_log(shown: &mut String, alloc: Global, log: &Log, events: &[Event]) -> Result<()> {
     if let Some(opening) = &log.opening {
         let line = format!(in alloc; "worker {} opened with", opening.number)?;
         add_line(shown, line.as_str())?;
@@ -109,8 +170,13 @@ fn add_log(shown: &mut String, alloc: Global, log: &Log, records: &Records) -> R
         add_bytes(shown, alloc, opening.script.as_slice())?;
         add_bytes(shown, alloc, opening.name.as_slice())?;
     }
-    if !has_asked(log, records) {
-        add_line(shown, "other texts were asked than recorded")?;
+    match recorded_of(log.asked.as_slice(), events) {
+        None => add_line(shown, "other texts were asked than recorded")?,
+        Some(count) if count < log.asked.len() => add_line(
+            shown,
+            "more texts were asked than recorded",
+        )?,
+        Some(_) => {}
     }
     Ok(())
 }
@@ -136,10 +202,11 @@ fn shown(alloc: Global, case: &Case, outcome: &Outcome, log: Option<&Log>) -> Re
         add_line(&mut shown, "put")?;
         add_bytes(&mut shown, alloc, outcome.out.bytes())?;
     }
-    let records = &outcome.ended.records;
-    add_records(&mut shown, alloc, records)?;
+    let journal = &outcome.ended.journal;
+    let (events, torn) = events_of(alloc, journal)?;
+    add_journal(&mut shown, alloc, journal, &events, torn)?;
     match log {
-        Some(log) => add_log(&mut shown, alloc, log, records)?,
+        Some(log) => add_log(&mut shown, alloc, log, &events)?,
         None => bail!("the gate has no log"),
     }
     add_files(&mut shown, alloc, case, &outcome.files)?;

@@ -9,7 +9,10 @@ use Rattle.verdict_table.specs.declared.record.Record.{Record}
 use Rattle.verdict_table.specs.TableState.{texts_of}
 use Rattle.reduction_rounds.specs.Mode.{RoundMode}
 use Rattle.reduction_rounds.specs.Laws.{IsTextOf}
-use Rattle.sequential_run.specs.Run.{with_all_asked}
+use Rattle.one_worker.specs.RunHistory.{IsBeginning, own_history, with_all_asked}
+use Rattle.reduce_journal.specs.History.{History, IsHistory, records_of}
+use Rattle.commit_moves.specs.Replay.{IsLegal}
+use Rattle.reduction_rounds.specs.RoundsPlan.{plan_first}
 
 -- the first record is of this text, with this verdict
 abbrev pub FirstIs : List ℕ → Verdict → List Record → Type 0
@@ -37,8 +40,11 @@ pub record AreAnswers (may_say : List ℕ → Verdict → Type 0) (old new : Opt
   pub said : All (λ r. may_say r.text r.verdict) records
   pub asked : new ≡ option_map (with_all_asked (texts_of records)) old
 
--- Each text is that of a listed state that is kept; the first is the start's; and after its no nothing was asked.
-pub record AreOfMode {T : Type 0} (mode : RoundMode T) (Kept : T → Type 0) (records : List Record) : Type 0 where
-  pub candidates : All (λ r. IsTextOf mode Kept r.text) records
-  pub first : BeginsAt (mode.text mode.start) records
-  pub ends_at_no : FirstIsNo records → OnlyNo records
+-- The history is one that the reducer of the mode can have, and that can be read back; it is a beginning of what one thread does over its records; each text is that of a listed state that is kept; the first is the start's; and after its no nothing was asked.
+pub record AreOfMode {T : Type 0} (mode : RoundMode T) (Kept : T → Type 0) (history : History) : Type 0 where
+  pub legal : IsLegal (plan_first mode) history
+  pub readable : IsHistory history
+  pub sequential : IsBeginning history (own_history (plan_first mode) history)
+  pub candidates : All (λ r. IsTextOf mode Kept r.text) (records_of history)
+  pub first : BeginsAt (mode.text mode.start) (records_of history)
+  pub ends_at_no : FirstIsNo (records_of history) → OnlyNo (records_of history)

@@ -1,6 +1,7 @@
 //! Why a run ends without a result.
 
-use faults::Memory;
+use edge_io::OpenFault;
+use ordered_commit::PoolFault;
 use script_gate::GateFault;
 use std::alloc::AllocError;
 
@@ -11,8 +12,25 @@ pub enum RunFault {
     NotInteresting,
     /// A call of the gate failed.
     Script,
+    /// A call of the journal failed.
+    Journal,
     /// Memory ran out.
     Memory,
+}
+
+impl From<PoolFault> for RunFault {
+    ghost use Rattle.std.specs.Prelude.{◌≡◌};
+    ghost use Rattle.gated_run.specs.Faults.{fault_kept};
+
+    ghost from_gives = { λ fault run_fault. run_fault ≡ fault_kept fault };
+
+    fn from(fault: PoolFault) -> RunFault {
+        match fault {
+            PoolFault::Script { .. } => RunFault::Script,
+            PoolFault::Journal => RunFault::Journal,
+            PoolFault::Memory => RunFault::Memory,
+        }
+    }
 }
 
 impl From<GateFault> for RunFault {
@@ -29,14 +47,17 @@ impl From<GateFault> for RunFault {
     }
 }
 
-impl From<Memory> for RunFault {
+impl From<OpenFault> for RunFault {
     ghost use Rattle.std.specs.Prelude.{◌≡◌};
-    ghost use Rattle.gated_run.specs.declared.fault.RunFault.{RunFault};
+    ghost use Rattle.gated_run.specs.Faults.{fault_of_opening};
 
-    ghost from_gives = { λ _ fault. fault ≡ RunFault.Memory };
+    ghost from_gives = { λ fault run_fault. run_fault ≡ fault_of_opening fault };
 
-    fn from(_: Memory) -> RunFault {
-        RunFault::Memory
+    fn from(fault: OpenFault) -> RunFault {
+        match fault {
+            OpenFault::Failed => RunFault::Journal,
+            OpenFault::Memory => RunFault::Memory,
+        }
     }
 }
 

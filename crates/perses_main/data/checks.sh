@@ -1,5 +1,7 @@
 # The program reduces this text with the script /bin/sh, which ends with 0 only where each check of
-# the program, as the machine runs it, holds.
+# the program, as the machine runs it, holds. The empty text is interesting too, so nothing is left.
+# `stdout` has the report of that, with the number of lines and bytes of this text: who changes this
+# text changes these two.
 set -e
 program=$(readlink "/proc/$PPID/exe")
 mkdir trial
@@ -17,20 +19,35 @@ make_script always 'exit 0'
 make_script no-run-bit 'exit 0'
 chmod 644 no-run-bit
 make_script killed 'kill -9 $$'
+make_script killing 'test -s "$1" || kill -9 $PPID'
 make_script noisy 'echo noise; test /dev/fd/1 -ef /dev/null'
 make_script removing 'rm "$1"'
 make_script ends-in-00-ff "test \"\$(tail -c 2 \"\$1\" | od -An -tx1)\" = ' 00 ff'"
 
-# ends STATUS LINE WORD..: the program, run with these words, ends with this status and puts this line.
+# ends STATUS TEXT WORD..: the program, run with these words, ends with this status, and puts this text
+# and a newline.
 ends() {
-    wanted="$1 $2"
+    wanted=$1
+    printf '%s\n' "$2" > text
     shift 2
     status=0
-    "$program" "$@" > line || status=$?
-    test "$status $(cat line)" = "$wanted"
+    "$program" "$@" > put || status=$?
+    test "$status" = "$wanted"
+    cmp put text
 }
 
-# reduces STATUS LINE BYTES INPUT OUTPUT SCRIPT: so ends the command `reduce` of these files. Then `o`,
+# report UNITS BYTES ROUNDS USED RECORDS: the report of a reduction.
+report() {
+    printf 'units: %s\nbytes: %s\nrounds: %s\nused: %s\nrecords: %s\n' "$@"
+}
+
+# journal_is OUTPUT EVENTS: the journal beside this output has its first line and these events, which are
+# written as printf takes them.
+journal_is() {
+    printf "perses-journal 1\n$2" | cmp - "$1.journal"
+}
+
+# reduces STATUS TEXT BYTES INPUT OUTPUT SCRIPT: so ends the command `reduce` of these files. Then `o`,
 # which held `old`, holds these bytes, in hexadecimal, and each input is as it was.
 printf 'a\nb\n' > lines
 printf 'drop\n\000\377' > bytes
@@ -43,21 +60,40 @@ reduces() {
     test "$(od -An -tx1 o | tr -d ' \n')" = "$3"
     cat lines bytes empty | cmp - inputs
 }
-# From the second case on, the work folder is there already.
-reduces 0 '' '' empty o always
-reduces 0 '' '' lines o removing
-reduces 0 '' '' lines o noisy
-reduces 0 '' 00ff bytes o ends-in-00-ff
+# From the second case on, the work folder is there already, and so is the journal.
+reduces 0 "$(report '0 -> 0' '0 -> 0' 1 1 1)" '' empty o always
+reduces 0 "$(report '2 -> 0' '4 -> 0' 2 2 2)" '' lines o removing
+reduces 0 "$(report '2 -> 0' '4 -> 0' 2 2 2)" '' lines o noisy
+reduces 0 "$(report '2 -> 1' '7 -> 2' 2 5 4)" 00ff bytes o ends-in-00-ff
+journal_is o 'R y 7\ndrop\n\000\377\nC 1\nR n 0\n\nC 2\nR n 5\ndrop\n\nC 3\nR y 2\n\000\377\nC 4\nC 2\n'
+rm o.journal
 reduces 3 'perses: cannot read input' 6f6c64 missing o always
-reduces 4 'perses: cannot write' 6f6c64 lines missing/o always
+test ! -e o.journal
+# In a folder that isn't there it is the journal that can't be made, before anything is asked.
+reduces 12 'perses: journal fault' 6f6c64 lines missing/o always
 reduces 4 'perses: cannot write' 6f6c64 lines folder always
+journal_is folder 'R y 4\na\nb\n\nC 1\nR y 0\n\nC 2\n'
 reduces 8 'perses: start is not interesting' 6f6c64 lines o killed
+journal_is o 'R n 4\na\nb\n\nC 1\n'
 reduces 11 'perses: script fault at worker 1' 6f6c64 lines o no-run-bit
+journal_is o ''
 reduces 11 'perses: script fault at worker 1' 6f6c64 lines o missing
+journal_is o ''
+
+# A program that is killed leaves the journal of what it was answered, and no result.
+# (the shell itself says on standard error that it was killed)
+status=0
+{
+    "$program" reduce --mode lines --input lines --output unwritten --script killing > put || status=$?
+} 2> /dev/null
+test "$status" = 137
+test ! -s put
+journal_is unwritten 'R y 4\na\nb\n\nC 1\n'
+test ! -e unwritten
 
 # Each candidate is a program for the shell, which says yes where its last command succeeds.
 printf 'true\nfalse\ntrue\n' > yes
-reduces 0 '' '' yes o /bin/sh
+reduces 0 "$(report '3 -> 0' '16 -> 0' 2 2 2)" '' yes o /bin/sh
 printf 'false\n' > no
 reduces 8 'perses: start is not interesting' 6f6c64 no none /bin/sh
 test ! -e none
@@ -92,24 +128,38 @@ path=./$(printf 'perses\377')
 ln -s "$program" "$path"
 test "$("$path" normal --grammar g)" = "a : 'x' ;"
 
-# A full device as standard output, and as the result.
-status=0
-"$program" normal --grammar g > /dev/full || status=$?
-test "$status" = 4
-ends 4 'perses: cannot write' reduce --mode lines --input lines --output /dev/full --script has-a
+# puts_nothing WORD..: where standard output is a full device, the program has status 4.
+puts_nothing() {
+    status=0
+    "$program" "$@" > /dev/full || status=$?
+    test "$status" = 4
+}
+puts_nothing normal --grammar g
+# A result is written before its report is put.
+puts_nothing reduce --mode lines --input lines --output o --script has-a
+test "$(cat o)" = a
+journal_is o 'R y 4\na\nb\n\nC 1\nR n 0\n\nC 2\nR y 2\na\n\nC 3\nC 2\n'
+# A full device as the result, and as the journal.
+ln -s /dev/full full
+ends 4 'perses: cannot write' reduce --mode lines --input lines --output full --script has-a
+ln -s /dev/full unwritable.journal
+ends 12 'perses: journal fault' reduce --mode lines --input lines --output unwritable --script has-a
+test ! -e unwritable
 
 # A keep text stays in each candidate that is asked, also where the input isn't UTF-8, and eight of
 # them are allowed.
 printf '\377\nx\n\376' > mixed
-ends 0 '' reduce --mode lines --input mixed --output kept --script always --keep x
+kept=$(report '3 -> 1' '5 -> 2' 2 3 3)
+ends 0 "$kept" reduce --mode lines --input mixed --output kept --script always --keep x
 test "$(od -An -c kept | tr -d ' ')" = 'x\n'
-ends 0 '' reduce --mode lines --input mixed --output kept --script always \
+ends 0 "$kept" reduce --mode lines --input mixed --output kept --script always \
     --keep x --keep x --keep x --keep x --keep x --keep x --keep x --keep x
 # A keep text that is no text is no command line, also where its bytes are in the input.
 ends 2 'perses: bad command line' reduce --mode lines --input mixed --output kept --script always --keep "$(printf '\377')"
 # No file changes where a keep text is missing.
 printf old > kept
-rm -r perses-work
+rm -r perses-work kept.journal
 ends 9 'perses: keep text 2 is missing' reduce --mode lines --input mixed --output kept --script always --keep x --keep y
 test "$(cat kept)" = old
 test ! -e perses-work
+test ! -e kept.journal

@@ -2,9 +2,10 @@
 //!
 //! `perses reduce` asks the script for one candidate after another and writes what is left: by a grammar
 //! (`--grammar F`), of the input's tree, with `--mode hdd` by deletions alone; or of the input's lines
-//! (`--mode lines`). `perses normal --grammar F` prints the normal form of a grammar. All words are in
-//! `docs/FORMATS.md`. The work is done by the top call, [`top_call::perses`], whose contract is the
-//! program's; here it gets the machine's files, processes and standard output.
+//! (`--mode lines`). It keeps a journal beside the output, and prints a report at the end. `perses normal
+//! --grammar F` prints the normal form of a grammar. All words are in `docs/FORMATS.md`. The work is done
+//! by the top call, [`top_call::perses`], whose contract is the program's; here it gets the machine's
+//! files, processes, a file for the journal, and standard output.
 #![tactic(auto)]
 
 mod args;
@@ -21,8 +22,9 @@ fn run_program(rt: &HostRuntime) -> io::Result<u8> {
     let words = words_of(rt)?;
     let mut files = DiskFiles::new(rt.clone()?, rt.alloc());
     let mut gate = ProcessGate::new(rt.clone()?, rt.alloc());
+    let journal = StreamSink::file(rt.clone()?);
     let mut out = StreamSink::output(rt.clone()?);
-    let ended = perses(rt.alloc(), &words, &mut files, &mut gate, &mut out);
+    let ended = perses(rt.alloc(), &words, &mut files, &mut gate, journal, &mut out);
     Ok(ended.status)
 }
 

@@ -1,7 +1,7 @@
 -- What a run of a reducer says, in the words of the reduction of lines and of that of trees.
-use Rattle.std.proofs.Common.{◌≡◌, ℕ, Bool, List, [], Option, IsSome, true, false, refl, sym, ap, ◌∙◌, subst, Result, Ok, Err}
-use Rattle.std.specs.Global.{Vec}
+use Rattle.std.proofs.Common.{◌≡◌, ℕ, Bool, List, [], length, Option, IsSome, true, false, refl, sym, ap, ◌∙◌, subst, Result, Ok, Err}
 use Rattle.std.proofs.lemmas.Bool.{false≢true}
+use Rattle.std.specs.List.{IsDistinct}
 use Rattle.std.proofs.lemmas.List.Elements.{All-nil, All-weaker}
 use Rattle.script_gate.specs.declared.gate.Verdict.{Verdict}
 use Rattle.script_gate.specs.declared.gate.Verdict.TheVariants.{Yes, No}
@@ -11,13 +11,18 @@ use Rattle.verdict_table.specs.Plan.{StepResult}
 use Rattle.verdict_table.specs.TableState.{verdict_in}
 use Rattle.keep_guard.specs.Keep.{holds_all, keeps_admit}
 use Rattle.reduction_rounds.specs.Reduction as rounds
-use Rattle.reduction_rounds.specs.Laws.{HasVerdicts, IsTextOf, says_yes}
+use Rattle.reduction_rounds.specs.Laws.{HasVerdicts, IsTextOf, result_of, says_yes}
 use Rattle.reduction_rounds.specs.Mode.{RoundMode}
 use Rattle.gated_run.specs.declared.fault.RunFault.{RunFault}
 use Rattle.gated_run.specs.declared.fault.RunFault.TheVariants as run
-use Rattle.sequential_run.proofs.RunLemmas.{none_asked, none_distinct}
+use Rattle.gated_run.specs.declared.ran.Reduced.{Reduced}
+use Rattle.reduce_journal.specs.History.{History, records_of}
+use Rattle.reduce_journal.specs.declared.counts.Counts.{Counts}
+use Rattle.one_worker.specs.RunHistory.{own_history}
+use Rattle.one_worker.proofs.EndLemmas.{none_asked}
 use Rattle.gated_run.specs.Records.{AreAnswers, AreOfMode, BeginsAt, FirstIs}
-use Rattle.gated_run.specs.RunEnds.{ReducesIn, RunFailsIn, TextEndsIn, reduction_over}
+use Rattle.gated_run.specs.RunEnds as ends
+use Rattle.gated_run.specs.RunEnds.{ReducesIn, RunEndsIn, RunFailsIn, reduction_over}
 use Rattle.reduce_core.specs.declared.lines.Line.{Line}
 use Rattle.reduce_core.specs.Laws.{EndsMinimal, IsByRounds}
 use Rattle.reduce_core.specs.LineMode.{AreOfStart, LineInput, in_rounds, line_mode}
@@ -32,14 +37,15 @@ use Rattle.tree_mode.specs.Listed.{IsKept, text_of as tree_text}
 use Rattle.tree_rounds.specs.Ends.{AdmitsStart, BeginsWith, IsEndBy}
 use Rattle.tree_rounds.specs.WalkMode.{walk_mode}
 use Rattle.problem_run.specs.declared.problem.GrammarMode.{GrammarMode}
-use Rattle.problem_run.specs.Problem.{IsEditBy, Problem, round_of}
+use Rattle.problem_run.specs.Problem.{IsEditBy, Problem, reducer_of, round_of}
 use Rattle.problem_run.specs.Walks.{IsTreeMode}
 use Rattle.problem_run.specs.Ends.{AreOf, IsUnfinished, ProblemEnds, ReducesFrom, RunFails}
 
 -- no record was made, and the gate was not asked
 pub none_answers : (may_say : List ℕ → Verdict → Type 0) (records : List Record) (log : Option Log) → records ≡ [] → AreAnswers may_say log log records
+unfolding IsDistinct
 none_answers may_say records log none = subst (AreAnswers may_say log log) (sym none) (record {
-  distinct = none_distinct [] refl;
+  distinct = tt;
   said = All-nil _;
   asked = none_asked log;
 })
@@ -53,10 +59,14 @@ module _ (keeps : List (List ℕ)) where
   pub admits_start : (start : List ℕ) → holds_all keeps start ≡ true → is_listed (keeps_admit keeps) (numbered_lines start) ≡ true
   admits_start start kept = ap (holds_all keeps) (text-numbered_lines start) ∙ kept
 
-  -- the records are of candidates of lines
-  pub are_of : (start : List ℕ) (records : List Record) → AreOfMode (line_mode (lines_of start)) (AreOfStart (lines_of start)) records → AreOf keeps (Problem.of_lines start) records
-  are_of start records of =
+  -- the history is one of lines
+  pub are_of : (start : List ℕ) (history : History) → AreOfMode (line_mode (lines_of start)) (AreOfStart (lines_of start)) history → AreOf keeps (Problem.of_lines start) history
+  are_of start history of =
+      let records : List Record = records_of history in
       record {
+        legal = of.legal;
+        readable = of.readable;
+        sequential = of.sequential;
         candidates = All-weaker (λ (r : Record). IsTextOf (line_mode (lines_of start)) (AreOfStart (lines_of start)) r.text) (λ (r : Record). IsCandidate (keeps_admit keeps) start r.text)
             (λ r one. record { lines = one.state; some = one.kept; listed = one.listed; joined = one.same }) records of.candidates;
         first = subst (λ (text : List ℕ). BeginsAt text records) (text-numbered_lines start) of.first;
@@ -71,7 +81,10 @@ module _ (keeps : List (List ℕ)) where
   pub none_unfinished : (start : List ℕ) → IsUnfinished keeps (Problem.of_lines start) []
   none_unfinished start has = false≢true (start_known (verdict_in []) start has)
 
-  module _ (by_rounds : IsByRounds) (start : List ℕ) (records : List Record) where
+  module _ (by_rounds : IsByRounds) (start : List ℕ) (history : History) where
+    abbrev records : List Record
+    records = records_of history
+
     abbrev R : Reduction
     R = reduction (keeps_admit keeps) (says_yes (verdict_in records)) start
 
@@ -82,8 +95,9 @@ module _ (keeps : List (List ℕ)) where
     first_text verdict first = subst (λ (text : List ℕ). FirstIs text verdict records) (text-numbered_lines start) first
 
     -- the start is reduced to the text of the result
-    reduces : EndsMinimal → holds_all keeps start ≡ true → (result : StepResult) → ReducesIn (line_mode (lines_of start)) (AreOfStart (lines_of start)) records result → ReducesFrom keeps (Problem.of_lines start) records result.text
-    reduces minimal kept result it =
+    reduces : EndsMinimal → holds_all keeps start ≡ true → (result : StepResult) (counts : Counts) → counts ≡ ends.counts_of (length (numbered_lines start)) (length (text_of (numbered_lines start))) result (length records)
+        → ReducesIn (line_mode (lines_of start)) (AreOfStart (lines_of start)) history result → ReducesFrom keeps (Problem.of_lines start) history result.text counts
+    reduces minimal kept result counts are_counts it =
         let V = verdict_in records in
         let defined : HasVerdicts V R.questions = subst (λ (r : rounds.Reduction (List Line)). HasVerdicts V r.questions) same_reduction it.defined in
         let interesting : R.refused ≡ false = sym (ap (λ (r : rounds.Reduction (List Line)). r.refused) same_reduction) ∙ it.interesting in
@@ -103,24 +117,43 @@ module _ (keeps : List (List ℕ)) where
                 candidate = record { lines = R.lines; some = of_start; listed = well.listed; joined = text };
                 minimal = well.minimal;
               };
+          is_counts = are_counts
+              ∙ ap (λ (r : StepResult). ends.counts_of (length (numbered_lines start)) (length (text_of (numbered_lines start))) r (length records))
+              (it.is_result ∙ ap (result_of (line_mode (lines_of start))) same_reduction)
+              ∙ ap (λ (text : List ℕ). ends.counts_of (length (numbered_lines start)) (length text) (result_of (line_mode (lines_of start)) (in_rounds R)) (length records)) (text-numbered_lines start);
+          whole = it.whole;
         }
 
     -- why the start has no reduction
-    fails : (count count' : ℕ) (fault : RunFault) → RunFailsIn (line_mode (lines_of start)) records count count' fault → RunFails keeps (Problem.of_lines start) records count count' fault
-    fails count count' run.NotInteresting why = (why.0, first_text No why.1, why.2)
-    fails count count' run.Script why =
-        (why.0, why.1, λ has. why.2 (subst (λ (r : rounds.Reduction (List Line)). HasVerdicts (verdict_in records) r.questions) (sym same_reduction) has))
-    fails count count' run.Memory why = why
+    fails : (gate gate' journal journal' : ℕ) (fault : RunFault) → RunFailsIn (line_mode (lines_of start)) history gate gate' journal journal' fault → RunFails keeps (Problem.of_lines start) history gate gate' journal journal' fault
+    fails gate gate' journal journal' run.NotInteresting why = (record { only = why.0; first = first_text No why.1; whole = why.2 }, why.3)
+    fails gate gate' journal journal' run.Script why =
+        (why.0, why.1, λ has. why.2 (subst (λ (r : rounds.Reduction (List Line)). HasVerdicts (verdict_in records) r.questions) (sym same_reduction) has), why.3)
+    fails gate gate' journal journal' run.Journal why = why
+    fails gate gate' journal journal' run.Memory why = why
 
     -- how the run of the start's lines ends
-    pub lines_end : EndsMinimal → holds_all keeps start ≡ true → (count count' : ℕ) (result : Result (Vec ℕ) RunFault) → TextEndsIn (line_mode (lines_of start)) (AreOfStart (lines_of start)) records count count' result
-        → ProblemEnds keeps (Problem.of_lines start) records count count' result
-    lines_end minimal kept count count' (Ok text) ends = (subst (ReducesFrom keeps (Problem.of_lines start) records) (sym ends.0.1) (reduces minimal kept ends.0.0 ends.0.2), ends.1)
-    lines_end minimal kept count count' (Err fault) ends = fails count count' fault ends
+    pub lines_end : EndsMinimal → holds_all keeps start ≡ true → (gate gate' journal journal' : ℕ) (result : Result Reduced RunFault) → RunEndsIn (line_mode (lines_of start)) (AreOfStart (lines_of start)) history gate gate' journal journal' result
+        → ProblemEnds keeps (Problem.of_lines start) history gate gate' journal journal' result
+    lines_end minimal kept gate gate' journal journal' (Ok reduced) came =
+        (subst (λ (text : List ℕ). ReducesFrom keeps (Problem.of_lines start) history text reduced.counts) (sym came.0.1) (reduces minimal kept came.0.0 reduced.counts came.0.2 came.0.3), came.1)
+    lines_end minimal kept gate gate' journal journal' (Err fault) came = fails gate gate' journal journal' fault came
 
 -- nothing was asked of a problem
-pub none_of : (keeps : List (List ℕ)) (problem : Problem) (records : List Record) → records ≡ [] → AreOf keeps problem records
-none_of keeps problem records none = subst (AreOf keeps problem) (sym none) (record { candidates = All-nil _; first = tt; ends_at_no = λ first_no. first_no })
+none_own : (keeps : List (List ℕ)) (problem : Problem) → own_history (reducer_of keeps problem) [] ≡ []
+none_own keeps (Problem.of_lines start) = refl
+none_own keeps (Problem.of_tree mode input) = refl
+
+pub none_of : (keeps : List (List ℕ)) (problem : Problem) (history : History) → history ≡ [] → AreOf keeps problem history
+unfolding IsDistinct
+none_of keeps problem history none = subst (AreOf keeps problem) (sym none) (record {
+  legal = record { distinct = tt; commits = tt };
+  readable = tt;
+  sequential = ([], none_own keeps problem);
+  candidates = All-nil _;
+  first = tt;
+  ends_at_no = λ first_no. first_no;
+})
 
 -- the start of a tree is asked first, so without a record the reduction waits for its verdict
 tree_known : (V : List ℕ → Option Verdict) (mode : RoundMode TreeState) → HasVerdicts V (rounds.reduction mode (says_yes V)).questions → IsSome (V (mode.text mode.start))
@@ -132,35 +165,42 @@ unfinished_without keeps (Problem.of_lines start) has = none_unfinished keeps st
 unfinished_without keeps (Problem.of_tree mode input) has = false≢true (tree_known (verdict_in []) (walk_mode (round_of mode) input) has)
 
 -- What a run of a reducer of trees says, in the words of the reduction of trees.
-module _ (mode : GrammarMode) (laws : IsTreeMode (round_of mode) (IsEditBy mode)) (input : TreeInput) (is : IsInput input) (admitted : AdmitsStart input) (records : List Record) where
+module _ (mode : GrammarMode) (laws : IsTreeMode (round_of mode) (IsEditBy mode)) (input : TreeInput) (is : IsInput input) (admitted : AdmitsStart input) (history : History) where
+  abbrev tree_records : List Record
+  tree_records = records_of history
+
   abbrev trees : RoundMode TreeState
   trees = walk_mode (round_of mode) input
 
   abbrev T : rounds.Reduction TreeState
-  T = reduction_over trees records
+  T = reduction_over trees tree_records
 
   begins : BeginsWith trees input.start
   begins = laws.begins input is admitted
 
-  -- the records are of candidates
-  pub are_of_tree : (keeps : List (List ℕ)) → AreOfMode trees (IsKept input) records → AreOf keeps (Problem.of_tree mode input) records
+  -- the history is one of trees
+  pub are_of_tree : (keeps : List (List ℕ)) → AreOfMode trees (IsKept input) history → AreOf keeps (Problem.of_tree mode input) history
   are_of_tree keeps of =
       record {
-        candidates = All-weaker (λ (r : Record). IsTextOf trees (IsKept input) r.text) (λ (r : Record). IsTreeCandidate input r.text) (λ r one. laws.asks input r.text is one) records of.candidates;
-        first = subst (λ (text : List ℕ). BeginsAt text records) begins.text of.first;
+        legal = of.legal;
+        readable = of.readable;
+        sequential = of.sequential;
+        candidates = All-weaker (λ (r : Record). IsTextOf trees (IsKept input) r.text) (λ (r : Record). IsTreeCandidate input r.text) (λ r one. laws.asks input r.text is one) tree_records of.candidates;
+        first = subst (λ (text : List ℕ). BeginsAt text tree_records) begins.text of.first;
         ends_at_no = of.ends_at_no;
       }
 
   -- the tree is reduced to the text of the result
-  tree_reduces : (keeps : List (List ℕ)) → input.admits ≡ keeps_admit keeps → (result : StepResult) → ReducesIn trees (IsKept input) records result → ReducesFrom keeps (Problem.of_tree mode input) records result.text
-  tree_reduces keeps admits result it =
-      let V = verdict_in records in
+  tree_reduces : (keeps : List (List ℕ)) → input.admits ≡ keeps_admit keeps → (result : StepResult) (counts : Counts) → counts ≡ ends.counts_of (trees.size trees.start) (length (trees.text trees.start)) result (length tree_records)
+      → ReducesIn trees (IsKept input) history result → ReducesFrom keeps (Problem.of_tree mode input) history result.text counts
+  tree_reduces keeps admits result counts are_counts it =
+      let V = verdict_in tree_records in
       let well = it.ends_well (laws.lawful input is) begins.listed in
-      let ends : IsEndBy (IsEditBy mode) input V T.state = laws.minimal input V T.state is well in
+      let end : IsEndBy (IsEditBy mode) input V T.state = laws.minimal input V T.state is well in
       let text : result.text ≡ tree_text input T.state = ap (λ (r : StepResult). r.text) it.is_result in
       let candidate : IsTreeCandidate input result.text = laws.asks input result.text is (record { state = T.state; kept = well.kept; listed = well.listed; same = text }) in
       record {
-        first = subst (λ (start : List ℕ). FirstIs start Yes records) begins.text it.first;
+        first = subst (λ (start : List ℕ). FirstIs start Yes tree_records) begins.text it.first;
         reduced =
             record {
               defined = it.defined;
@@ -169,18 +209,24 @@ module _ (mode : GrammarMode) (laws : IsTreeMode (round_of mode) (IsEditBy mode)
               yes_at_end = ap V text ∙ well.yes_at_end;
               keeps_stay = sym (ap (λ (a : List ℕ → List ℕ → Bool). a candidate.kept result.text) admits) ∙ candidate.admitted;
               candidate = candidate;
-              minimal = ends.minimal;
+              minimal = end.minimal;
             };
+        is_counts = are_counts
+            ∙ ap (λ (r : StepResult). ends.counts_of (trees.size trees.start) (length (trees.text trees.start)) r (length tree_records)) it.is_result
+            ∙ ap (λ (text : List ℕ). ends.counts_of (trees.size trees.start) (length text) (result_of trees T) (length tree_records)) begins.text;
+        whole = it.whole;
       }
 
   -- why the tree has no reduction
-  tree_fails : (keeps : List (List ℕ)) (count count' : ℕ) (fault : RunFault) → RunFailsIn trees records count count' fault → RunFails keeps (Problem.of_tree mode input) records count count' fault
-  tree_fails keeps count count' run.NotInteresting why = (why.0, subst (λ (start : List ℕ). FirstIs start No records) begins.text why.1, why.2)
-  tree_fails keeps count count' run.Script why = why
-  tree_fails keeps count count' run.Memory why = why
+  tree_fails : (keeps : List (List ℕ)) (gate gate' journal journal' : ℕ) (fault : RunFault) → RunFailsIn trees history gate gate' journal journal' fault → RunFails keeps (Problem.of_tree mode input) history gate gate' journal journal' fault
+  tree_fails keeps gate gate' journal journal' run.NotInteresting why = (record { only = why.0; first = subst (λ (start : List ℕ). FirstIs start No tree_records) begins.text why.1; whole = why.2 }, why.3)
+  tree_fails keeps gate gate' journal journal' run.Script why = why
+  tree_fails keeps gate gate' journal journal' run.Journal why = why
+  tree_fails keeps gate gate' journal journal' run.Memory why = why
 
   -- how the run of the tree ends
-  pub tree_ends : (keeps : List (List ℕ)) → input.admits ≡ keeps_admit keeps → (count count' : ℕ) (result : Result (Vec ℕ) RunFault) → TextEndsIn trees (IsKept input) records count count' result
-      → ProblemEnds keeps (Problem.of_tree mode input) records count count' result
-  tree_ends keeps admits count count' (Ok text) ends = (subst (ReducesFrom keeps (Problem.of_tree mode input) records) (sym ends.0.1) (tree_reduces keeps admits ends.0.0 ends.0.2), ends.1)
-  tree_ends keeps admits count count' (Err fault) ends = tree_fails keeps count count' fault ends
+  pub tree_ends : (keeps : List (List ℕ)) → input.admits ≡ keeps_admit keeps → (gate gate' journal journal' : ℕ) (result : Result Reduced RunFault) → RunEndsIn trees (IsKept input) history gate gate' journal journal' result
+      → ProblemEnds keeps (Problem.of_tree mode input) history gate gate' journal journal' result
+  tree_ends keeps admits gate gate' journal journal' (Ok reduced) came =
+      (subst (λ (text : List ℕ). ReducesFrom keeps (Problem.of_tree mode input) history text reduced.counts) (sym came.0.1) (tree_reduces keeps admits came.0.0 reduced.counts came.0.2 came.0.3), came.1)
+  tree_ends keeps admits gate gate' journal journal' (Err fault) came = tree_fails keeps gate gate' journal journal' fault came

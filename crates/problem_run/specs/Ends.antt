@@ -1,38 +1,54 @@
--- How the run of a problem ends, and what its records are.
+-- How the run of a problem ends, and what its history is.
 use Rattle.std.specs.Prelude.{◌≡◌, ℕ, List, All, Result, Ok, Err}
-use Rattle.std.specs.Global.{Vec}
 use Rattle.faults.specs.Count.{Rose}
 use Rattle.script_gate.specs.declared.gate.Verdict.TheVariants.{Yes, No}
-use Rattle.verdict_table.specs.declared.record.Record.{Record}
 use Rattle.verdict_table.specs.TableState.{verdict_in}
+use Rattle.reduce_journal.specs.History.{History, IsHistory, records_of}
+use Rattle.reduce_journal.specs.declared.counts.Counts.{Counts}
+use Rattle.commit_moves.specs.Replay.{IsLegal}
 use Rattle.reduction_rounds.specs.Laws.{HasVerdicts}
+use Rattle.one_worker.specs.RunHistory.{IsBeginning, own_history}
 use Rattle.gated_run.specs.Records.{BeginsAt, FirstIs, FirstIsNo, OnlyNo}
+use Rattle.gated_run.specs.RunEnds.{NoneFailed}
 use Rattle.gated_run.specs.declared.fault.RunFault.{RunFault}
-use Rattle.gated_run.specs.declared.fault.RunFault.TheVariants.{NotInteresting, Script, Memory}
-use Rattle.problem_run.specs.Problem.{IsCandidateOf, IsReductionOf, Problem, questions_of, start_of}
+use Rattle.gated_run.specs.declared.fault.RunFault.TheVariants.{NotInteresting, Script, Journal, Memory}
+use Rattle.gated_run.specs.declared.ran.Reduced.{Reduced}
+use Rattle.problem_run.specs.Problem.{IsCandidateOf, IsReductionOf, Problem, counts_of, questions_of, reducer_of, start_of}
 
--- Each text may be asked, the first is the start, and after its no nothing was asked.
-pub record AreOf (keeps : List (List ℕ)) (problem : Problem) (records : List Record) : Type 0 where
-  pub candidates : All (λ r. IsCandidateOf keeps problem r.text) records
-  pub first : BeginsAt (start_of problem) records
-  pub ends_at_no : FirstIsNo records → OnlyNo records
+-- The history is one that the problem's reducer can have, and a beginning of what one thread does over its records; each record's text may be asked, the first is the start, and after its no nothing was asked.
+pub record AreOf (keeps : List (List ℕ)) (problem : Problem) (history : History) : Type 0 where
+  pub legal : IsLegal (reducer_of keeps problem) history
+  pub readable : IsHistory history
+  pub sequential : IsBeginning history (own_history (reducer_of keeps problem) history)
+  pub candidates : All (λ r. IsCandidateOf keeps problem r.text) (records_of history)
+  pub first : BeginsAt (start_of problem) (records_of history)
+  pub ends_at_no : FirstIsNo (records_of history) → OnlyNo (records_of history)
 
--- A problem reduces to the text over the verdicts of the records, of which the first is the start's yes.
-pub record ReducesFrom (keeps : List (List ℕ)) (problem : Problem) (records : List Record) (text : List ℕ) : Type 0 where
-  pub first : FirstIs (start_of problem) Yes records
-  pub reduced : IsReductionOf keeps (verdict_in records) problem text
+-- A problem reduces to the text over the verdicts of the records, of which the first is the start's yes, and these are its counts; the history is all that one thread does over them.
+pub record ReducesFrom (keeps : List (List ℕ)) (problem : Problem) (history : History) (text : List ℕ) (counts : Counts) : Type 0 where
+  pub first : FirstIs (start_of problem) Yes (records_of history)
+  pub reduced : IsReductionOf keeps (verdict_in (records_of history)) problem text
+  pub is_counts : counts ≡ counts_of keeps problem (records_of history)
+  pub whole : history ≡ own_history (reducer_of keeps problem) history
 
 -- the reduction asks for a text that has no record
-abbrev pub IsUnfinished : List (List ℕ) → Problem → List Record → Type 0
-IsUnfinished keeps problem records = ¬ HasVerdicts (verdict_in records) (questions_of keeps problem (verdict_in records))
+abbrev pub IsUnfinished : List (List ℕ) → Problem → History → Type 0
+IsUnfinished keeps problem history = ¬ HasVerdicts (verdict_in (records_of history)) (questions_of keeps problem (verdict_in (records_of history)))
 
--- Why a problem has no reduction: the gate said no to its start and wasn't asked again; or a call of the gate failed, the gate hadn't said no to the start, and the reduction wasn't finished; or out of memory. No other call of the gate failed.
-abbrev pub RunFails : List (List ℕ) → Problem → List Record → ℕ → ℕ → RunFault → Type 0
-RunFails keeps problem records count count' NotInteresting = OnlyNo records × FirstIs (start_of problem) No records × (count' ≡ count)
-RunFails keeps problem records count count' Script = Rose count count' × (¬ FirstIsNo records) × IsUnfinished keeps problem records
-RunFails keeps problem records count count' Memory = count' ≡ count
+-- the gate said no to the start and wasn't asked again, and the reducer was answered so
+pub record IsRefused (keeps : List (List ℕ)) (problem : Problem) (history : History) : Type 0 where
+  pub only : OnlyNo (records_of history)
+  pub first : FirstIs (start_of problem) No (records_of history)
+  pub whole : history ≡ own_history (reducer_of keeps problem) history
 
--- how the run ended: with the text that the problem reduces to, or why there is none; between these counts of the gate's calls that failed
-abbrev pub ProblemEnds : List (List ℕ) → Problem → List Record → ℕ → ℕ → Result (Vec ℕ) RunFault → Type 0
-ProblemEnds keeps problem records count count' (Ok text) = ReducesFrom keeps problem records text.items × (count' ≡ count)
-ProblemEnds keeps problem records count count' (Err fault) = RunFails keeps problem records count count' fault
+-- Why a problem has no reduction: the gate said no to its start and wasn't asked again; or a call of the gate failed, the gate hadn't said no to the start, and the reduction wasn't finished; or a call of the journal failed; or out of memory. No other call failed, of the gate and of the journal, of which these are the counts before and after.
+abbrev pub RunFails : List (List ℕ) → Problem → History → ℕ → ℕ → ℕ → ℕ → RunFault → Type 0
+RunFails keeps problem history gate gate' journal journal' NotInteresting = IsRefused keeps problem history × NoneFailed gate gate' journal journal'
+RunFails keeps problem history gate gate' journal journal' Script = Rose gate gate' × (¬ FirstIsNo (records_of history)) × IsUnfinished keeps problem history × (journal' ≡ journal)
+RunFails keeps problem history gate gate' journal journal' Journal = (gate' ≡ gate) × Rose journal journal'
+RunFails keeps problem history gate gate' journal journal' Memory = NoneFailed gate gate' journal journal'
+
+-- how the run ended: with the text that the problem reduces to and what the report says, or why there is none
+abbrev pub ProblemEnds : List (List ℕ) → Problem → History → ℕ → ℕ → ℕ → ℕ → Result Reduced RunFault → Type 0
+ProblemEnds keeps problem history gate gate' journal journal' (Ok reduced) = ReducesFrom keeps problem history reduced.text.items reduced.counts × NoneFailed gate gate' journal journal'
+ProblemEnds keeps problem history gate gate' journal journal' (Err fault) = RunFails keeps problem history gate gate' journal journal' fault

@@ -2,6 +2,15 @@ pub use Rattle.faults.specs.Count
 pub use Rattle.verdict_table.specs.TableState
 pub use Rattle.keep_guard.specs.Keep
 pub use Rattle.gated_run.specs.Records
+pub use Rattle.gated_run.specs.RunEnds
+pub use Rattle.reduce_journal.specs.History
+pub use Rattle.reduce_journal.specs.Journal
+pub use Rattle.reduce_journal.specs.Report
+pub use Rattle.commit_moves.specs.Replay
+pub use Rattle.one_worker.specs.Sequential
+pub use Rattle.one_worker.specs.RunHistory
+pub use Rattle.one_worker.specs.RunEnds as JournalEnds
+pub use Rattle.reduce_core.specs.LineMode
 pub use Rattle.reduction_rounds.specs.Laws as RoundLaws
 pub use Rattle.reduction_rounds.specs.Reduction as Rounds
 pub use Rattle.reduce_core.specs.Lines

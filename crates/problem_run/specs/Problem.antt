@@ -1,16 +1,22 @@
 -- What is reduced, and what its reduction is: the lines of some bytes, or the tree of a text by a grammar.
-use Rattle.std.specs.Prelude.{◌≡◌, ℕ, Bool, true, false, List, Option, Some}
+use Rattle.std.specs.Prelude.{◌≡◌, ℕ, Bool, true, false, List, Option, Some, length}
 use Rattle.script_gate.specs.declared.gate.Verdict.{Verdict}
 use Rattle.script_gate.specs.declared.gate.Verdict.TheVariants.{Yes}
 use Rattle.keep_guard.specs.Keep.{holds_all, keeps_admit}
 use Rattle.reduction_rounds.specs.Laws.{HasVerdicts, says_yes}
 use Rattle.reduction_rounds.specs.Reduction as rounds
+use Rattle.reduce_journal.specs.declared.counts.Counts.{Counts}
+use Rattle.verdict_table.specs.declared.record.Record.{Record}
+use Rattle.verdict_table.specs.Plan.{Plan}
+use Rattle.verdict_table.specs.TableState.{verdict_in}
+use Rattle.reduction_rounds.specs.RoundsPlan.{capped_count, plan_first}
+use Rattle.reduce_core.specs.LineMode.{line_plan}
 use Rattle.reduction_rounds.specs.Trials.{Trials}
 use Rattle.normal_form.specs.declared.normal.Sym.{Sym}
 use Rattle.normal_form.specs.Form.{NormalForm}
 use Rattle.syntax_tree.specs.Edits.{IsSingleEdit}
-use Rattle.syntax_tree.specs.Trees.{PlainTree}
-use Rattle.reduce_core.specs.Lines.{text_of}
+use Rattle.syntax_tree.specs.Trees.{PlainTree, weight}
+use Rattle.reduce_core.specs.Lines.{numbered_lines, text_of}
 use Rattle.reduce_core.specs.Minimal as lines
 use Rattle.reduce_core.specs.Reduction.{reduction}
 use Rattle.tree_mode.specs.Candidates as trees
@@ -65,6 +71,38 @@ refuses keeps (Problem.of_tree mode input) V = (tree_reduction mode input V).ref
 abbrev pub reduced_text : List (List ℕ) → Problem → (List ℕ → Option Verdict) → List ℕ
 reduced_text keeps (Problem.of_lines start) V = text_of (reduction (keeps_admit keeps) (says_yes V) start).lines
 reduced_text keeps (Problem.of_tree mode input) V = listed.text_of input (tree_reduction mode input V).state
+
+-- the reducer of the problem, whose mode this is
+abbrev pub reducer_of : List (List ℕ) → Problem → Plan
+reducer_of keeps (Problem.of_lines start) = line_plan (keeps_admit keeps) start
+reducer_of keeps (Problem.of_tree mode input) = plan_first (walk_mode (round_of mode) input)
+
+-- how many units it has: lines, or tokens
+abbrev pub units_of : Problem → ℕ
+units_of (Problem.of_lines start) = length (numbered_lines start)
+units_of (Problem.of_tree mode input) = weight input.whole
+
+-- how many are left
+abbrev pub reduced_units : List (List ℕ) → Problem → (List ℕ → Option Verdict) → ℕ
+reduced_units keeps (Problem.of_lines start) V = length (reduction (keeps_admit keeps) (says_yes V) start).lines
+reduced_units keeps (Problem.of_tree mode input) V = weight (tree_reduction mode input V).state.tree
+
+-- how many rounds it takes, the last one included, in which nothing changes
+abbrev pub rounds_of : List (List ℕ) → Problem → (List ℕ → Option Verdict) → ℕ
+rounds_of keeps (Problem.of_lines start) V = (reduction (keeps_admit keeps) (says_yes V) start).rounds
+rounds_of keeps (Problem.of_tree mode input) V = (tree_reduction mode input V).rounds
+
+-- what the report says: units and bytes of the start and of the result, the rounds, the answers and the records; counts of 64 bits, which stay at their greatest value
+abbrev pub counts_of : List (List ℕ) → Problem → List Record → Counts
+counts_of keeps problem records = record {
+  start_units = units_of problem;
+  end_units = reduced_units keeps problem (verdict_in records);
+  start_bytes = length (start_of problem);
+  end_bytes = length (reduced_text keeps problem (verdict_in records));
+  rounds = capped_count (rounds_of keeps problem (verdict_in records));
+  used = capped_count (length (questions_of keeps problem (verdict_in records)));
+  records = length records;
+}
 
 -- what it ends with is minimal: without any one of its lines, or after any single edit of its tree that the mode makes, what is left may not be asked, or its verdict is no
 abbrev pub EndsMinimally : List (List ℕ) → Problem → (List ℕ → Option Verdict) → Type 0

@@ -1,5 +1,5 @@
 -- Which status `reduce` has to end with, from how it ends.
-use Rattle.std.proofs.Common.{◌≡◌, ℕ, List, [], ◌∷◌, Some, true, false, refl, sym, ap, ◌∙◌, subst}
+use Rattle.std.proofs.Common.{◌≡◌, ℕ, List, [], ◌∷◌, Some, true, false, ⊎_elim, refl, sym, ap, ◌∙◌, subst}
 use Rattle.std.proofs.lemmas.Bool.{false≢true}
 use Rattle.keep_guard.specs.Keep.{first_missing, holds_all}
 use Rattle.keep_guard.proofs.KeepLemmas.{holds_all_or_misses}
@@ -14,11 +14,15 @@ use Rattle.top_call.specs.declared.status.NamedFile.TheVariants as named
 use Rattle.top_call.specs.Grammar.{IsFaultIn}
 use Rattle.problem_run.specs.Problem.{Problem, start_of}
 use Rattle.problem_run.specs.Ends.{ReducesFrom}
+use Rattle.reduce_journal.specs.History.{History, records_of}
+use Rattle.reduce_journal.specs.Report.{report_text}
+use Rattle.reduce_journal.specs.declared.counts.Counts.{Counts}
+use Rattle.top_call.specs.Journal.{JournalSoFar}
 use Rattle.top_call.specs.Reduce.{InputHas, IsShownFault, IsShownProblem, ProblemAccepted, ProblemRead, ReduceEnds, ReduceMustEnd, ReducesTo, grammar_in}
-use Rattle.top_call.specs.Reduce.ReduceEnds.{done, memory, unread, unwritten, faulty, no_token, unparsed, uninteresting, keep_missing, too_long, script}
+use Rattle.top_call.specs.Reduce.ReduceEnds.{done, memory, unread, unwritten, unput, faulty, no_token, unparsed, uninteresting, keep_missing, too_long, script, journal}
 use Rattle.top_call.specs.Status.{IsUncut}
 use Rattle.top_call.specs.Words.{GrammarOptions, ModeOptions, ReduceOptions}
-use Rattle.top_call.specs.World.{IsShownWithin, SeenGate, SeenOut, WasRead, World, grammar_limit, input_limit}
+use Rattle.top_call.specs.World.{IsQuiet, IsShownWithin, SeenGate, SeenJournal, WasRead, World, grammar_limit, input_limit}
 use Rattle.top_call.proofs.FileLemmas.{longer_not_missing, not_longer, read_not_missing, read_not_over}
 use Rattle.top_call.proofs.ProblemLemmas.{any_problem, fault_is, fault_not_shown, faulty_not_shown, grammar_not_faulty, grammar_not_missing, grammar_not_over, input_read, long_grammar, long_grammar_not_shown, long_input_no_fault, long_input_not_shown, no_fault, no_grammar, not_faulty, parse_caused, reached_grammar, read_and_shown, shown_not_faulty, shown_not_long, uncut_caused}
 
@@ -36,7 +40,10 @@ none_missing keeps start index holds missing = absurd (cc (sym missing ∙ (hold
 same_grammar : {mode : ModeOptions} {one other : GrammarOptions} → mode ≡ ModeOptions.by_grammar one → mode ≡ ModeOptions.by_grammar other → one.grammar ≡ other.grammar
 same_grammar is is' = ap grammar_in (sym is ∙ is')
 
-module _ (faults : InputFaultOnce) (languages : InputsAreInLanguage) (options : ReduceOptions) (records : List Record) (old new : World) where
+module _ (faults : InputFaultOnce) (languages : InputsAreInLanguage) (options : ReduceOptions) (history : History) (old new : World) where
+  abbrev records : List Record
+  records = records_of history
+
   keeps_all : (P : Problem → Type 0) → ProblemAccepted options old.files P → IsShownProblem options old.files (λ start. holds_all options.keeps start ≡ false) → ⊥
   keeps_all P read shown =
       let it : (problem : Problem) × ((holds_all options.keeps (start_of problem) ≡ true) × P problem) × (holds_all options.keeps (start_of problem) ≡ false) =
@@ -49,11 +56,17 @@ module _ (faults : InputFaultOnce) (languages : InputsAreInLanguage) (options : 
       read_and_shown options old.files (λ problem. first_missing options.keeps (start_of problem) ≡ Some index) (λ start. holds_all options.keeps start ≡ true) read shown in
       none_missing options.keeps (start_of it.0) index it.2 it.1
 
-  yes_first : (text : List ℕ) → ReducesTo options old.files records text → FirstIsNo records → ⊥
-  yes_first text reduces first_no =
-      let it : (problem : Problem) × ((holds_all options.keeps (start_of problem) ≡ true) × ReducesFrom options.keeps problem records text) =
-      any_problem options old.files (λ problem. (holds_all options.keeps (start_of problem) ≡ true) × ReducesFrom options.keeps problem records text) reduces in
-      yes_no (start_of it.0) records it.1.1.first first_no
+  yes_first : (text report : List ℕ) → ReducesTo options old.files history text report → FirstIsNo records → ⊥
+  yes_first text report reduces first_no =
+      let P : Problem → Type 0 = λ problem. (counts : Counts) × ReducesFrom options.keeps problem history text counts × (report ≡ report_text counts) in
+      let it : (problem : Problem) × ((holds_all options.keeps (start_of problem) ≡ true) × P problem) =
+      any_problem options old.files (λ problem. (holds_all options.keeps (start_of problem) ≡ true) × P problem) reduces in
+      yes_no (start_of it.0) records it.1.1.1.first first_no
+
+  so_far_quiet : (name : List ℕ) → JournalSoFar name history old.journal new.journal → IsQuiet old.journal new.journal
+  so_far_quiet name (JournalSoFar.whole it) = it.quiet
+  so_far_quiet name (JournalSoFar.untouched it) = ap (λ (j : SeenJournal). j.faults) it.same
+  so_far_quiet name (JournalSoFar.empty it) = it.quiet
 
   module _ {trees g : GrammarOptions} (mode : options.mode ≡ ModeOptions.by_grammar trees) (is : options.mode ≡ ModeOptions.by_grammar g) where
     fault_at : {text : List ℕ} → WasRead grammar_limit (old.files.shown trees.grammar) (λ bytes. IsFaultIn bytes text) → WasRead grammar_limit (old.files.shown g.grammar) (λ bytes. IsFaultIn bytes text)
@@ -67,8 +80,8 @@ module _ (faults : InputFaultOnce) (languages : InputsAreInLanguage) (options : 
     has_at fault read = subst (λ name. InputHas name (λ c bytes. IsInputFault c bytes fault) options old.files) (same_grammar mode is) read
 
   -- which status it has to be
-  pub must_end : {status : ℕ} → ReduceEnds options records old new status → ReduceMustEnd options records old new status
-  must_end (done writes silent) = record {
+  pub must_end : {status : ℕ} → ReduceEnds options history old new status → ReduceMustEnd options records old new status
+  must_end (done report writes put) = record {
     grammar_over = λ g is over. absurd (grammar_not_over options old.files _ writes.reduced.reduces g is over);
     grammar_missing = λ g is none. absurd (grammar_not_missing options old.files _ writes.reduced.reduces g is none);
     faulty = λ g is shown. absurd (grammar_not_faulty options old.files _ writes.reduced.reduces g is shown);
@@ -79,13 +92,32 @@ module _ (faults : InputFaultOnce) (languages : InputsAreInLanguage) (options : 
     no_token = λ g is shown. absurd (no_fault options old.files _ writes.reduced.reduces g is faults languages IsUncut uncut_caused shown);
     unparsed = λ g is shown. absurd (no_fault options old.files _ writes.reduced.reduces g is faults languages (λ fault. fault ≡ input_fault.NoParse) parse_caused shown);
     keep_missing = λ shown. absurd (keeps_all _ writes.reduced.reduces shown);
-    complete = λ shown files_fine gate_fine. refl;
-    first_no = λ first_no. absurd (yes_first _ writes.reduced.reduces first_no);
+    complete = λ shown files_fine gate_fine journal_fine out_fine. refl;
+    first_no = λ first_no. absurd (yes_first _ _ writes.reduced.reduces first_no);
     files_failed = λ failed. absurd (failed writes.files_quiet);
     gate_failed = λ failed. absurd (failed writes.gate_quiet);
-    out_failed = λ failed. absurd (failed (ap (λ (out : SeenOut). out.faults) silent));
+    journal_failed = λ failed. absurd (failed writes.journal.quiet);
+    out_failed = λ failed. absurd (failed put.quiet);
   }
-  must_end (memory files gate_quiet put) = record {
+  must_end (unput report writes put) = record {
+    grammar_over = λ g is over. absurd (grammar_not_over options old.files _ writes.reduced.reduces g is over);
+    grammar_missing = λ g is none. absurd (grammar_not_missing options old.files _ writes.reduced.reduces g is none);
+    faulty = λ g is shown. absurd (grammar_not_faulty options old.files _ writes.reduced.reduces g is shown);
+    input_over = λ fine over. absurd (read_not_over (input_read options old.files _ writes.reduced.reduces) over);
+    input_missing = λ fine none. absurd (read_not_missing (input_read options old.files _ writes.reduced.reduces) none);
+    over = λ over. absurd (read_not_over (input_read options old.files _ writes.reduced.reduces) over);
+    missing = λ none. absurd (read_not_missing (input_read options old.files _ writes.reduced.reduces) none);
+    no_token = λ g is shown. absurd (no_fault options old.files _ writes.reduced.reduces g is faults languages IsUncut uncut_caused shown);
+    unparsed = λ g is shown. absurd (no_fault options old.files _ writes.reduced.reduces g is faults languages (λ fault. fault ≡ input_fault.NoParse) parse_caused shown);
+    keep_missing = λ shown. absurd (keeps_all _ writes.reduced.reduces shown);
+    complete = λ shown files_fine gate_fine journal_fine out_fine. absurd (out_fine put.failed);
+    first_no = λ first_no. absurd (yes_first _ _ writes.reduced.reduces first_no);
+    files_failed = λ failed. absurd (failed writes.files_quiet);
+    gate_failed = λ failed. absurd (failed writes.gate_quiet);
+    journal_failed = λ failed. absurd (failed writes.journal.quiet);
+    out_failed = λ failed is. cc is;
+  }
+  must_end (memory files gate_quiet kept put) = record {
     grammar_over = λ g is over. refl;
     grammar_missing = λ g is none. refl;
     faulty = λ g is shown. refl;
@@ -96,10 +128,11 @@ module _ (faults : InputFaultOnce) (languages : InputsAreInLanguage) (options : 
     no_token = λ g is shown. refl;
     unparsed = λ g is shown. refl;
     keep_missing = λ shown. refl;
-    complete = λ shown files_fine gate_fine. refl;
+    complete = λ shown files_fine gate_fine journal_fine out_fine. refl;
     first_no = λ first_no. refl;
     files_failed = λ failed. absurd (failed files.quiet);
     gate_failed = λ failed. absurd (failed gate_quiet);
+    journal_failed = λ failed. absurd (failed (so_far_quiet _ kept));
     out_failed = λ failed is. cc is;
   }
   must_end (unread file reached call_failed same untouched put) = record {
@@ -113,13 +146,14 @@ module _ (faults : InputFaultOnce) (languages : InputsAreInLanguage) (options : 
     no_token = λ g is shown. refl;
     unparsed = λ g is shown. refl;
     keep_missing = λ shown. refl;
-    complete = λ shown files_fine gate_fine. absurd (files_fine call_failed);
-    first_no = λ first_no. absurd (none_no records untouched.no_records first_no);
+    complete = λ shown files_fine gate_fine journal_fine out_fine. absurd (files_fine call_failed);
+    first_no = λ first_no. absurd (none_no records (ap records_of untouched.no_history) first_no);
     files_failed = λ failed. refl;
-    gate_failed = λ failed. absurd (failed (ap (λ (gate : SeenGate). gate.faults) untouched.same));
+    gate_failed = λ failed. absurd (failed (ap (λ (gate : SeenGate). gate.faults) untouched.gate));
+    journal_failed = λ failed. absurd (failed (ap (λ (j : SeenJournal). j.faults) untouched.journal));
     out_failed = λ failed is. cc is;
   }
-  must_end (unwritten call_failed text reduces others gate_quiet put) = record {
+  must_end (unwritten call_failed text report reduces others gate_quiet kept put) = record {
     grammar_over = λ g is over. absurd (grammar_not_over options old.files _ reduces g is over);
     grammar_missing = λ g is none. absurd (grammar_not_missing options old.files _ reduces g is none);
     faulty = λ g is shown. absurd (grammar_not_faulty options old.files _ reduces g is shown);
@@ -130,10 +164,11 @@ module _ (faults : InputFaultOnce) (languages : InputsAreInLanguage) (options : 
     no_token = λ g is shown. absurd (no_fault options old.files _ reduces g is faults languages IsUncut uncut_caused shown);
     unparsed = λ g is shown. absurd (no_fault options old.files _ reduces g is faults languages (λ fault. fault ≡ input_fault.NoParse) parse_caused shown);
     keep_missing = λ shown. absurd (keeps_all _ reduces shown);
-    complete = λ shown files_fine gate_fine. absurd (files_fine call_failed);
-    first_no = λ first_no. absurd (yes_first _ reduces first_no);
+    complete = λ shown files_fine gate_fine journal_fine out_fine. absurd (files_fine call_failed);
+    first_no = λ first_no. absurd (yes_first _ _ reduces first_no);
     files_failed = λ failed. refl;
     gate_failed = λ failed. absurd (failed gate_quiet);
+    journal_failed = λ failed. absurd (failed kept.quiet);
     out_failed = λ failed is. cc is;
   }
   must_end (faulty trees text mode read files untouched put) = record {
@@ -147,10 +182,11 @@ module _ (faults : InputFaultOnce) (languages : InputsAreInLanguage) (options : 
     no_token = λ g is shown. absurd (faulty_no_fault mode is read IsUncut shown);
     unparsed = λ g is shown. absurd (faulty_no_fault mode is read (λ fault. fault ≡ input_fault.NoParse) shown);
     keep_missing = λ shown. absurd (faulty_not_shown options old.files trees text _ mode read shown);
-    complete = λ shown files_fine gate_fine. absurd (faulty_not_shown options old.files trees text _ mode read shown);
-    first_no = λ first_no. absurd (none_no records untouched.no_records first_no);
+    complete = λ shown files_fine gate_fine journal_fine out_fine. absurd (faulty_not_shown options old.files trees text _ mode read shown);
+    first_no = λ first_no. absurd (none_no records (ap records_of untouched.no_history) first_no);
     files_failed = λ failed. absurd (failed files.quiet);
-    gate_failed = λ failed. absurd (failed (ap (λ (gate : SeenGate). gate.faults) untouched.same));
+    gate_failed = λ failed. absurd (failed (ap (λ (gate : SeenGate). gate.faults) untouched.gate));
+    journal_failed = λ failed. absurd (failed (ap (λ (j : SeenJournal). j.faults) untouched.journal));
     out_failed = λ failed is. cc is;
   }
   must_end (no_token trees fault mode uncut read files untouched put) = record {
@@ -164,10 +200,11 @@ module _ (faults : InputFaultOnce) (languages : InputsAreInLanguage) (options : 
     no_token = λ g is shown. refl;
     unparsed = λ g is shown. absurd (subst IsUncut (fault_is options old.files faults g fault (uncut_caused fault uncut) (has_at mode is fault read) (λ f. f ≡ input_fault.NoParse) parse_caused shown) uncut);
     keep_missing = λ shown. absurd (fault_not_shown options old.files faults trees fault (uncut_caused fault uncut) read _ mode shown);
-    complete = λ shown files_fine gate_fine. absurd (fault_not_shown options old.files faults trees fault (uncut_caused fault uncut) read _ mode shown);
-    first_no = λ first_no. absurd (none_no records untouched.no_records first_no);
+    complete = λ shown files_fine gate_fine journal_fine out_fine. absurd (fault_not_shown options old.files faults trees fault (uncut_caused fault uncut) read _ mode shown);
+    first_no = λ first_no. absurd (none_no records (ap records_of untouched.no_history) first_no);
     files_failed = λ failed. absurd (failed files.quiet);
-    gate_failed = λ failed. absurd (failed (ap (λ (gate : SeenGate). gate.faults) untouched.same));
+    gate_failed = λ failed. absurd (failed (ap (λ (gate : SeenGate). gate.faults) untouched.gate));
+    journal_failed = λ failed. absurd (failed (ap (λ (j : SeenJournal). j.faults) untouched.journal));
     out_failed = λ failed is. cc is;
   }
   must_end (unparsed trees mode read files untouched put) = record {
@@ -181,13 +218,14 @@ module _ (faults : InputFaultOnce) (languages : InputsAreInLanguage) (options : 
     no_token = λ g is shown. absurd (fault_is options old.files faults g input_fault.NoParse (parse_caused input_fault.NoParse refl) (has_at mode is input_fault.NoParse read) IsUncut uncut_caused shown);
     unparsed = λ g is shown. refl;
     keep_missing = λ shown. absurd (fault_not_shown options old.files faults trees input_fault.NoParse (parse_caused input_fault.NoParse refl) read _ mode shown);
-    complete = λ shown files_fine gate_fine. absurd (fault_not_shown options old.files faults trees input_fault.NoParse (parse_caused input_fault.NoParse refl) read _ mode shown);
-    first_no = λ first_no. absurd (none_no records untouched.no_records first_no);
+    complete = λ shown files_fine gate_fine journal_fine out_fine. absurd (fault_not_shown options old.files faults trees input_fault.NoParse (parse_caused input_fault.NoParse refl) read _ mode shown);
+    first_no = λ first_no. absurd (none_no records (ap records_of untouched.no_history) first_no);
     files_failed = λ failed. absurd (failed files.quiet);
-    gate_failed = λ failed. absurd (failed (ap (λ (gate : SeenGate). gate.faults) untouched.same));
+    gate_failed = λ failed. absurd (failed (ap (λ (gate : SeenGate). gate.faults) untouched.gate));
+    journal_failed = λ failed. absurd (failed (ap (λ (j : SeenJournal). j.faults) untouched.journal));
     out_failed = λ failed is. cc is;
   }
-  must_end (uninteresting only read files gate_quiet put) = record {
+  must_end (uninteresting read files gate_quiet kept put) = record {
     grammar_over = λ g is over. absurd (grammar_not_over options old.files _ read g is over);
     grammar_missing = λ g is none. absurd (grammar_not_missing options old.files _ read g is none);
     faulty = λ g is shown. absurd (grammar_not_faulty options old.files _ read g is shown);
@@ -198,10 +236,11 @@ module _ (faults : InputFaultOnce) (languages : InputsAreInLanguage) (options : 
     no_token = λ g is shown. absurd (no_fault options old.files _ read g is faults languages IsUncut uncut_caused shown);
     unparsed = λ g is shown. absurd (no_fault options old.files _ read g is faults languages (λ fault. fault ≡ input_fault.NoParse) parse_caused shown);
     keep_missing = λ shown. absurd (keeps_all _ read shown);
-    complete = λ shown files_fine gate_fine. refl;
+    complete = λ shown files_fine gate_fine journal_fine out_fine. refl;
     first_no = λ first_no. refl;
     files_failed = λ failed. absurd (failed files.quiet);
     gate_failed = λ failed. absurd (failed gate_quiet);
+    journal_failed = λ failed. absurd (failed kept.quiet);
     out_failed = λ failed is. cc is;
   }
   must_end (keep_missing index read files untouched put) = record {
@@ -215,10 +254,11 @@ module _ (faults : InputFaultOnce) (languages : InputsAreInLanguage) (options : 
     no_token = λ g is shown. absurd (no_fault options old.files _ read g is faults languages IsUncut uncut_caused shown);
     unparsed = λ g is shown. absurd (no_fault options old.files _ read g is faults languages (λ fault. fault ≡ input_fault.NoParse) parse_caused shown);
     keep_missing = λ shown. refl;
-    complete = λ shown files_fine gate_fine. absurd (missing_keeps index read shown);
-    first_no = λ first_no. absurd (none_no records untouched.no_records first_no);
+    complete = λ shown files_fine gate_fine journal_fine out_fine. absurd (missing_keeps index read shown);
+    first_no = λ first_no. absurd (none_no records (ap records_of untouched.no_history) first_no);
     files_failed = λ failed. absurd (failed files.quiet);
-    gate_failed = λ failed. absurd (failed (ap (λ (gate : SeenGate). gate.faults) untouched.same));
+    gate_failed = λ failed. absurd (failed (ap (λ (gate : SeenGate). gate.faults) untouched.gate));
+    journal_failed = λ failed. absurd (failed (ap (λ (j : SeenJournal). j.faults) untouched.journal));
     out_failed = λ failed is. cc is;
   }
   must_end (too_long named.Input reached longer files untouched put) = record {
@@ -232,10 +272,11 @@ module _ (faults : InputFaultOnce) (languages : InputsAreInLanguage) (options : 
     no_token = λ g is shown. absurd (long_input_no_fault options old.files g is IsUncut reached longer shown);
     unparsed = λ g is shown. absurd (long_input_no_fault options old.files g is (λ fault. fault ≡ input_fault.NoParse) reached longer shown);
     keep_missing = λ shown. absurd (long_input_not_shown options old.files _ reached longer shown);
-    complete = λ shown files_fine gate_fine. absurd (long_input_not_shown options old.files _ reached longer shown);
-    first_no = λ first_no. absurd (none_no records untouched.no_records first_no);
+    complete = λ shown files_fine gate_fine journal_fine out_fine. absurd (long_input_not_shown options old.files _ reached longer shown);
+    first_no = λ first_no. absurd (none_no records (ap records_of untouched.no_history) first_no);
     files_failed = λ failed. absurd (failed files.quiet);
-    gate_failed = λ failed. absurd (failed (ap (λ (gate : SeenGate). gate.faults) untouched.same));
+    gate_failed = λ failed. absurd (failed (ap (λ (gate : SeenGate). gate.faults) untouched.gate));
+    journal_failed = λ failed. absurd (failed (ap (λ (j : SeenJournal). j.faults) untouched.journal));
     out_failed = λ failed is. cc is;
   }
   must_end (too_long named.Grammar reached longer files untouched put) = record {
@@ -249,13 +290,14 @@ module _ (faults : InputFaultOnce) (languages : InputsAreInLanguage) (options : 
     no_token = λ g is shown. absurd (not_longer grammar_limit _ _ shown (long_grammar options old.files g is longer));
     unparsed = λ g is shown. absurd (not_longer grammar_limit _ _ shown (long_grammar options old.files g is longer));
     keep_missing = λ shown. absurd (long_grammar_not_shown options old.files _ reached longer shown);
-    complete = λ shown files_fine gate_fine. absurd (long_grammar_not_shown options old.files _ reached longer shown);
-    first_no = λ first_no. absurd (none_no records untouched.no_records first_no);
+    complete = λ shown files_fine gate_fine journal_fine out_fine. absurd (long_grammar_not_shown options old.files _ reached longer shown);
+    first_no = λ first_no. absurd (none_no records (ap records_of untouched.no_history) first_no);
     files_failed = λ failed. absurd (failed files.quiet);
-    gate_failed = λ failed. absurd (failed (ap (λ (gate : SeenGate). gate.faults) untouched.same));
+    gate_failed = λ failed. absurd (failed (ap (λ (gate : SeenGate). gate.faults) untouched.gate));
+    journal_failed = λ failed. absurd (failed (ap (λ (j : SeenJournal). j.faults) untouched.journal));
     out_failed = λ failed is. cc is;
   }
-  must_end (script call_failed not_no read files put) = record {
+  must_end (script call_failed not_no read files kept put) = record {
     grammar_over = λ g is over. absurd (grammar_not_over options old.files _ read g is over);
     grammar_missing = λ g is none. absurd (grammar_not_missing options old.files _ read g is none);
     faulty = λ g is shown. absurd (grammar_not_faulty options old.files _ read g is shown);
@@ -266,9 +308,28 @@ module _ (faults : InputFaultOnce) (languages : InputsAreInLanguage) (options : 
     no_token = λ g is shown. absurd (no_fault options old.files _ read g is faults languages IsUncut uncut_caused shown);
     unparsed = λ g is shown. absurd (no_fault options old.files _ read g is faults languages (λ fault. fault ≡ input_fault.NoParse) parse_caused shown);
     keep_missing = λ shown. absurd (keeps_all _ read shown);
-    complete = λ shown files_fine gate_fine. absurd (gate_fine call_failed);
+    complete = λ shown files_fine gate_fine journal_fine out_fine. absurd (gate_fine call_failed);
     first_no = λ first_no. absurd (not_no first_no);
     files_failed = λ failed. absurd (failed files.quiet);
     gate_failed = λ failed. refl;
+    journal_failed = λ failed. absurd (⊎_elim (λ it. failed it.quiet) (λ it. failed (ap (λ (seen : SeenJournal). seen.faults) it.0.same)) kept);
+    out_failed = λ failed is. cc is;
+  }
+  must_end (journal call_failed read broken gate_quiet files put) = record {
+    grammar_over = λ g is over. absurd (grammar_not_over options old.files _ read g is over);
+    grammar_missing = λ g is none. absurd (grammar_not_missing options old.files _ read g is none);
+    faulty = λ g is shown. absurd (grammar_not_faulty options old.files _ read g is shown);
+    input_over = λ fine over. absurd (read_not_over (input_read options old.files _ read) over);
+    input_missing = λ fine none. absurd (read_not_missing (input_read options old.files _ read) none);
+    over = λ over. absurd (read_not_over (input_read options old.files _ read) over);
+    missing = λ none. absurd (read_not_missing (input_read options old.files _ read) none);
+    no_token = λ g is shown. absurd (no_fault options old.files _ read g is faults languages IsUncut uncut_caused shown);
+    unparsed = λ g is shown. absurd (no_fault options old.files _ read g is faults languages (λ fault. fault ≡ input_fault.NoParse) parse_caused shown);
+    keep_missing = λ shown. absurd (keeps_all _ read shown);
+    complete = λ shown files_fine gate_fine journal_fine out_fine. absurd (journal_fine call_failed);
+    first_no = λ first_no. refl;
+    files_failed = λ failed. absurd (failed files.quiet);
+    gate_failed = λ failed. absurd (failed gate_quiet);
+    journal_failed = λ failed. refl;
     out_failed = λ failed is. cc is;
   }

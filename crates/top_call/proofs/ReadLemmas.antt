@@ -1,24 +1,27 @@
 -- What was read of the files, and why nothing was.
-use Rattle.std.proofs.Common.{arith, ◌≡◌, ◌≤◌, ℕ, List, length, Option, true, false, refl, sym, subst}
+use Rattle.std.proofs.Common.{arith, ◌≡◌, ◌≤◌, ℕ, List, length, Option, Some, true, false, refl, sym, ap, ◌∙◌, subst}
 use Rattle.edge_io.specs.Files.{FileContent, Holds, IsLonger}
 use Rattle.grammar_tree.specs.Checked.{IsChecked}
 use Rattle.grammar_tree.specs.Written.{CheckedGrammar}
-use Rattle.keep_guard.specs.Keep.{keeps_admit}
+use Rattle.keep_guard.specs.Keep.{first_missing, keeps_admit}
 use Rattle.grammar_input.specs.Faults.{IsInputFault}
 use Rattle.grammar_input.specs.Parsed.{IsParsed, MakesInputOf, tree_input}
 use Rattle.grammar_input.specs.declared.fault.InputFault.{InputFault}
 use Rattle.grammar_input.specs.declared.parsed.ParsedInput.{ParsedInput}
+use Rattle.problem_run.specs.declared.problem.ReadProblem.{ReadProblem}
 use Rattle.problem_run.specs.declared.problem.ReadProblem.TheVariants as read
-use Rattle.problem_run.specs.Read.{IsReadAs}
+use Rattle.problem_run.specs.Problem.{start_of}
+use Rattle.problem_run.specs.Read.{IsReadAs, start_read}
 use Rattle.top_call.specs.declared.status.Refusal.{Refusal}
 use Rattle.top_call.specs.declared.status.NamedFile.TheVariants as named
-use Rattle.top_call.specs.declared.status.Refusal.TheVariants.{Memory, CannotRead, Grammar, NoParse, TooLong, Uncut}
+use Rattle.top_call.specs.declared.status.Refusal.TheVariants.{Memory, CannotRead, Grammar, KeepMissing, NoParse, TooLong, Uncut}
 use Rattle.top_call.specs.Grammar.{GrammarRead}
-use Rattle.top_call.specs.Read.{GivesTree, TreeFails}
-use Rattle.top_call.specs.Reduce.{IsReached, ProblemFails, ProblemRead, ReadIn, grammar_in}
+use Rattle.top_call.specs.Read.{GivesTree, KeepRefused, TreeFails}
+use Rattle.top_call.specs.Reduce.{IsReached, KeepFails, ProblemFails, ProblemRead, ReadIn, grammar_in}
 use Rattle.top_call.specs.Status.{IsInputRefusal}
 use Rattle.top_call.specs.Words.{GrammarOptions, ModeOptions, ReduceOptions}
 use Rattle.top_call.specs.World.{IsQuiet, SeenFiles, grammar_limit, input_limit}
+use Rattle.top_call.proofs.ProblemLemmas.{problem_map, start_as}
 
 -- an input within its limit can be reduced
 within_more : {n : ℕ} → n ≤ input_limit → n ≤ 1048576
@@ -78,3 +81,15 @@ module _ (options : ReduceOptions) (files : SeenFiles) (trees : GrammarOptions) 
   tree_fails files' (Uncut line) why = (trees, why.0, mode, why.1, why.2, why.3, why.4)
   tree_fails files' NoParse why = (trees, mode, why.0, why.1)
   tree_fails files' _ why = absurd why
+
+-- a keep text that isn't in the text of what was read is missing in the problem's start
+pub keep_refused : (options : ReduceOptions) (files : SeenFiles) (problem : ReadProblem) (start : List ℕ) (refusal : Refusal) → start ≡ start_read problem → ProblemRead options files (IsReadAs options.keeps problem)
+    → KeepFails options.keeps start refusal → KeepRefused options files refusal
+keep_refused options files problem start Memory is was why = tt
+keep_refused options files problem start (KeepMissing line) is was why = (
+  why.0,
+  problem_map options files (IsReadAs options.keeps problem) (λ one. first_missing options.keeps (start_of one) ≡ Some why.0)
+      (λ one as_one. ap (first_missing options.keeps) (start_as options.keeps problem one as_one ∙ sym is) ∙ why.1) was,
+  why.2,
+)
+keep_refused options files problem start _ is was why = absurd why

@@ -4,6 +4,13 @@ pub use Rattle.edge_io.specs.Sink
 pub use Rattle.verdict_table.specs.TableState
 pub use Rattle.keep_guard.specs.Keep
 pub use Rattle.gated_run.specs.Records
+pub use Rattle.reduce_journal.specs.History
+pub use Rattle.reduce_journal.specs.Journal as JournalText
+pub use Rattle.reduce_journal.specs.Report
+pub use Rattle.commit_moves.specs.Replay
+pub use Rattle.one_worker.specs.Sequential
+pub use Rattle.one_worker.specs.RunHistory
+pub use Rattle.one_worker.specs.RunEnds
 pub use Rattle.problem_run.specs.Problem
 pub use Rattle.problem_run.specs.Ends
 pub use Rattle.grammar_tree.specs.Faults
@@ -22,7 +29,9 @@ pub mod Words
 pub mod World
 pub mod Status
 pub mod Grammar
+pub mod Journal
 pub mod Reduce
+pub mod Run
 pub mod Read
 pub mod Normal
 pub mod Call

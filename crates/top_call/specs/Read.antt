@@ -1,9 +1,11 @@
--- What was found in an input by a grammar, and why nothing was.
-use Rattle.std.specs.Prelude.{◌≡◌, ℕ, List, Option, string_bytes}
+-- What was found in an input by a grammar, why nothing was, and why a problem wasn't accepted.
+use Rattle.std.specs.Prelude.{◌≡◌, ◌⊎◌, ℕ, ◌+◌, List, Option, Some, string_bytes}
 use Rattle.edge_io.specs.Files.{FileContent, IsLonger}
 use Rattle.grammar_tree.specs.Written.{CheckedGrammar}
+use Rattle.keep_guard.specs.Keep.{first_missing}
 use Rattle.grammar_input.specs.Parsed.{MakesInputOf}
 use Rattle.grammar_input.specs.declared.parsed.ParsedInput.{ParsedInput}
+use Rattle.problem_run.specs.Problem.{start_of}
 use Rattle.problem_run.specs.Read.{IsFoundIn}
 use Rattle.grammar_input.specs.Faults.{IsInputFault}
 use Rattle.grammar_input.specs.FaultText.{fault_text}
@@ -11,9 +13,11 @@ use Rattle.grammar_input.specs.declared.fault.InputFault.{InputFault}
 use Rattle.grammar_input.specs.declared.fault.InputFault.TheVariants as input_fault
 use Rattle.top_call.specs.declared.status.NamedFile.TheVariants as named
 use Rattle.top_call.specs.declared.status.Refusal.{Refusal}
-use Rattle.top_call.specs.declared.status.Refusal.TheVariants.{Memory, CannotRead, TooLong, Grammar, Uncut, NoParse}
+use Rattle.top_call.specs.declared.status.Refusal.TheVariants.{Memory, CannotRead, TooLong, Grammar, Uncut, NoParse, KeepMissing}
 use Rattle.top_call.specs.Grammar.{GrammarFails, GrammarRead}
-use Rattle.top_call.specs.Status.{IsUncut}
+use Rattle.top_call.specs.Reduce.{ProblemFails, ProblemRead}
+use Rattle.top_call.specs.Status.{IsKeepRefusal, IsUncut}
+use Rattle.top_call.specs.Words.{ReduceOptions}
 use Rattle.top_call.specs.World.{CallFailed, IsQuiet, SeenFiles, WasRead, input_limit, line_of_text}
 
 -- The grammar was read, and the input, of whose text what was found makes the input of a reduction.
@@ -39,3 +43,14 @@ TreeFails grammar input files files' (Uncut line) =
     (fault : InputFault) × IsUncut fault × InputIsFaulty (files.shown grammar) (files.shown input) fault × (string_bytes line ≡ line_of_text (fault_text fault)) × IsQuiet files files'
 TreeFails grammar input files files' NoParse = InputIsFaulty (files.shown grammar) (files.shown input) input_fault.NoParse × IsQuiet files files'
 TreeFails grammar input files files' _ = ⊥
+
+-- why a problem that was read wasn't accepted: this keep text is the first that doesn't occur in its start, or out of memory
+abbrev pub KeepRefused : ReduceOptions → SeenFiles → Refusal → Type 0
+KeepRefused options files Memory = Unit {0}
+KeepRefused options files (KeepMissing line) =
+    (index : ℕ) × ProblemRead options files (λ problem. first_missing options.keeps (start_of problem) ≡ Some index) × IsKeepRefusal (index + 1) (KeepMissing line)
+KeepRefused options files _ = ⊥
+
+-- why there is no problem that is accepted: none was read, or that
+abbrev pub AcceptFails : ReduceOptions → SeenFiles → SeenFiles → Refusal → Type 0
+AcceptFails options old new refusal = ProblemFails options old new refusal ⊎ (IsQuiet old new × KeepRefused options old refusal)

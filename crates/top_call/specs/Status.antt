@@ -13,7 +13,7 @@ use Rattle.gated_run.specs.declared.fault.RunFault.TheVariants as run
 use Rattle.top_call.specs.declared.status.NamedFile.{NamedFile}
 use Rattle.top_call.specs.declared.status.NamedFile.TheVariants as read
 use Rattle.top_call.specs.declared.status.Refusal.{Refusal}
-use Rattle.top_call.specs.declared.status.Refusal.TheVariants.{Memory, Usage, CannotRead, CannotWrite, Grammar, Uncut, NoParse, NotInteresting, KeepMissing, TooLong, Script}
+use Rattle.top_call.specs.declared.status.Refusal.TheVariants.{Memory, Usage, CannotRead, CannotWrite, Grammar, Uncut, NoParse, NotInteresting, KeepMissing, TooLong, Script, Journal}
 use Rattle.top_call.specs.World.{PutsPrefix, CallFailed, FilesKept, IsQuiet, Puts, PutsLine, SeenFiles, SeenGate, SeenOut, line_of_text}
 
 -- how a line names a file that is read
@@ -46,6 +46,7 @@ ending_of NotInteresting = (8, line_of_text (codes "start is not interesting"))
 ending_of (KeepMissing line) = (9, string_bytes line)
 ending_of (TooLong file) = (10, line_of_text (word_for file ++ codes " is too long"))
 ending_of Script = (11, line_of_text (codes "script fault at worker 1"))
+ending_of Journal = (12, line_of_text (codes "journal fault"))
 
 abbrev pub status_of : Refusal → ℕ
 status_of refusal = (ending_of refusal).0
@@ -57,17 +58,13 @@ line_of refusal = (ending_of refusal).1
 abbrev pub refusal_of_run : RunFault → Refusal
 refusal_of_run run.NotInteresting = NotInteresting
 refusal_of_run run.Script = Script
+refusal_of_run run.Journal = Journal
 refusal_of_run run.Memory = Memory
 
 -- the status is that of the refusal, and its line was put
 pub record EndsRefused (old new : SeenOut) (status : ℕ) (refusal : Refusal) : Type 0 where
   pub status_is : status ≡ status_of refusal
   pub line : PutsLine (line_of refusal) old new
-
--- the status is 0, and nothing was put
-pub record EndsSilent (old new : SeenOut) (status : ℕ) : Type 0 where
-  pub status_is : status ≡ 0
-  pub silent : new ≡ old
 
 -- the answer was put whole, at status 0, or some prefix of it, at status 4
 abbrev pub EndsWithAnswer : List ℕ → SeenOut → SeenOut → ℕ → Type 0

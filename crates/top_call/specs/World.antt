@@ -1,10 +1,10 @@
--- What is visible of the files, a gate and `out` at one moment, and what may have become of each since.
+-- What is visible of the files, a gate, the journal and `out` at one moment, and what may have become of each since.
 use Rattle.std.specs.Prelude.{◌≡◌, ◌<◌, ◌≤◌, ◌⊎◌, ℕ, List, [], ◌∷◌, ◌++◌, length, Option, IsSomeAnd, option_map, codes}
 use Rattle.faults.specs.Count.{Rose}
 use Rattle.edge_io.specs.Files.{FileContent, Holds, SameFiles}
 use Rattle.edge_io.specs.Sink.{Put, GrewByPrefix, with_piece}
 use Rattle.script_gate.specs.declared.log.Log.{Log}
-use Rattle.verdict_table.specs.declared.record.Record.{Record}
+use Rattle.reduce_journal.specs.History.{History}
 
 -- what an object shows, and how many of its calls failed
 pub record Seen (T : Type 0) : Type 0 where
@@ -15,12 +15,15 @@ pub record Seen (T : Type 0) : Type 0 where
 abbrev pub seen : {X T : Type 0} → (X → T) → (X → ℕ) → X → Seen T
 seen shown faults x = record { shown = shown x; faults = faults x }
 
--- the content of each file, the log of a gate, and what was put on `out`, each where it is visible
+-- the content of each file, the log of a gate, and what was put into the journal and on `out`, each where it is visible
 abbrev pub SeenFiles : Type 0
 SeenFiles = Seen (List ℕ → Option FileContent)
 
 abbrev pub SeenGate : Type 0
 SeenGate = Seen (Option Log)
+
+abbrev pub SeenJournal : Type 0
+SeenJournal = Seen (Option Put)
 
 abbrev pub SeenOut : Type 0
 SeenOut = Seen (Option Put)
@@ -29,6 +32,7 @@ SeenOut = Seen (Option Put)
 pub record World : Type 0 where
   pub files : SeenFiles
   pub gate : SeenGate
+  pub journal : SeenJournal
   pub out : SeenOut
 
 -- a call of the object failed
@@ -44,10 +48,11 @@ pub record FilesKept (old new : SeenFiles) : Type 0 where
   pub same : SameFiles old.shown new.shown
   pub quiet : IsQuiet old new
 
--- the gate was not reached: there is no record, and it is as before
-pub record GateUntouched (records : List Record) (old new : SeenGate) : Type 0 where
-  pub no_records : records ≡ []
-  pub same : new ≡ old
+-- neither the gate nor the journal was reached: nothing was recorded, and both are as before
+pub record NotReached (history : History) (old new : World) : Type 0 where
+  pub no_history : history ≡ []
+  pub gate : new.gate ≡ old.gate
+  pub journal : new.journal ≡ old.journal
 
 -- the piece was put whole
 pub record Puts (piece : List ℕ) (old new : SeenOut) : Type 0 where

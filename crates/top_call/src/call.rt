@@ -13,33 +13,34 @@ use crate::words::{CommandLine, read_words};
 use edge_io::{Files, Sink};
 use script_gate::Gate;
 use std::alloc::Global;
-use verdict_table::Records;
 
 /// Does what the words ask for. What it promises at each status is stated with the command:
 /// `ReduceEnds` for `reduce`, `NormalEnds` for `normal`. Words that are no command line have status
-/// 2, and no others.
-pub fn perses<F: Files, G: Gate, O: Sink>(
+/// 2, and no others. `reduce` opens the journal under the output's name followed by `.journal`; no
+/// other command touches it.
+pub fn perses<F: Files, G: Gate, J: Sink + Drop, O: Sink>(
     alloc: Global,
     words: &[String],
     files: &mut F,
     gate: &mut G,
+    journal: J,
     out: &mut O,
-) -> Ended
-    ensures runs { RunsCommand G.may_say result.records
-        (record { files = seen F.content F.faults files.old; gate = seen G.log G.faults gate.old; out = seen O.put_so_far O.faults out.old })
-        (record { files = seen F.content F.faults files.new; gate = seen G.log G.faults gate.new; out = seen O.put_so_far O.faults out.new })
+) -> Ended<J>
+    ensures runs { RunsCommand G.may_say
+        (record { files = seen F.content F.faults files.old; gate = seen G.log G.faults gate.old; journal = seen J.put_so_far J.faults journal; out = seen O.put_so_far O.faults out.old })
+        (record { files = seen F.content F.faults files.new; gate = seen G.log G.faults gate.new; journal = seen J.put_so_far J.faults result.journal; out = seen O.put_so_far O.faults out.new })
         result.status (command_line_of (map string_bytes words.now)) }
     ensures usage { (result.status ≡ 2) ↔ (command_line_of (map string_bytes words.now) ≡ None) }
 {
     match read_words(words) {
         None => Ended {
             status: end_refused(out, &Refusal::Usage),
-            records: Records::new(alloc),
+            journal,
         },
-        Some(CommandLine::Reduce(line)) => reduce(alloc, line, files, gate, out),
+        Some(CommandLine::Reduce(line)) => reduce(alloc, line, files, gate, journal, out),
         Some(CommandLine::Normal(grammar)) => Ended {
             status: normal(alloc, grammar, files, out),
-            records: Records::new(alloc),
+            journal,
         },
     }
 }

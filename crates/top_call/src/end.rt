@@ -1,20 +1,19 @@
 //! How a command ends: what it puts on `out`, and its status.
 
 ghost use Rattle.std.specs.Prelude.{◌≡◌, MatchResult};
-ghost use Rattle.top_call.specs.Status.{EndsRefused, EndsSilent, EndsWithAnswer};
+ghost use Rattle.top_call.specs.Status.{EndsRefused, EndsWithAnswer};
 ghost use Rattle.top_call.specs.World.{seen};
 
 use crate::status::Refusal;
 use edge_io::Sink;
-use verdict_table::Records;
 
 /// How a call of the program ended.
 #[derive(Drop)]
-pub struct Ended {
+pub struct Ended<J> {
     /// The status that the program ends with.
     pub status: u8,
-    /// The verdicts of the script, in the order in which they came.
-    pub records: Records,
+    /// The journal, as it is then.
+    pub journal: J,
 }
 
 /// Puts the line of a refusal, and gives its status, which is the same where the line can't be put.
@@ -24,18 +23,6 @@ pub fn end_refused<O: Sink>(out: &mut O, refusal: &Refusal) -> u8
     let (status, line) = refusal.ending();
     let _ = out.put(line.as_bytes());
     status
-}
-
-/// Ends a command that puts nothing on `out` where it succeeds.
-pub fn end<O: Sink>(out: &mut O, outcome: &Result<(), Refusal>) -> u8
-    ensures { MatchResult outcome.now
-        (λ _. EndsSilent (seen O.put_so_far O.faults out.old) (seen O.put_so_far O.faults out.new) result)
-        (λ refusal. EndsRefused (seen O.put_so_far O.faults out.old) (seen O.put_so_far O.faults out.new) result refusal) }
-{
-    match outcome {
-        Ok(()) => 0,
-        Err(refusal) => end_refused(out, refusal),
-    }
 }
 
 /// Ends a command that puts its answer on `out`, in one put. Where that fails nothing follows.

@@ -1,4 +1,4 @@
-//! The top call: what the program does, over any files, gate and output.
+//! The top call: what the program does, over any files, gate, journal and output.
 //!
 //! Enter by [`perses`], whose contract is the program's; read first how `reduce` ends, by its status:
 //! `ReduceEnds` in `specs/Reduce.antt`. Each command is a function in a file of its own and ends at a
@@ -8,8 +8,9 @@
 //! ```
 //! let mut files = DiskFiles::new(rt.clone()?, rt.alloc());
 //! let mut gate = ProcessGate::new(rt.clone()?, rt.alloc());
+//! let journal = StreamSink::file(rt.clone()?);
 //! let mut out = StreamSink::output(rt.clone()?);
-//! let ended = perses(rt.alloc(), &words, &mut files, &mut gate, &mut out);
+//! let ended = perses(rt.alloc(), &words, &mut files, &mut gate, journal, &mut out);
 //! ```
 #![tactic(auto)]
 

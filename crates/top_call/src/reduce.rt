@@ -1,29 +1,35 @@
 //! The command `reduce`, step by step.
 
-ghost use Rattle.std.specs.Prelude.{◌≡◌, [], true, IfErr, OnErr, OnOk, codes, option_map};
+ghost use Rattle.std.specs.Prelude.{◌≡◌, true, IfErr, IfOk, OnErr, OnOk, codes, option_map};
+ghost use Rattle.edge_io.specs.Files.{SameFiles};
 ghost use Rattle.keep_guard.specs.Keep.{holds_all};
+ghost use Rattle.reduce_journal.specs.History.{records_of};
 ghost use Rattle.script_gate.specs.Log.{with_opening};
+ghost use Rattle.gated_run.specs.Records.{AreAnswers};
 ghost use Rattle.problem_run.specs.Problem.{Problem};
 ghost use Rattle.problem_run.specs.Read.{IsReadAs, IsReady, start_read};
 ghost use Rattle.problem_run.specs.Ends.{AreOf, ProblemEnds};
-ghost use Rattle.top_call.specs.Reduce.{RecordsAreSound, ReduceSteps, Reduces};
+ghost use Rattle.top_call.specs.Journal.{journal_name, opened_as};
+ghost use Rattle.top_call.specs.Reduce.{ProblemRead, RecordsAreSound, ReduceSteps, Reduces};
+ghost use Rattle.top_call.specs.Read.{AcceptFails};
+ghost use Rattle.top_call.specs.Run.{JournalAfter, OpeningFails, StartLeaves, WriteEnds};
 ghost use Rattle.top_call.specs.Status.{OpenFails};
 ghost use Rattle.top_call.specs.Words.{file_name_of, options_of};
 ghost use Rattle.top_call.specs.World.{IsQuiet, seen};
 
-use crate::end::{Ended, end};
+use crate::end::{Ended, end_with};
 use crate::file::write_file;
 use crate::read::{guard_of, read_problem};
 use crate::status::Refusal;
 use crate::words::{ReduceLine, file_name_of};
 use edge_io::{Files, Sink};
-use gated_run::RunFault;
+use gated_run::{Ran, Reduced, RunFault};
 use grammar_input::{input_fault_once, inputs_are_in_language};
 use keep_guard::{Guard, KeepTexts};
 use problem_run::{ReadProblem, run_problem};
+use reduce_journal::{Event, report};
 use script_gate::{Gate, GateFault};
 use std::alloc::Global;
-use verdict_table::Table;
 
 /// The folder that candidates are written below.
 const WORK_FOLDER: &str = "perses-work";
@@ -38,70 +44,175 @@ fn open_gate<G: Gate>(gate: &mut G, line: ReduceLine<'_>) -> Result<(), GateFaul
     gate.open(WORK_FOLDER, line.script, file_name_of(line.input), 1)
 }
 
-/// Opens the gate and reduces what was read. The gate is opened after all that can be refused.
-fn reduce_start<G: Gate>(
+/// Opens the journal, which has the output's name followed by `.journal`.
+fn open_journal<J: Sink>(
+    alloc: Global,
+    journal: &mut J,
+    line: ReduceLine<'_>,
+) -> Result<(), RunFault>
+    ensures opened { OnOk result (J.put_so_far journal.new ≡ opened_as (journal_name (options_of line.entry)) (J.put_so_far journal.old)) }
+    ensures kept { OnErr result (J.put_so_far journal.new ≡ J.put_so_far journal.old) }
+    ensures quiet { OnOk result (J.faults journal.new ≡ J.faults journal.old) }
+    ensures refused { IfErr result (λ fault. OpeningFails (J.faults journal.old) (J.faults journal.new) fault) }
+{
+    let name = format!(in alloc; "{}.journal", line.output)?;
+    journal.open(name.as_str())?;
+    Ok(())
+}
+
+/// Opens the journal and reduces what was read, by a gate that is open.
+fn run_opened<G: Gate, J: Sink + Drop>(
     alloc: Global,
     line: ReduceLine<'_>,
     problem: ReadProblem,
     guard: Guard<KeepTexts<'_>>,
     gate: &mut G,
-    table: &mut Table,
-) -> Result<Vec<u8>, RunFault>
+    journal: J,
+) -> Ran<J>
     requires ready { IsReady problem }
     requires kept { holds_all guard (start_read problem) ≡ true }
-    requires empty { table.old.records ≡ [] }
-    requires settled { table.old.claims ≡ [] }
-    ensures sound { RecordsAreSound (options_of line.entry) G.may_say table.new.records (seen G.log G.faults gate.old) (seen G.log G.faults gate.new) }
-    ensures candidates { (one : Problem) → IsReadAs guard.entry problem one → AreOf guard.entry one table.new.records }
-    ensures ends { (one : Problem) → IsReadAs guard.entry problem one → ProblemEnds guard.entry one table.new.records (G.faults gate.old) (G.faults gate.new) result }
+    ensures answers { AreAnswers G.may_say (G.log gate.old) (G.log gate.new) (records_of result.events.items) }
+    ensures of_problem { (one : Problem) → IsReadAs guard.entry problem one → AreOf guard.entry one result.events.items }
+    ensures ends { (one : Problem) → IsReadAs guard.entry problem one
+        → ProblemEnds guard.entry one result.events.items (G.faults gate.old) (G.faults gate.new) (J.faults journal) (J.faults result.journal) result.outcome }
+    ensures journal { JournalAfter (journal_name (options_of line.entry)) result.events.items (seen J.put_so_far J.faults journal) (seen J.put_so_far J.faults result.journal) result.outcome }
 {
-    open_gate(gate, line)?;
-    run_problem(alloc, problem, guard, gate, table)
+    let mut journal = journal;
+    match open_journal(alloc, &mut journal, line) {
+        Ok(()) => run_problem(alloc, problem, guard, gate, journal),
+        Err(fault) => Ran::refused(alloc, journal, fault),
+    }
+}
+
+/// Opens the gate, after all that can be refused, and by it reduces what was read. Where it can't be
+/// opened the journal isn't either, so that an older one stays.
+fn reduce_start<G: Gate, J: Sink + Drop>(
+    alloc: Global,
+    line: ReduceLine<'_>,
+    problem: ReadProblem,
+    guard: Guard<KeepTexts<'_>>,
+    gate: &mut G,
+    journal: J,
+) -> Ran<J>
+    requires ready { IsReady problem }
+    requires kept { holds_all guard (start_read problem) ≡ true }
+    ensures sound { RecordsAreSound (options_of line.entry) G.may_say (records_of result.events.items) (seen G.log G.faults gate.old) (seen G.log G.faults gate.new) (seen J.put_so_far J.faults journal) (seen J.put_so_far J.faults result.journal) }
+    ensures of_problem { (one : Problem) → IsReadAs guard.entry problem one → AreOf guard.entry one result.events.items }
+    ensures ends { (one : Problem) → IsReadAs guard.entry problem one
+        → ProblemEnds guard.entry one result.events.items (G.faults gate.old) (G.faults gate.new) (J.faults journal) (J.faults result.journal) result.outcome }
+    ensures journal { StartLeaves (journal_name (options_of line.entry)) result.events.items (G.log gate.old) (G.log gate.new) (seen J.put_so_far J.faults journal) (seen J.put_so_far J.faults result.journal) result.outcome }
+{
+    match open_gate(gate, line) {
+        Ok(()) => run_opened(alloc, line, problem, guard, gate, journal),
+        Err(fault) => Ran::refused(alloc, journal, fault.into()),
+    }
+}
+
+/// Makes the report of a reduction and writes its result, which is written only where there is one.
+fn write_result<F: Files>(
+    alloc: Global,
+    line: ReduceLine<'_>,
+    files: &mut F,
+    outcome: Result<Reduced, RunFault>,
+) -> Result<Vec<u8>, Refusal>
+    ensures { WriteEnds line.entry.output.now (seen F.content F.faults files.old) (seen F.content F.faults files.new) outcome result }
+{
+    let reduced = outcome?;
+    let text = report(alloc, &reduced.counts)?;
+    write_file(files, line.output, &reduced.text)?;
+    Ok(text)
+}
+
+/// What is reduced, and the guard of the keep texts, each of which occurs in it.
+fn accept<'a, F: Files>(
+    alloc: Global,
+    line: ReduceLine<'a>,
+    files: &mut F,
+) -> Result<(ReadProblem, Guard<KeepTexts<'a>>), Refusal>
+    ensures problem { IfOk result (λ accepted. ProblemRead (options_of line.entry) (seen F.content F.faults files.old) (IsReadAs (options_of line.entry).keeps accepted.0)) }
+    ensures ready { IfOk result (λ accepted. IsReady accepted.0) }
+    ensures guard { IfOk result (λ accepted. accepted.1 ≡ (options_of line.entry).keeps) }
+    ensures kept { IfOk result (λ accepted. holds_all accepted.1 (start_read accepted.0) ≡ true) }
+    ensures quiet { OnOk result (IsQuiet (seen F.content F.faults files.old) (seen F.content F.faults files.new)) }
+    ensures same { SameFiles (F.content files.old) (F.content files.new) }
+    ensures refused { IfErr result (λ refusal. AcceptFails (options_of line.entry) (seen F.content F.faults files.old) (seen F.content F.faults files.new) refusal) }
+{
+    let problem = read_problem(alloc, line, files)?;
+    let guard = guard_of(alloc, line, problem.start())?;
+    Ok((problem, guard))
+}
+
+/// What the steps of `reduce` come to: the journal, what was recorded and committed, and the report or why
+/// there is none.
+struct Steps<J> {
+    journal: J,
+    events: Vec<Event>,
+    outcome: Result<Vec<u8>, Refusal>,
 }
 
 /// The steps of `reduce` after the words: the grammar, the input, its tokens and tree, the keep texts,
 /// the reduction, and the result, which is written only at the end.
-fn reduce_steps<F: Files, G: Gate>(
+fn reduce_steps<F: Files, G: Gate, J: Sink + Drop>(
     alloc: Global,
     line: ReduceLine<'_>,
     files: &mut F,
     gate: &mut G,
-    table: &mut Table,
-) -> Result<(), Refusal>
-    requires empty { table.old.records ≡ [] }
-    requires settled { table.old.claims ≡ [] }
-    ensures { ReduceSteps (options_of line.entry) G.may_say table.new.records
-        (seen F.content F.faults files.old) (seen F.content F.faults files.new)
-        (seen G.log G.faults gate.old) (seen G.log G.faults gate.new) result }
+    journal: J,
+) -> Steps<J>
+    ensures { ReduceSteps (options_of line.entry) G.may_say result.events.items
+        (record { files = seen F.content F.faults files.old; gate = seen G.log G.faults gate.old; journal = seen J.put_so_far J.faults journal })
+        (record { files = seen F.content F.faults files.new; gate = seen G.log G.faults gate.new; journal = seen J.put_so_far J.faults result.journal })
+        result.outcome }
 {
-    let problem = read_problem(alloc, line, files)?;
-    let guard = guard_of(alloc, line, problem.start())?;
-    let text = reduce_start(alloc, line, problem, guard, gate, table)?;
-    write_file(files, line.output, &text)
+    match accept(alloc, line, files) {
+        Err(refusal) => Steps {
+            journal,
+            events: Vec::new(alloc),
+            outcome: Err(refusal),
+        },
+        Ok((problem, guard)) => {
+            let Ran {
+                journal,
+                events,
+                outcome,
+            } = reduce_start(alloc, line, problem, guard, gate, journal);
+            let outcome = write_result(alloc, line, files, outcome);
+            Steps {
+                journal,
+                events,
+                outcome,
+            }
+        }
+    }
 }
 
 /// Reduces a file as the command line says, in this order: the grammar is read, where there is one;
 /// the input is read, and cut into tokens and parsed by the grammar; the keep texts are looked for in
-/// it; the gate is opened and asked, once for each text and on the calling thread; and the result is
-/// written. A start whose verdict is no ends the run at once.
-pub fn reduce<F: Files, G: Gate, O: Sink>(
+/// it; the gate is opened, and the journal; the gate is asked, once for each text and on the calling
+/// thread, and each verdict is written into the journal before it is used; the result is written; and
+/// its report is put on `out`. A start whose verdict is no ends the run at once.
+pub fn reduce<F: Files, G: Gate, J: Sink + Drop, O: Sink>(
     alloc: Global,
     line: ReduceLine<'_>,
     files: &mut F,
     gate: &mut G,
+    journal: J,
     out: &mut O,
-) -> Ended
-    ensures { Reduces (options_of line.entry) G.may_say result.records
-        (record { files = seen F.content F.faults files.old; gate = seen G.log G.faults gate.old; out = seen O.put_so_far O.faults out.old })
-        (record { files = seen F.content F.faults files.new; gate = seen G.log G.faults gate.new; out = seen O.put_so_far O.faults out.new })
+) -> Ended<J>
+    ensures { Reduces (options_of line.entry) G.may_say
+        (record { files = seen F.content F.faults files.old; gate = seen G.log G.faults gate.old; journal = seen J.put_so_far J.faults journal; out = seen O.put_so_far O.faults out.old })
+        (record { files = seen F.content F.faults files.new; gate = seen G.log G.faults gate.new; journal = seen J.put_so_far J.faults result.journal; out = seen O.put_so_far O.faults out.new })
         result.status }
 {
     input_fault_once();
     inputs_are_in_language();
-    let mut table = Table::new(alloc);
-    let outcome = reduce_steps(alloc, line, files, gate, &mut table);
+    let Steps {
+        journal,
+        events: _,
+        outcome,
+    } = reduce_steps(alloc, line, files, gate, journal);
     Ended {
-        status: end(out, &outcome),
-        records: table.into_records(),
+        status: end_with(out, &outcome),
+        journal,
     }
 }

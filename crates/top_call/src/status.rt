@@ -44,6 +44,8 @@ pub enum Refusal {
     TooLong(NamedFile),
     /// The script can't be asked.
     Script,
+    /// The journal can't be written.
+    Journal,
 }
 
 impl Refusal {
@@ -103,6 +105,7 @@ impl Refusal {
             Refusal::TooLong(NamedFile::Input) => (10, "perses: input is too long\n"),
             Refusal::TooLong(NamedFile::Grammar) => (10, "perses: grammar is too long\n"),
             Refusal::Script => (11, "perses: script fault at worker 1\n"),
+            Refusal::Journal => (12, "perses: journal fault\n"),
         }
     }
 }
@@ -136,6 +139,7 @@ impl From<RunFault> for Refusal {
         match fault {
             RunFault::NotInteresting => Refusal::NotInteresting,
             RunFault::Script => Refusal::Script,
+            RunFault::Journal => Refusal::Journal,
             RunFault::Memory => Refusal::Memory,
         }
     }

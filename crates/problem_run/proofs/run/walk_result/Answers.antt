@@ -15,4 +15,4 @@ pub returns-clause-ends : goal.returns-clause-ends
 returns-clause-ends g c =
     let parts = c.args.parts.now in
     let input : TreeInput = input_of parts.lexer parts.formed parts.tree (string_bytes parts.start) parts.tokens.items.items (keeps_admit parts.guard) parts.squeezes in
-    c.run_to_text.ensures.ends input c.requires.first
+    c.run_to_text.ensures.ends input c.requires.first c.requires.start
