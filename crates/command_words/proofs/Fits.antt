@@ -1,0 +1,133 @@
+-- Whether the options that are there are as the table says, row by row.
+use Rattle.std.proofs.Common.{◌≡◌, ◌∙◌, ℕ, ◌≤◌, ◌==◌, Bool, true, false, not, ◌&&◌, ◌||◌, List, [], ◌∷◌, length, nat_le, Some, find, refl, sym, ap, ap₂, subst, cond, is_some, slice_get, codes, arith, leb-true, eqb-true, true≢false, bytes_eq}
+use Rattle.std.specs.List.{list_all}
+use Rattle.std.proofs.lemmas.Bool.{and_parts}
+use Rattle.command_words.specs.Options.{OptionRow, Use, Values, fits_row, fits_table, has_value, takes_value, values_for}
+use Rattle.command_words.specs.Tables.{normal_table, optional, reduce_table, required, selftest_table, tree_modes}
+use Rattle.command_words.specs.Commands.{is_given}
+use Rattle.command_words.specs.Found.{files_given, values_fit}
+use Rattle.command_words.specs.Read.{IsOnce, is_several, takes_of}
+
+-- ---- one row, by the values that are given
+
+any_fits : (values : List (List ℕ)) → list_all (takes_value Values.any_text) values ≡ true
+any_fits [] = refl
+any_fits (v ∷ vs) = any_fits vs
+
+pub optional_fits : (values : List (List ℕ)) → length values ≤ 1 → ((nat_le (length values) 1 && (true || nat_le 1 (length values))) && list_all (takes_value Values.any_text) values) ≡ true
+optional_fits [] few = refl
+optional_fits (v ∷ []) few = refl
+optional_fits (v ∷ (w ∷ vs)) few = absurd (omega arith)
+
+pub flag_fits : (values : List (List ℕ)) → length values ≤ 1 → ((nat_le (length values) 1 && (true || nat_le 1 (length values))) && list_all (takes_value Values.no_value) values) ≡ true
+flag_fits [] few = refl
+flag_fits (v ∷ []) few = refl
+flag_fits (v ∷ (w ∷ vs)) few = absurd (omega arith)
+
+pub required_fits : (values : List (List ℕ)) → length values ≤ 1
+    → ((nat_le (length values) 1 && (false || nat_le 1 (length values))) && list_all (takes_value Values.any_text) values) ≡ is_some {T = List ℕ} (slice_get values 0)
+required_fits [] few = refl
+required_fits (v ∷ []) few = refl
+required_fits (v ∷ (w ∷ vs)) few = absurd (omega arith)
+
+pub optional_values_fit : (takes : Values) (values : List (List ℕ)) → length values ≤ 1
+    → ((nat_le (length values) 1 && (true || nat_le 1 (length values))) && list_all (takes_value takes) values) ≡ list_all (takes_value takes) values
+optional_values_fit takes [] few = refl
+optional_values_fit takes (v ∷ []) few = refl
+optional_values_fit takes (v ∷ (w ∷ vs)) few = absurd (omega arith)
+
+pub required_values_fit : (takes : Values) (values : List (List ℕ)) → length values ≤ 1
+    → ((nat_le (length values) 1 && (false || nat_le 1 (length values))) && list_all (takes_value takes) values) ≡ (is_some {T = List ℕ} (slice_get values 0) && list_all (takes_value takes) values)
+required_values_fit takes [] few = refl
+required_values_fit takes (v ∷ []) few = refl
+required_values_fit takes (v ∷ (w ∷ vs)) few = absurd (omega arith)
+
+and_true : (b : Bool) → (b && true) ≡ b
+and_true true = refl
+and_true false = refl
+
+pub keeps_fit : (values : List (List ℕ)) → ((nat_le (length values) 8 && (true || nat_le 1 (length values))) && list_all (takes_value Values.any_text) values) ≡ nat_le (length values) 8
+keeps_fit values = ap (λ (b : Bool). (nat_le (length values) 8 && true) && b) (any_fits values) ∙ and_true (nat_le (length values) 8 && true) ∙ and_true (nat_le (length values) 8)
+
+-- ---- tables
+
+eleven : (a b c e g j a' b' c' d e' f g' h i j' k : Bool) → a ≡ a' → b ≡ b' → c ≡ c' → d ≡ true → e ≡ e' → f ≡ true → g ≡ g' → h ≡ true → i ≡ true → j ≡ j' → k ≡ true
+    → (a && (b && (c && (d && (e && (f && (g && (h && (i && (j && (k && true))))))))))) ≡ ((a' && (b' && c')) && (e' && (g' && j')))
+eleven a b c e g j a' b' c' d e' f g' h i j' k a_is b_is c_is d_is e_is f_is g_is h_is i_is j_is k_is =
+    rw (a_is, b_is, c_is, d_is, e_is, f_is, g_is, h_is, i_is, j_is, k_is) (regroup a' b' c' e' g' j')
+  where
+    regroup : (a b c e g j : Bool) → (a && (b && (c && (true && (e && (true && (g && (true && (true && (j && (true && true))))))))))) ≡ ((a && (b && c)) && (e && (g && j)))
+    regroup false b c e g j = refl
+    regroup true false c e g j = refl
+    regroup true true false e g j = refl
+    regroup true true true e g j = ap (λ (x : Bool). e && (g && x)) (and_true j)
+
+-- the options of `reduce` fit: the files are named, the mode and the number of workers are such, and there are not too many keep texts
+pub reduce_fits : (uses : List Use) → IsOnce reduce_table uses
+    → fits_table reduce_table uses
+    ≡ (files_given uses
+    && (values_fit (Values.one_of (codes "lines" ∷ tree_modes)) (codes "mode") uses && (values_fit (Values.number 1 1) (codes "jobs") uses && nat_le (length (values_for (codes "keep") uses)) 8)))
+reduce_fits uses once =
+    let g : List ℕ → List (List ℕ) = λ name. values_for name uses in
+    eleven _ _ _ _ _ _ _ _ _ _ _ _ _ _ _ _ _
+    (required_fits (g (codes "input")) (once (required (codes "input") Values.any_text) refl refl))
+    (required_fits (g (codes "output")) (once (required (codes "output") Values.any_text) refl refl))
+    (required_fits (g (codes "script")) (once (required (codes "script") Values.any_text) refl refl))
+    (optional_fits (g (codes "grammar")) (once (optional (codes "grammar") Values.any_text) refl refl))
+    (optional_values_fit (Values.one_of (codes "lines" ∷ tree_modes)) (g (codes "mode")) (once (optional (codes "mode") (Values.one_of (codes "lines" ∷ tree_modes))) refl refl))
+    (optional_fits (g (codes "start")) (once (optional (codes "start") Values.any_text) refl refl))
+    (optional_values_fit (Values.number 1 1) (g (codes "jobs")) (once (optional (codes "jobs") (Values.number 1 1)) refl refl))
+    (optional_fits (g (codes "journal")) (once (optional (codes "journal") Values.any_text) refl refl))
+    (optional_fits (g (codes "work")) (once (optional (codes "work") Values.any_text) refl refl))
+    (keeps_fit (g (codes "keep")))
+    (flag_fits (g (codes "squeeze")) (once (optional (codes "squeeze") Values.no_value) refl refl))
+
+pub normal_fits : (uses : List Use) → IsOnce normal_table uses → fits_table normal_table uses ≡ is_given (codes "grammar") uses
+normal_fits uses once =
+    let g : List ℕ → List (List ℕ) = λ name. values_for name uses in
+    ap₂ (λ (a b : Bool). a && (b && true)) (required_fits (g (codes "grammar")) (once (required (codes "grammar") Values.any_text) refl refl))
+    (optional_fits (g (codes "start")) (once (optional (codes "start") Values.any_text) refl refl))
+    ∙ and_true (is_given (codes "grammar") uses)
+
+three : (a b c a' b' c' : Bool) → a ≡ a' → b ≡ b' → c ≡ c' → (a && (b && (c && true))) ≡ (a' && (b' && c'))
+three a b c a' b' c' a_is b_is c_is = rw (a_is, b_is, c_is) (ap (λ (x : Bool). a' && (b' && x)) (and_true c'))
+
+pub selftest_fits : (uses : List Use) → IsOnce selftest_table uses
+    → fits_table selftest_table uses
+    ≡ ((is_given (codes "number") uses && values_fit (Values.number 0 4294967295) (codes "number") uses)
+    && ((is_given (codes "size") uses && values_fit (Values.number 1 1500) (codes "size") uses) && values_fit (Values.one_of tree_modes) (codes "mode") uses))
+selftest_fits uses once =
+    let g : List ℕ → List (List ℕ) = λ name. values_for name uses in
+    three _ _ _ _ _ _
+    (required_values_fit (Values.number 0 4294967295) (g (codes "number")) (once (required (codes "number") (Values.number 0 4294967295)) refl refl))
+    (required_values_fit (Values.number 1 1500) (g (codes "size")) (once (required (codes "size") (Values.number 1 1500)) refl refl))
+    (optional_values_fit (Values.one_of tree_modes) (g (codes "mode")) (once (optional (codes "mode") (Values.one_of tree_modes)) refl refl))
+
+-- ---- where all options fit, none is there twice that may be there once
+
+-- a flag may be there once
+abbrev pub flags_once : List OptionRow → Bool
+flags_once table = list_all (λ row. has_value row.values || row.most == 1) table
+
+found_in : {X : Type 0} (test passes : X → Bool) (xs : List X) (x : X) → list_all passes xs ≡ true → find test xs ≡ Some x → passes x ≡ true
+found_in test passes [] x all found = absurd (cc found)
+found_in {X} test passes (y ∷ ys) x all found = go (test y) found (λ later. found_in test passes ys x (and_parts (passes y) (list_all passes ys) all).1 later)
+  where
+    go : (b : Bool) → cond b (Some y) (find test ys) ≡ Some x → (find test ys ≡ Some x → passes x ≡ true) → passes x ≡ true
+    go true found later = let same : y ≡ x = cc found in subst (λ (z : X). passes z ≡ true) same (and_parts (passes y) (list_all passes ys) all).0
+    go false found later = later found
+
+single_most : (value single : Bool) → is_several (takes_of value single) ≡ false → (value || single) ≡ true → single ≡ true
+single_most true true once flag = refl
+single_most true false once flag = absurd (true≢false once)
+single_most false true once flag = refl
+single_most false false once flag = absurd (true≢false (sym flag))
+
+pub fits_once : (table : List OptionRow) → flags_once table ≡ true → (uses : List Use) → fits_table table uses ≡ true → IsOnce table uses
+fits_once table flags uses fits row found single =
+    let row_fits = found_in (λ (r : OptionRow). bytes_eq r.name row.name) (fits_row uses) table row fits found in
+    let flag = found_in (λ (r : OptionRow). bytes_eq r.name row.name) (λ (r : OptionRow). has_value r.values || r.most == 1) table row flags found in
+    let most : row.most ≡ 1 = eqb-true row.most 1 (single_most (has_value row.values) (row.most == 1) single flag) in
+    let counts = (and_parts (nat_le (length (values_for row.name uses)) row.most && (not row.is_required || nat_le 1 (length (values_for row.name uses)))) (list_all (takes_value row.values) (values_for row.name uses)) row_fits).0 in
+    let few : length (values_for row.name uses) ≤ row.most = leb-true _ _ (and_parts (nat_le (length (values_for row.name uses)) row.most) (not row.is_required || nat_le 1 (length (values_for row.name uses))) counts).0 in
+    omega arith

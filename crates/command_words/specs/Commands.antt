@@ -1,0 +1,128 @@
+-- Which words are a command line, and what it asks for.
+use Rattle.std.specs.Prelude.{ℕ, ◌||◌, Bool, List, [], ◌∷◌, ◌++◌, Option, Some, None, if◌then◌else◌, codes, is_some, option_and_then, option_map, slice_get, unwrap_or}
+use Rattle.std.specs.Str.{bytes_eq}
+use Rattle.std.specs.Str.Parse.{digits_value}
+use Rattle.command_words.specs.Options.{Use, options_in, values_for}
+use Rattle.command_words.specs.Tables.{normal_table, reduce_table, selftest_table}
+use Rattle.command_words.specs.declared.commands.TreeMode.{TreeMode}
+use Rattle.command_words.specs.declared.commands.TreeMode.TheVariants.{Hdd, Perses}
+
+-- a grammar by its path and the name of its start rule, where one is given
+pub record NamedGrammar : Type 0 where
+  pub path : List ℕ
+  pub start : Option (List ℕ)
+
+-- what is said of a reduction by a grammar: the grammar, how a round goes through a tree, and whether the squeezed text of the whole tree is tried
+pub record GrammarOptions : Type 0 where
+  pub grammar : NamedGrammar
+  pub mode : TreeMode
+  pub squeeze : Bool
+
+-- which states are tried: lists of lines, or trees of a grammar
+pub data ModeOptions : Type 0 where
+  lines : ModeOptions
+  by_grammar : GrammarOptions → ModeOptions
+
+-- what a command line of `reduce` gives: the mode; the paths of the input, the output, the script and the journal; the folder of the candidates; the number of workers; and the keep texts
+pub record ReduceOptions : Type 0 where
+  pub mode : ModeOptions
+  pub input : List ℕ
+  pub output : List ℕ
+  pub script : List ℕ
+  pub journal : List ℕ
+  pub work : List ℕ
+  pub jobs : ℕ
+  pub keeps : List (List ℕ)
+
+-- what a command line of `selftest` gives: the number and the size of the program that is made and reduced, and the mode
+pub record SelftestOptions : Type 0 where
+  pub number : ℕ
+  pub size : ℕ
+  pub mode : TreeMode
+
+-- what a command line asks for: a file is reduced, the normal form of a grammar is printed, or a generated program is reduced in memory
+pub data Command : Type 0 where
+  reduce : ReduceOptions → Command
+  normal : NamedGrammar → Command
+  selftest : SelftestOptions → Command
+
+-- the first value that is given for an option
+abbrev pub value_of : List ℕ → List Use → Option (List ℕ)
+value_of name uses = slice_get (values_for name uses) 0
+
+-- that value, or this one where none is given
+abbrev pub value_or : List ℕ → List ℕ → List Use → List ℕ
+value_or other name uses = unwrap_or (value_of name uses) other
+
+-- the value of an option that must be there
+abbrev pub text_of : List ℕ → List Use → List ℕ
+text_of = value_or []
+
+-- that value as a number
+abbrev pub number_of : List ℕ → List Use → ℕ
+number_of name uses = digits_value 10 (text_of name uses)
+
+abbrev pub is_given : List ℕ → List Use → Bool
+is_given name uses = is_some (value_of name uses)
+
+-- the mode of this name
+abbrev pub tree_mode_named : List ℕ → TreeMode
+tree_mode_named name = if bytes_eq name (codes "hdd") then Hdd else Perses
+
+-- the mode of `--mode` by a grammar, which is `perses` where none is given
+abbrev pub tree_mode_of : List Use → TreeMode
+tree_mode_of uses = tree_mode_named (value_or (codes "perses") (codes "mode") uses)
+
+-- with `--mode lines` nothing is said of a grammar
+abbrev pub lines_found : List Use → Option ModeOptions
+lines_found uses = if is_given (codes "grammar") uses || (is_given (codes "start") uses || is_given (codes "squeeze") uses) then None else Some ModeOptions.lines
+
+-- the grammar of `--grammar` and `--start`, where one is given
+abbrev pub grammar_given : List Use → Option NamedGrammar
+grammar_given uses = option_map (λ path. record { path = path; start = value_of (codes "start") uses }) (value_of (codes "grammar") uses)
+
+-- with another mode there is a grammar
+abbrev pub grammar_found : TreeMode → List Use → Option ModeOptions
+grammar_found mode uses = option_map (λ grammar. ModeOptions.by_grammar (record { grammar = grammar; mode = mode; squeeze = is_given (codes "squeeze") uses })) (grammar_given uses)
+
+abbrev pub mode_options : List Use → Option ModeOptions
+mode_options uses = if bytes_eq (text_of (codes "mode") uses) (codes "lines") then lines_found uses else grammar_found (tree_mode_of uses) uses
+
+-- the journal has the output's name followed by `.journal` where none is given
+abbrev pub reduce_of : List Use → Option ReduceOptions
+reduce_of uses = option_map (λ mode. record {
+  mode = mode;
+  input = text_of (codes "input") uses;
+  output = text_of (codes "output") uses;
+  script = text_of (codes "script") uses;
+  journal = value_or (text_of (codes "output") uses ++ codes ".journal") (codes "journal") uses;
+  work = value_or (codes "perses-work") (codes "work") uses;
+  jobs = digits_value 10 (value_or (codes "1") (codes "jobs") uses);
+  keeps = values_for (codes "keep") uses;
+}) (mode_options uses)
+
+abbrev pub selftest_of : List Use → SelftestOptions
+selftest_of uses = record { number = number_of (codes "number") uses; size = number_of (codes "size") uses; mode = tree_mode_of uses }
+
+-- what the words after `reduce`, after `normal` and after `selftest` ask for
+abbrev pub reduce_line : List (List ℕ) → Option ReduceOptions
+reduce_line words = option_and_then reduce_of (options_in reduce_table words)
+
+abbrev pub normal_line : List (List ℕ) → Option NamedGrammar
+normal_line words = option_and_then grammar_given (options_in normal_table words)
+
+abbrev pub selftest_line : List (List ℕ) → Option SelftestOptions
+selftest_line words = option_map selftest_of (options_in selftest_table words)
+
+-- the words after the name of a command
+abbrev pub command_of : List ℕ → List (List ℕ) → Option Command
+command_of name words =
+    if bytes_eq name (codes "reduce") then option_map Command.reduce (reduce_line words)
+    else (if bytes_eq name (codes "normal") then option_map Command.normal (normal_line words)
+    else (if bytes_eq name (codes "selftest") then option_map Command.selftest (selftest_line words) else None))
+
+-- What the words ask for, where they are a command line: the program's name, which isn't looked at, the name of a command, and its options.
+abbrev pub command_line_of : List (List ℕ) → Option Command
+command_line_of [] = None
+command_line_of (program ∷ []) = None
+command_line_of (program ∷ (name ∷ words)) = command_of name words

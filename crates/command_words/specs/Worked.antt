@@ -1,0 +1,77 @@
+-- Worked command lines: what each gives, and words that are none.
+use Rattle.std.specs.Prelude.{◌≡◌, ℕ, ◌==◌, Bool, true, false, List, [], ◌∷◌, ◌++◌, Option, Some, None, if◌then◌else◌, codes, is_none}
+use Rattle.std.specs.List.{list_all}
+use Rattle.command_words.specs.Commands.{Command, ModeOptions, ReduceOptions, command_line_of}
+use Rattle.command_words.specs.declared.commands.TreeMode.TheVariants.{Hdd, Perses}
+
+-- a byte before the first word
+abbrev pub at_front : ℕ → List (List ℕ) → List (List ℕ)
+at_front byte [] = (byte ∷ []) ∷ []
+at_front byte (word ∷ words) = (byte ∷ word) ∷ words
+
+-- the words of a line, which are apart by one space (32) each
+abbrev pub words_in : List ℕ → List (List ℕ)
+words_in [] = [] ∷ []
+words_in (byte ∷ bytes) = if byte == 32 then [] ∷ words_in bytes else at_front byte (words_in bytes)
+
+abbrev pub asked : List ℕ → Option Command
+asked line = command_line_of (words_in line)
+
+abbrev pub is_usage : List ℕ → Bool
+is_usage line = is_none (asked line)
+
+-- a reduction of the file `i` to the file `o` by the script `s`, with nothing more
+abbrev pub plain_reduction : ModeOptions → Command
+plain_reduction mode = Command.reduce (record { mode = mode; input = codes "i"; output = codes "o"; script = codes "s"; journal = codes "o.journal"; work = codes "perses-work"; jobs = 1; keeps = [] })
+
+abbrev pub by_g : ModeOptions
+by_g = ModeOptions.by_grammar (record { grammar = record { path = codes "g"; start = None }; mode = Perses; squeeze = false })
+
+-- a reduction with each option
+abbrev pub with_all : ReduceOptions
+with_all = record {
+  mode = ModeOptions.by_grammar (record { grammar = record { path = codes "g"; start = Some (codes "r") }; mode = Hdd; squeeze = true });
+  input = codes "i";
+  output = codes "o";
+  script = codes "s";
+  journal = codes "j";
+  work = codes "w";
+  jobs = 1;
+  keeps = codes "a=b" ∷ codes "c" ∷ [];
+}
+
+-- the words of mode `lines`, and others after them
+abbrev pub after_lines : List ℕ → List ℕ
+after_lines more = codes "perses reduce --mode lines --input i --output o --script s" ++ more
+
+abbrev pub refused_lines : List (List ℕ)
+refused_lines =
+    codes "perses"
+    ∷ codes "perses shrink"
+    ∷ codes "perses --help"
+    ∷ codes "perses -h"
+    ∷ codes "perses reduce --input i --output o --script s"
+    ∷ codes "perses reduce --grammar g --input i --output o --script s --mode perses --mode perses"
+    ∷ codes "perses reduce --gram g --input i --output o --script s"
+    ∷ codes "perses selftest --number 0 --size 1501"
+    ∷ codes "perses selftest --jobs 1 --number 0 --size 300"
+    ∷ codes "perses normal --grammar g --input i"
+    ∷ after_lines (codes " --squeeze")
+    ∷ after_lines (codes " --jobs 0")
+    ∷ after_lines (codes " --jobs 17")
+    ∷ after_lines (codes " --jobs 01")
+    ∷ after_lines (codes " --keep=")
+    ∷ after_lines (codes " --keep -a")
+    ∷ after_lines (codes " --")
+    ∷ after_lines (codes " --keep 1 --keep 2 --keep 3 --keep 4 --keep 5 --keep 6 --keep 7 --keep 8 --keep 9")
+    ∷ []
+
+pub record WorkedLines : Type 0 where
+  pub refused : list_all is_usage refused_lines ≡ true
+  pub apart : asked (after_lines []) ≡ Some (plain_reduction ModeOptions.lines)
+  pub joined : asked (codes "perses reduce --script=s --output=o --mode=lines --input=i") ≡ Some (plain_reduction ModeOptions.lines)
+  pub by_grammar : asked (codes "perses reduce --grammar g --input i --output o --script s") ≡ Some (plain_reduction by_g)
+  pub normal : asked (codes "perses normal --start r --grammar g") ≡ Some (Command.normal (record { path = codes "g"; start = Some (codes "r") }))
+  pub selftest : asked (codes "perses selftest --size 1500 --number 0") ≡ Some (Command.selftest (record { number = 0; size = 1500; mode = Perses }))
+  pub in_mode : asked (codes "perses selftest --mode hdd --number=4294967295 --size=1") ≡ Some (Command.selftest (record { number = 4294967295; size = 1; mode = Hdd }))
+  pub all : asked (codes "p reduce --squeeze --keep a=b --mode=hdd --start r --journal j --work w --jobs=1 --keep=c --grammar g --input i --output o --script s") ≡ Some (Command.reduce with_all)

@@ -1,0 +1,82 @@
+//! What command lines ask for.
+
+/// How a round goes through a tree of a grammar.
+#[derive(Clone, Copy, Debug, PartialEq, Eq)]
+pub enum TreeMode {
+    /// Node after node, the heaviest first; a node may be replaced by one below it.
+    Perses,
+    /// Depth after depth, by deletions alone.
+    Hdd,
+}
+
+/// A grammar.
+#[derive(Clone, Copy, Debug)]
+pub struct NamedGrammar<'a> {
+    /// Its file.
+    pub path: &'a str,
+    /// The name of its start rule; none where it is the first parser rule.
+    pub start: Option<&'a str>,
+}
+
+/// What is said of a reduction by a grammar.
+#[derive(Clone, Copy, Debug)]
+pub struct GrammarLine<'a> {
+    /// The grammar.
+    pub grammar: NamedGrammar<'a>,
+    /// How a round goes through a tree.
+    pub mode: TreeMode,
+    /// Whether the squeezed text of the whole tree is tried.
+    pub squeeze: bool,
+}
+
+/// Which states are tried.
+#[derive(Clone, Copy, Debug)]
+pub enum ModeLine<'a> {
+    /// Lists of the input's lines.
+    Lines,
+    /// Trees of a grammar.
+    ByGrammar(GrammarLine<'a>),
+}
+
+/// What a command line of `reduce` gives.
+#[derive(Debug, Drop)]
+pub struct ReduceLine<'a> {
+    /// Which states are tried.
+    pub mode: ModeLine<'a>,
+    /// The file to be reduced.
+    pub input: &'a str,
+    /// The file that the result is written to.
+    pub output: &'a str,
+    /// The script that says whether a candidate is interesting.
+    pub script: &'a str,
+    /// The journal, where it is named: see [`journal_name`](crate::journal_name).
+    pub journal: Option<&'a str>,
+    /// The folder that candidates are written below.
+    pub work: &'a str,
+    /// How many workers ask scripts.
+    pub jobs: u32,
+    /// The texts that each candidate must hold, in their order.
+    pub keeps: Vec<&'a str>,
+}
+
+/// What a command line of `selftest` gives.
+#[derive(Clone, Copy, Debug)]
+pub struct SelftestLine {
+    /// The number of the program that is made and reduced.
+    pub number: u32,
+    /// How many functions it has.
+    pub size: u32,
+    /// How a round goes through its tree.
+    pub mode: TreeMode,
+}
+
+/// What a command line asks for.
+#[derive(Debug, Drop)]
+pub enum CommandLine<'a> {
+    /// `reduce`: a file is reduced.
+    Reduce(ReduceLine<'a>),
+    /// `normal`: the normal form of this grammar is printed.
+    Normal(NamedGrammar<'a>),
+    /// `selftest`: a generated program is reduced in memory.
+    Selftest(SelftestLine),
+}

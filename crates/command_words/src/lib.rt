@@ -1,0 +1,27 @@
+//! Command lines: which words are one, and what they ask for.
+//!
+//! Enter by [`read_words`]. Read `specs/Tables.antt` first, the table of each command's options; then
+//! `options_in` in `specs/Options.antt`, what the words give by such a table; and `command_line_of` in
+//! `specs/Commands.antt`, what a command line asks for. Worked command lines are in
+//! `specs/Worked.antt`. The options are read by `clap`, as one command without subcommands.
+#![tactic(auto)]
+
+mod commands;
+mod grammar;
+mod laws;
+mod normal;
+mod options;
+mod reduce;
+mod selftest;
+#[cfg(test)]
+mod tests;
+mod values;
+mod words;
+
+pub use commands::{
+    CommandLine, GrammarLine, ModeLine, NamedGrammar, ReduceLine, SelftestLine, TreeMode,
+};
+pub use faults::Memory;
+pub use laws::worked_lines;
+pub use reduce::journal_name;
+pub use words::read_words;

@@ -1,0 +1,232 @@
+//! Command lines of `reduce`.
+
+ghost use Rattle.std.specs.Prelude.{◌≡◌, ◌||◌, List, IfOk, MatchOption, codes, false, map, option_and_then, option_map, string_bytes, true};
+ghost use Rattle.command_words.specs.Options.{Use, Values, takes_value, where_fits};
+ghost use Rattle.command_words.specs.Tables.{reduce_table, tree_modes};
+ghost use Rattle.command_words.specs.Found.{HasFound, files_given, jobs_found, keeps_found, line_found, mode_found};
+ghost use Rattle.command_words.specs.Commands.{grammar_found, is_given, lines_found, reduce_line, reduce_of, text_of, tree_mode_named};
+ghost use Rattle.command_words.specs.Lines.{journal_of, mode_of, reduce_read};
+
+use crate::commands::{GrammarLine, ModeLine, ReduceLine, TreeMode};
+use crate::grammar::grammar_of;
+use crate::options::{ClapOption, Takes, read_options};
+use crate::values::read_number;
+use clap::ArgMatches;
+use faults::Memory;
+use std::alloc::Global;
+
+/// The options of `reduce`.
+static OPTIONS: [ClapOption; 11] = [
+    ClapOption {
+        name: "input",
+        takes: Takes::Value,
+    },
+    ClapOption {
+        name: "output",
+        takes: Takes::Value,
+    },
+    ClapOption {
+        name: "script",
+        takes: Takes::Value,
+    },
+    ClapOption {
+        name: "grammar",
+        takes: Takes::Value,
+    },
+    ClapOption {
+        name: "mode",
+        takes: Takes::Value,
+    },
+    ClapOption {
+        name: "start",
+        takes: Takes::Value,
+    },
+    ClapOption {
+        name: "jobs",
+        takes: Takes::Value,
+    },
+    ClapOption {
+        name: "journal",
+        takes: Takes::Value,
+    },
+    ClapOption {
+        name: "work",
+        takes: Takes::Value,
+    },
+    ClapOption {
+        name: "keep",
+        takes: Takes::Several,
+    },
+    ClapOption {
+        name: "squeeze",
+        takes: Takes::Nothing,
+    },
+];
+
+/// The folder of the candidates, where none is named.
+const WORK_FOLDER: &str = "perses-work";
+/// The most workers.
+const MOST_JOBS: u32 = 1;
+/// The most keep texts of a command line.
+const MOST_KEEPS: usize = 8;
+
+/// What the words after `reduce` ask for. None where they are no options of it.
+pub(crate) fn read_reduce<'a>(
+    alloc: Global,
+    words: &'a [String],
+) -> Result<Option<ReduceLine<'a>>, Memory>
+    ensures { IfOk result (λ line. option_map reduce_read line ≡ reduce_line (map string_bytes words.entry.now)) }
+{
+    let Some(matches) = read_options(alloc, "reduce", &OPTIONS, words)? else {
+        return Ok(None);
+    };
+    line_of(alloc, &matches)
+}
+
+/// What the options that were found ask for. None where one is missing, or a value is none that the
+/// option takes.
+fn line_of<'a>(alloc: Global, matches: &ArgMatches<'a>) -> Result<Option<ReduceLine<'a>>, Memory>
+    ensures { (uses : List Use) → HasFound reduce_table uses matches.now
+        → IfOk result (λ line. option_map reduce_read line ≡ option_and_then reduce_of (where_fits reduce_table (Some uses))) }
+{
+    match keeps_of(alloc, matches)? {
+        None => Ok(None),
+        Some(keeps) => Ok(line_with(matches, keeps)),
+    }
+}
+
+/// What the options that were found ask for, with these keep texts. None as for `line_of`.
+fn line_with<'a>(matches: &ArgMatches<'a>, keeps: Vec<&'a str>) -> Option<ReduceLine<'a>>
+    ensures { (uses : List Use) → HasFound reduce_table uses matches.now
+        → option_map reduce_read result ≡ line_found uses (Some (map (λ keep. keep.now) keeps.entry.items)) }
+{
+    let files = files_of(matches)?;
+    let mode = mode_of(matches)?;
+    let jobs = jobs_of(matches)?;
+    Some(ReduceLine {
+        mode,
+        input: files.input,
+        output: files.output,
+        script: files.script,
+        journal: matches.get_str("journal"),
+        work: matches.get_str("work").unwrap_or(WORK_FOLDER),
+        jobs,
+        keeps,
+    })
+}
+
+/// The files that must be named.
+#[derive(Clone, Copy, Debug)]
+struct Files<'a> {
+    input: &'a str,
+    output: &'a str,
+    script: &'a str,
+}
+
+/// The files that must be named, where they are.
+fn files_of<'a>(matches: &ArgMatches<'a>) -> Option<Files<'a>>
+    ensures { (uses : List Use) → HasFound reduce_table uses matches.now → MatchOption result
+        (files_given uses ≡ false)
+        (λ files. (files_given uses ≡ true) × (files.input.now ≡ text_of (codes "input") uses) × (files.output.now ≡ text_of (codes "output") uses) × (files.script.now ≡ text_of (codes "script") uses)) }
+{
+    let input = matches.get_str("input")?;
+    let output = matches.get_str("output")?;
+    let script = matches.get_str("script")?;
+    Some(Files {
+        input,
+        output,
+        script,
+    })
+}
+
+/// The mode, with what belongs to it.
+fn mode_of<'a>(matches: &ArgMatches<'a>) -> Option<ModeLine<'a>>
+    ensures { (uses : List Use) → HasFound reduce_table uses matches.now → option_map mode_of result ≡ mode_found uses }
+{
+    let mode = matches.get_str("mode").unwrap_or("perses");
+    if mode == "lines" {
+        lines_of(matches)
+    } else {
+        let mode = tree_mode_of(mode)?;
+        trees_of(matches, mode)
+    }
+}
+
+/// Mode `lines`, where nothing is said of a grammar.
+fn lines_of<'a>(matches: &ArgMatches<'a>) -> Option<ModeLine<'a>>
+    ensures { (uses : List Use) → HasFound reduce_table uses matches.now → option_map mode_of result ≡ lines_found uses }
+{
+    if says_grammar(matches) {
+        None
+    } else {
+        Some(ModeLine::Lines)
+    }
+}
+
+/// Whether something is said of a grammar.
+fn says_grammar(matches: &ArgMatches<'_>) -> bool
+    ensures { (uses : List Use) → HasFound reduce_table uses matches.now
+        → result ≡ (is_given (codes "grammar") uses || (is_given (codes "start") uses || is_given (codes "squeeze") uses)) }
+{
+    matches.contains_id("grammar") || matches.contains_id("start") || matches.get_flag("squeeze")
+}
+
+/// A reduction by a grammar, where there is one.
+fn trees_of<'a>(matches: &ArgMatches<'a>, mode: TreeMode) -> Option<ModeLine<'a>>
+    ensures { (uses : List Use) → HasFound reduce_table uses matches.now → option_map mode_of result ≡ grammar_found mode uses }
+{
+    let grammar = grammar_of(matches)?;
+    Some(ModeLine::ByGrammar(GrammarLine {
+        grammar,
+        mode,
+        squeeze: matches.get_flag("squeeze"),
+    }))
+}
+
+/// The mode of this name.
+pub(crate) fn tree_mode_of(name: &str) -> Option<TreeMode>
+    ensures { MatchOption result
+        (takes_value (Values.one_of tree_modes) name.now ≡ false)
+        (λ mode. (takes_value (Values.one_of tree_modes) name.now ≡ true) × (mode ≡ tree_mode_named name.now)) }
+{
+    if name == "perses" {
+        Some(TreeMode::Perses)
+    } else if name == "hdd" {
+        Some(TreeMode::Hdd)
+    } else {
+        None
+    }
+}
+
+/// How many workers there are.
+fn jobs_of(matches: &ArgMatches<'_>) -> Option<u32>
+    ensures { (uses : List Use) → HasFound reduce_table uses matches.now → result ≡ jobs_found uses }
+{
+    match matches.get_str("jobs") {
+        None => Some(1),
+        Some(jobs) => read_number(jobs, 1, MOST_JOBS),
+    }
+}
+
+/// The keep texts, where there are not too many.
+fn keeps_of<'a>(alloc: Global, matches: &ArgMatches<'a>) -> Result<Option<Vec<&'a str>>, Memory>
+    ensures { (uses : List Use) → HasFound reduce_table uses matches.now
+        → IfOk result (λ keeps. option_map (λ texts. map (λ text. text.now) texts.items) keeps ≡ keeps_found uses) }
+{
+    match matches.get_strs("keep") {
+        None => Ok(Some(Vec::new(alloc))),
+        Some(keeps) if keeps.len() > MOST_KEEPS => Ok(None),
+        Some(keeps) => Ok(Some(Vec::from_slice(alloc, keeps)?)),
+    }
+}
+
+/// The path of the journal: the one that is named, or the output's followed by `.journal`.
+pub fn journal_name(alloc: Global, line: &ReduceLine<'_>) -> Result<String, Memory>
+    ensures { IfOk result (λ name. string_bytes name ≡ journal_of line.now) }
+{
+    let name = match line.journal {
+        Some(name) => String::from_str(alloc, name)?,
+        None => format!(in alloc; "{}.journal", line.output)?,
+    };
+    Ok(name)
+}
