@@ -1,0 +1,4 @@
+pub mod Alike
+pub mod CaseTrees
+pub mod OneSummary
+pub mod RuleRuns

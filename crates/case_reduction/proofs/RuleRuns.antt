@@ -1,0 +1,91 @@
+-- A run of a program over the rule ends with its summary, or out of memory.
+use Rattle.std.proofs.Common.{arith, ◌≡◌, ◌∙◌, ◌≤◌, inl, inr, ℕ, List, [], ◌∷◌, ◌++◌, Result, Ok, Err, refl, sym, ap, subst}
+use Rattle.std.specs.Prelude.{IfOk}
+use Rattle.std.proofs.lemmas.Result.{IfOk-weaker}
+use Rattle.std.specs.List.{AllByRecursion}
+use Rattle.std.proofs.lemmas.List.Elements.{recursion_from_All}
+use Rattle.faults.specs.Count.{Rose}
+use Rattle.script_gate.specs.declared.gate.Verdict.TheVariants.{Yes, No}
+use Rattle.script_gate.specs.Rule.{rule_verdict}
+use Rattle.verdict_table.specs.declared.record.Record.{Record}
+use Rattle.verdict_table.specs.TableState.{verdict_in}
+use Rattle.reduction_rounds.specs.Laws.{AgreeingMapsReduceAlike}
+use Rattle.reduce_journal.specs.History.{History, records_of}
+use Rattle.reduce_journal.specs.declared.counts.Counts.{Counts}
+use Rattle.tree_mode.specs.Input.{TreeInput}
+use Rattle.tree_rounds.specs.WalkMode.{walk_mode}
+use Rattle.tree_visits.specs.VisitRounds.{visit_round}
+use Rattle.level_walks.specs.LevelRounds.{level_round}
+use Rattle.gated_run.specs.Records.{FirstIs}
+use Rattle.gated_run.specs.declared.fault.RunFault.{RunFault}
+use Rattle.gated_run.specs.declared.ran.Reduced.{Reduced}
+use Rattle.gated_run.specs.declared.fault.RunFault.TheVariants as run
+use Rattle.problem_run.specs.declared.problem.GrammarMode.{GrammarMode}
+use Rattle.problem_run.specs.declared.problem.GrammarMode.TheVariants.{Hdd, Perses}
+use Rattle.problem_run.specs.Problem.{IsReductionOf, Problem, counts_of, round_of, start_of}
+use Rattle.problem_run.specs.Ends.{ProblemEnds, ReducesFrom, RunFails}
+use Rattle.problem_run.specs.Read.{IsReadAs}
+use Rattle.problem_run.specs.declared.problem.ReadProblem.{ReadProblem}
+use Rattle.case_language.specs.Laws.{CasesGetYes}
+use Rattle.case_reduction.specs.Lines.{first_lines}
+use Rattle.case_reduction.specs.Summary.{IsCaseProblem, IsSummary}
+use Rattle.case_reduction.proofs.Alike.{BySaid, by_rule, over_each}
+use Rattle.case_reduction.proofs.CaseTrees.{begins_with_case}
+
+-- a count that stays at zero didn't rise
+never_rose : Rose 0 0 → ⊥
+never_rose (inl less) = omega (arith, less)
+never_rose (inr full) = omega (arith, full)
+
+-- the rule doesn't refuse a text that it says yes to
+not_refused : (records : List Record) → AllByRecursion (λ (r : Record). r.verdict ≡ rule_verdict 23121 r.text) records → (start : List ℕ) → rule_verdict 23121 start ≡ Yes → FirstIs start No records → ⊥
+not_refused [] by start is first = first
+not_refused (r ∷ records) by start is first =
+    let no : No ≡ Yes = sym first.1 ∙ by.0 ∙ ap (rule_verdict 23121) first.0 ∙ is in
+    cc
+
+-- both modes: reductions over maps that agree are equal
+pub alike_in : (mode : GrammarMode) → ((input : TreeInput) → AgreeingMapsReduceAlike (walk_mode visit_round input)) → ((input : TreeInput) → AgreeingMapsReduceAlike (walk_mode level_round input))
+    → (input : TreeInput) → AgreeingMapsReduceAlike (walk_mode (round_of mode) input)
+alike_in Perses visits levels input = visits input
+alike_in Hdd visits levels input = levels input
+
+module _ (mode : GrammarMode) (number size : ℕ) (problem : Problem) (of : IsCaseProblem mode number size problem) (history : History) (by : BySaid (records_of history)) where
+  -- it fails only where memory runs out
+  pub only_memory : CasesGetYes → 1 ≤ size → (fault : RunFault) → RunFails [] problem history 0 0 0 0 fault → fault ≡ run.Memory
+  only_memory get_yes some run.NotInteresting why =
+      absurd (not_refused (records_of history) (recursion_from_All _ (records_of history) by) (start_of problem) (ap (rule_verdict 23121) (begins_with_case mode number size problem of) ∙ get_yes number size some) why.0.first)
+  only_memory get_yes some run.Script why = absurd (never_rose why.0)
+  only_memory get_yes some run.Journal why = absurd (never_rose why.1)
+  only_memory get_yes some run.Memory why = refl
+
+  -- the report's first lines and the text are the summary
+  pub is_summary : ((input : TreeInput) → AgreeingMapsReduceAlike (walk_mode (round_of mode) input)) → (text : List ℕ) (counts : Counts) → ReducesFrom [] problem history text counts → IsSummary mode number size (first_lines counts ++ text)
+  is_summary alike text counts came =
+      let records : List Record = records_of history in
+      let reduced : IsReductionOf [] (verdict_in records) (Problem.of_tree mode of.input) text = subst (λ (p : Problem). IsReductionOf [] (verdict_in records) p text) of.is_problem came.reduced in
+      let is_counts : counts ≡ counts_of [] (Problem.of_tree mode of.input) records = came.is_counts ∙ ap (λ (p : Problem). counts_of [] p records) of.is_problem in
+      record {
+        problem = Problem.of_tree mode of.input;
+        of_case = subst (IsCaseProblem mode number size) of.is_problem of;
+        reduces = by_rule mode of.input (alike of.input) records by text reduced;
+        is_summary = over_each mode of.input (alike of.input) records by text counts reduced is_counts;
+      }
+
+-- A run of what was read of the program, without keep texts.
+module _ (mode : GrammarMode) (number size : ℕ) (read : ReadProblem) (of : (problem : Problem) × IsReadAs [] read problem × IsCaseProblem mode number size problem) (keeps : List (List ℕ)) (none : keeps ≡ [])
+    (history : History) (by : BySaid (records_of history)) (outcome : Result Reduced RunFault) (ends : (one : Problem) → IsReadAs keeps read one → ProblemEnds keeps one history 0 0 0 0 outcome) where
+  its_end : ProblemEnds [] of.0 history 0 0 0 0 outcome
+  its_end = subst (λ (k : List (List ℕ)). ProblemEnds k of.0 history 0 0 0 0 outcome) none (ends of.0 (subst (λ (k : List (List ℕ)). IsReadAs k read of.0) (sym none) of.1))
+
+  pub ends_with_summary : ((input : TreeInput) → AgreeingMapsReduceAlike (walk_mode (round_of mode) input)) → (reduced : Reduced) → outcome ≡ Ok reduced → IsSummary mode number size (first_lines reduced.counts ++ reduced.text.items)
+  ends_with_summary alike reduced is =
+      let end = subst (ProblemEnds [] of.0 history 0 0 0 0) is its_end in
+      is_summary mode number size of.0 of.2 history by alike reduced.text.items reduced.counts end.0
+
+  pub ends_in_memory : CasesGetYes → 1 ≤ size → (fault : RunFault) → outcome ≡ Err fault → fault ≡ run.Memory
+  ends_in_memory get_yes some fault is = only_memory mode number size of.0 of.2 history by get_yes some fault (subst (ProblemEnds [] of.0 history 0 0 0 0) is its_end)
+
+-- a text that is answered is this one
+pub answered : {X E : Type 0} (answer : Result X E) (items : X → List ℕ) (text : List ℕ) (P : List ℕ → Type 0) → IfOk answer (λ x. items x ≡ text) → P text → IfOk answer (λ x. P (items x))
+answered answer items text P is holds = IfOk-weaker answer (λ x. items x ≡ text) (λ x. P (items x)) (λ x same. subst P (sym same) holds) is

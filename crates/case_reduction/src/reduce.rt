@@ -1,0 +1,120 @@
+//! The reduction.
+
+ghost use Rattle.std.specs.Prelude.{◌≡◌, ◌≤◌, [], None, IfOk};
+ghost use Rattle.checked_grammar.specs.Answer.{Spells};
+ghost use Rattle.case_maker.specs.Mini.{mini_text};
+ghost use Rattle.tree_mode.specs.Input.{TreeInput};
+ghost use Rattle.tree_rounds.specs.WalkMode.{walk_mode};
+ghost use Rattle.reduction_rounds.specs.Laws.{AgreeingMapsReduceAlike};
+ghost use Rattle.gated_run.specs.declared.fault.RunFault.TheVariants.{Memory as OutOfMemory};
+ghost use Rattle.problem_run.specs.Problem.{Problem};
+ghost use Rattle.problem_run.specs.Read.{IsReadAs, IsReady};
+ghost use Rattle.case_reduction.specs.Summary.{IsCaseProblem, IsSummary};
+
+use crate::summary::summary;
+use case_language::{cases_are_in_language, cases_get_yes, mini_is_spelled};
+use case_maker::{cases_are_short, make_case, mini_grammar};
+use checked_grammar::{GrammarFault, checked_grammar};
+use edge_io::NullSink;
+use faults::Memory;
+use gated_run::{Ran, RunFault};
+use grammar_input::{InputFault, parsed_input};
+use grammar_tree::Checked;
+use keep_guard::{Guard, KeepTexts};
+use level_walks::TreeLevels;
+use problem_run::{GrammarMode, ReadProblem, run_problem};
+use reduction_rounds::agreeing_maps;
+use script_gate::RuleGate;
+use std::alloc::Global;
+use tree_rounds::TreeRound;
+use tree_visits::TreeVisits;
+use tree_walk::TreeWalk;
+
+/// The rule: its two bytes are the letters Q and Z.
+const RULE: u64 = 23_121;
+
+/// The grammar Mini, checked.
+fn mini(alloc: Global) -> Result<Checked, Memory>
+    ensures { IfOk result (Spells mini_text None) }
+{
+    mini_is_spelled();
+    match checked_grammar(alloc, mini_grammar(), None) {
+        Ok(grammar) => Ok(grammar),
+        Err(GrammarFault::Memory) => Err(Memory),
+        // The text spells a well-formed grammar.
+        Err(_) => unreachable!(),
+    }
+}
+
+/// The program, cut into tokens and parsed.
+fn case_problem(
+    alloc: Global,
+    number: u32,
+    size: u32,
+    mode: GrammarMode,
+) -> Result<ReadProblem, Memory>
+    requires least { 1 ≤ size }
+    requires most { size ≤ 1500 }
+    ensures ready { IfOk result IsReady }
+    ensures case { IfOk result (λ read. (problem : Problem) × IsReadAs [] read problem × IsCaseProblem mode number size problem) }
+{
+    cases_are_in_language();
+    cases_are_short();
+    let grammar = mini(alloc)?;
+    let text = make_case(alloc, number, size)?;
+    match parsed_input(alloc, &grammar, &text) {
+        Ok(found) => Ok(ReadProblem::Tree {
+            found,
+            mode,
+            squeeze: false,
+        }),
+        Err(InputFault::Memory) => Err(Memory),
+        // Each program is in the grammar's language.
+        Err(_) => unreachable!(),
+    }
+}
+
+/// Reductions over two maps of verdicts that agree are equal. It does nothing: a caller calls it so that
+/// its proof knows.
+fn reductions_agree<W: TreeWalk + Drop>()
+    ensures { (input : TreeInput) → AgreeingMapsReduceAlike (walk_mode W.round input) }
+{
+    agreeing_maps::<TreeRound<'_, KeepTexts<'_>, W>>();
+}
+
+/// Why a run of a program over the rule has no result: the rule says yes to each program, and neither
+/// it nor the sink ever fails.
+fn memory_of(fault: RunFault) -> Memory
+    requires { fault ≡ OutOfMemory }
+{
+    match fault {
+        RunFault::Memory => Memory,
+        _ => unreachable!(),
+    }
+}
+
+/// The program of this number and size is reduced in this mode, with the letters Q and Z as the rule:
+/// the first four lines of the report, and the text that is left. The time is that of
+/// [`run_problem`].
+pub fn case_summary(
+    alloc: Global,
+    number: u32,
+    size: u32,
+    mode: GrammarMode,
+) -> Result<Vec<u8>, Memory>
+    requires least { 1 ≤ size }
+    requires most { size ≤ 1500 }
+    ensures { IfOk result (λ text. IsSummary mode number size text.items) }
+{
+    cases_get_yes();
+    reductions_agree::<TreeVisits>();
+    reductions_agree::<TreeLevels>();
+    let problem = case_problem(alloc, number, size, mode)?;
+    let guard = Guard::new(KeepTexts::new(alloc));
+    let mut gate = RuleGate::<RULE>::new(alloc, false);
+    let Ran { outcome, .. } = run_problem(alloc, problem, guard, &mut gate, NullSink::new());
+    match outcome {
+        Ok(reduced) => summary(alloc, &reduced),
+        Err(fault) => Err(memory_of(fault)),
+    }
+}
