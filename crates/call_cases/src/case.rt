@@ -2,6 +2,7 @@
 
 use crate::decoded;
 use anyhow::{Result, bail};
+use case_maker::{make_case, mini_grammar};
 use edge_io::{MemFiles, MemSink};
 use script_gate::Said;
 use std::alloc::Global;
@@ -43,7 +44,8 @@ impl Case {
     }
 
     /// Takes a line of a case, by its first word: `case TEXT`, `file NAME TEXT`, `more COUNT TEXT`
-    /// (so many times at the end of the last file), `rule N`, `answers yes no fail ..`,
+    /// (so many times at the end of the last file), `mini NAME` (a file with the grammar of the generated
+    /// programs), `generated NAME NUMBER SIZE` (a file with such a program), `rule N`, `answers yes no fail ..`,
     /// `failing_calls N ..`, `failing_puts N ..`, `failing_events N ..` (puts into the journal) and
     /// `capacity N`.
     pub fn set(&mut self, alloc: Global, key: &str, text: &str) -> Result<()> {
@@ -51,6 +53,8 @@ impl Case {
             "case" => *self = Case::new(alloc),
             "file" => self.add_file(alloc, text)?,
             "more" => self.lengthen(alloc, text)?,
+            "mini" => self.add_bytes(alloc, text, Vec::from_slice(alloc, mini_grammar())?)?,
+            "generated" => self.generate(alloc, text)?,
             "rule" => self.rule = text.parse::<u64>()?,
             "answers" => self.answers = answers_in(alloc, text)?,
             "failing_calls" => self.failing_calls = numbers_in(alloc, text)?,
@@ -64,9 +68,25 @@ impl Case {
 
     fn add_file(&mut self, alloc: Global, text: &str) -> Result<()> {
         let (name, content) = text.split_once(' ').unwrap_or((text, ""));
+        self.add_bytes(alloc, name, decoded(alloc, content)?)
+    }
+
+    fn add_bytes(&mut self, alloc: Global, name: &str, bytes: Vec<u8>) -> Result<()> {
         let name = String::from_str(alloc, name)?;
-        self.files.push((name, decoded(alloc, content)?))?;
+        self.files.push((name, bytes))?;
         Ok(())
+    }
+
+    /// Adds a generated program, by the file's name, its number and its size.
+    fn generate(&mut self, alloc: Global, text: &str) -> Result<()> {
+        let (name, numbers) = text.split_once(' ').unwrap_or((text, ""));
+        let (number, size) = numbers.split_once(' ').unwrap_or((numbers, ""));
+        let size = size.parse::<u32>()?;
+        if size < 1 || size > 1500 {
+            bail!("no program has the size {size}");
+        }
+        let program = make_case(alloc, number.parse::<u32>()?, size)?;
+        self.add_bytes(alloc, name, program)
     }
 
     fn lengthen(&mut self, alloc: Global, text: &str) -> Result<()> {

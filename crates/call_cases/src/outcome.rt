@@ -59,6 +59,7 @@ pub fn outcome_of(alloc: Global, case: &Case, words: &[String]) -> Result<String
         0 => by_rule::<0>(alloc, case, words),
         98 => by_rule::<98>(alloc, case, words),
         255 => by_rule::<255>(alloc, case, words),
+        23121 => by_rule::<23121>(alloc, case, words),
         rule => bail!("no gate has the rule {rule}"),
     }
 }

@@ -163,3 +163,29 @@ ends 9 'perses: keep text 2 is missing' reduce --mode lines --input mixed --outp
 test "$(cat kept)" = old
 test ! -e perses-work
 test ! -e kept.journal
+
+# Options in another order and form: the folder of the candidates is made with the one that it is in,
+# and the journal has the name that is given.
+rm -r perses-work 2> /dev/null || true
+ends 0 "$(report '2 -> 1' '4 -> 2' 2 4 3)" reduce --work=deep/down --script=has-a --journal log \
+    --output=reordered --input lines --mode=lines --jobs=1
+test "$(cat reordered)" = a
+test -e deep/down/1/lines
+test ! -e perses-work
+test ! -e reordered.journal
+printf 'perses-journal 1\nR y 4\na\nb\n\nC 1\nR n 0\n\nC 2\nR y 2\na\n\nC 3\nC 2\n' | cmp - log
+# Help is no command, and no words are no command line.
+for word in --help -h --version -V; do
+    ends 2 'perses: bad command line' "$word"
+done
+ends 2 'perses: bad command line'
+
+# A generated program is reduced in memory, in both modes: no file, folder or journal comes of it.
+ls > before
+summary() {
+    printf 'units: 14788 -> %s\nbytes: 39139 -> %s\nrounds: 2\nused: 28\nint f107( ) {\nQ = %s;\n}' "$@"
+}
+ends 0 "$(summary 10 26 '"Z" ')" selftest --number 0 --size 300
+ends 0 "$(summary 19 38 'f0(a, (b + "Z"))')" selftest --mode=hdd --size=300 --number=0
+puts_nothing selftest --number 0 --size 1
+ls | cmp - before

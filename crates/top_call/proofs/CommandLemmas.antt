@@ -1,5 +1,5 @@
 -- How the steps of `reduce` end it.
-use Rattle.std.proofs.Common.{◌≡◌, inl, inr, ℕ, List, [], ◌∷◌, ◌++◌, Option, Some, None, option_map, codes, true, refl, sym, ap, ◌∙◌, subst, ⊎_elim, Result, Ok, Err, MatchResult}
+use Rattle.std.proofs.Common.{◌≡◌, inl, inr, ℕ, List, [], ◌∷◌, ◌++◌, Option, Some, None, option_map, true, refl, sym, ap, ◌∙◌, subst, ⊎_elim, Result, Ok, Err, MatchResult}
 use Rattle.std.proofs.lemmas.List.Elements.{All-nil}
 use Rattle.std.specs.Global.{Vec}
 use Rattle.std.specs.List.{IsDistinct}
@@ -27,7 +27,7 @@ use Rattle.gated_run.specs.RunEnds.{NoneFailed}
 use Rattle.script_gate.specs.declared.gate.GateFault.{GateFault}
 use Rattle.script_gate.specs.declared.gate.GateFault.TheVariants.{Failed as GateFailed, Memory as GateMemory}
 use Rattle.top_call.specs.Reduce.{Inside, IsHistoryOfInput, ProblemAccepted, ProblemFails, ProblemRead, RecordsAreSound, ReduceEnds, ReduceFails, ReduceReports, ReduceSteps, Reduces, ReducesTo, beside, opening_for}
-use Rattle.top_call.specs.Journal.{JournalSoFar, JournalUntouched, JournalWhole, journal_name}
+use Rattle.top_call.specs.Journal.{JournalSoFar, JournalUntouched, JournalWhole}
 use Rattle.top_call.specs.Read.{AcceptFails, KeepRefused}
 use Rattle.top_call.specs.Run.{JournalAfter, StartLeaves, Unopened, WriteEnds}
 use Rattle.top_call.specs.Reduce.ReduceEnds.{done, memory, unread, unwritten, faulty, no_token, unparsed, uninteresting, unput, keep_missing, too_long, script, journal}
@@ -36,14 +36,15 @@ use Rattle.gated_run.specs.declared.fault.RunFault.TheVariants as run
 use Rattle.gated_run.specs.Records.{AreAnswers}
 use Rattle.one_worker.specs.RunHistory.{with_all_asked}
 use Rattle.top_call.specs.Status.{EndsRefused, EndsWithAnswer, refusal_of_run}
-use Rattle.top_call.specs.Words.{ReduceOptions, file_name_of}
+use Rattle.command_words.specs.Commands.{ReduceOptions}
+use Rattle.top_call.specs.Words.{file_name_of}
 use Rattle.top_call.specs.World.{FilesKept, IsQuiet, PutsLine, NotReached, SeenFiles, SeenGate, SeenJournal, SeenOut}
 use Rattle.top_call.proofs.MustEndLemmas.{must_end}
 use Rattle.top_call.proofs.ProblemLemmas.{accepted_as, any_problem, problem_map}
 
 -- a gate that was opened and then asked for these texts
 opened_and_asked : (options : ReduceOptions) (texts : List (List ℕ)) (log : Option Log) →
-    option_map (with_all_asked texts) (option_map (with_opening (codes "perses-work") options.script (file_name_of options.input) 1) log)
+    option_map (with_all_asked texts) (option_map (with_opening options.work options.script (file_name_of options.input) 1) log)
     ≡ option_map (λ (l : Log). record l { asked = l.asked ++ texts; opening = Some (opening_for options 1) }) log
 opened_and_asked options texts None = refl
 opened_and_asked options texts (Some log) = refl
@@ -60,7 +61,7 @@ module _ (options : ReduceOptions) (may_say : List ℕ → Verdict → Type 0) w
 
   -- the gate was opened, and then asked for the records' texts
   pub asked_sound : (records : List Record) (gate opened gate' : SeenGate) (before after : SeenJournal) → AreAnswers may_say opened.shown gate'.shown records
-      → opened.shown ≡ option_map (with_opening (codes "perses-work") options.script (file_name_of options.input) 1) gate.shown
+      → opened.shown ≡ option_map (with_opening options.work options.script (file_name_of options.input) 1) gate.shown
       → RecordsAreSound options may_say records gate gate' before after
   asked_sound records gate opened gate' before after answers is_open = record {
     distinct = answers.distinct;
@@ -85,7 +86,7 @@ module _ (options : ReduceOptions) (may_say : List ℕ → Verdict → Type 0) (
   gate_quiet : IsQuiet old.gate new.gate
   gate_quiet = ap (λ (g : SeenGate). g.faults) same_gate
 
-  so_far : JournalSoFar (journal_name options) history old.journal new.journal
+  so_far : JournalSoFar options.journal history old.journal new.journal
   so_far = JournalSoFar.untouched (record { no_history = none; same = same_journal })
 
   problem_at : (refusal : Refusal) → ProblemFails options old.files new.files refusal → ReduceFails options history old new refusal
@@ -130,7 +131,7 @@ module _ (options : ReduceOptions) (may_say : List ℕ → Verdict → Type 0) (
   Fails fault problem = RunFails options.keeps problem history old.gate.faults new.gate.faults old.journal.faults new.journal.faults fault
 
   -- without a reduction
-  fault_at : (fault : RunFault) → FilesKept old.files new.files → ProblemAccepted options old.files (Fails fault) → JournalAfter {A = Reduced} (journal_name options) history old.journal new.journal (Err fault) → ReduceFails options history old new (refusal_of_run fault)
+  fault_at : (fault : RunFault) → FilesKept old.files new.files → ProblemAccepted options old.files (Fails fault) → JournalAfter {A = Reduced} options.journal history old.journal new.journal (Err fault) → ReduceFails options history old new (refusal_of_run fault)
   fault_at run.Memory kept why ends = λ out out' put. memory kept (some (Fails run.Memory) why).1.1.0 ends put
   fault_at run.NotInteresting kept why ends = λ out out' put.
       uninteresting (but (Fails run.NotInteresting) (λ problem. IsRefused options.keeps problem history) (λ problem is. is.0) why) kept (some (Fails run.NotInteresting) why).1.1.1.0 ends put
@@ -144,12 +145,12 @@ module _ (options : ReduceOptions) (may_say : List ℕ → Verdict → Type 0) (
       script (some (Fails run.Script) why).1.1.0 (some (Fails run.Script) why).1.1.1 (but (Fails run.Script) (λ problem. IsUnfinished options.keeps problem history) (λ problem is. is.2) why) kept (inr (untouched, same_log)) put
   unopened_at GateMemory kept why untouched same_log = λ out out' put. memory kept (some (Fails run.Memory) why).1.1.0 (JournalSoFar.untouched untouched) put
 
-  stops_run : (fault : RunFault) → FilesKept old.files new.files → ProblemAccepted options old.files (Fails fault) → JournalAfter {A = Reduced} (journal_name options) history old.journal new.journal (Err fault)
+  stops_run : (fault : RunFault) → FilesKept old.files new.files → ProblemAccepted options old.files (Fails fault) → JournalAfter {A = Reduced} options.journal history old.journal new.journal (Err fault)
       → ReduceSteps options may_say history old new (Err (refusal_of_run fault))
   stops_run fault kept why ends = record { sound = sound; of_input = history_of options old.files history are; ends = fault_at fault kept why ends }
 
   -- with one, whose result was written or wasn't
-  module _ (read : SeenFiles) (reduced : Reduced) (same : SameFiles old.files.shown read.shown) (quiet : IsQuiet old.files read) (gate_quiet : IsQuiet old.gate new.gate) (whole : JournalWhole (journal_name options) history old.journal new.journal)
+  module _ (read : SeenFiles) (reduced : Reduced) (same : SameFiles old.files.shown read.shown) (quiet : IsQuiet old.files read) (gate_quiet : IsQuiet old.gate new.gate) (whole : JournalWhole options.journal history old.journal new.journal)
       (reduces : ProblemAccepted options old.files (λ problem. ReducesFrom options.keeps problem history reduced.text.items reduced.counts)) where
     reduces_to : (report : List ℕ) → report ≡ report_text reduced.counts → ReducesTo options old.files history reduced.text.items report
     reduces_to report is = but (λ problem. ReducesFrom options.keeps problem history reduced.text.items reduced.counts) (λ problem. (counts : Counts) × ReducesFrom options.keeps problem history reduced.text.items counts × (report ≡ report_text counts))
@@ -175,7 +176,7 @@ module _ (options : ReduceOptions) (may_say : List ℕ → Verdict → Type 0) (
   -- whatever the run came to
   pub stops_ran : (read : SeenFiles) → SameFiles old.files.shown read.shown → IsQuiet old.files read → (ran : Result Reduced RunFault)
       → ProblemAccepted options old.files (λ problem. ProblemEnds options.keeps problem history old.gate.faults new.gate.faults old.journal.faults new.journal.faults ran)
-      → JournalAfter (journal_name options) history old.journal new.journal ran → (outcome : Result (Vec ℕ) Refusal) → WriteEnds options.output read new.files ran outcome → ReduceSteps options may_say history old new outcome
+      → JournalAfter options.journal history old.journal new.journal ran → (outcome : Result (Vec ℕ) Refusal) → WriteEnds options.output read new.files ran outcome → ReduceSteps options may_say history old new outcome
   stops_ran read same quiet (Ok reduced) ends whole outcome writes =
       let P : Problem → Type 0 = λ problem. ReducesFrom options.keeps problem history reduced.text.items reduced.counts × NoneFailed old.gate.faults new.gate.faults old.journal.faults new.journal.faults in
       stops_write read reduced same quiet (some P ends).1.1.1.0 whole (but P (λ problem. ReducesFrom options.keeps problem history reduced.text.items reduced.counts) (λ problem is. is.0) ends) outcome writes
@@ -204,7 +205,7 @@ pub steps_end : (options : ReduceOptions) (may_say : List ℕ → Verdict → Ty
     → RecordsAreSound options may_say (records_of history) old.gate new.gate old.journal new.journal
     → ((one : Problem) → IsReadAs keeps problem one → AreOf keeps one history)
     → ((one : Problem) → IsReadAs keeps problem one → ProblemEnds keeps one history old.gate.faults new.gate.faults old.journal.faults new.journal.faults ran)
-    → StartLeaves (journal_name options) history old.gate.shown new.gate.shown old.journal new.journal ran → WriteEnds options.output read new.files ran outcome
+    → StartLeaves options.journal history old.gate.shown new.gate.shown old.journal new.journal ran → WriteEnds options.output read new.files ran outcome
     → ReduceSteps options may_say history old new outcome
 steps_end options may_say history old new read problem keeps ran outcome was these holds same quiet sound are ends written writes =
     let all : holds_all options.keeps (start_read problem) ≡ true = subst (λ (k : List (List ℕ)). holds_all k (start_read problem) ≡ true) these holds in

@@ -7,6 +7,7 @@ pub mod ReadLemmas
 pub mod StartLemmas
 pub mod MustEndLemmas
 pub mod CommandLemmas
+pub mod SelftestLemmas
+pub mod CallLemmas
 pub mod ReduceByStatusLemmas
 pub mod NormalByStatusLemmas
-pub mod WordLemmas

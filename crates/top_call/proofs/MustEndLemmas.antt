@@ -18,10 +18,10 @@ use Rattle.reduce_journal.specs.History.{History, records_of}
 use Rattle.reduce_journal.specs.Report.{report_text}
 use Rattle.reduce_journal.specs.declared.counts.Counts.{Counts}
 use Rattle.top_call.specs.Journal.{JournalSoFar}
-use Rattle.top_call.specs.Reduce.{InputHas, IsShownFault, IsShownProblem, ProblemAccepted, ProblemRead, ReduceEnds, ReduceMustEnd, ReducesTo, grammar_in}
+use Rattle.top_call.specs.Reduce.{InputHas, IsShownFault, IsShownProblem, ProblemAccepted, ProblemRead, ReduceEnds, ReduceMustEnd, ReducesTo}
 use Rattle.top_call.specs.Reduce.ReduceEnds.{done, memory, unread, unwritten, unput, faulty, no_token, unparsed, uninteresting, keep_missing, too_long, script, journal}
 use Rattle.top_call.specs.Status.{IsUncut}
-use Rattle.top_call.specs.Words.{GrammarOptions, ModeOptions, ReduceOptions}
+use Rattle.command_words.specs.Commands.{GrammarOptions, ModeOptions, NamedGrammar, ReduceOptions}
 use Rattle.top_call.specs.World.{IsQuiet, IsShownWithin, SeenGate, SeenJournal, WasRead, World, grammar_limit, input_limit}
 use Rattle.top_call.proofs.FileLemmas.{longer_not_missing, not_longer, read_not_missing, read_not_over}
 use Rattle.top_call.proofs.ProblemLemmas.{any_problem, fault_is, fault_not_shown, faulty_not_shown, grammar_not_faulty, grammar_not_missing, grammar_not_over, input_read, long_grammar, long_grammar_not_shown, long_input_no_fault, long_input_not_shown, no_fault, no_grammar, not_faulty, parse_caused, reached_grammar, read_and_shown, shown_not_faulty, shown_not_long, uncut_caused}
@@ -36,9 +36,14 @@ none_no records none first_no = subst FirstIsNo none first_no
 none_missing : (keeps : List (List ℕ)) (start : List ℕ) (index : ℕ) → holds_all keeps start ≡ true → first_missing keeps start ≡ Some index → ⊥
 none_missing keeps start index holds missing = absurd (cc (sym missing ∙ (holds_all_or_misses keeps start).0 holds))
 
+-- the grammar of a mode, and of one without a grammar this one
+abbrev named_in : NamedGrammar → ModeOptions → NamedGrammar
+named_in other ModeOptions.lines = other
+named_in other (ModeOptions.by_grammar trees) = trees.grammar
+
 -- a mode has one grammar
 same_grammar : {mode : ModeOptions} {one other : GrammarOptions} → mode ≡ ModeOptions.by_grammar one → mode ≡ ModeOptions.by_grammar other → one.grammar ≡ other.grammar
-same_grammar is is' = ap grammar_in (sym is ∙ is')
+same_grammar {one = one} is is' = ap (named_in one.grammar) (sym is ∙ is')
 
 module _ (faults : InputFaultOnce) (languages : InputsAreInLanguage) (options : ReduceOptions) (history : History) (old new : World) where
   abbrev records : List Record
@@ -69,15 +74,15 @@ module _ (faults : InputFaultOnce) (languages : InputsAreInLanguage) (options : 
   so_far_quiet name (JournalSoFar.empty it) = it.quiet
 
   module _ {trees g : GrammarOptions} (mode : options.mode ≡ ModeOptions.by_grammar trees) (is : options.mode ≡ ModeOptions.by_grammar g) where
-    fault_at : {text : List ℕ} → WasRead grammar_limit (old.files.shown trees.grammar) (λ bytes. IsFaultIn bytes text) → WasRead grammar_limit (old.files.shown g.grammar) (λ bytes. IsFaultIn bytes text)
-    fault_at {text = text} read = subst (λ name. WasRead grammar_limit (old.files.shown name) (λ bytes. IsFaultIn bytes text)) (same_grammar mode is) read
+    fault_at : {text : List ℕ} → WasRead grammar_limit (old.files.shown trees.grammar.path) (λ bytes. IsFaultIn trees.grammar bytes text) → WasRead grammar_limit (old.files.shown g.grammar.path) (λ bytes. IsFaultIn g.grammar bytes text)
+    fault_at {text = text} read = subst (λ (named : NamedGrammar). WasRead grammar_limit (old.files.shown named.path) (λ bytes. IsFaultIn named bytes text)) (same_grammar mode is) read
 
-    faulty_no_fault : {text : List ℕ} → WasRead grammar_limit (old.files.shown trees.grammar) (λ bytes. IsFaultIn bytes text) → (Q : InputFault → Type 0) → IsShownFault g.grammar options old.files Q → ⊥
+    faulty_no_fault : {text : List ℕ} → WasRead grammar_limit (old.files.shown trees.grammar.path) (λ bytes. IsFaultIn trees.grammar bytes text) → (Q : InputFault → Type 0) → IsShownFault g.grammar options old.files Q → ⊥
     faulty_no_fault {text = text} read Q shown =
-        no_grammar (old.files.shown g.grammar) text (fault_at read) (λ c. IsShownWithin input_limit (old.files.shown options.input) (λ bytes. (fault : InputFault) × IsInputFault c bytes fault × Q fault)) shown
+        no_grammar g.grammar (old.files.shown g.grammar.path) text (fault_at read) (λ c. IsShownWithin input_limit (old.files.shown options.input) (λ bytes. (fault : InputFault) × IsInputFault c bytes fault × Q fault)) shown
 
     has_at : (fault : InputFault) → InputHas trees.grammar (λ c bytes. IsInputFault c bytes fault) options old.files → InputHas g.grammar (λ c bytes. IsInputFault c bytes fault) options old.files
-    has_at fault read = subst (λ name. InputHas name (λ c bytes. IsInputFault c bytes fault) options old.files) (same_grammar mode is) read
+    has_at fault read = subst (λ (named : NamedGrammar). InputHas named (λ c bytes. IsInputFault c bytes fault) options old.files) (same_grammar mode is) read
 
   -- which status it has to be
   pub must_end : {status : ℕ} → ReduceEnds options history old new status → ReduceMustEnd options records old new status
@@ -192,7 +197,7 @@ module _ (faults : InputFaultOnce) (languages : InputsAreInLanguage) (options : 
   must_end (no_token trees fault mode uncut read files untouched put) = record {
     grammar_over = λ g is over. absurd (read_not_over (has_at mode is fault read).1 over);
     grammar_missing = λ g is none. absurd (read_not_missing (has_at mode is fault read).1 none);
-    faulty = λ g is shown. absurd (not_faulty _ _ (has_at mode is fault read).1 shown);
+    faulty = λ g is shown. absurd (not_faulty _ _ _ (has_at mode is fault read).1 shown);
     input_over = λ fine over. absurd (read_not_over read.2 over);
     input_missing = λ fine none. absurd (read_not_missing read.2 none);
     over = λ over. absurd (read_not_over read.2 over);
@@ -210,7 +215,7 @@ module _ (faults : InputFaultOnce) (languages : InputsAreInLanguage) (options : 
   must_end (unparsed trees mode read files untouched put) = record {
     grammar_over = λ g is over. absurd (read_not_over (has_at mode is input_fault.NoParse read).1 over);
     grammar_missing = λ g is none. absurd (read_not_missing (has_at mode is input_fault.NoParse read).1 none);
-    faulty = λ g is shown. absurd (not_faulty _ _ (has_at mode is input_fault.NoParse read).1 shown);
+    faulty = λ g is shown. absurd (not_faulty _ _ _ (has_at mode is input_fault.NoParse read).1 shown);
     input_over = λ fine over. absurd (read_not_over read.2 over);
     input_missing = λ fine none. absurd (read_not_missing read.2 none);
     over = λ over. absurd (read_not_over read.2 over);
@@ -264,7 +269,7 @@ module _ (faults : InputFaultOnce) (languages : InputsAreInLanguage) (options : 
   must_end (too_long named.Input reached longer files untouched put) = record {
     grammar_over = λ g is over. refl;
     grammar_missing = λ g is none. absurd (read_not_missing (reached_grammar options old.files g is reached).1 none);
-    faulty = λ g is shown. absurd (not_faulty _ _ (reached_grammar options old.files g is reached).1 shown);
+    faulty = λ g is shown. absurd (not_faulty _ _ _ (reached_grammar options old.files g is reached).1 shown);
     input_over = λ fine over. refl;
     input_missing = λ fine none. absurd (longer_not_missing input_limit _ longer none);
     over = λ over. refl;

@@ -9,13 +9,14 @@ use Rattle.top_call.specs.Normal.{IsNormalOf, NormalEnds}
 use Rattle.top_call.specs.Normal.NormalEnds.{done, memory, unread, unput, faulty, too_long}
 use Rattle.top_call.specs.NormalByStatus.{NormalByStatus}
 use Rattle.top_call.specs.Status.{IsOneOf, PutsRefusal, fault_line}
+use Rattle.command_words.specs.Commands.{NamedGrammar}
 use Rattle.top_call.specs.World.{PutsPrefix, CallFailed, Puts, PutsLine, SeenFiles, SeenOut, WasRead, grammar_limit}
 
-module _ (grammar : List ℕ) (files files' : SeenFiles) (out out' : SeenOut) where
+module _ (grammar : NamedGrammar) (files files' : SeenFiles) (out out' : SeenOut) where
   abbrev Ends : ℕ → Type 0
   Ends status = NormalEnds grammar files files' out out' status
 
-  is_done : {status : ℕ} → Ends status → status ≡ 0 → (text : List ℕ) × WasRead grammar_limit (files.shown grammar) (λ bytes. IsNormalOf bytes text) × Puts text out out'
+  is_done : {status : ℕ} → Ends status → status ≡ 0 → (text : List ℕ) × WasRead grammar_limit (files.shown grammar.path) (λ bytes. IsNormalOf grammar bytes text) × Puts text out out'
   is_done (done text read quiet put) is = (text, read, put)
   is_done _ is = absurd (cc is)
 
@@ -23,15 +24,15 @@ module _ (grammar : List ℕ) (files files' : SeenFiles) (out out' : SeenOut) wh
   is_unread (unread failed put) is = failed
   is_unread _ is = absurd (cc is)
 
-  is_unput : {status : ℕ} → Ends status → status ≡ 4 → (text : List ℕ) × WasRead grammar_limit (files.shown grammar) (λ bytes. IsNormalOf bytes text) × PutsPrefix text out out'
+  is_unput : {status : ℕ} → Ends status → status ≡ 4 → (text : List ℕ) × WasRead grammar_limit (files.shown grammar.path) (λ bytes. IsNormalOf grammar bytes text) × PutsPrefix text out out'
   is_unput (unput text read quiet put) is = (text, read, put)
   is_unput _ is = absurd (cc is)
 
-  is_faulty : {status : ℕ} → Ends status → status ≡ 5 → (text : List ℕ) × WasRead grammar_limit (files.shown grammar) (λ bytes. IsFaultIn bytes text) × PutsLine (fault_line text) out out'
+  is_faulty : {status : ℕ} → Ends status → status ≡ 5 → (text : List ℕ) × WasRead grammar_limit (files.shown grammar.path) (λ bytes. IsFaultIn grammar bytes text) × PutsLine (fault_line text) out out'
   is_faulty (faulty text read quiet put) is = (text, read, put)
   is_faulty _ is = absurd (cc is)
 
-  is_too_long : {status : ℕ} → Ends status → status ≡ 10 → IsLonger grammar_limit (files.shown grammar)
+  is_too_long : {status : ℕ} → Ends status → status ≡ 10 → IsLonger grammar_limit (files.shown grammar.path)
   is_too_long (too_long longer quiet put) is = longer
   is_too_long _ is = absurd (cc is)
 

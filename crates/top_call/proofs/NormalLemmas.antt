@@ -1,5 +1,5 @@
 -- Why there is no normal form, and how `normal` ends.
-use Rattle.std.proofs.Common.{inl, inr, ℕ, List, None, Option, refl, sym, subst, Result, Ok, Err, IfOk, IfErr, OnOk, MatchResult, Vec}
+use Rattle.std.proofs.Common.{inl, inr, ℕ, List, Option, refl, sym, subst, Result, Ok, Err, IfOk, IfErr, OnOk, MatchResult, Vec}
 use Rattle.edge_io.specs.Files.{FileContent, SameFiles}
 use Rattle.grammar_tree.specs.Written.{CheckedGrammar}
 use Rattle.checked_grammar.specs.Answer.{Spells}
@@ -9,14 +9,16 @@ use Rattle.top_call.specs.Grammar.{GrammarFails, GrammarRead, IsGrammarText}
 use Rattle.top_call.specs.Normal.{IsNormalOf, NormalEnds, NormalFails, NormalMustEnd, PrintsNormal}
 use Rattle.top_call.specs.Normal.NormalEnds.{done, memory, unread as cannot_read, unput, faulty, too_long}
 use Rattle.top_call.specs.Status.{EndsRefused, EndsWithAnswer}
+use Rattle.command_words.specs.Commands.{NamedGrammar}
+use Rattle.top_call.specs.Words.{start_name}
 use Rattle.top_call.specs.World.{IsQuiet, PutsLine, SeenFiles, SeenOut, WasRead, grammar_limit}
 use Rattle.top_call.proofs.FileLemmas.{not_both, not_longer, read_not_over, longer_not_missing, read_not_missing}
 
 -- the form of a grammar that was read
-pub is_formed : (content : Option FileContent) (grammar : CheckedGrammar) (text : List ℕ) → GrammarRead content grammar → ((bytes : List ℕ) → Spells bytes None grammar → IsNormalOf bytes text) → WasRead grammar_limit content (λ bytes. IsNormalOf bytes text)
-is_formed content grammar text read formed = record { bytes = read.bytes; read = read.read; within = read.within; holds = formed read.bytes read.holds.spelled }
+pub is_formed : (named : NamedGrammar) (content : Option FileContent) (grammar : CheckedGrammar) (text : List ℕ) → GrammarRead named content grammar → ((bytes : List ℕ) → Spells bytes (start_name named) grammar → IsNormalOf named bytes text) → WasRead grammar_limit content (λ bytes. IsNormalOf named bytes text)
+is_formed named content grammar text read formed = record { bytes = read.bytes; read = read.read; within = read.within; holds = formed read.bytes read.holds.spelled }
 
-module _ (grammar : List ℕ) (files files' : SeenFiles) where
+module _ (grammar : NamedGrammar) (files files' : SeenFiles) where
   -- what gives no grammar ends the command
   pub fails_grammar : (refusal : Refusal) → GrammarFails grammar files files' refusal → NormalFails grammar files files' refusal
   fails_grammar Memory why = λ out out' put. memory why put
@@ -31,14 +33,14 @@ module _ (grammar : List ℕ) (files files' : SeenFiles) where
 
   module _ (out out' : SeenOut) where
     -- the end of the command
-    pub normal_ends : {A : Type 0} (outcome : Result (Vec ℕ A) Refusal) (status : ℕ) → IfOk outcome (λ form. WasRead grammar_limit (files.shown grammar) (λ bytes. IsNormalOf bytes form.items)) → OnOk outcome (IsQuiet files files')
+    pub normal_ends : {A : Type 0} (outcome : Result (Vec ℕ A) Refusal) (status : ℕ) → IfOk outcome (λ form. WasRead grammar_limit (files.shown grammar.path) (λ bytes. IsNormalOf grammar bytes form.items)) → OnOk outcome (IsQuiet files files')
         → IfErr outcome (λ refusal. NormalFails grammar files files' refusal)
         → MatchResult outcome (λ answer. EndsWithAnswer answer.items out out' status) (λ refusal. EndsRefused out out' status refusal) → NormalEnds grammar files files' out out' status
     normal_ends (Ok form) status formed quiet fails (inl (is, put)) = subst (NormalEnds grammar files files' out out') (sym is) (done form.items formed quiet put)
     normal_ends (Ok form) status formed quiet fails (inr (is, put)) = subst (NormalEnds grammar files files' out out') (sym is) (unput form.items formed quiet put)
     normal_ends (Err refusal) status formed quiet fails end = subst (NormalEnds grammar files files' out out') (sym end.status_is) (fails out out' end.line)
 
-    is_grammar : (bytes text : List ℕ) → IsNormalOf bytes text → IsGrammarText bytes
+    is_grammar : (bytes text : List ℕ) → IsNormalOf grammar bytes text → IsGrammarText grammar bytes
     is_grammar bytes text is = record { grammar = is.grammar.grammar; start = is.grammar.start; spelled = is.spelled.text; first = is.spelled.start; well_formed = is.spelled.checked.well_formed }
 
     -- which status it has to be
@@ -46,7 +48,7 @@ module _ (grammar : List ℕ) (files files' : SeenFiles) where
     normal_must_end (done text is quiet put) = record {
       over = λ over. absurd (read_not_over is over);
       missing = λ none. absurd (read_not_missing is none);
-      faulty = λ shown. absurd (not_both grammar_limit (λ bytes. ¬ IsGrammarText bytes) IsGrammarText (λ bytes no yes. no yes) _ shown is.bytes is.read (is_grammar is.bytes text is.holds));
+      faulty = λ shown. absurd (not_both grammar_limit (λ bytes. ¬ IsGrammarText grammar bytes) (IsGrammarText grammar) (λ bytes no yes. no yes) _ shown is.bytes is.read (is_grammar is.bytes text is.holds));
       complete = λ shown files_fine out_fine. inl refl;
       files_failed = λ failed. absurd (failed quiet);
       out_failed = λ failed. absurd (failed put.quiet);
@@ -70,7 +72,7 @@ module _ (grammar : List ℕ) (files files' : SeenFiles) where
     normal_must_end (unput text is quiet put) = record {
       over = λ over. absurd (read_not_over is over);
       missing = λ none. absurd (read_not_missing is none);
-      faulty = λ shown. absurd (not_both grammar_limit (λ bytes. ¬ IsGrammarText bytes) IsGrammarText (λ bytes no yes. no yes) _ shown is.bytes is.read (is_grammar is.bytes text is.holds));
+      faulty = λ shown. absurd (not_both grammar_limit (λ bytes. ¬ IsGrammarText grammar bytes) (IsGrammarText grammar) (λ bytes no yes. no yes) _ shown is.bytes is.read (is_grammar is.bytes text is.holds));
       complete = λ shown files_fine out_fine. absurd (out_fine put.failed);
       files_failed = λ failed. absurd (failed quiet);
       out_failed = λ failed is. cc is;
@@ -79,7 +81,7 @@ module _ (grammar : List ℕ) (files files' : SeenFiles) where
       over = λ over. absurd (read_not_over is over);
       missing = λ none. absurd (read_not_missing is none);
       faulty = λ shown. inl refl;
-      complete = λ shown files_fine out_fine. absurd (not_both grammar_limit IsGrammarText (λ bytes. ¬ IsGrammarText bytes) (λ bytes yes no. no yes) _ shown is.bytes is.read is.holds.refused);
+      complete = λ shown files_fine out_fine. absurd (not_both grammar_limit (IsGrammarText grammar) (λ bytes. ¬ IsGrammarText grammar bytes) (λ bytes yes no. no yes) _ shown is.bytes is.read is.holds.refused);
       files_failed = λ failed. absurd (failed quiet);
       out_failed = λ failed is. cc is;
     }

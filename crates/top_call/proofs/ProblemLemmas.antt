@@ -19,7 +19,8 @@ use Rattle.problem_run.specs.Problem.{Problem, start_of}
 use Rattle.problem_run.specs.Read.{IsReadAs, start_read}
 use Rattle.top_call.specs.Reduce.{InputHas, IsReached, IsShownFault, IsShownGrammar, IsTreeProblem, ProblemAccepted, ProblemRead, ReadIn, ShownIn, grammar_in}
 use Rattle.top_call.specs.Status.{IsUncut}
-use Rattle.top_call.specs.Words.{GrammarOptions, ModeOptions, ReduceOptions}
+use Rattle.command_words.specs.Commands.{GrammarOptions, ModeOptions, NamedGrammar, ReduceOptions}
+use Rattle.top_call.specs.Words.{grammar_mode, start_name}
 use Rattle.top_call.specs.World.{IsOver, IsShownWithin, SeenFiles, WasRead, grammar_limit, input_limit}
 use Rattle.top_call.proofs.FileLemmas.{not_longer, read_not_missing, read_not_over}
 
@@ -30,28 +31,28 @@ shown_holds limit P (Some None) shown bytes here = absurd shown
 shown_holds limit P (Some (Some held)) shown bytes here = subst P (same_Some held bytes here) shown.1
 
 -- bytes that spell a grammar are the text of one
-pub is_text_of : (bytes : List ℕ) (c : CheckedGrammar) → Spells bytes None c → IsGrammarText bytes
-is_text_of bytes c is = record { grammar = c.grammar; start = c.start; spelled = is.text; first = is.start; well_formed = is.checked.well_formed }
+pub is_text_of : (named : NamedGrammar) (bytes : List ℕ) (c : CheckedGrammar) → Spells bytes (start_name named) c → IsGrammarText named bytes
+is_text_of named bytes c is = record { grammar = c.grammar; start = c.start; spelled = is.text; first = is.start; well_formed = is.checked.well_formed }
 
 -- a grammar that was read isn't a faulty text
-pub not_faulty : (content : Option FileContent) (c : CheckedGrammar) → GrammarRead content c → IsShownWithin grammar_limit content (λ bytes. ¬ IsGrammarText bytes) → ⊥
-not_faulty content c read shown = shown_holds grammar_limit (λ bytes. ¬ IsGrammarText bytes) content shown read.bytes read.read (is_text_of read.bytes c read.holds.spelled)
+pub not_faulty : (named : NamedGrammar) (content : Option FileContent) (c : CheckedGrammar) → GrammarRead named content c → IsShownWithin grammar_limit content (λ bytes. ¬ IsGrammarText named bytes) → ⊥
+not_faulty named content c read shown = shown_holds grammar_limit (λ bytes. ¬ IsGrammarText named bytes) content shown read.bytes read.read (is_text_of named read.bytes c read.holds.spelled)
 
 -- and it is the one that is visible
-pub of_grammar : (content : Option FileContent) (c : CheckedGrammar) → GrammarRead content c → (S : CheckedGrammar → Type 0)
-    → IsShownWithin grammar_limit content (λ bytes. (other : CheckedGrammar) × Spells bytes None other × S other) → S c
-of_grammar content c read S shown =
-    let it : (other : CheckedGrammar) × Spells read.bytes None other × S other =
-    shown_holds grammar_limit (λ bytes. (other : CheckedGrammar) × Spells bytes None other × S other) content shown read.bytes read.read in
+pub of_grammar : (named : NamedGrammar) (content : Option FileContent) (c : CheckedGrammar) → GrammarRead named content c → (S : CheckedGrammar → Type 0)
+    → IsShownWithin grammar_limit content (λ bytes. (other : CheckedGrammar) × Spells bytes (start_name named) other × S other) → S c
+of_grammar named content c read S shown =
+    let it : (other : CheckedGrammar) × Spells read.bytes (start_name named) other × S other =
+    shown_holds grammar_limit (λ bytes. (other : CheckedGrammar) × Spells bytes (start_name named) other × S other) content shown read.bytes read.read in
     subst S (sym (read.holds.only it.0 it.1)) it.2
 
 -- where a fault was read, no grammar is visible
-pub no_grammar : (content : Option FileContent) (text : List ℕ) → WasRead grammar_limit content (λ bytes. IsFaultIn bytes text) → (S : CheckedGrammar → Type 0)
-    → IsShownWithin grammar_limit content (λ bytes. (other : CheckedGrammar) × Spells bytes None other × S other) → ⊥
-no_grammar content text read S shown =
-    let it : (other : CheckedGrammar) × Spells read.bytes None other × S other =
-    shown_holds grammar_limit (λ bytes. (other : CheckedGrammar) × Spells bytes None other × S other) content shown read.bytes read.read in
-    read.holds.refused (is_text_of read.bytes it.0 it.1)
+pub no_grammar : (named : NamedGrammar) (content : Option FileContent) (text : List ℕ) → WasRead grammar_limit content (λ bytes. IsFaultIn named bytes text) → (S : CheckedGrammar → Type 0)
+    → IsShownWithin grammar_limit content (λ bytes. (other : CheckedGrammar) × Spells bytes (start_name named) other × S other) → ⊥
+no_grammar named content text read S shown =
+    let it : (other : CheckedGrammar) × Spells read.bytes (start_name named) other × S other =
+    shown_holds grammar_limit (λ bytes. (other : CheckedGrammar) × Spells bytes (start_name named) other × S other) content shown read.bytes read.read in
+    read.holds.refused (is_text_of named read.bytes it.0 it.1)
 
 -- faults that bytes have aren't out of memory
 pub uncut_caused : (fault : InputFault) → IsUncut fault → fault ≢ input_fault.Memory
@@ -87,7 +88,7 @@ module _ (options : ReduceOptions) (files : SeenFiles) where
 
   any_in : (mode : ModeOptions) (P : Problem → Type 0) → ReadIn mode options files P → (problem : Problem) × P problem
   any_in ModeOptions.lines P read = (Problem.of_lines read.bytes, read.holds)
-  any_in (ModeOptions.by_grammar trees) P read = (Problem.of_tree trees.mode read.2.holds.0, read.2.holds.2)
+  any_in (ModeOptions.by_grammar trees) P read = (Problem.of_tree (grammar_mode trees.mode) read.2.holds.0, read.2.holds.2)
 
   -- where there is a problem with a fact, some problem has it
   pub any_problem : (P : Problem → Type 0) → ProblemRead options files P → (problem : Problem) × P problem
@@ -106,9 +107,9 @@ module _ (options : ReduceOptions) (files : SeenFiles) where
   both_in (ModeOptions.by_grammar trees) P S read shown =
       let content = files.shown options.input in
       let visible : IsShownWithin input_limit content (λ text. InLanguage read.0 text × S text) =
-      of_grammar (files.shown trees.grammar) read.0 read.1 (λ c. IsShownWithin input_limit content (λ text. InLanguage c text × S text)) shown in
+      of_grammar trees.grammar (files.shown trees.grammar.path) read.0 read.1 (λ c. IsShownWithin input_limit content (λ text. InLanguage c text × S text)) shown in
       let it : InLanguage read.0 read.2.bytes × S read.2.bytes = shown_holds input_limit (λ text. InLanguage read.0 text × S text) content visible read.2.bytes read.2.read in
-      (Problem.of_tree trees.mode read.2.holds.0, read.2.holds.2, subst S (sym read.2.holds.1.of_text.same_text) it.1)
+      (Problem.of_tree (grammar_mode trees.mode) read.2.holds.0, read.2.holds.2, subst S (sym read.2.holds.1.of_text.same_text) it.1)
 
   -- what is visible of a problem holds of the one that was read
   pub read_and_shown : (P : Problem → Type 0) (S : List ℕ → Type 0) → ProblemRead options files P → ShownIn options.mode options files S → (problem : Problem) × P problem × S (start_of problem)
@@ -119,23 +120,23 @@ module _ (options : ReduceOptions) (files : SeenFiles) where
     grammar_read : ReadIn (ModeOptions.by_grammar trees) options files P
     grammar_read = subst (λ m. ReadIn m options files P) mode read
 
-    pub grammar_not_over : IsOver grammar_limit (files.shown trees.grammar) → ⊥
+    pub grammar_not_over : IsOver grammar_limit (files.shown trees.grammar.path) → ⊥
     grammar_not_over over = read_not_over grammar_read.1 over
 
-    pub grammar_not_missing : files.shown trees.grammar ≡ Some None → ⊥
+    pub grammar_not_missing : files.shown trees.grammar.path ≡ Some None → ⊥
     grammar_not_missing none = read_not_missing grammar_read.1 none
 
-    pub grammar_not_faulty : IsShownWithin grammar_limit (files.shown trees.grammar) (λ bytes. ¬ IsGrammarText bytes) → ⊥
-    grammar_not_faulty shown = not_faulty (files.shown trees.grammar) grammar_read.0 grammar_read.1 shown
+    pub grammar_not_faulty : IsShownWithin grammar_limit (files.shown trees.grammar.path) (λ bytes. ¬ IsGrammarText trees.grammar bytes) → ⊥
+    grammar_not_faulty shown = not_faulty trees.grammar (files.shown trees.grammar.path) grammar_read.0 grammar_read.1 shown
 
     -- and the input has no fault
     pub no_fault : InputFaultOnce → InputsAreInLanguage → (Q : InputFault → Type 0) → ((fault : InputFault) → Q fault → fault ≢ input_fault.Memory) → IsShownFault trees.grammar options files Q → ⊥
     no_fault faults languages Q caused shown =
         let content = files.shown options.input in
         let c : CheckedGrammar = grammar_read.0 in
-        let input : WasRead input_limit content (λ text. (input : TreeInput) × IsTreeProblem options.keeps c trees.squeeze text input × P (Problem.of_tree trees.mode input)) = grammar_read.2 in
+        let input : WasRead input_limit content (λ text. (input : TreeInput) × IsTreeProblem options.keeps c trees.squeeze text input × P (Problem.of_tree (grammar_mode trees.mode) input)) = grammar_read.2 in
         let visible : IsShownWithin input_limit content (λ text. (fault : InputFault) × IsInputFault c text fault × Q fault) =
-        of_grammar (files.shown trees.grammar) c grammar_read.1 (λ c. IsShownWithin input_limit content (λ text. (fault : InputFault) × IsInputFault c text fault × Q fault)) shown in
+        of_grammar trees.grammar (files.shown trees.grammar.path) c grammar_read.1 (λ c. IsShownWithin input_limit content (λ text. (fault : InputFault) × IsInputFault c text fault × Q fault)) shown in
         let it : (fault : InputFault) × IsInputFault c input.bytes fault × Q fault =
         shown_holds input_limit (λ text. (fault : InputFault) × IsInputFault c text fault × Q fault) content visible input.bytes input.read in
         (faults c input.bytes).refused it.0 (caused it.0 it.2) it.1 (languages c input.bytes input.holds.0 input.holds.1.of_text)
@@ -150,7 +151,7 @@ module _ (options : ReduceOptions) (files : SeenFiles) where
     unfolding content
     fault_in mode S is shown =
         let visible : IsShownWithin input_limit content (λ text. InLanguage read.0 text × S text) =
-        of_grammar (files.shown trees.grammar) read.0 read.1 (λ c. IsShownWithin input_limit content (λ text. InLanguage c text × S text)) (subst (λ m. ShownIn m options files S) is shown) in
+        of_grammar trees.grammar (files.shown trees.grammar.path) read.0 read.1 (λ c. IsShownWithin input_limit content (λ text. InLanguage c text × S text)) (subst (λ m. ShownIn m options files S) is shown) in
         let it : InLanguage read.0 read.2.bytes × S read.2.bytes = shown_holds input_limit (λ text. InLanguage read.0 text × S text) content visible read.2.bytes read.2.read in
         (faults read.0 read.2.bytes).refused fault caused read.2.holds it.0
 
@@ -162,59 +163,59 @@ module _ (options : ReduceOptions) (files : SeenFiles) where
     unfolding content
     fault_is Q not_memory shown =
         let visible : IsShownWithin input_limit content (λ text. (fault : InputFault) × IsInputFault read.0 text fault × Q fault) =
-        of_grammar (files.shown trees.grammar) read.0 read.1 (λ c. IsShownWithin input_limit content (λ text. (fault : InputFault) × IsInputFault c text fault × Q fault)) shown in
+        of_grammar trees.grammar (files.shown trees.grammar.path) read.0 read.1 (λ c. IsShownWithin input_limit content (λ text. (fault : InputFault) × IsInputFault c text fault × Q fault)) shown in
         let it : (fault : InputFault) × IsInputFault read.0 read.2.bytes fault × Q fault =
         shown_holds input_limit (λ text. (fault : InputFault) × IsInputFault read.0 text fault × Q fault) content visible read.2.bytes read.2.read in
         subst Q (sym ((faults read.0 read.2.bytes).once fault it.0 caused (not_memory it.0 it.2) read.2.holds it.1)) it.2
 
   -- a grammar that has a fault isn't that of a problem
   pub faulty_not_shown : (trees : GrammarOptions) (text : List ℕ) (S : List ℕ → Type 0) → options.mode ≡ ModeOptions.by_grammar trees
-      → WasRead grammar_limit (files.shown trees.grammar) (λ bytes. IsFaultIn bytes text) → ShownIn options.mode options files S → ⊥
+      → WasRead grammar_limit (files.shown trees.grammar.path) (λ bytes. IsFaultIn trees.grammar bytes text) → ShownIn options.mode options files S → ⊥
   faulty_not_shown trees text S is read shown =
-      no_grammar (files.shown trees.grammar) text read (λ c. IsShownWithin input_limit (files.shown options.input) (λ bytes. InLanguage c bytes × S bytes)) (subst (λ m. ShownIn m options files S) is shown)
+      no_grammar trees.grammar (files.shown trees.grammar.path) text read (λ c. IsShownWithin input_limit (files.shown options.input) (λ bytes. InLanguage c bytes × S bytes)) (subst (λ m. ShownIn m options files S) is shown)
 
   -- neither is one, nor an input, that is too long
   long_input_in : (mode : ModeOptions) (S : List ℕ → Type 0) → IsReached mode named.Input files → IsLonger input_limit (files.shown options.input) → ShownIn mode options files S → ⊥
   long_input_in ModeOptions.lines S reached longer shown = not_longer input_limit S (files.shown options.input) shown longer
   long_input_in (ModeOptions.by_grammar trees) S reached longer shown =
       not_longer input_limit (λ text. InLanguage reached.0 text × S text) (files.shown options.input)
-      (of_grammar (files.shown trees.grammar) reached.0 reached.1 (λ c. IsShownWithin input_limit (files.shown options.input) (λ text. InLanguage c text × S text)) shown) longer
+      (of_grammar trees.grammar (files.shown trees.grammar.path) reached.0 reached.1 (λ c. IsShownWithin input_limit (files.shown options.input) (λ text. InLanguage c text × S text)) shown) longer
 
   pub long_input_not_shown : (S : List ℕ → Type 0) → IsReached options.mode named.Input files → IsLonger input_limit (files.shown options.input) → ShownIn options.mode options files S → ⊥
   long_input_not_shown S reached longer shown = long_input_in options.mode S reached longer shown
 
   long_grammar_in : (mode : ModeOptions) (S : List ℕ → Type 0) → IsReached mode named.Grammar files → IsLonger grammar_limit (files.shown (grammar_in mode)) → ShownIn mode options files S → ⊥
   long_grammar_in ModeOptions.lines S reached longer shown = reached
-  long_grammar_in (ModeOptions.by_grammar trees) S reached longer shown = not_longer grammar_limit _ (files.shown trees.grammar) shown longer
+  long_grammar_in (ModeOptions.by_grammar trees) S reached longer shown = not_longer grammar_limit _ (files.shown trees.grammar.path) shown longer
 
   pub long_grammar_not_shown : (S : List ℕ → Type 0) → IsReached options.mode named.Grammar files → IsLonger grammar_limit (files.shown (grammar_in options.mode)) → ShownIn options.mode options files S → ⊥
   long_grammar_not_shown S reached longer shown = long_grammar_in options.mode S reached longer shown
 
   -- a grammar that is visible and well-formed has no fault
   pub shown_not_faulty : {trees : GrammarOptions} {text : List ℕ} → options.mode ≡ ModeOptions.by_grammar trees
-      → WasRead grammar_limit (files.shown trees.grammar) (λ bytes. IsFaultIn bytes text) → IsShownGrammar options.mode files → ⊥
+      → WasRead grammar_limit (files.shown trees.grammar.path) (λ bytes. IsFaultIn trees.grammar bytes text) → IsShownGrammar options.mode files → ⊥
   shown_not_faulty {trees = trees} is read shown =
-      read.holds.refused (shown_holds grammar_limit IsGrammarText (files.shown trees.grammar) (subst (λ m. IsShownGrammar m files) is shown) read.bytes read.read)
+      read.holds.refused (shown_holds grammar_limit (IsGrammarText trees.grammar) (files.shown trees.grammar.path) (subst (λ m. IsShownGrammar m files) is shown) read.bytes read.read)
 
   -- and isn't too long
   shown_short_in : (mode : ModeOptions) → IsShownGrammar mode files → IsReached mode named.Grammar files → IsLonger grammar_limit (files.shown (grammar_in mode)) → ⊥
   shown_short_in ModeOptions.lines shown reached longer = reached
-  shown_short_in (ModeOptions.by_grammar trees) shown reached longer = not_longer grammar_limit IsGrammarText (files.shown trees.grammar) shown longer
+  shown_short_in (ModeOptions.by_grammar trees) shown reached longer = not_longer grammar_limit (IsGrammarText trees.grammar) (files.shown trees.grammar.path) shown longer
 
   pub shown_not_long : IsShownGrammar options.mode files → IsReached options.mode named.Grammar files → IsLonger grammar_limit (files.shown (grammar_in options.mode)) → ⊥
   shown_not_long shown reached longer = shown_short_in options.mode shown reached longer
 
   module _ (trees : GrammarOptions) (mode : options.mode ≡ ModeOptions.by_grammar trees) where
     -- the grammar of an input that is reached was read
-    pub reached_grammar : IsReached options.mode named.Input files → (c : CheckedGrammar) × GrammarRead (files.shown trees.grammar) c
+    pub reached_grammar : IsReached options.mode named.Input files → (c : CheckedGrammar) × GrammarRead trees.grammar (files.shown trees.grammar.path) c
     reached_grammar reached = subst (λ m. IsReached m named.Input files) mode reached
 
-    pub long_grammar : IsLonger grammar_limit (files.shown (grammar_in options.mode)) → IsLonger grammar_limit (files.shown trees.grammar)
+    pub long_grammar : IsLonger grammar_limit (files.shown (grammar_in options.mode)) → IsLonger grammar_limit (files.shown trees.grammar.path)
     long_grammar longer = subst (λ m. IsLonger grammar_limit (files.shown (grammar_in m))) mode longer
 
     -- an input that is too long has no fault that is named
     pub long_input_no_fault : (Q : InputFault → Type 0) → IsReached options.mode named.Input files → IsLonger input_limit (files.shown options.input) → IsShownFault trees.grammar options files Q → ⊥
     long_input_no_fault Q reached longer shown =
-        let it : (c : CheckedGrammar) × GrammarRead (files.shown trees.grammar) c = reached_grammar reached in
+        let it : (c : CheckedGrammar) × GrammarRead trees.grammar (files.shown trees.grammar.path) c = reached_grammar reached in
         not_longer input_limit (λ text. (fault : InputFault) × IsInputFault it.0 text fault × Q fault) (files.shown options.input)
-        (of_grammar (files.shown trees.grammar) it.0 it.1 (λ c. IsShownWithin input_limit (files.shown options.input) (λ text. (fault : InputFault) × IsInputFault c text fault × Q fault)) shown) longer
+        (of_grammar trees.grammar (files.shown trees.grammar.path) it.0 it.1 (λ c. IsShownWithin input_limit (files.shown options.input) (λ text. (fault : InputFault) × IsInputFault c text fault × Q fault)) shown) longer

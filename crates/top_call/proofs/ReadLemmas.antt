@@ -19,7 +19,8 @@ use Rattle.top_call.specs.Grammar.{GrammarRead}
 use Rattle.top_call.specs.Read.{GivesTree, KeepRefused, TreeFails}
 use Rattle.top_call.specs.Reduce.{IsReached, KeepFails, ProblemFails, ProblemRead, ReadIn, grammar_in}
 use Rattle.top_call.specs.Status.{IsInputRefusal}
-use Rattle.top_call.specs.Words.{GrammarOptions, ModeOptions, ReduceOptions}
+use Rattle.command_words.specs.Commands.{GrammarOptions, ModeOptions, NamedGrammar, ReduceOptions}
+use Rattle.top_call.specs.Words.{grammar_mode}
 use Rattle.top_call.specs.World.{IsQuiet, SeenFiles, grammar_limit, input_limit}
 use Rattle.top_call.proofs.ProblemLemmas.{problem_map, start_as}
 
@@ -28,9 +29,9 @@ within_more : {n : ℕ} → n ≤ input_limit → n ≤ 1048576
 within_more within = omega (arith, within)
 
 -- what was found in the text that was read
-pub gives_tree : (grammar input : Option FileContent) (c : CheckedGrammar) (bytes : List ℕ) (found : ParsedInput) → GrammarRead grammar c → Holds bytes input → length bytes ≤ input_limit → IsChecked c → IsParsed c bytes found
-    → MakesInputOf c bytes found → GivesTree grammar input found
-gives_tree grammar input c bytes found spelled here within is parsed makes = record {
+pub gives_tree : (named : NamedGrammar) (grammar input : Option FileContent) (c : CheckedGrammar) (bytes : List ℕ) (found : ParsedInput) → GrammarRead named grammar c → Holds bytes input → length bytes ≤ input_limit → IsChecked c → IsParsed c bytes found
+    → MakesInputOf c bytes found → GivesTree named grammar input found
+gives_tree named grammar input c bytes found spelled here within is parsed makes = record {
   checked = c;
   spelled = spelled;
   read = record { bytes = bytes; read = here; within = within; holds = makes };
@@ -43,7 +44,7 @@ gives_tree grammar input c bytes found spelled here within is parsed makes = rec
       };
 }
 
-module _ (grammar input : List ℕ) (files files' : SeenFiles) (c : CheckedGrammar) (spelled : GrammarRead (files.shown grammar) c) where
+module _ (grammar : NamedGrammar) (input : List ℕ) (files files' : SeenFiles) (c : CheckedGrammar) (spelled : GrammarRead grammar (files.shown grammar.path) c) where
   -- the input has a fault
   pub fault_fails : (bytes : List ℕ) → Holds bytes (files.shown input) → length bytes ≤ input_limit → IsQuiet files files' → (fault : InputFault) → IsInputFault c bytes fault → (refusal : Refusal)
       → IsInputRefusal fault refusal → TreeFails grammar input files files' refusal
@@ -54,11 +55,11 @@ module _ (grammar input : List ℕ) (files files' : SeenFiles) (c : CheckedGramm
 
 module _ (options : ReduceOptions) (files : SeenFiles) (trees : GrammarOptions) (mode : options.mode ≡ ModeOptions.by_grammar trees) where
   -- the tree of the input
-  pub tree_read : (found : ParsedInput) → GivesTree (files.shown trees.grammar) (files.shown options.input) found → ProblemRead options files (IsReadAs options.keeps (read.Tree found trees.mode trees.squeeze))
+  pub tree_read : (found : ParsedInput) → GivesTree trees.grammar (files.shown trees.grammar.path) (files.shown options.input) found → ProblemRead options files (IsReadAs options.keeps (read.Tree found (grammar_mode trees.mode) trees.squeeze))
   tree_read found gives =
       let formed = gives.ready.checked.well_formed in
       let admits = keeps_admit options.keeps in
-      subst (λ (m : ModeOptions). ReadIn m options files (IsReadAs options.keeps (read.Tree found trees.mode trees.squeeze))) (sym mode) (
+      subst (λ (m : ModeOptions). ReadIn m options files (IsReadAs options.keeps (read.Tree found (grammar_mode trees.mode) trees.squeeze))) (sym mode) (
         gives.checked,
         gives.spelled,
         record {

@@ -15,12 +15,12 @@ use Rattle.gated_run.specs.Records.{OnlyNo}
 use Rattle.top_call.specs.Grammar.{IsFaultIn}
 use Rattle.problem_run.specs.Problem.{start_of}
 use Rattle.problem_run.specs.Ends.{IsRefused}
-use Rattle.top_call.specs.Journal.{JournalBroken, JournalSoFar, JournalWhole, journal_name}
+use Rattle.top_call.specs.Journal.{JournalBroken, JournalSoFar, JournalWhole}
 use Rattle.top_call.proofs.ProblemLemmas.{any_problem}
 use Rattle.top_call.specs.Reduce.{InputHas, IsReached, IsReduced, ProblemRead, ReduceEnds, ReducesTo, ScriptLeaves, limit_of, name_of}
 use Rattle.top_call.specs.Reduce.ReduceEnds.{done, memory, unread, unwritten, unput, faulty, no_token, unparsed, uninteresting, keep_missing, too_long, script, journal}
 use Rattle.top_call.specs.ReduceByStatus.{PutsItsLine, ReduceByStatus}
-use Rattle.top_call.specs.Words.{GrammarOptions, ModeOptions, ReduceOptions}
+use Rattle.command_words.specs.Commands.{GrammarOptions, ModeOptions, ReduceOptions}
 use Rattle.top_call.specs.Status.{IsOneOf, IsUncut, fault_line, keep_text}
 use Rattle.top_call.specs.World.{CallFailed, NotReached, Puts, PutsLine, PutsMessage, PutsPrefix, SeenFiles, WasRead, World, grammar_limit}
 
@@ -72,18 +72,18 @@ module _ (options : ReduceOptions) (history : History) (old new : World) where
   is_uninteresting (uninteresting read files gate_quiet kept put) is = (any_problem options old.files (λ problem. (holds_all options.keeps (start_of problem) ≡ true) × IsRefused options.keeps problem history) read).1.1.only
   is_uninteresting _ is = absurd (cc is)
 
-  is_journal : {status : ℕ} → Ends status → status ≡ 12 → CallFailed old.journal new.journal × JournalBroken (journal_name options) history old.journal new.journal
+  is_journal : {status : ℕ} → Ends status → status ≡ 12 → CallFailed old.journal new.journal × JournalBroken options.journal history old.journal new.journal
   is_journal (journal failed read broken gate_quiet files put) is = (failed, broken)
   is_journal _ is = absurd (cc is)
 
-  is_whole : {status : ℕ} → Ends status → IsOneOf (0 ∷ 4 ∷ 8 ∷ []) status → JournalWhole (journal_name options) history old.journal new.journal
+  is_whole : {status : ℕ} → Ends status → IsOneOf (0 ∷ 4 ∷ 8 ∷ []) status → JournalWhole options.journal history old.journal new.journal
   is_whole (done report writes put) is = writes.journal
   is_whole (unput report writes put) is = writes.journal
   is_whole (unwritten failed text report reduces others gate_quiet kept put) is = kept
   is_whole (uninteresting read files gate_quiet kept put) is = kept
   is_whole _ is = absurd (false≢true is)
 
-  is_so_far : {status : ℕ} → Ends status → status ≡ 1 → JournalSoFar (journal_name options) history old.journal new.journal
+  is_so_far : {status : ℕ} → Ends status → status ≡ 1 → JournalSoFar options.journal history old.journal new.journal
   is_so_far (memory files gate_quiet kept put) is = kept
   is_so_far _ is = absurd (cc is)
 
@@ -100,7 +100,7 @@ module _ (options : ReduceOptions) (history : History) (old new : World) where
   is_keep_missing _ is = absurd (cc is)
 
   is_fault : {status : ℕ} → Ends status → status ≡ 5
-      → (trees : GrammarOptions) × (text : List ℕ) × (options.mode ≡ ModeOptions.by_grammar trees) × WasRead grammar_limit (old.files.shown trees.grammar) (λ bytes. IsFaultIn bytes text) × PutsLine (fault_line text) old.out new.out
+      → (trees : GrammarOptions) × (text : List ℕ) × (options.mode ≡ ModeOptions.by_grammar trees) × WasRead grammar_limit (old.files.shown trees.grammar.path) (λ bytes. IsFaultIn trees.grammar bytes text) × PutsLine (fault_line text) old.out new.out
   is_fault (faulty trees text mode read files untouched put) is = (trees, text, mode, read, put)
   is_fault _ is = absurd (cc is)
 

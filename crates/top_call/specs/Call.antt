@@ -3,7 +3,8 @@ use Rattle.std.specs.Prelude.{◌≡◌, ℕ, List, [], Option, Some, None, code
 use Rattle.script_gate.specs.declared.gate.Verdict.{Verdict}
 use Rattle.top_call.specs.Normal.{PrintsNormal}
 use Rattle.top_call.specs.Reduce.{Reduces}
-use Rattle.top_call.specs.Words.{Command, ReduceOptions}
+use Rattle.command_words.specs.Commands.{Command, NamedGrammar, ReduceOptions, SelftestOptions}
+use Rattle.top_call.specs.Selftest.{RunsSelftest}
 use Rattle.top_call.specs.World.{NotReached, PutsMessage, World}
 
 -- the words are no command line: the status is 2, and nothing but its line is put
@@ -13,9 +14,19 @@ pub record EndsUsage (old new : World) (status : ℕ) : Type 0 where
   pub untouched : NotReached [] old new
   pub line : PutsMessage (codes "bad command line") old.out new.out
 
--- What is done, by what the words ask for: one case for each command.
+-- memory ran out before it was known that the words are none: the status is 1, and nothing but its line is put
+pub record EndsUnread (old new : World) (status : ℕ) : Type 0 where
+  pub status_is : status ≡ 1
+  pub files : new.files ≡ old.files
+  pub untouched : NotReached [] old new
+  pub line : PutsMessage (codes "out of memory") old.out new.out
+
+-- What is done, by what the words ask for: one case for each command. Where memory ran out before the words were read, the command ends as it does where memory runs out.
 pub data RunsCommand (may_say : List ℕ → Verdict → Type 0) (old new : World) (status : ℕ) : Option Command → Type 0 where
   usage : EndsUsage old new status → RunsCommand may_say old new status None
+  unread : EndsUnread old new status → RunsCommand may_say old new status None
   reduce : (options : ReduceOptions) → Reduces options may_say old new status → RunsCommand may_say old new status (Some (Command.reduce options))
-  normal : (grammar : List ℕ) → PrintsNormal grammar old.files new.files old.out new.out status → NotReached [] old new
+  normal : (grammar : NamedGrammar) → PrintsNormal grammar old.files new.files old.out new.out status → NotReached [] old new
       → RunsCommand may_say old new status (Some (Command.normal grammar))
+  selftest : (options : SelftestOptions) → RunsSelftest options old.out new.out status → new.files ≡ old.files → NotReached [] old new
+      → RunsCommand may_say old new status (Some (Command.selftest options))

@@ -1,5 +1,5 @@
 -- The grammar in a file: that it was read, and why it wasn't.
-use Rattle.std.specs.Prelude.{◌≡◌, ◌≢◌, ℕ, List, None, Option, Some, string_bytes}
+use Rattle.std.specs.Prelude.{◌≡◌, ◌≢◌, ℕ, List, Option, Some, string_bytes}
 use Rattle.edge_io.specs.Files.{FileContent, IsLonger}
 use Rattle.grammar_tree.specs.Faults.{IsWellFormed, start_of}
 use Rattle.grammar_tree.specs.Written.{CheckedGrammar, WrittenGrammar}
@@ -12,44 +12,46 @@ use Rattle.top_call.specs.declared.status.NamedFile.TheVariants as read
 use Rattle.top_call.specs.declared.status.Refusal.{Refusal}
 use Rattle.top_call.specs.declared.status.Refusal.TheVariants.{Memory, CannotRead, Grammar, TooLong}
 use Rattle.top_call.specs.Status.{fault_line}
+use Rattle.command_words.specs.Commands.{NamedGrammar}
+use Rattle.top_call.specs.Words.{start_name}
 use Rattle.top_call.specs.World.{CallFailed, IsQuiet, SeenFiles, WasRead, grammar_limit}
 
--- The bytes spell a grammar that is well-formed for its first parser rule.
-pub record IsGrammarText (bytes : List ℕ) : Type 0 where
+-- The bytes spell a grammar that is well-formed for the start rule that is named, or else its first parser rule.
+pub record IsGrammarText (named : NamedGrammar) (bytes : List ℕ) : Type 0 where
   pub grammar : WrittenGrammar
   pub start : ℕ
   pub spelled : IsProfile bytes grammar
-  pub first : start_of grammar None ≡ Some start
+  pub first : start_of grammar (start_name named) ≡ Some start
   pub well_formed : IsWellFormed grammar start
 
--- The bytes spell no grammar that is well-formed for its first parser rule, and the text is that of their first fault.
-pub record IsFaultIn (bytes text : List ℕ) : Type 0 where
+-- The bytes spell no such grammar, and the text is that of their first fault.
+pub record IsFaultIn (named : NamedGrammar) (bytes text : List ℕ) : Type 0 where
   pub fault : GrammarFault
   pub caused : fault ≢ grammar_fault.Memory
-  pub first : IsGrammarFault bytes None fault
+  pub first : IsGrammarFault bytes (start_name named) fault
   pub is_text : text ≡ fault_text fault
-  pub refused : ¬ IsGrammarText bytes
+  pub refused : ¬ IsGrammarText named bytes
 
 -- why bytes give no grammar
-abbrev pub IsFaultRefusal : List ℕ → Refusal → Type 0
-IsFaultRefusal bytes Memory = Unit {0}
-IsFaultRefusal bytes (Grammar line) = (text : List ℕ) × IsFaultIn bytes text × (string_bytes line ≡ fault_line text)
-IsFaultRefusal bytes _ = ⊥
+abbrev pub IsFaultRefusal : NamedGrammar → List ℕ → Refusal → Type 0
+IsFaultRefusal named bytes Memory = Unit {0}
+IsFaultRefusal named bytes (Grammar line) = (text : List ℕ) × IsFaultIn named bytes text × (string_bytes line ≡ fault_line text)
+IsFaultRefusal named bytes _ = ⊥
 
--- The bytes spell this grammar, well-formed for its first parser rule, and no other such grammar.
-pub record SpellsTheGrammar (bytes : List ℕ) (grammar : CheckedGrammar) : Type 0 where
-  pub spelled : Spells bytes None grammar
-  pub only : (other : CheckedGrammar) → Spells bytes None other → grammar ≡ other
+-- The bytes spell this grammar, well-formed for that rule, and no other such grammar.
+pub record SpellsTheGrammar (named : NamedGrammar) (bytes : List ℕ) (grammar : CheckedGrammar) : Type 0 where
+  pub spelled : Spells bytes (start_name named) grammar
+  pub only : (other : CheckedGrammar) → Spells bytes (start_name named) other → grammar ≡ other
 
 -- the file was read whole, within the limit, and its bytes spell the grammar
-abbrev pub GrammarRead : Option FileContent → CheckedGrammar → Type 0
-GrammarRead content grammar = WasRead grammar_limit content (λ bytes. SpellsTheGrammar bytes grammar)
+abbrev pub GrammarRead : NamedGrammar → Option FileContent → CheckedGrammar → Type 0
+GrammarRead named content grammar = WasRead grammar_limit content (λ bytes. SpellsTheGrammar named bytes grammar)
 
--- why the file of this name gives no grammar: a call of the files failed, it is longer than the limit, or it was read and has a fault, whose line this is; or out of memory
-abbrev pub GrammarFails : List ℕ → SeenFiles → SeenFiles → Refusal → Type 0
-GrammarFails name files files' Memory = IsQuiet files files'
-GrammarFails name files files' (CannotRead file) = (file ≡ read.Grammar) × CallFailed files files'
-GrammarFails name files files' (TooLong file) = (file ≡ read.Grammar) × IsLonger grammar_limit (files.shown name) × IsQuiet files files'
-GrammarFails name files files' (Grammar line) =
-    (text : List ℕ) × WasRead grammar_limit (files.shown name) (λ bytes. IsFaultIn bytes text) × (string_bytes line ≡ fault_line text) × IsQuiet files files'
-GrammarFails name files files' _ = ⊥
+-- why the file gives no grammar: a call of the files failed, it is longer than the limit, or it was read and has a fault, whose line this is; or out of memory
+abbrev pub GrammarFails : NamedGrammar → SeenFiles → SeenFiles → Refusal → Type 0
+GrammarFails named files files' Memory = IsQuiet files files'
+GrammarFails named files files' (CannotRead file) = (file ≡ read.Grammar) × CallFailed files files'
+GrammarFails named files files' (TooLong file) = (file ≡ read.Grammar) × IsLonger grammar_limit (files.shown named.path) × IsQuiet files files'
+GrammarFails named files files' (Grammar line) =
+    (text : List ℕ) × WasRead grammar_limit (files.shown named.path) (λ bytes. IsFaultIn named bytes text) × (string_bytes line ≡ fault_line text) × IsQuiet files files'
+GrammarFails named files files' _ = ⊥

@@ -1,14 +1,9 @@
 -- What may have become of the journal.
-use Rattle.std.specs.Prelude.{◌≡◌, ℕ, List, [], ◌++◌, Option, codes, option_map}
+use Rattle.std.specs.Prelude.{◌≡◌, ℕ, List, [], Option, option_map}
 use Rattle.edge_io.specs.Sink.{Put, empty_put}
 use Rattle.reduce_journal.specs.History.{History}
 use Rattle.one_worker.specs.RunEnds.{HasPart, HasWritten}
-use Rattle.top_call.specs.Words.{ReduceOptions}
 use Rattle.top_call.specs.World.{IsQuiet, SeenJournal}
-
--- the journal's name: that of the output, followed by `.journal`
-abbrev pub journal_name : ReduceOptions → List ℕ
-journal_name options = options.output ++ codes ".journal"
 
 -- what is visible of it once it was opened under this name
 abbrev pub opened_as : List ℕ → Option Put → Option Put

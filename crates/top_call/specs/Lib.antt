@@ -13,6 +13,10 @@ pub use Rattle.one_worker.specs.RunHistory
 pub use Rattle.one_worker.specs.RunEnds
 pub use Rattle.problem_run.specs.Problem
 pub use Rattle.problem_run.specs.Ends
+pub use Rattle.command_words.specs.Options
+pub use Rattle.command_words.specs.Tables
+pub use Rattle.command_words.specs.Commands
+pub use Rattle.case_reduction.specs.Summary
 pub use Rattle.grammar_tree.specs.Faults
 pub use Rattle.grammar_tree.specs.Written
 pub use Rattle.checked_grammar.specs.Answer
@@ -25,6 +29,7 @@ pub use Rattle.tree_mode.specs.Candidates as TreeCandidates
 pub use Rattle.normal_form.specs.Laws as FormLaws
 pub use Rattle.normal_form.specs.NormalOf
 pub use Rattle.normal_form.specs.Print
+pub mod Selftest
 pub mod Words
 pub mod World
 pub mod Status

@@ -9,20 +9,22 @@ use Rattle.normal_form.specs.Print.{printed}
 use Rattle.top_call.specs.declared.status.Refusal.{Refusal}
 use Rattle.top_call.specs.Grammar.{IsFaultIn, IsGrammarText}
 use Rattle.top_call.specs.Status.{fault_line, line_of, status_of}
+use Rattle.command_words.specs.Commands.{NamedGrammar}
+use Rattle.top_call.specs.Words.{start_name}
 use Rattle.top_call.specs.World.{PutsPrefix, CallFailed, IsOver, IsQuiet, IsShownWithin, Puts, PutsLine, PutsMessage, SeenFiles, SeenOut, WasRead, grammar_limit}
 
--- The text is the printed normal form of the grammar that the bytes spell, with its first parser rule as its start, and the two have the same languages.
-pub record IsNormalOf (bytes text : List ℕ) : Type 0 where
+-- The text is the printed normal form of the grammar that the bytes spell, with the start rule that is named, or else its first parser rule, and the two have the same languages.
+pub record IsNormalOf (named : NamedGrammar) (bytes text : List ℕ) : Type 0 where
   pub grammar : CheckedGrammar
-  pub spelled : Spells bytes None grammar
+  pub spelled : Spells bytes (start_name named) grammar
   pub languages : HasEqualLanguages grammar (normal_of grammar)
   pub printed : text ≡ encode_utf8_all (printed grammar.kinds (normal_of grammar))
 
 -- How `normal` ends, by its status.
-pub data NormalEnds (grammar : List ℕ) (files files' : SeenFiles) (out out' : SeenOut) : ℕ → Type 0 where
+pub data NormalEnds (grammar : NamedGrammar) (files files' : SeenFiles) (out out' : SeenOut) : ℕ → Type 0 where
   -- the printed normal form of the grammar in the file was put, and no call failed
   done : (text : List ℕ)
-      → (read : WasRead grammar_limit (files.shown grammar) (λ bytes. IsNormalOf bytes text))
+      → (read : WasRead grammar_limit (files.shown grammar.path) (λ bytes. IsNormalOf grammar bytes text))
       → (quiet : IsQuiet files files')
       → (put : Puts text out out')
       → NormalEnds grammar files files' out out' 0
@@ -36,43 +38,43 @@ pub data NormalEnds (grammar : List ℕ) (files files' : SeenFiles) (out out' : 
       → NormalEnds grammar files files' out out' 3
   -- the put failed: some prefix of the printed normal form was put, and nothing more
   unput : (text : List ℕ)
-      → (read : WasRead grammar_limit (files.shown grammar) (λ bytes. IsNormalOf bytes text))
+      → (read : WasRead grammar_limit (files.shown grammar.path) (λ bytes. IsNormalOf grammar bytes text))
       → (quiet : IsQuiet files files')
       → (put : PutsPrefix text out out')
       → NormalEnds grammar files files' out out' 4
   -- the file has no well-formed grammar, and the line says why
   faulty : (text : List ℕ)
-      → (read : WasRead grammar_limit (files.shown grammar) (λ bytes. IsFaultIn bytes text))
+      → (read : WasRead grammar_limit (files.shown grammar.path) (λ bytes. IsFaultIn grammar bytes text))
       → (quiet : IsQuiet files files')
       → (line : PutsLine (fault_line text) out out')
       → NormalEnds grammar files files' out out' 5
   -- the grammar is longer than its limit
-  too_long : (longer : IsLonger grammar_limit (files.shown grammar))
+  too_long : (longer : IsLonger grammar_limit (files.shown grammar.path))
       → (quiet : IsQuiet files files')
       → (line : PutsMessage (codes "grammar is too long") out out')
       → NormalEnds grammar files files' out out' 10
 
 -- Which status it has to be. This follows from how `normal` ends.
-pub record NormalMustEnd (grammar : List ℕ) (files files' : SeenFiles) (out out' : SeenOut) (status : ℕ) : Type 0 where
+pub record NormalMustEnd (grammar : NamedGrammar) (files files' : SeenFiles) (out out' : SeenOut) (status : ℕ) : Type 0 where
   -- a grammar over its limit is refused
-  pub over : IsOver grammar_limit (files.shown grammar) → (status ≡ 10) ⊎ ((status ≡ 3) ⊎ (status ≡ 1))
+  pub over : IsOver grammar_limit (files.shown grammar.path) → (status ≡ 10) ⊎ ((status ≡ 3) ⊎ (status ≡ 1))
   -- a grammar that isn't there can't be read
-  pub missing : files.shown grammar ≡ Some None → (status ≡ 3) ⊎ (status ≡ 1)
+  pub missing : files.shown grammar.path ≡ Some None → (status ≡ 3) ⊎ (status ≡ 1)
   -- a faulty grammar within its limit is refused as such
-  pub faulty : IsShownWithin grammar_limit (files.shown grammar) (λ bytes. ¬ IsGrammarText bytes) → (status ≡ 5) ⊎ ((status ≡ 3) ⊎ (status ≡ 1))
+  pub faulty : IsShownWithin grammar_limit (files.shown grammar.path) (λ bytes. ¬ IsGrammarText grammar bytes) → (status ≡ 5) ⊎ ((status ≡ 3) ⊎ (status ≡ 1))
   -- a well-formed grammar within its limit has its normal form put, where no call failed
-  pub complete : IsShownWithin grammar_limit (files.shown grammar) (λ bytes. IsGrammarText bytes) → ¬ CallFailed files files' → ¬ CallFailed out out' → (status ≡ 0) ⊎ (status ≡ 1)
+  pub complete : IsShownWithin grammar_limit (files.shown grammar.path) (λ bytes. IsGrammarText grammar bytes) → ¬ CallFailed files files' → ¬ CallFailed out out' → (status ≡ 0) ⊎ (status ≡ 1)
   -- where a call of the files failed, the grammar wasn't read
   pub files_failed : ¬ IsQuiet files files' → status ≡ 3
   -- where the put failed, it was that of the normal form (4) or of another status's line
   pub out_failed : ¬ IsQuiet out out' → status ≢ 0
 
--- A run of `normal` over the file of this name. Every file is as before.
-pub record PrintsNormal (grammar : List ℕ) (files files' : SeenFiles) (out out' : SeenOut) (status : ℕ) : Type 0 where
+-- A run of `normal` over this grammar. Every file is as before.
+pub record PrintsNormal (grammar : NamedGrammar) (files files' : SeenFiles) (out out' : SeenOut) (status : ℕ) : Type 0 where
   pub ends : NormalEnds grammar files files' out out' status
   pub must_end : NormalMustEnd grammar files files' out out' status
   pub same : SameFiles files.shown files'.shown
 
 -- the command ends with this refusal, whatever becomes of its line
-abbrev pub NormalFails : List ℕ → SeenFiles → SeenFiles → Refusal → Type 0
+abbrev pub NormalFails : NamedGrammar → SeenFiles → SeenFiles → Refusal → Type 0
 NormalFails grammar files files' refusal = (out out' : SeenOut) → PutsLine (line_of refusal) out out' → NormalEnds grammar files files' out out' (status_of refusal)

@@ -17,31 +17,31 @@ use Rattle.top_call.specs.declared.status.Refusal.TheVariants.{Memory, CannotRea
 use Rattle.top_call.specs.Grammar.{GrammarFails, GrammarRead}
 use Rattle.top_call.specs.Reduce.{ProblemFails, ProblemRead}
 use Rattle.top_call.specs.Status.{IsKeepRefusal, IsUncut}
-use Rattle.top_call.specs.Words.{ReduceOptions}
+use Rattle.command_words.specs.Commands.{NamedGrammar, ReduceOptions}
 use Rattle.top_call.specs.World.{CallFailed, IsQuiet, SeenFiles, WasRead, input_limit, line_of_text}
 
 -- The grammar was read, and the input, of whose text what was found makes the input of a reduction.
-pub record GivesTree (grammar input : Option FileContent) (found : ParsedInput) : Type 0 where
+pub record GivesTree (named : NamedGrammar) (grammar input : Option FileContent) (found : ParsedInput) : Type 0 where
   pub checked : CheckedGrammar
-  pub spelled : GrammarRead grammar checked
+  pub spelled : GrammarRead named grammar checked
   pub read : WasRead input_limit input (λ text. MakesInputOf checked text found)
   pub ready : IsFoundIn found
 
 -- the grammar was read, and the input, which has this fault
-abbrev pub InputIsFaulty : Option FileContent → Option FileContent → InputFault → Type 0
-InputIsFaulty grammar input fault = (c : CheckedGrammar) × GrammarRead grammar c × WasRead input_limit input (λ bytes. IsInputFault c bytes fault)
+abbrev pub InputIsFaulty : NamedGrammar → Option FileContent → Option FileContent → InputFault → Type 0
+InputIsFaulty named grammar input fault = (c : CheckedGrammar) × GrammarRead named grammar c × WasRead input_limit input (λ bytes. IsInputFault c bytes fault)
 
 -- why nothing is found: a file wasn't read, the grammar is faulty, or the input isn't in its language
-abbrev pub TreeFails : List ℕ → List ℕ → SeenFiles → SeenFiles → Refusal → Type 0
+abbrev pub TreeFails : NamedGrammar → List ℕ → SeenFiles → SeenFiles → Refusal → Type 0
 TreeFails grammar input files files' Memory = IsQuiet files files'
-TreeFails grammar input files files' (CannotRead named.Input) = ((c : CheckedGrammar) × GrammarRead (files.shown grammar) c) × CallFailed files files'
+TreeFails grammar input files files' (CannotRead named.Input) = ((c : CheckedGrammar) × GrammarRead grammar (files.shown grammar.path) c) × CallFailed files files'
 TreeFails grammar input files files' (CannotRead named.Grammar) = CallFailed files files'
-TreeFails grammar input files files' (TooLong named.Input) = ((c : CheckedGrammar) × GrammarRead (files.shown grammar) c) × IsLonger input_limit (files.shown input) × IsQuiet files files'
+TreeFails grammar input files files' (TooLong named.Input) = ((c : CheckedGrammar) × GrammarRead grammar (files.shown grammar.path) c) × IsLonger input_limit (files.shown input) × IsQuiet files files'
 TreeFails grammar input files files' (TooLong named.Grammar) = GrammarFails grammar files files' (TooLong named.Grammar)
 TreeFails grammar input files files' (Grammar line) = GrammarFails grammar files files' (Grammar line)
 TreeFails grammar input files files' (Uncut line) =
-    (fault : InputFault) × IsUncut fault × InputIsFaulty (files.shown grammar) (files.shown input) fault × (string_bytes line ≡ line_of_text (fault_text fault)) × IsQuiet files files'
-TreeFails grammar input files files' NoParse = InputIsFaulty (files.shown grammar) (files.shown input) input_fault.NoParse × IsQuiet files files'
+    (fault : InputFault) × IsUncut fault × InputIsFaulty grammar (files.shown grammar.path) (files.shown input) fault × (string_bytes line ≡ line_of_text (fault_text fault)) × IsQuiet files files'
+TreeFails grammar input files files' NoParse = InputIsFaulty grammar (files.shown grammar.path) (files.shown input) input_fault.NoParse × IsQuiet files files'
 TreeFails grammar input files files' _ = ⊥
 
 -- why a problem that was read wasn't accepted: this keep text is the first that doesn't occur in its start, or out of memory

@@ -11,7 +11,7 @@ use Rattle.verdict_table.specs.declared.record.Record.{Record}
 use Rattle.reduce_journal.specs.History.{History, records_of}
 use Rattle.reduce_journal.specs.Report.{report_text}
 use Rattle.reduce_journal.specs.declared.counts.Counts.{Counts}
-use Rattle.top_call.specs.Journal.{JournalBroken, JournalSoFar, JournalUntouched, JournalWhole, journal_name}
+use Rattle.top_call.specs.Journal.{JournalBroken, JournalSoFar, JournalUntouched, JournalWhole}
 use Rattle.verdict_table.specs.TableState.{texts_of}
 use Rattle.keep_guard.specs.Keep.{first_missing, holds_all, keeps_admit}
 use Rattle.gated_run.specs.Records.{FirstIsNo}
@@ -32,7 +32,8 @@ use Rattle.problem_run.specs.Ends.{AreOf, IsRefused, IsUnfinished, ReducesFrom}
 use Rattle.top_call.specs.declared.status.Refusal.{Refusal}
 use Rattle.top_call.specs.declared.status.Refusal.TheVariants.{Memory, CannotRead, Grammar, KeepMissing, NoParse, TooLong, Uncut}
 use Rattle.top_call.specs.Status.{IsKeepRefusal, IsOneOf, IsUncut, fault_line, keep_text, line_of, status_of, word_for}
-use Rattle.top_call.specs.Words.{GrammarOptions, ModeOptions, ReduceOptions, file_name_of}
+use Rattle.command_words.specs.Commands.{GrammarOptions, ModeOptions, NamedGrammar, ReduceOptions}
+use Rattle.top_call.specs.Words.{file_name_of, grammar_mode, start_name}
 use Rattle.top_call.specs.World.{CallFailed, FilesKept, IsOver, IsQuiet, IsShownWithin, NotReached, Puts, PutsLine, PutsMessage, PutsPrefix, SeenFiles, SeenGate, SeenJournal, SeenOut, WasRead, World, grammar_limit, input_limit, line_of_text}
 
 -- The input is made of this text by this grammar, what is admitted is what has each keep text, and the squeezed text of the whole is tried or not.
@@ -45,8 +46,8 @@ pub record IsTreeProblem (keeps : List (List ℕ)) (grammar : CheckedGrammar) (s
 abbrev pub ReadIn : ModeOptions → ReduceOptions → SeenFiles → (Problem → Type 0) → Type 0
 ReadIn ModeOptions.lines options files P = WasRead input_limit (files.shown options.input) (λ start. P (Problem.of_lines start))
 ReadIn (ModeOptions.by_grammar trees) options files P =
-    (c : CheckedGrammar) × GrammarRead (files.shown trees.grammar) c
-    × WasRead input_limit (files.shown options.input) (λ text. (input : TreeInput) × IsTreeProblem options.keeps c trees.squeeze text input × P (Problem.of_tree trees.mode input))
+    (c : CheckedGrammar) × GrammarRead trees.grammar (files.shown trees.grammar.path) c
+    × WasRead input_limit (files.shown options.input) (λ text. (input : TreeInput) × IsTreeProblem options.keeps c trees.squeeze text input × P (Problem.of_tree (grammar_mode trees.mode) input))
 
 abbrev pub ProblemRead : ReduceOptions → SeenFiles → (Problem → Type 0) → Type 0
 ProblemRead options files P = ReadIn options.mode options files P
@@ -73,7 +74,7 @@ IsHistoryOfInput options files (event ∷ history) = ProblemAccepted options fil
 
 -- the opening of a worker's gate: the work folder, the script, the input's name without its folder, and the worker's number
 abbrev pub opening_for : ReduceOptions → ℕ → Opening
-opening_for options number = record { work = codes "perses-work"; script = options.script; name = file_name_of options.input; number = number }
+opening_for options number = record { work = options.work; script = options.script; name = file_name_of options.input; number = number }
 
 -- the gate was neither opened nor asked, and the journal is as before; or the gate was opened so, and then asked for these texts, in this order and no others
 abbrev pub GateWasUsed : Opening → List (List ℕ) → Option Log → Option Log → SeenJournal → SeenJournal → Type 0
@@ -86,13 +87,13 @@ pub record WritesReduced (options : ReduceOptions) (history : History) (report :
   pub others : SameOthers old.files.shown new.files.shown options.output
   pub files_quiet : IsQuiet old.files new.files
   pub gate_quiet : IsQuiet old.gate new.gate
-  pub journal : JournalWhole (journal_name options) history old.journal new.journal
+  pub journal : JournalWhole options.journal history old.journal new.journal
 
 -- the file is read: the grammar, where the mode has one; and the input, in such a mode once the grammar was read
 abbrev pub IsReached : ModeOptions → NamedFile → SeenFiles → Type 0
 IsReached ModeOptions.lines named.Input files = Unit {0}
 IsReached ModeOptions.lines named.Grammar files = ⊥
-IsReached (ModeOptions.by_grammar trees) named.Input files = (c : CheckedGrammar) × GrammarRead (files.shown trees.grammar) c
+IsReached (ModeOptions.by_grammar trees) named.Input files = (c : CheckedGrammar) × GrammarRead trees.grammar (files.shown trees.grammar.path) c
 IsReached (ModeOptions.by_grammar trees) named.Grammar files = Unit {0}
 
 -- the limit of such a file, and its path; of a mode without a grammar no path is asked for
@@ -102,20 +103,20 @@ limit_of named.Grammar = grammar_limit
 
 abbrev pub grammar_in : ModeOptions → List ℕ
 grammar_in ModeOptions.lines = []
-grammar_in (ModeOptions.by_grammar trees) = trees.grammar
+grammar_in (ModeOptions.by_grammar trees) = trees.grammar.path
 
 abbrev pub name_of : ReduceOptions → NamedFile → List ℕ
 name_of options named.Input = options.input
 name_of options named.Grammar = grammar_in options.mode
 
 -- the grammar's file spells a grammar, the input was read within its limit, and the fact holds of the two
-abbrev pub InputHas : List ℕ → (CheckedGrammar → List ℕ → Type 0) → ReduceOptions → SeenFiles → Type 0
-InputHas grammar P options files = (c : CheckedGrammar) × GrammarRead (files.shown grammar) c × WasRead input_limit (files.shown options.input) (λ bytes. P c bytes)
+abbrev pub InputHas : NamedGrammar → (CheckedGrammar → List ℕ → Type 0) → ReduceOptions → SeenFiles → Type 0
+InputHas grammar P options files = (c : CheckedGrammar) × GrammarRead grammar (files.shown grammar.path) c × WasRead input_limit (files.shown options.input) (λ bytes. P c bytes)
 
 -- where a call of the gate failed: the journal has the whole history; or the gate wasn't opened, it and the journal show what they did, and nothing was recorded
 abbrev pub ScriptLeaves : ReduceOptions → History → World → World → Type 0
 ScriptLeaves options history old new =
-    JournalWhole (journal_name options) history old.journal new.journal ⊎ (JournalUntouched history old.journal new.journal × (new.gate.shown ≡ old.gate.shown))
+    JournalWhole options.journal history old.journal new.journal ⊎ (JournalUntouched history old.journal new.journal × (new.gate.shown ≡ old.gate.shown))
 
 -- How `reduce` ends, by its status.
 pub data ReduceEnds (options : ReduceOptions) (history : History) (old new : World) : ℕ → Type 0 where
@@ -127,7 +128,7 @@ pub data ReduceEnds (options : ReduceOptions) (history : History) (old new : Wor
   -- out of memory, for which there is no evidence; no file was changed
   memory : (files : FilesKept old.files new.files)
       → (gate_quiet : IsQuiet old.gate new.gate)
-      → (journal : JournalSoFar (journal_name options) history old.journal new.journal)
+      → (journal : JournalSoFar options.journal history old.journal new.journal)
       → (line : PutsMessage (codes "out of memory") old.out new.out)
       → ReduceEnds options history old new 1
   -- a call of the files failed, the line names one of the files that are read, and neither the gate nor the journal was reached
@@ -144,7 +145,7 @@ pub data ReduceEnds (options : ReduceOptions) (history : History) (old new : Wor
       → (reduces : ReducesTo options old.files history text report)
       → (others : SameOthers old.files.shown new.files.shown options.output)
       → (gate_quiet : IsQuiet old.gate new.gate)
-      → (journal : JournalWhole (journal_name options) history old.journal new.journal)
+      → (journal : JournalWhole options.journal history old.journal new.journal)
       → (line : PutsMessage (codes "cannot write") old.out new.out)
       → ReduceEnds options history old new 4
   -- the result was written, but the put of its report failed: some prefix of it was put, and nothing more
@@ -155,7 +156,7 @@ pub data ReduceEnds (options : ReduceOptions) (history : History) (old new : Wor
   -- the file has no well-formed grammar, the line says why, and neither the gate nor the journal was reached
   faulty : (trees : GrammarOptions) (text : List ℕ)
       → (mode : options.mode ≡ ModeOptions.by_grammar trees)
-      → (read : WasRead grammar_limit (old.files.shown trees.grammar) (λ bytes. IsFaultIn bytes text))
+      → (read : WasRead grammar_limit (old.files.shown trees.grammar.path) (λ bytes. IsFaultIn trees.grammar bytes text))
       → (files : FilesKept old.files new.files)
       → (untouched : NotReached history old new)
       → (line : PutsLine (fault_line text) old.out new.out)
@@ -181,7 +182,7 @@ pub data ReduceEnds (options : ReduceOptions) (history : History) (old new : Wor
   uninteresting : (read : ProblemAccepted options old.files (λ problem. IsRefused options.keeps problem history))
       → (files : FilesKept old.files new.files)
       → (gate_quiet : IsQuiet old.gate new.gate)
-      → (journal : JournalWhole (journal_name options) history old.journal new.journal)
+      → (journal : JournalWhole options.journal history old.journal new.journal)
       → (line : PutsMessage (codes "start is not interesting") old.out new.out)
       → ReduceEnds options history old new 8
   -- the input was read, a keep text doesn't occur in it, the line names the first such by its number from 1, and neither the gate nor the journal was reached
@@ -210,7 +211,7 @@ pub data ReduceEnds (options : ReduceOptions) (history : History) (old new : Wor
   -- the input was read, and a call of the journal failed: it wasn't opened, or it broke off
   journal : (failed : CallFailed old.journal new.journal)
       → (read : ProblemAccepted options old.files (λ problem. AreOf options.keeps problem history))
-      → (broken : JournalBroken (journal_name options) history old.journal new.journal)
+      → (broken : JournalBroken options.journal history old.journal new.journal)
       → (gate_quiet : IsQuiet old.gate new.gate)
       → (files : FilesKept old.files new.files)
       → (line : PutsMessage (codes "journal fault") old.out new.out)
@@ -220,31 +221,31 @@ pub data ReduceEnds (options : ReduceOptions) (history : History) (old new : Wor
 abbrev pub ShownIn : ModeOptions → ReduceOptions → SeenFiles → (List ℕ → Type 0) → Type 0
 ShownIn ModeOptions.lines options files P = IsShownWithin input_limit (files.shown options.input) P
 ShownIn (ModeOptions.by_grammar trees) options files P =
-    IsShownWithin grammar_limit (files.shown trees.grammar) (λ bytes. (c : CheckedGrammar) × Spells bytes None c
+    IsShownWithin grammar_limit (files.shown trees.grammar.path) (λ bytes. (c : CheckedGrammar) × Spells bytes (start_name trees.grammar) c
     × IsShownWithin input_limit (files.shown options.input) (λ text. InLanguage c text × P text))
 
 abbrev pub IsShownProblem : ReduceOptions → SeenFiles → (List ℕ → Type 0) → Type 0
 IsShownProblem options files P = ShownIn options.mode options files P
 
 -- what is visible of the files is a grammar within its limit, and an input within its limit with such a fault
-abbrev pub IsShownFault : List ℕ → ReduceOptions → SeenFiles → (InputFault → Type 0) → Type 0
+abbrev pub IsShownFault : NamedGrammar → ReduceOptions → SeenFiles → (InputFault → Type 0) → Type 0
 IsShownFault grammar options files P =
-    IsShownWithin grammar_limit (files.shown grammar) (λ bytes. (c : CheckedGrammar) × Spells bytes None c
+    IsShownWithin grammar_limit (files.shown grammar.path) (λ bytes. (c : CheckedGrammar) × Spells bytes (start_name grammar) c
     × IsShownWithin input_limit (files.shown options.input) (λ text. (fault : InputFault) × IsInputFault c text fault × P fault))
 
 -- where the mode has a grammar, it is visible, within its limit and well-formed
 abbrev pub IsShownGrammar : ModeOptions → SeenFiles → Type 0
 IsShownGrammar ModeOptions.lines files = Unit {0}
-IsShownGrammar (ModeOptions.by_grammar trees) files = IsShownWithin grammar_limit (files.shown trees.grammar) IsGrammarText
+IsShownGrammar (ModeOptions.by_grammar trees) files = IsShownWithin grammar_limit (files.shown trees.grammar.path) (IsGrammarText trees.grammar)
 
 -- Which status it has to be. This follows from how `reduce` ends.
 pub record ReduceMustEnd (options : ReduceOptions) (records : List Record) (old new : World) (status : ℕ) : Type 0 where
   -- a grammar over its limit is refused
-  pub grammar_over : (trees : GrammarOptions) → options.mode ≡ ModeOptions.by_grammar trees → IsOver grammar_limit (old.files.shown trees.grammar) → IsOneOf (10 ∷ 3 ∷ 1 ∷ []) status
+  pub grammar_over : (trees : GrammarOptions) → options.mode ≡ ModeOptions.by_grammar trees → IsOver grammar_limit (old.files.shown trees.grammar.path) → IsOneOf (10 ∷ 3 ∷ 1 ∷ []) status
   -- a grammar that isn't there can't be read
-  pub grammar_missing : (trees : GrammarOptions) → options.mode ≡ ModeOptions.by_grammar trees → old.files.shown trees.grammar ≡ Some None → IsOneOf (3 ∷ 1 ∷ []) status
+  pub grammar_missing : (trees : GrammarOptions) → options.mode ≡ ModeOptions.by_grammar trees → old.files.shown trees.grammar.path ≡ Some None → IsOneOf (3 ∷ 1 ∷ []) status
   -- a faulty grammar within its limit is refused
-  pub faulty : (trees : GrammarOptions) → options.mode ≡ ModeOptions.by_grammar trees → IsShownWithin grammar_limit (old.files.shown trees.grammar) (λ bytes. ¬ IsGrammarText bytes) → IsOneOf (5 ∷ 3 ∷ 1 ∷ []) status
+  pub faulty : (trees : GrammarOptions) → options.mode ≡ ModeOptions.by_grammar trees → IsShownWithin grammar_limit (old.files.shown trees.grammar.path) (λ bytes. ¬ IsGrammarText trees.grammar bytes) → IsOneOf (5 ∷ 3 ∷ 1 ∷ []) status
   -- an input over its limit is refused as such, where the mode has no grammar or a well-formed one
   pub input_over : IsShownGrammar options.mode old.files → IsOver input_limit (old.files.shown options.input) → IsOneOf (10 ∷ 3 ∷ 1 ∷ []) status
   -- an input that isn't there can't be read, where the mode has no grammar or a well-formed one

@@ -1,23 +1,24 @@
 //! The top call.
 
-ghost use Rattle.std.specs.Prelude.{◌≡◌, ◌↔◌, None, map, string_bytes};
+ghost use Rattle.std.specs.Prelude.{◌≡◌, ◌⊎◌, None, map, string_bytes};
 ghost use Rattle.top_call.specs.Call.{RunsCommand};
-ghost use Rattle.top_call.specs.Words.{command_line_of};
+ghost use Rattle.command_words.specs.Commands.{command_line_of};
 ghost use Rattle.top_call.specs.World.{seen};
 
 use crate::end::{Ended, end_refused};
 use crate::normal::normal;
 use crate::reduce::reduce;
+use crate::selftest::selftest;
 use crate::status::Refusal;
-use crate::words::{CommandLine, read_words};
+use command_words::{CommandLine, read_words};
 use edge_io::{Files, Sink};
 use script_gate::Gate;
 use std::alloc::Global;
 
 /// Does what the words ask for. What it promises at each status is stated with the command:
-/// `ReduceEnds` for `reduce`, `NormalEnds` for `normal`. Words that are no command line have status
-/// 2, and no others. `reduce` opens the journal under the output's name followed by `.journal`; no
-/// other command touches it.
+/// `ReduceEnds` for `reduce`, `NormalEnds` for `normal`, `SelftestEnds` for `selftest`. Words that are
+/// no command line have status 2, and no others, but where memory ran out before they were read, which
+/// is status 1. `reduce` opens the journal; no other command touches it.
 pub fn perses<F: Files, G: Gate, J: Sink + Drop, O: Sink>(
     alloc: Global,
     words: &[String],
@@ -30,16 +31,25 @@ pub fn perses<F: Files, G: Gate, J: Sink + Drop, O: Sink>(
         (record { files = seen F.content F.faults files.old; gate = seen G.log G.faults gate.old; journal = seen J.put_so_far J.faults journal; out = seen O.put_so_far O.faults out.old })
         (record { files = seen F.content F.faults files.new; gate = seen G.log G.faults gate.new; journal = seen J.put_so_far J.faults result.journal; out = seen O.put_so_far O.faults out.new })
         result.status (command_line_of (map string_bytes words.now)) }
-    ensures usage { (result.status ≡ 2) ↔ (command_line_of (map string_bytes words.now) ≡ None) }
+    ensures usage { result.status ≡ 2 → command_line_of (map string_bytes words.now) ≡ None }
+    ensures no_other { command_line_of (map string_bytes words.now) ≡ None → (result.status ≡ 2) ⊎ (result.status ≡ 1) }
 {
-    match read_words(words) {
-        None => Ended {
+    match read_words(alloc, words) {
+        Err(_) => Ended {
+            status: end_refused(out, &Refusal::Memory),
+            journal,
+        },
+        Ok(None) => Ended {
             status: end_refused(out, &Refusal::Usage),
             journal,
         },
-        Some(CommandLine::Reduce(line)) => reduce(alloc, line, files, gate, journal, out),
-        Some(CommandLine::Normal(grammar)) => Ended {
+        Ok(Some(CommandLine::Reduce(line))) => reduce(alloc, &line, files, gate, journal, out),
+        Ok(Some(CommandLine::Normal(grammar))) => Ended {
             status: normal(alloc, grammar, files, out),
+            journal,
+        },
+        Ok(Some(CommandLine::Selftest(line))) => Ended {
+            status: selftest(alloc, line, out),
             journal,
         },
     }

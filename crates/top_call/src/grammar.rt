@@ -2,12 +2,14 @@
 
 ghost use Rattle.std.specs.Prelude.{◌≤◌, IfErr, IfOk, OnOk, length};
 ghost use Rattle.edge_io.specs.Files.{SameFiles};
+ghost use Rattle.command_words.specs.Lines.{grammar_read};
 ghost use Rattle.top_call.specs.Grammar.{GrammarFails, GrammarRead, IsFaultRefusal, SpellsTheGrammar};
 ghost use Rattle.top_call.specs.World.{IsQuiet, grammar_limit, seen};
 
 use crate::file::read_file;
 use crate::status::{NamedFile, Refusal};
 use checked_grammar::{GrammarFault, checked_grammar};
+use command_words::NamedGrammar;
 use edge_io::Files;
 use grammar_tree::Checked;
 use std::alloc::Global;
@@ -15,30 +17,34 @@ use std::alloc::Global;
 /// The longest grammar, in bytes.
 const GRAMMAR_LIMIT: u64 = 1_048_576;
 
-/// The grammar that a text spells, checked, with its first parser rule as its start.
-fn grammar_of_text(alloc: Global, text: &[u8]) -> Result<Checked, Refusal>
+/// The grammar that a text spells, checked, with this start rule, or its first parser rule.
+fn grammar_of_text(
+    alloc: Global,
+    grammar: NamedGrammar<'_>,
+    text: &[u8],
+) -> Result<Checked, Refusal>
     requires { length text.now ≤ grammar_limit }
-    ensures ok { IfOk result (SpellsTheGrammar text.now) }
-    ensures refused { IfErr result (λ refusal. IsFaultRefusal text.now refusal) }
+    ensures ok { IfOk result (SpellsTheGrammar (grammar_read grammar.entry) text.now) }
+    ensures refused { IfErr result (λ refusal. IsFaultRefusal (grammar_read grammar.entry) text.now refusal) }
 {
-    match checked_grammar(alloc, text, None) {
+    match checked_grammar(alloc, text, grammar.start) {
         Ok(checked) => Ok(checked),
         Err(GrammarFault::Memory) => Err(Refusal::Memory),
         Err(fault) => Err(Refusal::of_grammar(alloc, &fault)),
     }
 }
 
-/// The grammar in a file, checked, with its first parser rule as its start.
+/// The grammar in a file, checked, with this start rule, or its first parser rule.
 pub fn grammar_of_file<F: Files>(
     alloc: Global,
-    name: &str,
+    grammar: NamedGrammar<'_>,
     files: &mut F,
 ) -> Result<Checked, Refusal>
-    ensures grammar { IfOk result (λ grammar. GrammarRead (F.content files.old name.now) grammar) }
+    ensures grammar { IfOk result (λ checked. GrammarRead (grammar_read grammar.entry) (F.content files.old grammar.entry.path.now) checked) }
     ensures quiet { OnOk result (IsQuiet (seen F.content F.faults files.old) (seen F.content F.faults files.new)) }
-    ensures refused { IfErr result (λ refusal. GrammarFails name.now (seen F.content F.faults files.old) (seen F.content F.faults files.new) refusal) }
+    ensures refused { IfErr result (λ refusal. GrammarFails (grammar_read grammar.entry) (seen F.content F.faults files.old) (seen F.content F.faults files.new) refusal) }
     ensures same { SameFiles (F.content files.old) (F.content files.new) }
 {
-    let text = read_file(files, name, GRAMMAR_LIMIT, NamedFile::Grammar)?;
-    grammar_of_text(alloc, &text)
+    let text = read_file(files, grammar.path, GRAMMAR_LIMIT, NamedFile::Grammar)?;
+    grammar_of_text(alloc, grammar, &text)
 }

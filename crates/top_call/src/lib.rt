@@ -22,6 +22,7 @@ mod laws;
 mod normal;
 mod read;
 mod reduce;
+mod selftest;
 mod status;
 mod words;
 

@@ -1,6 +1,6 @@
 //! The command `reduce`, step by step.
 
-ghost use Rattle.std.specs.Prelude.{◌≡◌, true, IfErr, IfOk, OnErr, OnOk, codes, option_map};
+ghost use Rattle.std.specs.Prelude.{◌≡◌, true, IfErr, IfOk, OnErr, OnOk, option_map};
 ghost use Rattle.edge_io.specs.Files.{SameFiles};
 ghost use Rattle.keep_guard.specs.Keep.{holds_all};
 ghost use Rattle.reduce_journal.specs.History.{records_of};
@@ -9,19 +9,21 @@ ghost use Rattle.gated_run.specs.Records.{AreAnswers};
 ghost use Rattle.problem_run.specs.Problem.{Problem};
 ghost use Rattle.problem_run.specs.Read.{IsReadAs, IsReady, start_read};
 ghost use Rattle.problem_run.specs.Ends.{AreOf, ProblemEnds};
-ghost use Rattle.top_call.specs.Journal.{journal_name, opened_as};
+ghost use Rattle.top_call.specs.Journal.{opened_as};
 ghost use Rattle.top_call.specs.Reduce.{ProblemRead, RecordsAreSound, ReduceSteps, Reduces};
 ghost use Rattle.top_call.specs.Read.{AcceptFails};
 ghost use Rattle.top_call.specs.Run.{JournalAfter, OpeningFails, StartLeaves, WriteEnds};
 ghost use Rattle.top_call.specs.Status.{OpenFails};
-ghost use Rattle.top_call.specs.Words.{file_name_of, options_of};
+ghost use Rattle.command_words.specs.Lines.{reduce_read};
+ghost use Rattle.top_call.specs.Words.{file_name_of};
 ghost use Rattle.top_call.specs.World.{IsQuiet, seen};
 
 use crate::end::{Ended, end_with};
 use crate::file::write_file;
 use crate::read::{guard_of, read_problem};
 use crate::status::Refusal;
-use crate::words::{ReduceLine, file_name_of};
+use crate::words::file_name_of;
+use command_words::{ReduceLine, journal_name};
 use edge_io::{Files, Sink};
 use gated_run::{Ran, Reduced, RunFault};
 use grammar_input::{input_fault_once, inputs_are_in_language};
@@ -31,31 +33,30 @@ use reduce_journal::{Event, report};
 use script_gate::{Gate, GateFault};
 use std::alloc::Global;
 
-/// The folder that candidates are written below.
-const WORK_FOLDER: &str = "perses-work";
-
 /// Opens the gate of the only worker.
-fn open_gate<G: Gate>(gate: &mut G, line: ReduceLine<'_>) -> Result<(), GateFault>
-    ensures opened { OnOk result (G.log gate.new ≡ option_map (with_opening (codes "perses-work") line.entry.script.now (file_name_of line.entry.input.now) 1) (G.log gate.old)) }
+fn open_gate<G: Gate>(gate: &mut G, line: &ReduceLine<'_>) -> Result<(), GateFault>
+    ensures opened { OnOk result (G.log gate.new ≡ option_map (with_opening line.now.work.now line.now.script.now (file_name_of line.now.input.now) 1) (G.log gate.old)) }
     ensures kept { OnErr result (G.log gate.new ≡ G.log gate.old) }
     ensures quiet { OnOk result (IsQuiet (seen G.log G.faults gate.old) (seen G.log G.faults gate.new)) }
     ensures refused { IfErr result (λ fault. OpenFails (seen G.log G.faults gate.old) (seen G.log G.faults gate.new) fault) }
 {
-    gate.open(WORK_FOLDER, line.script, file_name_of(line.input), 1)
+    gate.open(line.work, line.script, file_name_of(line.input), 1)
 }
 
-/// Opens the journal, which has the output's name followed by `.journal`.
+/// Opens the journal, whose path the command line says.
 fn open_journal<J: Sink>(
     alloc: Global,
     journal: &mut J,
-    line: ReduceLine<'_>,
+    line: &ReduceLine<'_>,
 ) -> Result<(), RunFault>
-    ensures opened { OnOk result (J.put_so_far journal.new ≡ opened_as (journal_name (options_of line.entry)) (J.put_so_far journal.old)) }
+    ensures opened { OnOk result (J.put_so_far journal.new ≡ opened_as ((reduce_read line.now).journal) (J.put_so_far journal.old)) }
     ensures kept { OnErr result (J.put_so_far journal.new ≡ J.put_so_far journal.old) }
     ensures quiet { OnOk result (J.faults journal.new ≡ J.faults journal.old) }
     ensures refused { IfErr result (λ fault. OpeningFails (J.faults journal.old) (J.faults journal.new) fault) }
 {
-    let name = format!(in alloc; "{}.journal", line.output)?;
+    let Ok(name) = journal_name(alloc, line) else {
+        return Err(RunFault::Memory);
+    };
     journal.open(name.as_str())?;
     Ok(())
 }
@@ -63,7 +64,7 @@ fn open_journal<J: Sink>(
 /// Opens the journal and reduces what was read, by a gate that is open.
 fn run_opened<G: Gate, J: Sink + Drop>(
     alloc: Global,
-    line: ReduceLine<'_>,
+    line: &ReduceLine<'_>,
     problem: ReadProblem,
     guard: Guard<KeepTexts<'_>>,
     gate: &mut G,
@@ -75,7 +76,7 @@ fn run_opened<G: Gate, J: Sink + Drop>(
     ensures of_problem { (one : Problem) → IsReadAs guard.entry problem one → AreOf guard.entry one result.events.items }
     ensures ends { (one : Problem) → IsReadAs guard.entry problem one
         → ProblemEnds guard.entry one result.events.items (G.faults gate.old) (G.faults gate.new) (J.faults journal) (J.faults result.journal) result.outcome }
-    ensures journal { JournalAfter (journal_name (options_of line.entry)) result.events.items (seen J.put_so_far J.faults journal) (seen J.put_so_far J.faults result.journal) result.outcome }
+    ensures journal { JournalAfter ((reduce_read line.now).journal) result.events.items (seen J.put_so_far J.faults journal) (seen J.put_so_far J.faults result.journal) result.outcome }
 {
     let mut journal = journal;
     match open_journal(alloc, &mut journal, line) {
@@ -88,7 +89,7 @@ fn run_opened<G: Gate, J: Sink + Drop>(
 /// opened the journal isn't either, so that an older one stays.
 fn reduce_start<G: Gate, J: Sink + Drop>(
     alloc: Global,
-    line: ReduceLine<'_>,
+    line: &ReduceLine<'_>,
     problem: ReadProblem,
     guard: Guard<KeepTexts<'_>>,
     gate: &mut G,
@@ -96,11 +97,11 @@ fn reduce_start<G: Gate, J: Sink + Drop>(
 ) -> Ran<J>
     requires ready { IsReady problem }
     requires kept { holds_all guard (start_read problem) ≡ true }
-    ensures sound { RecordsAreSound (options_of line.entry) G.may_say (records_of result.events.items) (seen G.log G.faults gate.old) (seen G.log G.faults gate.new) (seen J.put_so_far J.faults journal) (seen J.put_so_far J.faults result.journal) }
+    ensures sound { RecordsAreSound (reduce_read line.now) G.may_say (records_of result.events.items) (seen G.log G.faults gate.old) (seen G.log G.faults gate.new) (seen J.put_so_far J.faults journal) (seen J.put_so_far J.faults result.journal) }
     ensures of_problem { (one : Problem) → IsReadAs guard.entry problem one → AreOf guard.entry one result.events.items }
     ensures ends { (one : Problem) → IsReadAs guard.entry problem one
         → ProblemEnds guard.entry one result.events.items (G.faults gate.old) (G.faults gate.new) (J.faults journal) (J.faults result.journal) result.outcome }
-    ensures journal { StartLeaves (journal_name (options_of line.entry)) result.events.items (G.log gate.old) (G.log gate.new) (seen J.put_so_far J.faults journal) (seen J.put_so_far J.faults result.journal) result.outcome }
+    ensures journal { StartLeaves ((reduce_read line.now).journal) result.events.items (G.log gate.old) (G.log gate.new) (seen J.put_so_far J.faults journal) (seen J.put_so_far J.faults result.journal) result.outcome }
 {
     match open_gate(gate, line) {
         Ok(()) => run_opened(alloc, line, problem, guard, gate, journal),
@@ -111,11 +112,11 @@ fn reduce_start<G: Gate, J: Sink + Drop>(
 /// Makes the report of a reduction and writes its result, which is written only where there is one.
 fn write_result<F: Files>(
     alloc: Global,
-    line: ReduceLine<'_>,
+    line: &ReduceLine<'_>,
     files: &mut F,
     outcome: Result<Reduced, RunFault>,
 ) -> Result<Vec<u8>, Refusal>
-    ensures { WriteEnds line.entry.output.now (seen F.content F.faults files.old) (seen F.content F.faults files.new) outcome result }
+    ensures { WriteEnds line.now.output.now (seen F.content F.faults files.old) (seen F.content F.faults files.new) outcome result }
 {
     let reduced = outcome?;
     let text = report(alloc, &reduced.counts)?;
@@ -126,16 +127,16 @@ fn write_result<F: Files>(
 /// What is reduced, and the guard of the keep texts, each of which occurs in it.
 fn accept<'a, F: Files>(
     alloc: Global,
-    line: ReduceLine<'a>,
+    line: &ReduceLine<'a>,
     files: &mut F,
 ) -> Result<(ReadProblem, Guard<KeepTexts<'a>>), Refusal>
-    ensures problem { IfOk result (λ accepted. ProblemRead (options_of line.entry) (seen F.content F.faults files.old) (IsReadAs (options_of line.entry).keeps accepted.0)) }
+    ensures problem { IfOk result (λ accepted. ProblemRead (reduce_read line.now) (seen F.content F.faults files.old) (IsReadAs (reduce_read line.now).keeps accepted.0)) }
     ensures ready { IfOk result (λ accepted. IsReady accepted.0) }
-    ensures guard { IfOk result (λ accepted. accepted.1 ≡ (options_of line.entry).keeps) }
+    ensures guard { IfOk result (λ accepted. accepted.1 ≡ (reduce_read line.now).keeps) }
     ensures kept { IfOk result (λ accepted. holds_all accepted.1 (start_read accepted.0) ≡ true) }
     ensures quiet { OnOk result (IsQuiet (seen F.content F.faults files.old) (seen F.content F.faults files.new)) }
     ensures same { SameFiles (F.content files.old) (F.content files.new) }
-    ensures refused { IfErr result (λ refusal. AcceptFails (options_of line.entry) (seen F.content F.faults files.old) (seen F.content F.faults files.new) refusal) }
+    ensures refused { IfErr result (λ refusal. AcceptFails (reduce_read line.now) (seen F.content F.faults files.old) (seen F.content F.faults files.new) refusal) }
 {
     let problem = read_problem(alloc, line, files)?;
     let guard = guard_of(alloc, line, problem.start())?;
@@ -154,12 +155,12 @@ struct Steps<J> {
 /// the reduction, and the result, which is written only at the end.
 fn reduce_steps<F: Files, G: Gate, J: Sink + Drop>(
     alloc: Global,
-    line: ReduceLine<'_>,
+    line: &ReduceLine<'_>,
     files: &mut F,
     gate: &mut G,
     journal: J,
 ) -> Steps<J>
-    ensures { ReduceSteps (options_of line.entry) G.may_say result.events.items
+    ensures { ReduceSteps (reduce_read line.now) G.may_say result.events.items
         (record { files = seen F.content F.faults files.old; gate = seen G.log G.faults gate.old; journal = seen J.put_so_far J.faults journal })
         (record { files = seen F.content F.faults files.new; gate = seen G.log G.faults gate.new; journal = seen J.put_so_far J.faults result.journal })
         result.outcome }
@@ -193,13 +194,13 @@ fn reduce_steps<F: Files, G: Gate, J: Sink + Drop>(
 /// its report is put on `out`. A start whose verdict is no ends the run at once.
 pub fn reduce<F: Files, G: Gate, J: Sink + Drop, O: Sink>(
     alloc: Global,
-    line: ReduceLine<'_>,
+    line: &ReduceLine<'_>,
     files: &mut F,
     gate: &mut G,
     journal: J,
     out: &mut O,
 ) -> Ended<J>
-    ensures { Reduces (options_of line.entry) G.may_say
+    ensures { Reduces (reduce_read line.now) G.may_say
         (record { files = seen F.content F.faults files.old; gate = seen G.log G.faults gate.old; journal = seen J.put_so_far J.faults journal; out = seen O.put_so_far O.faults out.old })
         (record { files = seen F.content F.faults files.new; gate = seen G.log G.faults gate.new; journal = seen J.put_so_far J.faults result.journal; out = seen O.put_so_far O.faults out.new })
         result.status }

@@ -1,21 +1,39 @@
-use Rattle.std.proofs.Common.{[], ◌∷◌, refl, sym, subst, ◌∙◌}
-use Rattle.std.proofs.lemmas.Bool.{false≢true}
-use Rattle.top_call.specs.Call.RunsCommand.{usage, reduce, normal}
-use Rattle.top_call.specs.Status.{IsOneOf}
-use Rattle.top_call.proofs.ReduceByStatusLemmas.{reduce_by_status}
+use Rattle.std.proofs.Common.{option_map, refl, sym, ap, ◌∙◌, subst}
+use Rattle.command_words.specs.Lines.{command_read}
+use Rattle.top_call.specs.Call.{RunsCommand}
+use Rattle.top_call.specs.Call.RunsCommand.{usage, reduce, normal, selftest}
+use Rattle.top_call.proofs.CallLemmas.{line_is, normal_not_usage, reduce_not_usage, runs_unread, selftest_not_usage}
 use Rattle.top_call.proofs.call.perses.Goals as goal
 
-pub returns-in-None-clause-runs : goal.returns-in-None-clause-runs
-returns-in-None-clause-runs g c =
-    rw c.in-None.ensures (usage (record { status_is = c.end_refused.ensures.status_is; files = refl; untouched = record { no_history = refl; gate = refl; journal = refl }; line = c.end_refused.ensures.line }))
+pub returns-in-Err-clause-runs : goal.returns-in-Err-clause-runs
+returns-in-Err-clause-runs g c = runs_unread g.G.Gate.may_say _ _ _ c.end_refused.ensures _
 
-pub returns-in-Some-Reduce-clause-runs : goal.returns-in-Some-Reduce-clause-runs
-returns-in-Some-Reduce-clause-runs g c = rw (c.in-Some-Reduce.ensures, c.in-Some-Reduce.field-0-is) (reduce _ c.reduce.ensures)
+pub returns-in-Ok-None-clause-runs : goal.returns-in-Ok-None-clause-runs
+returns-in-Ok-None-clause-runs g c =
+    let ends = c.end_refused-in-Ok-None.ensures in
+    let same = sym (ap (option_map command_read) c.in-Ok-None.field-0-is) ∙ c.in-Ok-None.ensures.line in
+    subst (RunsCommand g.G.Gate.may_say _ _ _) same (usage (record { status_is = ends.status_is; files = refl; untouched = record { no_history = refl; gate = refl; journal = refl }; line = ends.line }))
 
-pub returns-in-Some-Reduce-clause-usage : goal.returns-in-Some-Reduce-clause-usage
-returns-in-Some-Reduce-clause-usage g c =
-    (λ two. absurd (false≢true (subst (IsOneOf (0 ∷ 1 ∷ 3 ∷ 4 ∷ 5 ∷ 6 ∷ 7 ∷ 8 ∷ 9 ∷ 10 ∷ 11 ∷ 12 ∷ [])) two (reduce_by_status _ _ _ _ _ c.reduce.ensures.ends).known)), λ none. absurd (cc (sym none ∙ c.in-Some-Reduce.ensures)))
+pub returns-in-Ok-Some-Reduce-clause-runs : goal.returns-in-Ok-Some-Reduce-clause-runs
+returns-in-Ok-Some-Reduce-clause-runs g c =
+    let at = c.in-Ok-Some-Reduce in
+    subst (RunsCommand g.G.Gate.may_say _ _ _) (line_is _ _ _ _ at.field-0-is at.field-0-0-is at.ensures.line) (reduce _ c.reduce.ensures)
 
-pub returns-in-Some-Normal-clause-runs : goal.returns-in-Some-Normal-clause-runs
-returns-in-Some-Normal-clause-runs g c =
-    rw (c.in-Some-Normal.ensures, c.in-Some-Normal.field-0-is) (normal _ c.normal.ensures (record { no_history = refl; gate = refl; journal = refl }))
+pub returns-in-Ok-Some-Reduce-clause-usage : goal.returns-in-Ok-Some-Reduce-clause-usage
+returns-in-Ok-Some-Reduce-clause-usage g c two = absurd (reduce_not_usage _ _ _ _ _ c.reduce.ensures two)
+
+pub returns-in-Ok-Some-Normal-clause-runs : goal.returns-in-Ok-Some-Normal-clause-runs
+returns-in-Ok-Some-Normal-clause-runs g c =
+    let at = c.in-Ok-Some-Normal in
+    subst (RunsCommand g.G.Gate.may_say _ _ _) (line_is _ _ _ _ at.field-0-is at.field-0-0-is at.ensures.line) (normal _ c.normal.ensures (record { no_history = refl; gate = refl; journal = refl }))
+
+pub returns-in-Ok-Some-Normal-clause-usage : goal.returns-in-Ok-Some-Normal-clause-usage
+returns-in-Ok-Some-Normal-clause-usage g c two = absurd (normal_not_usage _ _ _ _ _ _ c.normal.ensures two)
+
+pub returns-in-Ok-Some-Selftest-clause-runs : goal.returns-in-Ok-Some-Selftest-clause-runs
+returns-in-Ok-Some-Selftest-clause-runs g c =
+    let at = c.in-Ok-Some-Selftest in
+    subst (RunsCommand g.G.Gate.may_say _ _ _) (line_is _ _ _ _ at.field-0-is at.field-0-0-is at.ensures.line) (selftest _ c.selftest.ensures refl (record { no_history = refl; gate = refl; journal = refl }))
+
+pub returns-in-Ok-Some-Selftest-clause-usage : goal.returns-in-Ok-Some-Selftest-clause-usage
+returns-in-Ok-Some-Selftest-clause-usage g c two = absurd (selftest_not_usage _ _ _ _ c.selftest.ensures two)

@@ -1,6 +1,11 @@
-use Rattle.std.proofs.Common.{ap}
+use Rattle.std.proofs.Common.{ap, sym, subst}
 use Rattle.std.proofs.lemmas.Result.{err_from_is_err_and}
-use Rattle.top_call.specs.Words.{GrammarOptions, mode_of, options_of}
+use Rattle.command_words.specs.Commands.{GrammarOptions}
+use Rattle.command_words.specs.Lines.{grammar_read, mode_of, reduce_read}
+use Rattle.problem_run.specs.declared.problem.GrammarMode.{GrammarMode}
+use Rattle.problem_run.specs.declared.problem.ReadProblem.TheVariants as read
+use Rattle.problem_run.specs.Read.{IsReadAs}
+use Rattle.top_call.specs.Reduce.{ProblemRead}
 use Rattle.top_call.specs.World.{seen}
 use Rattle.top_call.proofs.ReadLemmas.{tree_fails, tree_read}
 use Rattle.top_call.proofs.read.read_problem.Goals as goal
@@ -8,12 +13,13 @@ use Rattle.top_call.proofs.read.read_problem.Goals as goal
 pub returns-in_ok-found-in-ByGrammar-clause-problem : goal.returns-in_ok-found-in-ByGrammar-clause-problem
 returns-in_ok-found-in-ByGrammar-clause-problem g c =
     let files = seen g.F.Files.content g.F.Files.faults c.args.files.now in
-    let trees : GrammarOptions = record { grammar = c.in-ByGrammar.grammar.now; mode = c.in-ByGrammar.mode; squeeze = c.in-ByGrammar.squeeze } in
-    tree_read (options_of c.args.line) files trees (ap mode_of c.in-ByGrammar.is) c.in_ok-found-in-ByGrammar.found c.in_ok-found-in-ByGrammar.ensures.found
+    let trees : GrammarOptions = record { grammar = grammar_read c.in-ByGrammar.trees.grammar; mode = c.in-ByGrammar.trees.mode; squeeze = c.in-ByGrammar.trees.squeeze } in
+    let was : GrammarMode → Type 0 = λ mode. ProblemRead (reduce_read c.args.line.now) files (IsReadAs (reduce_read c.args.line.now).keeps (read.Tree c.in_ok-found-in-ByGrammar.found mode c.in-ByGrammar.trees.squeeze)) in
+    subst was (sym c.grammar_mode.ensures) (tree_read (reduce_read c.args.line.now) files trees (ap mode_of c.in-ByGrammar.is) c.in_ok-found-in-ByGrammar.found c.in_ok-found-in-ByGrammar.ensures.found)
 
 pub returns-in_err-found-in-ByGrammar-clause-refused : goal.returns-in_err-found-in-ByGrammar-clause-refused
 returns-in_err-found-in-ByGrammar-clause-refused g c =
     let p = err_from_is_err_and c.from_residual-in_err-found-in-ByGrammar.result c.from_residual-in_err-found-in-ByGrammar.ensures.1 in
     let files = seen g.F.Files.content g.F.Files.faults c.args.files.now in
-    let trees : GrammarOptions = record { grammar = c.in-ByGrammar.grammar.now; mode = c.in-ByGrammar.mode; squeeze = c.in-ByGrammar.squeeze } in
-    rw (p.1, p.2) (tree_fails (options_of c.args.line) files trees (ap mode_of c.in-ByGrammar.is) (seen g.F.Files.content g.F.Files.faults c.read_tree.new.files) c.in_err-found-in-ByGrammar.field-0.0 c.in_err-found-in-ByGrammar.ensures.refused)
+    let trees : GrammarOptions = record { grammar = grammar_read c.in-ByGrammar.trees.grammar; mode = c.in-ByGrammar.trees.mode; squeeze = c.in-ByGrammar.trees.squeeze } in
+    rw (p.1, p.2) (tree_fails (reduce_read c.args.line.now) files trees (ap mode_of c.in-ByGrammar.is) (seen g.F.Files.content g.F.Files.faults c.read_tree.new.files) c.in_err-found-in-ByGrammar.field-0.0 c.in_err-found-in-ByGrammar.ensures.refused)

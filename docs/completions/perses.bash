@@ -1,0 +1,56 @@
+# Completion of perses for bash: source this file, or put it where bash-completion looks for it.
+
+_perses() {
+    local word=${COMP_WORDS[COMP_CWORD]} previous=${COMP_WORDS[COMP_CWORD - 1]}
+    local command=${COMP_WORDS[1]} options='' by_grammar='--grammar --start --squeeze' given
+    COMPREPLY=()
+    if ((COMP_CWORD == 1)); then
+        mapfile -t COMPREPLY < <(compgen -W 'reduce normal selftest' -- "$word")
+        return
+    fi
+    # bash takes `--mode=hdd` as three words.
+    if [[ $word == = ]]; then
+        word=
+    elif [[ $previous == = ]]; then
+        previous=${COMP_WORDS[COMP_CWORD - 2]}
+    fi
+    case $previous in
+    --input | --output | --script | --grammar | --journal)
+        mapfile -t COMPREPLY < <(compgen -f -- "$word")
+        compopt -o filenames
+        return
+        ;;
+    --work)
+        mapfile -t COMPREPLY < <(compgen -d -- "$word")
+        compopt -o filenames
+        return
+        ;;
+    --mode)
+        case $command in
+        reduce) mapfile -t COMPREPLY < <(compgen -W 'perses hdd lines' -- "$word") ;;
+        *) mapfile -t COMPREPLY < <(compgen -W 'perses hdd' -- "$word") ;;
+        esac
+        return
+        ;;
+    --start | --jobs | --keep | --number | --size)
+        return
+        ;;
+    esac
+    # In mode `lines` nothing is said of a grammar.
+    [[ ${COMP_WORDS[*]} =~ \ --mode\ (=\ )?lines( |$) ]] && by_grammar=''
+    case $command in
+    reduce) options="--input --output --script --mode --jobs --journal --work --keep $by_grammar" ;;
+    normal) options='--grammar --start' ;;
+    selftest) options='--number --size --mode' ;;
+    esac
+    # Each option once, but --keep.
+    for given in "${COMP_WORDS[@]:2}"; do
+        if [[ $given == --* && $given != --keep && $given != "$word" ]]; then
+            options=" $options "
+            options=${options/ $given / }
+        fi
+    done
+    mapfile -t COMPREPLY < <(compgen -W "$options" -- "$word")
+}
+
+complete -F _perses perses
