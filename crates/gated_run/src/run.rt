@@ -78,7 +78,7 @@ fn result_of<R: Round + Drop>(
 ///
 /// What is said of a mode holds for each input at which the reducer's first plan, and its result so far,
 /// are those of the mode. Beside the answers of the reducer and of the gate an answer costs a search of the
-/// records and two copies of the text.
+/// records and a copy of the text.
 pub fn run_to_text<R: Round + Drop, G: Gate, J: Sink + Drop>(
     alloc: Global,
     reducer: Rounds<R>,

@@ -73,7 +73,7 @@ fn work<S: Step + Drop, G: Gate, J: Sink + Drop>(
 /// it. A fault ends the run at once, and is in the outcome.
 ///
 /// Beside the answers of the reducer and of the gate, an answer costs a look into the table, which is a
-/// search of its records and two copies of the text.
+/// search of its records and a copy of the text.
 pub fn run<S: Step + Drop, G: Gate, J: Sink + Drop>(
     alloc: Global,
     front: S,

@@ -100,7 +100,7 @@ fn claim_next<S: Step>(
         return Ok(None);
     };
     events.reserve(workers)?;
-    let claim = table.claim(text.as_slice())?;
+    let claim = table.claim(text.share()?)?;
     Ok(Some(Permit::new(claim, text)))
 }
 
@@ -109,8 +109,9 @@ impl<S: Step + Drop, G: Gate, J: Sink + Drop> Board<S, G, J> {
     /// its record takes is reserved, so that a verdict that comes is never lost for memory. It waits for
     /// nobody.
     ///
-    /// It costs a look into the table and two copies of the text. Where the front's own text is claimed,
-    /// it also costs a look ahead of two texts for each worker, and a look into the table for each.
+    /// It costs a look into the table and a copy of the text, which the permit and the table share. Where
+    /// the front's own text is claimed, it also costs a look ahead of two texts for each worker, and a
+    /// look into the table for each.
     pub fn take(&mut self, seat: &mut Seat) -> Result<Take, Memory>
         requires agrees { Agrees self.old.seats seat.old }
         requires free { seat.old.claim ≡ None }

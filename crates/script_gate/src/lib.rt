@@ -11,17 +11,17 @@
 //! ```
 #![tactic(auto)]
 
-mod bytes;
 mod gate;
 mod list_gate;
 mod log;
 mod process_gate;
 mod rule_gate;
+mod shared_bytes;
 
-pub use bytes::{Bytes, TextList};
 pub use faults::Memory;
 pub use gate::{Gate, GateFault, Verdict};
 pub use list_gate::{ListGate, Said};
 pub use log::{Log, Opening};
 pub use process_gate::ProcessGate;
 pub use rule_gate::RuleGate;
+pub use shared_bytes::{Bytes, TextList};

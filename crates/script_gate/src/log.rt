@@ -1,6 +1,6 @@
 ghost use Rattle.std.specs.Prelude.{◌≡◌, IfOk, OnOk, OnErr};
 
-use crate::bytes::{Bytes, TextList};
+use crate::shared_bytes::{Bytes, TextList};
 use faults::Memory;
 use std::alloc::Global;
 

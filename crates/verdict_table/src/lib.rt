@@ -6,9 +6,9 @@
 //! (`specs/Ahead.antt`). So a verdict is learned:
 //!
 //! ```
-//! if table.find(text) == Found::Absent {
-//!     let claim = table.claim(text)?;
-//!     table.fill(claim, gate.ask(text)?);
+//! if table.find(text.as_slice()) == Found::Absent {
+//!     let claim = table.claim(text.share()?)?;
+//!     table.fill(claim, gate.ask(text.as_slice())?);
 //! }
 //! ```
 #![tactic(auto)]

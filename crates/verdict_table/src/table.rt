@@ -130,17 +130,16 @@ impl Table {
 
     /// Opens a claim of a text that the table doesn't hold, and answers the claim's number, which no claim had before.
     /// It reserves the memory of the claim's record, so that filling it takes none.
-    pub fn claim(&mut self, text: &[u8]) -> Result<u64, Memory>
-        requires absent { found_in self.old text.now ≡ Absent }
+    pub fn claim(&mut self, text: Bytes) -> Result<u64, Memory>
+        requires absent { found_in self.old text ≡ Absent }
         ensures claimed { IfOk result (λ claim. self.new ≡ record self.old {
-          claims = self.old.claims ++ record { number = claim; text = text.now } ∷ [];
+          claims = self.old.claims ++ record { number = claim; text = text } ∷ [];
         }) }
-        ensures opened { IfOk result (λ claim. text_claimed claim self.new.claims ≡ Some text.now) }
+        ensures opened { IfOk result (λ claim. text_claimed claim self.new.claims ≡ Some text) }
         ensures number { IfOk result (λ claim. claim ≡ claim_count self.old) }
         ensures fresh { IfOk result (λ claim. ¬ (Contains (all_numbers self.old) claim)) }
         ensures memory { OnErr result (self.new ≡ self.old) }
     {
-        let text = Bytes::from_slice(self.alloc, text)?;
         let open = self.claims.len();
         self.records.reserve(open + 1)?;
         self.filled.reserve(open + 1)?;
@@ -186,11 +185,11 @@ mod tests {
         if table.find(b"one") != Found::Absent {
             return Err("an empty table holds nothing")?;
         }
-        let one = table.claim(b"one")?;
+        let one = table.claim(Bytes::from_slice(rt.alloc(), b"one")?)?;
         if table.find(b"two") != Found::Absent {
             return Err("only one text is claimed")?;
         }
-        let two = table.claim(b"two")?;
+        let two = table.claim(Bytes::from_slice(rt.alloc(), b"two")?)?;
         assert_eq!(rt; table.find(b"one"), Found::Claimed(one));
         assert_eq!(rt; table.find(b"two"), Found::Claimed(two));
 

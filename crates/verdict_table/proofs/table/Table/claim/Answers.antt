@@ -7,11 +7,11 @@ use Rattle.verdict_table.proofs.table.Table.claim.Goals as goal
 pub invariant_of-self-2 : goal.invariant_of-self-2
 invariant_of-self-2 c =
     let table : TableState = record { claims = c.self.inside.claims.items; records = c.self.inside.records.items; filled = c.self.inside.filled.items } in
-    let absent : found_in table c.args.text.now ≡ Absent = rw (← c.self.view_is) at c.requires.absent in
+    let absent : found_in table c.args.text ≡ Absent = rw (← c.self.view_is) at c.requires.absent in
     let number : c.len-open.result + c.len.result ≡ claim_count table = omega arith in
     record {
-      sound = rw (c.in_ok-push.ensures.items, c.reserve.ensures.items, c.reserve-2.ensures.items, number, c.in_ok-text.ensures)
-          (sound_claimed table c.args.text.now c.self.invariant.sound absent);
+      sound = rw (c.in_ok-push.ensures.items, c.reserve.ensures.items, c.reserve-2.ensures.items, number)
+          (sound_claimed table c.args.text c.self.invariant.sound absent);
       record_capacity = omega (arith, c.in_ok-push.ensures.len, c.in_ok-reserve.ensures.ok);
       filled_capacity = omega (arith, c.in_ok-push.ensures.len, c.in_ok-reserve-2.ensures.ok, c.self.invariant.sound.filled);
     }
@@ -20,4 +20,4 @@ pub returns-clause-opened : goal.returns-clause-opened
 returns-clause-opened c =
     let table : TableState = record { claims = c.self.inside.claims.items; records = c.self.inside.records.items; filled = c.self.inside.filled.items } in
     let number : c.len-open.result + c.len.result ≡ claim_count table = omega arith in
-    rw (c.in_ok-push.ensures.items, number, c.in_ok-text.ensures) (claim_opened table c.args.text.now c.self.invariant.sound)
+    rw (c.in_ok-push.ensures.items, number) (claim_opened table c.args.text c.self.invariant.sound)

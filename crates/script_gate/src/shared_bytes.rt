@@ -1,13 +1,15 @@
 ghost use Rattle.std.specs.Prelude.{◌≡◌, ◌==◌, [], ◌∷◌, ◌++◌, length, IfOk, OnOk, OnErr};
 
+use bytes::Bytes as SharedBytes;
 use faults::Memory;
 use std::alloc::Global;
 use std::marker::Model;
 
-/// A list of bytes. A clause sees it as the list of its numbers.
+/// A list of bytes that doesn't change, so that several owners can share it. A clause sees it as the list
+/// of its numbers.
 #[derive(Drop)]
 pub struct Bytes {
-    items: Vec<u8>,
+    items: SharedBytes,
 }
 
 impl Model for Bytes {
@@ -15,7 +17,7 @@ impl Model for Bytes {
 
     ghost Value = { List ℕ };
 
-    ghost view = { λ bytes. bytes.items.items };
+    ghost view = { λ bytes. bytes.items };
 }
 
 impl Bytes {
@@ -24,15 +26,18 @@ impl Bytes {
         ensures { IfOk result (λ bytes. bytes ≡ items.now) }
     {
         Ok(Bytes {
-            items: Vec::from_slice(alloc, items)?,
+            items: SharedBytes::copy_from_slice(alloc, items)?,
         })
     }
 
-    /// These bytes, without a copy.
-    pub fn from_vec(items: Vec<u8>) -> Bytes
-        ensures { result ≡ items.items }
+    /// Another owner of the same bytes, which aren't copied. It takes no memory, and fails only where a
+    /// list has more owners than can be counted.
+    pub fn share(&self) -> Result<Bytes, Memory>
+        ensures { IfOk result (λ bytes. bytes ≡ self.now) }
     {
-        Bytes { items }
+        Ok(Bytes {
+            items: self.items.clone()?,
+        })
     }
 
     /// The bytes.
