@@ -2,4 +2,3 @@ pub use Rattle.grammar_notation.specs.Sets
 pub use Rattle.grammar_notation.specs.Notation
 pub mod Machine
 pub mod View
-pub mod OneChar

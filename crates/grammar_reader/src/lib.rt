@@ -5,9 +5,9 @@
 //! `)`, at byte 21. Read `IsText` in `grammar_notation/specs/Notation.antt` first, which has a family
 //! for each row of the notation, then `IsFirstFault` in `grammar_notation/specs/Reads.antt`.
 //!
-//! The reader is a pushdown machine (`grammar_machine`). Its states are proved to accept exactly the
-//! texts of the notation, and each word that can't follow is named by the state that it can't follow
-//! (`specs/Rows.antt`).
+//! The reader is a pushdown machine (`grammar_machine`, whose step is `grammar_steps::step`). Its
+//! states are proved to accept exactly the texts of the notation, and each word that can't follow is
+//! named by the state that it can't follow (`specs/Rows.antt`).
 #![tactic(auto)]
 
 mod naming;

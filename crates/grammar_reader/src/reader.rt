@@ -10,8 +10,9 @@ ghost use Rattle.grammar_notation.specs.Reads.{IsFaultOf, IsProfile, IsReadAs};
 ghost use Rattle.grammar_machine.specs.View.{state_of};
 
 use crate::naming::fault_at;
-use grammar_machine::{State, step};
+use grammar_machine::State;
 use grammar_notation::ReadFault;
+use grammar_steps::step;
 use grammar_tree::Grammar;
 use grammar_words::{Placed, Words};
 use std::alloc::Global;

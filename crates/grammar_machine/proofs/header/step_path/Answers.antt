@@ -1,7 +1,0 @@
-use Rattle.std.proofs.Common.{subst, sym}
-use Rattle.grammar_machine.specs.View.{GivesNext, value_of}
-use Rattle.grammar_machine.proofs.Defaults.{no_path}
-use Rattle.grammar_machine.proofs.header.step_path.Goals as goal
-
-pub returns-in_default : goal.returns-in_default
-returns-in_default c = subst (λ o. GivesNext c.step_after_value.result o) (sym (no_path (value_of c.args.value) c.args.word c.in_default.not-Dot)) c.step_after_value.ensures

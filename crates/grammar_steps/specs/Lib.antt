@@ -1,0 +1,2 @@
+pub use Rattle.grammar_machine.specs.Machine
+pub use Rattle.grammar_machine.specs.View

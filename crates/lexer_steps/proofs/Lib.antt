@@ -1,0 +1,3 @@
+mod Views
+mod OneChars
+mod Defaults

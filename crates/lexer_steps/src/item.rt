@@ -1,0 +1,315 @@
+//! One word further after a literal, a set, or `~` in a lexer rule.
+#![tactic(auto, using(crate::proofs::Views::views, crate::proofs::OneChars::one_chars))]
+
+ghost use Rattle.std.specs.Prelude.{◌≡◌, ◌++◌, ◌∷◌, [], ℕ, Some, None, IfOk, nat_le};
+ghost use Rattle.grammar_tree.specs.View.{lex_term};
+ghost use Rattle.grammar_tree.specs.Written.{LexerTerm};
+ghost use Rattle.grammar_machine.specs.Machine as m;
+ghost use Rattle.lexer_steps.specs.OneChar.{only_char};
+ghost use Rattle.grammar_notation.specs.Sets.{outside, within};
+ghost use Rattle.grammar_machine.specs.View.{Gives, item_position_of, lex_body_of, lexer_state};
+
+use crate::lexer::{add, after_but, at, step_lex, step_lex_after, top};
+use faults::Memory;
+use grammar_machine::{EndPosition, ItemPosition, LexBody, LexerPosition, State};
+use grammar_notation::{outside, within};
+use grammar_tree::{CharSet, LexTerm, Text};
+use grammar_words::{Word, first_char};
+use std::alloc::Global;
+
+/// The character of a text that has just one.
+fn only_char(text: &Text) -> Option<u32>
+    ensures { result ≡ only_char text.now }
+{
+    match first_char(text.as_str()) {
+        None => None,
+        Some((c, rest)) => match first_char(rest) {
+            None => Some(u32::from(c)),
+            Some(_) => None,
+        },
+    }
+}
+
+fn start_of_range(body: LexBody, text: Text) -> Result<Option<State>, Memory>
+    ensures { Gives result (m.start_of_range (lex_body_of body) text) }
+{
+    match only_char(&text) {
+        None => Ok(None),
+        Some(first) => at(body, LexerPosition::RangeEnd(first)),
+    }
+}
+
+fn step_after_literal(
+    alloc: Global,
+    body: LexBody,
+    text: Text,
+    word: Word,
+) -> Result<Option<State>, Memory>
+    ensures { Gives result (m.step_after_literal (lex_body_of body) text word) }
+{
+    match word {
+        Word::Dots => start_of_range(body, text),
+        _ => step_lex_after(alloc, body, LexTerm::Literal(text), word),
+    }
+}
+
+/// A range of characters, if its ends are in order.
+fn range(alloc: Global, body: LexBody, first: u32, last: u32) -> Result<Option<State>, Memory>
+    ensures { Gives result (m.provided (nat_le first last) (m.AfterLexAtom (lex_body_of body) (LexerTerm.set (within ((first, last) ∷ []))))) }
+{
+    if first > last {
+        return Ok(None);
+    }
+    let set = within(alloc, &[(first, last)])?;
+    at(body, LexerPosition::After(LexTerm::Set(set)))
+}
+
+fn end_of_range(
+    alloc: Global,
+    body: LexBody,
+    first: u32,
+    text: Text,
+) -> Result<Option<State>, Memory>
+    ensures { Gives result (m.end_of_range (λ c. m.AfterLexAtom (lex_body_of body) (LexerTerm.set (within ((first, c) ∷ [])))) first text) }
+{
+    match only_char(&text) {
+        None => Ok(None),
+        Some(last) => range(alloc, body, first, last),
+    }
+}
+
+fn step_range_end(
+    alloc: Global,
+    body: LexBody,
+    first: u32,
+    word: Word,
+) -> Result<Option<State>, Memory>
+    ensures { Gives result (m.step_range_end (lex_body_of body) first word) }
+{
+    match word {
+        Word::Literal(text) => end_of_range(alloc, body, first, text),
+        _ => Ok(None),
+    }
+}
+
+fn step_after_set(
+    alloc: Global,
+    body: LexBody,
+    set: CharSet,
+    word: Word,
+) -> Result<Option<State>, Memory>
+    ensures { Gives result (m.step_after_set (lex_body_of body) set word) }
+{
+    match word {
+        Word::Star => at(body, LexerPosition::SetStar(set)),
+        _ => step_lex_after(alloc, body, LexTerm::Set(set), word),
+    }
+}
+
+/// A non-greedy loop, if there may be one.
+fn loop_end(body: LexBody, set: CharSet) -> Result<Option<State>, Memory>
+    ensures { Gives result (m.loop_end (lex_body_of body) set (lex_body_of body).enclosing body.fragment) }
+{
+    if !body.enclosing.is_empty() {
+        return Ok(None);
+    }
+    if body.fragment {
+        return Ok(None);
+    }
+    Ok(Some(State::Top(top(body), EndPosition::Loop(set))))
+}
+
+fn step_after_set_star(
+    alloc: Global,
+    body: LexBody,
+    set: CharSet,
+    word: Word,
+) -> Result<Option<State>, Memory>
+    ensures { Gives result (m.step_after_set_star (lex_body_of body) set word) }
+{
+    match word {
+        Word::Question => loop_end(body, set),
+        _ => {
+            let star = LexTerm::Star(Box::new(alloc, LexTerm::Set(set))?);
+            step_lex(alloc, add(body, star)?, word)
+        }
+    }
+}
+
+/// After an item, alone or in brackets.
+fn after_item(
+    alloc: Global,
+    body: LexBody,
+    position: ItemPosition,
+    ranges: &[(u32, u32)],
+) -> Result<Option<State>, Memory>
+    ensures { Gives result (Some (m.after_item (lex_body_of body) (item_position_of position) ranges.now)) }
+{
+    match position {
+        ItemPosition::Alone => after_but(alloc, body, ranges),
+        ItemPosition::Listed(mut before) => {
+            before.extend_from_slice(ranges)?;
+            at(body, LexerPosition::AfterItem(before))
+        }
+    }
+}
+
+fn start_of_item(body: LexBody, position: ItemPosition, text: Text) -> Result<Option<State>, Memory>
+    ensures { Gives result (m.one_char (lex_body_of body) (item_position_of position) text) }
+{
+    match only_char(&text) {
+        None => Ok(None),
+        Some(char) => at(body, LexerPosition::ItemChar(position, char)),
+    }
+}
+
+fn step_item_in(
+    alloc: Global,
+    body: LexBody,
+    position: ItemPosition,
+    word: Word,
+) -> Result<Option<State>, Memory>
+    ensures { Gives result (m.step_item_in (lex_body_of body) (item_position_of position) word) }
+{
+    match word {
+        Word::Set(ranges) => after_item(alloc, body, position, ranges.as_slice()),
+        Word::Literal(text) => start_of_item(body, position, text),
+        _ => Ok(None),
+    }
+}
+
+fn step_item(alloc: Global, body: LexBody, word: Word) -> Result<Option<State>, Memory>
+    ensures { Gives result (m.step_item (lex_body_of body) word) }
+{
+    match word {
+        Word::Open => at(
+            body,
+            LexerPosition::ItemIn(ItemPosition::Listed(Vec::new(alloc))),
+        ),
+        _ => step_item_in(alloc, body, ItemPosition::Alone, word),
+    }
+}
+
+fn step_after_item(
+    alloc: Global,
+    body: LexBody,
+    ranges: Vec<(u32, u32)>,
+    word: Word,
+) -> Result<Option<State>, Memory>
+    ensures { Gives result (m.step_after_item (lex_body_of body) ranges.items word) }
+{
+    match word {
+        Word::Bar => at(body, LexerPosition::ItemIn(ItemPosition::Listed(ranges))),
+        Word::Close => after_but(alloc, body, &ranges),
+        _ => Ok(None),
+    }
+}
+
+/// After an item of one character, with which no range begins.
+fn step_after_one(
+    alloc: Global,
+    body: LexBody,
+    position: ItemPosition,
+    char: u32,
+    word: Word,
+) -> Result<Option<State>, Memory>
+    ensures { Gives result (m.step_after_one (lex_body_of body) (item_position_of position) ((char, char) ∷ []) word) }
+{
+    match position {
+        ItemPosition::Alone => step_after_set(alloc, body, outside(alloc, &[(char, char)])?, word),
+        ItemPosition::Listed(mut ranges) => {
+            ranges.push((char, char))?;
+            step_after_item(alloc, body, ranges, word)
+        }
+    }
+}
+
+fn step_after_item_char(
+    alloc: Global,
+    body: LexBody,
+    position: ItemPosition,
+    char: u32,
+    word: Word,
+) -> Result<Option<State>, Memory>
+    ensures { Gives result (m.step_after_item_char (lex_body_of body) (item_position_of position) char word) }
+{
+    match word {
+        Word::Dots => at(body, LexerPosition::ItemEnd(position, char)),
+        _ => step_after_one(alloc, body, position, char, word),
+    }
+}
+
+/// An item that is a range, if its ends are in order.
+fn item_range(
+    alloc: Global,
+    body: LexBody,
+    position: ItemPosition,
+    first: u32,
+    last: u32,
+) -> Result<Option<State>, Memory>
+    ensures { Gives result (m.provided (nat_le first last) (m.after_item (lex_body_of body) (item_position_of position) ((first, last) ∷ []))) }
+{
+    if first > last {
+        return Ok(None);
+    }
+    after_item(alloc, body, position, &[(first, last)])
+}
+
+fn end_of_item(
+    alloc: Global,
+    body: LexBody,
+    position: ItemPosition,
+    first: u32,
+    text: Text,
+) -> Result<Option<State>, Memory>
+    ensures { Gives result (m.end_of_range (λ c. m.after_item (lex_body_of body) (item_position_of position) ((first, c) ∷ [])) first text) }
+{
+    match only_char(&text) {
+        None => Ok(None),
+        Some(last) => item_range(alloc, body, position, first, last),
+    }
+}
+
+fn step_item_end(
+    alloc: Global,
+    body: LexBody,
+    position: ItemPosition,
+    first: u32,
+    word: Word,
+) -> Result<Option<State>, Memory>
+    ensures { Gives result (m.step_item_end (lex_body_of body) (item_position_of position) first word) }
+{
+    match word {
+        Word::Literal(text) => end_of_item(alloc, body, position, first, text),
+        _ => Ok(None),
+    }
+}
+
+/// One word further in a lexer rule.
+pub fn step_lexer(
+    alloc: Global,
+    body: LexBody,
+    position: LexerPosition,
+    word: Word,
+) -> Result<Option<State>, Memory>
+    ensures { (depth : ℕ) → Gives result (m.step depth (lexer_state (lex_body_of body) position) word) }
+{
+    match position {
+        LexerPosition::Elements => step_lex(alloc, body, word),
+        LexerPosition::Suffixed => step_lex(alloc, body, word),
+        LexerPosition::After(term) => step_lex_after(alloc, body, term, word),
+        LexerPosition::Literal(text) => step_after_literal(alloc, body, text, word),
+        LexerPosition::RangeEnd(first) => step_range_end(alloc, body, first, word),
+        LexerPosition::Set(set) => step_after_set(alloc, body, set, word),
+        LexerPosition::SetStar(set) => step_after_set_star(alloc, body, set, word),
+        LexerPosition::Item => step_item(alloc, body, word),
+        LexerPosition::ItemIn(position) => step_item_in(alloc, body, position, word),
+        LexerPosition::ItemChar(position, char) => step_after_item_char(
+            alloc, body, position, char, word,
+        ),
+        LexerPosition::ItemEnd(position, first) => step_item_end(
+            alloc, body, position, first, word,
+        ),
+        LexerPosition::AfterItem(ranges) => step_after_item(alloc, body, ranges, word),
+    }
+}

@@ -1,0 +1,236 @@
+//! One word further in a lexer rule.
+#![tactic(auto, using(crate::proofs::Views::views))]
+
+ghost use Rattle.std.specs.Prelude.{◌≡◌, ◌++◌, ◌∷◌, [], ℕ, Some, None, IfOk, length};
+ghost use Rattle.grammar_tree.specs.View.{lex_term};
+ghost use Rattle.grammar_tree.specs.Written.{LexerTerm};
+ghost use Rattle.grammar_machine.specs.Machine as m;
+ghost use Rattle.grammar_notation.specs.Sets.{outside, within};
+ghost use Rattle.grammar_machine.specs.View.{Gives, item_position_of, lex_body_of, lex_frame_of, lexer_state, top_body_of};
+
+use crate::top::step_done;
+use faults::Memory;
+use grammar_machine::{ItemPosition, LexBody, LexFrame, LexerPosition, State, TopBody};
+use grammar_notation::{outside, within};
+use grammar_tree::{CharSet, LexTerm, Text};
+use grammar_words::{Word, is};
+use std::alloc::Global;
+
+pub fn at(body: LexBody, position: LexerPosition) -> Result<Option<State>, Memory>
+    ensures { Gives result (Some (lexer_state (lex_body_of body) position)) }
+{
+    Ok(Some(State::Lexer(body, position)))
+}
+
+pub fn add(body: LexBody, term: LexTerm) -> Result<LexBody, Memory>
+    ensures { IfOk result (λ b. lex_body_of b ≡ m.lex_add (lex_body_of body) (lex_term term)) }
+{
+    let LexBody {
+        grammar,
+        name,
+        fragment,
+        known,
+        blocks_left,
+        enclosing,
+        current,
+    } = body;
+    let current = current.with_term(term)?;
+    Ok(LexBody {
+        grammar,
+        name,
+        fragment,
+        known,
+        blocks_left,
+        enclosing,
+        current,
+    })
+}
+
+/// A block begins, if one more may be open.
+fn with_block(alloc: Global, body: LexBody) -> Result<Option<State>, Memory>
+    ensures { Gives result (m.lex_with_block (lex_body_of body) body.blocks_left) }
+{
+    let LexBody {
+        grammar,
+        name,
+        fragment,
+        known,
+        blocks_left,
+        mut enclosing,
+        current,
+    } = body;
+    if blocks_left == 0 {
+        return Ok(None);
+    }
+    enclosing.push(current)?;
+    let inner = LexBody {
+        grammar,
+        name,
+        fragment,
+        known,
+        blocks_left: blocks_left - 1,
+        enclosing,
+        current: LexFrame::fresh(alloc),
+    };
+    Ok(Some(State::Lexer(inner, LexerPosition::Elements)))
+}
+
+/// A block ends, if one is open.
+fn block_end(body: LexBody) -> Result<Option<State>, Memory>
+    ensures { Gives result (m.lex_block_end (lex_body_of body) (lex_body_of body).enclosing) }
+{
+    let LexBody {
+        grammar,
+        name,
+        fragment,
+        known,
+        blocks_left,
+        mut enclosing,
+        current,
+    } = body;
+    match enclosing.pop() {
+        None => Ok(None),
+        Some(around) => {
+            let block = LexTerm::Block(current.whole()?);
+            let body = LexBody {
+                grammar,
+                name,
+                fragment,
+                known,
+                blocks_left: blocks_left + 1,
+                enclosing,
+                current: around,
+            };
+            Ok(Some(State::Lexer(body, LexerPosition::After(block))))
+        }
+    }
+}
+
+/// The next alternative of a block.
+fn next_alternative(alloc: Global, body: LexBody) -> Result<Option<State>, Memory>
+    ensures { Gives result (Some (m.InLex (m.lex_with (lex_body_of body) (m.next_alt (lex_body_of body).current)))) }
+{
+    let LexBody {
+        grammar,
+        name,
+        fragment,
+        known,
+        blocks_left,
+        enclosing,
+        current,
+    } = body;
+    let current = current.next_alt(alloc)?;
+    let body = LexBody {
+        grammar,
+        name,
+        fragment,
+        known,
+        blocks_left,
+        enclosing,
+        current,
+    };
+    Ok(Some(State::Lexer(body, LexerPosition::Elements)))
+}
+
+/// The body of the rule itself, where no block is open.
+pub fn top(body: LexBody) -> TopBody
+    requires { length body.enclosing.items ≡ 0 }
+    ensures { top_body_of result ≡ lex_body_of body }
+{
+    let LexBody {
+        grammar,
+        name,
+        fragment,
+        known,
+        blocks_left: _,
+        enclosing: _,
+        current,
+    } = body;
+    TopBody {
+        grammar,
+        name,
+        fragment,
+        known,
+        current,
+    }
+}
+
+/// After an alternative in a block.
+fn step_inner_end(alloc: Global, body: LexBody, word: Word) -> Result<Option<State>, Memory>
+    ensures { Gives result (m.step_inner_end (lex_body_of body) word) }
+{
+    match word {
+        Word::Bar => next_alternative(alloc, body),
+        Word::Close => block_end(body),
+        _ => Ok(None),
+    }
+}
+
+fn step_lex_end(alloc: Global, body: LexBody, word: Word) -> Result<Option<State>, Memory>
+    ensures { Gives result (m.step_lex_end (lex_body_of body) (lex_body_of body).enclosing word) }
+{
+    if body.enclosing.is_empty() {
+        step_done(alloc, top(body), word)
+    } else {
+        step_inner_end(alloc, body, word)
+    }
+}
+
+/// After a set that may be the operand of a non-greedy loop.
+fn after_set(alloc: Global, body: LexBody, ranges: &[(u32, u32)]) -> Result<Option<State>, Memory>
+    ensures { Gives result (Some (m.AfterSet (lex_body_of body) (within ranges.now))) }
+{
+    at(body, LexerPosition::Set(within(alloc, ranges)?))
+}
+
+pub fn after_but(
+    alloc: Global,
+    body: LexBody,
+    ranges: &[(u32, u32)],
+) -> Result<Option<State>, Memory>
+    ensures { Gives result (Some (m.AfterSet (lex_body_of body) (outside ranges.now))) }
+{
+    at(body, LexerPosition::Set(outside(alloc, ranges)?))
+}
+
+pub fn step_lex(alloc: Global, body: LexBody, word: Word) -> Result<Option<State>, Memory>
+    ensures { Gives result (m.step_lex (lex_body_of body) word) }
+{
+    match word {
+        Word::Literal(text) => at(body, LexerPosition::Literal(text)),
+        Word::Upper(name) => {
+            if is(&name, "EOF") {
+                Ok(None)
+            } else {
+                at(body, LexerPosition::After(LexTerm::Name(name)))
+            }
+        }
+        Word::Set(ranges) => after_set(alloc, body, ranges.as_slice()),
+        Word::Dot => after_but(alloc, body, &[]),
+        Word::Tilde => at(body, LexerPosition::Item),
+        Word::Open => with_block(alloc, body),
+        _ => step_lex_end(alloc, body, word),
+    }
+}
+
+fn with_suffix(body: LexBody, term: LexTerm) -> Result<Option<State>, Memory>
+    ensures { Gives result (Some (m.LexSuffixed (m.lex_add (lex_body_of body) (lex_term term)))) }
+{
+    Ok(Some(State::Lexer(add(body, term)?, LexerPosition::Suffixed)))
+}
+
+pub fn step_lex_after(
+    alloc: Global,
+    body: LexBody,
+    term: LexTerm,
+    word: Word,
+) -> Result<Option<State>, Memory>
+    ensures { Gives result (m.step_lex_after (lex_body_of body) (lex_term term) word) }
+{
+    match word {
+        Word::Question => with_suffix(body, LexTerm::Opt(Box::new(alloc, term)?)),
+        Word::Star => with_suffix(body, LexTerm::Star(Box::new(alloc, term)?)),
+        Word::Plus => with_suffix(body, LexTerm::Plus(Box::new(alloc, term)?)),
+        _ => step_lex(alloc, add(body, term)?, word),
+    }
+}
