@@ -169,14 +169,18 @@ module _ {T : Type 0} (mode : RoundMode T) where
         λ has. not_ended (follow (verdict_in records) (plan_first mode)) waiting (ap asked ((follows (verdict_in records)).ends has)),
       )
 
+  -- what is all that one thread does over its records is so by another name of what was done first
+  whole_of : (first : Plan) (history : History) → first ≡ plan_first mode → history ≡ own_history first history → history ≡ own_history (plan_first mode) history
+  whole_of first history same whole = subst (λ (p : Plan). history ≡ own_history p history) same whole
+
   -- how a run ends with a fault
   with_fault : ((V : List ℕ → Option Verdict) → IsTheReduction mode V) → RefusesAtNo mode → (Kept : T → Type 0) (first plan : Plan) (history : History) (gate gate' journal journal' : ℕ) (fault : PoolFault) → first ≡ plan_first mode → BeginsWith first (records_of history)
-      → ReducerEnds (Some fault) first plan (records_of history) → IsCaused (Some fault) gate gate' journal journal' → RunEndsIn mode Kept history gate gate' journal journal' (Err (fault_kept fault))
-  with_fault follows refuses Kept first plan history gate gate' journal journal' (pool.Script worker) same begun ends caused =
+      → IsSequential (Some fault) first history → ReducerEnds (Some fault) first plan (records_of history) → IsCaused (Some fault) gate gate' journal journal' → RunEndsIn mode Kept history gate gate' journal journal' (Err (fault_kept fault))
+  with_fault follows refuses Kept first plan history gate gate' journal journal' (pool.Script worker) same begun sequential ends caused =
       let both = unanswered follows refuses first history same begun ends in
-      (caused.1, both.0, both.1, caused.2)
-  with_fault follows refuses Kept first plan history gate gate' journal journal' pool.Journal same begun ends caused = caused
-  with_fault follows refuses Kept first plan history gate gate' journal journal' pool.Memory same begun ends caused = caused
+      (caused.1, both.0, both.1, whole_of first history same sequential, caused.2)
+  with_fault follows refuses Kept first plan history gate gate' journal journal' pool.Journal same begun sequential ends caused = caused
+  with_fault follows refuses Kept first plan history gate gate' journal journal' pool.Memory same begun sequential ends caused = caused
 
   -- how a run ends
   pub run_ends : ((V : List ℕ → Option Verdict) → IsTheReduction mode V) → RefusesAtNo mode → (Kept : T → Type 0) → EndsMinimal mode Kept (λ state other. IsTriedAtNo (mode.round state) other)
@@ -184,10 +188,10 @@ module _ {T : Type 0} (mode : RoundMode T) where
       → IsSequential fault first history → ReducerEnds fault first plan (records_of history) → (fault ≡ None → HasEnded plan → plan ≡ End result) → IsCaused fault gate gate' journal journal'
       → AnswersFor fault result (mode.size mode.start) (length (mode.text mode.start)) (length (records_of history)) answer → RunEndsIn mode Kept history gate gate' journal journal' answer
   run_ends follows refuses Kept minimal (Some fault) first plan history result gate gate' journal journal' answer same begun one sequential ends found caused is =
-      subst (RunEndsIn mode Kept history gate gate' journal journal') (sym is) (with_fault follows refuses Kept first plan history gate gate' journal journal' fault same begun ends caused)
+      subst (RunEndsIn mode Kept history gate gate' journal journal') (sym is) (with_fault follows refuses Kept first plan history gate gate' journal journal' fault same begun sequential ends caused)
   run_ends follows refuses Kept minimal None first plan history result gate gate' journal journal' answer same begun one sequential ends found caused is =
       let came = came_to_end first (records_of history) plan result same ends.1 ends.0 (found refl ends.0) begun one in
-      without_fault follows refuses history plan result came (subst (λ (p : Plan). history ≡ own_history p history) same sequential) Kept minimal gate gate' journal journal' caused answer is
+      without_fault follows refuses history plan result came (whole_of first history same sequential) Kept minimal gate gate' journal journal' caused answer is
 
 -- what the journal has, by the fault, by what is answered
 pub journal_has : (fault : Option PoolFault) (result : StepResult) (units bytes record_count : ℕ) (history : History) (old new : Option Put) (gate gate' count count' : ℕ) (answer : Result Reduced RunFault) → AnswersFor fault result units bytes record_count answer → JournalEnds fault history old new

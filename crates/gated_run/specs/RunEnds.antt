@@ -55,12 +55,12 @@ pub record ReducesIn {T : Type 0} (mode : RoundMode T) (Kept : T → Type 0) (hi
 abbrev pub NoneFailed : ℕ → ℕ → ℕ → ℕ → Type 0
 NoneFailed gate gate' journal journal' = (gate' ≡ gate) × (journal' ≡ journal)
 
--- Why a run ended without a result: the gate said no to the start and wasn't asked again; or a call of the gate failed, the gate hadn't said no to the start, and the reduction asks for a text that has no record; or a call of the journal failed; or out of memory. No other call failed.
+-- Why a run ended without a result: the gate said no to the start and wasn't asked again; or a call of the gate failed, the gate hadn't said no to the start, and the reduction asks for a text that has no record; at both the history is all that one thread does over its records; or a call of the journal failed; or out of memory. No other call failed.
 abbrev pub RunFailsIn : {T : Type 0} → RoundMode T → History → ℕ → ℕ → ℕ → ℕ → RunFault → Type 0
 RunFailsIn mode history gate gate' journal journal' NotInteresting =
     OnlyNo (records_of history) × FirstIs (mode.text mode.start) No (records_of history) × (history ≡ own_history (plan_first mode) history) × NoneFailed gate gate' journal journal'
 RunFailsIn mode history gate gate' journal journal' Script =
-    Rose gate gate' × (¬ FirstIsNo (records_of history)) × (¬ IsDefinedOver mode (records_of history)) × (journal' ≡ journal)
+    Rose gate gate' × (¬ FirstIsNo (records_of history)) × (¬ IsDefinedOver mode (records_of history)) × (history ≡ own_history (plan_first mode) history) × (journal' ≡ journal)
 RunFailsIn mode history gate gate' journal journal' Journal = (gate' ≡ gate) × Rose journal journal'
 RunFailsIn mode history gate gate' journal journal' Memory = NoneFailed gate gate' journal journal'
 

@@ -88,7 +88,7 @@ pub fn run_to_text<R: Round + Drop, G: Gate, J: Sink + Drop>(
     requires new { ⟦<Rounds<R> as Step>⟧.first reducer ≡ ⟦<Rounds<R> as Step>⟧.plan reducer }
     requires empty { IfSome (J.put_so_far journal) (λ put. put.bytes ≡ []) }
     ensures answers { AreAnswers G.may_say (G.log gate.old) (G.log gate.new) (records_of result.events.items) }
-    ensures candidates { (input : R.Input) → ⟦<Rounds<R> as Step>⟧.first reducer ≡ plan_first (R.mode input) → Keeps (R.mode input) (R.Kept input) → (R.mode input).is_listed (R.mode input).start ≡ true
+    ensures of_mode { (input : R.Input) → ⟦<Rounds<R> as Step>⟧.first reducer ≡ plan_first (R.mode input) → Keeps (R.mode input) (R.Kept input) → (R.mode input).is_listed (R.mode input).start ≡ true
         → AreOfMode (R.mode input) (R.Kept input) result.events.items }
     ensures ends { (input : R.Input) → ⟦<Rounds<R> as Step>⟧.first reducer ≡ plan_first (R.mode input) → IsStart (R.mode input) (⟦<Rounds<R> as ReducerStep>⟧.so_far reducer)
         → RunEndsIn (R.mode input) (R.Kept input) result.events.items (G.faults gate.old) (G.faults gate.new) (J.faults journal) (J.faults result.journal) result.outcome }

@@ -37,7 +37,7 @@ use Rattle.tree_mode.specs.Listed.{IsKept, text_of as tree_text}
 use Rattle.tree_rounds.specs.Ends.{AdmitsStart, BeginsWith, IsEndBy}
 use Rattle.tree_rounds.specs.WalkMode.{walk_mode}
 use Rattle.problem_run.specs.declared.problem.GrammarMode.{GrammarMode}
-use Rattle.problem_run.specs.Problem.{IsEditBy, Problem, reducer_of, round_of}
+use Rattle.problem_run.specs.Problem.{IsEditBy, Problem, questions_of, reducer_of, round_of}
 use Rattle.problem_run.specs.Walks.{IsTreeMode}
 use Rattle.problem_run.specs.Ends.{AreOf, IsUnfinished, ProblemEnds, ReducesFrom, RunFails}
 
@@ -77,9 +77,6 @@ module _ (keeps : List (List ℕ)) where
   start_known : (V : List ℕ → Option Verdict) (start : List ℕ) → HasVerdicts V (reduction (keeps_admit keeps) (says_yes V) start).questions → IsSome (V start)
   unfolding reduction
   start_known V start has = has.0
-
-  pub none_unfinished : (start : List ℕ) → IsUnfinished keeps (Problem.of_lines start) []
-  none_unfinished start has = false≢true (start_known (verdict_in []) start has)
 
   module _ (by_rounds : IsByRounds) (start : List ℕ) (history : History) where
     abbrev records : List Record
@@ -128,7 +125,7 @@ module _ (keeps : List (List ℕ)) where
     fails : (gate gate' journal journal' : ℕ) (fault : RunFault) → RunFailsIn (line_mode (lines_of start)) history gate gate' journal journal' fault → RunFails keeps (Problem.of_lines start) history gate gate' journal journal' fault
     fails gate gate' journal journal' run.NotInteresting why = (record { only = why.0; first = first_text No why.1; whole = why.2 }, why.3)
     fails gate gate' journal journal' run.Script why =
-        (why.0, why.1, λ has. why.2 (subst (λ (r : rounds.Reduction (List Line)). HasVerdicts (verdict_in records) r.questions) (sym same_reduction) has), why.3)
+        (why.0, why.1, record { waits = λ has. why.2 (subst (λ (r : rounds.Reduction (List Line)). HasVerdicts (verdict_in records) r.questions) (sym same_reduction) has); whole = why.3 }, why.4)
     fails gate gate' journal journal' run.Journal why = why
     fails gate gate' journal journal' run.Memory why = why
 
@@ -160,9 +157,12 @@ tree_known : (V : List ℕ → Option Verdict) (mode : RoundMode TreeState) → 
 unfolding rounds.reduction
 tree_known V mode has = has.0
 
+none_waits : (keeps : List (List ℕ)) (problem : Problem) → HasVerdicts (verdict_in []) (questions_of keeps problem (verdict_in [])) → ⊥
+none_waits keeps (Problem.of_lines start) has = false≢true (start_known keeps (verdict_in []) start has)
+none_waits keeps (Problem.of_tree mode input) has = false≢true (tree_known (verdict_in []) (walk_mode (round_of mode) input) has)
+
 pub unfinished_without : (keeps : List (List ℕ)) (problem : Problem) → IsUnfinished keeps problem []
-unfinished_without keeps (Problem.of_lines start) has = none_unfinished keeps start has
-unfinished_without keeps (Problem.of_tree mode input) has = false≢true (tree_known (verdict_in []) (walk_mode (round_of mode) input) has)
+unfinished_without keeps problem = record { waits = none_waits keeps problem; whole = sym (none_own keeps problem) }
 
 -- What a run of a reducer of trees says, in the words of the reduction of trees.
 module _ (mode : GrammarMode) (laws : IsTreeMode (round_of mode) (IsEditBy mode)) (input : TreeInput) (is : IsInput input) (admitted : AdmitsStart input) (history : History) where
@@ -220,7 +220,7 @@ module _ (mode : GrammarMode) (laws : IsTreeMode (round_of mode) (IsEditBy mode)
   -- why the tree has no reduction
   tree_fails : (keeps : List (List ℕ)) (gate gate' journal journal' : ℕ) (fault : RunFault) → RunFailsIn trees history gate gate' journal journal' fault → RunFails keeps (Problem.of_tree mode input) history gate gate' journal journal' fault
   tree_fails keeps gate gate' journal journal' run.NotInteresting why = (record { only = why.0; first = subst (λ (start : List ℕ). FirstIs start No tree_records) begins.text why.1; whole = why.2 }, why.3)
-  tree_fails keeps gate gate' journal journal' run.Script why = why
+  tree_fails keeps gate gate' journal journal' run.Script why = (why.0, why.1, record { waits = why.2; whole = why.3 }, why.4)
   tree_fails keeps gate gate' journal journal' run.Journal why = why
   tree_fails keeps gate gate' journal journal' run.Memory why = why
 

@@ -31,9 +31,10 @@ pub record ReducesFrom (keeps : List (List ℕ)) (problem : Problem) (history : 
   pub is_counts : counts ≡ counts_of keeps problem (records_of history)
   pub whole : history ≡ own_history (reducer_of keeps problem) history
 
--- the reduction asks for a text that has no record
-abbrev pub IsUnfinished : List (List ℕ) → Problem → History → Type 0
-IsUnfinished keeps problem history = ¬ HasVerdicts (verdict_in (records_of history)) (questions_of keeps problem (verdict_in (records_of history)))
+-- The reduction asks for a text that has no record; and the history is all that one thread does over its records.
+pub record IsUnfinished (keeps : List (List ℕ)) (problem : Problem) (history : History) : Type 0 where
+  pub waits : ¬ HasVerdicts (verdict_in (records_of history)) (questions_of keeps problem (verdict_in (records_of history)))
+  pub whole : history ≡ own_history (reducer_of keeps problem) history
 
 -- the gate said no to the start and wasn't asked again, and the reducer was answered so
 pub record IsRefused (keeps : List (List ℕ)) (problem : Problem) (history : History) : Type 0 where

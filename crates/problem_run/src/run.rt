@@ -48,7 +48,7 @@ fn lines_result<G: Gate, J: Sink + Drop>(
     requires kept { holds_all guard.now start.now ≡ true }
     requires empty { IfSome (J.put_so_far journal) (λ put. put.bytes ≡ []) }
     ensures answers { AreAnswers G.may_say (G.log gate.old) (G.log gate.new) (records_of result.events.items) }
-    ensures candidates { AreOf guard.now (Problem.of_lines start.now) result.events.items }
+    ensures of_problem { AreOf guard.now (Problem.of_lines start.now) result.events.items }
     ensures ends { ProblemEnds guard.now (Problem.of_lines start.now) result.events.items (G.faults gate.old) (G.faults gate.new) (J.faults journal) (J.faults result.journal) result.outcome }
     ensures journal { JournalHas result.events.items (J.put_so_far journal) (J.put_so_far result.journal) (J.faults journal) (J.faults result.journal) result.outcome }
 {
@@ -106,7 +106,7 @@ fn walk_result<'p, 'a, W: TreeWalk + Drop, G: Gate, J: Sink + Drop>(
     requires start { IsStart (walk_mode W.round (⟦<TreeParts<KeepTexts<'a>> as HasInput>⟧.input parts.now)) (⟦<Rounds<TreeRound<'p, KeepTexts<'a>, W>> as ReducerStep>⟧.so_far reducer) }
     requires empty { IfSome (J.put_so_far journal) (λ put. put.bytes ≡ []) }
     ensures answers { AreAnswers G.may_say (G.log gate.old) (G.log gate.new) (records_of result.events.items) }
-    ensures candidates { AreOfMode (walk_mode W.round (⟦<TreeParts<KeepTexts<'a>> as HasInput>⟧.input parts.now)) (IsKept (⟦<TreeParts<KeepTexts<'a>> as HasInput>⟧.input parts.now)) result.events.items }
+    ensures of_mode { AreOfMode (walk_mode W.round (⟦<TreeParts<KeepTexts<'a>> as HasInput>⟧.input parts.now)) (IsKept (⟦<TreeParts<KeepTexts<'a>> as HasInput>⟧.input parts.now)) result.events.items }
     ensures ends { RunEndsIn (walk_mode W.round (⟦<TreeParts<KeepTexts<'a>> as HasInput>⟧.input parts.now)) (IsKept (⟦<TreeParts<KeepTexts<'a>> as HasInput>⟧.input parts.now)) result.events.items (G.faults gate.old) (G.faults gate.new) (J.faults journal) (J.faults result.journal) result.outcome }
     ensures journal { JournalHas result.events.items (J.put_so_far journal) (J.put_so_far result.journal) (J.faults journal) (J.faults result.journal) result.outcome }
 {
@@ -126,7 +126,7 @@ fn tree_result<'a, G: Gate, J: Sink + Drop>(
     requires kept { AdmitsStart (⟦<TreeParts<KeepTexts<'a>> as HasInput>⟧.input parts.now) }
     requires empty { IfSome (J.put_so_far journal) (λ put. put.bytes ≡ []) }
     ensures answers { AreAnswers G.may_say (G.log gate.old) (G.log gate.new) (records_of result.events.items) }
-    ensures candidates { (keeps : List (List ℕ)) → AreOf keeps (Problem.of_tree mode (⟦<TreeParts<KeepTexts<'a>> as HasInput>⟧.input parts.now)) result.events.items }
+    ensures of_problem { (keeps : List (List ℕ)) → AreOf keeps (Problem.of_tree mode (⟦<TreeParts<KeepTexts<'a>> as HasInput>⟧.input parts.now)) result.events.items }
     ensures ends { (keeps : List (List ℕ)) → (⟦<TreeParts<KeepTexts<'a>> as HasInput>⟧.input parts.now).admits ≡ keeps_admit keeps
         → ProblemEnds keeps (Problem.of_tree mode (⟦<TreeParts<KeepTexts<'a>> as HasInput>⟧.input parts.now)) result.events.items (G.faults gate.old) (G.faults gate.new) (J.faults journal) (J.faults result.journal) result.outcome }
     ensures journal { JournalHas result.events.items (J.put_so_far journal) (J.put_so_far result.journal) (J.faults journal) (J.faults result.journal) result.outcome }
@@ -166,7 +166,7 @@ pub fn run_problem<G: Gate, J: Sink + Drop>(
     requires kept { holds_all guard (start_read problem) ≡ true }
     requires empty { IfSome (J.put_so_far journal) (λ put. put.bytes ≡ []) }
     ensures answers { AreAnswers G.may_say (G.log gate.old) (G.log gate.new) (records_of result.events.items) }
-    ensures candidates { (one : Problem) → IsReadAs guard.entry problem one → AreOf guard.entry one result.events.items }
+    ensures of_problem { (one : Problem) → IsReadAs guard.entry problem one → AreOf guard.entry one result.events.items }
     ensures ends { (one : Problem) → IsReadAs guard.entry problem one → ProblemEnds guard.entry one result.events.items (G.faults gate.old) (G.faults gate.new) (J.faults journal) (J.faults result.journal) result.outcome }
     ensures journal { JournalHas result.events.items (J.put_so_far journal) (J.put_so_far result.journal) (J.faults journal) (J.faults result.journal) result.outcome }
 {

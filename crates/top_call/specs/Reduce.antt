@@ -200,7 +200,7 @@ pub data ReduceEnds (options : ReduceOptions) (history : History) (old new : Wor
       → (untouched : NotReached history old new)
       → (line : PutsMessage (word_for file ++ codes " is too long") old.out new.out)
       → ReduceEnds options history old new 10
-  -- the input was read, a call of the gate failed, the gate hadn't said no to the input, and its reduction wasn't finished; the journal has the whole history, unless the gate wasn't opened
+  -- the input was read, a call of the gate failed, the gate hadn't said no to the input, and its reduction wasn't finished; the history is all that one thread does over its records, and the journal has it whole, unless the gate wasn't opened
   script : (failed : CallFailed old.gate new.gate)
       → (not_no : ¬ FirstIsNo (records_of history))
       → (read : ProblemAccepted options old.files (λ problem. IsUnfinished options.keeps problem history))

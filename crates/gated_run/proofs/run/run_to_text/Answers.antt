@@ -3,8 +3,8 @@ use Rattle.reduce_journal.specs.History.{records_of}
 use Rattle.gated_run.proofs.RunLemmas.{answers_at, are_of_mode, journal_has, run_ends}
 use Rattle.gated_run.proofs.run.run_to_text.Goals as goal
 
-pub returns-clause-candidates : goal.returns-clause-candidates
-returns-clause-candidates g c = λ input same keeps listed.
+pub returns-clause-of_mode : goal.returns-clause-of_mode
+returns-clause-of_mode g c = λ input same keeps listed.
     are_of_mode (g.R.Round.mode input) (g.R.Round.Kept input) g.G.Gate.may_say (c.asks_candidates.ensures input) _ c.run-front.result.fault c.run-front.result.events.items same
     c.run-front.ensures.history c.run-front.ensures.sequential c.run-front.ensures.begun c.run-front.ensures.one keeps listed
 

@@ -8,14 +8,14 @@ use Rattle.problem_run.proofs.run.lines_result.Goals as goal
 pub returns-in-Err-clause-answers : goal.returns-in-Err-clause-answers
 returns-in-Err-clause-answers g c = none_answers g.G.Gate.may_say (records_of c.refused.result.events.items) _ (ap records_of c.refused.ensures.events)
 
-pub returns-in-Err-clause-candidates : goal.returns-in-Err-clause-candidates
-returns-in-Err-clause-candidates g c = none_of c.args.guard.now (Problem.of_lines c.args.start.now) c.refused.result.events.items c.refused.ensures.events
+pub returns-in-Err-clause-of_problem : goal.returns-in-Err-clause-of_problem
+returns-in-Err-clause-of_problem g c = none_of c.args.guard.now (Problem.of_lines c.args.start.now) c.refused.result.events.items c.refused.ensures.events
 
-pub returns-in-Ok-clause-candidates : goal.returns-in-Ok-clause-candidates
-returns-in-Ok-clause-candidates g c =
+pub returns-in-Ok-clause-of_problem : goal.returns-in-Ok-clause-of_problem
+returns-in-Ok-clause-of_problem g c =
     let input = lines_of c.args.guard.now c.args.start.now in
     are_of c.args.guard.now c.args.start.now c.run_to_text.result.events.items
-    (c.run_to_text.ensures.candidates input c.in-Ok.ensures.first (line_lawful input).keeps (admits_start c.args.guard.now c.args.start.now c.requires.kept))
+    (c.run_to_text.ensures.of_mode input c.in-Ok.ensures.first (line_lawful input).keeps (admits_start c.args.guard.now c.args.start.now c.requires.kept))
 
 pub returns-in-Ok-clause-ends : goal.returns-in-Ok-clause-ends
 returns-in-Ok-clause-ends g c =

@@ -13,18 +13,18 @@ use Rattle.problem_run.proofs.run.run_problem.Goals as goal
 pub returns-in-Err-clause-answers : goal.returns-in-Err-clause-answers
 returns-in-Err-clause-answers g c = none_answers g.G.Gate.may_say (records_of c.refused.result.events.items) _ (ap records_of c.refused.ensures.events)
 
-pub returns-in-Err-clause-candidates : goal.returns-in-Err-clause-candidates
-returns-in-Err-clause-candidates g c one is = none_of c.args.guard one c.refused.result.events.items c.refused.ensures.events
+pub returns-in-Err-clause-of_problem : goal.returns-in-Err-clause-of_problem
+returns-in-Err-clause-of_problem g c one is = none_of c.args.guard one c.refused.result.events.items c.refused.ensures.events
 
 pub tree_result-requires-clause-kept : goal.tree_result-requires-clause-kept
 tree_result-requires-clause-kept g c =
     let ready = subst IsReady c.in-Tree.is c.requires.ready in
     subst AdmitsStart (sym (c.in-Ok.ensures ready.checked.well_formed)) (subst (λ (p : ReadProblem). holds_all c.args.guard (start_read p) ≡ true) c.in-Tree.is c.requires.kept)
 
-pub returns-in-Ok-clause-candidates : goal.returns-in-Ok-clause-candidates
-returns-in-Ok-clause-candidates g c one is =
+pub returns-in-Ok-clause-of_problem : goal.returns-in-Ok-clause-of_problem
+returns-in-Ok-clause-of_problem g c one is =
     let it = subst (λ (p : ReadProblem). IsReadAs c.args.guard p one) c.in-Tree.is is in
-    subst (λ (p : Problem). AreOf c.args.guard p c.tree_result.result.events.items) (ap (Problem.of_tree c.in-Tree.mode) (c.in-Ok.ensures it.0) ∙ sym it.1) (c.tree_result.ensures.candidates c.args.guard)
+    subst (λ (p : Problem). AreOf c.args.guard p c.tree_result.result.events.items) (ap (Problem.of_tree c.in-Tree.mode) (c.in-Ok.ensures it.0) ∙ sym it.1) (c.tree_result.ensures.of_problem c.args.guard)
 
 pub returns-in-Ok-clause-ends : goal.returns-in-Ok-clause-ends
 returns-in-Ok-clause-ends g c one is =

@@ -14,15 +14,15 @@ use Rattle.problem_run.proofs.run.tree_result.Goals as goal
 pub returns-in-Err-clause-answers : goal.returns-in-Err-clause-answers
 returns-in-Err-clause-answers g c = none_answers g.G.Gate.may_say (records_of c.refused.result.events.items) _ (ap records_of c.refused.ensures.events)
 
-pub returns-in-Err-clause-candidates : goal.returns-in-Err-clause-candidates
-returns-in-Err-clause-candidates g c keeps = none_of keeps (Problem.of_tree c.args.mode _) c.refused.result.events.items c.refused.ensures.events
+pub returns-in-Err-clause-of_problem : goal.returns-in-Err-clause-of_problem
+returns-in-Err-clause-of_problem g c keeps = none_of keeps (Problem.of_tree c.args.mode _) c.refused.result.events.items c.refused.ensures.events
 
-pub returns-in-Ok-clause-candidates : goal.returns-in-Ok-clause-candidates
-returns-in-Ok-clause-candidates g c keeps =
+pub returns-in-Ok-clause-of_problem : goal.returns-in-Ok-clause-of_problem
+returns-in-Ok-clause-of_problem g c keeps =
     let parts = c.args.parts.now in
     let input : TreeInput = input_of parts.lexer parts.formed parts.tree (string_bytes parts.start) parts.tokens.items.items (keeps_admit parts.guard) parts.squeezes in
     subst (λ (mode : GrammarMode). AreOf keeps (Problem.of_tree mode input) c.walk_result.result.events.items) (sym c.in-Perses.is)
-    (are_of_tree Perses c.walk_laws.ensures input c.is_input.ensures.is c.requires.kept c.walk_result.result.events.items keeps c.walk_result.ensures.candidates)
+    (are_of_tree Perses c.walk_laws.ensures input c.is_input.ensures.is c.requires.kept c.walk_result.result.events.items keeps c.walk_result.ensures.of_mode)
 
 pub returns-in-Ok-clause-ends : goal.returns-in-Ok-clause-ends
 returns-in-Ok-clause-ends g c keeps admits =
@@ -34,15 +34,15 @@ returns-in-Ok-clause-ends g c keeps admits =
 pub returns-in-Err-hdd_reducer-clause-answers : goal.returns-in-Err-hdd_reducer-clause-answers
 returns-in-Err-hdd_reducer-clause-answers g c = none_answers g.G.Gate.may_say (records_of c.refused-in-Err-hdd_reducer.result.events.items) _ (ap records_of c.refused-in-Err-hdd_reducer.ensures.events)
 
-pub returns-in-Err-hdd_reducer-clause-candidates : goal.returns-in-Err-hdd_reducer-clause-candidates
-returns-in-Err-hdd_reducer-clause-candidates g c keeps = none_of keeps (Problem.of_tree c.args.mode _) c.refused-in-Err-hdd_reducer.result.events.items c.refused-in-Err-hdd_reducer.ensures.events
+pub returns-in-Err-hdd_reducer-clause-of_problem : goal.returns-in-Err-hdd_reducer-clause-of_problem
+returns-in-Err-hdd_reducer-clause-of_problem g c keeps = none_of keeps (Problem.of_tree c.args.mode _) c.refused-in-Err-hdd_reducer.result.events.items c.refused-in-Err-hdd_reducer.ensures.events
 
-pub returns-in-Ok-hdd_reducer-clause-candidates : goal.returns-in-Ok-hdd_reducer-clause-candidates
-returns-in-Ok-hdd_reducer-clause-candidates g c keeps =
+pub returns-in-Ok-hdd_reducer-clause-of_problem : goal.returns-in-Ok-hdd_reducer-clause-of_problem
+returns-in-Ok-hdd_reducer-clause-of_problem g c keeps =
     let parts = c.args.parts.now in
     let input : TreeInput = input_of parts.lexer parts.formed parts.tree (string_bytes parts.start) parts.tokens.items.items (keeps_admit parts.guard) parts.squeezes in
     subst (λ (mode : GrammarMode). AreOf keeps (Problem.of_tree mode input) c.walk_result-in-Ok-hdd_reducer.result.events.items) (sym c.in-Hdd.is)
-    (are_of_tree Hdd c.walk_laws-in-Hdd.ensures input c.is_input.ensures.is c.requires.kept c.walk_result-in-Ok-hdd_reducer.result.events.items keeps c.walk_result-in-Ok-hdd_reducer.ensures.candidates)
+    (are_of_tree Hdd c.walk_laws-in-Hdd.ensures input c.is_input.ensures.is c.requires.kept c.walk_result-in-Ok-hdd_reducer.result.events.items keeps c.walk_result-in-Ok-hdd_reducer.ensures.of_mode)
 
 pub returns-in-Ok-hdd_reducer-clause-ends : goal.returns-in-Ok-hdd_reducer-clause-ends
 returns-in-Ok-hdd_reducer-clause-ends g c keeps admits =

@@ -4,12 +4,12 @@ use Rattle.tree_mode.specs.Input.{TreeInput}
 use Rattle.tree_mode.specs.InputOf.{input_of}
 use Rattle.problem_run.proofs.run.walk_result.Goals as goal
 
-pub returns-clause-candidates : goal.returns-clause-candidates
-returns-clause-candidates g c =
+pub returns-clause-of_mode : goal.returns-clause-of_mode
+returns-clause-of_mode g c =
     let parts = c.args.parts.now in
     let input : TreeInput = input_of parts.lexer parts.formed parts.tree (string_bytes parts.start) parts.tokens.items.items (keeps_admit parts.guard) parts.squeezes in
     let laws = c.walk_laws.ensures in
-    c.run_to_text.ensures.candidates input c.requires.first (laws.lawful input c.is_input.ensures.is).keeps (laws.begins input c.is_input.ensures.is c.requires.kept).listed
+    c.run_to_text.ensures.of_mode input c.requires.first (laws.lawful input c.is_input.ensures.is).keeps (laws.begins input c.is_input.ensures.is c.requires.kept).listed
 
 pub returns-clause-ends : goal.returns-clause-ends
 returns-clause-ends g c =
