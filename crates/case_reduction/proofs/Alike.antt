@@ -20,7 +20,7 @@ use Rattle.tree_mode.specs.Listed as listed
 use Rattle.tree_rounds.specs.WalkMode.{walk_mode}
 use Rattle.problem_run.specs.declared.problem.GrammarMode.{GrammarMode}
 use Rattle.problem_run.specs.Problem.{IsEditBy, IsReductionOf, Problem, counts_of, questions_of, reduced_text, round_of, tree_reduction}
-use Rattle.case_reduction.specs.Lines.{first_lines, four_lines}
+use Rattle.reduce_journal.specs.Report.{first_lines, four_lines}
 use Rattle.case_reduction.specs.Summary.{rule_map, summary_text}
 
 -- each record has the rule's verdict

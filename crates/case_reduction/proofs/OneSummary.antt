@@ -1,5 +1,5 @@
--- A program has one summary at most, and its lines are those of a report.
-use Rattle.std.proofs.Common.{◌≡◌, ◌∙◌, ℕ, List, [], ◌++◌, None, codes, refl, sym, ap, subst, append_assoc}
+-- A program has one summary at most.
+use Rattle.std.proofs.Common.{◌≡◌, ◌∙◌, ℕ, List, [], None, refl, sym, ap, subst}
 use Rattle.std.proofs.lemmas.Option.{same_Some}
 use Rattle.grammar_tree.specs.Written.{CheckedGrammar, TokenKind, WrittenGrammar}
 use Rattle.grammar_tree.specs.Faults.{start_of}
@@ -11,12 +11,10 @@ use Rattle.case_maker.specs.Cases.{case_text}
 use Rattle.case_maker.specs.Mini.{mini_text}
 use Rattle.case_language.specs.Mini.{mini}
 use Rattle.tree_mode.specs.Input.{TreeInput}
-use Rattle.reduce_journal.specs.Journal.{line}
-use Rattle.reduce_journal.specs.Report.{change}
 use Rattle.problem_run.specs.declared.problem.GrammarMode.{GrammarMode}
 use Rattle.problem_run.specs.Problem.{Problem, questions_of}
 use Rattle.case_reduction.specs.Summary.{IsCaseProblem, IsSummary, rule_map, summary_text}
-use Rattle.case_reduction.specs.Laws.{ReportsBeginSo, SummariesAreOne}
+use Rattle.case_reduction.specs.Laws.{SummariesAreOne}
 use Rattle.case_reduction.proofs.Alike.{rule_says}
 
 made : WrittenGrammar → List TokenKind → ℕ → CheckedGrammar
@@ -47,11 +45,3 @@ summaries_are_one only inputs mode number size one other of also =
   where
     over : {text : List ℕ} (is : IsSummary mode number size text) → text ≡ summary_text is.problem rule_map
     over is = is.is_summary rule_map (λ t here there. refl) (rule_says (questions_of [] is.problem rule_map))
-
-regroup : (a b c d e : List ℕ) → a ++ (b ++ (c ++ (d ++ e))) ≡ (a ++ (b ++ (c ++ d))) ++ e
-regroup a b c d e = simp append_assoc
-
-pub reports_begin_so : ReportsBeginSo
-reports_begin_so counts =
-    regroup (change (codes "units: ") counts.start_units counts.end_units) (change (codes "bytes: ") counts.start_bytes counts.end_bytes) (line (codes "rounds: ") counts.rounds) (line (codes "used: ") counts.used)
-    (line (codes "records: ") counts.records)

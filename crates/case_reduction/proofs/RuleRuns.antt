@@ -27,7 +27,7 @@ use Rattle.problem_run.specs.Ends.{ProblemEnds, ReducesFrom, RunFails}
 use Rattle.problem_run.specs.Read.{IsReadAs}
 use Rattle.problem_run.specs.declared.problem.ReadProblem.{ReadProblem}
 use Rattle.case_language.specs.Laws.{CasesGetYes}
-use Rattle.case_reduction.specs.Lines.{first_lines}
+use Rattle.reduce_journal.specs.Report.{first_lines}
 use Rattle.case_reduction.specs.Summary.{IsCaseProblem, IsSummary}
 use Rattle.case_reduction.proofs.Alike.{BySaid, by_rule, over_each}
 use Rattle.case_reduction.proofs.CaseTrees.{begins_with_case}

@@ -9,11 +9,11 @@ use Rattle.case_maker.specs.Cases.{case_text}
 use Rattle.case_maker.specs.Mini.{mini_text}
 use Rattle.tree_mode.specs.Input.{TreeInput}
 use Rattle.grammar_input.specs.Parsed.{IsInputOf}
+use Rattle.reduce_journal.specs.Report.{four_lines}
 use Rattle.reduction_rounds.specs.Laws.{Agree, HasVerdicts}
 use Rattle.reduction_rounds.specs.RoundsPlan.{capped_count}
 use Rattle.problem_run.specs.declared.problem.GrammarMode.{GrammarMode}
 use Rattle.problem_run.specs.Problem.{IsReductionOf, Problem, questions_of, reduced_text, reduced_units, rounds_of, start_of, units_of}
-use Rattle.case_reduction.specs.Lines.{four_lines}
 
 -- what the rule that asks for the letters Q and Z says of each text: its number has their bytes
 abbrev pub rule_map : List ℕ → Option Verdict

@@ -1,7 +1,7 @@
-//! What follows from what a summary is. Each law is a function that does nothing: a caller calls it so
+//! What follows from what a summary is. The law is a function that does nothing: a caller calls it so
 //! that its proof has the law.
 
-ghost use Rattle.case_reduction.specs.Laws.{ReportsBeginSo, SummariesAreOne};
+ghost use Rattle.case_reduction.specs.Laws.{SummariesAreOne};
 
 use case_language::mini_is_spelled;
 use grammar_input::inputs_are_one;
@@ -13,8 +13,3 @@ pub fn summaries_are_one()
     mini_is_spelled();
     inputs_are_one();
 }
-
-/// The lines of a summary are those of a report, but for the last one of these.
-pub fn reports_begin_so()
-    ensures { ReportsBeginSo }
-{}

@@ -12,5 +12,5 @@ mod summary;
 mod tests;
 
 pub use faults::Memory;
-pub use laws::{reports_begin_so, summaries_are_one};
+pub use laws::summaries_are_one;
 pub use reduce::case_summary;

@@ -1,5 +1,5 @@
 ghost use Rattle.std.specs.Prelude.{◌≡◌, IfOk};
-ghost use Rattle.reduce_journal.specs.Report.{report_text};
+ghost use Rattle.reduce_journal.specs.Report.{first_lines, report_text};
 
 use faults::Memory;
 use std::alloc::Global;
@@ -23,9 +23,9 @@ pub struct Counts {
     pub records: u64,
 }
 
-/// The five lines of the report, each ended by a newline.
-pub fn report(alloc: Global, counts: &Counts) -> Result<Vec<u8>, Memory>
-    ensures { IfOk result (λ text. text.items ≡ report_text counts.now) }
+/// The first four lines of a report, each ended by a newline: all but how many records there are.
+pub fn first_lines(alloc: Global, counts: &Counts) -> Result<Vec<u8>, Memory>
+    ensures { IfOk result (λ text. text.items ≡ first_lines counts.now) }
 {
     let Counts {
         start_units,
@@ -34,10 +34,21 @@ pub fn report(alloc: Global, counts: &Counts) -> Result<Vec<u8>, Memory>
         end_bytes,
         rounds,
         used,
-        records,
+        records: _,
     } = *counts;
     let text = format!(in alloc;
-        "units: {start_units} -> {end_units}\nbytes: {start_bytes} -> {end_bytes}\nrounds: {rounds}\nused: {used}\nrecords: {records}\n"
+        "units: {start_units} -> {end_units}\nbytes: {start_bytes} -> {end_bytes}\nrounds: {rounds}\nused: {used}\n"
     )?;
     Ok(text.into_bytes())
+}
+
+/// The five lines of a report, each ended by a newline.
+pub fn report(alloc: Global, counts: &Counts) -> Result<Vec<u8>, Memory>
+    ensures { IfOk result (λ text. text.items ≡ report_text counts.now) }
+{
+    let mut text = first_lines(alloc, counts)?;
+    let records = counts.records;
+    let last = format!(in alloc; "records: {records}\n")?;
+    text.extend_from_slice(last.as_bytes())?;
+    Ok(text)
 }

@@ -3,8 +3,8 @@
 //! A reduction's history is a list of [`Event`]s: verdicts as they came, and the answers that the
 //! reducer was given. Read `specs/History.antt` and `specs/Journal.antt` first. [`write_head`] begins
 //! a journal and [`write_event`] adds to it; [`read_journal`] reads it back, also where the run that
-//! wrote it was killed. [`report`] makes the five lines that a reduction ends with. So a history is
-//! kept:
+//! wrote it was killed. [`report`] makes the five lines that a reduction ends with, and [`first_lines`]
+//! the first four of them. So a history is kept:
 //!
 //! ```
 //! write_head(&mut journal)?;
@@ -21,7 +21,7 @@ mod parts;
 mod read;
 mod write;
 
-pub use counts::{Counts, report};
+pub use counts::{Counts, first_lines, report};
 pub use event::Event;
 pub use faults::Memory;
 pub use laws::{

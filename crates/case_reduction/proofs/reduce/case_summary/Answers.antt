@@ -1,5 +1,5 @@
 use Rattle.std.proofs.Common.{◌∙◌, ◌++◌}
-use Rattle.case_reduction.specs.Lines.{first_lines}
+use Rattle.reduce_journal.specs.Report.{first_lines}
 use Rattle.case_reduction.specs.Summary.{IsSummary}
 use Rattle.case_reduction.proofs.RuleRuns.{alike_in, answered, ends_in_memory, ends_with_summary}
 use Rattle.case_reduction.proofs.reduce.case_summary.Goals as goal

@@ -1,5 +1,0 @@
-use Rattle.std.proofs.Common.{◌∙◌, ap, append_assoc}
-use Rattle.reduce_journal.proofs.counts.report.Goals as goal
-
-pub returns : goal.returns
-returns c = ap (λ v. v.items) c.into_bytes.ensures.value ∙ (c.in_ok-text.ensures.ok ∙ simp append_assoc)
