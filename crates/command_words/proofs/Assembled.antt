@@ -6,8 +6,8 @@ use Rattle.std.specs.Str.Parse.{digits_value}
 use Rattle.clap.specs.declared.parser.matches.ArgMatches.{ArgMatches}
 use Rattle.command_words.specs.Options.{OptionRow, Use, Values, fits_table, is_number_in, options_in, takes_value, uses_from, values_for, where_fits}
 use Rattle.command_words.specs.Tables.{normal_table, reduce_table, selftest_table, tree_modes}
-use Rattle.command_words.specs.Commands.{Command, ModeOptions, NamedGrammar, ReduceOptions, SelftestOptions, command_line_of, command_of, grammar_given, is_given, mode_options, normal_line, number_of, reduce_line, reduce_of, selftest_line, selftest_of, text_of, tree_mode_named, tree_mode_of, value_of, value_or}
-use Rattle.command_words.specs.Found.{HasFound, files_given, jobs_found, keeps_found, line_found, line_of_parts, mode_found, number_found, values_fit}
+use Rattle.command_words.specs.Commands.{Command, GrammarSource, ModeOptions, ReduceOptions, SelftestOptions, command_line_of, command_of, is_given, mode_options, named_grammar, normal_line, number_of, reduce_line, reduce_of, reduction_in, selftest_line, selftest_of, text_of, tree_mode_named, tree_mode_of, value_of, value_or}
+use Rattle.command_words.specs.Found.{HasFound, fitting_jobs, fitting_keeps, fitting_mode, fitting_number, line_of_parts, line_with, names_files, values_fit}
 use Rattle.command_words.specs.Read.{IsAnswered, IsOnce, IsTable}
 use Rattle.command_words.specs.declared.commands.TreeMode.{TreeMode}
 use Rattle.command_words.proofs.Fits.{fits_once, flags_once, normal_fits, reduce_fits, selftest_fits}
@@ -45,19 +45,6 @@ selftest_is_table = ((refl, (refl, (refl, tt))), refl)
 
 -- ---- a line of `reduce`
 
--- the line with this mode
-abbrev in_mode : List Use → ModeOptions → ReduceOptions
-in_mode uses mode = record {
-  mode = mode;
-  input = text_of (codes "input") uses;
-  output = text_of (codes "output") uses;
-  script = text_of (codes "script") uses;
-  journal = value_or (text_of (codes "output") uses ++ codes ".journal") (codes "journal") uses;
-  work = value_or (codes "perses-work") (codes "work") uses;
-  jobs = digits_value 10 (value_or (codes "1") (codes "jobs") uses);
-  keeps = values_for (codes "keep") uses;
-}
-
 abbrev nothing : Option ReduceOptions
 nothing = None
 
@@ -68,7 +55,7 @@ either_nothing false = refl
 -- part by part, or all at once
 by_parts : (uses : List Use) (files mode_fits jobs_fit keeps_fit : Bool) (mode : Option ModeOptions)
     → (if files then line_of_parts uses (if mode_fits then mode else None) (if jobs_fit then Some (digits_value 10 (value_or (codes "1") (codes "jobs") uses)) else None) (if keeps_fit then Some (values_for (codes "keep") uses) else None) else nothing)
-    ≡ (if files && (mode_fits && (jobs_fit && keeps_fit)) then option_map (in_mode uses) mode else nothing)
+    ≡ (if files && (mode_fits && (jobs_fit && keeps_fit)) then option_map (reduction_in uses) mode else nothing)
 by_parts uses false mode_fits jobs_fit keeps_fit mode = refl
 by_parts uses true false jobs_fit keeps_fit mode = refl
 by_parts uses true true jobs_fit keeps_fit None = either_nothing (jobs_fit && keeps_fit)
@@ -80,15 +67,15 @@ where_true : (uses : List Use) (b : Bool) → (if b then reduce_of uses else Non
 where_true uses true = refl
 where_true uses false = refl
 
-pub reduce_found : (uses : List Use) → IsOnce reduce_table uses → line_found uses (keeps_found uses) ≡ option_and_then reduce_of (where_fits reduce_table (Some uses))
+pub reduce_found : (uses : List Use) → IsOnce reduce_table uses → line_with uses (fitting_keeps uses) ≡ option_and_then reduce_of (where_fits reduce_table (Some uses))
 reduce_found uses once =
-    by_parts uses (files_given uses) (values_fit (Values.one_of (codes "lines" ∷ tree_modes)) (codes "mode") uses) (values_fit (Values.number 1 1) (codes "jobs") uses) (nat_le (length (values_for (codes "keep") uses)) 8) (mode_options uses)
+    by_parts uses (names_files uses) (values_fit (Values.one_of (codes "lines" ∷ tree_modes)) (codes "mode") uses) (values_fit (Values.number 1 1) (codes "jobs") uses) (nat_le (length (values_for (codes "keep") uses)) 8) (mode_options uses)
     ∙ sym (ap (λ (b : Bool). if b then reduce_of uses else None) (reduce_fits uses once))
     ∙ where_true uses (fits_table reduce_table uses)
 
 -- without keep texts there is no line
-pub no_line : (uses : List Use) → None ≡ line_found uses None
-no_line uses = go (files_given uses) (mode_found uses) (jobs_found uses)
+pub no_line : (uses : List Use) → None ≡ line_with uses None
+no_line uses = go (names_files uses) (fitting_mode uses) (fitting_jobs uses)
   where
     go : (files : Bool) (mode : Option ModeOptions) (jobs : Option ℕ) → None ≡ (if files then line_of_parts uses mode jobs None else None)
     go false mode jobs = refl
@@ -96,18 +83,18 @@ no_line uses = go (files_given uses) (mode_found uses) (jobs_found uses)
     go true (Some mode) None = refl
     go true (Some mode) (Some jobs) = refl
 
-pub line_without_files : (uses : List Use) (keeps : Option (List (List ℕ))) → files_given uses ≡ false → None ≡ line_found uses keeps
-line_without_files uses keeps none = sym (ap (λ (b : Bool). if b then line_of_parts uses (mode_found uses) (jobs_found uses) keeps else None) none)
+pub line_without_files : (uses : List Use) (keeps : Option (List (List ℕ))) → names_files uses ≡ false → None ≡ line_with uses keeps
+line_without_files uses keeps none = sym (ap (λ (b : Bool). if b then line_of_parts uses (fitting_mode uses) (fitting_jobs uses) keeps else None) none)
 
-pub line_without_mode : (uses : List Use) (keeps : Option (List (List ℕ))) → None ≡ mode_found uses → None ≡ line_found uses keeps
-line_without_mode uses keeps none = go (files_given uses) ∙ ap (λ (mode : Option ModeOptions). if files_given uses then line_of_parts uses mode (jobs_found uses) keeps else None) none
+pub line_without_mode : (uses : List Use) (keeps : Option (List (List ℕ))) → None ≡ fitting_mode uses → None ≡ line_with uses keeps
+line_without_mode uses keeps none = go (names_files uses) ∙ ap (λ (mode : Option ModeOptions). if names_files uses then line_of_parts uses mode (fitting_jobs uses) keeps else None) none
   where
-    go : (files : Bool) → None ≡ (if files then line_of_parts uses None (jobs_found uses) keeps else None)
+    go : (files : Bool) → None ≡ (if files then line_of_parts uses None (fitting_jobs uses) keeps else None)
     go true = refl
     go false = refl
 
-pub line_without_jobs : (uses : List Use) (keeps : Option (List (List ℕ))) → None ≡ jobs_found uses → None ≡ line_found uses keeps
-line_without_jobs uses keeps none = go (files_given uses) (mode_found uses) ∙ ap (λ (jobs : Option ℕ). if files_given uses then line_of_parts uses (mode_found uses) jobs keeps else None) none
+pub line_without_jobs : (uses : List Use) (keeps : Option (List (List ℕ))) → None ≡ fitting_jobs uses → None ≡ line_with uses keeps
+line_without_jobs uses keeps none = go (names_files uses) (fitting_mode uses) ∙ ap (λ (jobs : Option ℕ). if names_files uses then line_of_parts uses (fitting_mode uses) jobs keeps else None) none
   where
     go : (files : Bool) (mode : Option ModeOptions) → None ≡ (if files then line_of_parts uses mode None keeps else None)
     go false mode = refl
@@ -122,28 +109,28 @@ line_is : (uses : List Use) (mode : ModeOptions) (jobs : ℕ) (keeps : List (Lis
 line_is uses mode jobs keeps input output script journal work input_is output_is script_is journal_is work_is = rw (input_is, output_is, script_is, journal_is, work_is) refl
 
 pub this_line : (uses : List Use) (mode : ModeOptions) (jobs : ℕ) (keeps : List (List ℕ)) (input output script : List ℕ) (journal : Option (List ℕ)) (work : List ℕ)
-    → (files_given uses ≡ true) × (input ≡ text_of (codes "input") uses) × (output ≡ text_of (codes "output") uses) × (script ≡ text_of (codes "script") uses)
-    → journal ≡ value_of (codes "journal") uses → work ≡ value_or (codes "perses-work") (codes "work") uses → Some mode ≡ mode_found uses → Some jobs ≡ jobs_found uses
+    → (names_files uses ≡ true) × (input ≡ text_of (codes "input") uses) × (output ≡ text_of (codes "output") uses) × (script ≡ text_of (codes "script") uses)
+    → journal ≡ value_of (codes "journal") uses → work ≡ value_or (codes "perses-work") (codes "work") uses → Some mode ≡ fitting_mode uses → Some jobs ≡ fitting_jobs uses
     → Some (record { mode = mode; input = input; output = output; script = script; journal = unwrap_or journal (output ++ codes ".journal"); work = work; jobs = jobs; keeps = keeps })
-    ≡ line_found uses (Some keeps)
+    ≡ line_with uses (Some keeps)
 this_line uses mode jobs keeps input output script journal work files journal_is work_is mode_is jobs_are =
     line_is uses mode jobs keeps input output script journal work files.1 files.2 files.3 journal_is work_is
     ∙ ap₂ (λ (m : Option ModeOptions) (j : Option ℕ). line_of_parts uses m j (Some keeps)) mode_is jobs_are
-    ∙ sym (ap (λ (b : Bool). if b then line_of_parts uses (mode_found uses) (jobs_found uses) (Some keeps) else None) files.0)
+    ∙ sym (ap (λ (b : Bool). if b then line_of_parts uses (fitting_mode uses) (fitting_jobs uses) (Some keeps) else None) files.0)
 
 -- ---- a line of `normal`
 
-abbrev grammar_at : List Use → List ℕ → NamedGrammar
+abbrev grammar_at : List Use → List ℕ → GrammarSource
 grammar_at uses path = record { path = path; start = value_of (codes "start") uses }
 
-pub normal_found : (uses : List Use) → IsOnce normal_table uses → grammar_given uses ≡ option_and_then grammar_given (where_fits normal_table (Some uses))
-normal_found uses once = go (value_of (codes "grammar") uses) refl ∙ sym (ap (λ (b : Bool). option_and_then grammar_given (if b then Some uses else None)) (normal_fits uses once))
+pub normal_found : (uses : List Use) → IsOnce normal_table uses → named_grammar uses ≡ option_and_then named_grammar (where_fits normal_table (Some uses))
+normal_found uses once = go (value_of (codes "grammar") uses) refl ∙ sym (ap (λ (b : Bool). option_and_then named_grammar (if b then Some uses else None)) (normal_fits uses once))
   where
-    go : (path : Option (List ℕ)) → value_of (codes "grammar") uses ≡ path → grammar_given uses ≡ option_and_then grammar_given (if is_given (codes "grammar") uses then Some uses else None)
+    go : (path : Option (List ℕ)) → value_of (codes "grammar") uses ≡ path → named_grammar uses ≡ option_and_then named_grammar (if is_given (codes "grammar") uses then Some uses else None)
     go None none =
         ap (option_map (grammar_at uses)) none
-        ∙ sym (ap (λ (p : Option (List ℕ)). option_and_then grammar_given (if is_some {T = List ℕ} p then Some uses else None)) none)
-    go (Some path) some = sym (ap (λ (p : Option (List ℕ)). option_and_then grammar_given (if is_some {T = List ℕ} p then Some uses else None)) some)
+        ∙ sym (ap (λ (p : Option (List ℕ)). option_and_then named_grammar (if is_some {T = List ℕ} p then Some uses else None)) none)
+    go (Some path) some = sym (ap (λ (p : Option (List ℕ)). option_and_then named_grammar (if is_some {T = List ℕ} p then Some uses else None)) some)
 
 -- ---- a line of `selftest`
 
@@ -153,15 +140,15 @@ found_from least most values =
     if is_some {T = List ℕ} (slice_get values 0) && list_all (takes_value (Values.number least most)) values then Some (digits_value 10 (unwrap_or (slice_get values 0) [])) else None
 
 pub this_number : (least most : ℕ) (name : List ℕ) (uses : List Use) (text : List ℕ) (r : Option ℕ) → length (values_for name uses) ≤ 1 → value_of name uses ≡ Some text
-    → MatchOption r (is_number_in least most text ≡ false) (λ n. (is_number_in least most text ≡ true) × (n ≡ digits_value 10 text)) → r ≡ number_found least most name uses
+    → MatchOption r (is_number_in least most text ≡ false) (λ n. (is_number_in least most text ≡ true) × (n ≡ digits_value 10 text)) → r ≡ fitting_number least most name uses
 this_number least most name uses text r few some reads = number_read least most text r reads ∙ sym (ap (found_from least most) (one_value (values_for name uses) text few some))
 
 -- the mode that these values give, where they are one
 abbrev pub tree_mode_from : List (List ℕ) → Option TreeMode
 tree_mode_from values = if list_all (takes_value (Values.one_of tree_modes)) values then Some (tree_mode_named (unwrap_or (slice_get values 0) (codes "perses"))) else None
 
-abbrev pub tree_mode_found : List Use → Option TreeMode
-tree_mode_found uses = tree_mode_from (values_for (codes "mode") uses)
+abbrev pub fitting_tree_mode : List Use → Option TreeMode
+fitting_tree_mode uses = tree_mode_from (values_for (codes "mode") uses)
 
 -- the mode of this name, where it is one
 abbrev pub IsModeOf : List ℕ → Option TreeMode → Type 0
@@ -175,11 +162,11 @@ and_none : (b : Bool) (mode : TreeMode) → (if b then Some mode else None) ≡ 
 and_none true mode = refl
 and_none false mode = refl
 
-pub this_mode : (uses : List Use) (text : List ℕ) (r : Option TreeMode) → length (values_for (codes "mode") uses) ≤ 1 → text ≡ value_or (codes "perses") (codes "mode") uses → IsModeOf text r → r ≡ tree_mode_found uses
+pub this_mode : (uses : List Use) (text : List ℕ) (r : Option TreeMode) → length (values_for (codes "mode") uses) ≤ 1 → text ≡ value_or (codes "perses") (codes "mode") uses → IsModeOf text r → r ≡ fitting_tree_mode uses
 this_mode uses text r few is reads = mode_read text r reads ∙ ap (λ (t : List ℕ). if takes_value (Values.one_of tree_modes) t then Some (tree_mode_named t) else None) is ∙ go (value_of (codes "mode") uses) refl
   where
     go : (o : Option (List ℕ)) → value_of (codes "mode") uses ≡ o
-        → (if takes_value (Values.one_of tree_modes) (value_or (codes "perses") (codes "mode") uses) then Some (tree_mode_named (value_or (codes "perses") (codes "mode") uses)) else None) ≡ tree_mode_found uses
+        → (if takes_value (Values.one_of tree_modes) (value_or (codes "perses") (codes "mode") uses) then Some (tree_mode_named (value_or (codes "perses") (codes "mode") uses)) else None) ≡ fitting_tree_mode uses
     go None none =
         ap (λ (x : Option (List ℕ)). if takes_value (Values.one_of tree_modes) (unwrap_or x (codes "perses")) then Some (tree_mode_named (unwrap_or x (codes "perses"))) else None) none
         ∙ sym (ap tree_mode_from (no_values (values_for (codes "mode") uses) none))
@@ -196,7 +183,7 @@ selftest_parts (Some number) (Some size) None = None
 selftest_parts (Some number) (Some size) (Some mode) = Some (record { number = number; size = size; mode = mode })
 
 abbrev selftest_from : List Use → Option SelftestOptions
-selftest_from uses = selftest_parts (number_found 0 4294967295 (codes "number") uses) (number_found 1 1500 (codes "size") uses) (tree_mode_found uses)
+selftest_from uses = selftest_parts (fitting_number 0 4294967295 (codes "number") uses) (fitting_number 1 1500 (codes "size") uses) (fitting_tree_mode uses)
 
 selftest_by_parts : (uses : List Use) (number size mode : Bool)
     → selftest_parts (if number then Some (number_of (codes "number") uses) else None) (if size then Some (number_of (codes "size") uses) else None) (if mode then Some (tree_mode_of uses) else None)
@@ -212,35 +199,35 @@ selftest_found uses once =
     (values_fit (Values.one_of tree_modes) (codes "mode") uses)
     ∙ sym (ap (λ (b : Bool). option_map selftest_of (if b then Some uses else None)) (selftest_fits uses once))
 
-pub selftest_without_number : (uses : List Use) → IsOnce selftest_table uses → None ≡ number_found 0 4294967295 (codes "number") uses → None ≡ option_map selftest_of (where_fits selftest_table (Some uses))
+pub selftest_without_number : (uses : List Use) → IsOnce selftest_table uses → None ≡ fitting_number 0 4294967295 (codes "number") uses → None ≡ option_map selftest_of (where_fits selftest_table (Some uses))
 selftest_without_number uses once none =
-    ap (λ (n : Option ℕ). selftest_parts n (number_found 1 1500 (codes "size") uses) (tree_mode_found uses)) none ∙ selftest_found uses once
+    ap (λ (n : Option ℕ). selftest_parts n (fitting_number 1 1500 (codes "size") uses) (fitting_tree_mode uses)) none ∙ selftest_found uses once
 
-pub selftest_without_size : (uses : List Use) → IsOnce selftest_table uses → None ≡ number_found 1 1500 (codes "size") uses → None ≡ option_map selftest_of (where_fits selftest_table (Some uses))
+pub selftest_without_size : (uses : List Use) → IsOnce selftest_table uses → None ≡ fitting_number 1 1500 (codes "size") uses → None ≡ option_map selftest_of (where_fits selftest_table (Some uses))
 selftest_without_size uses once none =
-    go (number_found 0 4294967295 (codes "number") uses)
-    ∙ ap (λ (n : Option ℕ). selftest_parts (number_found 0 4294967295 (codes "number") uses) n (tree_mode_found uses)) none ∙ selftest_found uses once
+    go (fitting_number 0 4294967295 (codes "number") uses)
+    ∙ ap (λ (n : Option ℕ). selftest_parts (fitting_number 0 4294967295 (codes "number") uses) n (fitting_tree_mode uses)) none ∙ selftest_found uses once
   where
-    go : (n : Option ℕ) → None ≡ selftest_parts n None (tree_mode_found uses)
+    go : (n : Option ℕ) → None ≡ selftest_parts n None (fitting_tree_mode uses)
     go None = refl
     go (Some n) = refl
 
-pub selftest_without_mode : (uses : List Use) → IsOnce selftest_table uses → None ≡ tree_mode_found uses → None ≡ option_map selftest_of (where_fits selftest_table (Some uses))
+pub selftest_without_mode : (uses : List Use) → IsOnce selftest_table uses → None ≡ fitting_tree_mode uses → None ≡ option_map selftest_of (where_fits selftest_table (Some uses))
 selftest_without_mode uses once none =
-    go (number_found 0 4294967295 (codes "number") uses) (number_found 1 1500 (codes "size") uses)
-    ∙ ap (λ (m : Option TreeMode). selftest_parts (number_found 0 4294967295 (codes "number") uses) (number_found 1 1500 (codes "size") uses) m) none ∙ selftest_found uses once
+    go (fitting_number 0 4294967295 (codes "number") uses) (fitting_number 1 1500 (codes "size") uses)
+    ∙ ap (λ (m : Option TreeMode). selftest_parts (fitting_number 0 4294967295 (codes "number") uses) (fitting_number 1 1500 (codes "size") uses) m) none ∙ selftest_found uses once
   where
     go : (n s : Option ℕ) → None ≡ selftest_parts n s None
     go None s = refl
     go (Some n) None = refl
     go (Some n) (Some s) = refl
 
-pub this_selftest : (uses : List Use) (number size : ℕ) (mode : TreeMode) → IsOnce selftest_table uses → Some number ≡ number_found 0 4294967295 (codes "number") uses
-    → Some size ≡ number_found 1 1500 (codes "size") uses → Some mode ≡ tree_mode_found uses
+pub this_selftest : (uses : List Use) (number size : ℕ) (mode : TreeMode) → IsOnce selftest_table uses → Some number ≡ fitting_number 0 4294967295 (codes "number") uses
+    → Some size ≡ fitting_number 1 1500 (codes "size") uses → Some mode ≡ fitting_tree_mode uses
     → Some (record { number = number; size = size; mode = mode }) ≡ option_map selftest_of (where_fits selftest_table (Some uses))
 this_selftest uses number size mode once number_is size_is mode_is =
     ap₂ (λ (n s : Option ℕ). selftest_parts n s (Some mode)) number_is size_is
-    ∙ ap (λ (m : Option TreeMode). selftest_parts (number_found 0 4294967295 (codes "number") uses) (number_found 1 1500 (codes "size") uses) m) mode_is
+    ∙ ap (λ (m : Option TreeMode). selftest_parts (fitting_number 0 4294967295 (codes "number") uses) (fitting_number 1 1500 (codes "size") uses) m) mode_is
     ∙ selftest_found uses once
 
 -- ---- a command, by its name
@@ -262,7 +249,7 @@ pub reduce_asked : (name : List ℕ) (words : List (List ℕ)) (line : Option Re
 reduce_asked name words line is line_is =
     ap (option_map Command.reduce) line_is ∙ sym (ap (λ (b : Bool). if b then option_map Command.reduce (reduce_line words) else after_reduce name words) is)
 
-pub normal_asked : (name : List ℕ) (words : List (List ℕ)) (line : Option NamedGrammar) → bytes_eq name (codes "reduce") ≡ false → bytes_eq name (codes "normal") ≡ true → line ≡ normal_line words
+pub normal_asked : (name : List ℕ) (words : List (List ℕ)) (line : Option GrammarSource) → bytes_eq name (codes "reduce") ≡ false → bytes_eq name (codes "normal") ≡ true → line ≡ normal_line words
     → option_map Command.normal line ≡ command_of name words
 normal_asked name words line no_reduce is line_is =
     ap (option_map Command.normal) line_is ∙ sym (ap (λ (b : Bool). if b then option_map Command.normal (normal_line words) else after_normal name words) is)

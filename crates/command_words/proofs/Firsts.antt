@@ -6,8 +6,8 @@ use Rattle.clap.specs.declared.parser.matches.ArgMatches.{ArgMatches}
 use Rattle.clap.specs.declared.parser.matches.MatchedArg.{MatchedArg}
 use Rattle.command_words.specs.Options.{OptionRow, Use, Values, takes_value, values_for}
 use Rattle.command_words.specs.Tables.{optional, reduce_table, tree_modes}
-use Rattle.command_words.specs.Commands.{ModeOptions, NamedGrammar, grammar_found, grammar_given, is_given, lines_found, text_of, tree_mode_named, value_of, value_or}
-use Rattle.command_words.specs.Found.{HasFound, files_given, mode_found}
+use Rattle.command_words.specs.Commands.{GrammarSource, ModeOptions, is_given, lines_options, named_grammar, text_of, tree_mode_named, trees_options, value_of, value_or}
+use Rattle.command_words.specs.Found.{HasFound, fitting_mode, names_files}
 use Rattle.command_words.specs.Read.{flag_text, NamesValue, where_some}
 use Rattle.command_words.specs.declared.commands.TreeMode.{TreeMode}
 use Rattle.command_words.proofs.FoundValues.{given_none, given_some, mode_default, mode_of_lines, mode_of_trees, mode_unknown}
@@ -65,17 +65,17 @@ third_false false b c is = refl
 all_true : (a b c : Bool) → a ≡ true → b ≡ true → c ≡ true → (a && (b && c)) ≡ true
 all_true a b c a_is b_is c_is = rw (a_is, b_is, c_is) refl
 
-pub no_input : (uses : List Use) → value_of (codes "input") uses ≡ None → files_given uses ≡ false
+pub no_input : (uses : List Use) → value_of (codes "input") uses ≡ None → names_files uses ≡ false
 no_input uses none = first_false _ (is_given (codes "output") uses) (is_given (codes "script") uses) (given_none (codes "input") uses none)
 
-pub no_output : (uses : List Use) → value_of (codes "output") uses ≡ None → files_given uses ≡ false
+pub no_output : (uses : List Use) → value_of (codes "output") uses ≡ None → names_files uses ≡ false
 no_output uses none = second_false (is_given (codes "input") uses) _ (is_given (codes "script") uses) (given_none (codes "output") uses none)
 
-pub no_script : (uses : List Use) → value_of (codes "script") uses ≡ None → files_given uses ≡ false
+pub no_script : (uses : List Use) → value_of (codes "script") uses ≡ None → names_files uses ≡ false
 no_script uses none = third_false (is_given (codes "input") uses) (is_given (codes "output") uses) _ (given_none (codes "script") uses none)
 
 pub these_files : (uses : List Use) (input output script : List ℕ) → value_of (codes "input") uses ≡ Some input → value_of (codes "output") uses ≡ Some output → value_of (codes "script") uses ≡ Some script
-    → (files_given uses ≡ true) × (input ≡ text_of (codes "input") uses) × (output ≡ text_of (codes "output") uses) × (script ≡ text_of (codes "script") uses)
+    → (names_files uses ≡ true) × (input ≡ text_of (codes "input") uses) × (output ≡ text_of (codes "output") uses) × (script ≡ text_of (codes "script") uses)
 these_files uses input output script input_is output_is script_is =
     let i = given_some (codes "input") input uses input_is in
     let o = given_some (codes "output") output uses output_is in
@@ -84,23 +84,23 @@ these_files uses input output script input_is output_is script_is =
 
 -- ---- a grammar
 
-abbrev grammar_with : List ℕ → Option (List ℕ) → NamedGrammar
+abbrev grammar_with : List ℕ → Option (List ℕ) → GrammarSource
 grammar_with path start = record { path = path; start = start }
 
-pub no_grammar : (uses : List Use) → value_of (codes "grammar") uses ≡ None → None ≡ grammar_given uses
+pub no_grammar : (uses : List Use) → value_of (codes "grammar") uses ≡ None → None ≡ named_grammar uses
 no_grammar uses none = sym (ap (option_map (λ (path : List ℕ). grammar_with path (value_of (codes "start") uses))) none)
 
-pub this_grammar : (uses : List Use) (path : List ℕ) (start : Option (List ℕ)) → value_of (codes "grammar") uses ≡ Some path → start ≡ value_of (codes "start") uses → Some (grammar_with path start) ≡ grammar_given uses
+pub this_grammar : (uses : List Use) (path : List ℕ) (start : Option (List ℕ)) → value_of (codes "grammar") uses ≡ Some path → start ≡ value_of (codes "start") uses → Some (grammar_with path start) ≡ named_grammar uses
 this_grammar uses path start is start_is =
     ap (λ (s : Option (List ℕ)). Some (grammar_with path s)) start_is
     ∙ sym (ap (option_map (λ (p : List ℕ). grammar_with p (value_of (codes "start") uses))) is)
 
-abbrev with_mode : TreeMode → Bool → NamedGrammar → ModeOptions
+abbrev with_mode : TreeMode → Bool → GrammarSource → ModeOptions
 with_mode mode squeeze grammar = ModeOptions.by_grammar (record { grammar = grammar; mode = mode; squeeze = squeeze })
 
 -- a mode of trees, by the grammar that is read and the flag
-pub trees_found : (uses : List Use) (mode : TreeMode) (grammar : Option NamedGrammar) (squeeze : Bool) → grammar ≡ grammar_given uses → squeeze ≡ is_given (codes "squeeze") uses
-    → option_map (with_mode mode squeeze) grammar ≡ grammar_found mode uses
+pub trees_found : (uses : List Use) (mode : TreeMode) (grammar : Option GrammarSource) (squeeze : Bool) → grammar ≡ named_grammar uses → squeeze ≡ is_given (codes "squeeze") uses
+    → option_map (with_mode mode squeeze) grammar ≡ trees_options mode uses
 trees_found uses mode grammar squeeze grammar_is squeeze_is =
     ap (λ (b : Bool). option_map (with_mode mode b) grammar) squeeze_is
     ∙ ap (option_map (with_mode mode (is_given (codes "squeeze") uses))) grammar_is
@@ -114,19 +114,19 @@ mode_text = value_or (codes "perses") (codes "mode")
 pub mode_once : (uses : List Use) (m : ArgMatches) → HasFound reduce_table uses m → length (values_for (codes "mode") uses) ≤ 1
 mode_once uses m has = has.once (optional (codes "mode") (Values.one_of (codes "lines" ∷ tree_modes))) refl refl
 
-pub lines_mode : (uses : List Use) → length (values_for (codes "mode") uses) ≤ 1 → bytes_eq (mode_text uses) (codes "lines") ≡ true → lines_found uses ≡ mode_found uses
+pub lines_mode : (uses : List Use) → length (values_for (codes "mode") uses) ≤ 1 → bytes_eq (mode_text uses) (codes "lines") ≡ true → lines_options uses ≡ fitting_mode uses
 lines_mode uses few is = go (value_of (codes "mode") uses) refl
   where
-    go : (o : Option (List ℕ)) → value_of (codes "mode") uses ≡ o → lines_found uses ≡ mode_found uses
+    go : (o : Option (List ℕ)) → value_of (codes "mode") uses ≡ o → lines_options uses ≡ fitting_mode uses
     go None none =
         let no : false ≡ true = sym (ap (λ (x : Option (List ℕ)). bytes_eq (unwrap_or x (codes "perses")) (codes "lines")) none) ∙ is in
         absurd (true≢false (sym no))
     go (Some text) some = mode_of_lines uses text few some (sym (ap (λ (x : Option (List ℕ)). bytes_eq (unwrap_or x (codes "perses")) (codes "lines")) some) ∙ is)
 
-pub no_mode : (uses : List Use) → length (values_for (codes "mode") uses) ≤ 1 → bytes_eq (mode_text uses) (codes "lines") ≡ false → takes_value (Values.one_of tree_modes) (mode_text uses) ≡ false → None ≡ mode_found uses
+pub no_mode : (uses : List Use) → length (values_for (codes "mode") uses) ≤ 1 → bytes_eq (mode_text uses) (codes "lines") ≡ false → takes_value (Values.one_of tree_modes) (mode_text uses) ≡ false → None ≡ fitting_mode uses
 no_mode uses few other takes = go (value_of (codes "mode") uses) refl
   where
-    go : (o : Option (List ℕ)) → value_of (codes "mode") uses ≡ o → None ≡ mode_found uses
+    go : (o : Option (List ℕ)) → value_of (codes "mode") uses ≡ o → None ≡ fitting_mode uses
     go None none =
         let yes : true ≡ false = sym (ap (λ (x : Option (List ℕ)). takes_value (Values.one_of tree_modes) (unwrap_or x (codes "perses"))) none) ∙ takes in
         absurd (true≢false yes)
@@ -135,23 +135,23 @@ no_mode uses few other takes = go (value_of (codes "mode") uses) refl
         (sym (ap (λ (x : Option (List ℕ)). takes_value (Values.one_of tree_modes) (unwrap_or x (codes "perses"))) some) ∙ takes)
 
 pub tree_mode : (uses : List Use) (mode : TreeMode) → length (values_for (codes "mode") uses) ≤ 1 → bytes_eq (mode_text uses) (codes "lines") ≡ false → takes_value (Values.one_of tree_modes) (mode_text uses) ≡ true
-    → mode ≡ tree_mode_named (mode_text uses) → grammar_found mode uses ≡ mode_found uses
+    → mode ≡ tree_mode_named (mode_text uses) → trees_options mode uses ≡ fitting_mode uses
 tree_mode uses mode few other takes named = go (value_of (codes "mode") uses) refl
   where
-    go : (o : Option (List ℕ)) → value_of (codes "mode") uses ≡ o → grammar_found mode uses ≡ mode_found uses
+    go : (o : Option (List ℕ)) → value_of (codes "mode") uses ≡ o → trees_options mode uses ≡ fitting_mode uses
     go None none =
         let same : tree_mode_named (mode_text uses) ≡ tree_mode_named (codes "perses") = ap (λ (x : Option (List ℕ)). tree_mode_named (unwrap_or x (codes "perses"))) none in
-        ap (λ (m : TreeMode). grammar_found m uses) (named ∙ same) ∙ mode_default uses none
+        ap (λ (m : TreeMode). trees_options m uses) (named ∙ same) ∙ mode_default uses none
     go (Some text) some =
         mode_of_trees uses text mode few some (sym (ap (λ (x : Option (List ℕ)). bytes_eq (unwrap_or x (codes "perses")) (codes "lines")) some) ∙ other)
         (sym (ap (λ (x : Option (List ℕ)). takes_value (Values.one_of tree_modes) (unwrap_or x (codes "perses"))) some) ∙ takes)
         (named ∙ ap (λ (x : Option (List ℕ)). tree_mode_named (unwrap_or x (codes "perses"))) some)
 
 -- with something said of a grammar, the mode isn't `lines`
-pub not_lines : (uses : List Use) → (is_given (codes "grammar") uses || (is_given (codes "start") uses || is_given (codes "squeeze") uses)) ≡ true → None ≡ lines_found uses
+pub not_lines : (uses : List Use) → (is_given (codes "grammar") uses || (is_given (codes "start") uses || is_given (codes "squeeze") uses)) ≡ true → None ≡ lines_options uses
 not_lines uses some = sym (ap (λ (b : Bool). cond b None (Some ModeOptions.lines)) some)
 
-pub only_lines : (uses : List Use) → (is_given (codes "grammar") uses || (is_given (codes "start") uses || is_given (codes "squeeze") uses)) ≡ false → Some ModeOptions.lines ≡ lines_found uses
+pub only_lines : (uses : List Use) → (is_given (codes "grammar") uses || (is_given (codes "start") uses || is_given (codes "squeeze") uses)) ≡ false → Some ModeOptions.lines ≡ lines_options uses
 only_lines uses none = sym (ap (λ (b : Bool). cond b None (Some ModeOptions.lines)) none)
 
 -- what is said of a grammar, asked for one option after the other

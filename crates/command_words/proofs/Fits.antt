@@ -5,7 +5,7 @@ use Rattle.std.proofs.lemmas.Bool.{and_parts}
 use Rattle.command_words.specs.Options.{OptionRow, Use, Values, fits_row, fits_table, has_value, takes_value, values_for}
 use Rattle.command_words.specs.Tables.{normal_table, optional, reduce_table, required, selftest_table, tree_modes}
 use Rattle.command_words.specs.Commands.{is_given}
-use Rattle.command_words.specs.Found.{files_given, values_fit}
+use Rattle.command_words.specs.Found.{names_files, values_fit}
 use Rattle.command_words.specs.Read.{IsOnce, is_several, takes_of}
 
 -- ---- one row, by the values that are given
@@ -65,7 +65,7 @@ eleven a b c e g j a' b' c' d e' f g' h i j' k a_is b_is c_is d_is e_is f_is g_i
 -- the options of `reduce` fit: the files are named, the mode and the number of workers are such, and there are not too many keep texts
 pub reduce_fits : (uses : List Use) → IsOnce reduce_table uses
     → fits_table reduce_table uses
-    ≡ (files_given uses
+    ≡ (names_files uses
     && (values_fit (Values.one_of (codes "lines" ∷ tree_modes)) (codes "mode") uses && (values_fit (Values.number 1 1) (codes "jobs") uses && nat_le (length (values_for (codes "keep") uses)) 8)))
 reduce_fits uses once =
     let g : List ℕ → List (List ℕ) = λ name. values_for name uses in

@@ -5,8 +5,8 @@ use Rattle.std.specs.List.{list_all}
 use Rattle.std.specs.Str.Parse.{digits_value}
 use Rattle.command_words.specs.Options.{OptionRow, Use, Values, has_value, is_number_in, row_of, takes_value, values_for}
 use Rattle.command_words.specs.Tables.{tree_modes}
-use Rattle.command_words.specs.Commands.{ModeOptions, grammar_found, is_given, lines_found, text_of, tree_mode_named, value_of}
-use Rattle.command_words.specs.Found.{jobs_found, keeps_found, mode_found}
+use Rattle.command_words.specs.Commands.{ModeOptions, is_given, lines_options, text_of, tree_mode_named, trees_options, value_of}
+use Rattle.command_words.specs.Found.{fitting_jobs, fitting_keeps, fitting_mode}
 use Rattle.command_words.specs.Read.{NamesValue, where_some}
 use Rattle.command_words.specs.declared.commands.TreeMode.{TreeMode}
 use Rattle.command_words.specs.declared.commands.TreeMode.TheVariants.{Perses}
@@ -51,7 +51,7 @@ number_read least most text (Some n) reads =
     ap (λ (x : ℕ). Some x) reads.1 ∙ sym (ap (λ (b : Bool). if b && true then Some (digits_value 10 text) else None) reads.0)
 
 pub jobs_read : (uses : List Use) (text : List ℕ) (r : Option ℕ) → length (values_for (codes "jobs") uses) ≤ 1 → value_of (codes "jobs") uses ≡ Some text
-    → MatchOption r (is_number_in 1 1 text ≡ false) (λ n. (is_number_in 1 1 text ≡ true) × (n ≡ digits_value 10 text)) → r ≡ jobs_found uses
+    → MatchOption r (is_number_in 1 1 text ≡ false) (λ n. (is_number_in 1 1 text ≡ true) × (n ≡ digits_value 10 text)) → r ≡ fitting_jobs uses
 jobs_read uses text r few some reads = number_read 1 1 text r reads ∙ sym (ap (number_from 1 1) (one_value (values_for (codes "jobs") uses) text few some))
 
 -- ---- modes
@@ -60,16 +60,16 @@ jobs_read uses text r few some reads = number_read 1 1 text r reads ∙ sym (ap 
 abbrev mode_from : List Use → List (List ℕ) → Option ModeOptions
 mode_from uses values =
     if list_all (takes_value (Values.one_of (codes "lines" ∷ tree_modes))) values
-    then (if bytes_eq (unwrap_or (slice_get values 0) []) (codes "lines") then lines_found uses else grammar_found (tree_mode_named (unwrap_or (slice_get values 0) (codes "perses"))) uses)
+    then (if bytes_eq (unwrap_or (slice_get values 0) []) (codes "lines") then lines_options uses else trees_options (tree_mode_named (unwrap_or (slice_get values 0) (codes "perses"))) uses)
     else None
 
-pub mode_default : (uses : List Use) → value_of (codes "mode") uses ≡ None → grammar_found Perses uses ≡ mode_found uses
+pub mode_default : (uses : List Use) → value_of (codes "mode") uses ≡ None → trees_options Perses uses ≡ fitting_mode uses
 mode_default uses none = sym (ap (mode_from uses) (no_values (values_for (codes "mode") uses) none))
 
-mode_is : (uses : List Use) (text : List ℕ) → length (values_for (codes "mode") uses) ≤ 1 → value_of (codes "mode") uses ≡ Some text → mode_from uses (text ∷ []) ≡ mode_found uses
+mode_is : (uses : List Use) (text : List ℕ) → length (values_for (codes "mode") uses) ≤ 1 → value_of (codes "mode") uses ≡ Some text → mode_from uses (text ∷ []) ≡ fitting_mode uses
 mode_is uses text few some = sym (ap (mode_from uses) (one_value (values_for (codes "mode") uses) text few some))
 
-pub mode_of_lines : (uses : List Use) (text : List ℕ) → length (values_for (codes "mode") uses) ≤ 1 → value_of (codes "mode") uses ≡ Some text → bytes_eq text (codes "lines") ≡ true → lines_found uses ≡ mode_found uses
+pub mode_of_lines : (uses : List Use) (text : List ℕ) → length (values_for (codes "mode") uses) ≤ 1 → value_of (codes "mode") uses ≡ Some text → bytes_eq text (codes "lines") ≡ true → lines_options uses ≡ fitting_mode uses
 mode_of_lines uses text few some is =
     sym (ap (λ (t : List ℕ). mode_from uses (t ∷ [])) (text_same text (codes "lines") is)) ∙ mode_is uses text few some
 
@@ -85,18 +85,18 @@ mode_takes : (text : List ℕ) (b : Bool) → bytes_eq text (codes "lines") ≡ 
 mode_takes text b other takes = ap₂ (λ (x y : Bool). x || y) (other_mode text other) takes
 
 pub mode_unknown : (uses : List Use) (text : List ℕ) → length (values_for (codes "mode") uses) ≤ 1 → value_of (codes "mode") uses ≡ Some text → bytes_eq text (codes "lines") ≡ false
-    → takes_value (Values.one_of tree_modes) text ≡ false → None ≡ mode_found uses
+    → takes_value (Values.one_of tree_modes) text ≡ false → None ≡ fitting_mode uses
 mode_unknown uses text few some other takes =
     sym (ap (λ (b : Bool). if b && true
-    then (if bytes_eq text (codes "lines") then lines_found uses else grammar_found (tree_mode_named text) uses) else None) (mode_takes text false other takes))
+    then (if bytes_eq text (codes "lines") then lines_options uses else trees_options (tree_mode_named text) uses) else None) (mode_takes text false other takes))
     ∙ mode_is uses text few some
 
 pub mode_of_trees : (uses : List Use) (text : List ℕ) (mode : TreeMode) → length (values_for (codes "mode") uses) ≤ 1 → value_of (codes "mode") uses ≡ Some text → bytes_eq text (codes "lines") ≡ false
-    → takes_value (Values.one_of tree_modes) text ≡ true → mode ≡ tree_mode_named text → grammar_found mode uses ≡ mode_found uses
+    → takes_value (Values.one_of tree_modes) text ≡ true → mode ≡ tree_mode_named text → trees_options mode uses ≡ fitting_mode uses
 mode_of_trees uses text mode few some other takes named =
-    ap (λ (m : TreeMode). grammar_found m uses) named
+    ap (λ (m : TreeMode). trees_options m uses) named
     ∙ sym (ap₂ (λ (b lines : Bool). if b && true
-    then (if lines then lines_found uses else grammar_found (tree_mode_named text) uses) else None) (mode_takes text true other takes) other)
+    then (if lines then lines_options uses else trees_options (tree_mode_named text) uses) else None) (mode_takes text true other takes) other)
     ∙ mode_is uses text few some
 
 -- ---- keep texts
@@ -112,14 +112,14 @@ where_these (v ∷ vs) texts some = cc some
 abbrev few_of : List (List ℕ) → Option (List (List ℕ))
 few_of values = if nat_le (length values) 8 then Some values else None
 
-pub no_keeps : (uses : List Use) → where_some (values_for (codes "keep") uses) ≡ None → Some [] ≡ keeps_found uses
+pub no_keeps : (uses : List Use) → where_some (values_for (codes "keep") uses) ≡ None → Some [] ≡ fitting_keeps uses
 no_keeps uses none = sym (ap few_of (where_none (values_for (codes "keep") uses) none))
 
-pub keeps_are : (uses : List Use) (texts : List (List ℕ)) → where_some (values_for (codes "keep") uses) ≡ Some texts → few_of texts ≡ keeps_found uses
+pub keeps_are : (uses : List Use) (texts : List (List ℕ)) → where_some (values_for (codes "keep") uses) ≡ Some texts → few_of texts ≡ fitting_keeps uses
 keeps_are uses texts some = sym (ap few_of (where_these (values_for (codes "keep") uses) texts some))
 
-pub too_many : (uses : List Use) (texts : List (List ℕ)) → 8 < length texts → where_some (values_for (codes "keep") uses) ≡ Some texts → None ≡ keeps_found uses
+pub too_many : (uses : List Use) (texts : List (List ℕ)) → 8 < length texts → where_some (values_for (codes "keep") uses) ≡ Some texts → None ≡ fitting_keeps uses
 too_many uses texts many some = sym (ap (λ (b : Bool). if b then Some texts else None) (lt-leb (length texts) 8 many)) ∙ keeps_are uses texts some
 
-pub few_enough : (uses : List Use) (texts : List (List ℕ)) → length texts ≤ 8 → where_some (values_for (codes "keep") uses) ≡ Some texts → Some texts ≡ keeps_found uses
+pub few_enough : (uses : List Use) (texts : List (List ℕ)) → length texts ≤ 8 → where_some (values_for (codes "keep") uses) ≡ Some texts → Some texts ≡ fitting_keeps uses
 few_enough uses texts few some = sym (ap (λ (b : Bool). if b then Some texts else None) (le-leb (length texts) 8 few)) ∙ keeps_are uses texts some

@@ -8,13 +8,13 @@ use Rattle.command_words.specs.declared.commands.TreeMode.{TreeMode}
 use Rattle.command_words.specs.declared.commands.TreeMode.TheVariants.{Hdd, Perses}
 
 -- a grammar by its path and the name of its start rule, where one is given
-pub record NamedGrammar : Type 0 where
+pub record GrammarSource : Type 0 where
   pub path : List ℕ
   pub start : Option (List ℕ)
 
 -- what is said of a reduction by a grammar: the grammar, how a round goes through a tree, and whether the squeezed text of the whole tree is tried
 pub record GrammarOptions : Type 0 where
-  pub grammar : NamedGrammar
+  pub grammar : GrammarSource
   pub mode : TreeMode
   pub squeeze : Bool
 
@@ -43,7 +43,7 @@ pub record SelftestOptions : Type 0 where
 -- what a command line asks for: a file is reduced, the normal form of a grammar is printed, or a generated program is reduced in memory
 pub data Command : Type 0 where
   reduce : ReduceOptions → Command
-  normal : NamedGrammar → Command
+  normal : GrammarSource → Command
   selftest : SelftestOptions → Command
 
 -- the first value that is given for an option
@@ -74,23 +74,23 @@ abbrev pub tree_mode_of : List Use → TreeMode
 tree_mode_of uses = tree_mode_named (value_or (codes "perses") (codes "mode") uses)
 
 -- with `--mode lines` nothing is said of a grammar
-abbrev pub lines_found : List Use → Option ModeOptions
-lines_found uses = if is_given (codes "grammar") uses || (is_given (codes "start") uses || is_given (codes "squeeze") uses) then None else Some ModeOptions.lines
+abbrev pub lines_options : List Use → Option ModeOptions
+lines_options uses = if is_given (codes "grammar") uses || (is_given (codes "start") uses || is_given (codes "squeeze") uses) then None else Some ModeOptions.lines
 
 -- the grammar of `--grammar` and `--start`, where one is given
-abbrev pub grammar_given : List Use → Option NamedGrammar
-grammar_given uses = option_map (λ path. record { path = path; start = value_of (codes "start") uses }) (value_of (codes "grammar") uses)
+abbrev pub named_grammar : List Use → Option GrammarSource
+named_grammar uses = option_map (λ path. record { path = path; start = value_of (codes "start") uses }) (value_of (codes "grammar") uses)
 
 -- with another mode there is a grammar
-abbrev pub grammar_found : TreeMode → List Use → Option ModeOptions
-grammar_found mode uses = option_map (λ grammar. ModeOptions.by_grammar (record { grammar = grammar; mode = mode; squeeze = is_given (codes "squeeze") uses })) (grammar_given uses)
+abbrev pub trees_options : TreeMode → List Use → Option ModeOptions
+trees_options mode uses = option_map (λ grammar. ModeOptions.by_grammar (record { grammar = grammar; mode = mode; squeeze = is_given (codes "squeeze") uses })) (named_grammar uses)
 
 abbrev pub mode_options : List Use → Option ModeOptions
-mode_options uses = if bytes_eq (text_of (codes "mode") uses) (codes "lines") then lines_found uses else grammar_found (tree_mode_of uses) uses
+mode_options uses = if bytes_eq (text_of (codes "mode") uses) (codes "lines") then lines_options uses else trees_options (tree_mode_of uses) uses
 
--- the journal has the output's name followed by `.journal` where none is given
-abbrev pub reduce_of : List Use → Option ReduceOptions
-reduce_of uses = option_map (λ mode. record {
+-- a reduction in this mode; the journal has the output's name followed by `.journal` where none is given
+abbrev pub reduction_in : List Use → ModeOptions → ReduceOptions
+reduction_in uses mode = record {
   mode = mode;
   input = text_of (codes "input") uses;
   output = text_of (codes "output") uses;
@@ -99,7 +99,10 @@ reduce_of uses = option_map (λ mode. record {
   work = value_or (codes "perses-work") (codes "work") uses;
   jobs = digits_value 10 (value_or (codes "1") (codes "jobs") uses);
   keeps = values_for (codes "keep") uses;
-}) (mode_options uses)
+}
+
+abbrev pub reduce_of : List Use → Option ReduceOptions
+reduce_of uses = option_map (reduction_in uses) (mode_options uses)
 
 abbrev pub selftest_of : List Use → SelftestOptions
 selftest_of uses = record { number = number_of (codes "number") uses; size = number_of (codes "size") uses; mode = tree_mode_of uses }
@@ -108,8 +111,8 @@ selftest_of uses = record { number = number_of (codes "number") uses; size = num
 abbrev pub reduce_line : List (List ℕ) → Option ReduceOptions
 reduce_line words = option_and_then reduce_of (options_in reduce_table words)
 
-abbrev pub normal_line : List (List ℕ) → Option NamedGrammar
-normal_line words = option_and_then grammar_given (options_in normal_table words)
+abbrev pub normal_line : List (List ℕ) → Option GrammarSource
+normal_line words = option_and_then named_grammar (options_in normal_table words)
 
 abbrev pub selftest_line : List (List ℕ) → Option SelftestOptions
 selftest_line words = option_map selftest_of (options_in selftest_table words)

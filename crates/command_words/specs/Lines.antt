@@ -1,6 +1,6 @@
 -- What is asked for by the command line that was read.
 use Rattle.std.specs.Prelude.{ℕ, ◌≤◌, ◌++◌, List, codes, map, option_map, unwrap_or}
-use Rattle.command_words.specs.Commands.{Command, ModeOptions, NamedGrammar as GivenGrammar, ReduceOptions, SelftestOptions}
+use Rattle.command_words.specs.Commands.{Command, GrammarSource, ModeOptions, ReduceOptions, SelftestOptions}
 use Rattle.command_words.specs.declared.commands.CommandLine.{CommandLine}
 use Rattle.command_words.specs.declared.commands.CommandLine.TheVariants as read
 use Rattle.command_words.specs.declared.commands.ModeLine.{ModeLine}
@@ -9,7 +9,7 @@ use Rattle.command_words.specs.declared.commands.NamedGrammar.{NamedGrammar}
 use Rattle.command_words.specs.declared.commands.ReduceLine.{ReduceLine}
 use Rattle.command_words.specs.declared.commands.SelftestLine.{SelftestLine}
 
-abbrev pub grammar_read : NamedGrammar → GivenGrammar
+abbrev pub grammar_read : NamedGrammar → GrammarSource
 grammar_read grammar = record { path = grammar.path.now; start = option_map (λ start. start.now) grammar.start }
 
 abbrev pub mode_of : ModeLine → ModeOptions

@@ -2,7 +2,7 @@
 
 ghost use Rattle.std.specs.Prelude.{◌≡◌, List, codes, option_map};
 ghost use Rattle.command_words.specs.Options.{OptionRow, Use};
-ghost use Rattle.command_words.specs.Commands.{grammar_given};
+ghost use Rattle.command_words.specs.Commands.{named_grammar};
 ghost use Rattle.command_words.specs.Found.{HasFound};
 ghost use Rattle.command_words.specs.Lines.{grammar_read};
 ghost use Rattle.command_words.specs.Read.{NamesValue};
@@ -13,7 +13,7 @@ use clap::ArgMatches;
 /// The grammar that `--grammar` and `--start` name, where there is one.
 pub(crate) fn grammar_of<'a>(matches: &ArgMatches<'a>) -> Option<NamedGrammar<'a>>
     ensures { (table : List OptionRow) (uses : List Use) → HasFound table uses matches.now → NamesValue table (codes "grammar") → NamesValue table (codes "start")
-        → option_map grammar_read result ≡ grammar_given uses }
+        → option_map grammar_read result ≡ named_grammar uses }
 {
     let path = matches.get_str("grammar")?;
     let start = matches.get_str("start");

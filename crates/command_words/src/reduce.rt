@@ -3,8 +3,8 @@
 ghost use Rattle.std.specs.Prelude.{◌≡◌, ◌||◌, List, IfOk, MatchOption, codes, false, map, option_and_then, option_map, string_bytes, true};
 ghost use Rattle.command_words.specs.Options.{Use, Values, takes_value, where_fits};
 ghost use Rattle.command_words.specs.Tables.{reduce_table, tree_modes};
-ghost use Rattle.command_words.specs.Found.{HasFound, files_given, jobs_found, keeps_found, line_found, mode_found};
-ghost use Rattle.command_words.specs.Commands.{grammar_found, is_given, lines_found, reduce_line, reduce_of, text_of, tree_mode_named};
+ghost use Rattle.command_words.specs.Found.{HasFound, fitting_jobs, fitting_keeps, fitting_mode, line_with, names_files};
+ghost use Rattle.command_words.specs.Commands.{is_given, lines_options, reduce_line, reduce_of, text_of, tree_mode_named, trees_options};
 ghost use Rattle.command_words.specs.Lines.{journal_of, mode_of, reduce_read};
 
 use crate::commands::{GrammarLine, ModeLine, ReduceLine, TreeMode};
@@ -98,7 +98,7 @@ fn line_of<'a>(alloc: Global, matches: &ArgMatches<'a>) -> Result<Option<ReduceL
 /// What the options that were found ask for, with these keep texts. None as for `line_of`.
 fn line_with<'a>(matches: &ArgMatches<'a>, keeps: Vec<&'a str>) -> Option<ReduceLine<'a>>
     ensures { (uses : List Use) → HasFound reduce_table uses matches.now
-        → option_map reduce_read result ≡ line_found uses (Some (map (λ keep. keep.now) keeps.entry.items)) }
+        → option_map reduce_read result ≡ line_with uses (Some (map (λ keep. keep.now) keeps.entry.items)) }
 {
     let files = files_of(matches)?;
     let mode = mode_of(matches)?;
@@ -126,8 +126,8 @@ struct Files<'a> {
 /// The files that must be named, where they are.
 fn files_of<'a>(matches: &ArgMatches<'a>) -> Option<Files<'a>>
     ensures { (uses : List Use) → HasFound reduce_table uses matches.now → MatchOption result
-        (files_given uses ≡ false)
-        (λ files. (files_given uses ≡ true) × (files.input.now ≡ text_of (codes "input") uses) × (files.output.now ≡ text_of (codes "output") uses) × (files.script.now ≡ text_of (codes "script") uses)) }
+        (names_files uses ≡ false)
+        (λ files. (names_files uses ≡ true) × (files.input.now ≡ text_of (codes "input") uses) × (files.output.now ≡ text_of (codes "output") uses) × (files.script.now ≡ text_of (codes "script") uses)) }
 {
     let input = matches.get_str("input")?;
     let output = matches.get_str("output")?;
@@ -141,7 +141,7 @@ fn files_of<'a>(matches: &ArgMatches<'a>) -> Option<Files<'a>>
 
 /// The mode, with what belongs to it.
 fn mode_of<'a>(matches: &ArgMatches<'a>) -> Option<ModeLine<'a>>
-    ensures { (uses : List Use) → HasFound reduce_table uses matches.now → option_map mode_of result ≡ mode_found uses }
+    ensures { (uses : List Use) → HasFound reduce_table uses matches.now → option_map mode_of result ≡ fitting_mode uses }
 {
     let mode = matches.get_str("mode").unwrap_or("perses");
     if mode == "lines" {
@@ -154,7 +154,7 @@ fn mode_of<'a>(matches: &ArgMatches<'a>) -> Option<ModeLine<'a>>
 
 /// Mode `lines`, where nothing is said of a grammar.
 fn lines_of<'a>(matches: &ArgMatches<'a>) -> Option<ModeLine<'a>>
-    ensures { (uses : List Use) → HasFound reduce_table uses matches.now → option_map mode_of result ≡ lines_found uses }
+    ensures { (uses : List Use) → HasFound reduce_table uses matches.now → option_map mode_of result ≡ lines_options uses }
 {
     if says_grammar(matches) {
         None
@@ -173,7 +173,7 @@ fn says_grammar(matches: &ArgMatches<'_>) -> bool
 
 /// A reduction by a grammar, where there is one.
 fn trees_of<'a>(matches: &ArgMatches<'a>, mode: TreeMode) -> Option<ModeLine<'a>>
-    ensures { (uses : List Use) → HasFound reduce_table uses matches.now → option_map mode_of result ≡ grammar_found mode uses }
+    ensures { (uses : List Use) → HasFound reduce_table uses matches.now → option_map mode_of result ≡ trees_options mode uses }
 {
     let grammar = grammar_of(matches)?;
     Some(ModeLine::ByGrammar(GrammarLine {
@@ -200,7 +200,7 @@ pub(crate) fn tree_mode_of(name: &str) -> Option<TreeMode>
 
 /// How many workers there are.
 fn jobs_of(matches: &ArgMatches<'_>) -> Option<u32>
-    ensures { (uses : List Use) → HasFound reduce_table uses matches.now → result ≡ jobs_found uses }
+    ensures { (uses : List Use) → HasFound reduce_table uses matches.now → result ≡ fitting_jobs uses }
 {
     match matches.get_str("jobs") {
         None => Some(1),
@@ -211,7 +211,7 @@ fn jobs_of(matches: &ArgMatches<'_>) -> Option<u32>
 /// The keep texts, where there are not too many.
 fn keeps_of<'a>(alloc: Global, matches: &ArgMatches<'a>) -> Result<Option<Vec<&'a str>>, Memory>
     ensures { (uses : List Use) → HasFound reduce_table uses matches.now
-        → IfOk result (λ keeps. option_map (λ texts. map (λ text. text.now) texts.items) keeps ≡ keeps_found uses) }
+        → IfOk result (λ keeps. option_map (λ texts. map (λ text. text.now) texts.items) keeps ≡ fitting_keeps uses) }
 {
     match matches.get_strs("keep") {
         None => Ok(Some(Vec::new(alloc))),

@@ -4,7 +4,7 @@ ghost use Rattle.std.specs.Prelude.{◌≡◌, ◌≤◌, List, IfOk, IfSome, le
 ghost use Rattle.command_words.specs.Options.{Use, values_for, where_fits};
 ghost use Rattle.command_words.specs.Tables.{selftest_table};
 ghost use Rattle.command_words.specs.Commands.{selftest_line, selftest_of};
-ghost use Rattle.command_words.specs.Found.{HasFound, number_found};
+ghost use Rattle.command_words.specs.Found.{HasFound, fitting_number};
 ghost use Rattle.command_words.specs.Read.{NamesValue};
 ghost use Rattle.command_words.specs.Lines.{selftest_read};
 
@@ -64,7 +64,7 @@ fn line_of(matches: &ArgMatches<'_>) -> Option<SelftestLine>
 /// The value of the option, where there is one and it is a number from `least` to `most`.
 fn number_of(matches: &ArgMatches<'_>, name: &str, least: u32, most: u32) -> Option<u32>
     ensures value { (uses : List Use) → HasFound selftest_table uses matches.now → NamesValue selftest_table name.now → length (values_for name.now uses) ≤ 1
-        → result ≡ number_found least most name.now uses }
+        → result ≡ fitting_number least most name.now uses }
     ensures bounds { IfSome result (λ number. (least ≤ number) × (number ≤ most)) }
 {
     read_number(matches.get_str(name)?, least, most)

@@ -2,7 +2,7 @@
 use Rattle.std.proofs.Common.{◌≡◌, ◌≢◌, ◌∙◌, ℕ, List, [], ◌∷◌, Option, None, Some, option_map, refl, sym, ap, subst}
 use Rattle.std.proofs.lemmas.Bool.{false≢true}
 use Rattle.script_gate.specs.declared.gate.Verdict.{Verdict}
-use Rattle.command_words.specs.Commands.{Command, NamedGrammar, ReduceOptions, SelftestOptions}
+use Rattle.command_words.specs.Commands.{Command, GrammarSource, ReduceOptions, SelftestOptions}
 use Rattle.command_words.specs.Lines.{command_read}
 use Rattle.command_words.specs.declared.commands.CommandLine.{CommandLine}
 use Rattle.top_call.specs.declared.status.Refusal.TheVariants.{Memory}
@@ -53,7 +53,7 @@ module _ (may_say : List ℕ → Verdict → Type 0) (old : World) (out : SeenOu
       of_input = tt;
     }
 
-    prints : (grammar : NamedGrammar) → PrintsNormal grammar old.files old.files old.out out 1
+    prints : (grammar : GrammarSource) → PrintsNormal grammar old.files old.files old.out out 1
     prints grammar = prints_normal grammar old.files old.files old.out out (NormalEnds.memory refl end.line) (λ name. refl)
 
     summarizes : (options : SelftestOptions) → RunsSelftest options old.out out 1
@@ -74,7 +74,7 @@ pub reduce_not_usage : (options : ReduceOptions) (may_say : List ℕ → Verdict
 reduce_not_usage options may_say old new status runs two =
     false≢true (subst (IsOneOf (0 ∷ 1 ∷ 3 ∷ 4 ∷ 5 ∷ 6 ∷ 7 ∷ 8 ∷ 9 ∷ 10 ∷ 11 ∷ 12 ∷ [])) two (reduce_by_status options runs.history old new status runs.ends).known)
 
-pub normal_not_usage : (grammar : NamedGrammar) (files files' : SeenFiles) (out out' : SeenOut) (status : ℕ) → PrintsNormal grammar files files' out out' status → status ≢ 2
+pub normal_not_usage : (grammar : GrammarSource) (files files' : SeenFiles) (out out' : SeenOut) (status : ℕ) → PrintsNormal grammar files files' out out' status → status ≢ 2
 normal_not_usage grammar files files' out out' status prints two =
     false≢true (subst (IsOneOf (0 ∷ 1 ∷ 3 ∷ 4 ∷ 5 ∷ 10 ∷ [])) two (normal_by_status grammar files files' out out' status prints.ends).known)
 

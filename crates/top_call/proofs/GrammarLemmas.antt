@@ -13,7 +13,7 @@ use Rattle.top_call.specs.declared.status.Refusal.TheVariants.{Memory, CannotRea
 use Rattle.top_call.specs.declared.status.NamedFile.TheVariants as read_file
 use Rattle.top_call.specs.Grammar.{GrammarFails, GrammarRead, IsFaultRefusal, IsGrammarText, SpellsTheGrammar}
 use Rattle.top_call.specs.Status.{IsGrammarRefusal, ReadFails}
-use Rattle.command_words.specs.Commands.{NamedGrammar}
+use Rattle.command_words.specs.Commands.{GrammarSource}
 use Rattle.top_call.specs.Words.{start_name}
 use Rattle.top_call.specs.World.{IsQuiet, SeenFiles, grammar_limit}
 
@@ -23,7 +23,7 @@ mapped_twice h g None = refl
 mapped_twice h g (Some a) = refl
 
 -- bytes that spell a grammar for a start rule of this name, and no other, spell the named one
-pub spells_named : (named : NamedGrammar) (name : Option (List ℕ)) (bytes : List ℕ) (grammar : CheckedGrammar) → name ≡ start_name named
+pub spells_named : (named : GrammarSource) (name : Option (List ℕ)) (bytes : List ℕ) (grammar : CheckedGrammar) → name ≡ start_name named
     → Spells bytes name grammar → ((it : CheckedGrammar) → Spells bytes name it → grammar ≡ it) → SpellsTheGrammar named bytes grammar
 spells_named named name bytes grammar same spelled only = record {
   spelled = subst (λ (n : Option (List ℕ)). Spells bytes n grammar) same spelled;
@@ -31,7 +31,7 @@ spells_named named name bytes grammar same spelled only = record {
 }
 
 -- a well-formed grammar that so few bytes spell has its numbered kinds
-is_spelled : (named : NamedGrammar) (bytes : List ℕ) → length bytes ≤ grammar_limit → (is : IsGrammarText named bytes) → Spells bytes (start_name named) (record { grammar = is.grammar; kinds = kinds_of is.grammar; start = is.start })
+is_spelled : (named : GrammarSource) (bytes : List ℕ) → length bytes ≤ grammar_limit → (is : IsGrammarText named bytes) → Spells bytes (start_name named) (record { grammar = is.grammar; kinds = kinds_of is.grammar; start = is.start })
 is_spelled named bytes within is = record {
   text = is.spelled;
   start = is.first;
@@ -39,7 +39,7 @@ is_spelled named bytes within is = record {
 }
 
 -- bytes with a fault that isn't out of memory spell no well-formed grammar
-pub has_fault : (named : NamedGrammar) (name : Option (List ℕ)) (bytes : List ℕ) (fault : GrammarFault) → name ≡ start_name named → length bytes ≤ grammar_limit → fault ≢ grammar_fault.Memory → IsGrammarFault bytes name fault
+pub has_fault : (named : GrammarSource) (name : Option (List ℕ)) (bytes : List ℕ) (fault : GrammarFault) → name ≡ start_name named → length bytes ≤ grammar_limit → fault ≢ grammar_fault.Memory → IsGrammarFault bytes name fault
     → ((it : CheckedGrammar) → Spells bytes name it → fault ≡ grammar_fault.Memory) → (refusal : Refusal) → IsGrammarRefusal (fault_text fault) refusal → IsFaultRefusal named bytes refusal
 has_fault named name bytes fault same within caused first only Memory line = tt
 has_fault named name bytes fault same within caused first only (Grammar line) is = (
@@ -55,7 +55,7 @@ has_fault named name bytes fault same within caused first only (Grammar line) is
 )
 has_fault named name bytes fault same within caused first only _ is = absurd is
 
-module _ (named : NamedGrammar) (files files' : SeenFiles) where
+module _ (named : GrammarSource) (files files' : SeenFiles) where
   -- a file that wasn't read gives none
   pub fails_read : (refusal : Refusal) → ReadFails grammar_limit read_file.Grammar (files.shown named.path) files files' refusal → GrammarFails named files files' refusal
   fails_read Memory why = why

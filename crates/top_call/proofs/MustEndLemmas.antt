@@ -21,7 +21,7 @@ use Rattle.top_call.specs.Journal.{JournalSoFar}
 use Rattle.top_call.specs.Reduce.{InputHas, IsShownFault, IsShownProblem, ProblemAccepted, ProblemRead, ReduceEnds, ReduceMustEnd, ReducesTo}
 use Rattle.top_call.specs.Reduce.ReduceEnds.{done, memory, unread, unwritten, unput, faulty, no_token, unparsed, uninteresting, keep_missing, too_long, script, journal}
 use Rattle.top_call.specs.Status.{IsUncut}
-use Rattle.command_words.specs.Commands.{GrammarOptions, ModeOptions, NamedGrammar, ReduceOptions}
+use Rattle.command_words.specs.Commands.{GrammarOptions, GrammarSource, ModeOptions, ReduceOptions}
 use Rattle.top_call.specs.World.{IsQuiet, IsShownWithin, SeenGate, SeenJournal, WasRead, World, grammar_limit, input_limit}
 use Rattle.top_call.proofs.FileLemmas.{longer_not_missing, not_longer, read_not_missing, read_not_over}
 use Rattle.top_call.proofs.ProblemLemmas.{any_problem, fault_is, fault_not_shown, faulty_not_shown, grammar_not_faulty, grammar_not_missing, grammar_not_over, input_read, long_grammar, long_grammar_not_shown, long_input_no_fault, long_input_not_shown, no_fault, no_grammar, not_faulty, parse_caused, reached_grammar, read_and_shown, shown_not_faulty, shown_not_long, uncut_caused}
@@ -37,7 +37,7 @@ none_missing : (keeps : List (List ℕ)) (start : List ℕ) (index : ℕ) → ho
 none_missing keeps start index holds missing = absurd (cc (sym missing ∙ (holds_all_or_misses keeps start).0 holds))
 
 -- the grammar of a mode, and of one without a grammar this one
-abbrev named_in : NamedGrammar → ModeOptions → NamedGrammar
+abbrev named_in : GrammarSource → ModeOptions → GrammarSource
 named_in other ModeOptions.lines = other
 named_in other (ModeOptions.by_grammar trees) = trees.grammar
 
@@ -75,14 +75,14 @@ module _ (faults : InputFaultOnce) (languages : InputsAreInLanguage) (options : 
 
   module _ {trees g : GrammarOptions} (mode : options.mode ≡ ModeOptions.by_grammar trees) (is : options.mode ≡ ModeOptions.by_grammar g) where
     fault_at : {text : List ℕ} → WasRead grammar_limit (old.files.shown trees.grammar.path) (λ bytes. IsFaultIn trees.grammar bytes text) → WasRead grammar_limit (old.files.shown g.grammar.path) (λ bytes. IsFaultIn g.grammar bytes text)
-    fault_at {text = text} read = subst (λ (named : NamedGrammar). WasRead grammar_limit (old.files.shown named.path) (λ bytes. IsFaultIn named bytes text)) (same_grammar mode is) read
+    fault_at {text = text} read = subst (λ (named : GrammarSource). WasRead grammar_limit (old.files.shown named.path) (λ bytes. IsFaultIn named bytes text)) (same_grammar mode is) read
 
     faulty_no_fault : {text : List ℕ} → WasRead grammar_limit (old.files.shown trees.grammar.path) (λ bytes. IsFaultIn trees.grammar bytes text) → (Q : InputFault → Type 0) → IsShownFault g.grammar options old.files Q → ⊥
     faulty_no_fault {text = text} read Q shown =
         no_grammar g.grammar (old.files.shown g.grammar.path) text (fault_at read) (λ c. IsShownWithin input_limit (old.files.shown options.input) (λ bytes. (fault : InputFault) × IsInputFault c bytes fault × Q fault)) shown
 
     has_at : (fault : InputFault) → InputHas trees.grammar (λ c bytes. IsInputFault c bytes fault) options old.files → InputHas g.grammar (λ c bytes. IsInputFault c bytes fault) options old.files
-    has_at fault read = subst (λ (named : NamedGrammar). InputHas named (λ c bytes. IsInputFault c bytes fault) options old.files) (same_grammar mode is) read
+    has_at fault read = subst (λ (named : GrammarSource). InputHas named (λ c bytes. IsInputFault c bytes fault) options old.files) (same_grammar mode is) read
 
   -- which status it has to be
   pub must_end : {status : ℕ} → ReduceEnds options history old new status → ReduceMustEnd options records old new status

@@ -9,10 +9,10 @@ use Rattle.top_call.specs.Normal.{IsNormalOf, NormalEnds}
 use Rattle.top_call.specs.Normal.NormalEnds.{done, memory, unread, unput, faulty, too_long}
 use Rattle.top_call.specs.NormalByStatus.{NormalByStatus}
 use Rattle.top_call.specs.Status.{IsOneOf, PutsRefusal, fault_line}
-use Rattle.command_words.specs.Commands.{NamedGrammar}
+use Rattle.command_words.specs.Commands.{GrammarSource}
 use Rattle.top_call.specs.World.{PutsPrefix, CallFailed, Puts, PutsLine, SeenFiles, SeenOut, WasRead, grammar_limit}
 
-module _ (grammar : NamedGrammar) (files files' : SeenFiles) (out out' : SeenOut) where
+module _ (grammar : GrammarSource) (files files' : SeenFiles) (out out' : SeenOut) where
   abbrev Ends : ℕ → Type 0
   Ends status = NormalEnds grammar files files' out out' status
 

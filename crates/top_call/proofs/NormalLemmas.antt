@@ -9,16 +9,16 @@ use Rattle.top_call.specs.Grammar.{GrammarFails, GrammarRead, IsGrammarText}
 use Rattle.top_call.specs.Normal.{IsNormalOf, NormalEnds, NormalFails, NormalMustEnd, PrintsNormal}
 use Rattle.top_call.specs.Normal.NormalEnds.{done, memory, unread as cannot_read, unput, faulty, too_long}
 use Rattle.top_call.specs.Status.{EndsRefused, EndsWithAnswer}
-use Rattle.command_words.specs.Commands.{NamedGrammar}
+use Rattle.command_words.specs.Commands.{GrammarSource}
 use Rattle.top_call.specs.Words.{start_name}
 use Rattle.top_call.specs.World.{IsQuiet, PutsLine, SeenFiles, SeenOut, WasRead, grammar_limit}
 use Rattle.top_call.proofs.FileLemmas.{not_both, not_longer, read_not_over, longer_not_missing, read_not_missing}
 
 -- the form of a grammar that was read
-pub is_formed : (named : NamedGrammar) (content : Option FileContent) (grammar : CheckedGrammar) (text : List ℕ) → GrammarRead named content grammar → ((bytes : List ℕ) → Spells bytes (start_name named) grammar → IsNormalOf named bytes text) → WasRead grammar_limit content (λ bytes. IsNormalOf named bytes text)
+pub is_formed : (named : GrammarSource) (content : Option FileContent) (grammar : CheckedGrammar) (text : List ℕ) → GrammarRead named content grammar → ((bytes : List ℕ) → Spells bytes (start_name named) grammar → IsNormalOf named bytes text) → WasRead grammar_limit content (λ bytes. IsNormalOf named bytes text)
 is_formed named content grammar text read formed = record { bytes = read.bytes; read = read.read; within = read.within; holds = formed read.bytes read.holds.spelled }
 
-module _ (grammar : NamedGrammar) (files files' : SeenFiles) where
+module _ (grammar : GrammarSource) (files files' : SeenFiles) where
   -- what gives no grammar ends the command
   pub fails_grammar : (refusal : Refusal) → GrammarFails grammar files files' refusal → NormalFails grammar files files' refusal
   fails_grammar Memory why = λ out out' put. memory why put

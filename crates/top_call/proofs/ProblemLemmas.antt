@@ -19,7 +19,7 @@ use Rattle.problem_run.specs.Problem.{Problem, start_of}
 use Rattle.problem_run.specs.Read.{IsReadAs, start_read}
 use Rattle.top_call.specs.Reduce.{InputHas, IsReached, IsShownFault, IsShownGrammar, IsTreeProblem, ProblemAccepted, ProblemRead, ReadIn, ShownIn, grammar_in}
 use Rattle.top_call.specs.Status.{IsUncut}
-use Rattle.command_words.specs.Commands.{GrammarOptions, ModeOptions, NamedGrammar, ReduceOptions}
+use Rattle.command_words.specs.Commands.{GrammarOptions, GrammarSource, ModeOptions, ReduceOptions}
 use Rattle.top_call.specs.Words.{grammar_mode, start_name}
 use Rattle.top_call.specs.World.{IsOver, IsShownWithin, SeenFiles, WasRead, grammar_limit, input_limit}
 use Rattle.top_call.proofs.FileLemmas.{not_longer, read_not_missing, read_not_over}
@@ -31,15 +31,15 @@ shown_holds limit P (Some None) shown bytes here = absurd shown
 shown_holds limit P (Some (Some held)) shown bytes here = subst P (same_Some held bytes here) shown.1
 
 -- bytes that spell a grammar are the text of one
-pub is_text_of : (named : NamedGrammar) (bytes : List ℕ) (c : CheckedGrammar) → Spells bytes (start_name named) c → IsGrammarText named bytes
+pub is_text_of : (named : GrammarSource) (bytes : List ℕ) (c : CheckedGrammar) → Spells bytes (start_name named) c → IsGrammarText named bytes
 is_text_of named bytes c is = record { grammar = c.grammar; start = c.start; spelled = is.text; first = is.start; well_formed = is.checked.well_formed }
 
 -- a grammar that was read isn't a faulty text
-pub not_faulty : (named : NamedGrammar) (content : Option FileContent) (c : CheckedGrammar) → GrammarRead named content c → IsShownWithin grammar_limit content (λ bytes. ¬ IsGrammarText named bytes) → ⊥
+pub not_faulty : (named : GrammarSource) (content : Option FileContent) (c : CheckedGrammar) → GrammarRead named content c → IsShownWithin grammar_limit content (λ bytes. ¬ IsGrammarText named bytes) → ⊥
 not_faulty named content c read shown = shown_holds grammar_limit (λ bytes. ¬ IsGrammarText named bytes) content shown read.bytes read.read (is_text_of named read.bytes c read.holds.spelled)
 
 -- and it is the one that is visible
-pub of_grammar : (named : NamedGrammar) (content : Option FileContent) (c : CheckedGrammar) → GrammarRead named content c → (S : CheckedGrammar → Type 0)
+pub of_grammar : (named : GrammarSource) (content : Option FileContent) (c : CheckedGrammar) → GrammarRead named content c → (S : CheckedGrammar → Type 0)
     → IsShownWithin grammar_limit content (λ bytes. (other : CheckedGrammar) × Spells bytes (start_name named) other × S other) → S c
 of_grammar named content c read S shown =
     let it : (other : CheckedGrammar) × Spells read.bytes (start_name named) other × S other =
@@ -47,7 +47,7 @@ of_grammar named content c read S shown =
     subst S (sym (read.holds.only it.0 it.1)) it.2
 
 -- where a fault was read, no grammar is visible
-pub no_grammar : (named : NamedGrammar) (content : Option FileContent) (text : List ℕ) → WasRead grammar_limit content (λ bytes. IsFaultIn named bytes text) → (S : CheckedGrammar → Type 0)
+pub no_grammar : (named : GrammarSource) (content : Option FileContent) (text : List ℕ) → WasRead grammar_limit content (λ bytes. IsFaultIn named bytes text) → (S : CheckedGrammar → Type 0)
     → IsShownWithin grammar_limit content (λ bytes. (other : CheckedGrammar) × Spells bytes (start_name named) other × S other) → ⊥
 no_grammar named content text read S shown =
     let it : (other : CheckedGrammar) × Spells read.bytes (start_name named) other × S other =

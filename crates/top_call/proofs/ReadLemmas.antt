@@ -19,7 +19,7 @@ use Rattle.top_call.specs.Grammar.{GrammarRead}
 use Rattle.top_call.specs.Read.{GivesTree, KeepRefused, TreeFails}
 use Rattle.top_call.specs.Reduce.{IsReached, KeepFails, ProblemFails, ProblemRead, ReadIn, grammar_in}
 use Rattle.top_call.specs.Status.{IsInputRefusal}
-use Rattle.command_words.specs.Commands.{GrammarOptions, ModeOptions, NamedGrammar, ReduceOptions}
+use Rattle.command_words.specs.Commands.{GrammarOptions, GrammarSource, ModeOptions, ReduceOptions}
 use Rattle.top_call.specs.Words.{grammar_mode}
 use Rattle.top_call.specs.World.{IsQuiet, SeenFiles, grammar_limit, input_limit}
 use Rattle.top_call.proofs.ProblemLemmas.{problem_map, start_as}
@@ -29,7 +29,7 @@ within_more : {n : ℕ} → n ≤ input_limit → n ≤ 1048576
 within_more within = omega (arith, within)
 
 -- what was found in the text that was read
-pub gives_tree : (named : NamedGrammar) (grammar input : Option FileContent) (c : CheckedGrammar) (bytes : List ℕ) (found : ParsedInput) → GrammarRead named grammar c → Holds bytes input → length bytes ≤ input_limit → IsChecked c → IsParsed c bytes found
+pub gives_tree : (named : GrammarSource) (grammar input : Option FileContent) (c : CheckedGrammar) (bytes : List ℕ) (found : ParsedInput) → GrammarRead named grammar c → Holds bytes input → length bytes ≤ input_limit → IsChecked c → IsParsed c bytes found
     → MakesInputOf c bytes found → GivesTree named grammar input found
 gives_tree named grammar input c bytes found spelled here within is parsed makes = record {
   checked = c;
@@ -44,7 +44,7 @@ gives_tree named grammar input c bytes found spelled here within is parsed makes
       };
 }
 
-module _ (grammar : NamedGrammar) (input : List ℕ) (files files' : SeenFiles) (c : CheckedGrammar) (spelled : GrammarRead grammar (files.shown grammar.path) c) where
+module _ (grammar : GrammarSource) (input : List ℕ) (files files' : SeenFiles) (c : CheckedGrammar) (spelled : GrammarRead grammar (files.shown grammar.path) c) where
   -- the input has a fault
   pub fault_fails : (bytes : List ℕ) → Holds bytes (files.shown input) → length bytes ≤ input_limit → IsQuiet files files' → (fault : InputFault) → IsInputFault c bytes fault → (refusal : Refusal)
       → IsInputRefusal fault refusal → TreeFails grammar input files files' refusal

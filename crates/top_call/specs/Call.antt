@@ -3,7 +3,7 @@ use Rattle.std.specs.Prelude.{◌≡◌, ℕ, List, [], Option, Some, None, code
 use Rattle.script_gate.specs.declared.gate.Verdict.{Verdict}
 use Rattle.top_call.specs.Normal.{PrintsNormal}
 use Rattle.top_call.specs.Reduce.{Reduces}
-use Rattle.command_words.specs.Commands.{Command, NamedGrammar, ReduceOptions, SelftestOptions}
+use Rattle.command_words.specs.Commands.{Command, GrammarSource, ReduceOptions, SelftestOptions}
 use Rattle.top_call.specs.Selftest.{RunsSelftest}
 use Rattle.top_call.specs.World.{NotReached, PutsMessage, World}
 
@@ -26,7 +26,7 @@ pub data RunsCommand (may_say : List ℕ → Verdict → Type 0) (old new : Worl
   usage : EndsUsage old new status → RunsCommand may_say old new status None
   unread : EndsUnread old new status → RunsCommand may_say old new status None
   reduce : (options : ReduceOptions) → Reduces options may_say old new status → RunsCommand may_say old new status (Some (Command.reduce options))
-  normal : (grammar : NamedGrammar) → PrintsNormal grammar old.files new.files old.out new.out status → NotReached [] old new
+  normal : (grammar : GrammarSource) → PrintsNormal grammar old.files new.files old.out new.out status → NotReached [] old new
       → RunsCommand may_say old new status (Some (Command.normal grammar))
   selftest : (options : SelftestOptions) → RunsSelftest options old.out new.out status → new.files ≡ old.files → NotReached [] old new
       → RunsCommand may_say old new status (Some (Command.selftest options))

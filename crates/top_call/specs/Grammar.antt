@@ -12,12 +12,12 @@ use Rattle.top_call.specs.declared.status.NamedFile.TheVariants as read
 use Rattle.top_call.specs.declared.status.Refusal.{Refusal}
 use Rattle.top_call.specs.declared.status.Refusal.TheVariants.{Memory, CannotRead, Grammar, TooLong}
 use Rattle.top_call.specs.Status.{fault_line}
-use Rattle.command_words.specs.Commands.{NamedGrammar}
+use Rattle.command_words.specs.Commands.{GrammarSource}
 use Rattle.top_call.specs.Words.{start_name}
 use Rattle.top_call.specs.World.{CallFailed, IsQuiet, SeenFiles, WasRead, grammar_limit}
 
 -- The bytes spell a grammar that is well-formed for the start rule that is named, or else its first parser rule.
-pub record IsGrammarText (named : NamedGrammar) (bytes : List ℕ) : Type 0 where
+pub record IsGrammarText (named : GrammarSource) (bytes : List ℕ) : Type 0 where
   pub grammar : WrittenGrammar
   pub start : ℕ
   pub spelled : IsProfile bytes grammar
@@ -25,7 +25,7 @@ pub record IsGrammarText (named : NamedGrammar) (bytes : List ℕ) : Type 0 wher
   pub well_formed : IsWellFormed grammar start
 
 -- The bytes spell no such grammar, and the text is that of their first fault.
-pub record IsFaultIn (named : NamedGrammar) (bytes text : List ℕ) : Type 0 where
+pub record IsFaultIn (named : GrammarSource) (bytes text : List ℕ) : Type 0 where
   pub fault : GrammarFault
   pub caused : fault ≢ grammar_fault.Memory
   pub first : IsGrammarFault bytes (start_name named) fault
@@ -33,22 +33,22 @@ pub record IsFaultIn (named : NamedGrammar) (bytes text : List ℕ) : Type 0 whe
   pub refused : ¬ IsGrammarText named bytes
 
 -- why bytes give no grammar
-abbrev pub IsFaultRefusal : NamedGrammar → List ℕ → Refusal → Type 0
+abbrev pub IsFaultRefusal : GrammarSource → List ℕ → Refusal → Type 0
 IsFaultRefusal named bytes Memory = Unit {0}
 IsFaultRefusal named bytes (Grammar line) = (text : List ℕ) × IsFaultIn named bytes text × (string_bytes line ≡ fault_line text)
 IsFaultRefusal named bytes _ = ⊥
 
 -- The bytes spell this grammar, well-formed for that rule, and no other such grammar.
-pub record SpellsTheGrammar (named : NamedGrammar) (bytes : List ℕ) (grammar : CheckedGrammar) : Type 0 where
+pub record SpellsTheGrammar (named : GrammarSource) (bytes : List ℕ) (grammar : CheckedGrammar) : Type 0 where
   pub spelled : Spells bytes (start_name named) grammar
   pub only : (other : CheckedGrammar) → Spells bytes (start_name named) other → grammar ≡ other
 
 -- the file was read whole, within the limit, and its bytes spell the grammar
-abbrev pub GrammarRead : NamedGrammar → Option FileContent → CheckedGrammar → Type 0
+abbrev pub GrammarRead : GrammarSource → Option FileContent → CheckedGrammar → Type 0
 GrammarRead named content grammar = WasRead grammar_limit content (λ bytes. SpellsTheGrammar named bytes grammar)
 
 -- why the file gives no grammar: a call of the files failed, it is longer than the limit, or it was read and has a fault, whose line this is; or out of memory
-abbrev pub GrammarFails : NamedGrammar → SeenFiles → SeenFiles → Refusal → Type 0
+abbrev pub GrammarFails : GrammarSource → SeenFiles → SeenFiles → Refusal → Type 0
 GrammarFails named files files' Memory = IsQuiet files files'
 GrammarFails named files files' (CannotRead file) = (file ≡ read.Grammar) × CallFailed files files'
 GrammarFails named files files' (TooLong file) = (file ≡ read.Grammar) × IsLonger grammar_limit (files.shown named.path) × IsQuiet files files'

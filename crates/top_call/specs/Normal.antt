@@ -9,19 +9,19 @@ use Rattle.normal_form.specs.Print.{printed}
 use Rattle.top_call.specs.declared.status.Refusal.{Refusal}
 use Rattle.top_call.specs.Grammar.{IsFaultIn, IsGrammarText}
 use Rattle.top_call.specs.Status.{fault_line, line_of, status_of}
-use Rattle.command_words.specs.Commands.{NamedGrammar}
+use Rattle.command_words.specs.Commands.{GrammarSource}
 use Rattle.top_call.specs.Words.{start_name}
 use Rattle.top_call.specs.World.{PutsPrefix, CallFailed, IsOver, IsQuiet, IsShownWithin, Puts, PutsLine, PutsMessage, SeenFiles, SeenOut, WasRead, grammar_limit}
 
 -- The text is the printed normal form of the grammar that the bytes spell, with the start rule that is named, or else its first parser rule, and the two have the same languages.
-pub record IsNormalOf (named : NamedGrammar) (bytes text : List ℕ) : Type 0 where
+pub record IsNormalOf (named : GrammarSource) (bytes text : List ℕ) : Type 0 where
   pub grammar : CheckedGrammar
   pub spelled : Spells bytes (start_name named) grammar
   pub languages : HasEqualLanguages grammar (normal_of grammar)
   pub printed : text ≡ encode_utf8_all (printed grammar.kinds (normal_of grammar))
 
 -- How `normal` ends, by its status.
-pub data NormalEnds (grammar : NamedGrammar) (files files' : SeenFiles) (out out' : SeenOut) : ℕ → Type 0 where
+pub data NormalEnds (grammar : GrammarSource) (files files' : SeenFiles) (out out' : SeenOut) : ℕ → Type 0 where
   -- the printed normal form of the grammar in the file was put, and no call failed
   done : (text : List ℕ)
       → (read : WasRead grammar_limit (files.shown grammar.path) (λ bytes. IsNormalOf grammar bytes text))
@@ -55,7 +55,7 @@ pub data NormalEnds (grammar : NamedGrammar) (files files' : SeenFiles) (out out
       → NormalEnds grammar files files' out out' 10
 
 -- Which status it has to be. This follows from how `normal` ends.
-pub record NormalMustEnd (grammar : NamedGrammar) (files files' : SeenFiles) (out out' : SeenOut) (status : ℕ) : Type 0 where
+pub record NormalMustEnd (grammar : GrammarSource) (files files' : SeenFiles) (out out' : SeenOut) (status : ℕ) : Type 0 where
   -- a grammar over its limit is refused
   pub over : IsOver grammar_limit (files.shown grammar.path) → (status ≡ 10) ⊎ ((status ≡ 3) ⊎ (status ≡ 1))
   -- a grammar that isn't there can't be read
@@ -70,11 +70,11 @@ pub record NormalMustEnd (grammar : NamedGrammar) (files files' : SeenFiles) (ou
   pub out_failed : ¬ IsQuiet out out' → status ≢ 0
 
 -- A run of `normal` over this grammar. Every file is as before.
-pub record PrintsNormal (grammar : NamedGrammar) (files files' : SeenFiles) (out out' : SeenOut) (status : ℕ) : Type 0 where
+pub record PrintsNormal (grammar : GrammarSource) (files files' : SeenFiles) (out out' : SeenOut) (status : ℕ) : Type 0 where
   pub ends : NormalEnds grammar files files' out out' status
   pub must_end : NormalMustEnd grammar files files' out out' status
   pub same : SameFiles files.shown files'.shown
 
 -- the command ends with this refusal, whatever becomes of its line
-abbrev pub NormalFails : NamedGrammar → SeenFiles → SeenFiles → Refusal → Type 0
+abbrev pub NormalFails : GrammarSource → SeenFiles → SeenFiles → Refusal → Type 0
 NormalFails grammar files files' refusal = (out out' : SeenOut) → PutsLine (line_of refusal) out out' → NormalEnds grammar files files' out out' (status_of refusal)

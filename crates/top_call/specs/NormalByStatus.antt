@@ -5,11 +5,11 @@ use Rattle.top_call.specs.declared.status.NamedFile.TheVariants as read
 use Rattle.top_call.specs.Grammar.{IsFaultIn}
 use Rattle.top_call.specs.Normal.{IsNormalOf, NormalEnds}
 use Rattle.top_call.specs.Status.{IsOneOf, PutsRefusal, fault_line}
-use Rattle.command_words.specs.Commands.{NamedGrammar}
+use Rattle.command_words.specs.Commands.{GrammarSource}
 use Rattle.top_call.specs.World.{PutsPrefix, CallFailed, Puts, PutsLine, SeenFiles, SeenOut, WasRead, grammar_limit}
 
 -- What `normal` has done, by the number of its status.
-pub record NormalMeans (grammar : NamedGrammar) (files files' : SeenFiles) (out out' : SeenOut) (status : ℕ) : Type 0 where
+pub record NormalMeans (grammar : GrammarSource) (files files' : SeenFiles) (out out' : SeenOut) (status : ℕ) : Type 0 where
   pub known : IsOneOf (0 ∷ 1 ∷ 3 ∷ 4 ∷ 5 ∷ 10 ∷ []) status
   pub done : status ≡ 0 → (text : List ℕ) × WasRead grammar_limit (files.shown grammar.path) (λ bytes. IsNormalOf grammar bytes text) × Puts text out out'
   pub unread : status ≡ 3 → CallFailed files files'
@@ -19,4 +19,4 @@ pub record NormalMeans (grammar : NamedGrammar) (files files' : SeenFiles) (out 
   pub line : IsOneOf (1 ∷ 3 ∷ 10 ∷ []) status → PutsRefusal read.Grammar out out' status
 
 abbrev pub NormalByStatus : Type 0
-NormalByStatus = (grammar : NamedGrammar) (files files' : SeenFiles) (out out' : SeenOut) (status : ℕ) → NormalEnds grammar files files' out out' status → NormalMeans grammar files files' out out' status
+NormalByStatus = (grammar : GrammarSource) (files files' : SeenFiles) (out out' : SeenOut) (status : ℕ) → NormalEnds grammar files files' out out' status → NormalMeans grammar files files' out out' status

@@ -17,22 +17,22 @@ use Rattle.top_call.specs.declared.status.Refusal.TheVariants.{Memory, CannotRea
 use Rattle.top_call.specs.Grammar.{GrammarFails, GrammarRead}
 use Rattle.top_call.specs.Reduce.{ProblemFails, ProblemRead}
 use Rattle.top_call.specs.Status.{IsKeepRefusal, IsUncut}
-use Rattle.command_words.specs.Commands.{NamedGrammar, ReduceOptions}
+use Rattle.command_words.specs.Commands.{GrammarSource, ReduceOptions}
 use Rattle.top_call.specs.World.{CallFailed, IsQuiet, SeenFiles, WasRead, input_limit, line_of_text}
 
 -- The grammar was read, and the input, of whose text what was found makes the input of a reduction.
-pub record GivesTree (named : NamedGrammar) (grammar input : Option FileContent) (found : ParsedInput) : Type 0 where
+pub record GivesTree (named : GrammarSource) (grammar input : Option FileContent) (found : ParsedInput) : Type 0 where
   pub checked : CheckedGrammar
   pub spelled : GrammarRead named grammar checked
   pub read : WasRead input_limit input (λ text. MakesInputOf checked text found)
   pub ready : IsFoundIn found
 
 -- the grammar was read, and the input, which has this fault
-abbrev pub InputIsFaulty : NamedGrammar → Option FileContent → Option FileContent → InputFault → Type 0
+abbrev pub InputIsFaulty : GrammarSource → Option FileContent → Option FileContent → InputFault → Type 0
 InputIsFaulty named grammar input fault = (c : CheckedGrammar) × GrammarRead named grammar c × WasRead input_limit input (λ bytes. IsInputFault c bytes fault)
 
 -- why nothing is found: a file wasn't read, the grammar is faulty, or the input isn't in its language
-abbrev pub TreeFails : NamedGrammar → List ℕ → SeenFiles → SeenFiles → Refusal → Type 0
+abbrev pub TreeFails : GrammarSource → List ℕ → SeenFiles → SeenFiles → Refusal → Type 0
 TreeFails grammar input files files' Memory = IsQuiet files files'
 TreeFails grammar input files files' (CannotRead named.Input) = ((c : CheckedGrammar) × GrammarRead grammar (files.shown grammar.path) c) × CallFailed files files'
 TreeFails grammar input files files' (CannotRead named.Grammar) = CallFailed files files'

@@ -32,7 +32,7 @@ use Rattle.problem_run.specs.Ends.{AreOf, IsRefused, IsUnfinished, ReducesFrom}
 use Rattle.top_call.specs.declared.status.Refusal.{Refusal}
 use Rattle.top_call.specs.declared.status.Refusal.TheVariants.{Memory, CannotRead, Grammar, KeepMissing, NoParse, TooLong, Uncut}
 use Rattle.top_call.specs.Status.{IsKeepRefusal, IsOneOf, IsUncut, fault_line, keep_text, line_of, status_of, word_for}
-use Rattle.command_words.specs.Commands.{GrammarOptions, ModeOptions, NamedGrammar, ReduceOptions}
+use Rattle.command_words.specs.Commands.{GrammarOptions, GrammarSource, ModeOptions, ReduceOptions}
 use Rattle.top_call.specs.Words.{file_name_of, grammar_mode, start_name}
 use Rattle.top_call.specs.World.{CallFailed, FilesKept, IsOver, IsQuiet, IsShownWithin, NotReached, Puts, PutsLine, PutsMessage, PutsPrefix, SeenFiles, SeenGate, SeenJournal, SeenOut, WasRead, World, grammar_limit, input_limit, line_of_text}
 
@@ -110,7 +110,7 @@ name_of options named.Input = options.input
 name_of options named.Grammar = grammar_in options.mode
 
 -- the grammar's file spells a grammar, the input was read within its limit, and the fact holds of the two
-abbrev pub InputHas : NamedGrammar → (CheckedGrammar → List ℕ → Type 0) → ReduceOptions → SeenFiles → Type 0
+abbrev pub InputHas : GrammarSource → (CheckedGrammar → List ℕ → Type 0) → ReduceOptions → SeenFiles → Type 0
 InputHas grammar P options files = (c : CheckedGrammar) × GrammarRead grammar (files.shown grammar.path) c × WasRead input_limit (files.shown options.input) (λ bytes. P c bytes)
 
 -- where a call of the gate failed: the journal has the whole history; or the gate wasn't opened, it and the journal show what they did, and nothing was recorded
@@ -228,7 +228,7 @@ abbrev pub IsShownProblem : ReduceOptions → SeenFiles → (List ℕ → Type 0
 IsShownProblem options files P = ShownIn options.mode options files P
 
 -- what is visible of the files is a grammar within its limit, and an input within its limit with such a fault
-abbrev pub IsShownFault : NamedGrammar → ReduceOptions → SeenFiles → (InputFault → Type 0) → Type 0
+abbrev pub IsShownFault : GrammarSource → ReduceOptions → SeenFiles → (InputFault → Type 0) → Type 0
 IsShownFault grammar options files P =
     IsShownWithin grammar_limit (files.shown grammar.path) (λ bytes. (c : CheckedGrammar) × Spells bytes (start_name grammar) c
     × IsShownWithin input_limit (files.shown options.input) (λ text. (fault : InputFault) × IsInputFault c text fault × P fault))

@@ -2,14 +2,14 @@
 use Rattle.std.specs.Prelude.{ℕ, ◌==◌, Bool, List, [], ◌∷◌, Option, if◌then◌else◌, option_map}
 use Rattle.std.specs.List.{list_any}
 use Rattle.std.specs.Str.{chars}
-use Rattle.command_words.specs.Commands.{NamedGrammar}
+use Rattle.command_words.specs.Commands.{GrammarSource}
 use Rattle.command_words.specs.declared.commands.TreeMode.{TreeMode}
 use Rattle.command_words.specs.declared.commands.TreeMode.TheVariants as read
 use Rattle.problem_run.specs.declared.problem.GrammarMode.{GrammarMode}
 use Rattle.problem_run.specs.declared.problem.GrammarMode.TheVariants.{Hdd, Perses}
 
 -- the characters of the start rule's name, where one is given
-abbrev pub start_name : NamedGrammar → Option (List ℕ)
+abbrev pub start_name : GrammarSource → Option (List ℕ)
 start_name grammar = option_map chars grammar.start
 
 -- the mode of a run, by that of the command line

@@ -4,7 +4,7 @@ ghost use Rattle.std.specs.Prelude.{IfErr, IfOk, List, OnOk, ℕ};
 ghost use Rattle.edge_io.specs.Files.{SameFiles};
 ghost use Rattle.checked_grammar.specs.Answer.{Spells};
 ghost use Rattle.top_call.specs.Normal.{IsNormalOf, NormalFails, PrintsNormal};
-ghost use Rattle.command_words.specs.Commands.{NamedGrammar as NamedOne};
+ghost use Rattle.command_words.specs.Commands.{GrammarSource};
 ghost use Rattle.command_words.specs.Lines.{grammar_read};
 ghost use Rattle.top_call.specs.Words.{start_name};
 ghost use Rattle.top_call.specs.World.{IsQuiet, WasRead, grammar_limit, seen};
@@ -21,7 +21,7 @@ use std::alloc::Global;
 
 /// The printed normal form of the grammar.
 fn form_of(alloc: Global, checked: &Checked) -> Result<Vec<u8>, Memory>
-    ensures { IfOk result (λ form. (named : NamedOne) (bytes : List ℕ) → Spells bytes (start_name named) checked.now → IsNormalOf named bytes form.items) }
+    ensures { IfOk result (λ form. (named : GrammarSource) (bytes : List ℕ) → Spells bytes (start_name named) checked.now → IsNormalOf named bytes form.items) }
 {
     let normal = normalise(alloc, checked)?;
     Ok(normal_text(alloc, checked, &normal)?)
