@@ -1,5 +1,5 @@
 -- What was found in a text makes the parts of a reduction.
-use Rattle.std.proofs.Common.{◌≡◌, ◌≤◌, ℕ, Bool, List, length, true, false, sym, subst}
+use Rattle.std.proofs.Common.{◌≤◌, ℕ, List, length, true, false, sym, subst}
 use Rattle.grammar_tree.specs.Checked.{IsChecked}
 use Rattle.grammar_tree.specs.Written.{CheckedGrammar}
 use Rattle.grammar_input.specs.Parsed.{IsParsed, MakesInputOf}

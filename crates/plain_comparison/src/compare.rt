@@ -7,6 +7,7 @@ ghost use Rattle.tree_rounds.specs.HddMode.{hdd_mode};
 ghost use Rattle.tree_rounds.specs.PersesMode.{perses_mode};
 ghost use Rattle.plain_reducer.specs.Results.{result_of};
 ghost use Rattle.plain_reducer.specs.Verdicts.{verdicts_by};
+ghost use Rattle.plain_comparison.specs.Ends.{EndsAs};
 
 use crate::parts::{found, tree_parts};
 use compat_table::compat;
@@ -124,7 +125,9 @@ fn plain_reduction(
 }
 
 /// Whether the reducer does what the plain one did.
-fn agrees(alloc: Global, case: Case, rule: VerdictRule, plain: &Reduction) -> Result<bool, Memory> {
+fn agrees(alloc: Global, case: Case, rule: VerdictRule, plain: &Reduction) -> Result<bool, Memory>
+    ensures { IfOk result (λ same. IsTrue same → EndsAs case.entry.grammar.now case.entry.start.now case.entry.mode case.entry.squeezes (verdicts_by rule.entry.start.now rule.entry.seed) (result_of plain.now)) }
+{
     let Some(found) = found(alloc, case.grammar, case.start)? else {
         return Ok(false);
     };

@@ -1,7 +1,10 @@
 //! What is found in a start, and the parts of its reduction.
 
-ghost use Rattle.std.specs.Prelude.{◌≤◌, IfOk, length};
+ghost use Rattle.std.specs.Prelude.{◌≡◌, ◌≤◌, [], IfOk, length};
 ghost use Rattle.std.specs.Option.{IfSome};
+ghost use Rattle.grammar_input.specs.Parsed.{MakesInputOf, tree_input};
+ghost use Rattle.grammar_tree.specs.Faults.{IsWellFormed};
+ghost use Rattle.keep_guard.specs.Keep.{keeps_admit};
 ghost use Rattle.plain_comparison.specs.Found.{IsFound};
 
 use compat_table::compat;
@@ -10,12 +13,13 @@ use grammar_input::{InputFault, ParsedInput, parsed_input};
 use grammar_tree::Checked;
 use keep_guard::{Guard, KeepTexts};
 use std::alloc::Global;
-use tree_rounds::TreeParts;
+use tree_rounds::{HasInput, TreeParts};
 
 /// What is found in a text of the grammar.
 fn found_in(alloc: Global, grammar: &Checked, start: &str) -> Result<ParsedInput, InputFault>
     requires { length start.now ≤ 1048576 }
-    ensures { IfOk result IsFound }
+    ensures found { IfOk result IsFound }
+    ensures input { IfOk result (MakesInputOf grammar.now start.now) }
 {
     grammar.is_checked();
     Ok(parsed_input(alloc, grammar, start.as_bytes())?)
@@ -28,7 +32,8 @@ pub(crate) fn found(
     grammar: &Checked,
     start: &str,
 ) -> Result<Option<ParsedInput>, Memory>
-    ensures { IfOk result (λ found. IfSome found IsFound) }
+    ensures found { IfOk result (λ found. IfSome found IsFound) }
+    ensures input { IfOk result (λ found. IfSome found (MakesInputOf grammar.now start.now)) }
 {
     if start.len() > 1_048_576 {
         return Ok(None);
@@ -47,6 +52,7 @@ pub(crate) fn tree_parts<'a>(
     squeezes: bool,
 ) -> Result<TreeParts<KeepTexts<'a>>, Memory>
     requires { IsFound found }
+    ensures { IfOk result (λ parts. (formed : IsWellFormed found.lexer.grammar found.lexer.start) → ⟦<TreeParts<KeepTexts<'a>> as HasInput>⟧.input parts ≡ tree_input found formed (keeps_admit []) squeezes) }
 {
     let compat = compat(alloc, found.tree.normal())?;
     let guard = Guard::new(KeepTexts::new(alloc));
