@@ -6,13 +6,12 @@
 //! in `stdout` are worked out by hand from the definitions; none comes from a run.
 #![tactic(auto)]
 
-mod language;
 mod showing;
 
-use crate::language::Language;
 use crate::showing::{ends_shown, file_shown, nested_shown, tree_shown};
 use anyhow::{Result, bail};
 use grammar_tests::grammars::{MINI, STATEMENTS};
+use language_trees::Language;
 use std::alloc::Global;
 use std::fs;
 
@@ -45,8 +44,8 @@ fn shared_grammar(name: &str) -> Option<&'static str> {
 /// The grammar of this name, or else in the file of this name.
 fn language_named(rt: &HostRuntime, alloc: Global, name: &str) -> Result<Language> {
     match shared_grammar(name) {
-        Some(text) => Language::new(alloc, text),
-        None => Language::new(alloc, fs::read_to_string(rt, name)?.as_str()),
+        Some(text) => Ok(Language::new(alloc, text)?),
+        None => Ok(Language::new(alloc, fs::read_to_string(rt, name)?.as_str())?),
     }
 }
 

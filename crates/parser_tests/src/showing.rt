@@ -1,17 +1,11 @@
 //! Trees and ends as text.
 
-ghost use Rattle.std.specs.Prelude.{◌<◌, ◌^◌, length, IfOk, MatchOption};
-ghost use Rattle.normal_form.specs.declared.normal.Sym.TheVariants.{Rule};
-ghost use Rattle.normal_form.specs.NormalDerives.{NormalDerives};
-ghost use Rattle.chart_parser.specs.Parse.{IsParse};
-
-use crate::language::Language;
 use anyhow::{Result, bail};
-use chart_parser::parse;
+use language_trees::Language;
 use normal_form::{Normal, Sym};
 use span_chart::ends;
 use std::alloc::Global;
-use syntax_tree::{Node, Tree};
+use syntax_tree::Node;
 
 /// A node: the number of its token, or its rule's name, its alternative and how many children it has.
 /// Tokens and alternatives count from 0.
@@ -39,18 +33,9 @@ fn nodes_shown(alloc: Global, normal: &Normal, nodes: &[Node]) -> Result<String>
     Ok(text)
 }
 
-/// The preferred tree of the kinds; None where the start rule doesn't derive them.
-fn tree_of(alloc: Global, normal: &Normal, kinds: &[u32]) -> Result<Option<Tree>>
-    requires { length kinds.now < 2 ^ 32 }
-    ensures { let start = Rule normal.now.start in IfOk result (λ answer. MatchOption answer (¬ NormalDerives normal.now start kinds.now) (IsParse normal.now start kinds.now)) }
-{
-    Ok(parse(alloc, normal, Sym::Rule(normal.start()), kinds)?)
-}
-
 /// The preferred tree of a text.
 pub(crate) fn tree_shown(alloc: Global, language: &Language, text: &str) -> Result<String> {
-    let kinds = language.kinds(alloc, text)?;
-    match tree_of(alloc, &language.normal, &kinds)? {
+    match language.tree(alloc, text)? {
         Some(tree) => nodes_shown(alloc, &language.normal, tree.nodes()),
         None => Ok(String::from_str(alloc, "none")?),
     }
@@ -81,12 +66,20 @@ fn nested_text(alloc: Global, depth: u32, open: &str, inner: &str, close: &str) 
     Ok(text)
 }
 
+/// How many tokens there are below the first of the nodes, which is a tree's root.
+fn count_tokens(nodes: &[Node]) -> u32 {
+    match nodes.first() {
+        Some(root) => root.end,
+        None => 0,
+    }
+}
+
 /// How many nodes the tree has, and how many tokens.
 fn counts_shown(alloc: Global, language: &Language, text: &str) -> Result<String> {
-    let kinds = language.kinds(alloc, text)?;
-    match tree_of(alloc, &language.normal, &kinds)? {
+    match language.tree(alloc, text)? {
         Some(tree) => {
-            Ok(format!(in alloc; "{} nodes, {} tokens", tree.nodes().len(), kinds.len())?)
+            let tokens = count_tokens(tree.nodes());
+            Ok(format!(in alloc; "{} nodes, {tokens} tokens", tree.nodes().len())?)
         }
         None => Ok(String::from_str(alloc, "none")?),
     }
@@ -105,9 +98,11 @@ pub(crate) fn nested_shown(alloc: Global, language: &Language, text: &str) -> Re
 
 /// How many tokens the tree of a file's text has.
 pub(crate) fn file_shown(alloc: Global, language: &Language, text: &str) -> Result<String> {
-    let kinds = language.kinds(alloc, text)?;
-    match tree_of(alloc, &language.normal, &kinds)? {
-        Some(_) => Ok(format!(in alloc; "a tree of {} tokens", kinds.len())?),
+    match language.tree(alloc, text)? {
+        Some(tree) => {
+            let tokens = count_tokens(tree.nodes());
+            Ok(format!(in alloc; "a tree of {tokens} tokens")?)
+        }
         None => Ok(String::from_str(alloc, "none")?),
     }
 }

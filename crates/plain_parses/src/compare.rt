@@ -1,17 +1,12 @@
 //! Comparison of the parser with the plain one.
 
-ghost use Rattle.std.specs.Prelude.{◌<◌, ◌^◌, length, IfOk, MatchOption};
-ghost use Rattle.normal_form.specs.declared.normal.Sym.TheVariants.{Rule};
-ghost use Rattle.normal_form.specs.NormalDerives.{NormalDerives};
-ghost use Rattle.chart_parser.specs.Parse.{IsParse};
-
 use crate::lists::{advance, first_list};
 use crate::plain::{Forest, Plain, PlainNode, preferred};
 use anyhow::{Result, bail};
-use chart_parser::parse;
 use grammar_plain::start_derives;
 use grammar_tests::checked;
 use grammar_tree::Checked;
+use language_trees::start_tree;
 use normal_form::{Normal, NormalRule, Sym, normalise};
 use std::alloc::Global;
 use syntax_tree::{Node, Tree};
@@ -42,14 +37,6 @@ fn language_of(alloc: Global, text: &str) -> Result<Language> {
         }
         Err(refused) => bail!("the grammar is refused: {refused:?}"),
     }
-}
-
-/// The preferred tree of the kinds; None where the start rule doesn't derive them.
-fn tree_of(alloc: Global, normal: &Normal, kinds: &[u32]) -> Result<Option<Tree>>
-    requires { length kinds.now < 2 ^ 32 }
-    ensures { let start = Rule normal.now.start in IfOk result (λ answer. MatchOption answer (¬ NormalDerives normal.now start kinds.now) (IsParse normal.now start kinds.now)) }
-{
-    Ok(parse(alloc, normal, Sym::Rule(normal.start()), kinds)?)
 }
 
 /// The number of the alternative that the node has, or of what an optional is.
@@ -100,11 +87,8 @@ fn is_same(
 
 /// Compares the answers for a list. The answer is whether it has a tree.
 fn compare_list(alloc: Global, language: &Language, kinds: &[u32]) -> Result<bool> {
-    if kinds.len() > u32::MAX as usize {
-        bail!("the list is too long");
-    }
     let normal = &language.normal;
-    let answer = tree_of(alloc, normal, kinds)?;
+    let answer = start_tree(alloc, normal, kinds)?;
     let plain = Plain {
         alloc,
         normal,

@@ -1,0 +1,14 @@
+pub use Rattle.grammar_tree.specs.Written
+pub use Rattle.grammar_tree.specs.Faults
+pub use Rattle.grammar_tree.specs.Lexes
+pub use Rattle.grammar_reader.specs.Reads
+pub use Rattle.grammar_tests.specs.Refused
+pub use Rattle.lexer.specs.Tokens
+pub use Rattle.normal_form.specs.Form
+pub use Rattle.normal_form.specs.NormalOf
+pub use Rattle.normal_form.specs.NormalDerives
+pub use Rattle.syntax_tree.specs.Nodes
+pub use Rattle.chart_parser.specs.Parse
+pub mod StartTree
+pub mod Language
+pub mod TreeFaults

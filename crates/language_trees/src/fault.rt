@@ -1,0 +1,67 @@
+//! Why a text gives no language, and a text or a list of kinds no tree.
+
+ghost use Rattle.std.specs.Prelude.{◌≡◌};
+
+use faults::Memory;
+use grammar_tests::Refused;
+use std::alloc::AllocFailed;
+use thiserror::Error;
+
+/// Why a text spells no grammar whose language can be made.
+#[derive(Debug, Drop, Error)]
+pub enum LanguageFault {
+    #[error("the grammar is refused: {0:?}")]
+    Refused(Refused),
+
+    #[error("out of memory")]
+    Memory,
+}
+
+/// Why it isn't known which tree a text or a list of kinds has, if it has one.
+#[derive(Clone, Copy, Debug, PartialEq, Eq, Error)]
+pub enum TreeFault {
+    /// The text has 2^32 bytes or more.
+    #[error("the text is too long")]
+    LongText,
+
+    /// At this offset, in bytes from 0, no rule matches at least one character.
+    #[error("no token at byte {offset}")]
+    NoToken { offset: u64 },
+
+    /// There are 2^32 kinds or more.
+    #[error("there are too many tokens")]
+    LongList,
+
+    #[error("out of memory")]
+    Memory,
+}
+
+impl From<Memory> for LanguageFault {
+    ghost use Rattle.language_trees.specs.declared.fault.LanguageFault.TheVariants.{Memory as OutOfMemory};
+
+    ghost from_gives = { λ _ fault. fault ≡ OutOfMemory };
+
+    fn from(_: Memory) -> LanguageFault {
+        LanguageFault::Memory
+    }
+}
+
+impl From<Memory> for TreeFault {
+    ghost use Rattle.language_trees.specs.declared.fault.TreeFault.TheVariants.{Memory as OutOfMemory};
+
+    ghost from_gives = { λ _ fault. fault ≡ OutOfMemory };
+
+    fn from(_: Memory) -> TreeFault {
+        TreeFault::Memory
+    }
+}
+
+impl<T: Drop> From<AllocFailed<T>> for TreeFault {
+    ghost use Rattle.language_trees.specs.declared.fault.TreeFault.TheVariants.{Memory as OutOfMemory};
+
+    ghost from_gives = { λ _ fault. fault ≡ OutOfMemory };
+
+    fn from(_: AllocFailed<T>) -> TreeFault {
+        TreeFault::Memory
+    }
+}
