@@ -1,11 +1,10 @@
 //! What cuts say of the nodes that are left, compared with the plain list of these nodes.
 
-ghost use Rattle.std.specs.Prelude.{IsSome};
-ghost use Rattle.syntax_tree.specs.Numbered.{subtree};
-ghost use Rattle.tree_cut.specs.Cuts.{IsCutOf, cut_tree};
+ghost use Rattle.tree_cut.specs.Cuts.{IsCutOf};
 
 use crate::plain::{PlainNode, end_of, index_of, tokens_below};
 use faults::Memory;
+use guarded_cuts::{Description, describe};
 use std::alloc::Global;
 use syntax_tree::Tree;
 use tree_cut::Cut;
@@ -27,38 +26,19 @@ fn plain_children(alloc: Global, nodes: &[PlainNode], index: usize) -> Result<Ve
     Ok(numbers)
 }
 
-/// Whether the cut has the first token of a node that is left, where there is one.
-fn is_same_first(tree: &Tree, cut: &Cut, number: u32, first: Option<u32>) -> bool
-    requires of { IsCutOf tree.now cut.now }
-    requires left { IsSome (subtree number (cut_tree tree.now cut.now)) }
-{
-    let weight = cut.weight(tree, number);
-    if weight == 0 {
-        return first.is_none();
-    }
-    first == Some(cut.first_token(tree, number))
-}
-
-/// Whether the cut says of a node that is left what the list says of the node at this index.
-fn is_same_left(
+/// Whether what the cut says of a node is what the list says of the node at this index.
+fn is_same_description(
     alloc: Global,
-    tree: &Tree,
-    cut: &Cut,
+    found: &Description,
     nodes: &[PlainNode],
     index: usize,
     node: PlainNode,
-) -> Result<bool, Memory>
-    requires of { IsCutOf tree.now cut.now }
-    requires left { IsSome (subtree node.number (cut_tree tree.now cut.now)) }
-{
+) -> Result<bool, Memory> {
     let tokens = tokens_below(alloc, nodes, index)?;
-    let children = cut.children(alloc, tree, node.number)?;
-    let same_children = children == plain_children(alloc, nodes, index)?;
-    let same_weight = cut.weight(tree, node.number) as usize == tokens.len();
-    let same_slot = cut.slot(tree, node.number) == node.slot;
-    let first = tokens.first().copied();
-    let same_first = is_same_first(tree, cut, node.number, first);
-    Ok(same_children && same_weight && same_slot && same_first)
+    let same_children = found.children == plain_children(alloc, nodes, index)?;
+    let same_weight = found.weight as usize == tokens.len();
+    let same_first = found.first_token == tokens.first().copied();
+    Ok(same_children && same_weight && same_first && found.slot == node.slot)
 }
 
 /// Whether the node at this index is left, and the cut says of it what the list says.
@@ -74,11 +54,10 @@ fn is_same_node(
     let Some(node) = nodes.get(index) else {
         return Ok(false);
     };
-    let node = *node;
-    if !cut.is_left(tree, node.number) {
-        return Ok(false);
+    match describe(alloc, tree, cut, node.number)? {
+        Some(found) => is_same_description(alloc, &found, nodes, index, *node),
+        None => Ok(false),
     }
-    is_same_left(alloc, tree, cut, nodes, index, node)
 }
 
 /// Whether the cut says of each node of the list what the list says.

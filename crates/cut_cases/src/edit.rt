@@ -1,20 +1,8 @@
-//! Edits of trees, as text and as calls.
+//! Edits of trees, as text.
 
 use anyhow::{Result, bail};
+use guarded_cuts::Edit;
 use std::alloc::Global;
-
-/// An edit, which names nodes by their numbers.
-#[derive(Clone, Copy)]
-pub(crate) enum Edit {
-    /// Deletes an element of a list.
-    Delete { list: u32, element: u32 },
-
-    /// Deletes the content of an optional.
-    Empty { node: u32 },
-
-    /// Lets a node have the position of one that it is below.
-    Replace { node: u32, by: u32 },
-}
 
 /// The number that the word spells.
 pub(crate) fn number_of(word: &str) -> Result<u32> {

@@ -21,11 +21,8 @@
 //! weights. None of it comes from a run.
 #![tactic(auto)]
 
-mod calls;
 mod comparing;
-mod descending;
 mod edit;
-mod language;
 mod plain;
 mod showing;
 
@@ -34,18 +31,15 @@ ghost use Rattle.std.specs.Str.{chars};
 ghost use Rattle.lexer.specs.Tokens.{HasTokens, token_of};
 ghost use Rattle.tree_cut.specs.Cuts.{IsCutOf};
 
-use crate::calls::make;
-use crate::descending::below_shown;
-use crate::edit::{Edit, edit_of, number_of};
-use crate::language::{Language, kinds_of};
+use crate::edit::{edit_of, number_of};
 use crate::plain::{PlainNode, edited, whole_nodes};
 use crate::showing::cut_shown;
 use anyhow::{Result, bail};
-use chart_parser::parse;
 use compat_table::{Compat, compat};
 use grammar_tests::grammars::STATEMENTS;
+use guarded_cuts::{Edit, make, nodes_below};
+use language_trees::{Language, kinds_of, start_tree};
 use lexer::Tokens;
-use normal_form::Sym;
 use std::alloc::Global;
 use std::fs;
 use syntax_tree::Tree;
@@ -63,6 +57,17 @@ fn plain_after(
         Some(left) if made => Ok(left),
         None if !made => Ok(nodes),
         _ => bail!("one of the two edits is refused"),
+    }
+}
+
+/// The numbers below a node in level order, and those of them that can take its position.
+fn below_shown(alloc: Global, tree: &Tree, cut: &Cut, compat: &Compat, node: u32) -> Result<String>
+    requires of { IsCutOf tree.now cut.now }
+    requires compat { compat.now ≡ tree.now.form }
+{
+    match nodes_below(alloc, tree, cut, compat, node)? {
+        Some(below) => Ok(format!(in alloc; "{:?} {:?}", below.all, below.compatible)?),
+        None => Ok(String::from_str(alloc, "not left")?),
     }
 }
 
@@ -136,7 +141,7 @@ fn show_case(
     let tokens = language.tokens(start)?;
     let kinds = kinds_of(alloc, &tokens)?;
     let normal = &language.normal;
-    let Some(tree) = parse(alloc, normal, Sym::Rule(normal.start()), &kinds)? else {
+    let Some(tree) = start_tree(alloc, normal, &kinds)? else {
         println!(rt; "    no tree")?;
         return Ok(());
     };
@@ -168,9 +173,9 @@ fn nested_text(alloc: Global, words: &str) -> Result<String> {
 /// The grammar of this name, or else in the file of this name.
 fn language_named(rt: &HostRuntime, alloc: Global, name: &str) -> Result<Language> {
     if name == "Statements" {
-        return Language::new(alloc, STATEMENTS);
+        return Ok(Language::new(alloc, STATEMENTS)?);
     }
-    Language::new(alloc, fs::read_to_string(rt, name)?.as_str())
+    Ok(Language::new(alloc, fs::read_to_string(rt, name)?.as_str())?)
 }
 
 /// Answers a row about texts.

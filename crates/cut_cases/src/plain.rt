@@ -4,8 +4,8 @@
 //! after it as it has children, each with what is below it. An edit copies the parts of the list that
 //! stay. It is slow, and knows nothing of marks, positions and spans.
 
-use crate::edit::Edit;
 use faults::Memory;
+use guarded_cuts::Edit;
 use normal_form::{Normal, NormalRule, Sym};
 use std::alloc::Global;
 use syntax_tree::Tree;

@@ -1,15 +1,15 @@
 //! Trees that are left, as text.
 
-ghost use Rattle.std.specs.Prelude.{IsSome, map};
+ghost use Rattle.std.specs.Prelude.{map};
 ghost use Rattle.std.specs.Str.{chars};
 ghost use Rattle.lexer.specs.Tokens.{HasTokens, token_of};
-ghost use Rattle.syntax_tree.specs.Numbered.{subtree};
-ghost use Rattle.tree_cut.specs.Cuts.{IsCutOf, cut_tree};
+ghost use Rattle.tree_cut.specs.Cuts.{IsCutOf};
 
 use crate::comparing::is_same;
 use crate::plain::{PlainNode, tokens_below};
 use anyhow::{Result, bail};
 use faults::Memory;
+use guarded_cuts::{Description, describe};
 use lexer::{Lexer, Tokens};
 use normal_form::Sym;
 use std::alloc::Global;
@@ -37,11 +37,7 @@ fn symbol_shown(alloc: Global, symbol: Sym) -> Result<String> {
 }
 
 /// The slot of a node that is left, where it isn't the node's own symbol.
-fn slot_shown(alloc: Global, tree: &Tree, cut: &Cut, node: u32) -> Result<String>
-    requires of { IsCutOf tree.now cut.now }
-    requires left { IsSome (subtree node (cut_tree tree.now cut.now)) }
-{
-    let slot = cut.slot(tree, node);
+fn slot_shown(alloc: Global, tree: &Tree, node: u32, slot: Sym) -> Result<String> {
     if let Some(entry) = tree.nodes().get(node as usize) {
         if entry.sym == slot {
             return Ok(String::new(alloc));
@@ -65,21 +61,16 @@ fn push_parts(children: &[u32], parts: &mut Vec<Part>) -> Result<(), Memory> {
 fn write_left(
     alloc: Global,
     tree: &Tree,
-    cut: &Cut,
     node: u32,
+    found: &Description,
     parts: &mut Vec<Part>,
     text: &mut String,
-) -> Result<()>
-    requires of { IsCutOf tree.now cut.now }
-    requires left { IsSome (subtree node (cut_tree tree.now cut.now)) }
-{
-    let children = cut.children(alloc, tree, node)?;
-    let weight = cut.weight(tree, node);
-    let slot = slot_shown(alloc, tree, cut, node)?;
-    text.push_str(format!(in alloc; " {node}{slot}:{weight}")?.as_str())?;
-    if !children.is_empty() {
+) -> Result<()> {
+    let slot = slot_shown(alloc, tree, node, found.slot)?;
+    text.push_str(format!(in alloc; " {node}{slot}:{}", found.weight)?.as_str())?;
+    if !found.children.is_empty() {
         text.push_str(" (")?;
-        push_parts(&children, parts)?;
+        push_parts(&found.children, parts)?;
     }
     Ok(())
 }
@@ -99,10 +90,10 @@ fn write_part(
         text.push_str(" )")?;
         return Ok(());
     };
-    if !cut.is_left(tree, node) {
-        bail!("a child that isn't left: {node}");
+    match describe(alloc, tree, cut, node)? {
+        Some(found) => write_left(alloc, tree, node, &found, parts, text),
+        None => bail!("a child that isn't left: {node}"),
     }
-    write_left(alloc, tree, cut, node, parts, text)
 }
 
 /// The tree that is left as brackets, from the node with this number on.
