@@ -6,30 +6,16 @@
 //! are worked out by hand from the notation; none comes from a run.
 #![tactic(auto)]
 
-ghost use Rattle.std.specs.Prelude.{◌≡◌, IfOk, string_bytes};
-ghost use Rattle.grammar_cases.specs.Reading.{reading_text};
-
 mod sets;
 mod words;
 
 use crate::sets::{sets_shown, union_shown};
 use crate::words::words_shown;
+use answer_texts::reading_shown;
 use anyhow::{Result, bail};
-use grammar_notation::ReadFault;
 use grammar_reader::read_grammar;
-use grammar_tree::Grammar;
 use percent_encoding::percent_decode;
 use std::alloc::Global;
-
-/// Whether a text was read as a grammar, or its first fault.
-fn reading_shown(alloc: Global, reading: &std::result::Result<Grammar, ReadFault>) -> Result<String>
-    ensures { IfOk result (λ shown. string_bytes shown ≡ reading_text reading.now) }
-{
-    match reading {
-        Ok(_) => Ok(String::from_str(alloc, "read")?),
-        Err(fault) => Ok(fault.to_string(alloc)?),
-    }
-}
 
 /// How many of the beginnings of the bytes, the empty one and the whole too, are read as a grammar.
 fn beginnings(alloc: Global, bytes: &[u8]) -> Result<String> {
@@ -48,7 +34,7 @@ fn beginnings(alloc: Global, bytes: &[u8]) -> Result<String> {
 fn answer(alloc: Global, question: &str, bytes: &[u8]) -> Result<String> {
     match question {
         "words" => words_shown(alloc, std::str::from_utf8(bytes)?),
-        "read" => reading_shown(alloc, &read_grammar(alloc, bytes)),
+        "read" => Ok(reading_shown(alloc, &read_grammar(alloc, bytes))?),
         "prefixes" => beginnings(alloc, bytes),
         "sets" => sets_shown(alloc, bytes),
         "union" => union_shown(alloc, bytes),

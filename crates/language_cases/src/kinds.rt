@@ -1,24 +1,9 @@
 //! The kinds and the starts of grammars.
 
-ghost use Rattle.std.specs.Prelude.{◌≡◌, IfOk, string_bytes};
-ghost use Rattle.language_cases.specs.Shown.{kind_text};
-
+use answer_texts::kind_shown;
 use anyhow::Result;
-use grammar_tree::{Checked, Kind, KindSource};
+use grammar_tree::Checked;
 use std::alloc::Global;
-
-/// The kind's name, whether it is one of gap text, and where it comes from.
-fn kind_shown(alloc: Global, kind: &Kind) -> Result<String>
-    ensures { IfOk result (λ shown. string_bytes shown ≡ kind_text kind.now) }
-{
-    let gap = if kind.gap { " gap" } else { "" };
-    let name = &kind.name;
-    match kind.source {
-        KindSource::Implicit => Ok(format!(in alloc; "{name}{gap} implicit; ")?),
-        KindSource::Written(index) => Ok(format!(in alloc; "{name}{gap} at {index}; ")?),
-        KindSource::Declared => Ok(format!(in alloc; "{name}{gap} declared; ")?),
-    }
-}
 
 /// The kinds of a copy of the grammar, in the order of their numbers.
 pub(crate) fn kinds_shown(alloc: Global, checked: &Checked) -> Result<String> {

@@ -1,12 +1,10 @@
 //! Texts and their tokens, by the lexer and by the plain one.
 
-ghost use Rattle.std.specs.Prelude.{◌≡◌, IfOk, string_bytes};
-ghost use Rattle.language_cases.specs.Shown.{token_text, tokens_text};
-
+use answer_texts::{token_shown, tokens_shown};
 use anyhow::{Result, bail};
 use grammar_plain::Piece;
 use grammar_tree::Checked;
-use lexer::{Lexer, Token};
+use lexer::Lexer;
 use std::alloc::Global;
 
 fn is_gap(checked: &Checked, kind: u32) -> bool {
@@ -14,25 +12,6 @@ fn is_gap(checked: &Checked, kind: u32) -> bool {
         Some(kind) => kind.gap,
         None => false,
     }
-}
-
-/// A token: the number of its kind, and its offsets in bytes.
-fn token_shown(alloc: Global, kind: u32, start: usize, end: usize) -> Result<String>
-    ensures { IfOk result (λ shown. string_bytes shown ≡ token_text kind start end) }
-{
-    Ok(format!(in alloc; "{kind}@{start}-{end} ")?)
-}
-
-/// The tokens, one after another.
-fn shown(alloc: Global, tokens: &[Token]) -> Result<String>
-    ensures { IfOk result (λ shown. string_bytes shown ≡ tokens_text tokens.now) }
-{
-    let mut out = String::new(alloc);
-    for token in tokens {
-        let text = token_shown(alloc, token.kind, token.start as usize, token.end as usize)?;
-        out.push_str(text.as_str())?;
-    }
-    Ok(out)
 }
 
 /// The pieces that aren't gap text.
@@ -55,7 +34,7 @@ fn lexed(alloc: Global, lexer: &Lexer, text: &str) -> Result<String> {
         bail!("the text is too long");
     }
     match lexer.lex(text) {
-        Ok(tokens) => shown(alloc, &tokens.items),
+        Ok(tokens) => Ok(tokens_shown(alloc, &tokens.items)?),
         Err(fault) => Ok(fault.to_string(alloc)?),
     }
 }
@@ -69,7 +48,7 @@ fn plainly_lexed(alloc: Global, checked: &Checked, text: &str) -> Result<String>
 }
 
 /// The tokens of the text. Where the two lexers differ, what both make of it.
-pub(crate) fn tokens_shown(alloc: Global, checked: &Checked, text: &str) -> Result<String> {
+pub(crate) fn both_shown(alloc: Global, checked: &Checked, text: &str) -> Result<String> {
     let lexer = Lexer::build(alloc, checked)?;
     let fast = lexed(alloc, &lexer, text)?;
     let plain = plainly_lexed(alloc, checked, text)?;

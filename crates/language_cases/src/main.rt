@@ -20,7 +20,7 @@ use crate::bounds::{blocks_shown, built_shown};
 use crate::checks::fault_shown;
 use crate::forms::{derived_shown, form_shown, start_shown};
 use crate::kinds::{copied_shown, kinds_shown};
-use crate::lexing::{skipped_shown, tokens_shown};
+use crate::lexing::{both_shown, skipped_shown};
 use crate::matching::{matched_shown, nothing_shown, term_shown};
 use crate::sets::{lacking_shown, sets_shown};
 use anyhow::{Result, bail};
@@ -64,7 +64,7 @@ fn answer(alloc: Global, checked: &Checked, question: &str, text: &str) -> Resul
         "sets" => sets_shown(alloc, checked),
         "skipped" => skipped_shown(alloc, checked),
         "start" => start_shown(alloc, checked, text),
-        "tokens" => tokens_shown(alloc, checked, text),
+        "tokens" => both_shown(alloc, checked, text),
         _ => text_answer(alloc, question, text),
     }
 }

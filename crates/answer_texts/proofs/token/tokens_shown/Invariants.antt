@@ -1,6 +1,6 @@
 use Rattle.std.proofs.Common.{◌≡◌, ◌++◌, drop, string_bytes}
-use Rattle.language_cases.specs.Shown.{tokens_text}
-use Rattle.language_cases.proofs.lexing.shown.Given as goal
+use Rattle.answer_texts.specs.AnswerTexts.{tokens_text}
+use Rattle.answer_texts.proofs.token.tokens_shown.Given as goal
 
 abbrev pub invariant-loop-token : goal.invariant-loop-token
 invariant-loop-token l =

@@ -2,9 +2,12 @@
 use Rattle.std.specs.Prelude.{ℕ, List, [], ◌++◌, Result, Ok, Err, codes, decimal, encode_utf8_all, if◌then◌else◌}
 use Rattle.std.specs.List.{flat_map}
 use Rattle.grammar_tree.specs.Written.{CheckedGrammar}
+use Rattle.grammar_tree.specs.declared.rule.Grammar.{Grammar}
 use Rattle.grammar_tree.specs.declared.rule.Kind.{Kind}
 use Rattle.grammar_tree.specs.declared.rule.KindSource.{KindSource}
 use Rattle.grammar_tree.specs.declared.rule.KindSource.TheVariants.{Implicit, Written, Declared}
+use Rattle.grammar_notation.specs.FaultText.{fault_text as read_fault_text}
+use Rattle.grammar_notation.specs.declared.fault.ReadFault.{ReadFault}
 use Rattle.lexer.specs.declared.token.Token.{Token}
 use Rattle.checked_grammar.specs.Message.{fault_text}
 use Rattle.grammar_tests.specs.declared.reading.Refused.{Refused}
@@ -27,8 +30,13 @@ source_text Declared = codes " declared"
 abbrev pub kind_text : Kind → List ℕ
 kind_text kind = encode_utf8_all kind.name ++ (if kind.gap then codes " gap" else []) ++ source_text kind.source ++ codes "; "
 
--- what checking a text answers
-abbrev pub reading_text : Result CheckedGrammar Refused → List ℕ
-reading_text (Ok grammar) = codes "no fault"
-reading_text (Err (Faulty fault)) = fault_text fault
-reading_text (Err TooLong) = codes "too long"
+-- what reading a text answers
+abbrev pub reading_text : Result Grammar ReadFault → List ℕ
+reading_text (Ok grammar) = codes "read"
+reading_text (Err fault) = read_fault_text fault
+
+-- what reading and checking a text answers
+abbrev pub checked_text : Result CheckedGrammar Refused → List ℕ
+checked_text (Ok grammar) = codes "no fault"
+checked_text (Err (Faulty fault)) = fault_text fault
+checked_text (Err TooLong) = codes "too long"
