@@ -5,12 +5,6 @@ use Rattle.grammar_words.specs.declared.word.Word.{Word}
 use Rattle.grammar_words.specs.declared.word.Word.TheVariants as w
 use Rattle.grammar_machine.specs.Machine as m
 
-pub no_lex_suffix : (b : m.LexBody) (t : LexerTerm) (word : Word) → (word ≡ w.Question → ⊥) → (word ≡ w.Star → ⊥) → (word ≡ w.Plus → ⊥) → m.step_lex_after b t word ≡ m.step_lex (m.lex_add b t) word
-no_lex_suffix b t w.Question h k l = absurd (h refl)
-no_lex_suffix b t w.Star h k l = absurd (k refl)
-no_lex_suffix b t w.Plus h k l = absurd (l refl)
-no_lex_suffix b t _ h k l = refl
-
 pub no_range : (b : m.LexBody) (text : List ℕ) (word : Word) → (word ≡ w.Dots → ⊥) → m.step_after_literal b text word ≡ m.step_lex_after b (LexerTerm.literal text) word
 no_range b text w.Dots h = absurd (h refl)
 no_range b text _ h = refl
@@ -22,10 +16,6 @@ no_star b s _ h = refl
 pub no_loop : (b : m.LexBody) (s : List (ℕ × ℕ)) (word : Word) → (word ≡ w.Question → ⊥) → m.step_after_set_star b s word ≡ m.step_lex (m.lex_add b (LexerTerm.star (LexerTerm.set s))) word
 no_loop b s w.Question h = absurd (h refl)
 no_loop b s _ h = refl
-
-pub no_bracket : (b : m.LexBody) (word : Word) → (word ≡ w.Open → ⊥) → m.step_item b word ≡ m.step_item_in b m.Alone word
-no_bracket b w.Open h = absurd (h refl)
-no_bracket b _ h = refl
 
 pub no_item_range : (b : m.LexBody) (p : m.ItemPosition) (c : ℕ) (word : Word) → (word ≡ w.Dots → ⊥) → m.step_after_item_char b p c word ≡ m.step_after_one b p ((c, c) ∷ []) word
 no_item_range b p c w.Dots h = absurd (h refl)

@@ -1,3 +1,5 @@
 pub use Rattle.grammar_machine.specs.Machine
 pub use Rattle.grammar_machine.specs.View
 pub mod OneChar
+pub mod Codes
+pub mod NextState

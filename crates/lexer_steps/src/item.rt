@@ -5,11 +5,13 @@ ghost use Rattle.std.specs.Prelude.{◌≡◌, ◌++◌, ◌∷◌, [], ℕ, Som
 ghost use Rattle.grammar_tree.specs.View.{lex_term};
 ghost use Rattle.grammar_tree.specs.Written.{LexerTerm};
 ghost use Rattle.grammar_machine.specs.Machine as m;
+ghost use Rattle.lexer_steps.specs.NextState.{NextIs};
 ghost use Rattle.lexer_steps.specs.OneChar.{only_char};
 ghost use Rattle.grammar_notation.specs.Sets.{outside, within};
 ghost use Rattle.grammar_machine.specs.View.{Gives, item_position_of, lex_body_of, lexer_state};
 
-use crate::lexer::{add, after_but, at, step_lex, step_lex_after, top};
+use crate::lexer::{add_star, after_but, at, refuse, step_lex, step_lex_after, top};
+use crate::next::Next;
 use faults::Memory;
 use grammar_machine::{EndPosition, ItemPosition, LexBody, LexerPosition, State};
 use grammar_notation::{outside, within};
@@ -30,22 +32,17 @@ fn only_char(text: &Text) -> Option<u32>
     }
 }
 
-fn start_of_range(body: LexBody, text: Text) -> Result<Option<State>, Memory>
-    ensures { Gives result (m.start_of_range (lex_body_of body) text) }
+fn start_of_range(body: LexBody, text: Text) -> Result<Next, Memory>
+    ensures { NextIs result (m.start_of_range (lex_body_of body) text) }
 {
     match only_char(&text) {
-        None => Ok(None),
+        None => Ok(refuse(body)),
         Some(first) => at(body, LexerPosition::RangeEnd(first)),
     }
 }
 
-fn step_after_literal(
-    alloc: Global,
-    body: LexBody,
-    text: Text,
-    word: Word,
-) -> Result<Option<State>, Memory>
-    ensures { Gives result (m.step_after_literal (lex_body_of body) text word) }
+fn step_after_literal(alloc: Global, body: LexBody, text: Text, word: Word) -> Result<Next, Memory>
+    ensures { NextIs result (m.step_after_literal (lex_body_of body) text word) }
 {
     match word {
         Word::Dots => start_of_range(body, text),
@@ -54,51 +51,36 @@ fn step_after_literal(
 }
 
 /// A range of characters, if its ends are in order.
-fn range(alloc: Global, body: LexBody, first: u32, last: u32) -> Result<Option<State>, Memory>
-    ensures { Gives result (m.provided (nat_le first last) (m.AfterLexAtom (lex_body_of body) (LexerTerm.set (within ((first, last) ∷ []))))) }
+fn range(alloc: Global, body: LexBody, first: u32, last: u32) -> Result<Next, Memory>
+    ensures { NextIs result (m.provided (nat_le first last) (m.AfterLexAtom (lex_body_of body) (LexerTerm.set (within ((first, last) ∷ []))))) }
 {
     if first > last {
-        return Ok(None);
+        return Ok(refuse(body));
     }
     let set = within(alloc, &[(first, last)])?;
     at(body, LexerPosition::After(LexTerm::Set(set)))
 }
 
-fn end_of_range(
-    alloc: Global,
-    body: LexBody,
-    first: u32,
-    text: Text,
-) -> Result<Option<State>, Memory>
-    ensures { Gives result (m.end_of_range (λ c. m.AfterLexAtom (lex_body_of body) (LexerTerm.set (within ((first, c) ∷ [])))) first text) }
+fn end_of_range(alloc: Global, body: LexBody, first: u32, text: Text) -> Result<Next, Memory>
+    ensures { NextIs result (m.end_of_range (λ c. m.AfterLexAtom (lex_body_of body) (LexerTerm.set (within ((first, c) ∷ [])))) first text) }
 {
     match only_char(&text) {
-        None => Ok(None),
+        None => Ok(refuse(body)),
         Some(last) => range(alloc, body, first, last),
     }
 }
 
-fn step_range_end(
-    alloc: Global,
-    body: LexBody,
-    first: u32,
-    word: Word,
-) -> Result<Option<State>, Memory>
-    ensures { Gives result (m.step_range_end (lex_body_of body) first word) }
+fn step_range_end(alloc: Global, body: LexBody, first: u32, word: Word) -> Result<Next, Memory>
+    ensures { NextIs result (m.step_range_end (lex_body_of body) first word) }
 {
     match word {
         Word::Literal(text) => end_of_range(alloc, body, first, text),
-        _ => Ok(None),
+        _ => Ok(refuse(body)),
     }
 }
 
-fn step_after_set(
-    alloc: Global,
-    body: LexBody,
-    set: CharSet,
-    word: Word,
-) -> Result<Option<State>, Memory>
-    ensures { Gives result (m.step_after_set (lex_body_of body) set word) }
+fn step_after_set(alloc: Global, body: LexBody, set: CharSet, word: Word) -> Result<Next, Memory>
+    ensures { NextIs result (m.step_after_set (lex_body_of body) set word) }
 {
     match word {
         Word::Star => at(body, LexerPosition::SetStar(set)),
@@ -107,16 +89,16 @@ fn step_after_set(
 }
 
 /// A non-greedy loop, if there may be one.
-fn loop_end(body: LexBody, set: CharSet) -> Result<Option<State>, Memory>
-    ensures { Gives result (m.loop_end (lex_body_of body) set (lex_body_of body).enclosing body.fragment) }
+fn loop_end(body: LexBody, set: CharSet) -> Result<Next, Memory>
+    ensures { NextIs result (m.loop_end (lex_body_of body) set (lex_body_of body).enclosing body.fragment) }
 {
     if !body.enclosing.is_empty() {
-        return Ok(None);
+        return Ok(refuse(body));
     }
     if body.fragment {
-        return Ok(None);
+        return Ok(refuse(body));
     }
-    Ok(Some(State::Top(top(body), EndPosition::Loop(set))))
+    Ok(Next::top(top(body), EndPosition::Loop(set)))
 }
 
 fn step_after_set_star(
@@ -124,15 +106,12 @@ fn step_after_set_star(
     body: LexBody,
     set: CharSet,
     word: Word,
-) -> Result<Option<State>, Memory>
-    ensures { Gives result (m.step_after_set_star (lex_body_of body) set word) }
+) -> Result<Next, Memory>
+    ensures { NextIs result (m.step_after_set_star (lex_body_of body) set word) }
 {
     match word {
         Word::Question => loop_end(body, set),
-        _ => {
-            let star = LexTerm::Star(Box::new(alloc, LexTerm::Set(set))?);
-            step_lex(alloc, add(body, star)?, word)
-        }
+        _ => step_lex(alloc, add_star(alloc, body, LexTerm::Set(set))?, word),
     }
 }
 
@@ -142,8 +121,8 @@ fn after_item(
     body: LexBody,
     position: ItemPosition,
     ranges: &[(u32, u32)],
-) -> Result<Option<State>, Memory>
-    ensures { Gives result (Some (m.after_item (lex_body_of body) (item_position_of position) ranges.now)) }
+) -> Result<Next, Memory>
+    ensures { NextIs result (Some (m.after_item (lex_body_of body) (item_position_of position) ranges.now)) }
 {
     match position {
         ItemPosition::Alone => after_but(alloc, body, ranges),
@@ -154,11 +133,11 @@ fn after_item(
     }
 }
 
-fn start_of_item(body: LexBody, position: ItemPosition, text: Text) -> Result<Option<State>, Memory>
-    ensures { Gives result (m.one_char (lex_body_of body) (item_position_of position) text) }
+fn start_of_item(body: LexBody, position: ItemPosition, text: Text) -> Result<Next, Memory>
+    ensures { NextIs result (m.one_char (lex_body_of body) (item_position_of position) text) }
 {
     match only_char(&text) {
-        None => Ok(None),
+        None => Ok(refuse(body)),
         Some(char) => at(body, LexerPosition::ItemChar(position, char)),
     }
 }
@@ -168,18 +147,18 @@ fn step_item_in(
     body: LexBody,
     position: ItemPosition,
     word: Word,
-) -> Result<Option<State>, Memory>
-    ensures { Gives result (m.step_item_in (lex_body_of body) (item_position_of position) word) }
+) -> Result<Next, Memory>
+    ensures { NextIs result (m.step_item_in (lex_body_of body) (item_position_of position) word) }
 {
     match word {
         Word::Set(ranges) => after_item(alloc, body, position, ranges.as_slice()),
         Word::Literal(text) => start_of_item(body, position, text),
-        _ => Ok(None),
+        _ => Ok(refuse(body)),
     }
 }
 
-fn step_item(alloc: Global, body: LexBody, word: Word) -> Result<Option<State>, Memory>
-    ensures { Gives result (m.step_item (lex_body_of body) word) }
+fn step_item(alloc: Global, body: LexBody, word: Word) -> Result<Next, Memory>
+    ensures { NextIs result (m.step_item (lex_body_of body) word) }
 {
     match word {
         Word::Open => at(
@@ -195,13 +174,13 @@ fn step_after_item(
     body: LexBody,
     ranges: Vec<(u32, u32)>,
     word: Word,
-) -> Result<Option<State>, Memory>
-    ensures { Gives result (m.step_after_item (lex_body_of body) ranges.items word) }
+) -> Result<Next, Memory>
+    ensures { NextIs result (m.step_after_item (lex_body_of body) ranges.items word) }
 {
     match word {
         Word::Bar => at(body, LexerPosition::ItemIn(ItemPosition::Listed(ranges))),
         Word::Close => after_but(alloc, body, &ranges),
-        _ => Ok(None),
+        _ => Ok(refuse(body)),
     }
 }
 
@@ -212,8 +191,8 @@ fn step_after_one(
     position: ItemPosition,
     char: u32,
     word: Word,
-) -> Result<Option<State>, Memory>
-    ensures { Gives result (m.step_after_one (lex_body_of body) (item_position_of position) ((char, char) ∷ []) word) }
+) -> Result<Next, Memory>
+    ensures { NextIs result (m.step_after_one (lex_body_of body) (item_position_of position) ((char, char) ∷ []) word) }
 {
     match position {
         ItemPosition::Alone => step_after_set(alloc, body, outside(alloc, &[(char, char)])?, word),
@@ -230,8 +209,8 @@ fn step_after_item_char(
     position: ItemPosition,
     char: u32,
     word: Word,
-) -> Result<Option<State>, Memory>
-    ensures { Gives result (m.step_after_item_char (lex_body_of body) (item_position_of position) char word) }
+) -> Result<Next, Memory>
+    ensures { NextIs result (m.step_after_item_char (lex_body_of body) (item_position_of position) char word) }
 {
     match word {
         Word::Dots => at(body, LexerPosition::ItemEnd(position, char)),
@@ -246,11 +225,11 @@ fn item_range(
     position: ItemPosition,
     first: u32,
     last: u32,
-) -> Result<Option<State>, Memory>
-    ensures { Gives result (m.provided (nat_le first last) (m.after_item (lex_body_of body) (item_position_of position) ((first, last) ∷ []))) }
+) -> Result<Next, Memory>
+    ensures { NextIs result (m.provided (nat_le first last) (m.after_item (lex_body_of body) (item_position_of position) ((first, last) ∷ []))) }
 {
     if first > last {
-        return Ok(None);
+        return Ok(refuse(body));
     }
     after_item(alloc, body, position, &[(first, last)])
 }
@@ -261,11 +240,11 @@ fn end_of_item(
     position: ItemPosition,
     first: u32,
     text: Text,
-) -> Result<Option<State>, Memory>
-    ensures { Gives result (m.end_of_range (λ c. m.after_item (lex_body_of body) (item_position_of position) ((first, c) ∷ [])) first text) }
+) -> Result<Next, Memory>
+    ensures { NextIs result (m.end_of_range (λ c. m.after_item (lex_body_of body) (item_position_of position) ((first, c) ∷ [])) first text) }
 {
     match only_char(&text) {
-        None => Ok(None),
+        None => Ok(refuse(body)),
         Some(last) => item_range(alloc, body, position, first, last),
     }
 }
@@ -276,23 +255,22 @@ fn step_item_end(
     position: ItemPosition,
     first: u32,
     word: Word,
-) -> Result<Option<State>, Memory>
-    ensures { Gives result (m.step_item_end (lex_body_of body) (item_position_of position) first word) }
+) -> Result<Next, Memory>
+    ensures { NextIs result (m.step_item_end (lex_body_of body) (item_position_of position) first word) }
 {
     match word {
         Word::Literal(text) => end_of_item(alloc, body, position, first, text),
-        _ => Ok(None),
+        _ => Ok(refuse(body)),
     }
 }
 
-/// One word further in a lexer rule.
-pub fn step_lexer(
+fn step_at(
     alloc: Global,
     body: LexBody,
     position: LexerPosition,
     word: Word,
-) -> Result<Option<State>, Memory>
-    ensures { (depth : ℕ) → Gives result (m.step depth (lexer_state (lex_body_of body) position) word) }
+) -> Result<Next, Memory>
+    ensures { (depth : ℕ) → NextIs result (m.step depth (lexer_state (lex_body_of body) position) word) }
 {
     match position {
         LexerPosition::Elements => step_lex(alloc, body, word),
@@ -312,4 +290,16 @@ pub fn step_lexer(
         ),
         LexerPosition::AfterItem(ranges) => step_after_item(alloc, body, ranges, word),
     }
+}
+
+/// One word further in a lexer rule.
+pub fn step_lexer(
+    alloc: Global,
+    body: LexBody,
+    position: LexerPosition,
+    word: Word,
+) -> Result<Option<State>, Memory>
+    ensures { (depth : ℕ) → Gives result (m.step depth (lexer_state (lex_body_of body) position) word) }
+{
+    Ok(step_at(alloc, body, position, word)?.state())
 }

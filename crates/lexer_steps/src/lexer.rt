@@ -5,21 +5,30 @@ ghost use Rattle.std.specs.Prelude.{◌≡◌, ◌++◌, ◌∷◌, [], ℕ, Som
 ghost use Rattle.grammar_tree.specs.View.{lex_term};
 ghost use Rattle.grammar_tree.specs.Written.{LexerTerm};
 ghost use Rattle.grammar_machine.specs.Machine as m;
+ghost use Rattle.lexer_steps.specs.NextState.{NextIs};
 ghost use Rattle.grammar_notation.specs.Sets.{outside, within};
-ghost use Rattle.grammar_machine.specs.View.{Gives, item_position_of, lex_body_of, lex_frame_of, lexer_state, top_body_of};
+ghost use Rattle.grammar_machine.specs.View.{item_position_of, lex_body_of, lex_frame_of, lexer_state, top_body_of};
 
+use crate::next::Next;
 use crate::top::step_done;
 use faults::Memory;
-use grammar_machine::{ItemPosition, LexBody, LexFrame, LexerPosition, State, TopBody};
+use grammar_machine::{ItemPosition, LexBody, LexFrame, LexerPosition, TopBody};
 use grammar_notation::{outside, within};
 use grammar_tree::{CharSet, LexTerm, Text};
 use grammar_words::{Word, is};
 use std::alloc::Global;
 
-pub fn at(body: LexBody, position: LexerPosition) -> Result<Option<State>, Memory>
-    ensures { Gives result (Some (lexer_state (lex_body_of body) position)) }
+pub fn at(body: LexBody, position: LexerPosition) -> Result<Next, Memory>
+    ensures { NextIs result (Some (lexer_state (lex_body_of body) position)) }
 {
-    Ok(Some(State::Lexer(body, position)))
+    Ok(Next::lexer(body, position))
+}
+
+/// None, where the word can't follow. The rule so far is dropped here, and so once for all callers.
+pub fn refuse(body: LexBody) -> Next
+    ensures { result ≡ None }
+{
+    Next::none()
 }
 
 pub fn add(body: LexBody, term: LexTerm) -> Result<LexBody, Memory>
@@ -47,9 +56,12 @@ pub fn add(body: LexBody, term: LexTerm) -> Result<LexBody, Memory>
 }
 
 /// A block begins, if one more may be open.
-fn with_block(alloc: Global, body: LexBody) -> Result<Option<State>, Memory>
-    ensures { Gives result (m.lex_with_block (lex_body_of body) body.blocks_left) }
+fn with_block(alloc: Global, body: LexBody) -> Result<Next, Memory>
+    ensures { NextIs result (m.lex_with_block (lex_body_of body) body.blocks_left) }
 {
+    if body.blocks_left == 0 {
+        return Ok(refuse(body));
+    }
     let LexBody {
         grammar,
         name,
@@ -59,9 +71,6 @@ fn with_block(alloc: Global, body: LexBody) -> Result<Option<State>, Memory>
         mut enclosing,
         current,
     } = body;
-    if blocks_left == 0 {
-        return Ok(None);
-    }
     enclosing.push(current)?;
     let inner = LexBody {
         grammar,
@@ -72,12 +81,12 @@ fn with_block(alloc: Global, body: LexBody) -> Result<Option<State>, Memory>
         enclosing,
         current: LexFrame::fresh(alloc),
     };
-    Ok(Some(State::Lexer(inner, LexerPosition::Elements)))
+    at(inner, LexerPosition::Elements)
 }
 
 /// A block ends, if one is open.
-fn block_end(body: LexBody) -> Result<Option<State>, Memory>
-    ensures { Gives result (m.lex_block_end (lex_body_of body) (lex_body_of body).enclosing) }
+fn block_end(body: LexBody) -> Result<Next, Memory>
+    ensures { NextIs result (m.lex_block_end (lex_body_of body) (lex_body_of body).enclosing) }
 {
     let LexBody {
         grammar,
@@ -89,7 +98,7 @@ fn block_end(body: LexBody) -> Result<Option<State>, Memory>
         current,
     } = body;
     match enclosing.pop() {
-        None => Ok(None),
+        None => Ok(Next::none()),
         Some(around) => {
             let block = LexTerm::Block(current.whole()?);
             let body = LexBody {
@@ -101,14 +110,14 @@ fn block_end(body: LexBody) -> Result<Option<State>, Memory>
                 enclosing,
                 current: around,
             };
-            Ok(Some(State::Lexer(body, LexerPosition::After(block))))
+            at(body, LexerPosition::After(block))
         }
     }
 }
 
 /// The next alternative of a block.
-fn next_alternative(alloc: Global, body: LexBody) -> Result<Option<State>, Memory>
-    ensures { Gives result (Some (m.InLex (m.lex_with (lex_body_of body) (m.next_alt (lex_body_of body).current)))) }
+fn next_alternative(alloc: Global, body: LexBody) -> Result<Next, Memory>
+    ensures { NextIs result (Some (m.InLex (m.lex_with (lex_body_of body) (m.next_alt (lex_body_of body).current)))) }
 {
     let LexBody {
         grammar,
@@ -129,7 +138,7 @@ fn next_alternative(alloc: Global, body: LexBody) -> Result<Option<State>, Memor
         enclosing,
         current,
     };
-    Ok(Some(State::Lexer(body, LexerPosition::Elements)))
+    at(body, LexerPosition::Elements)
 }
 
 /// The body of the rule itself, where no block is open.
@@ -156,18 +165,18 @@ pub fn top(body: LexBody) -> TopBody
 }
 
 /// After an alternative in a block.
-fn step_inner_end(alloc: Global, body: LexBody, word: Word) -> Result<Option<State>, Memory>
-    ensures { Gives result (m.step_inner_end (lex_body_of body) word) }
+fn step_inner_end(alloc: Global, body: LexBody, word: Word) -> Result<Next, Memory>
+    ensures { NextIs result (m.step_inner_end (lex_body_of body) word) }
 {
     match word {
         Word::Bar => next_alternative(alloc, body),
         Word::Close => block_end(body),
-        _ => Ok(None),
+        _ => Ok(refuse(body)),
     }
 }
 
-fn step_lex_end(alloc: Global, body: LexBody, word: Word) -> Result<Option<State>, Memory>
-    ensures { Gives result (m.step_lex_end (lex_body_of body) (lex_body_of body).enclosing word) }
+fn step_lex_end(alloc: Global, body: LexBody, word: Word) -> Result<Next, Memory>
+    ensures { NextIs result (m.step_lex_end (lex_body_of body) (lex_body_of body).enclosing word) }
 {
     if body.enclosing.is_empty() {
         step_done(alloc, top(body), word)
@@ -177,30 +186,27 @@ fn step_lex_end(alloc: Global, body: LexBody, word: Word) -> Result<Option<State
 }
 
 /// After a set that may be the operand of a non-greedy loop.
-fn after_set(alloc: Global, body: LexBody, ranges: &[(u32, u32)]) -> Result<Option<State>, Memory>
-    ensures { Gives result (Some (m.AfterSet (lex_body_of body) (within ranges.now))) }
+fn after_set(alloc: Global, body: LexBody, ranges: &[(u32, u32)]) -> Result<Next, Memory>
+    ensures { NextIs result (Some (m.AfterSet (lex_body_of body) (within ranges.now))) }
 {
     at(body, LexerPosition::Set(within(alloc, ranges)?))
 }
 
-pub fn after_but(
-    alloc: Global,
-    body: LexBody,
-    ranges: &[(u32, u32)],
-) -> Result<Option<State>, Memory>
-    ensures { Gives result (Some (m.AfterSet (lex_body_of body) (outside ranges.now))) }
+pub fn after_but(alloc: Global, body: LexBody, ranges: &[(u32, u32)]) -> Result<Next, Memory>
+    ensures { NextIs result (Some (m.AfterSet (lex_body_of body) (outside ranges.now))) }
 {
-    at(body, LexerPosition::Set(outside(alloc, ranges)?))
+    let set = outside(alloc, ranges)?;
+    at(body, LexerPosition::Set(set))
 }
 
-pub fn step_lex(alloc: Global, body: LexBody, word: Word) -> Result<Option<State>, Memory>
-    ensures { Gives result (m.step_lex (lex_body_of body) word) }
+pub fn step_lex(alloc: Global, body: LexBody, word: Word) -> Result<Next, Memory>
+    ensures { NextIs result (m.step_lex (lex_body_of body) word) }
 {
     match word {
         Word::Literal(text) => at(body, LexerPosition::Literal(text)),
         Word::Upper(name) => {
             if is(&name, "EOF") {
-                Ok(None)
+                Ok(refuse(body))
             } else {
                 at(body, LexerPosition::After(LexTerm::Name(name)))
             }
@@ -213,10 +219,29 @@ pub fn step_lex(alloc: Global, body: LexBody, word: Word) -> Result<Option<State
     }
 }
 
-fn with_suffix(body: LexBody, term: LexTerm) -> Result<Option<State>, Memory>
-    ensures { Gives result (Some (m.LexSuffixed (m.lex_add (lex_body_of body) (lex_term term)))) }
+fn add_optional(alloc: Global, body: LexBody, term: LexTerm) -> Result<LexBody, Memory>
+    ensures { IfOk result (λ b. lex_body_of b ≡ m.lex_add (lex_body_of body) (LexerTerm.opt (lex_term term))) }
 {
-    Ok(Some(State::Lexer(add(body, term)?, LexerPosition::Suffixed)))
+    add(body, LexTerm::Opt(Box::new(alloc, term)?))
+}
+
+pub fn add_star(alloc: Global, body: LexBody, term: LexTerm) -> Result<LexBody, Memory>
+    ensures { IfOk result (λ b. lex_body_of b ≡ m.lex_add (lex_body_of body) (LexerTerm.star (lex_term term))) }
+{
+    add(body, LexTerm::Star(Box::new(alloc, term)?))
+}
+
+fn add_plus(alloc: Global, body: LexBody, term: LexTerm) -> Result<LexBody, Memory>
+    ensures { IfOk result (λ b. lex_body_of b ≡ m.lex_add (lex_body_of body) (LexerTerm.plus (lex_term term))) }
+{
+    add(body, LexTerm::Plus(Box::new(alloc, term)?))
+}
+
+/// After an element with no suffix.
+fn step_past(alloc: Global, body: LexBody, term: LexTerm, word: Word) -> Result<Next, Memory>
+    ensures { NextIs result (m.step_lex (m.lex_add (lex_body_of body) (lex_term term)) word) }
+{
+    step_lex(alloc, add(body, term)?, word)
 }
 
 pub fn step_lex_after(
@@ -224,13 +249,13 @@ pub fn step_lex_after(
     body: LexBody,
     term: LexTerm,
     word: Word,
-) -> Result<Option<State>, Memory>
-    ensures { Gives result (m.step_lex_after (lex_body_of body) (lex_term term) word) }
+) -> Result<Next, Memory>
+    ensures { NextIs result (m.step_lex_after (lex_body_of body) (lex_term term) word) }
 {
     match word {
-        Word::Question => with_suffix(body, LexTerm::Opt(Box::new(alloc, term)?)),
-        Word::Star => with_suffix(body, LexTerm::Star(Box::new(alloc, term)?)),
-        Word::Plus => with_suffix(body, LexTerm::Plus(Box::new(alloc, term)?)),
-        _ => step_lex(alloc, add(body, term)?, word),
+        Word::Question => at(add_optional(alloc, body, term)?, LexerPosition::Suffixed),
+        Word::Star => at(add_star(alloc, body, term)?, LexerPosition::Suffixed),
+        Word::Plus => at(add_plus(alloc, body, term)?, LexerPosition::Suffixed),
+        _ => step_past(alloc, body, term, word),
     }
 }

@@ -8,6 +8,7 @@
 
 mod item;
 mod lexer;
+mod next;
 mod top;
 
 pub use item::step_lexer;

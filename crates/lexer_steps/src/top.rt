@@ -1,11 +1,15 @@
 //! One word further at the end of an alternative of a lexer rule.
 #![tactic(auto, using(crate::proofs::Views::views))]
 
-ghost use Rattle.std.specs.Prelude.{◌≡◌, ◌++◌, ◌∷◌, [], ℕ, Some, None, IfOk};
+ghost use Rattle.std.specs.Prelude.{◌≡◌, ◌++◌, ◌∷◌, [], ℕ, Some, None, IfOk, false};
 ghost use Rattle.grammar_tree.specs.View.{lex_term};
+ghost use Rattle.grammar_tree.specs.Written.{LexerTerm};
+ghost use Rattle.grammar_notation.specs.Sets.{within};
 ghost use Rattle.grammar_machine.specs.Machine as m;
-ghost use Rattle.grammar_machine.specs.View.{Gives, GivesNext, lex_body_of, top_body_of, top_state};
+ghost use Rattle.lexer_steps.specs.NextState.{NextIs};
+ghost use Rattle.grammar_machine.specs.View.{Gives, lex_body_of, top_body_of, top_state};
 
+use crate::next::Next;
 use faults::Memory;
 use grammar_machine::{EndPosition, LexBody, LexerPosition, State, TopBody, with_rule};
 use grammar_notation::within;
@@ -35,9 +39,16 @@ fn rule_body(alloc: Global, body: TopBody) -> LexBody
     }
 }
 
+/// None, where the word can't follow. The rule so far is dropped here, and so once for all callers.
+fn refuse(body: TopBody) -> Next
+    ensures { result ≡ None }
+{
+    Next::none()
+}
+
 /// The next alternative of the rule; `gap` says whether that before has a command.
-fn next_top(alloc: Global, body: TopBody, gap: bool) -> Result<Option<State>, Memory>
-    ensures { Gives result (Some (m.next_top (top_body_of body) gap)) }
+fn next_top(alloc: Global, body: TopBody, gap: bool) -> Result<Next, Memory>
+    ensures { NextIs result (Some (m.next_top (top_body_of body) gap)) }
 {
     let current = body.current.next_alt(alloc)?;
     let body = TopBody {
@@ -46,12 +57,12 @@ fn next_top(alloc: Global, body: TopBody, gap: bool) -> Result<Option<State>, Me
         ..body
     };
     let body = rule_body(alloc, body);
-    Ok(Some(State::Lexer(body, LexerPosition::Elements)))
+    Ok(Next::lexer(body, LexerPosition::Elements))
 }
 
 /// The rule ends; `gap` says whether its alternatives have commands.
-fn end_top(body: TopBody, gap: bool) -> Result<Option<State>, Memory>
-    ensures { Gives result (Some (m.end_top (top_body_of body) gap)) }
+fn end_top(body: TopBody, gap: bool) -> Result<Next, Memory>
+    ensures { NextIs result (Some (m.end_top (top_body_of body) gap)) }
 {
     let TopBody {
         grammar,
@@ -67,27 +78,59 @@ fn end_top(body: TopBody, gap: bool) -> Result<Option<State>, Memory>
         gap,
         alts,
     };
-    Ok(Some(State::Rule(with_rule(grammar, rule)?)))
+    Ok(Next::rule(with_rule(grammar, rule)?))
+}
+
+/// The next alternative, after one with no command.
+fn next_without_command(alloc: Global, body: TopBody) -> Result<Next, Memory>
+    ensures { NextIs result (m.without_command body.known (m.next_top (top_body_of body) false)) }
+{
+    match body.known {
+        Some(true) => Ok(refuse(body)),
+        _ => next_top(alloc, body, false),
+    }
+}
+
+/// The rule ends after an alternative with no command.
+fn end_without_command(body: TopBody) -> Result<Next, Memory>
+    ensures { NextIs result (m.without_command body.known (m.end_top (top_body_of body) false)) }
+{
+    match body.known {
+        Some(true) => Ok(refuse(body)),
+        _ => end_top(body, false),
+    }
+}
+
+/// Whether an alternative may have a command, where that is so of those before.
+fn may_have_command(known: Option<bool>) -> bool
+    ensures { (s : m.State) → m.with_command known s ≡ m.provided result s }
+{
+    match known {
+        Some(false) => false,
+        _ => true,
+    }
+}
+
+/// A command begins, if an alternative may have one.
+fn command(body: TopBody) -> Next
+    ensures { result ≡ m.with_command body.known (m.AtCommand (top_body_of body)) }
+{
+    if may_have_command(body.known) {
+        Next::top(body, EndPosition::Command)
+    } else {
+        refuse(body)
+    }
 }
 
 /// After what an alternative consists of.
-pub fn step_done(alloc: Global, body: TopBody, word: Word) -> Result<Option<State>, Memory>
-    ensures { Gives result (m.step_done (top_body_of body) word) }
+pub fn step_done(alloc: Global, body: TopBody, word: Word) -> Result<Next, Memory>
+    ensures { NextIs result (m.step_done (top_body_of body) word) }
 {
     match word {
-        Word::Bar => match body.known {
-            Some(true) => Ok(None),
-            _ => next_top(alloc, body, false),
-        },
-        Word::Semicolon => match body.known {
-            Some(true) => Ok(None),
-            _ => end_top(body, false),
-        },
-        Word::Arrow => match body.known {
-            Some(false) => Ok(None),
-            _ => Ok(Some(State::Top(body, EndPosition::Command))),
-        },
-        _ => Ok(None),
+        Word::Bar => next_without_command(alloc, body),
+        Word::Semicolon => end_without_command(body),
+        Word::Arrow => Ok(command(body)),
+        _ => Ok(refuse(body)),
     }
 }
 
@@ -98,92 +141,124 @@ fn add(body: TopBody, term: LexTerm) -> Result<TopBody, Memory>
     Ok(TopBody { current, ..body })
 }
 
+fn add_short(body: TopBody, set: CharSet) -> Result<TopBody, Memory>
+    ensures { IfOk result (λ b. top_body_of b ≡ m.lex_add (top_body_of body) (LexerTerm.short set)) }
+{
+    add(body, LexTerm::Short(set))
+}
+
 fn with_loop(body: TopBody, set: CharSet, last: LexTerm) -> Result<TopBody, Memory>
     ensures { IfOk result (λ b. top_body_of b ≡ m.with_loop (top_body_of body) set (lex_term last)) }
 {
-    let body = add(body, LexTerm::Short(set))?;
-    add(body, last)
+    add(add_short(body, set)?, last)
 }
 
-fn step_loop(
+/// After a non-greedy loop and what follows it.
+fn loop_then(body: TopBody, set: CharSet, last: LexTerm) -> Result<Next, Memory>
+    ensures { NextIs result (Some (m.AltDone (m.with_loop (top_body_of body) set (lex_term last)))) }
+{
+    Ok(Next::top(with_loop(body, set, last)?, EndPosition::Done))
+}
+
+fn loop_then_set(
     alloc: Global,
     body: TopBody,
     set: CharSet,
-    word: Word,
-) -> Result<Option<State>, Memory>
-    ensures { Gives result (m.step_loop (top_body_of body) set word) }
+    ranges: &[(u32, u32)],
+) -> Result<Next, Memory>
+    ensures { NextIs result (Some (m.AltDone (m.with_loop (top_body_of body) set (LexerTerm.set (within ranges.now))))) }
+{
+    loop_then(body, set, LexTerm::Set(within(alloc, ranges)?))
+}
+
+fn step_loop(alloc: Global, body: TopBody, set: CharSet, word: Word) -> Result<Next, Memory>
+    ensures { NextIs result (m.step_loop (top_body_of body) set word) }
 {
     match word {
-        Word::Literal(text) => {
-            let body = with_loop(body, set, LexTerm::Literal(text))?;
-            Ok(Some(State::Top(body, EndPosition::Done)))
-        }
-        Word::Set(ranges) => {
-            let last = within(alloc, ranges.as_slice())?;
-            let body = with_loop(body, set, LexTerm::Set(last))?;
-            Ok(Some(State::Top(body, EndPosition::Done)))
-        }
-        _ => Ok(None),
+        Word::Literal(text) => loop_then(body, set, LexTerm::Literal(text)),
+        Word::Set(ranges) => loop_then_set(alloc, body, set, ranges.as_slice()),
+        _ => Ok(refuse(body)),
     }
 }
 
-fn step_command(body: TopBody, word: Word) -> Option<State>
-    ensures { GivesNext result (m.step_command (top_body_of body) word) }
+fn step_command(body: TopBody, word: Word) -> Next
+    ensures { result ≡ m.step_command (top_body_of body) word }
 {
     match word {
         Word::Lower(name) => {
             if is(&name, "skip") {
-                Some(State::Top(body, EndPosition::AfterCommand))
+                Next::top(body, EndPosition::AfterCommand)
             } else if is(&name, "channel") {
-                Some(State::Top(body, EndPosition::ChannelOpen))
+                Next::top(body, EndPosition::ChannelOpen)
             } else {
-                None
+                refuse(body)
             }
         }
-        _ => None,
+        _ => refuse(body),
     }
 }
 
-fn step_channel_open(body: TopBody, word: Word) -> Option<State>
-    ensures { GivesNext result (m.step_channel_open (top_body_of body) word) }
+fn step_channel_open(body: TopBody, word: Word) -> Next
+    ensures { result ≡ m.step_channel_open (top_body_of body) word }
 {
     match word {
-        Word::Open => Some(State::Top(body, EndPosition::ChannelName)),
-        _ => None,
+        Word::Open => Next::top(body, EndPosition::ChannelName),
+        _ => refuse(body),
     }
 }
 
-fn step_channel_name(body: TopBody, word: Word) -> Option<State>
-    ensures { GivesNext result (m.step_channel_name (top_body_of body) word) }
+/// After `HIDDEN`.
+fn after_hidden(body: TopBody) -> Next
+    ensures { result ≡ Some (m.AtChannelClose (top_body_of body)) }
+{
+    Next::top(body, EndPosition::ChannelClose)
+}
+
+fn step_channel_name(body: TopBody, word: Word) -> Next
+    ensures { result ≡ m.step_channel_name (top_body_of body) word }
 {
     match word {
         Word::Upper(name) => {
             if is(&name, "HIDDEN") {
-                Some(State::Top(body, EndPosition::ChannelClose))
+                after_hidden(body)
             } else {
-                None
+                refuse(body)
             }
         }
-        _ => None,
+        _ => refuse(body),
     }
 }
 
-fn step_channel_close(body: TopBody, word: Word) -> Option<State>
-    ensures { GivesNext result (m.step_channel_close (top_body_of body) word) }
+fn step_channel_close(body: TopBody, word: Word) -> Next
+    ensures { result ≡ m.step_channel_close (top_body_of body) word }
 {
     match word {
-        Word::Close => Some(State::Top(body, EndPosition::AfterCommand)),
-        _ => None,
+        Word::Close => Next::top(body, EndPosition::AfterCommand),
+        _ => refuse(body),
     }
 }
 
-fn step_after_command(alloc: Global, body: TopBody, word: Word) -> Result<Option<State>, Memory>
-    ensures { Gives result (m.step_after_command (top_body_of body) word) }
+fn step_after_command(alloc: Global, body: TopBody, word: Word) -> Result<Next, Memory>
+    ensures { NextIs result (m.step_after_command (top_body_of body) word) }
 {
     match word {
         Word::Bar => next_top(alloc, body, true),
         Word::Semicolon => end_top(body, true),
-        _ => Ok(None),
+        _ => Ok(refuse(body)),
+    }
+}
+
+fn step_at(alloc: Global, body: TopBody, position: EndPosition, word: Word) -> Result<Next, Memory>
+    ensures { (depth : ℕ) → NextIs result (m.step depth (top_state (top_body_of body) position) word) }
+{
+    match position {
+        EndPosition::Loop(set) => step_loop(alloc, body, set, word),
+        EndPosition::Done => step_done(alloc, body, word),
+        EndPosition::Command => Ok(step_command(body, word)),
+        EndPosition::ChannelOpen => Ok(step_channel_open(body, word)),
+        EndPosition::ChannelName => Ok(step_channel_name(body, word)),
+        EndPosition::ChannelClose => Ok(step_channel_close(body, word)),
+        EndPosition::AfterCommand => step_after_command(alloc, body, word),
     }
 }
 
@@ -196,13 +271,5 @@ pub fn step_top(
 ) -> Result<Option<State>, Memory>
     ensures { (depth : ℕ) → Gives result (m.step depth (top_state (top_body_of body) position) word) }
 {
-    match position {
-        EndPosition::Loop(set) => step_loop(alloc, body, set, word),
-        EndPosition::Done => step_done(alloc, body, word),
-        EndPosition::Command => Ok(step_command(body, word)),
-        EndPosition::ChannelOpen => Ok(step_channel_open(body, word)),
-        EndPosition::ChannelName => Ok(step_channel_name(body, word)),
-        EndPosition::ChannelClose => Ok(step_channel_close(body, word)),
-        EndPosition::AfterCommand => step_after_command(alloc, body, word),
-    }
+    Ok(step_at(alloc, body, position, word)?.state())
 }

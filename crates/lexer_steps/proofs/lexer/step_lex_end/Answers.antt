@@ -1,10 +1,11 @@
 use Rattle.std.proofs.Common.{◌≡◌, subst, sym, length, arith}
 use Rattle.std.proofs.lemmas.Grind.{common_steps}
-use Rattle.grammar_machine.specs.View.{Gives, lex_body_of}
+use Rattle.grammar_machine.specs.View.{lex_body_of}
+use Rattle.lexer_steps.specs.NextState.{NextIs}
 use Rattle.lexer_steps.proofs.Views.{inner_as}
 use Rattle.lexer_steps.proofs.lexer.step_lex_end.Goals as goal
 
 pub returns-else-is_empty : goal.returns-else-is_empty
 returns-else-is_empty c =
     let some : length c.args.body.enclosing.items ≡ 0 → ⊥ = λ e. grind (arith, common_steps, e) in
-    subst (λ o. Gives c.step_inner_end.result o) (sym (inner_as (lex_body_of c.args.body) c.args.body.enclosing.items c.args.word some)) c.step_inner_end.ensures
+    subst (NextIs c.step_inner_end.result) (sym (inner_as (lex_body_of c.args.body) c.args.body.enclosing.items c.args.word some)) c.step_inner_end.ensures
