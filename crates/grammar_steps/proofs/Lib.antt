@@ -1,2 +1,3 @@
 mod Views
 mod Defaults
+mod NextOf

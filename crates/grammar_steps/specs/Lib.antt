@@ -1,2 +1,4 @@
 pub use Rattle.grammar_machine.specs.Machine
 pub use Rattle.grammar_machine.specs.View
+pub mod NextState
+pub mod Terms

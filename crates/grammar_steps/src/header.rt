@@ -5,8 +5,10 @@ ghost use Rattle.std.specs.Prelude.{◌≡◌, ℕ, Some, None, IfOk};
 ghost use Rattle.grammar_tree.specs.GrammarView.{grammar_of};
 ghost use Rattle.grammar_machine.specs.Machine as m;
 ghost use Rattle.grammar_notation.specs.Notation.{may_name_option};
-ghost use Rattle.grammar_machine.specs.View.{Gives, GivesNext, body_of, head_of, owner_of, state_of, value_of};
+ghost use Rattle.grammar_machine.specs.View.{body_of, head_of, owner_of, value_of};
+ghost use Rattle.grammar_steps.specs.NextState.{next_of};
 
+use crate::next::Next;
 use faults::Memory;
 use grammar_machine::{
     Body, Frame, Head, LexBody, LexFrame, LexerPosition, Owner, ParserPosition, State, ValueOf,
@@ -16,81 +18,92 @@ use grammar_tree::{Grammar, Text};
 use grammar_words::{Word, is};
 use std::alloc::Global;
 
-pub fn step_start(word: Word) -> Option<State>
-    ensures { GivesNext result (m.step_start word) }
+/// How many blocks may be open, one in another.
+const MOST_BLOCKS: u32 = 64;
+
+/// The word can't follow. A value is let go here, since elsewhere each of its parts is a step of the
+/// proof.
+fn refused(_value: ValueOf, word: Word) -> Next
+    ensures { next_of result ≡ None }
+{
+    Next::refused(word)
+}
+
+pub fn step_start(word: Word) -> Next
+    ensures { next_of result ≡ m.step_start word }
 {
     match word {
-        Word::Grammar => Some(State::Name),
-        _ => None,
+        Word::Grammar => Next::some(State::Name),
+        _ => Next::refused(word),
     }
 }
 
-pub fn step_name(word: Word) -> Option<State>
-    ensures { GivesNext result (m.step_name word) }
+pub fn step_name(word: Word) -> Next
+    ensures { next_of result ≡ m.step_name word }
 {
     match word {
-        Word::Upper(name) => Some(State::Semicolon(name)),
-        Word::Lower(name) => Some(State::Semicolon(name)),
-        _ => None,
+        Word::Upper(name) => Next::some(State::Semicolon(name)),
+        Word::Lower(name) => Next::some(State::Semicolon(name)),
+        _ => Next::refused(word),
     }
 }
 
-pub fn step_semicolon(alloc: Global, name: Text, word: Word) -> Option<State>
-    ensures { GivesNext result (m.step_semicolon name word) }
+pub fn step_semicolon(alloc: Global, name: Text, word: Word) -> Next
+    ensures { next_of result ≡ m.step_semicolon name word }
 {
     match word {
-        Word::Semicolon => Some(State::Prequel(Grammar {
+        Word::Semicolon => Next::some(State::Prequel(Grammar {
             name,
             tokens: Vec::new(alloc),
             rules: Vec::new(alloc),
         })),
-        _ => None,
+        _ => Next::refused(word),
     }
 }
 
-pub fn step_rule(grammar: Grammar, word: Word) -> Option<State>
-    ensures { GivesNext result (m.step_rule (grammar_of grammar) word) }
+pub fn step_rule(grammar: Grammar, word: Word) -> Next
+    ensures { next_of result ≡ m.step_rule (grammar_of grammar) word }
 {
     match word {
-        Word::Lower(name) => Some(State::Head(grammar, Head::Parser(name))),
-        Word::Upper(name) => Some(State::Head(
+        Word::Lower(name) => Next::some(State::Head(grammar, Head::Parser(name))),
+        Word::Upper(name) => Next::some(State::Head(
             grammar,
             Head::Lexer {
                 name,
                 fragment: false,
             },
         )),
-        Word::Fragment => Some(State::FragmentName(grammar)),
-        Word::End => Some(State::End(grammar)),
-        _ => None,
+        Word::Fragment => Next::some(State::FragmentName(grammar)),
+        Word::End => Next::some(State::End(grammar)),
+        _ => Next::refused(word),
     }
 }
 
-pub fn step_prequel(grammar: Grammar, word: Word) -> Option<State>
-    ensures { GivesNext result (m.step_prequel (grammar_of grammar) word) }
+pub fn step_prequel(grammar: Grammar, word: Word) -> Next
+    ensures { next_of result ≡ m.step_prequel (grammar_of grammar) word }
 {
     match word {
-        Word::Options => Some(State::OptionsBrace(grammar, Owner::Text)),
-        Word::Tokens => Some(State::TokensBrace(grammar)),
+        Word::Options => Next::some(State::OptionsBrace(grammar, Owner::Text)),
+        Word::Tokens => Next::some(State::TokensBrace(grammar)),
         _ => step_rule(grammar, word),
     }
 }
 
-pub fn step_options_brace(grammar: Grammar, owner: Owner, word: Word) -> Option<State>
-    ensures { GivesNext result (m.step_options_brace (grammar_of grammar) (owner_of owner) word) }
+pub fn step_options_brace(grammar: Grammar, owner: Owner, word: Word) -> Next
+    ensures { next_of result ≡ m.step_options_brace (grammar_of grammar) (owner_of owner) word }
 {
     match word {
-        Word::OpenBrace => Some(State::Entry(grammar, owner)),
-        _ => None,
+        Word::OpenBrace => Next::some(State::Entry(grammar, owner)),
+        _ => refused(ValueOf::Entry(grammar, owner), word),
     }
 }
 
-fn after_options(grammar: Grammar, owner: Owner) -> State
-    ensures { state_of result ≡ m.after_options (grammar_of grammar) (owner_of owner) }
+fn after_options(grammar: Grammar, owner: Owner) -> Next
+    ensures { next_of result ≡ Some (m.after_options (grammar_of grammar) (owner_of owner)) }
 {
     match owner {
-        Owner::Text => State::Prequel(grammar),
-        Owner::Rule(head) => State::Colon(grammar, head),
+        Owner::Text => Next::some(State::Prequel(grammar)),
+        Owner::Rule(head) => Next::some(State::Colon(grammar, head)),
     }
 }
 
@@ -102,68 +115,68 @@ fn may_name_option(name: &Text) -> bool
 }
 
 /// After an option's name, where a profile text may have it.
-fn after_option_name(grammar: Grammar, owner: Owner, name: Text) -> Option<State>
-    ensures { GivesNext result (m.provided (may_name_option name) (m.AtEntryEquals (grammar_of grammar) (owner_of owner))) }
+fn after_option_name(grammar: Grammar, owner: Owner, name: Text) -> Next
+    ensures { next_of result ≡ m.provided (may_name_option name) (m.AtEntryEquals (grammar_of grammar) (owner_of owner)) }
 {
     if may_name_option(&name) {
-        Some(State::EntryEquals(grammar, owner))
+        Next::some(State::EntryEquals(grammar, owner))
     } else {
-        None
+        Next::none()
     }
 }
 
-pub fn step_entry(grammar: Grammar, owner: Owner, word: Word) -> Option<State>
-    ensures { GivesNext result (m.step_entry (grammar_of grammar) (owner_of owner) word) }
+pub fn step_entry(grammar: Grammar, owner: Owner, word: Word) -> Next
+    ensures { next_of result ≡ m.step_entry (grammar_of grammar) (owner_of owner) word }
 {
     match word {
         Word::Upper(name) => after_option_name(grammar, owner, name),
         Word::Lower(name) => after_option_name(grammar, owner, name),
-        Word::CloseBrace => Some(after_options(grammar, owner)),
-        _ => None,
+        Word::CloseBrace => after_options(grammar, owner),
+        _ => refused(ValueOf::Entry(grammar, owner), word),
     }
 }
 
-pub fn step_entry_equals(grammar: Grammar, owner: Owner, word: Word) -> Option<State>
-    ensures { GivesNext result (m.step_entry_equals (grammar_of grammar) (owner_of owner) word) }
+pub fn step_entry_equals(grammar: Grammar, owner: Owner, word: Word) -> Next
+    ensures { next_of result ≡ m.step_entry_equals (grammar_of grammar) (owner_of owner) word }
 {
     match word {
-        Word::Equals => Some(State::Value(ValueOf::Entry(grammar, owner))),
-        _ => None,
+        Word::Equals => Next::some(State::Value(ValueOf::Entry(grammar, owner))),
+        _ => refused(ValueOf::Entry(grammar, owner), word),
     }
 }
 
-pub fn step_value(value: ValueOf, word: Word) -> Option<State>
-    ensures { GivesNext result (m.step_value (value_of value) word) }
+pub fn step_value(value: ValueOf, word: Word) -> Next
+    ensures { next_of result ≡ m.step_value (value_of value) word }
 {
     match word {
-        Word::Upper(_) => Some(State::Path(value)),
-        Word::Lower(_) => Some(State::Path(value)),
-        Word::Literal(_) => Some(State::AfterValue(value)),
-        Word::Number => Some(State::AfterValue(value)),
-        _ => None,
+        Word::Upper(_) => Next::some(State::Path(value)),
+        Word::Lower(_) => Next::some(State::Path(value)),
+        Word::Literal(_) => Next::some(State::AfterValue(value)),
+        Word::Number => Next::some(State::AfterValue(value)),
+        _ => refused(value, word),
     }
 }
 
-fn step_after_entry(grammar: Grammar, owner: Owner, word: Word) -> Option<State>
-    ensures { GivesNext result (m.step_after_value (m.InEntry (grammar_of grammar) (owner_of owner)) word) }
+fn step_after_entry(grammar: Grammar, owner: Owner, word: Word) -> Next
+    ensures { next_of result ≡ m.step_after_value (m.InEntry (grammar_of grammar) (owner_of owner)) word }
 {
     match word {
-        Word::Semicolon => Some(State::Entry(grammar, owner)),
-        _ => None,
+        Word::Semicolon => Next::some(State::Entry(grammar, owner)),
+        _ => refused(ValueOf::Entry(grammar, owner), word),
     }
 }
 
-fn step_after_opening(body: Body, word: Word) -> Option<State>
-    ensures { GivesNext result (m.step_after_value (m.InOpening (body_of body)) word) }
+fn step_after_opening(body: Body, word: Word) -> Next
+    ensures { next_of result ≡ m.step_after_value (m.InOpening (body_of body)) word }
 {
     match word {
-        Word::Greater => Some(State::Parser(body, ParserPosition::Elements)),
-        _ => None,
+        Word::Greater => Next::some(State::Parser(body, ParserPosition::Elements)),
+        _ => refused(ValueOf::Opening(body), word),
     }
 }
 
-pub fn step_after_value(value: ValueOf, word: Word) -> Option<State>
-    ensures { GivesNext result (m.step_after_value (value_of value) word) }
+pub fn step_after_value(value: ValueOf, word: Word) -> Next
+    ensures { next_of result ≡ m.step_after_value (value_of value) word }
 {
     match value {
         ValueOf::Entry(grammar, owner) => step_after_entry(grammar, owner, word),
@@ -171,66 +184,66 @@ pub fn step_after_value(value: ValueOf, word: Word) -> Option<State>
     }
 }
 
-pub fn step_path(value: ValueOf, word: Word) -> Option<State>
-    ensures { GivesNext result (m.step_path (value_of value) word) }
+pub fn step_path(value: ValueOf, word: Word) -> Next
+    ensures { next_of result ≡ m.step_path (value_of value) word }
 {
     match word {
-        Word::Dot => Some(State::PathName(value)),
+        Word::Dot => Next::some(State::PathName(value)),
         _ => step_after_value(value, word),
     }
 }
 
-pub fn step_path_name(value: ValueOf, word: Word) -> Option<State>
-    ensures { GivesNext result (m.step_path_name (value_of value) word) }
+pub fn step_path_name(value: ValueOf, word: Word) -> Next
+    ensures { next_of result ≡ m.step_path_name (value_of value) word }
 {
     match word {
-        Word::Upper(_) => Some(State::Path(value)),
-        Word::Lower(_) => Some(State::Path(value)),
-        _ => None,
+        Word::Upper(_) => Next::some(State::Path(value)),
+        Word::Lower(_) => Next::some(State::Path(value)),
+        _ => refused(value, word),
     }
 }
 
-pub fn step_tokens_brace(grammar: Grammar, word: Word) -> Option<State>
-    ensures { GivesNext result (m.step_tokens_brace (grammar_of grammar) word) }
+pub fn step_tokens_brace(grammar: Grammar, word: Word) -> Next
+    ensures { next_of result ≡ m.step_tokens_brace (grammar_of grammar) word }
 {
     match word {
-        Word::OpenBrace => Some(State::Token(grammar)),
-        _ => None,
+        Word::OpenBrace => Next::some(State::Token(grammar)),
+        _ => Next::refused(word),
     }
 }
 
-pub fn step_token(grammar: Grammar, word: Word) -> Result<Option<State>, Memory>
-    ensures { Gives result (m.step_token (grammar_of grammar) word) }
+pub fn step_token(grammar: Grammar, word: Word) -> Result<Next, Memory>
+    ensures { IfOk result (λ n. next_of n ≡ m.step_token (grammar_of grammar) word) }
 {
     match word {
-        Word::Upper(name) => Ok(Some(State::AfterToken(with_token(grammar, name)?))),
-        Word::CloseBrace => Ok(Some(State::Prequel(grammar))),
-        _ => Ok(None),
+        Word::Upper(name) => Ok(Next::some(State::AfterToken(with_token(grammar, name)?))),
+        Word::CloseBrace => Ok(Next::some(State::Prequel(grammar))),
+        _ => Ok(Next::refused(word)),
     }
 }
 
-pub fn step_after_token(grammar: Grammar, word: Word) -> Option<State>
-    ensures { GivesNext result (m.step_after_token (grammar_of grammar) word) }
+pub fn step_after_token(grammar: Grammar, word: Word) -> Next
+    ensures { next_of result ≡ m.step_after_token (grammar_of grammar) word }
 {
     match word {
-        Word::Comma => Some(State::Token(grammar)),
-        Word::CloseBrace => Some(State::Prequel(grammar)),
-        _ => None,
+        Word::Comma => Next::some(State::Token(grammar)),
+        Word::CloseBrace => Next::some(State::Prequel(grammar)),
+        _ => Next::refused(word),
     }
 }
 
-pub fn step_fragment(grammar: Grammar, word: Word) -> Option<State>
-    ensures { GivesNext result (m.step_fragment (grammar_of grammar) word) }
+pub fn step_fragment(grammar: Grammar, word: Word) -> Next
+    ensures { next_of result ≡ m.step_fragment (grammar_of grammar) word }
 {
     match word {
-        Word::Upper(name) => Some(State::Head(
+        Word::Upper(name) => Next::some(State::Head(
             grammar,
             Head::Lexer {
                 name,
                 fragment: true,
             },
         )),
-        _ => None,
+        _ => Next::refused(word),
     }
 }
 
@@ -242,19 +255,19 @@ fn no_commands(fragment: bool) -> Option<bool>
 }
 
 /// The first alternative of a rule.
-fn body_at(alloc: Global, grammar: Grammar, head: Head) -> State
-    ensures { state_of result ≡ m.body_at 64 (grammar_of grammar) (head_of head) }
+fn body_at(alloc: Global, grammar: Grammar, head: Head) -> Next
+    ensures { next_of result ≡ Some (m.body_at 64 (grammar_of grammar) (head_of head)) }
 {
     match head {
         Head::Parser(name) => {
             let body = Body {
                 grammar,
                 name,
-                blocks_left: 64,
+                blocks_left: MOST_BLOCKS,
                 enclosing: Vec::new(alloc),
                 current: Frame::fresh(alloc),
             };
-            State::Parser(body, ParserPosition::Alt)
+            Next::some(State::Parser(body, ParserPosition::Alt))
         }
         Head::Lexer { name, fragment } => {
             let body = LexBody {
@@ -262,29 +275,29 @@ fn body_at(alloc: Global, grammar: Grammar, head: Head) -> State
                 name,
                 fragment,
                 known: no_commands(fragment),
-                blocks_left: 64,
+                blocks_left: MOST_BLOCKS,
                 enclosing: Vec::new(alloc),
                 current: LexFrame::fresh(alloc),
             };
-            State::Lexer(body, LexerPosition::Elements)
+            Next::some(State::Lexer(body, LexerPosition::Elements))
         }
     }
 }
 
-pub fn step_colon(alloc: Global, grammar: Grammar, head: Head, word: Word) -> Option<State>
-    ensures { GivesNext result (m.step_colon 64 (grammar_of grammar) (head_of head) word) }
+pub fn step_colon(alloc: Global, grammar: Grammar, head: Head, word: Word) -> Next
+    ensures { next_of result ≡ m.step_colon 64 (grammar_of grammar) (head_of head) word }
 {
     match word {
-        Word::Colon => Some(body_at(alloc, grammar, head)),
-        _ => None,
+        Word::Colon => body_at(alloc, grammar, head),
+        _ => Next::refused(word),
     }
 }
 
-pub fn step_head(alloc: Global, grammar: Grammar, head: Head, word: Word) -> Option<State>
-    ensures { GivesNext result (m.step_head 64 (grammar_of grammar) (head_of head) word) }
+pub fn step_head(alloc: Global, grammar: Grammar, head: Head, word: Word) -> Next
+    ensures { next_of result ≡ m.step_head 64 (grammar_of grammar) (head_of head) word }
 {
     match word {
-        Word::Options => Some(State::OptionsBrace(grammar, Owner::Rule(head))),
+        Word::Options => Next::some(State::OptionsBrace(grammar, Owner::Rule(head))),
         _ => step_colon(alloc, grammar, head, word),
     }
 }

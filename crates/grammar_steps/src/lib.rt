@@ -6,7 +6,9 @@
 #![tactic(auto)]
 
 mod header;
+mod next;
 mod parser;
 mod steps;
+mod terms;
 
 pub use steps::step;

@@ -1,24 +1,40 @@
 //! One word further in a parser rule.
 #![tactic(auto, using(crate::proofs::Views::views))]
 
-ghost use Rattle.std.specs.Prelude.{◌≡◌, ◌++◌, ◌∷◌, [], ℕ, Some, IfOk};
+ghost use Rattle.std.specs.Prelude.{◌≡◌, ◌++◌, ◌∷◌, [], ℕ, Some, None, IfOk};
 ghost use Rattle.grammar_tree.specs.View.{parser_term, token_ref};
 ghost use Rattle.grammar_tree.specs.GrammarView.{rule_of};
 ghost use Rattle.grammar_tree.specs.Written.{WrittenTerm};
 ghost use Rattle.grammar_machine.specs.Machine as m;
-ghost use Rattle.grammar_notation.specs.Notation.{named};
-ghost use Rattle.grammar_machine.specs.View.{Gives, GivesNext, body_of, frame_of, parser_state, refs_of, state_of};
+ghost use Rattle.grammar_machine.specs.View.{body_of, parser_state, refs_of};
+ghost use Rattle.grammar_steps.specs.NextState.{next_of};
+ghost use Rattle.grammar_steps.specs.Terms.{after_listed, after_reference, reference_of, suffixed};
 
+use crate::next::Next;
+use crate::terms::{Suffix, more_refs, named, one_ref, reference, suffixed};
 use faults::Memory;
 use grammar_machine::{Body, Frame, ParserPosition, State, ValueOf, with_rule};
-use grammar_tree::{ParserTerm, Rule, Text, TokenRef, TokenRefs};
-use grammar_words::{Word, is};
+use grammar_tree::{ParserTerm, Rule, TokenRef, TokenRefs};
+use grammar_words::Word;
 use std::alloc::Global;
 
-fn at(body: Body, position: ParserPosition) -> Result<Option<State>, Memory>
-    ensures { Gives result (Some (parser_state (body_of body) position)) }
+fn at(body: Body, position: ParserPosition) -> Result<Next, Memory>
+    ensures { IfOk result (λ n. next_of n ≡ Some (parser_state (body_of body) position)) }
 {
-    Ok(Some(State::Parser(body, position)))
+    Ok(Next::some(State::Parser(body, position)))
+}
+
+/// The word can't follow. A body is let go here, since elsewhere each of its parts is a step of the proof.
+fn refused(_body: Body) -> Next
+    ensures { next_of result ≡ None }
+{
+    Next::none()
+}
+
+fn refused_word(_body: Body, word: Word) -> Next
+    ensures { next_of result ≡ None }
+{
+    Next::refused(word)
 }
 
 fn add(body: Body, term: ParserTerm) -> Result<Body, Memory>
@@ -42,9 +58,12 @@ fn add(body: Body, term: ParserTerm) -> Result<Body, Memory>
 }
 
 /// A block begins, if one more may be open.
-fn with_block(alloc: Global, body: Body) -> Result<Option<State>, Memory>
-    ensures { Gives result (m.with_block (body_of body) body.blocks_left) }
+fn with_block(alloc: Global, body: Body) -> Result<Next, Memory>
+    ensures { IfOk result (λ n. next_of n ≡ m.with_block (body_of body) body.blocks_left) }
 {
+    if body.blocks_left == 0 {
+        return Ok(refused(body));
+    }
     let Body {
         grammar,
         name,
@@ -52,9 +71,6 @@ fn with_block(alloc: Global, body: Body) -> Result<Option<State>, Memory>
         mut enclosing,
         current,
     } = body;
-    if blocks_left == 0 {
-        return Ok(None);
-    }
     enclosing.push(current)?;
     let inner = Body {
         grammar,
@@ -63,12 +79,12 @@ fn with_block(alloc: Global, body: Body) -> Result<Option<State>, Memory>
         enclosing,
         current: Frame::fresh(alloc),
     };
-    Ok(Some(State::Parser(inner, ParserPosition::Alt)))
+    Ok(Next::some(State::Parser(inner, ParserPosition::Alt)))
 }
 
 /// A block ends, if one is open.
-fn block_end(body: Body) -> Result<Option<State>, Memory>
-    ensures { Gives result (m.block_end (body_of body) (body_of body).enclosing) }
+fn block_end(body: Body) -> Result<Next, Memory>
+    ensures { IfOk result (λ n. next_of n ≡ m.block_end (body_of body) (body_of body).enclosing) }
 {
     let Body {
         grammar,
@@ -78,7 +94,7 @@ fn block_end(body: Body) -> Result<Option<State>, Memory>
         current,
     } = body;
     match enclosing.pop() {
-        None => Ok(None),
+        None => Ok(Next::none()),
         Some(around) => {
             let block = ParserTerm::Block(current.whole()?);
             let body = Body {
@@ -88,33 +104,33 @@ fn block_end(body: Body) -> Result<Option<State>, Memory>
                 enclosing,
                 current: around,
             };
-            Ok(Some(State::Parser(body, ParserPosition::After(block))))
+            Ok(Next::some(State::Parser(body, ParserPosition::After(block))))
         }
     }
 }
 
 /// The rule ends, if no block is open.
-fn rule_end(body: Body) -> Result<Option<State>, Memory>
-    ensures { Gives result (m.rule_end (body_of body) (body_of body).enclosing) }
+fn rule_end(body: Body) -> Result<Next, Memory>
+    ensures { IfOk result (λ n. next_of n ≡ m.rule_end (body_of body) (body_of body).enclosing) }
 {
+    if !body.enclosing.is_empty() {
+        return Ok(refused(body));
+    }
     let Body {
         grammar,
         name,
         blocks_left: _,
-        enclosing,
+        enclosing: _,
         current,
     } = body;
-    if !enclosing.is_empty() {
-        return Ok(None);
-    }
     let alts = current.whole()?;
     let grammar = with_rule(grammar, Rule::Parser { name, alts })?;
-    Ok(Some(State::Rule(grammar)))
+    Ok(Next::some(State::Rule(grammar)))
 }
 
 /// The next alternative begins.
-fn next_alternative(alloc: Global, body: Body) -> Result<Option<State>, Memory>
-    ensures { Gives result (Some (m.next_alternative (body_of body))) }
+fn next_alternative(alloc: Global, body: Body) -> Result<Next, Memory>
+    ensures { IfOk result (λ n. next_of n ≡ Some (m.next_alternative (body_of body))) }
 {
     let Body {
         grammar,
@@ -131,42 +147,33 @@ fn next_alternative(alloc: Global, body: Body) -> Result<Option<State>, Memory>
         enclosing,
         current,
     };
-    Ok(Some(State::Parser(body, ParserPosition::Alt)))
+    Ok(Next::some(State::Parser(body, ParserPosition::Alt)))
 }
 
-fn step_alt_end(alloc: Global, body: Body, word: Word) -> Result<Option<State>, Memory>
-    ensures { Gives result (m.step_alt_end (body_of body) word) }
+fn step_alt_end(alloc: Global, body: Body, word: Word) -> Result<Next, Memory>
+    ensures { IfOk result (λ n. next_of n ≡ m.step_alt_end (body_of body) word) }
 {
     match word {
         Word::Bar => next_alternative(alloc, body),
         Word::Semicolon => rule_end(body),
         Word::Close => block_end(body),
-        _ => Ok(None),
+        _ => Ok(refused_word(body, word)),
     }
 }
 
 /// The name of the alternative may follow, if no block is open.
-fn before_alternative_name(body: Body) -> Result<Option<State>, Memory>
-    ensures { Gives result (m.before_alternative_name (body_of body) (body_of body).enclosing) }
+fn before_alternative_name(body: Body) -> Result<Next, Memory>
+    ensures { IfOk result (λ n. next_of n ≡ m.before_alternative_name (body_of body) (body_of body).enclosing) }
 {
-    if !body.enclosing.is_empty() {
-        return Ok(None);
-    }
-    Ok(Some(State::Parser(body, ParserPosition::AltName)))
-}
-
-fn named(name: Text) -> ParserTerm
-    ensures { parser_term result ≡ named name }
-{
-    if is(&name, "EOF") {
-        ParserTerm::Eof
+    if body.enclosing.is_empty() {
+        at(body, ParserPosition::AltName)
     } else {
-        ParserTerm::Name(name)
+        Ok(refused(body))
     }
 }
 
-fn step_atom(alloc: Global, body: Body, word: Word) -> Result<Option<State>, Memory>
-    ensures { Gives result (m.step_atom (body_of body) word) }
+fn step_atom(alloc: Global, body: Body, word: Word) -> Result<Next, Memory>
+    ensures { IfOk result (λ n. next_of n ≡ m.step_atom (body_of body) word) }
 {
     match word {
         Word::Literal(text) => at(body, ParserPosition::After(ParserTerm::Literal(text))),
@@ -175,12 +182,12 @@ fn step_atom(alloc: Global, body: Body, word: Word) -> Result<Option<State>, Mem
         Word::Dot => at(body, ParserPosition::After(ParserTerm::Any)),
         Word::Tilde => at(body, ParserPosition::Ref),
         Word::Open => with_block(alloc, body),
-        _ => Ok(None),
+        _ => Ok(refused_word(body, word)),
     }
 }
 
-fn step_elements(alloc: Global, body: Body, word: Word) -> Result<Option<State>, Memory>
-    ensures { Gives result (m.step_elements (body_of body) word) }
+fn step_elements(alloc: Global, body: Body, word: Word) -> Result<Next, Memory>
+    ensures { IfOk result (λ n. next_of n ≡ m.step_elements (body_of body) word) }
 {
     match word {
         Word::Literal(text) => at(body, ParserPosition::After(ParserTerm::Literal(text))),
@@ -194,45 +201,51 @@ fn step_elements(alloc: Global, body: Body, word: Word) -> Result<Option<State>,
     }
 }
 
-fn with_suffix(body: Body, term: ParserTerm) -> Result<Option<State>, Memory>
-    ensures { Gives result (Some (m.Suffixed (m.add (body_of body) (parser_term term)))) }
+/// After a term that has the suffix.
+fn with_suffix(alloc: Global, body: Body, term: ParserTerm, suffix: Suffix) -> Result<Next, Memory>
+    ensures { IfOk result (λ n. next_of n ≡ Some (m.Suffixed (m.add (body_of body) (suffixed suffix (parser_term term))))) }
 {
-    Ok(Some(State::Parser(add(body, term)?, ParserPosition::Suffixed)))
+    let term = suffixed(alloc, term, suffix)?;
+    at(add(body, term)?, ParserPosition::Suffixed)
 }
 
-fn step_after(
-    alloc: Global,
-    body: Body,
-    term: ParserTerm,
-    word: Word,
-) -> Result<Option<State>, Memory>
-    ensures { Gives result (m.step_after (body_of body) (parser_term term) word) }
+/// One word further after a term that has no suffix.
+fn without_suffix(alloc: Global, body: Body, term: ParserTerm, word: Word) -> Result<Next, Memory>
+    ensures { IfOk result (λ n. next_of n ≡ m.step_elements (m.add (body_of body) (parser_term term)) word) }
+{
+    step_elements(alloc, add(body, term)?, word)
+}
+
+fn step_after(alloc: Global, body: Body, term: ParserTerm, word: Word) -> Result<Next, Memory>
+    ensures { IfOk result (λ n. next_of n ≡ m.step_after (body_of body) (parser_term term) word) }
 {
     match word {
-        Word::Question => with_suffix(body, ParserTerm::Opt(Box::new(alloc, term)?)),
-        Word::Star => with_suffix(body, ParserTerm::Star(Box::new(alloc, term)?)),
-        Word::Plus => with_suffix(body, ParserTerm::Plus(Box::new(alloc, term)?)),
-        _ => step_elements(alloc, add(body, term)?, word),
+        Word::Question => with_suffix(alloc, body, term, Suffix::Question),
+        Word::Star => with_suffix(alloc, body, term, Suffix::Star),
+        Word::Plus => with_suffix(alloc, body, term, Suffix::Plus),
+        _ => without_suffix(alloc, body, term, word),
     }
 }
 
-fn step_after_name(
-    alloc: Global,
-    body: Body,
-    term: ParserTerm,
-    word: Word,
-) -> Result<Option<State>, Memory>
-    ensures { Gives result (m.step_after_name (body_of body) (parser_term term) word) }
+/// After a label, which means nothing.
+fn after_label(body: Body, _name: ParserTerm) -> Result<Next, Memory>
+    ensures { IfOk result (λ n. next_of n ≡ Some (m.AtAtom (body_of body))) }
+{
+    at(body, ParserPosition::Atom)
+}
+
+fn step_after_name(alloc: Global, body: Body, term: ParserTerm, word: Word) -> Result<Next, Memory>
+    ensures { IfOk result (λ n. next_of n ≡ m.step_after_name (body_of body) (parser_term term) word) }
 {
     match word {
-        Word::Equals => at(body, ParserPosition::Atom),
-        Word::PlusEquals => at(body, ParserPosition::Atom),
+        Word::Equals => after_label(body, term),
+        Word::PlusEquals => after_label(body, term),
         _ => step_after(alloc, body, term, word),
     }
 }
 
-fn step_alt(alloc: Global, body: Body, word: Word) -> Result<Option<State>, Memory>
-    ensures { Gives result (m.step_alt (body_of body) word) }
+fn step_alt(alloc: Global, body: Body, word: Word) -> Result<Next, Memory>
+    ensures { IfOk result (λ n. next_of n ≡ m.step_alt (body_of body) word) }
 {
     match word {
         Word::Less => at(body, ParserPosition::OpeningName),
@@ -240,27 +253,27 @@ fn step_alt(alloc: Global, body: Body, word: Word) -> Result<Option<State>, Memo
     }
 }
 
-fn step_opening_name(body: Body, word: Word) -> Result<Option<State>, Memory>
-    ensures { Gives result (m.step_opening_name (body_of body) word) }
+fn step_opening_name(body: Body, word: Word) -> Result<Next, Memory>
+    ensures { IfOk result (λ n. next_of n ≡ m.step_opening_name (body_of body) word) }
 {
     match word {
         Word::Upper(_) => at(body, ParserPosition::OpeningEquals),
         Word::Lower(_) => at(body, ParserPosition::OpeningEquals),
-        _ => Ok(None),
+        _ => Ok(refused_word(body, word)),
     }
 }
 
-fn step_opening_equals(body: Body, word: Word) -> Result<Option<State>, Memory>
-    ensures { Gives result (m.step_opening_equals (body_of body) word) }
+fn step_opening_equals(body: Body, word: Word) -> Result<Next, Memory>
+    ensures { IfOk result (λ n. next_of n ≡ m.step_opening_equals (body_of body) word) }
 {
     match word {
-        Word::Equals => Ok(Some(State::Value(ValueOf::Opening(body)))),
-        _ => Ok(None),
+        Word::Equals => Ok(Next::some(State::Value(ValueOf::Opening(body)))),
+        _ => Ok(refused_word(body, word)),
     }
 }
 
-fn but(body: Body, refs: Vec<TokenRef>) -> Result<Option<State>, Memory>
-    ensures { Gives result (Some (m.AfterAtom (body_of body) (WrittenTerm.but (refs_of refs)))) }
+fn but(body: Body, refs: Vec<TokenRef>) -> Result<Next, Memory>
+    ensures { IfOk result (λ n. next_of n ≡ Some (m.AfterAtom (body_of body) (WrittenTerm.but (refs_of refs)))) }
 {
     at(
         body,
@@ -268,75 +281,58 @@ fn but(body: Body, refs: Vec<TokenRef>) -> Result<Option<State>, Memory>
     )
 }
 
-fn one_ref(alloc: Global, token: TokenRef) -> Result<Vec<TokenRef>, Memory>
-    ensures { IfOk result (λ refs. refs_of refs ≡ token_ref token ∷ []) }
+/// After `~` and one reference, if there is one.
+fn after_reference(alloc: Global, body: Body, token: Option<TokenRef>) -> Result<Next, Memory>
+    ensures { IfOk result (λ n. next_of n ≡ after_reference (body_of body) (reference_of token)) }
 {
-    let mut refs = Vec::new(alloc);
-    refs.push(token)?;
-    Ok(refs)
+    match token {
+        Some(token) => but(body, one_ref(alloc, token)?),
+        None => Ok(refused(body)),
+    }
 }
 
-fn step_ref(alloc: Global, body: Body, word: Word) -> Result<Option<State>, Memory>
-    ensures { Gives result (m.step_ref (body_of body) word) }
+fn step_ref(alloc: Global, body: Body, word: Word) -> Result<Next, Memory>
+    ensures { IfOk result (λ n. next_of n ≡ m.step_ref (body_of body) word) }
 {
     match word {
-        Word::Literal(text) => but(body, one_ref(alloc, TokenRef::Literal(text))?),
-        Word::Upper(name) => {
-            if is(&name, "EOF") {
-                Ok(None)
-            } else {
-                but(body, one_ref(alloc, TokenRef::Name(name))?)
-            }
-        }
         Word::Open => at(body, ParserPosition::RefIn(Vec::new(alloc))),
-        _ => Ok(None),
+        _ => after_reference(alloc, body, reference(word)),
     }
 }
 
-fn more_refs(mut refs: Vec<TokenRef>, token: TokenRef) -> Result<Vec<TokenRef>, Memory>
-    ensures { IfOk result (λ rs. refs_of rs ≡ refs_of refs ++ token_ref token ∷ []) }
+/// After one more reference in brackets, if there is one.
+fn after_listed(body: Body, refs: Vec<TokenRef>, token: Option<TokenRef>) -> Result<Next, Memory>
+    ensures { IfOk result (λ n. next_of n ≡ after_listed (body_of body) (refs_of refs) (reference_of token)) }
 {
-    refs.push(token)?;
-    Ok(refs)
-}
-
-fn step_ref_in(body: Body, refs: Vec<TokenRef>, word: Word) -> Result<Option<State>, Memory>
-    ensures { Gives result (m.step_ref_in (body_of body) (refs_of refs) word) }
-{
-    match word {
-        Word::Literal(text) => {
-            let refs = more_refs(refs, TokenRef::Literal(text))?;
-            at(body, ParserPosition::AfterRef(refs))
-        }
-        Word::Upper(name) => {
-            if is(&name, "EOF") {
-                Ok(None)
-            } else {
-                let refs = more_refs(refs, TokenRef::Name(name))?;
-                at(body, ParserPosition::AfterRef(refs))
-            }
-        }
-        _ => Ok(None),
+    match token {
+        Some(token) => at(body, ParserPosition::AfterRef(more_refs(refs, token)?)),
+        None => Ok(refused(body)),
     }
 }
 
-fn step_after_ref(body: Body, refs: Vec<TokenRef>, word: Word) -> Result<Option<State>, Memory>
-    ensures { Gives result (m.step_after_ref (body_of body) (refs_of refs) word) }
+fn step_ref_in(body: Body, refs: Vec<TokenRef>, word: Word) -> Result<Next, Memory>
+    ensures { IfOk result (λ n. next_of n ≡ m.step_ref_in (body_of body) (refs_of refs) word) }
+{
+    after_listed(body, refs, reference(word))
+}
+
+fn step_after_ref(body: Body, refs: Vec<TokenRef>, word: Word) -> Result<Next, Memory>
+    ensures { IfOk result (λ n. next_of n ≡ m.step_after_ref (body_of body) (refs_of refs) word) }
 {
     match word {
         Word::Bar => at(body, ParserPosition::RefIn(refs)),
         Word::Close => but(body, refs),
-        _ => Ok(None),
+        _ => Ok(refused_word(body, word)),
     }
 }
 
-fn step_alt_name(body: Body, word: Word) -> Result<Option<State>, Memory>
-    ensures { Gives result (m.step_alt_name (body_of body) word) }
+fn step_alt_name(body: Body, word: Word) -> Result<Next, Memory>
+    ensures { IfOk result (λ n. next_of n ≡ m.step_alt_name (body_of body) word) }
 {
     match word {
         Word::Upper(_) => at(body, ParserPosition::AfterAltName),
         Word::Lower(_) => at(body, ParserPosition::AfterAltName),
-        _ => Ok(None),
+        _ => Ok(refused_word(body, word)),
     }
 }
 
@@ -346,8 +342,8 @@ pub fn step_parser(
     body: Body,
     position: ParserPosition,
     word: Word,
-) -> Result<Option<State>, Memory>
-    ensures { (depth : ℕ) → Gives result (m.step depth (parser_state (body_of body) position) word) }
+) -> Result<Next, Memory>
+    ensures { (depth : ℕ) → IfOk result (λ n. next_of n ≡ m.step depth (parser_state (body_of body) position) word) }
 {
     match position {
         ParserPosition::Alt => step_alt(alloc, body, word),

@@ -1,24 +1,47 @@
 //! One word further.
 
-ghost use Rattle.std.specs.Prelude.{◌≡◌, ℕ, Some, None, IfOk};
+ghost use Rattle.std.specs.Prelude.{◌≡◌, ℕ, IfOk};
 ghost use Rattle.grammar_machine.specs.Machine as m;
-ghost use Rattle.grammar_machine.specs.View.{Gives, GivesNext, state_of};
+ghost use Rattle.grammar_machine.specs.View.{Gives, lex_body_of, lexer_state, state_of, top_body_of, top_state};
+ghost use Rattle.grammar_steps.specs.NextState.{next_of};
 
 use crate::header::{
     step_after_token, step_after_value, step_colon, step_entry, step_entry_equals, step_fragment,
     step_head, step_name, step_options_brace, step_path, step_path_name, step_prequel, step_rule,
     step_semicolon, step_start, step_token, step_tokens_brace, step_value,
 };
+use crate::next::Next;
 use crate::parser::step_parser;
 use faults::Memory;
-use grammar_machine::State;
+use grammar_machine::{EndPosition, LexBody, LexerPosition, State, TopBody};
 use grammar_words::Word;
 use lexer_steps::{step_lexer, step_top};
 use std::alloc::Global;
 
-/// The state after the word, or none where the word can't follow.
-pub fn step(alloc: Global, state: State, word: Word) -> Result<Option<State>, Memory>
-    ensures { Gives result (m.step 64 (state_of state) word) }
+fn next_in_lexer_rule(
+    alloc: Global,
+    body: LexBody,
+    position: LexerPosition,
+    word: Word,
+) -> Result<Next, Memory>
+    ensures { (depth : ℕ) → IfOk result (λ n. next_of n ≡ m.step depth (lexer_state (lex_body_of body) position) word) }
+{
+    Ok(Next::from_option(step_lexer(alloc, body, position, word)?))
+}
+
+fn next_at_end(
+    alloc: Global,
+    body: TopBody,
+    position: EndPosition,
+    word: Word,
+) -> Result<Next, Memory>
+    ensures { (depth : ℕ) → IfOk result (λ n. next_of n ≡ m.step depth (top_state (top_body_of body) position) word) }
+{
+    Ok(Next::from_option(step_top(alloc, body, position, word)?))
+}
+
+fn next_state(alloc: Global, state: State, word: Word) -> Result<Next, Memory>
+    ensures { IfOk result (λ n. next_of n ≡ m.step 64 (state_of state) word) }
 {
     match state {
         State::Start => Ok(step_start(word)),
@@ -40,8 +63,15 @@ pub fn step(alloc: Global, state: State, word: Word) -> Result<Option<State>, Me
         State::Head(grammar, head) => Ok(step_head(alloc, grammar, head, word)),
         State::Colon(grammar, head) => Ok(step_colon(alloc, grammar, head, word)),
         State::Parser(body, position) => step_parser(alloc, body, position, word),
-        State::Lexer(body, position) => step_lexer(alloc, body, position, word),
-        State::Top(body, position) => step_top(alloc, body, position, word),
-        State::End(_) => Ok(None),
+        State::Lexer(body, position) => next_in_lexer_rule(alloc, body, position, word),
+        State::Top(body, position) => next_at_end(alloc, body, position, word),
+        State::End(_) => Ok(Next::refused(word)),
     }
+}
+
+/// The state after the word, or none where the word can't follow.
+pub fn step(alloc: Global, state: State, word: Word) -> Result<Option<State>, Memory>
+    ensures { Gives result (m.step 64 (state_of state) word) }
+{
+    Ok(next_state(alloc, state, word)?.state())
 }

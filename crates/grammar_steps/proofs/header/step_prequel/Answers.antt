@@ -1,8 +1,7 @@
-use Rattle.std.proofs.Common.{subst, sym}
+use Rattle.std.proofs.Common.{sym, ◌∙◌}
 use Rattle.grammar_tree.specs.GrammarView.{grammar_of}
-use Rattle.grammar_machine.specs.View.{GivesNext}
 use Rattle.grammar_steps.proofs.Defaults.{no_prequel}
 use Rattle.grammar_steps.proofs.header.step_prequel.Goals as goal
 
 pub returns-in_default : goal.returns-in_default
-returns-in_default c = subst (λ o. GivesNext c.step_rule.result o) (sym (no_prequel (grammar_of c.args.grammar) c.args.word c.in_default.not-Options c.in_default.not-Tokens)) c.step_rule.ensures
+returns-in_default c = c.step_rule.ensures ∙ sym (no_prequel (grammar_of c.args.grammar) c.args.word c.in_default.not-Options c.in_default.not-Tokens)

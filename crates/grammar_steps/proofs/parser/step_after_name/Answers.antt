@@ -1,9 +1,10 @@
-use Rattle.std.proofs.Common.{subst, sym}
+use Rattle.std.proofs.Common.{subst, sym, ◌≡◌, IfOk}
 use Rattle.grammar_tree.specs.View.{parser_term}
-use Rattle.grammar_machine.specs.View.{Gives, body_of}
+use Rattle.grammar_machine.specs.View.{body_of}
+use Rattle.grammar_steps.specs.NextState.{next_of}
 use Rattle.grammar_steps.proofs.Defaults.{no_label}
 use Rattle.grammar_steps.proofs.parser.step_after_name.Goals as goal
 
 pub returns-in_default : goal.returns-in_default
 returns-in_default c =
-    subst (λ o. Gives c.step_after.result o) (sym (no_label (body_of c.args.body) (parser_term c.args.term) c.args.word c.in_default.not-Equals c.in_default.not-PlusEquals)) c.step_after.ensures
+    subst (λ o. IfOk c.step_after.result (λ n. next_of n ≡ o)) (sym (no_label (body_of c.args.body) (parser_term c.args.term) c.args.word c.in_default.not-Equals c.in_default.not-PlusEquals)) c.step_after.ensures
