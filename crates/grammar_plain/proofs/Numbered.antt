@@ -7,7 +7,7 @@ use Rattle.grammar_tree.specs.GrammarView.{kind_of, source_of}
 use Rattle.grammar_tree.specs.Kinds.{kinds_of}
 use Rattle.grammar_tree.specs.Lexes.{KindMatches, SourceMatches}
 use Rattle.grammar_tree.specs.Written.{WrittenGrammar}
-use Rattle.lexer.proofs.Pushed.{kinds_all, kinds_more}
+use Rattle.lexer_nfa.proofs.Pushed.{kinds_all, kinds_more}
 use Rattle.grammar_plain.specs.Next.{IsLeastKind, MatchesNothing}
 
 module _ (G : WrittenGrammar) (kinds : List Kind) (text : List ℕ) (numbered : kinds_of G ≡ map kind_of kinds) where

@@ -3,14 +3,14 @@ use Rattle.std.proofs.Common.{◌≡◌, ◌≢◌, ◌<◌, ◌≤◌, ◌+◌,
 use Rattle.std.specs.Prelude.{encode_utf8_all, ◌&&◌}
 use lib.Utf8.{scalar, scalars}
 use Rattle.std.specs.Str.{chars, IsUtf8, IsCharBoundary}
-use Rattle.std.proofs.lemmas.List.{append-nil}
 use Rattle.std.proofs.lemmas.Str.{IsCharBoundary-at_seam, encodes-append, encodes-chars, chars-encodes, scalars-chars, length-le-encodes, chars-nil}
 use Rattle.grammar_tree.specs.Written.{WrittenGrammar}
 use Rattle.grammar_tree.specs.Lexes.{IsNext, Lexes, LexesTo, Piece, PlacedToken, StopsAt, is_gap_kind, placed_tokens}
-use Rattle.lexer.specs.declared.nfa.State.{State}
-use Rattle.lexer.specs.declared.reading.Alternative.{Alternative}
-use Rattle.lexer.specs.Alternatives.{IsNfaOf}
+use Rattle.longest_match.specs.declared.nfa.State.{State}
+use Rattle.longest_match.specs.declared.alternative.Alternative.{Alternative}
+use Rattle.lexer_nfa.specs.GrammarNfa.{IsNfaOf}
 use Rattle.lexer.specs.Candidates.{ComesNext, HasNoNext}
+use Rattle.lexer.specs.Tokens.{unless_gap}
 
 module _ (G : WrittenGrammar) where
   -- where the pieces end, the first of which begins at the offset
@@ -172,7 +172,7 @@ module _ (G : WrittenGrammar) (text : List ℕ) where
         abbrev piece : Piece
         piece = record { kind = kind; text = next.front }
 
-        read_more : (now : List PlacedToken) → now ≡ tokens ++ cond (is_gap_kind G kind) [] (record { kind = kind; start = at; end = at + len } ∷ []) → IsReadTo G text (at + len) now
+        pub read_more : (now : List PlacedToken) → now ≡ tokens ++ cond (is_gap_kind G kind) [] (record { kind = kind; start = at; end = at + len } ∷ []) → IsReadTo G text (at + len) now
         read_more now e =
             let back_is : chars (encode_utf8_all next.back) ≡ next.back = chars-encodes next.back scalars_are in
             let Q : List ℕ → Type 0 = λ x. LexesTo G (chars text) (s.pieces ++ piece ∷ []) x in
@@ -192,12 +192,6 @@ module _ (G : WrittenGrammar) (text : List ℕ) where
               ends = end_more G 0 s.pieces piece ∙ omega (arith, s.ends, next.bytes);
             }
 
-        pub read_gap : is_gap_kind G kind ≡ true → IsReadTo G text (at + len) tokens
-        read_gap e = read_more tokens (sym (append-nil tokens) ∙ ap (λ b. tokens ++ cond b [] (record { kind = kind; start = at; end = at + len } ∷ [])) (sym e))
-
-        pub read_token : (now : List PlacedToken) → now ≡ tokens ++ record { kind = kind; start = at; end = at + len } ∷ [] → is_gap_kind G kind ≡ false → IsReadTo G text (at + len) now
-        read_token now f e = read_more now (f ∙ ap (λ b. tokens ++ cond b [] (record { kind = kind; start = at; end = at + len } ∷ [])) (sym e))
-
 pub found_some : {X : Type 0} (found : Option X) (m : X) (A : Type 0) (B : X → Type 0) → found ≡ Some m → MatchOption found A B → B m
 found_some {X} found m A B e h = let Q : Option X → Type 0 = λ o. MatchOption o A B in subst Q e h
 
@@ -207,3 +201,9 @@ found_none {X} found A B e h = let Q : Option X → Type 0 = λ o. MatchOption o
 pub map_snoc : {X Y : Type 0} (f : X → Y) (xs : List X) (x : X) → map f (xs ++ x ∷ []) ≡ map f xs ++ f x ∷ []
 map_snoc f [] x = refl
 map_snoc f (y ∷ xs) x = ap (λ l. f y ∷ l) (map_snoc f xs x)
+
+pub none_unless : (G : WrittenGrammar) (t : PlacedToken) → is_gap_kind G t.kind ≡ true → [] ≡ unless_gap G t
+none_unless G t e = ap (λ b. cond b [] (t ∷ [])) (sym e)
+
+pub some_unless : (G : WrittenGrammar) (t : PlacedToken) → is_gap_kind G t.kind ≡ false → t ∷ [] ≡ unless_gap G t
+some_unless G t e = ap (λ b. cond b [] (t ∷ [])) (sym e)

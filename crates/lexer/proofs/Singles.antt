@@ -13,20 +13,20 @@ use Rattle.grammar_tree.specs.Written.{WrittenGrammar}
 use Rattle.lexer.specs.declared.candidates.Beginning.{Beginning}
 use Rattle.lexer.specs.declared.gaps.Decided.{Decided}
 use Rattle.lexer.specs.declared.gaps.Singles.{Singles}
-use Rattle.lexer.specs.declared.nfa.State.{State}
-use Rattle.lexer.specs.declared.reading.Alternative.{Alternative}
-use Rattle.lexer.specs.Alternatives.{HasAlternative, IsNfaOf}
+use Rattle.longest_match.specs.declared.nfa.State.{State}
+use Rattle.longest_match.specs.declared.alternative.Alternative.{Alternative}
+use Rattle.longest_match.specs.Alternatives.{HasAlternative}
+use Rattle.lexer_nfa.specs.GrammarNfa.{IsNfaOf}
 use Rattle.lexer.specs.Gaps.{AreDecided, AreEmptyFlags, AreGapChars, HasSingle, IsLastOf, IsLeastSingle, SinglesAreUpTo, SinglesNeverFall}
-use Rattle.lexer.specs.Nfa.{Reads}
-use Rattle.lexer.specs.Order.{NeverFall}
-use Rattle.lexer.specs.Reading.{IsRead}
-use Rattle.lexer.specs.StateSets.{ReadsTo}
-use Rattle.lexer.specs.Candidates.{AreFirst}
+use Rattle.longest_match.specs.Nfa.{Reads}
+use Rattle.lexer_nfa.specs.Order.{NeverFall}
+use Rattle.longest_match.specs.Reading.{IsRead}
+use Rattle.longest_match.specs.StateSets.{AreFirst, ReadsTo}
 use Rattle.lexer.specs.Tokens.{IsGapText}
-use Rattle.lexer.proofs.StateSets.{index_default}
-use Rattle.lexer.proofs.States.{cond_some, get_within}
-use Rattle.lexer.proofs.Steps.{both_ways, or_same}
-use Rattle.lexer.proofs.Pushed.{with_same}
+use Rattle.longest_match.proofs.StateSets.{index_default}
+use Rattle.longest_match.proofs.States.{cond_some, get_within}
+use Rattle.longest_match.proofs.Steps.{both_ways, or_same}
+use Rattle.lexer_nfa.proofs.Pushed.{with_same}
 
 -- the one character of a range
 one_in : (d c : ℕ) → (in_ranges ((d, d) ∷ []) c ≡ true) ↔ (nat_eq d c ≡ true)

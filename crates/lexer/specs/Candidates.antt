@@ -1,23 +1,19 @@
 -- Which alternatives have to be read, and what comes next by them.
-use Rattle.std.specs.Prelude.{◌≡◌, ◌≢◌, ◌↔◌, ◌<◌, ◌≤◌, ℕ, List, [], ◌∷◌, ◌++◌, Some, slice_get, length, map, encode_utf8_all, Vec}
+use Rattle.std.specs.Prelude.{◌≡◌, ◌≢◌, ◌<◌, ◌≤◌, ℕ, List, [], ◌∷◌, ◌++◌, Some, slice_get, length, map, encode_utf8_all, Vec}
 use Rattle.std.specs.List.{Contains}
-use Rattle.lexer.specs.declared.nfa.State.{State}
-use Rattle.lexer.specs.declared.reading.Alternative.{Alternative}
+use Rattle.longest_match.specs.declared.nfa.State.{State}
+use Rattle.longest_match.specs.declared.alternative.Alternative.{Alternative}
 use Rattle.lexer.specs.declared.candidates.Beginning.{Beginning}
-use Rattle.lexer.specs.Nfa.{Reads}
-use Rattle.lexer.specs.StateSets.{ReadsTo}
-use Rattle.lexer.specs.Longest.{IsLongestLen}
-use Rattle.lexer.specs.Reading.{IsRead}
-use Rattle.lexer.specs.Alternatives.{HasAlternative}
+use Rattle.longest_match.specs.Nfa.{Reads}
+use Rattle.longest_match.specs.StateSets.{AreFirst}
+use Rattle.longest_match.specs.Longest.{IsLongestLen}
+use Rattle.longest_match.specs.Reading.{IsRead}
+use Rattle.longest_match.specs.Alternatives.{HasAlternative}
 
 -- Some of the alternatives, with all that can read a text which begins with the character.
 pub record AreCandidates (P : List State) (all some : List Alternative) (c : ℕ) : Type 0 where
   pub among : (a : Alternative) → Contains some a → Contains all a
   pub complete : (a : Alternative) (w : List ℕ) → Contains all a → Reads P a.start (c ∷ w) → Contains some a
-
--- The texts that are read from the start are those of which one of these states reads the first character, and goes on at a state that reads the rest.
-abbrev pub AreFirst : List State → ℕ → List ℕ → Type 0
-AreFirst P start states = (c : ℕ) (w : List ℕ) → Reads P start (c ∷ w) ↔ ((n : ℕ) × (next : ℕ) × Contains states n × ReadsTo P n c next × Reads P next w)
 
 -- the states are in the NFA, and are the first ones of the alternative
 pub record IsBeginning (P : List State) (b : Beginning) : Type 0 where

@@ -1,14 +1,3 @@
-pub mod Order
-pub mod Nfa
-pub mod Names
-pub mod Compile
-pub mod StateSets
-pub mod Longest
-pub mod Dead
-pub mod Reading
-pub mod Table
-pub mod Subsets
-pub mod Alternatives
 pub mod Candidates
 pub mod Tokens
 pub mod Gaps

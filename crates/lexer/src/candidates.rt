@@ -2,16 +2,15 @@
 
 ghost use Rattle.std.specs.Prelude.{◌≡◌, ◌<◌, ℕ, List, false, IfOk, OnOk, length, map};
 ghost use Rattle.std.specs.List.{Contains};
-ghost use Rattle.lexer.specs.Alternatives.{IsNfa};
+ghost use Rattle.longest_match.specs.Alternatives.{IsNfa};
 ghost use Rattle.lexer.specs.declared.candidates.Beginning.{Beginning};
-ghost use Rattle.lexer.specs.declared.nfa.State.{State};
+ghost use Rattle.longest_match.specs.declared.nfa.State.{State};
 ghost use Rattle.lexer.specs.Candidates.{AreBeginnings, AreCandidates, AreListed, IsBeginning};
-ghost use Rattle.lexer.specs.Reading.{IsReady};
-ghost use Rattle.lexer.specs.StateSets.{ReadsTo};
+ghost use Rattle.longest_match.specs.Reading.{IsReady};
+ghost use Rattle.longest_match.specs.StateSets.{ReadsTo};
 
-use crate::nfa::State;
-use crate::reading::{Alternative, Reading};
 use faults::Memory;
+use longest_match::{Alternative, Reading, State};
 use std::alloc::Global;
 
 /// The lists of alternatives together have at most so many entries. Where they would have more there

@@ -3,12 +3,12 @@
 ghost use Rattle.std.specs.Prelude.{◌≡◌, ◌⊎◌, ◌↔◌, ◌<◌, ◌^◌, ℕ, IfOk, OnOk, length, map, vec_len};
 ghost use Rattle.graph_cycles.specs.Graph.{HasEdge};
 ghost use Rattle.lexer.specs.Gaps.{AreEmptyFlags};
-ghost use Rattle.lexer.specs.Nfa.{IsClosed};
-ghost use Rattle.lexer.specs.StateSets.{GoesFrom, GoesTo};
+ghost use Rattle.longest_match.specs.Nfa.{IsClosed};
+ghost use Rattle.longest_match.specs.StateSets.{GoesFrom, GoesTo};
 
-use crate::nfa::State;
 use faults::Memory;
 use graph_cycles::reached_from;
+use longest_match::State;
 use std::alloc::Global;
 
 /// For each state those that go on at it without reading a character.

@@ -3,19 +3,17 @@
 ghost use Rattle.std.specs.Prelude.{◌≡◌, ◌⊎◌, ◌<◌, ◌≤◌, ℕ, List, IfOk, MatchOption, OnOk, length};
 ghost use Rattle.std.specs.List.{Contains};
 ghost use Rattle.std.specs.Str.{chars};
-ghost use Rattle.lexer.specs.declared.reading.Alternative.{Alternative};
-ghost use Rattle.lexer.specs.Alternatives.{IsNfa};
+ghost use Rattle.longest_match.specs.declared.alternative.Alternative.{Alternative};
+ghost use Rattle.longest_match.specs.Alternatives.{IsNfa};
 ghost use Rattle.lexer.specs.Candidates.{AreListed, ComesNext, HasNoNext, IsBestOf};
-ghost use Rattle.lexer.specs.Dead.{AreDead, StayDead};
-ghost use Rattle.lexer.specs.Nfa.{IsClosed};
-ghost use Rattle.lexer.specs.Reading.{IsReady};
-ghost use Rattle.lexer.specs.Table.{IsTable};
+ghost use Rattle.longest_match.specs.Dead.{AreDead, StayDead};
+ghost use Rattle.longest_match.specs.Nfa.{IsClosed};
+ghost use Rattle.longest_match.specs.Reading.{IsReady};
+ghost use Rattle.longest_match.specs.Table.{IsTable};
 
 use crate::candidates::candidates;
-use crate::nfa::State;
-use crate::reading::{Alternative, Reading};
-use crate::table::Table;
 use faults::Memory;
+use longest_match::{Alternative, Reading, State, Table};
 
 /// A match at the beginning of a text: the number of its kind, and its length in bytes. The length
 /// 0 means none.
@@ -23,6 +21,26 @@ use faults::Memory;
 pub(crate) struct Match {
     pub(crate) kind: u32,
     pub(crate) len: usize,
+}
+
+/// The longer of the two, and the first one where they have one length.
+fn longer(best: Match, other: Match) -> Match
+    ensures one { (result ≡ best) ⊎ (result ≡ other) }
+    ensures no_shorter { best.len ≤ result.len }
+    ensures no_shorter_other { other.len ≤ result.len }
+{
+    let is_longer = other.len > best.len;
+    if is_longer { other } else { best }
+}
+
+/// That of the lesser kind, and the first one where they have one kind.
+fn lesser(best: Match, other: Match) -> Match
+    ensures one { (result ≡ best) ⊎ (result ≡ other) }
+    ensures least { result.kind ≤ best.kind }
+    ensures least_other { result.kind ≤ other.kind }
+{
+    let is_lesser = other.kind < best.kind;
+    if is_lesser { other } else { best }
 }
 
 /// The longer of the two, and that of the lesser kind where they have one length.
@@ -33,10 +51,10 @@ fn better(best: Match, other: Match) -> Match
     ensures least { best.len ≡ result.len → result.kind ≤ best.kind }
     ensures least_other { other.len ≡ result.len → result.kind ≤ other.kind }
 {
-    if other.len > best.len || other.len == best.len && other.kind < best.kind {
-        other
+    if other.len == best.len {
+        lesser(best, other)
     } else {
-        best
+        longer(best, other)
     }
 }
 
@@ -93,7 +111,8 @@ pub(crate) fn next_match(
     };
     let list = candidates(lists, alternatives, c);
     let best = best_match(nfa, table, list, reading, text)?;
-    if best.len == 0 {
+    let is_none = best.len == 0;
+    if is_none {
         return Ok(None);
     }
     Ok(Some(best))

@@ -1,7 +1,7 @@
 use Rattle.std.proofs.Common.{length, sym, ap, ◌∙◌, arith}
 use Rattle.grammar_tree.specs.GrammarView.{kind_of}
 use Rattle.grammar_tree.proofs.Counts.{counts_fit}
-use Rattle.lexer.proofs.Pushed.{mapped_len}
+use Rattle.lexer_nfa.proofs.Pushed.{mapped_len}
 use Rattle.grammar_plain.proofs.Numbered.{all_tried, is_least, none_more}
 use Rattle.grammar_plain.proofs.kinds.least_kind.Goals as goal
 

@@ -6,8 +6,8 @@ use Rattle.grammar_tree.specs.Matches.{MatchesRule}
 use Rattle.grammar_tree.specs.View.{lex_alts}
 use Rattle.grammar_tree.specs.Written.{WrittenGrammar, lexer_alts}
 use Rattle.grammar_tree.specs.declared.rule.KindSource.{KindSource}
-use Rattle.lexer.proofs.Compiled.{written_at}
-use Rattle.lexer.proofs.Pushed.{moved_rule}
+use Rattle.lexer_nfa.proofs.Compiled.{written_at}
+use Rattle.lexer_nfa.proofs.Pushed.{moved_rule}
 use Rattle.grammar_plain.proofs.kinds.rule_matches.Goals as goal
 
 pub returns-in_ok-matched-in-Lexer : goal.returns-in_ok-matched-in-Lexer

@@ -1,7 +1,10 @@
-use Rattle.std.proofs.Common.{length, sym, ◌∙◌, refl}
+use Rattle.std.proofs.Common.{length, sym, ◌∙◌, refl, true≢false}
 use Rattle.std.proofs.lemmas.Option.{slice_get_read}
-use Rattle.lexer.proofs.Steps.{reads_none}
+use Rattle.longest_match.proofs.Steps.{reads_none}
 use Rattle.lexer.proofs.candidates.reads.Goals as goal
+
+pub returns-in-Some : goal.returns-in-Some
+returns-in-Some c = record { not = λ e next. absurd (true≢false e) }
 
 pub returns-in-None : goal.returns-in-None
 returns-in-None c = record {

@@ -1,10 +1,10 @@
 use Rattle.std.proofs.Common.{List, MatchOption, subst}
 use Rattle.std.specs.Str.{chars}
 use Rattle.lexer.specs.declared.pieces.Match.{Match}
-use Rattle.lexer.specs.declared.nfa.State.{State}
-use Rattle.lexer.specs.declared.reading.Alternative.{Alternative}
+use Rattle.longest_match.specs.declared.nfa.State.{State}
+use Rattle.longest_match.specs.declared.alternative.Alternative.{Alternative}
 use Rattle.lexer.specs.Candidates.{ComesNext, HasNoNext}
-use Rattle.lexer.specs.Dead.{StayDead}
+use Rattle.longest_match.specs.Dead.{StayDead}
 use Rattle.lexer.proofs.rules.Rules.next.Goals as goal
 
 pub returns-clause-next : goal.returns-clause-next

@@ -1,8 +1,0 @@
-use Rattle.std.proofs.Common.{map, take}
-use Rattle.grammar_tree.specs.GrammarView.{rule_of}
-use Rattle.grammar_names.specs.Index.{Finds}
-use Rattle.lexer.specs.Names.{rule_index}
-use Rattle.lexer.proofs.names.indexes_of.Given as goal
-
-abbrev pub invariant-loop-index : goal.invariant-loop-index
-invariant-loop-index l = Finds l.indexes (rule_index (map rule_of (take l.index l.rules)))
