@@ -2,3 +2,5 @@ pub use Rattle.grammar_notation.specs.Sets
 pub use Rattle.grammar_notation.specs.Notation
 pub mod Machine
 pub mod View
+pub mod NextState
+pub mod Codes

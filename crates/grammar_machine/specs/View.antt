@@ -140,7 +140,3 @@ abbrev pub Gives : Result (Option State) Memory → Option m.State → Type 0
 Gives (Ok (Some s)) o = o ≡ Some (state_of s)
 Gives (Ok None) o = o ≡ None
 Gives (Err e) o = Unit {0}
-
-abbrev pub GivesNext : Option State → Option m.State → Type 0
-GivesNext (Some s) o = o ≡ Some (state_of s)
-GivesNext None o = o ≡ None

@@ -1,4 +1,2 @@
 pub use Rattle.grammar_machine.specs.Machine
 pub use Rattle.grammar_machine.specs.View
-pub mod NextState
-pub mod Terms

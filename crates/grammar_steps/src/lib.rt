@@ -5,10 +5,6 @@
 //! grammar. What the next state is `grammar_machine` says, in `specs/Machine.antt`.
 #![tactic(auto)]
 
-mod header;
-mod next;
-mod parser;
 mod steps;
-mod terms;
 
 pub use steps::step;

@@ -1,22 +1,35 @@
 //! One word further.
 
-ghost use Rattle.std.specs.Prelude.{◌≡◌, ℕ, IfOk};
+ghost use Rattle.std.specs.Prelude.{ℕ};
 ghost use Rattle.grammar_machine.specs.Machine as m;
-ghost use Rattle.grammar_machine.specs.View.{Gives, lex_body_of, lexer_state, state_of, top_body_of, top_state};
-ghost use Rattle.grammar_steps.specs.NextState.{next_of};
+ghost use Rattle.grammar_machine.specs.View.{Gives, body_of, lex_body_of, lexer_state, parser_state, state_of, top_body_of, top_state};
+ghost use Rattle.grammar_machine.specs.NextState.{NextIs};
 
-use crate::header::{
+use faults::Memory;
+use grammar_machine::{
+    Body, EndPosition, LexBody, LexerPosition, Next, ParserPosition, State, TopBody,
+};
+use grammar_words::Word;
+use head_steps::{
     step_after_token, step_after_value, step_colon, step_entry, step_entry_equals, step_fragment,
     step_head, step_name, step_options_brace, step_path, step_path_name, step_prequel, step_rule,
     step_semicolon, step_start, step_token, step_tokens_brace, step_value,
 };
-use crate::next::Next;
-use crate::parser::step_parser;
-use faults::Memory;
-use grammar_machine::{EndPosition, LexBody, LexerPosition, State, TopBody};
-use grammar_words::Word;
-use lexer_steps::{step_lexer, step_top};
+use lexer_end_steps::step_top;
+use lexer_steps::step_lexer;
+use parser_steps::step_parser;
 use std::alloc::Global;
+
+fn next_in_parser_rule(
+    alloc: Global,
+    body: Body,
+    position: ParserPosition,
+    word: Word,
+) -> Result<Next, Memory>
+    ensures { (depth : ℕ) → NextIs result (m.step depth (parser_state (body_of body) position) word) }
+{
+    Ok(Next::from_option(step_parser(alloc, body, position, word)?))
+}
 
 fn next_in_lexer_rule(
     alloc: Global,
@@ -24,7 +37,7 @@ fn next_in_lexer_rule(
     position: LexerPosition,
     word: Word,
 ) -> Result<Next, Memory>
-    ensures { (depth : ℕ) → IfOk result (λ n. next_of n ≡ m.step depth (lexer_state (lex_body_of body) position) word) }
+    ensures { (depth : ℕ) → NextIs result (m.step depth (lexer_state (lex_body_of body) position) word) }
 {
     Ok(Next::from_option(step_lexer(alloc, body, position, word)?))
 }
@@ -35,13 +48,13 @@ fn next_at_end(
     position: EndPosition,
     word: Word,
 ) -> Result<Next, Memory>
-    ensures { (depth : ℕ) → IfOk result (λ n. next_of n ≡ m.step depth (top_state (top_body_of body) position) word) }
+    ensures { (depth : ℕ) → NextIs result (m.step depth (top_state (top_body_of body) position) word) }
 {
     Ok(Next::from_option(step_top(alloc, body, position, word)?))
 }
 
 fn next_state(alloc: Global, state: State, word: Word) -> Result<Next, Memory>
-    ensures { IfOk result (λ n. next_of n ≡ m.step 64 (state_of state) word) }
+    ensures { NextIs result (m.step 64 (state_of state) word) }
 {
     match state {
         State::Start => Ok(step_start(word)),
@@ -62,7 +75,7 @@ fn next_state(alloc: Global, state: State, word: Word) -> Result<Next, Memory>
         State::FragmentName(grammar) => Ok(step_fragment(grammar, word)),
         State::Head(grammar, head) => Ok(step_head(alloc, grammar, head, word)),
         State::Colon(grammar, head) => Ok(step_colon(alloc, grammar, head, word)),
-        State::Parser(body, position) => step_parser(alloc, body, position, word),
+        State::Parser(body, position) => next_in_parser_rule(alloc, body, position, word),
         State::Lexer(body, position) => next_in_lexer_rule(alloc, body, position, word),
         State::Top(body, position) => next_at_end(alloc, body, position, word),
         State::End(_) => Ok(Next::refused(word)),

@@ -1,8 +1,8 @@
 -- What is seen of terms and of the blocks around them, for the proofs of code that reads lexer rules.
-use Rattle.std.proofs.Common.{◌≡◌, ◌-◌, ◌+◌, ℕ, zero, suc, length, List, [], ◌∷◌, ◌++◌, Bool, true, false, Some, None, refl, ap, sym, ◌∙◌}
+use Rattle.std.proofs.Common.{◌≡◌, ◌-◌, ◌+◌, ℕ, zero, suc, length, List, [], ◌∷◌, ◌++◌, Bool, Some, None, refl, ap, sym, ◌∙◌}
 use Rattle.std.proofs.Math.Numerals.{sub-one, add-one}
 use Rattle.grammar_tree.specs.Written.{LexerTerm, lexer_alts}
-use Rattle.grammar_tree.proofs.LexerViews.{lex_term-Literal, lex_term-Set, lex_term-Name, lex_term-Short, lex_term-Block, lex_term-Opt, lex_term-Star, lex_term-Plus}
+use Rattle.grammar_tree.proofs.LexerViews.{lex_term-Literal, lex_term-Set, lex_term-Name, lex_term-Block, lex_term-Opt, lex_term-Star, lex_term-Plus}
 use Rattle.grammar_words.specs.declared.word.Word.{Word}
 use Rattle.grammar_machine.specs.declared.frame.LexFrame.{LexFrame}
 use Rattle.grammar_machine.specs.View.{lex_frame_of, lex_frames_around}
@@ -35,14 +35,6 @@ pub inner_as : (b : m.LexBody) (fs : List LexFrame) (word : Word) → (length fs
 inner_as b [] word h = absurd (h refl)
 inner_as b (f ∷ fs) word h = no_top b [] (lex_frame_of f) fs word
 
-pub top_as : (b : m.LexBody) (fs : List LexFrame) (word : Word) → length fs ≡ 0 → m.step_lex_end b (lex_frames_around [] fs) word ≡ m.step_done b word
-top_as b [] word h = refl
-top_as b (f ∷ fs) word h = cc h
-
-pub none_enclosing : (fs : List LexFrame) → length fs ≡ 0 → lex_frames_around [] fs ≡ []
-none_enclosing [] h = refl
-none_enclosing (f ∷ fs) h = cc h
-
 no_loop : (b : m.LexBody) (s : List (ℕ × ℕ)) (inner : List (m.Frame LexerTerm)) (f : m.Frame LexerTerm) (fs : List LexFrame) (fragment : Bool) → m.loop_end b s (lex_frames_around (f ∷ inner) fs) fragment ≡ None
 no_loop b s inner f [] fragment = refl
 no_loop b s inner f (g ∷ fs) fragment = no_loop b s (f ∷ inner) (lex_frame_of g) fs fragment
@@ -51,12 +43,4 @@ pub no_loop_end : (b : m.LexBody) (s : List (ℕ × ℕ)) (fs : List LexFrame) (
 no_loop_end b s [] fragment h = absurd (h refl)
 no_loop_end b s (f ∷ fs) fragment h = no_loop b s [] (lex_frame_of f) fs fragment
 
-pub loop_end_as : (b : m.LexBody) (s : List (ℕ × ℕ)) (fs : List LexFrame) → length fs ≡ 0 → m.loop_end b s (lex_frames_around [] fs) false ≡ Some (m.AfterLoop b s)
-loop_end_as b s [] h = refl
-loop_end_as b s (f ∷ fs) h = cc h
-
-pub fragment_loop_end : (b : m.LexBody) (s : List (ℕ × ℕ)) (enclosing : List (m.Frame LexerTerm)) → m.loop_end b s enclosing true ≡ None
-fragment_loop_end b s [] = refl
-fragment_loop_end b s (f ∷ enclosing) = refl
-
-pub ruleset views = (lex_term-Literal, lex_term-Set, lex_term-Name, lex_term-Short, lex_term-Block, lex_term-Opt, lex_term-Star, lex_term-Plus, lex_frames_push, lex_with_block_as, lex_block_end_as)
+pub ruleset views = (lex_term-Literal, lex_term-Set, lex_term-Name, lex_term-Block, lex_term-Opt, lex_term-Star, lex_term-Plus, lex_frames_push, lex_with_block_as, lex_block_end_as)

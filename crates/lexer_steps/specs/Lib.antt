@@ -1,5 +1,3 @@
 pub use Rattle.grammar_machine.specs.Machine
 pub use Rattle.grammar_machine.specs.View
 pub mod OneChar
-pub mod Codes
-pub mod NextState

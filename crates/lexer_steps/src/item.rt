@@ -1,19 +1,17 @@
 //! One word further after a literal, a set, or `~` in a lexer rule.
 #![tactic(auto, using(crate::proofs::Views::views, crate::proofs::OneChars::one_chars))]
 
-ghost use Rattle.std.specs.Prelude.{◌≡◌, ◌++◌, ◌∷◌, [], ℕ, Some, None, IfOk, nat_le};
-ghost use Rattle.grammar_tree.specs.View.{lex_term};
+ghost use Rattle.std.specs.Prelude.{◌≡◌, ◌∷◌, [], ℕ, Some, nat_le};
 ghost use Rattle.grammar_tree.specs.Written.{LexerTerm};
 ghost use Rattle.grammar_machine.specs.Machine as m;
-ghost use Rattle.lexer_steps.specs.NextState.{NextIs};
+ghost use Rattle.grammar_machine.specs.NextState.{NextIs};
 ghost use Rattle.lexer_steps.specs.OneChar.{only_char};
-ghost use Rattle.grammar_notation.specs.Sets.{outside, within};
+ghost use Rattle.grammar_notation.specs.Sets.{within};
 ghost use Rattle.grammar_machine.specs.View.{Gives, item_position_of, lex_body_of, lexer_state};
 
-use crate::lexer::{add_star, after_but, at, refuse, step_lex, step_lex_after, top};
-use crate::next::Next;
+use crate::lexer::{add_star, after_but, at, refused, refused_word, step_lex, step_lex_after, top};
 use faults::Memory;
-use grammar_machine::{EndPosition, ItemPosition, LexBody, LexerPosition, State};
+use grammar_machine::{EndPosition, ItemPosition, LexBody, LexerPosition, Next, State};
 use grammar_notation::{outside, within};
 use grammar_tree::{CharSet, LexTerm, Text};
 use grammar_words::{Word, first_char};
@@ -36,7 +34,7 @@ fn start_of_range(body: LexBody, text: Text) -> Result<Next, Memory>
     ensures { NextIs result (m.start_of_range (lex_body_of body) text) }
 {
     match only_char(&text) {
-        None => Ok(refuse(body)),
+        None => Ok(refused(body)),
         Some(first) => at(body, LexerPosition::RangeEnd(first)),
     }
 }
@@ -55,7 +53,7 @@ fn range(alloc: Global, body: LexBody, first: u32, last: u32) -> Result<Next, Me
     ensures { NextIs result (m.provided (nat_le first last) (m.AfterLexAtom (lex_body_of body) (LexerTerm.set (within ((first, last) ∷ []))))) }
 {
     if first > last {
-        return Ok(refuse(body));
+        return Ok(refused(body));
     }
     let set = within(alloc, &[(first, last)])?;
     at(body, LexerPosition::After(LexTerm::Set(set)))
@@ -65,7 +63,7 @@ fn end_of_range(alloc: Global, body: LexBody, first: u32, text: Text) -> Result<
     ensures { NextIs result (m.end_of_range (λ c. m.AfterLexAtom (lex_body_of body) (LexerTerm.set (within ((first, c) ∷ [])))) first text) }
 {
     match only_char(&text) {
-        None => Ok(refuse(body)),
+        None => Ok(refused(body)),
         Some(last) => range(alloc, body, first, last),
     }
 }
@@ -75,7 +73,7 @@ fn step_range_end(alloc: Global, body: LexBody, first: u32, word: Word) -> Resul
 {
     match word {
         Word::Literal(text) => end_of_range(alloc, body, first, text),
-        _ => Ok(refuse(body)),
+        _ => Ok(refused_word(body, word)),
     }
 }
 
@@ -93,12 +91,12 @@ fn loop_end(body: LexBody, set: CharSet) -> Result<Next, Memory>
     ensures { NextIs result (m.loop_end (lex_body_of body) set (lex_body_of body).enclosing body.fragment) }
 {
     if !body.enclosing.is_empty() {
-        return Ok(refuse(body));
+        return Ok(refused(body));
     }
     if body.fragment {
-        return Ok(refuse(body));
+        return Ok(refused(body));
     }
-    Ok(Next::top(top(body), EndPosition::Loop(set)))
+    Ok(Next::some(State::Top(top(body), EndPosition::Loop(set))))
 }
 
 fn step_after_set_star(
@@ -137,7 +135,7 @@ fn start_of_item(body: LexBody, position: ItemPosition, text: Text) -> Result<Ne
     ensures { NextIs result (m.one_char (lex_body_of body) (item_position_of position) text) }
 {
     match only_char(&text) {
-        None => Ok(refuse(body)),
+        None => Ok(refused(body)),
         Some(char) => at(body, LexerPosition::ItemChar(position, char)),
     }
 }
@@ -153,7 +151,7 @@ fn step_item_in(
     match word {
         Word::Set(ranges) => after_item(alloc, body, position, ranges.as_slice()),
         Word::Literal(text) => start_of_item(body, position, text),
-        _ => Ok(refuse(body)),
+        _ => Ok(refused_word(body, word)),
     }
 }
 
@@ -180,7 +178,7 @@ fn step_after_item(
     match word {
         Word::Bar => at(body, LexerPosition::ItemIn(ItemPosition::Listed(ranges))),
         Word::Close => after_but(alloc, body, &ranges),
-        _ => Ok(refuse(body)),
+        _ => Ok(refused_word(body, word)),
     }
 }
 
@@ -229,7 +227,7 @@ fn item_range(
     ensures { NextIs result (m.provided (nat_le first last) (m.after_item (lex_body_of body) (item_position_of position) ((first, last) ∷ []))) }
 {
     if first > last {
-        return Ok(refuse(body));
+        return Ok(refused(body));
     }
     after_item(alloc, body, position, &[(first, last)])
 }
@@ -244,7 +242,7 @@ fn end_of_item(
     ensures { NextIs result (m.end_of_range (λ c. m.after_item (lex_body_of body) (item_position_of position) ((first, c) ∷ [])) first text) }
 {
     match only_char(&text) {
-        None => Ok(refuse(body)),
+        None => Ok(refused(body)),
         Some(last) => item_range(alloc, body, position, first, last),
     }
 }
@@ -260,7 +258,7 @@ fn step_item_end(
 {
     match word {
         Word::Literal(text) => end_of_item(alloc, body, position, first, text),
-        _ => Ok(refuse(body)),
+        _ => Ok(refused_word(body, word)),
     }
 }
 

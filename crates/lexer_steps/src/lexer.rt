@@ -1,37 +1,42 @@
 //! One word further in a lexer rule.
 #![tactic(auto, using(crate::proofs::Views::views))]
 
-ghost use Rattle.std.specs.Prelude.{◌≡◌, ◌++◌, ◌∷◌, [], ℕ, Some, None, IfOk, length};
+ghost use Rattle.std.specs.Prelude.{◌≡◌, Some, None, IfOk, length};
 ghost use Rattle.grammar_tree.specs.View.{lex_term};
 ghost use Rattle.grammar_tree.specs.Written.{LexerTerm};
 ghost use Rattle.grammar_machine.specs.Machine as m;
-ghost use Rattle.lexer_steps.specs.NextState.{NextIs};
+ghost use Rattle.grammar_machine.specs.NextState.{NextIs};
 ghost use Rattle.grammar_notation.specs.Sets.{outside, within};
-ghost use Rattle.grammar_machine.specs.View.{item_position_of, lex_body_of, lex_frame_of, lexer_state, top_body_of};
+ghost use Rattle.grammar_machine.specs.View.{lex_body_of, lexer_state, top_body_of};
 
-use crate::next::Next;
-use crate::top::step_done;
 use faults::Memory;
-use grammar_machine::{ItemPosition, LexBody, LexFrame, LexerPosition, TopBody};
+use grammar_machine::{LexBody, LexFrame, LexerPosition, Next, State, TopBody};
 use grammar_notation::{outside, within};
-use grammar_tree::{CharSet, LexTerm, Text};
+use grammar_tree::LexTerm;
 use grammar_words::{Word, is};
+use lexer_end_steps::step_done;
 use std::alloc::Global;
 
 pub fn at(body: LexBody, position: LexerPosition) -> Result<Next, Memory>
     ensures { NextIs result (Some (lexer_state (lex_body_of body) position)) }
 {
-    Ok(Next::lexer(body, position))
+    Ok(Next::some(State::Lexer(body, position)))
 }
 
-/// None, where the word can't follow. The rule so far is dropped here, and so once for all callers.
-pub fn refuse(body: LexBody) -> Next
+/// The word can't follow. A body is let go here, since elsewhere each of its parts is a step of the proof.
+pub fn refused(_body: LexBody) -> Next
     ensures { result ≡ None }
 {
     Next::none()
 }
 
-pub fn add(body: LexBody, term: LexTerm) -> Result<LexBody, Memory>
+pub fn refused_word(_body: LexBody, word: Word) -> Next
+    ensures { result ≡ None }
+{
+    Next::refused(word)
+}
+
+fn add(body: LexBody, term: LexTerm) -> Result<LexBody, Memory>
     ensures { IfOk result (λ b. lex_body_of b ≡ m.lex_add (lex_body_of body) (lex_term term)) }
 {
     let LexBody {
@@ -60,7 +65,7 @@ fn with_block(alloc: Global, body: LexBody) -> Result<Next, Memory>
     ensures { NextIs result (m.lex_with_block (lex_body_of body) body.blocks_left) }
 {
     if body.blocks_left == 0 {
-        return Ok(refuse(body));
+        return Ok(refused(body));
     }
     let LexBody {
         grammar,
@@ -171,7 +176,7 @@ fn step_inner_end(alloc: Global, body: LexBody, word: Word) -> Result<Next, Memo
     match word {
         Word::Bar => next_alternative(alloc, body),
         Word::Close => block_end(body),
-        _ => Ok(refuse(body)),
+        _ => Ok(refused_word(body, word)),
     }
 }
 
@@ -192,11 +197,18 @@ fn after_set(alloc: Global, body: LexBody, ranges: &[(u32, u32)]) -> Result<Next
     at(body, LexerPosition::Set(within(alloc, ranges)?))
 }
 
+/// Where a set of all characters but those in the ranges is read.
+fn negated(alloc: Global, ranges: &[(u32, u32)]) -> Result<LexerPosition, Memory>
+    ensures { IfOk result (λ p. (b : m.LexBody) → lexer_state b p ≡ m.AfterSet b (outside ranges.now)) }
+{
+    let set = outside(alloc, ranges)?;
+    Ok(LexerPosition::Set(set))
+}
+
 pub fn after_but(alloc: Global, body: LexBody, ranges: &[(u32, u32)]) -> Result<Next, Memory>
     ensures { NextIs result (Some (m.AfterSet (lex_body_of body) (outside ranges.now))) }
 {
-    let set = outside(alloc, ranges)?;
-    at(body, LexerPosition::Set(set))
+    at(body, negated(alloc, ranges)?)
 }
 
 pub fn step_lex(alloc: Global, body: LexBody, word: Word) -> Result<Next, Memory>
@@ -206,7 +218,7 @@ pub fn step_lex(alloc: Global, body: LexBody, word: Word) -> Result<Next, Memory
         Word::Literal(text) => at(body, LexerPosition::Literal(text)),
         Word::Upper(name) => {
             if is(&name, "EOF") {
-                Ok(refuse(body))
+                Ok(refused(body))
             } else {
                 at(body, LexerPosition::After(LexTerm::Name(name)))
             }
@@ -231,10 +243,16 @@ pub fn add_star(alloc: Global, body: LexBody, term: LexTerm) -> Result<LexBody, 
     add(body, LexTerm::Star(Box::new(alloc, term)?))
 }
 
+fn plus(alloc: Global, term: LexTerm) -> Result<LexTerm, Memory>
+    ensures { IfOk result (λ t. lex_term t ≡ LexerTerm.plus (lex_term term)) }
+{
+    Ok(LexTerm::Plus(Box::new(alloc, term)?))
+}
+
 fn add_plus(alloc: Global, body: LexBody, term: LexTerm) -> Result<LexBody, Memory>
     ensures { IfOk result (λ b. lex_body_of b ≡ m.lex_add (lex_body_of body) (LexerTerm.plus (lex_term term))) }
 {
-    add(body, LexTerm::Plus(Box::new(alloc, term)?))
+    add(body, plus(alloc, term)?)
 }
 
 /// After an element with no suffix.

@@ -1,6 +1,6 @@
 use Rattle.std.proofs.Common.{subst, sym}
 use Rattle.grammar_machine.specs.View.{item_position_of, lex_body_of}
-use Rattle.lexer_steps.specs.NextState.{NextIs}
+use Rattle.grammar_machine.specs.NextState.{NextIs}
 use Rattle.lexer_steps.proofs.Defaults.{no_item_range}
 use Rattle.lexer_steps.proofs.item.step_after_item_char.Goals as goal
 

@@ -2,7 +2,7 @@ use Rattle.std.proofs.Common.{subst, sym, ap, ◌∙◌}
 use Rattle.grammar_tree.proofs.LexerViews.{lex_term-Set}
 use Rattle.grammar_machine.specs.Machine as m
 use Rattle.grammar_machine.specs.View.{lex_body_of}
-use Rattle.lexer_steps.specs.NextState.{NextIs}
+use Rattle.grammar_machine.specs.NextState.{NextIs}
 use Rattle.lexer_steps.proofs.Defaults.{no_star}
 use Rattle.lexer_steps.proofs.item.step_after_set.Goals as goal
 

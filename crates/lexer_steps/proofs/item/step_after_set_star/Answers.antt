@@ -3,7 +3,7 @@ use Rattle.grammar_tree.specs.Written.{LexerTerm}
 use Rattle.grammar_tree.proofs.LexerViews.{lex_term-Set}
 use Rattle.grammar_machine.specs.Machine as m
 use Rattle.grammar_machine.specs.View.{lex_body_of}
-use Rattle.lexer_steps.specs.NextState.{NextIs}
+use Rattle.grammar_machine.specs.NextState.{NextIs}
 use Rattle.lexer_steps.proofs.Defaults.{no_loop}
 use Rattle.lexer_steps.proofs.item.step_after_set_star.Goals as goal
 

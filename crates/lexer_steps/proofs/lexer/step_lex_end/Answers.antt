@@ -1,7 +1,7 @@
 use Rattle.std.proofs.Common.{◌≡◌, subst, sym, length, arith}
 use Rattle.std.proofs.lemmas.Grind.{common_steps}
 use Rattle.grammar_machine.specs.View.{lex_body_of}
-use Rattle.lexer_steps.specs.NextState.{NextIs}
+use Rattle.grammar_machine.specs.NextState.{NextIs}
 use Rattle.lexer_steps.proofs.Views.{inner_as}
 use Rattle.lexer_steps.proofs.lexer.step_lex_end.Goals as goal
 

@@ -1,3 +1,0 @@
-mod Views
-mod Defaults
-mod NextOf

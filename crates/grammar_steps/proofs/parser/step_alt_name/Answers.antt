@@ -1,8 +1,0 @@
-use Rattle.std.proofs.Common.{subst, sym, ap, ◌≡◌, IfOk}
-use Rattle.grammar_machine.specs.Machine as m
-use Rattle.grammar_machine.specs.View.{body_of}
-use Rattle.grammar_steps.specs.NextState.{next_of}
-use Rattle.grammar_steps.proofs.parser.step_alt_name.Goals as goal
-
-pub returns-in-Upper : goal.returns-in-Upper
-returns-in-Upper c = subst (λ o. IfOk c.at.result (λ n. next_of n ≡ o)) (sym (ap (m.step_alt_name (body_of c.args.body)) c.in-Upper.is)) c.at.ensures

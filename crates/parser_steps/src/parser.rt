@@ -1,0 +1,368 @@
+//! One word further in a parser rule.
+#![tactic(auto, using(crate::proofs::Views::views))]
+
+ghost use Rattle.std.specs.Prelude.{◌≡◌, ◌++◌, ◌∷◌, [], ℕ, Some, None, IfOk};
+ghost use Rattle.grammar_tree.specs.View.{parser_term, token_ref};
+ghost use Rattle.grammar_tree.specs.GrammarView.{rule_of};
+ghost use Rattle.grammar_tree.specs.Written.{WrittenTerm};
+ghost use Rattle.grammar_machine.specs.Machine as m;
+ghost use Rattle.grammar_machine.specs.View.{Gives, body_of, parser_state, refs_of};
+ghost use Rattle.grammar_machine.specs.NextState.{NextIs};
+ghost use Rattle.parser_steps.specs.Terms.{after_listed, after_reference, reference_of, suffixed};
+
+use crate::terms::{Suffix, more_refs, named, one_ref, past_label, reference, suffixed};
+use faults::Memory;
+use grammar_machine::{Body, Frame, Next, ParserPosition, State, ValueOf, with_rule};
+use grammar_tree::{ParserTerm, Rule, TokenRef, TokenRefs};
+use grammar_words::Word;
+use std::alloc::Global;
+
+fn at(body: Body, position: ParserPosition) -> Result<Next, Memory>
+    ensures { NextIs result (Some (parser_state (body_of body) position)) }
+{
+    Ok(Next::some(State::Parser(body, position)))
+}
+
+/// The word can't follow. A body is let go here, since elsewhere each of its parts is a step of the proof.
+fn refused(_body: Body) -> Next
+    ensures { result ≡ None }
+{
+    Next::none()
+}
+
+fn refused_word(_body: Body, word: Word) -> Next
+    ensures { result ≡ None }
+{
+    Next::refused(word)
+}
+
+fn add(body: Body, term: ParserTerm) -> Result<Body, Memory>
+    ensures { IfOk result (λ b. body_of b ≡ m.add (body_of body) (parser_term term)) }
+{
+    let Body {
+        grammar,
+        name,
+        blocks_left,
+        enclosing,
+        current,
+    } = body;
+    let current = current.with_term(term)?;
+    Ok(Body {
+        grammar,
+        name,
+        blocks_left,
+        enclosing,
+        current,
+    })
+}
+
+/// A block begins, if one more may be open.
+fn with_block(alloc: Global, body: Body) -> Result<Next, Memory>
+    ensures { NextIs result (m.with_block (body_of body) body.blocks_left) }
+{
+    if body.blocks_left == 0 {
+        return Ok(refused(body));
+    }
+    let Body {
+        grammar,
+        name,
+        blocks_left,
+        mut enclosing,
+        current,
+    } = body;
+    enclosing.push(current)?;
+    let inner = Body {
+        grammar,
+        name,
+        blocks_left: blocks_left - 1,
+        enclosing,
+        current: Frame::fresh(alloc),
+    };
+    Ok(Next::some(State::Parser(inner, ParserPosition::Alt)))
+}
+
+/// A block ends, if one is open.
+fn block_end(body: Body) -> Result<Next, Memory>
+    ensures { NextIs result (m.block_end (body_of body) (body_of body).enclosing) }
+{
+    let Body {
+        grammar,
+        name,
+        blocks_left,
+        mut enclosing,
+        current,
+    } = body;
+    match enclosing.pop() {
+        None => Ok(Next::none()),
+        Some(around) => {
+            let block = ParserTerm::Block(current.whole()?);
+            let body = Body {
+                grammar,
+                name,
+                blocks_left: blocks_left + 1,
+                enclosing,
+                current: around,
+            };
+            Ok(Next::some(State::Parser(body, ParserPosition::After(block))))
+        }
+    }
+}
+
+/// The rule ends, if no block is open.
+fn rule_end(body: Body) -> Result<Next, Memory>
+    ensures { NextIs result (m.rule_end (body_of body) (body_of body).enclosing) }
+{
+    if !body.enclosing.is_empty() {
+        return Ok(refused(body));
+    }
+    let Body {
+        grammar,
+        name,
+        blocks_left: _,
+        enclosing: _,
+        current,
+    } = body;
+    let alts = current.whole()?;
+    let grammar = with_rule(grammar, Rule::Parser { name, alts })?;
+    Ok(Next::some(State::Rule(grammar)))
+}
+
+/// The next alternative begins.
+fn next_alternative(alloc: Global, body: Body) -> Result<Next, Memory>
+    ensures { NextIs result (Some (m.next_alternative (body_of body))) }
+{
+    let Body {
+        grammar,
+        name,
+        blocks_left,
+        enclosing,
+        current,
+    } = body;
+    let current = current.next_alt(alloc)?;
+    let body = Body {
+        grammar,
+        name,
+        blocks_left,
+        enclosing,
+        current,
+    };
+    Ok(Next::some(State::Parser(body, ParserPosition::Alt)))
+}
+
+fn step_alt_end(alloc: Global, body: Body, word: Word) -> Result<Next, Memory>
+    ensures { NextIs result (m.step_alt_end (body_of body) word) }
+{
+    match word {
+        Word::Bar => next_alternative(alloc, body),
+        Word::Semicolon => rule_end(body),
+        Word::Close => block_end(body),
+        _ => Ok(refused_word(body, word)),
+    }
+}
+
+/// The name of the alternative may follow, if no block is open.
+fn before_alternative_name(body: Body) -> Result<Next, Memory>
+    ensures { NextIs result (m.before_alternative_name (body_of body) (body_of body).enclosing) }
+{
+    if body.enclosing.is_empty() {
+        at(body, ParserPosition::AltName)
+    } else {
+        Ok(refused(body))
+    }
+}
+
+fn step_atom(alloc: Global, body: Body, word: Word) -> Result<Next, Memory>
+    ensures { NextIs result (m.step_atom (body_of body) word) }
+{
+    match word {
+        Word::Literal(text) => at(body, ParserPosition::After(ParserTerm::Literal(text))),
+        Word::Upper(name) => at(body, ParserPosition::After(named(name))),
+        Word::Lower(name) => at(body, ParserPosition::After(ParserTerm::Name(name))),
+        Word::Dot => at(body, ParserPosition::After(ParserTerm::Any)),
+        Word::Tilde => at(body, ParserPosition::Ref),
+        Word::Open => with_block(alloc, body),
+        _ => Ok(refused_word(body, word)),
+    }
+}
+
+fn step_elements(alloc: Global, body: Body, word: Word) -> Result<Next, Memory>
+    ensures { NextIs result (m.step_elements (body_of body) word) }
+{
+    match word {
+        Word::Literal(text) => at(body, ParserPosition::After(ParserTerm::Literal(text))),
+        Word::Upper(name) => at(body, ParserPosition::Name(named(name))),
+        Word::Lower(name) => at(body, ParserPosition::Name(ParserTerm::Name(name))),
+        Word::Dot => at(body, ParserPosition::After(ParserTerm::Any)),
+        Word::Tilde => at(body, ParserPosition::Ref),
+        Word::Open => with_block(alloc, body),
+        Word::Hash => before_alternative_name(body),
+        _ => step_alt_end(alloc, body, word),
+    }
+}
+
+/// After a term that has the suffix.
+fn with_suffix(alloc: Global, body: Body, term: ParserTerm, suffix: Suffix) -> Result<Next, Memory>
+    ensures { NextIs result (Some (m.Suffixed (m.add (body_of body) (suffixed suffix (parser_term term))))) }
+{
+    let term = suffixed(alloc, term, suffix)?;
+    at(add(body, term)?, ParserPosition::Suffixed)
+}
+
+/// One word further after a term that has no suffix.
+fn without_suffix(alloc: Global, body: Body, term: ParserTerm, word: Word) -> Result<Next, Memory>
+    ensures { NextIs result (m.step_elements (m.add (body_of body) (parser_term term)) word) }
+{
+    step_elements(alloc, add(body, term)?, word)
+}
+
+fn step_after(alloc: Global, body: Body, term: ParserTerm, word: Word) -> Result<Next, Memory>
+    ensures { NextIs result (m.step_after (body_of body) (parser_term term) word) }
+{
+    match word {
+        Word::Question => with_suffix(alloc, body, term, Suffix::Question),
+        Word::Star => with_suffix(alloc, body, term, Suffix::Star),
+        Word::Plus => with_suffix(alloc, body, term, Suffix::Plus),
+        _ => without_suffix(alloc, body, term, word),
+    }
+}
+
+/// After a label.
+fn after_label(body: Body, name: ParserTerm) -> Result<Next, Memory>
+    ensures { NextIs result (Some (m.AtAtom (body_of body))) }
+{
+    at(body, past_label(name))
+}
+
+fn step_after_name(alloc: Global, body: Body, term: ParserTerm, word: Word) -> Result<Next, Memory>
+    ensures { NextIs result (m.step_after_name (body_of body) (parser_term term) word) }
+{
+    match word {
+        Word::Equals => after_label(body, term),
+        Word::PlusEquals => after_label(body, term),
+        _ => step_after(alloc, body, term, word),
+    }
+}
+
+fn step_alt(alloc: Global, body: Body, word: Word) -> Result<Next, Memory>
+    ensures { NextIs result (m.step_alt (body_of body) word) }
+{
+    match word {
+        Word::Less => at(body, ParserPosition::OpeningName),
+        _ => step_elements(alloc, body, word),
+    }
+}
+
+fn step_opening_name(body: Body, word: Word) -> Result<Next, Memory>
+    ensures { NextIs result (m.step_opening_name (body_of body) word) }
+{
+    match word {
+        Word::Upper(_) => at(body, ParserPosition::OpeningEquals),
+        Word::Lower(_) => at(body, ParserPosition::OpeningEquals),
+        _ => Ok(refused_word(body, word)),
+    }
+}
+
+fn step_opening_equals(body: Body, word: Word) -> Result<Next, Memory>
+    ensures { NextIs result (m.step_opening_equals (body_of body) word) }
+{
+    match word {
+        Word::Equals => Ok(Next::some(State::Value(ValueOf::Opening(body)))),
+        _ => Ok(refused_word(body, word)),
+    }
+}
+
+fn but(body: Body, refs: Vec<TokenRef>) -> Result<Next, Memory>
+    ensures { NextIs result (Some (m.AfterAtom (body_of body) (WrittenTerm.but (refs_of refs)))) }
+{
+    at(
+        body,
+        ParserPosition::After(ParserTerm::Not(TokenRefs { items: refs })),
+    )
+}
+
+/// After `~` and one reference, if there is one.
+fn after_reference(alloc: Global, body: Body, token: Option<TokenRef>) -> Result<Next, Memory>
+    ensures { NextIs result (after_reference (body_of body) (reference_of token)) }
+{
+    match token {
+        Some(token) => but(body, one_ref(alloc, token)?),
+        None => Ok(refused(body)),
+    }
+}
+
+fn step_ref(alloc: Global, body: Body, word: Word) -> Result<Next, Memory>
+    ensures { NextIs result (m.step_ref (body_of body) word) }
+{
+    match word {
+        Word::Open => at(body, ParserPosition::RefIn(Vec::new(alloc))),
+        _ => after_reference(alloc, body, reference(word)),
+    }
+}
+
+/// After one more reference in brackets, if there is one.
+fn after_listed(body: Body, refs: Vec<TokenRef>, token: Option<TokenRef>) -> Result<Next, Memory>
+    ensures { NextIs result (after_listed (body_of body) (refs_of refs) (reference_of token)) }
+{
+    match token {
+        Some(token) => at(body, ParserPosition::AfterRef(more_refs(refs, token)?)),
+        None => Ok(refused(body)),
+    }
+}
+
+fn step_ref_in(body: Body, refs: Vec<TokenRef>, word: Word) -> Result<Next, Memory>
+    ensures { NextIs result (m.step_ref_in (body_of body) (refs_of refs) word) }
+{
+    after_listed(body, refs, reference(word))
+}
+
+fn step_after_ref(body: Body, refs: Vec<TokenRef>, word: Word) -> Result<Next, Memory>
+    ensures { NextIs result (m.step_after_ref (body_of body) (refs_of refs) word) }
+{
+    match word {
+        Word::Bar => at(body, ParserPosition::RefIn(refs)),
+        Word::Close => but(body, refs),
+        _ => Ok(refused_word(body, word)),
+    }
+}
+
+fn step_alt_name(body: Body, word: Word) -> Result<Next, Memory>
+    ensures { NextIs result (m.step_alt_name (body_of body) word) }
+{
+    match word {
+        Word::Upper(_) => at(body, ParserPosition::AfterAltName),
+        Word::Lower(_) => at(body, ParserPosition::AfterAltName),
+        _ => Ok(refused_word(body, word)),
+    }
+}
+
+fn step_at(alloc: Global, body: Body, position: ParserPosition, word: Word) -> Result<Next, Memory>
+    ensures { (depth : ℕ) → NextIs result (m.step depth (parser_state (body_of body) position) word) }
+{
+    match position {
+        ParserPosition::Alt => step_alt(alloc, body, word),
+        ParserPosition::OpeningName => step_opening_name(body, word),
+        ParserPosition::OpeningEquals => step_opening_equals(body, word),
+        ParserPosition::Elements => step_elements(alloc, body, word),
+        ParserPosition::Suffixed => step_elements(alloc, body, word),
+        ParserPosition::Name(term) => step_after_name(alloc, body, term, word),
+        ParserPosition::Atom => step_atom(alloc, body, word),
+        ParserPosition::After(term) => step_after(alloc, body, term, word),
+        ParserPosition::Ref => step_ref(alloc, body, word),
+        ParserPosition::RefIn(refs) => step_ref_in(body, refs, word),
+        ParserPosition::AfterRef(refs) => step_after_ref(body, refs, word),
+        ParserPosition::AltName => step_alt_name(body, word),
+        ParserPosition::AfterAltName => step_alt_end(alloc, body, word),
+    }
+}
+
+/// One word further in a parser rule.
+pub fn step_parser(
+    alloc: Global,
+    body: Body,
+    position: ParserPosition,
+    word: Word,
+) -> Result<Option<State>, Memory>
+    ensures { (depth : ℕ) → Gives result (m.step depth (parser_state (body_of body) position) word) }
+{
+    Ok(step_at(alloc, body, position, word)?.state())
+}
