@@ -16,6 +16,7 @@ pub mod Assembly
 pub mod PrintLemmas
 pub mod PrintedSymbols
 pub mod Few
+pub mod SameForms
 pub mod Rows
 pub mod DeriveForms
 pub mod VisibleKinds

@@ -90,8 +90,19 @@ module _ {X : Type 0} (f g : X → List ℕ) (sep : List ℕ) (same : (x : X) �
   joined_bytes (x ∷ xs) =
       ap (λ l. l ++ flat_map (λ y. sep ++ g y) xs) (same x) ∙ ap (λ l. encode_utf8_all (f x) ++ l) (rest_bytes xs) ∙ sym (encodes-append (f x) (flat_map (λ y. sep ++ f y) xs))
 
+-- one more piece of a text, after what separates it from the one before
+pub piece_more : {X : Type 0} (f : X → List ℕ) (sep text separated more whole : List ℕ) (x : X) (all rest : List X) → all ≡ x ∷ rest → separated ≡ text ++ sep → more ≡ separated ++ f x → text ++ flat_map (λ y. sep ++ f y) all ≡ whole → more ++ flat_map (λ y. sep ++ f y) rest ≡ whole
+piece_more f sep text separated more whole x all rest cut first second so_far =
+    ap (λ l. l ++ flat_map (λ y. sep ++ f y) rest) (second ∙ ap (λ l. l ++ f x) first ∙ append_assoc text sep (f x))
+    ∙ append_assoc text (sep ++ f x) (flat_map (λ y. sep ++ f y) rest)
+    ∙ ap (λ l. text ++ l) (sym (ap (flat_map (λ y. sep ++ f y)) cut))
+    ∙ so_far
+
 one_ascii : (c : ℕ) → c < 128 → encode_utf8_all (c ∷ []) ≡ c ∷ []
 one_ascii c h = encodes-IsAscii (c ∷ []) (cons_ascii c [] h nil_ascii)
+
+pub two_ascii : (a b : ℕ) → a < 128 → b < 128 → encode_utf8_all (a ∷ b ∷ []) ≡ a ∷ b ∷ []
+two_ascii a b i j = encodes-IsAscii (a ∷ b ∷ []) (cons_ascii a (b ∷ []) i (cons_ascii b [] j nil_ascii))
 
 three_ascii : (a b c : ℕ) → a < 128 → b < 128 → c < 128 → encode_utf8_all (a ∷ b ∷ c ∷ []) ≡ a ∷ b ∷ c ∷ []
 three_ascii a b c i j k = encodes-IsAscii (a ∷ b ∷ c ∷ []) (cons_ascii a (b ∷ c ∷ []) i (cons_ascii b (c ∷ []) j (cons_ascii c [] k nil_ascii)))

@@ -1,17 +1,19 @@
 -- One more term, or one more alternative, while rules are made.
-use Rattle.std.proofs.Common.{◌≡◌, ℕ, ◌+◌, ◌<◌, List, [], ◌∷◌, ◌++◌, Option, Some, None, length, map, drop, slice_index_or, refl, sym, ap, ◌∙◌, arith, append_assoc}
+use Rattle.std.proofs.Common.{◌≡◌, ℕ, ◌+◌, ◌<◌, true, false, List, [], ◌∷◌, ◌++◌, Option, Some, None, is_some, length, map, drop, slice_index_or, refl, sym, ap, ◌∙◌, arith, append_assoc}
 use Rattle.std.proofs.lemmas.List.{at_drop_more, map-append}
 use Rattle.std.specs.Global.{Vec}
-use Rattle.grammar_tree.specs.Written.{WrittenGrammar, written_alts, written_seq}
+use Rattle.grammar_tree.specs.Written.{WrittenGrammar, WrittenTerm, written_alts, written_seq}
+use Rattle.grammar_tree.specs.Kinds.{literal_kind, name_kind, rule_number}
 use Rattle.grammar_tree.specs.Corners.{alts_new_rules, new_rules, rest_of, seq_new_rules}
-use Rattle.grammar_tree.specs.Derives.{Term, Seq, Alts, kind, among, rule, block, opt, star, plus, eof, next, or, resolved, resolved_alts, resolved_seq}
+use Rattle.grammar_tree.specs.Derives.{Term, Seq, Alts, kind, among, rule, block, opt, star, plus, eof, next, or, kind_term, name_term, resolved, resolved_alts, resolved_seq}
 use Rattle.grammar_tree.specs.View.{parser_term, parser_terms}
 use Rattle.grammar_tree.specs.declared.parser_term.ParserTerm.{ParserTerm}
 use Rattle.grammar_tree.specs.declared.parser_term.ParserTerms.{ParserTerms}
 use Rattle.normal_form.specs.declared.normal.Sym.{Sym}
 use Rattle.normal_form.specs.Form.{RuleForm}
 use Rattle.normal_form.specs.View.{alts_form}
-use Rattle.normal_form.specs.Numbering.{Numbering, alts_rules, alts_symbols, and_symbol, base_symbols, rest_symbols, seq_rules, seq_symbols, symbol, term_rules, with_base, with_rest}
+use Rattle.normal_form.specs.Numbering.{Numbering, alts_rules, alts_symbols, and_symbol, base_symbols, rest_symbols, seq_rules, seq_symbols, symbol, tail, term_rules, with_base, with_rest}
+use Rattle.normal_form.specs.Terms.{has_symbol}
 
 -- the terms from an index on, of which one is taken
 pub term_taken : (G : WrittenGrammar) (items : List ParserTerm) (i : ℕ) (t : ParserTerm) → i < length items → t ≡ slice_index_or items i t →
@@ -53,6 +55,54 @@ with_base_more (Some rest) ss more = refl
 with_rest_more : (o : Option Seq) (ss : List Sym) (more : List (List Sym)) → with_rest o ss [] ++ more ≡ with_rest o ss more
 with_rest_more None ss more = refl
 with_rest_more (Some rest) ss more = refl
+
+kind_has_symbol : (o : Option ℕ) (s : Sym) → and_symbol (kind_term o) s [] ≡ s ∷ []
+kind_has_symbol None s = refl
+kind_has_symbol (Some k) s = refl
+
+name_has_symbol : (o token : Option ℕ) (s : Sym) → and_symbol (name_term o token) s [] ≡ s ∷ []
+name_has_symbol None token s = kind_has_symbol token s
+name_has_symbol (Some r) token s = refl
+
+-- the symbols of one term, by whether it has one
+pub one_symbol : (G : WrittenGrammar) (t : WrittenTerm) (s : Sym) → has_symbol t ≡ true → and_symbol (resolved G t) s [] ≡ s ∷ []
+one_symbol G (WrittenTerm.literal l) s h = kind_has_symbol (literal_kind G l) s
+one_symbol G (WrittenTerm.name n) s h = name_has_symbol (rule_number G n) (name_kind G n) s
+one_symbol G WrittenTerm.any s h = refl
+one_symbol G (WrittenTerm.but refs) s h = refl
+one_symbol G (WrittenTerm.block a) s h = refl
+one_symbol G (WrittenTerm.opt t) s h = refl
+one_symbol G (WrittenTerm.star t) s h = refl
+one_symbol G (WrittenTerm.plus t) s h = refl
+one_symbol G WrittenTerm.eof s h = absurd (cc)
+
+pub no_symbol : (G : WrittenGrammar) (t : WrittenTerm) (s : Sym) → has_symbol t ≡ false → and_symbol (resolved G t) s [] ≡ []
+no_symbol G WrittenTerm.eof s h = refl
+no_symbol G (WrittenTerm.literal l) s h = absurd (cc)
+no_symbol G (WrittenTerm.name n) s h = absurd (cc)
+no_symbol G WrittenTerm.any s h = absurd (cc)
+no_symbol G (WrittenTerm.but refs) s h = absurd (cc)
+no_symbol G (WrittenTerm.block a) s h = absurd (cc)
+no_symbol G (WrittenTerm.opt t) s h = absurd (cc)
+no_symbol G (WrittenTerm.star t) s h = absurd (cc)
+no_symbol G (WrittenTerm.plus t) s h = absurd (cc)
+
+-- the symbols of one alternative among the bases and among the rests, by whether it has a rest
+pub is_base : (o : Option Seq) (ss : List Sym) → is_some o ≡ false → with_base o ss [] ≡ ss ∷ []
+is_base None ss h = refl
+is_base (Some rest) ss h = absurd (cc)
+
+pub no_base : (o : Option Seq) (ss : List Sym) → is_some o ≡ true → with_base o ss [] ≡ []
+no_base None ss h = absurd (cc)
+no_base (Some rest) ss h = refl
+
+pub is_rest : (o : Option Seq) (ss : List Sym) → is_some o ≡ true → with_rest o ss [] ≡ tail ss ∷ []
+is_rest None ss h = absurd (cc)
+is_rest (Some rest) ss h = refl
+
+pub no_rest : (o : Option Seq) (ss : List Sym) → is_some o ≡ false → with_rest o ss [] ≡ []
+no_rest None ss h = refl
+no_rest (Some rest) ss h = absurd (cc)
 
 module _ (M : Numbering) (n k : ℕ) where
   module _ (t : Term) (a b : Seq) (taken : a ≡ next t b) (counted : k ≡ n + new_rules t) where

@@ -8,6 +8,7 @@ pub mod Sets
 pub mod Form
 pub mod NormalDerives
 pub mod Numbering
+pub mod Terms
 pub mod NormalOf
 pub mod Print
 pub mod Printing

@@ -1,10 +1,10 @@
 //! Sets of kinds while they are found, each once.
 
-ghost use Rattle.std.specs.Prelude.{◌≡◌, [], ◌∷◌, IfOk, position};
+ghost use Rattle.std.specs.Prelude.{◌≡◌, [], ◌∷◌, ◌++◌, IfOk, OnOk, false, is_some, position};
 ghost use Rattle.std.specs.List.Sorted.{IsStrictlyIncreasing};
 ghost use Rattle.grammar_tree.specs.Kinds.{same_text};
 ghost use Rattle.grammar_names.specs.KindLists.{IsPartOf, lacking};
-ghost use Rattle.normal_form.specs.Sets.{no_sets, with_each};
+ghost use Rattle.normal_form.specs.Sets.{HasNumbers, no_sets, with_each};
 
 use crate::kind_sets::KindSets;
 use faults::Memory;
@@ -57,8 +57,7 @@ impl FoundSets {
             mut sets,
             mut numbers,
         } = self;
-        let key = Vec::from_slice(alloc, &missing)?;
-        numbers.insert(key, sets.len())?;
+        add_number(alloc, &mut numbers, &sets, &missing)?;
         sets.push(missing)?;
         Ok(FoundSets { sets, numbers })
     }
@@ -78,4 +77,21 @@ impl FoundSets {
         let FoundSets { sets, numbers: _ } = self;
         sets
     }
+}
+
+/// Gives the set of all kinds but these, which isn't there, the next number.
+fn add_number(
+    alloc: Global,
+    numbers: &mut BTreeMap<Vec<u32>, usize>,
+    sets: &KindSets,
+    missing: &[u32],
+) -> Result<(), Memory>
+    requires numbers { HasNumbers numbers.old sets.now }
+    requires part { IsPartOf sets.now.all missing.now }
+    requires is_new { is_some (position (λ other. same_text other (lacking sets.now.all missing.now)) sets.now.sets) ≡ false }
+    ensures { OnOk result (HasNumbers numbers.new (record { all = sets.now.all; sets = sets.now.sets ++ lacking sets.now.all missing.now ∷ [] })) }
+{
+    let key = Vec::from_slice(alloc, missing)?;
+    numbers.insert(key, sets.len())?;
+    Ok(())
 }

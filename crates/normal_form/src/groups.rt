@@ -33,6 +33,14 @@ fn without_first(mut symbols: Vec<Sym>) -> Vec<Sym>
     symbols
 }
 
+/// Adds the symbols of a directly recursive alternative, without the rule itself.
+fn push_rest(rests: &mut Vec<Vec<Sym>>, symbols: Vec<Sym>) -> Result<(), Memory>
+    ensures { OnOk result (alts_form rests.new.items ≡ alts_form rests.old.items ++ tail symbols.items ∷ []) }
+{
+    rests.push(without_first(symbols))?;
+    Ok(())
+}
+
 /// Adds the symbols of the alternative to the bases, or to the rests without the rule itself.
 fn sort(
     alt: &ParserTerms,
@@ -45,8 +53,7 @@ fn sort(
     ensures rests { OnOk result (alts_form sorted.new.rests.items ≡ alts_form sorted.old.rests.items ++ with_rest (rest_of rule (resolved_seq numbers.now (written_seq (parser_terms alt.now)))) symbols.items []) }
 {
     if is_recursive(alt, numbers.names(), rule) {
-        sorted.rests.push(without_first(symbols))?;
-        return Ok(());
+        return push_rest(&mut sorted.rests, symbols);
     }
     sorted.bases.push(symbols)?;
     Ok(())

@@ -1,6 +1,6 @@
 //! The text of a normal form.
 
-ghost use Rattle.std.specs.Prelude.{◌≡◌, ◌++◌, ◌<◌, ◌^◌, IfOk, List, OnOk, [], codes, encode_utf8_all, length, map, slice_get, string_bytes};
+ghost use Rattle.std.specs.Prelude.{◌≡◌, ◌∷◌, ◌++◌, ◌<◌, ◌^◌, IfOk, List, OnOk, [], codes, encode_utf8_all, length, map, nat_eq, slice_get, string_bytes};
 ghost use Rattle.std.specs.Option.{option_map_or};
 ghost use Rattle.std.specs.List.{flat_map, join_by};
 ghost use Rattle.grammar_tree.specs.GrammarView.{kind_of};
@@ -26,20 +26,35 @@ fn push_code(text: &mut String, alloc: Global, c: char) -> Result<(), Memory>
     Ok(())
 }
 
+/// Adds the escape of a character.
+fn push_escape(text: &mut String, escape: &str) -> Result<(), Memory>
+    ensures { OnOk result (string_bytes text.new ≡ string_bytes text.old ++ escape.now) }
+{
+    text.push_str(escape)?;
+    Ok(())
+}
+
+/// Adds a character that is written as itself.
+fn push_char(text: &mut String, c: char) -> Result<(), Memory>
+    ensures { OnOk result (string_bytes text.new ≡ string_bytes text.old ++ encode_utf8_all (c ∷ [])) }
+{
+    text.push(c)?;
+    Ok(())
+}
+
 /// Adds a character of a literal.
 fn push_escaped(text: &mut String, alloc: Global, c: char) -> Result<(), Memory>
     ensures { OnOk result (string_bytes text.new ≡ string_bytes text.old ++ encode_utf8_all (escaped c)) }
 {
     match c {
-        '\'' => text.push_str("\\'")?,
-        '\\' => text.push_str("\\\\")?,
-        '\n' => text.push_str("\\n")?,
-        '\r' => text.push_str("\\r")?,
-        '\t' => text.push_str("\\t")?,
-        ' '..='~' => text.push(c)?,
-        _ => return push_code(text, alloc, c),
+        '\'' => push_escape(text, "\\'"),
+        '\\' => push_escape(text, "\\\\"),
+        '\n' => push_escape(text, "\\n"),
+        '\r' => push_escape(text, "\\r"),
+        '\t' => push_escape(text, "\\t"),
+        ' '..='~' => push_char(text, c),
+        _ => push_code(text, alloc, c),
     }
-    Ok(())
 }
 
 /// Adds the literal of an implicit token, in quotes.
@@ -106,6 +121,13 @@ fn push_kinds(
     Ok(())
 }
 
+/// Whether one kind alone is missing.
+fn is_one(missing: &[u32]) -> bool
+    ensures { result ≡ nat_eq (length missing.now) 1 }
+{
+    missing.len() == 1
+}
+
 /// Adds the text of a set that misses these kinds.
 fn push_but(text: &mut String, alloc: Global, kinds: &[Kind], missing: &[u32]) -> Result<(), Memory>
     ensures { OnOk result (string_bytes text.new ≡ string_bytes text.old ++ but_text (kind_bytes (map kind_of kinds.now)) missing.now) }
@@ -114,7 +136,7 @@ fn push_but(text: &mut String, alloc: Global, kinds: &[Kind], missing: &[u32]) -
         text.push_str(".")?;
         return Ok(());
     }
-    if missing.len() == 1 {
+    if is_one(missing) {
         text.push_str("~")?;
         return push_numbered_kind(text, alloc, kinds, missing[0]);
     }

@@ -8,6 +8,7 @@ ghost use Rattle.grammar_tree.specs.Written.{written_alts, written_seq};
 ghost use Rattle.normal_form.specs.Numbering.{alts_rules, alts_symbols, and_symbol, seq_rules, seq_symbols, symbol, term_rules};
 ghost use Rattle.normal_form.specs.Form.{RuleForm};
 ghost use Rattle.normal_form.specs.NormalOf.{numbering};
+ghost use Rattle.normal_form.specs.Terms.{has_symbol, suffix_form};
 ghost use Rattle.normal_form.specs.View.{alts_form, rule_form};
 
 use crate::normal::{NormalRule, Sym};
@@ -16,7 +17,36 @@ use faults::Memory;
 use grammar_tree::{ParserAlts, ParserTerm, ParserTerms};
 use std::alloc::Global;
 
-/// Adds the term's symbol. `EOF` has none.
+/// What is directly after a term: `?`, `*` or `+`.
+#[derive(Clone, Copy)]
+enum Suffix {
+    Question,
+    Star,
+    Plus,
+}
+
+/// The rule of a term with this suffix, from the symbol of the term without it.
+fn suffix_rule(suffix: Suffix, symbol: Sym) -> NormalRule
+    ensures { rule_form result ≡ suffix_form suffix symbol }
+{
+    match suffix {
+        Suffix::Question => NormalRule::Opt(symbol),
+        Suffix::Star => NormalRule::Star(symbol),
+        Suffix::Plus => NormalRule::Plus(symbol),
+    }
+}
+
+/// Whether the term has a symbol. `EOF` has none.
+fn has_symbol(term: &ParserTerm) -> bool
+    ensures { result ≡ has_symbol (parser_term term.now) }
+{
+    match term {
+        ParserTerm::Eof => false,
+        _ => true,
+    }
+}
+
+/// Adds the term's symbol, if it has one.
 fn push_symbol(
     term: &ParserTerm,
     alloc: Global,
@@ -26,14 +56,12 @@ fn push_symbol(
 ) -> Result<(), Memory>
     ensures { OnOk result (symbols.new.items ≡ symbols.old.items ++ (let t = resolved numbers.now (parser_term term.now) in and_symbol t (symbol (numbering (bodies numbers.now)) next t) [])) }
 {
-    match term {
-        ParserTerm::Eof => Ok(()),
-        _ => {
-            let symbol = numbers.symbol(alloc, term, next)?;
-            symbols.push(symbol)?;
-            Ok(())
-        }
+    if !has_symbol(term) {
+        return Ok(());
     }
+    let symbol = numbers.symbol(alloc, term, next)?;
+    symbols.push(symbol)?;
+    Ok(())
 }
 
 /// Adds the new rules of the term, outer before inner.
@@ -50,23 +78,29 @@ fn push_term(
 {
     match term {
         ParserTerm::Block(alts) => push_block(alts, alloc, numbers, rules),
-        ParserTerm::Opt(term) => {
-            let symbol = numbers.symbol(alloc, term, rules.len() as u32 + 1)?;
-            rules.push(NormalRule::Opt(symbol))?;
-            push_term(term, alloc, numbers, rules)
-        }
-        ParserTerm::Star(term) => {
-            let symbol = numbers.symbol(alloc, term, rules.len() as u32 + 1)?;
-            rules.push(NormalRule::Star(symbol))?;
-            push_term(term, alloc, numbers, rules)
-        }
-        ParserTerm::Plus(term) => {
-            let symbol = numbers.symbol(alloc, term, rules.len() as u32 + 1)?;
-            rules.push(NormalRule::Plus(symbol))?;
-            push_term(term, alloc, numbers, rules)
-        }
+        ParserTerm::Opt(term) => push_suffixed(term, Suffix::Question, alloc, numbers, rules),
+        ParserTerm::Star(term) => push_suffixed(term, Suffix::Star, alloc, numbers, rules),
+        ParserTerm::Plus(term) => push_suffixed(term, Suffix::Plus, alloc, numbers, rules),
         _ => Ok(()),
     }
+}
+
+/// Adds the rule of the term with the suffix, and after it the term's new rules.
+#[cycle(rules)]
+fn push_suffixed(
+    term: &ParserTerm,
+    suffix: Suffix,
+    alloc: Global,
+    numbers: &Numbers<'_>,
+    rules: &mut Vec<NormalRule>,
+) -> Result<(), Memory>
+    requires { vec_len rules.old + 1 + new_rules (resolved numbers.now (parser_term term.now)) < 2 ^ 32 }
+    ensures len { OnOk result (vec_len rules.new ≡ vec_len rules.old + 1 + new_rules (resolved numbers.now (parser_term term.now))) }
+    ensures rules { OnOk result (map rule_form rules.new.items ≡ map rule_form rules.old.items ++ (suffix_form suffix (symbol (numbering (bodies numbers.now)) (vec_len rules.old + 1) (resolved numbers.now (parser_term term.now))) ∷ term_rules (numbering (bodies numbers.now)) (vec_len rules.old + 1) (resolved numbers.now (parser_term term.now)))) }
+{
+    let symbol = numbers.symbol(alloc, term, rules.len() as u32 + 1)?;
+    rules.push(suffix_rule(suffix, symbol))?;
+    push_term(term, alloc, numbers, rules)
 }
 
 /// Adds the regular rule of the alternatives, and after it their new rules.
