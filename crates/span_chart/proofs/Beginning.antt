@@ -1,15 +1,17 @@
 -- The forms of rules that are read from a normal form.
-use Rattle.std.proofs.Common.{◌≡◌, ℕ, zero, suc, ◌<◌, ◌≤◌, inr, List, [], ◌∷◌, length, Some, None, slice_get, sym, ap, ◌∙◌, subst, arith}
+use Rattle.std.proofs.Common.{◌≡◌, ℕ, zero, suc, ◌<◌, ◌≤◌, inl, inr, List, [], ◌∷◌, length, Some, None, slice_get, sym, ap, ◌∙◌, subst, arith}
 use Rattle.std.proofs.lemmas.List.{length-map}
 use Rattle.std.proofs.lemmas.Option.{slice_get_past}
+use Rattle.std.specs.Global.{Vec}
 use Rattle.std.specs.List.Sorted.{IsStrictlyIncreasing}
 use Rattle.std.specs.Prelude.{map, slice_index_or}
 use Rattle.normal_form.specs.declared.normal.NormalRule.{NormalRule}
 use Rattle.normal_form.specs.Form.{RuleForm, NormalForm}
-use Rattle.normal_form.specs.View.{rule_form}
+use Rattle.normal_form.specs.View.{alts_form, rule_form}
 use Rattle.normal_form.specs.declared.normal.Sym.{Sym}
 use Rattle.derived_spans.specs.Spans.{DerivesSpan}
 use Rattle.span_chart.specs.Input.{ChartInput}
+use Rattle.span_chart.specs.Working.{HasAlternatives}
 use Rattle.span_chart.specs.Positions.{EndsUpTo, HasAll, HasExactly, IsGrown}
 use Rattle.span_chart.proofs.Exactly.{exactly_grown, exactly_none, exactly_same}
 
@@ -23,6 +25,19 @@ rule_at rules forms r rule e l at = subst (λ l. slice_get l r ≡ Some (rule_fo
 
 pub no_rule_at : (rules : List NormalRule) (forms : List RuleForm) (r : ℕ) → map rule_form rules ≡ forms → length rules ≤ r → slice_get forms r ≡ None
 no_rule_at rules forms r e l = slice_get_past forms r (omega (arith, l, ap length (sym e) ∙ length-map rules rule_form))
+
+same_alternatives : (a b : List (List Sym)) → Some (RuleForm.regular a) ≡ Some (RuleForm.regular b) → a ≡ b
+same_alternatives a b e = cc
+
+no_form : (f : RuleForm) → Some f ≡ None → ⊥
+no_form f e = absurd (cc)
+
+-- a rule has no alternative past its last one
+pub no_alternative : (N : NormalForm) (r number : ℕ) (made : List (Vec Sym)) (alts : List (List Sym)) → slice_get N.rules r ≡ Some (RuleForm.regular (alts_form made)) → length made ≤ number → HasAlternatives N r alts → None ≡ slice_get alts number
+no_alternative N r number made alts at l (inl there) =
+    let same = same_alternatives (alts_form made) alts (sym at ∙ there) in
+    sym (slice_get_past alts number (omega (arith, l, ap length same, length-map made (λ (a : Vec Sym). a.items))))
+no_alternative N r number made alts at l (inr (none, e)) = absurd (no_form (RuleForm.regular (alts_form made)) (sym at ∙ none))
 
 -- What is added to an empty list is all that it has.
 exactly_added : (P : ℕ → Type 0) (old new : List ℕ) → old ≡ [] → IsStrictlyIncreasing new → IsGrown P old new → HasAll P new → HasExactly P new

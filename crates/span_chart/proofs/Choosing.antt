@@ -2,7 +2,6 @@
 use Rattle.std.proofs.Common.{◌≡◌, ℕ, zero, suc, ◌+◌, ◌<◌, ◌≤◌, ◌⊎◌, inl, inr, List, [], ◌∷◌, ◌++◌, length, Some, None, slice_get, get_or, take, drop, refl, sym, ap, ◌∙◌, subst, arith}
 use Rattle.std.proofs.lemmas.Grind.{get_or_default_zero}
 use Rattle.std.proofs.lemmas.List.{take-append-drop, take_all, take_more}
-use Rattle.std.proofs.lemmas.List.Elements.{Contains-get_or}
 use Rattle.std.proofs.lemmas.Option.{get_or_from_slice_get, slice_get_within}
 use Rattle.std.specs.Global.{Vec}
 use Rattle.std.specs.List.{Contains}
@@ -17,7 +16,7 @@ use Rattle.span_chart.specs.Working.{DerivesEarlier, DerivesFrom, HasAlternative
 use Rattle.span_chart.specs.Moves.{Begins, HasNextAlternative, HasNextSymbol, IsNextSymbol}
 use Rattle.span_chart.proofs.Rising.{order, take_cases}
 use Rattle.span_chart.proofs.Exactly.{contains_none, exactly_grown, exactly_none, exactly_one, exactly_same, taken_before, taken_last}
-use Rattle.span_chart.proofs.Spans.{joins, seq_within, spans}
+use Rattle.span_chart.proofs.Spans.{joins, spans}
 
 some-none : {X : Type 0} (x : X) → Some x ≡ None → ⊥
 some-none x e = absurd (cc)

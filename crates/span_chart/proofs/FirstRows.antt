@@ -1,12 +1,13 @@
 -- How a row grows while it is made.
-use Rattle.std.proofs.Common.{◌≡◌, ℕ, zero, suc, ◌+◌, ◌<◌, ◌≤◌, ◌⊎◌, inl, inr, Bool, true, false, List, [], ◌∷◌, length, map, Some, None, slice_get, get_or, set, refl, sym, ap, ◌∙◌, subst, arith}
+use Rattle.std.proofs.Common.{◌≡◌, ℕ, zero, suc, ◌+◌, ◌<◌, ◌≤◌, ◌⊎◌, inl, inr, Bool, true, List, [], ◌∷◌, length, Some, slice_get, get_or, set, refl, sym, ap, ◌∙◌, subst, arith}
 use Rattle.std.specs.Global.{Vec}
 use Rattle.std.specs.List.{Contains}
 use Rattle.normal_form.specs.declared.normal.Sym.{Sym}
+use Rattle.normal_form.specs.declared.normal.Sym.TheVariants.{Rule}
 use Rattle.normal_form.specs.Form.{RuleForm, NormalForm}
 use Rattle.normal_form.specs.View.{alts_form}
 use Rattle.span_chart.specs.declared.firsts.FirstRow.{FirstRow}
-use Rattle.span_chart.specs.Firsts.{Covers, CoversAlternative, HasKind, HasWhatBegins, IsCovered, Keeps, MayBeEmpty, MayBeEmptyBefore, MayBegin}
+use Rattle.span_chart.specs.Firsts.{Covers, CoversAlternative, HasKind, HasWhatBegins, IsCovered, Keeps, MayBeEmpty, MayBeEmptyBefore}
 use Rattle.span_chart.proofs.Rising.{order}
 
 pub past_true : (xs : List Bool) (k : ℕ) → length xs ≤ k → get_or xs k true ≡ true
@@ -156,3 +157,7 @@ closed_more N rows n this there covered before r form l at = by (order r n)
 
 pub same_row : (a b : FirstRow) → Some a ≡ Some b → a ≡ b
 same_row a b e = cc
+
+-- What a row says of its rule, as far as it says that this may be empty.
+pub empty_by_row : (rows : List FirstRow) (r : ℕ) (row : FirstRow) → slice_get rows r ≡ Some row → (row.empty ≡ true → MayBeEmpty rows (Rule r)) × (MayBeEmpty rows (Rule r) → row.empty ≡ true)
+empty_by_row rows r row there = (λ e other at. subst (λ x. x.empty ≡ true) (same_row row other (sym there ∙ at)) e, λ h. h row there)

@@ -44,7 +44,8 @@ fn alternative(normal: &Normal, rule: u32, number: usize) -> Option<&[Sym]>
     let NormalRule::Regular(alternatives) = &rules[rule as usize] else {
         return None;
     };
-    if number >= alternatives.len() {
+    let count = alternatives.len();
+    if number >= count {
         return None;
     }
     Some(alternatives[number].as_slice())

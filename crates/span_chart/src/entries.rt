@@ -1,6 +1,6 @@
 //! The entries of a chart.
 
-ghost use Rattle.std.specs.Prelude.{◌≡◌, ◌++◌, ◌∷◌, [], IfSome, OnErr, OnOk};
+ghost use Rattle.std.specs.Prelude.{◌≡◌, ◌&&◌, ◌++◌, ◌∷◌, [], IfSome, OnErr, OnOk, nat_eq};
 ghost use Rattle.std.specs.List.{Contains};
 ghost use Rattle.span_chart.specs.Entries.{entry};
 
@@ -19,6 +19,15 @@ pub(crate) struct EndsRange {
     first: u32,
     from: u32,
     count: u32,
+}
+
+impl EndsRange {
+    /// Whether the ends are those of the rule at the position.
+    fn is_of(&self, rule: u32, first: u32) -> bool
+        ensures { result ≡ nat_eq self.now.rule rule && nat_eq self.now.first first }
+    {
+        self.rule == rule && self.first == first
+    }
 }
 
 /// For some rules and positions all positions where the rule can end that begins there, rising. To
@@ -69,7 +78,7 @@ impl Entries {
             return None;
         }
         let range = self.ranges[number];
-        if range.rule != rule || range.first != first {
+        if !range.is_of(rule, first) {
             return None;
         }
         let from = range.from as usize;

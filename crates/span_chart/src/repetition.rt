@@ -83,11 +83,7 @@ impl Repetition {
             reached,
             ..
         } = self;
-        let ends = if plus {
-            without_first(reached)
-        } else {
-            reached
-        };
+        let ends = without_start(plus, reached);
         RuleEnds { rule, first, ends }
     }
 
@@ -162,6 +158,19 @@ fn after(position: u32) -> Result<u32, Memory>
     match position.checked_add(1) {
         Some(next) => Ok(next),
         None => Err(Memory),
+    }
+}
+
+/// Where a star or plus can end, of the positions that its symbol reaches any number of times. The
+/// first one is where it begins.
+fn without_start(plus: bool, reached: Vec<u32>) -> Vec<u32>
+    requires { 0 < length reached.items }
+    ensures { result.items ≡ (if plus then drop 1 reached.items else reached.items) }
+{
+    if plus {
+        without_first(reached)
+    } else {
+        reached
     }
 }
 

@@ -1,4 +1,4 @@
-use Rattle.std.proofs.Common.{◌≡◌, ◌∙◌, ap, subst, arith}
+use Rattle.std.proofs.Common.{◌∙◌, ap, subst, arith}
 use Rattle.std.proofs.lemmas.List.{length-map}
 use Rattle.span_chart.specs.Firsts.{CoversAlternative}
 use Rattle.span_chart.proofs.FirstRows.{covers_all, covers_first_more}

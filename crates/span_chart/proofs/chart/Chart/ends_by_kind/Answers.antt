@@ -1,4 +1,4 @@
-use Rattle.std.proofs.Common.{◌≡◌, ◌+◌, ◌-◌, ◌<◌, ◌≤◌, true, false, length, [], take, drop, get_or, sym, ap, ◌∙◌, subst, arith}
+use Rattle.std.proofs.Common.{◌≡◌, ◌+◌, ◌-◌, ◌≤◌, true, false, length, [], take, drop, sym, ap, ◌∙◌, subst, arith}
 use Rattle.normal_form.specs.declared.normal.Sym.TheVariants.{Rule}
 use Rattle.derived_spans.specs.Spans.{DerivesSpan}
 use Rattle.span_chart.specs.Firsts.{AreFirsts, MayBeEmpty}

@@ -1,4 +1,4 @@
-use Rattle.std.proofs.Common.{Bool, true, ◌≡◌, subst}
+use Rattle.std.proofs.Common.{subst}
 use Rattle.std.specs.Prelude.{IsTrue}
 use Rattle.derived_spans.specs.Spans.{DerivesSpan}
 use Rattle.span_chart.proofs.chart.Chart.reaches.Goals as goal

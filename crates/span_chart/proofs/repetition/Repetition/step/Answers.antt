@@ -1,10 +1,14 @@
 use Rattle.std.proofs.Common.{subst}
+use Rattle.std.specs.List.{Contains}
 use Rattle.normal_form.specs.NormalOf.{IsNormal}
 use Rattle.span_chart.proofs.Repeating.{filled, repetition_found, takes_entry}
 use Rattle.span_chart.proofs.repetition.Repetition.step.Goals as goal
 
 pub rule_ends-requires : goal.rule_ends-requires
 rule_ends-requires c = filled c.args.chart.now.normal c.args.chart.now.kinds c.args.self c.requires
+
+pub past-requires-clause-covered : goal.past-requires-clause-covered
+past-requires-clause-covered c = subst (λ l. Contains l c.in-Some.position) c.deref.ensures.value (c.has.ensures.0 c.if-has.true)
 
 pub returns-in_default : goal.returns-in_default
 returns-in_default c =
