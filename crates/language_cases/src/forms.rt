@@ -1,9 +1,9 @@
 //! Printed normal forms, and lists of kinds that rules derive.
 
 use anyhow::Result;
-use grammar_plain::{derives, start_derives};
 use grammar_tree::Checked;
 use normal_form::{normal_text, normalise};
+use plain_derivations::{derives, start_derives};
 use std::alloc::Global;
 
 /// The text of a copy of the grammar's normal form.

@@ -2,9 +2,9 @@
 
 use answer_texts::{token_shown, tokens_shown};
 use anyhow::{Result, bail};
-use grammar_plain::Piece;
 use grammar_tree::Checked;
 use lexer::Lexer;
+use plain_lexing::Piece;
 use std::alloc::Global;
 
 fn is_gap(checked: &Checked, kind: u32) -> bool {
@@ -41,7 +41,7 @@ fn lexed(alloc: Global, lexer: &Lexer, text: &str) -> Result<String> {
 
 /// What the plain one makes of it.
 fn plainly_lexed(alloc: Global, checked: &Checked, text: &str) -> Result<String> {
-    match grammar_plain::lex(alloc, checked, text) {
+    match plain_lexing::lex(alloc, checked, text) {
         Ok(pieces) => pieces_shown(alloc, checked, &pieces),
         Err(fault) => Ok(fault.to_string(alloc)?),
     }
@@ -61,7 +61,7 @@ pub(crate) fn both_shown(alloc: Global, checked: &Checked, text: &str) -> Result
 /// Whether the plain lexer makes one piece of gap text of the character.
 fn is_skipped_plainly(alloc: Global, checked: &Checked, c: char) -> Result<bool> {
     let text = format!(in alloc; "{c}")?;
-    match grammar_plain::lex(alloc, checked, text.as_str()) {
+    match plain_lexing::lex(alloc, checked, text.as_str()) {
         Ok(pieces) => match pieces.get(0) {
             Some(piece) => Ok(pieces.len() == 1 && is_gap(checked, piece.kind)),
             None => Ok(false),

@@ -3,11 +3,11 @@
 use crate::lists::{advance, first_list};
 use crate::plain::{Forest, Plain, PlainNode, preferred};
 use anyhow::{Result, bail};
-use grammar_plain::start_derives;
 use grammar_tests::checked;
 use grammar_tree::Checked;
 use language_trees::start_tree;
 use normal_form::{Normal, NormalRule, Sym, normalise};
+use plain_derivations::start_derives;
 use std::alloc::Global;
 use syntax_tree::{Node, Tree};
 

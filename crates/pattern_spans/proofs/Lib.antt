@@ -1,0 +1,9 @@
+pub mod Marks
+pub mod Ends
+pub mod Rows
+pub mod Views
+pub mod Pairs
+pub mod Spanned
+pub mod Ones
+pub mod Reading
+pub mod Lent

@@ -1,0 +1,2 @@
+pub mod ParserViews
+pub mod ParserMeaning
