@@ -1,5 +1,5 @@
 -- The reduction of what was found is one of the text, and how it ends.
-use Rattle.std.proofs.Common.{◌≡◌, ℕ, Bool, List, [], Option, Result, refl, sym, subst}
+use Rattle.std.proofs.Common.{◌≡◌, ℕ, Bool, List, [], Option, Result, refl, subst}
 use Rattle.std.specs.Prelude.{IfOk, IsTrue}
 use Rattle.std.proofs.lemmas.Result.{IfOk-weaker}
 use Rattle.grammar_tree.specs.Faults.{IsWellFormed}
@@ -13,7 +13,8 @@ use Rattle.reduction_rounds.specs.RoundsPlan.{plan_first}
 use Rattle.tree_mode.specs.Input.{TreeInput}
 use Rattle.plain_reducer.specs.declared.reduction.Mode.{Mode}
 use Rattle.plain_comparison.specs.Found.{IsFound}
-use Rattle.plain_comparison.specs.Ends.{EndsAs, rounds_of}
+use Rattle.plain_agreement.specs.RoundsOf.{rounds_of}
+use Rattle.plain_comparison.specs.Ends.{EndsAs}
 
 ends_as : (grammar : CheckedGrammar) (text : List ℕ) (mode : Mode) (squeezes : Bool) (verdicts : List ℕ → Option Verdict) (result : StepResult) (found : ParsedInput) (input : TreeInput)
     → IsFound found → MakesInputOf grammar text found → ((formed : IsWellFormed found.lexer.grammar found.lexer.start) → input ≡ tree_input found formed (keeps_admit []) squeezes)
@@ -28,10 +29,10 @@ ends_as grammar text mode squeezes verdicts result found input is makes made end
       ends = subst (λ (i : TreeInput). follow verdicts (plan_first (rounds_of mode i)) ≡ End result) (made formed) ends;
     }
 
--- where both reducers agree in this mode, it ends so
-pub agreed : {E : Type 0} (grammar : CheckedGrammar) (text : List ℕ) (mode present : Mode) (squeezes : Bool) (verdicts : List ℕ → Option Verdict) (result : StepResult) (found : ParsedInput) (input : TreeInput) (answer : Result Bool E)
-    → IsFound found → MakesInputOf grammar text found → ((formed : IsWellFormed found.lexer.grammar found.lexer.start) → input ≡ tree_input found formed (keeps_admit []) squeezes) → present ≡ mode
-    → IfOk answer (λ same. IsTrue same → follow verdicts (plan_first (rounds_of mode input)) ≡ End result) → IfOk answer (λ same. IsTrue same → EndsAs grammar text present squeezes verdicts result)
-agreed grammar text mode present squeezes verdicts result found input answer is makes made present_is ends =
-    IfOk-weaker answer (λ same. IsTrue same → follow verdicts (plan_first (rounds_of mode input)) ≡ End result) (λ same. IsTrue same → EndsAs grammar text present squeezes verdicts result)
-    (λ same at_yes yes. subst (λ (m : Mode). EndsAs grammar text m squeezes verdicts result) (sym present_is) (ends_as grammar text mode squeezes verdicts result found input is makes made (at_yes yes))) ends
+-- where both reducers agree in the mode, it ends so
+pub agreed : {E : Type 0} (grammar : CheckedGrammar) (text : List ℕ) (mode : Mode) (squeezes : Bool) (verdicts : List ℕ → Option Verdict) (result : StepResult) (found : ParsedInput) (input : TreeInput) (answer : Result Bool E)
+    → IsFound found → MakesInputOf grammar text found → ((formed : IsWellFormed found.lexer.grammar found.lexer.start) → input ≡ tree_input found formed (keeps_admit []) squeezes)
+    → IfOk answer (λ same. IsTrue same → follow verdicts (plan_first (rounds_of mode input)) ≡ End result) → IfOk answer (λ same. IsTrue same → EndsAs grammar text mode squeezes verdicts result)
+agreed grammar text mode squeezes verdicts result found input answer is makes made ends =
+    IfOk-weaker answer (λ same. IsTrue same → follow verdicts (plan_first (rounds_of mode input)) ≡ End result) (λ same. IsTrue same → EndsAs grammar text mode squeezes verdicts result)
+    (λ same at_yes yes. ends_as grammar text mode squeezes verdicts result found input is makes made (at_yes yes)) ends

@@ -5,18 +5,10 @@ use Rattle.grammar_input.specs.Parsed.{IsInputOf}
 use Rattle.keep_guard.specs.Keep.{keeps_admit}
 use Rattle.script_gate.specs.declared.gate.Verdict.{Verdict}
 use Rattle.verdict_table.specs.Plan.{End, StepResult, follow}
-use Rattle.reduction_rounds.specs.Mode.{RoundMode}
 use Rattle.reduction_rounds.specs.RoundsPlan.{plan_first}
-use Rattle.tree_mode.specs.Input.{TreeInput, TreeState}
-use Rattle.tree_rounds.specs.HddMode.{hdd_mode}
-use Rattle.tree_rounds.specs.PersesMode.{perses_mode}
+use Rattle.tree_mode.specs.Input.{TreeInput}
 use Rattle.plain_reducer.specs.declared.reduction.Mode.{Mode}
-use Rattle.plain_reducer.specs.declared.reduction.Mode.TheVariants.{Perses, Hdd}
-
--- the reduction by rounds of this mode
-abbrev pub rounds_of : Mode → TreeInput → RoundMode TreeState
-rounds_of Perses = perses_mode
-rounds_of Hdd = hdd_mode
+use Rattle.plain_agreement.specs.RoundsOf.{rounds_of}
 
 -- The reduction of this text by this grammar in this mode, where each candidate is admitted, ends so over these verdicts.
 pub record EndsAs (grammar : CheckedGrammar) (text : List ℕ) (mode : Mode) (squeezes : Bool) (verdicts : List ℕ → Option Verdict) (result : StepResult) : Type 0 where

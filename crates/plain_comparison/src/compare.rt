@@ -1,10 +1,6 @@
 //! What both reducers make of a case.
 
-ghost use Rattle.std.specs.Prelude.{◌≡◌, ◌↔◌, IfOk, IsTrue, Some};
-ghost use Rattle.verdict_table.specs.Plan.{End, asked, follow};
-ghost use Rattle.reduction_rounds.specs.RoundsPlan.{plan_first};
-ghost use Rattle.tree_rounds.specs.HddMode.{hdd_mode};
-ghost use Rattle.tree_rounds.specs.PersesMode.{perses_mode};
+ghost use Rattle.std.specs.Prelude.{IfOk, IsTrue};
 ghost use Rattle.plain_reducer.specs.Results.{result_of};
 ghost use Rattle.plain_reducer.specs.Verdicts.{verdicts_by};
 ghost use Rattle.plain_comparison.specs.Ends.{EndsAs};
@@ -13,12 +9,9 @@ use crate::parts::{found, tree_parts};
 use compat_table::compat;
 use faults::Memory;
 use grammar_tree::Checked;
-use keep_guard::KeepTexts;
+use plain_agreement::agrees_with_plain;
 use plain_reducer::{Mode, Problem, Reduction, VerdictRule, reduced};
-use reduction_rounds::ReducerStep;
 use std::alloc::Global;
-use tree_rounds::{HasInput, TreeParts, hdd_reducer, perses_reducer};
-use verdict_table::Step;
 
 /// What is reduced.
 #[derive(Clone, Copy)]
@@ -33,72 +26,6 @@ pub struct Case<'a> {
 
     /// Whether the squeezed text is asked before the rounds.
     pub squeezes: bool,
-}
-
-/// Whether this text is asked now.
-fn is_asked<S: Step>(reducer: &S, text: &[u8]) -> bool
-    ensures { IsTrue result ↔ (asked (S.plan reducer.now) ≡ Some text.now) }
-{
-    match reducer.asks() {
-        Some(question) => question == text,
-        None => false,
-    }
-}
-
-/// Whether the reducer has ended as the plain reduction did.
-fn has_same_end<R: ReducerStep>(reducer: &R, plain: &Reduction) -> bool
-    ensures { IsTrue result → R.plan reducer.now ≡ End (result_of plain.now) }
-{
-    reducer.asks().is_none()
-        && !reducer.refused()
-        && reducer.result() == plain.text.as_slice()
-        && reducer.units() == plain.units
-        && reducer.used() == plain.questions.len() as u64
-        && reducer.rounds() == plain.rounds
-}
-
-/// Whether the reducer, answered by the rule, asks the same questions as the plain reduction, and comes
-/// to the same.
-fn goes_the_same<R: ReducerStep>(
-    reducer: &mut R,
-    rule: VerdictRule,
-    plain: &Reduction,
-) -> Result<bool, Memory>
-    ensures { IfOk result (λ same. IsTrue same → follow (verdicts_by rule.entry.start.now rule.entry.seed) (R.plan reducer.old) ≡ End (result_of plain.now)) }
-{
-    for question in &plain.questions {
-        if !is_asked(reducer, question) {
-            return Ok(false);
-        }
-        reducer.answer(rule.verdict(question))?;
-    }
-    Ok(has_same_end(reducer, plain))
-}
-
-/// Whether the reduction in mode `perses` of these parts, answered by the rule, is the plain one.
-fn is_perses<'a>(
-    alloc: Global,
-    parts: &TreeParts<KeepTexts<'a>>,
-    rule: VerdictRule,
-    plain: &Reduction,
-) -> Result<bool, Memory>
-    ensures { IfOk result (λ same. IsTrue same → follow (verdicts_by rule.entry.start.now rule.entry.seed) (plan_first (perses_mode (⟦<TreeParts<KeepTexts<'a>> as HasInput>⟧.input parts.now))) ≡ End (result_of plain.now)) }
-{
-    let mut reducer = perses_reducer(alloc, parts)?;
-    goes_the_same(&mut reducer, rule, plain)
-}
-
-/// The same in mode `hdd`.
-fn is_hdd<'a>(
-    alloc: Global,
-    parts: &TreeParts<KeepTexts<'a>>,
-    rule: VerdictRule,
-    plain: &Reduction,
-) -> Result<bool, Memory>
-    ensures { IfOk result (λ same. IsTrue same → follow (verdicts_by rule.entry.start.now rule.entry.seed) (plan_first (hdd_mode (⟦<TreeParts<KeepTexts<'a>> as HasInput>⟧.input parts.now))) ≡ End (result_of plain.now)) }
-{
-    let mut reducer = hdd_reducer(alloc, parts)?;
-    goes_the_same(&mut reducer, rule, plain)
 }
 
 /// The plain reduction; None where the start isn't in the grammar's language.
@@ -132,10 +59,7 @@ fn agrees(alloc: Global, case: Case, rule: VerdictRule, plain: &Reduction) -> Re
         return Ok(false);
     };
     let parts = tree_parts(alloc, found, case.squeezes)?;
-    match case.mode {
-        Mode::Perses => is_perses(alloc, &parts, rule, plain),
-        Mode::Hdd => is_hdd(alloc, &parts, rule, plain),
-    }
+    agrees_with_plain(alloc, &parts, case.mode, rule, plain)
 }
 
 /// How many questions and rounds a reduction had, how many tokens it leaves, and their text.

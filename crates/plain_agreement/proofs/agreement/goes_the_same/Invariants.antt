@@ -1,7 +1,7 @@
 use Rattle.std.proofs.Common.{◌≡◌}
 use Rattle.verdict_table.specs.Plan.{follow}
 use Rattle.plain_reducer.specs.Verdicts.{verdicts_by}
-use Rattle.plain_comparison.proofs.compare.goes_the_same.Given as goal
+use Rattle.plain_agreement.proofs.agreement.goes_the_same.Given as goal
 
 abbrev pub invariant-loop-question : goal.invariant-loop-question
 invariant-loop-question g l =

@@ -1,0 +1,3 @@
+pub use Rattle.plain_reducer.specs.Results
+pub use Rattle.plain_reducer.specs.Verdicts
+pub mod RoundsOf
