@@ -27,7 +27,7 @@ use Rattle.descend_replace.proofs.Found.{cut_rises}
 use Rattle.descend_replace.proofs.Queue.{roots_numbers}
 use Rattle.hdd_levels.specs.declared.level_nodes.Elements.{Elements}
 use Rattle.hdd_levels.specs.Levels.{deletable_children, is_plus_form, with_leaves}
-use Rattle.hdd_levels.specs.LevelForms.{AreNodesIn, elements_if, is_plus_node, plus_of, pluses_of, shape_loses, whole_plus, with_leaves_in}
+use Rattle.hdd_levels.specs.LevelForms.{AreNodesIn, elements_if, has_leaf, is_plus_node, plus_of, pluses_of, shape_loses, whole_plus, with_leaves_in}
 use Rattle.hdd_levels.proofs.InLevels.{below_found, rising_bound}
 
 take_none : (ts : List PlainTree) → take 0 ts ≡ []
@@ -50,6 +50,11 @@ pluses_append N from (t ∷ ts) u =
     ∙ sym (append_assoc (plus_of N from t) (pluses_of N (from + length (deletable_children N t)) ts) (plus_of N ((from + length (deletable_children N t)) + length (flat_map (deletable_children N) ts)) u))
     ∙ ap (λ (k : ℕ). (plus_of N from t ++ pluses_of N (from + length (deletable_children N t)) ts) ++ plus_of N k u)
     (let e : (from + length (deletable_children N t)) + length (flat_map (deletable_children N) ts) ≡ from + length (deletable_children N t ++ flat_map (deletable_children N) ts) = omega (arith, both) in e)
+
+-- whether there is a leaf, by the weight
+pub has_leaf_is : (found : Option PlainTree) (w : ℕ) → option_map weight found ≡ Some w → option_map has_leaf found ≡ Some (nat_lt 0 w)
+has_leaf_is None w weighs = absurd (none-some w weighs)
+has_leaf_is (Some u) w weighs = ap (λ (n : ℕ). Some (nat_lt 0 n)) (same_Some (weight u) w weighs)
 
 module _ (t : PlainTree) (nodes : List ℕ) (ts : List PlainTree) (are : AreNodesIn t nodes ts) where
   as_long : length nodes ≡ length ts
@@ -104,28 +109,28 @@ module _ (t : PlainTree) (nodes : List ℕ) (ts : List PlainTree) (are : AreNode
       )
 
   -- with the next node, if it has a token
-  pub leaves_more : (k d : ℕ) → k < length nodes → (w : ℕ) → option_map weight (subtree (slice_index_or nodes k d) t) ≡ Some w → (base old new : List ℕ) → old ≡ base ++ map number_of (with_leaves_in (take k ts)) →
-      new ≡ (if nat_lt 0 w then old ++ slice_index_or nodes k d ∷ [] else old) → new ≡ base ++ map number_of (with_leaves_in (take (k + 1) ts))
-  leaves_more k d lt w weighs base old new so_far after =
+  pub leaves_more : (k d : ℕ) → k < length nodes → (has : Bool) → option_map has_leaf (subtree (slice_index_or nodes k d) t) ≡ Some has → (base old new : List ℕ) → old ≡ base ++ map number_of (with_leaves_in (take k ts)) →
+      new ≡ (if has then old ++ slice_index_or nodes k d ∷ [] else old) → new ≡ base ++ map number_of (with_leaves_in (take (k + 1) ts))
+  leaves_more k d lt has has_is base old new so_far after =
       let it = node_at k d lt in
       let u : PlainTree = it.0 in
       let before : List PlainTree = with_leaves_in (take k ts) in
-      let heavy : weight u ≡ w = same_Some (weight u) w (sym (ap (option_map weight) it.1) ∙ weighs) in
+      let leafy : has_leaf u ≡ has = same_Some (has_leaf u) has (sym (ap (option_map has_leaf) it.1) ∙ has_is) in
       let number : number_of u ≡ slice_index_or nodes k d = it.3 in
-      let parts : with_leaves_in (take (k + 1) ts) ≡ before ++ with_leaves_in (u ∷ []) = ap with_leaves_in it.2 ∙ filter-append (λ (x : PlainTree). nat_lt 0 (weight x)) (take k ts) (u ∷ []) in
-      after ∙ by_test (nat_lt 0 w) u (ap (λ (n : ℕ). nat_lt 0 n) heavy) (slice_index_or nodes k d) number base before old so_far ∙ ap (λ (l : List PlainTree). base ++ map number_of l) (sym parts)
+      let parts : with_leaves_in (take (k + 1) ts) ≡ before ++ with_leaves_in (u ∷ []) = ap with_leaves_in it.2 ∙ filter-append has_leaf (take k ts) (u ∷ []) in
+      after ∙ by_test has u leafy (slice_index_or nodes k d) number base before old so_far ∙ ap (λ (l : List PlainTree). base ++ map number_of l) (sym parts)
     where
-      by_test : (b : Bool) (u : PlainTree) → nat_lt 0 (weight u) ≡ b → (n : ℕ) → number_of u ≡ n → (base : List ℕ) (before : List PlainTree) (old : List ℕ) → old ≡ base ++ map number_of before → (if b then old ++ n ∷ [] else old) ≡ base ++ map number_of (before ++ with_leaves_in (u ∷ []))
+      by_test : (b : Bool) (u : PlainTree) → has_leaf u ≡ b → (n : ℕ) → number_of u ≡ n → (base : List ℕ) (before : List PlainTree) (old : List ℕ) → old ≡ base ++ map number_of before → (if b then old ++ n ∷ [] else old) ≡ base ++ map number_of (before ++ with_leaves_in (u ∷ []))
       by_test true u is n number base before old so_far =
           ap (λ (l : List ℕ). l ++ n ∷ []) so_far
           ∙ append_assoc base (map number_of before) (n ∷ [])
           ∙ ap (λ (m : ℕ). base ++ (map number_of before ++ m ∷ [])) (sym number)
           ∙ ap (λ (l : List ℕ). base ++ l) (sym (map-append number_of before (u ∷ [])))
-          ∙ ap (λ (l : List PlainTree). base ++ map number_of (before ++ l)) (sym (cond-true (nat_lt 0 (weight u)) (u ∷ []) [] is))
+          ∙ ap (λ (l : List PlainTree). base ++ map number_of (before ++ l)) (sym (cond-true (has_leaf u) (u ∷ []) [] is))
       by_test false u is n number base before old so_far =
           so_far
           ∙ ap (λ (l : List PlainTree). base ++ map number_of l) (sym (append-nil before))
-          ∙ ap (λ (l : List PlainTree). base ++ map number_of (before ++ l)) (sym (cond-false (nat_lt 0 (weight u)) (u ∷ []) [] is))
+          ∙ ap (λ (l : List PlainTree). base ++ map number_of (before ++ l)) (sym (cond-false (has_leaf u) (u ∷ []) [] is))
 
 -- the children of a node are found
 in_list : (ts : PlainTrees) (u : PlainTree) → Contains (list_of ts) u → IsInSome u ts

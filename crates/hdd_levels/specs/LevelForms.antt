@@ -61,9 +61,13 @@ pub record AreNodesIn (t : PlainTree) (nodes : List ℕ) (ts : List PlainTree) :
   pub numbers : nodes ≡ map number_of ts
   pub found : (u : PlainTree) → Contains ts u → subtree (number_of u) t ≡ Some u
 
+-- whether the tree has a leaf
+abbrev pub has_leaf : PlainTree → Bool
+has_leaf t = nat_lt 0 (weight t)
+
 -- those of the trees that have a leaf
 abbrev pub with_leaves_in : List PlainTree → List PlainTree
-with_leaves_in ts = filter (λ t. nat_lt 0 (weight t)) ts
+with_leaves_in ts = filter has_leaf ts
 
 -- whether children of nodes of the shape can be deleted
 abbrev pub shape_loses : Shape → Bool

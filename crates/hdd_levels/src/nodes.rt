@@ -1,11 +1,11 @@
 //! Lists of nodes that are left, and what is below them.
 
-ghost use Rattle.std.specs.Prelude.{◌≡◌, ◌-◌, ◌≤◌, ◌++◌, List, IfOk, IsSome, OnOk, length, map};
+ghost use Rattle.std.specs.Prelude.{◌≡◌, ◌-◌, ◌≤◌, ◌++◌, List, IfOk, IsSome, OnOk, Some, length, map, option_map};
 ghost use Rattle.syntax_tree.specs.Trees.{PlainTree, children_of};
 ghost use Rattle.syntax_tree.specs.Numbered.{number_of, roots, subtree};
 ghost use Rattle.tree_cut.specs.Cuts.{IsCutOf, cut_tree};
 ghost use Rattle.descend_replace.specs.LevelLaws.{children_of_each as children_of_all};
-ghost use Rattle.hdd_levels.specs.LevelForms.{AreNodesIn, elements_if, plus_of, shape_loses, whole_plus, with_leaves_in};
+ghost use Rattle.hdd_levels.specs.LevelForms.{AreNodesIn, elements_if, has_leaf, plus_of, shape_loses, whole_plus, with_leaves_in};
 ghost use Rattle.hdd_levels.specs.Levels.{deletable_children};
 
 use crate::level_nodes::Elements;
@@ -95,11 +95,20 @@ fn push_with_tokens(
     ensures { OnOk result ((ts : List PlainTree) → AreNodesIn (cut_tree tree.now cut.now) nodes.now ts → into.new.items ≡ into.old.items ++ map number_of (with_leaves_in ts)) }
 {
     for node in nodes {
-        if cut.weight(tree, *node) > 0 {
+        if has_token(tree, cut, *node) {
             into.push(*node)?;
         }
     }
     Ok(())
+}
+
+/// Whether a node that is left has a token.
+fn has_token(tree: &Tree, cut: &Cut, node: u32) -> bool
+    requires of { IsCutOf tree.now cut.now }
+    requires left { IsSome (subtree node (cut_tree tree.now cut.now)) }
+    ensures { option_map has_leaf (subtree node (cut_tree tree.now cut.now)) ≡ Some result }
+{
+    cut.weight(tree, node) > 0
 }
 
 /// Adds the elements from one index up to another, if they are all that a plus has.
