@@ -28,7 +28,7 @@ pub(crate) enum Row {
 pub(crate) enum Other {
     /// The row of this number, from 0, goes otherwise.
     Row(usize),
-    /// There is no board, or not one of its seats for each gate.
+    /// There is no board of two workers.
     NoBoard,
     /// A worker still has a claim at the end.
     Busy,
@@ -97,20 +97,22 @@ fn first_other<G: Gate>(
     None
 }
 
-/// A worker for each seat and gate, in order.
+/// The two workers, with these gates.
 fn hands_of<G: Gate + Drop>(
     alloc: Global,
     seats: &[Seat],
-    gates: Vec<G>,
+    first: G,
+    second: G,
 ) -> Result<Vec<Hand<G>>, Other> {
+    let (Some(one), Some(two)) = (seats.first(), seats.get(1)) else {
+        return Err(Other::NoBoard);
+    };
     let mut hands = Vec::new(alloc);
-    for gate in gates {
-        let Some(seat) = seats.get(hands.len()) else {
-            return Err(Other::NoBoard);
-        };
-        if hands.push(Hand::new(*seat, gate)).is_err() {
-            return Err(Other::Memory);
-        }
+    if hands.push(Hand::new(*one, first)).is_err() {
+        return Err(Other::Memory);
+    }
+    if hands.push(Hand::new(*two, second)).is_err() {
+        return Err(Other::Memory);
     }
     Ok(hands)
 }
@@ -141,14 +143,16 @@ fn outcome_of<G: Gate>(
 }
 
 /// What a board of two workers with these gates comes to by the rows, of which each is to go as it says.
+/// The puts of these numbers into its journal fail, from 1.
 pub(crate) fn outcome_by<G: Gate + Drop>(
     alloc: Global,
     fail: Vec<u64>,
-    gates: Vec<G>,
+    first: G,
+    second: G,
     rows: &[Row],
 ) -> Result<Outcome<SmallStep, MemSink>, Other> {
     let (mut board, seats) = new_board(alloc, fail)?;
-    let mut hands = hands_of(alloc, &seats, gates)?;
+    let mut hands = hands_of(alloc, &seats, first, second)?;
     match first_other(&mut board, &mut hands, rows) {
         Some(index) => Err(Other::Row(index)),
         None => outcome_of(alloc, board, &hands),

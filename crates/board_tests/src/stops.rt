@@ -27,10 +27,9 @@ fn keeps_the_fault_of_a_script(rt: HostRuntime) -> Result<(), Fail> {
     let alloc = rt.alloc();
     let mut answers = Vec::new(alloc);
     answers.push(Said::Yes)?;
-    let mut gates = Vec::new(alloc);
-    gates.push(ListGate::new(alloc, answers, Said::Fail))?;
-    gates.push(ListGate::new(alloc, Vec::new(alloc), Said::No))?;
-    let outcome = outcome_by(alloc, Vec::new(alloc), gates, &FAILS)?;
+    let first = ListGate::new(alloc, answers, Said::Fail);
+    let second = ListGate::new(alloc, Vec::new(alloc), Said::No);
+    let outcome = outcome_by(alloc, Vec::new(alloc), first, second, &FAILS)?;
     assert_eq!(rt; outcome.fault, Some(PoolFault::Script { worker: 1 }));
     assert_eq!(rt; outcome.events.len(), 3);
     assert_eq!(rt;
@@ -53,10 +52,9 @@ fn makes_a_record_that_cannot_be_written(rt: HostRuntime) -> Result<(), Fail> {
     let alloc = rt.alloc();
     let mut fail = Vec::new(alloc);
     fail.push(3)?;
-    let mut gates = Vec::new(alloc);
-    gates.push(RuleGate::<98>::new(alloc, false))?;
-    gates.push(RuleGate::<98>::new(alloc, false))?;
-    let outcome = outcome_by(alloc, fail, gates, &UNWRITTEN)?;
+    let first = RuleGate::<98>::new(alloc, false);
+    let second = RuleGate::<98>::new(alloc, false);
+    let outcome = outcome_by(alloc, fail, first, second, &UNWRITTEN)?;
     assert_eq!(rt; outcome.fault, Some(PoolFault::Journal));
     assert_eq!(rt; outcome.events.len(), 1);
     assert_eq!(rt;

@@ -33,10 +33,9 @@ const ROWS: [Row; 17] = [
 #[test]
 fn commits_in_the_order_of_the_front(rt: HostRuntime) -> Result<(), Fail> {
     let alloc = rt.alloc();
-    let mut gates = Vec::new(alloc);
-    gates.push(RuleGate::<98>::new(alloc, false))?;
-    gates.push(RuleGate::<98>::new(alloc, false))?;
-    let outcome = outcome_by(alloc, Vec::new(alloc), gates, &ROWS)?;
+    let first = RuleGate::<98>::new(alloc, false);
+    let second = RuleGate::<98>::new(alloc, false);
+    let outcome = outcome_by(alloc, Vec::new(alloc), first, second, &ROWS)?;
     assert_eq!(rt; outcome.journal.bytes(), JOURNAL);
     assert_eq!(rt; outcome.events.len(), 11);
     assert_eq!(rt; outcome.fault, None);
