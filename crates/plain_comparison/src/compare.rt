@@ -8,6 +8,7 @@ ghost use Rattle.plain_comparison.specs.Ends.{EndsAs};
 use crate::parts::{found, tree_parts};
 use compat_table::compat;
 use faults::Memory;
+use grammar_input::ParsedInput;
 use grammar_tree::Checked;
 use plain_agreement::agrees_with_plain;
 use plain_reducer::{Mode, Problem, Reduction, VerdictRule, reduced};
@@ -28,15 +29,13 @@ pub struct Case<'a> {
     pub squeezes: bool,
 }
 
-/// The plain reduction; None where the start isn't in the grammar's language.
-fn plain_reduction(
+/// The plain reduction of what was found in the start.
+fn plain_of(
     alloc: Global,
     case: Case,
     rule: VerdictRule,
+    found: &ParsedInput,
 ) -> Result<Option<Reduction>, Memory> {
-    let Some(found) = found(alloc, case.grammar, case.start)? else {
-        return Ok(None);
-    };
     let compat = compat(alloc, found.tree.normal())?;
     let plain = reduced(Problem {
         alloc,
@@ -49,6 +48,18 @@ fn plain_reduction(
         squeezes: case.squeezes,
     })?;
     Ok(Some(plain))
+}
+
+/// The plain reduction; None where the start isn't in the grammar's language.
+fn plain_reduction(
+    alloc: Global,
+    case: Case,
+    rule: VerdictRule,
+) -> Result<Option<Reduction>, Memory> {
+    match found(alloc, case.grammar, case.start)? {
+        Some(found) => plain_of(alloc, case, rule, &found),
+        None => Ok(None),
+    }
 }
 
 /// Whether the reducer does what the plain one did.
@@ -70,6 +81,21 @@ fn summary(alloc: Global, plain: &Reduction) -> Result<String, Memory> {
     Ok(format!(in alloc; "{questions} questions, {rounds} rounds, {units} tokens: \"{text}\"")?)
 }
 
+/// What the plain reduction came to, where the reducer does the same, or that they differ.
+fn comparison(
+    alloc: Global,
+    case: Case,
+    rule: VerdictRule,
+    plain: &Reduction,
+) -> Result<Option<String>, Memory> {
+    let text = if agrees(alloc, case, rule, plain)? {
+        summary(alloc, plain)?
+    } else {
+        String::from_str(alloc, "the reducers differ")?
+    };
+    Ok(Some(text))
+}
+
 /// Reduces a text by both reducers, and says what both come to, or that they differ; None where it isn't
 /// in the grammar's language, or has more than 1,048,576 bytes.
 pub fn answer(alloc: Global, case: Case) -> Result<Option<String>, Memory> {
@@ -77,12 +103,8 @@ pub fn answer(alloc: Global, case: Case) -> Result<Option<String>, Memory> {
         start: case.start.as_bytes(),
         seed: case.seed,
     };
-    let Some(plain) = plain_reduction(alloc, case, rule)? else {
-        return Ok(None);
-    };
-    if agrees(alloc, case, rule, &plain)? {
-        Ok(Some(summary(alloc, &plain)?))
-    } else {
-        Ok(Some(String::from_str(alloc, "the reducers differ")?))
+    match plain_reduction(alloc, case, rule)? {
+        Some(plain) => comparison(alloc, case, rule, &plain),
+        None => Ok(None),
     }
 }
