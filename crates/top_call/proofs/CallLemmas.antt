@@ -1,18 +1,19 @@
 -- Where memory ran out before the words were read, that is how the command ends that they ask for.
-use Rattle.std.proofs.Common.{◌≡◌, ◌≢◌, ◌∙◌, ℕ, List, [], ◌∷◌, Option, None, Some, option_map, refl, sym, ap, subst}
+use Rattle.std.proofs.Common.{◌≡◌, ◌≢◌, ◌⊎◌, ◌∙◌, inl, inr, ℕ, List, [], ◌∷◌, Option, None, Some, refl, sym, ap, subst}
 use Rattle.std.proofs.lemmas.Bool.{false≢true}
 use Rattle.script_gate.specs.declared.gate.Verdict.{Verdict}
 use Rattle.command_words.specs.Commands.{Command, GrammarSource, ReduceOptions, SelftestOptions}
 use Rattle.command_words.specs.Lines.{command_read}
 use Rattle.command_words.specs.declared.commands.CommandLine.{CommandLine}
-use Rattle.top_call.specs.declared.status.Refusal.TheVariants.{Memory}
-use Rattle.top_call.specs.Call.{RunsCommand}
-use Rattle.top_call.specs.Journal.{JournalSoFar}
+use Rattle.command_ends.specs.declared.status.Refusal.TheVariants.{Memory, Usage}
+use Rattle.command_ends.specs.declared.status.Refusal.{Refusal}
+use Rattle.top_call.specs.Call.{RunsCommand, WordsFail}
+use Rattle.reduce_calls.specs.Journal.{JournalSoFar}
 use Rattle.top_call.specs.Normal.{NormalEnds, PrintsNormal}
 use Rattle.top_call.specs.Reduce.{ReduceEnds, Reduces}
 use Rattle.top_call.specs.Selftest.{RunsSelftest, SelftestEnds}
-use Rattle.top_call.specs.Status.{EndsRefused, IsOneOf}
-use Rattle.top_call.specs.World.{NotReached, SeenFiles, SeenOut, World}
+use Rattle.command_ends.specs.Status.{EndsRefused, IsOneOf}
+use Rattle.command_ends.specs.World.{NotReached, SeenFiles, SeenOut, World}
 use Rattle.top_call.proofs.CommandLemmas.{none_sound}
 use Rattle.top_call.proofs.NormalLemmas.{prints_normal}
 use Rattle.top_call.proofs.NormalByStatusLemmas.{normal_by_status}
@@ -69,6 +70,25 @@ module _ (may_say : List ℕ → Verdict → Type 0) (old : World) (out : SeenOu
   runs_unread status end command =
       subst (λ (s : ℕ). RunsCommand may_say old new s command) (sym end.status_is) (ends_unread (record { status_is = refl; line = end.line }) command)
 
+  -- how the command ends where no command line was read
+  pub runs_refused : (status : ℕ) (command : Option Command) (refusal : Refusal) → WordsFail command refusal → EndsRefused old.out out status refusal → RunsCommand may_say old new status command
+  runs_refused status command Memory why end = runs_unread status end command
+  runs_refused status command Usage why end =
+      subst (RunsCommand may_say old new status) (sym why) (RunsCommand.usage (record { status_is = end.status_is; files = refl; untouched = untouched; line = end.line }))
+  runs_refused status command _ why end = absurd why
+
+-- the status of bad usage is that of words that are no command line
+pub refused_usage : (out out' : SeenOut) (status : ℕ) (command : Option Command) (refusal : Refusal) → WordsFail command refusal → EndsRefused out out' status refusal → status ≡ 2 → command ≡ None
+refused_usage out out' status command Memory why end two = absurd (cc (sym end.status_is ∙ two))
+refused_usage out out' status command Usage why end two = why
+refused_usage out out' status command _ why end two = absurd why
+
+-- and no command line that wasn't read ends otherwise, but where memory ran out
+pub refused_status : (out out' : SeenOut) (status : ℕ) (command : Option Command) (refusal : Refusal) → WordsFail command refusal → EndsRefused out out' status refusal → (status ≡ 2) ⊎ (status ≡ 1)
+refused_status out out' status command Memory why end = inr end.status_is
+refused_status out out' status command Usage why end = inl end.status_is
+refused_status out out' status command _ why end = absurd why
+
 -- no command ends as words do that are none
 pub reduce_not_usage : (options : ReduceOptions) (may_say : List ℕ → Verdict → Type 0) (old new : World) (status : ℕ) → Reduces options may_say old new status → status ≢ 2
 reduce_not_usage options may_say old new status runs two =
@@ -87,5 +107,5 @@ selftest_not_usage options out out' status runs = at runs.ends
     at (SelftestEnds.unput text summary put) is = cc is
 
 -- the command that was read is what the words ask for
-pub line_is : (found : Option CommandLine) (one line : CommandLine) (of_words : Option Command) → found ≡ Some one → one ≡ line → option_map command_read found ≡ of_words → Some (command_read line) ≡ of_words
-line_is found one line of_words is same all = sym (ap (option_map command_read) (is ∙ ap Some same)) ∙ all
+pub line_is : (one line : CommandLine) (of_words : Option Command) → one ≡ line → Some (command_read one) ≡ of_words → Some (command_read line) ≡ of_words
+line_is one line of_words same all = ap (λ (l : CommandLine). Some (command_read l)) (sym same) ∙ all

@@ -12,8 +12,8 @@ use Rattle.script_gate.specs.Log.{with_opening}
 use Rattle.verdict_table.specs.declared.record.Record.{Record}
 use Rattle.verdict_table.specs.TableState.{texts_of}
 use Rattle.grammar_input.specs.Laws.{InputFaultOnce, InputsAreInLanguage}
-use Rattle.top_call.specs.declared.status.Refusal.{Refusal}
-use Rattle.top_call.specs.declared.status.Refusal.TheVariants.{Memory, CannotRead, CannotWrite, Grammar, KeepMissing, NoParse, TooLong, Uncut}
+use Rattle.command_ends.specs.declared.status.Refusal.{Refusal}
+use Rattle.command_ends.specs.declared.status.Refusal.TheVariants.{Memory, CannotRead, CannotWrite, Grammar, KeepMissing, NoParse, TooLong, Uncut}
 use Rattle.problem_run.specs.Problem.{Problem, start_of}
 use Rattle.problem_run.specs.Ends.{AreOf, IsRefused, IsUnfinished, ProblemEnds, ReducesFrom, RunFails}
 use Rattle.problem_run.specs.Read.{IsReadAs, start_read}
@@ -27,18 +27,19 @@ use Rattle.gated_run.specs.RunEnds.{NoneFailed}
 use Rattle.script_gate.specs.declared.gate.GateFault.{GateFault}
 use Rattle.script_gate.specs.declared.gate.GateFault.TheVariants.{Failed as GateFailed, Memory as GateMemory}
 use Rattle.top_call.specs.Reduce.{Inside, IsHistoryOfInput, ProblemAccepted, ProblemFails, ProblemRead, RecordsAreSound, ReduceEnds, ReduceFails, ReduceReports, ReduceSteps, Reduces, ReducesTo, beside, opening_for}
-use Rattle.top_call.specs.Journal.{JournalSoFar, JournalUntouched, JournalWhole}
+use Rattle.reduce_calls.specs.Journal.{JournalSoFar, JournalUntouched, JournalWhole}
 use Rattle.top_call.specs.Read.{AcceptFails, KeepRefused}
-use Rattle.top_call.specs.Run.{JournalAfter, StartLeaves, Unopened, WriteEnds}
+use Rattle.top_call.specs.Run.{JournalAfter, StartLeaves, Unopened}
+use Rattle.reduce_calls.specs.Calls.{WriteEnds}
 use Rattle.top_call.specs.Reduce.ReduceEnds.{done, memory, unread, unwritten, faulty, no_token, unparsed, uninteresting, unput, keep_missing, too_long, script, journal}
 use Rattle.gated_run.specs.declared.fault.RunFault.{RunFault}
 use Rattle.gated_run.specs.declared.fault.RunFault.TheVariants as run
 use Rattle.gated_run.specs.Records.{AreAnswers}
 use Rattle.one_worker.specs.RunHistory.{with_all_asked}
-use Rattle.top_call.specs.Status.{EndsRefused, EndsWithAnswer, refusal_of_run}
+use Rattle.command_ends.specs.Status.{EndsRefused, EndsWithAnswer, refusal_of_run}
 use Rattle.command_words.specs.Commands.{ReduceOptions}
-use Rattle.top_call.specs.Words.{file_name_of}
-use Rattle.top_call.specs.World.{FilesKept, IsQuiet, PutsLine, NotReached, SeenFiles, SeenGate, SeenJournal, SeenOut}
+use Rattle.reduce_calls.specs.FileName.{file_name_of}
+use Rattle.command_ends.specs.World.{FilesKept, IsQuiet, PutsLine, NotReached, SeenFiles, SeenGate, SeenJournal, SeenOut}
 use Rattle.top_call.proofs.MustEndLemmas.{must_end}
 use Rattle.top_call.proofs.ProblemLemmas.{accepted_as, any_problem, problem_map}
 

@@ -8,14 +8,14 @@ use Rattle.checked_grammar.specs.Answer.{IsGrammarFault, Spells}
 use Rattle.checked_grammar.specs.Message.{fault_text}
 use Rattle.checked_grammar.specs.declared.fault.GrammarFault.{GrammarFault}
 use Rattle.checked_grammar.specs.declared.fault.GrammarFault.TheVariants as grammar_fault
-use Rattle.top_call.specs.declared.status.Refusal.{Refusal}
-use Rattle.top_call.specs.declared.status.Refusal.TheVariants.{Memory, CannotRead, Grammar, TooLong}
-use Rattle.top_call.specs.declared.status.NamedFile.TheVariants as read_file
+use Rattle.command_ends.specs.declared.status.Refusal.{Refusal}
+use Rattle.command_ends.specs.declared.status.Refusal.TheVariants.{Memory, CannotRead, Grammar, TooLong}
+use Rattle.command_ends.specs.declared.status.NamedFile.TheVariants as read_file
 use Rattle.top_call.specs.Grammar.{GrammarFails, GrammarRead, IsFaultRefusal, IsGrammarText, SpellsTheGrammar}
-use Rattle.top_call.specs.Status.{IsGrammarRefusal, ReadFails}
+use Rattle.command_ends.specs.Status.{IsGrammarRefusal, ReadFails}
 use Rattle.command_words.specs.Commands.{GrammarSource}
-use Rattle.top_call.specs.Words.{start_name}
-use Rattle.top_call.specs.World.{IsQuiet, SeenFiles, grammar_limit}
+use Rattle.top_call.specs.Grammar.{start_name}
+use Rattle.command_ends.specs.World.{IsQuiet, SeenFiles, grammar_limit}
 
 -- a function of what was mapped is one of the option
 pub mapped_twice : {A B C : Type 0} (h : B → C) (g : A → B) (o : Option A) → option_map (λ a. h (g a)) o ≡ option_map h (option_map g o)

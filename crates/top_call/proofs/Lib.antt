@@ -1,5 +1,3 @@
-pub mod NameLemmas
-pub mod FileLemmas
 pub mod GrammarLemmas
 pub mod NormalLemmas
 pub mod ProblemLemmas

@@ -2,15 +2,15 @@
 use Rattle.std.proofs.Common.{◌≡◌, ℕ, List, [], ◌∷◌, refl}
 use Rattle.std.proofs.lemmas.Bool.{false≢true}
 use Rattle.edge_io.specs.Files.{IsLonger}
-use Rattle.top_call.specs.declared.status.NamedFile.TheVariants as read_file
-use Rattle.top_call.specs.declared.status.Refusal.TheVariants.{Memory, CannotRead, TooLong}
+use Rattle.command_ends.specs.declared.status.NamedFile.TheVariants as read_file
+use Rattle.command_ends.specs.declared.status.Refusal.TheVariants.{Memory, CannotRead, TooLong}
 use Rattle.top_call.specs.Grammar.{IsFaultIn}
 use Rattle.top_call.specs.Normal.{IsNormalOf, NormalEnds}
 use Rattle.top_call.specs.Normal.NormalEnds.{done, memory, unread, unput, faulty, too_long}
 use Rattle.top_call.specs.NormalByStatus.{NormalByStatus}
-use Rattle.top_call.specs.Status.{IsOneOf, PutsRefusal, fault_line}
+use Rattle.command_ends.specs.Status.{IsOneOf, PutsRefusal, fault_line}
 use Rattle.command_words.specs.Commands.{GrammarSource}
-use Rattle.top_call.specs.World.{PutsPrefix, CallFailed, Puts, PutsLine, SeenFiles, SeenOut, WasRead, grammar_limit}
+use Rattle.command_ends.specs.World.{PutsPrefix, CallFailed, Puts, PutsLine, SeenFiles, SeenOut, WasRead, grammar_limit}
 
 module _ (grammar : GrammarSource) (files files' : SeenFiles) (out out' : SeenOut) where
   abbrev Ends : ℕ → Type 0

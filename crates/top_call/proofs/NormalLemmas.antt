@@ -3,16 +3,16 @@ use Rattle.std.proofs.Common.{inl, inr, ℕ, List, Option, refl, sym, subst, Res
 use Rattle.edge_io.specs.Files.{FileContent, SameFiles}
 use Rattle.grammar_tree.specs.Written.{CheckedGrammar}
 use Rattle.checked_grammar.specs.Answer.{Spells}
-use Rattle.top_call.specs.declared.status.Refusal.{Refusal}
-use Rattle.top_call.specs.declared.status.Refusal.TheVariants.{Memory, CannotRead, Grammar, TooLong}
+use Rattle.command_ends.specs.declared.status.Refusal.{Refusal}
+use Rattle.command_ends.specs.declared.status.Refusal.TheVariants.{Memory, CannotRead, Grammar, TooLong}
 use Rattle.top_call.specs.Grammar.{GrammarFails, GrammarRead, IsGrammarText}
 use Rattle.top_call.specs.Normal.{IsNormalOf, NormalEnds, NormalFails, NormalMustEnd, PrintsNormal}
 use Rattle.top_call.specs.Normal.NormalEnds.{done, memory, unread as cannot_read, unput, faulty, too_long}
-use Rattle.top_call.specs.Status.{EndsRefused, EndsWithAnswer}
+use Rattle.command_ends.specs.Status.{EndsRefused, EndsWithAnswer}
 use Rattle.command_words.specs.Commands.{GrammarSource}
-use Rattle.top_call.specs.Words.{start_name}
-use Rattle.top_call.specs.World.{IsQuiet, PutsLine, SeenFiles, SeenOut, WasRead, grammar_limit}
-use Rattle.top_call.proofs.FileLemmas.{not_both, not_longer, read_not_over, longer_not_missing, read_not_missing}
+use Rattle.top_call.specs.Grammar.{start_name}
+use Rattle.command_ends.specs.World.{IsQuiet, PutsLine, SeenFiles, SeenOut, WasRead, grammar_limit}
+use Rattle.command_ends.proofs.FileLemmas.{not_both, not_longer, read_not_over, longer_not_missing, read_not_missing}
 
 -- the form of a grammar that was read
 pub is_formed : (named : GrammarSource) (content : Option FileContent) (grammar : CheckedGrammar) (text : List ℕ) → GrammarRead named content grammar → ((bytes : List ℕ) → Spells bytes (start_name named) grammar → IsNormalOf named bytes text) → WasRead grammar_limit content (λ bytes. IsNormalOf named bytes text)

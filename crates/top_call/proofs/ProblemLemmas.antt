@@ -13,16 +13,17 @@ use Rattle.grammar_input.specs.declared.fault.InputFault.{InputFault}
 use Rattle.grammar_input.specs.declared.fault.InputFault.TheVariants as input_fault
 use Rattle.problem_run.specs.declared.problem.ReadProblem.{ReadProblem}
 use Rattle.problem_run.specs.declared.problem.ReadProblem.TheVariants as read_problem
-use Rattle.top_call.specs.declared.status.NamedFile.TheVariants as named
+use Rattle.command_ends.specs.declared.status.NamedFile.TheVariants as named
 use Rattle.top_call.specs.Grammar.{GrammarRead, IsFaultIn, IsGrammarText}
 use Rattle.problem_run.specs.Problem.{Problem, start_of}
 use Rattle.problem_run.specs.Read.{IsReadAs, start_read}
 use Rattle.top_call.specs.Reduce.{InputHas, IsReached, IsShownFault, IsShownGrammar, IsTreeProblem, ProblemAccepted, ProblemRead, ReadIn, ShownIn, grammar_in}
-use Rattle.top_call.specs.Status.{IsUncut}
+use Rattle.command_ends.specs.Status.{IsUncut}
 use Rattle.command_words.specs.Commands.{GrammarOptions, GrammarSource, ModeOptions, ReduceOptions}
-use Rattle.top_call.specs.Words.{grammar_mode, start_name}
-use Rattle.top_call.specs.World.{IsOver, IsShownWithin, SeenFiles, WasRead, grammar_limit, input_limit}
-use Rattle.top_call.proofs.FileLemmas.{not_longer, read_not_missing, read_not_over}
+use Rattle.top_call.specs.Mode.{grammar_mode}
+use Rattle.top_call.specs.Grammar.{start_name}
+use Rattle.command_ends.specs.World.{IsOver, IsShownWithin, SeenFiles, WasRead, grammar_limit, input_limit}
+use Rattle.command_ends.proofs.FileLemmas.{not_longer, read_not_missing, read_not_over}
 
 -- what is visible of a file holds of the bytes that were read
 pub shown_holds : (limit : ℕ) (P : List ℕ → Type 0) (content : Option FileContent) → IsShownWithin limit content P → (bytes : List ℕ) → Holds bytes content → P bytes

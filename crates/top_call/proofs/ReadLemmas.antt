@@ -12,16 +12,17 @@ use Rattle.problem_run.specs.declared.problem.ReadProblem.{ReadProblem}
 use Rattle.problem_run.specs.declared.problem.ReadProblem.TheVariants as read
 use Rattle.problem_run.specs.Problem.{start_of}
 use Rattle.problem_run.specs.Read.{IsReadAs, start_read}
-use Rattle.top_call.specs.declared.status.Refusal.{Refusal}
-use Rattle.top_call.specs.declared.status.NamedFile.TheVariants as named
-use Rattle.top_call.specs.declared.status.Refusal.TheVariants.{Memory, CannotRead, Grammar, KeepMissing, NoParse, TooLong, Uncut}
+use Rattle.command_ends.specs.declared.status.Refusal.{Refusal}
+use Rattle.command_ends.specs.declared.status.NamedFile.TheVariants as named
+use Rattle.command_ends.specs.declared.status.Refusal.TheVariants.{Memory, CannotRead, Grammar, KeepMissing, NoParse, TooLong, Uncut}
 use Rattle.top_call.specs.Grammar.{GrammarRead}
 use Rattle.top_call.specs.Read.{GivesTree, KeepRefused, TreeFails}
-use Rattle.top_call.specs.Reduce.{IsReached, KeepFails, ProblemFails, ProblemRead, ReadIn, grammar_in}
-use Rattle.top_call.specs.Status.{IsInputRefusal}
+use Rattle.top_call.specs.Reduce.{IsReached, ProblemFails, ProblemRead, ReadIn, grammar_in}
+use Rattle.command_ends.specs.Status.{IsInputRefusal}
+use Rattle.reduce_calls.specs.Keeps.{KeepFails}
 use Rattle.command_words.specs.Commands.{GrammarOptions, GrammarSource, ModeOptions, ReduceOptions}
-use Rattle.top_call.specs.Words.{grammar_mode}
-use Rattle.top_call.specs.World.{IsQuiet, SeenFiles, grammar_limit, input_limit}
+use Rattle.top_call.specs.Mode.{grammar_mode}
+use Rattle.command_ends.specs.World.{IsQuiet, SeenFiles, grammar_limit, input_limit}
 use Rattle.top_call.proofs.ProblemLemmas.{problem_map, start_as}
 
 -- an input within its limit can be reduced

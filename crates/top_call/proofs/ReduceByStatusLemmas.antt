@@ -8,21 +8,21 @@ use Rattle.grammar_input.specs.Faults.{IsInputFault}
 use Rattle.grammar_input.specs.FaultText.{fault_text}
 use Rattle.grammar_input.specs.declared.fault.InputFault.{InputFault}
 use Rattle.grammar_input.specs.declared.fault.InputFault.TheVariants as input_fault
-use Rattle.top_call.specs.declared.status.NamedFile.{NamedFile}
-use Rattle.top_call.specs.declared.status.NamedFile.TheVariants as named
-use Rattle.top_call.specs.declared.status.Refusal.TheVariants.{Memory, CannotRead, CannotWrite, NoParse, NotInteresting, TooLong, Script, Journal}
+use Rattle.command_ends.specs.declared.status.NamedFile.{NamedFile}
+use Rattle.command_ends.specs.declared.status.NamedFile.TheVariants as named
+use Rattle.command_ends.specs.declared.status.Refusal.TheVariants.{Memory, CannotRead, CannotWrite, NoParse, NotInteresting, TooLong, Script, Journal}
 use Rattle.gated_run.specs.Records.{OnlyNo}
 use Rattle.top_call.specs.Grammar.{IsFaultIn}
 use Rattle.problem_run.specs.Problem.{start_of}
 use Rattle.problem_run.specs.Ends.{IsRefused}
-use Rattle.top_call.specs.Journal.{JournalBroken, JournalSoFar, JournalWhole}
+use Rattle.reduce_calls.specs.Journal.{JournalBroken, JournalSoFar, JournalWhole}
 use Rattle.top_call.proofs.ProblemLemmas.{any_problem}
 use Rattle.top_call.specs.Reduce.{InputHas, IsReached, IsReduced, ProblemRead, ReduceEnds, ReducesTo, ScriptLeaves, limit_of, name_of}
 use Rattle.top_call.specs.Reduce.ReduceEnds.{done, memory, unread, unwritten, unput, faulty, no_token, unparsed, uninteresting, keep_missing, too_long, script, journal}
 use Rattle.top_call.specs.ReduceByStatus.{PutsItsLine, ReduceByStatus}
 use Rattle.command_words.specs.Commands.{GrammarOptions, ModeOptions, ReduceOptions}
-use Rattle.top_call.specs.Status.{IsOneOf, IsUncut, fault_line, keep_text}
-use Rattle.top_call.specs.World.{CallFailed, NotReached, Puts, PutsLine, PutsMessage, PutsPrefix, SeenFiles, WasRead, World, grammar_limit}
+use Rattle.command_ends.specs.Status.{IsOneOf, IsUncut, fault_line, keep_text}
+use Rattle.command_ends.specs.World.{CallFailed, NotReached, Puts, PutsLine, PutsMessage, PutsPrefix, SeenFiles, WasRead, World, grammar_limit}
 
 -- some file is read in each mode
 file_of : (mode : ModeOptions) (files : SeenFiles) → (file : NamedFile) × IsReached mode file files

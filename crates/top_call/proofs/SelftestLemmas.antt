@@ -2,12 +2,12 @@
 use Rattle.std.proofs.Common.{inl, inr, ℕ, refl, sym, subst, Result, Ok, Err, IfOk, IfErr, MatchResult}
 use Rattle.std.specs.Global.{Vec}
 use Rattle.command_words.specs.Commands.{SelftestOptions}
-use Rattle.top_call.specs.declared.status.Refusal.{Refusal}
-use Rattle.top_call.specs.declared.status.Refusal.TheVariants.{Memory}
+use Rattle.command_ends.specs.declared.status.Refusal.{Refusal}
+use Rattle.command_ends.specs.declared.status.Refusal.TheVariants.{Memory}
 use Rattle.top_call.specs.Selftest.{RunsSelftest, SelftestEnds, SelftestFails, SelftestMustEnd, SummarizesCase}
 use Rattle.top_call.specs.Selftest.SelftestEnds.{done, memory, unput}
-use Rattle.top_call.specs.Status.{EndsRefused, EndsWithAnswer, line_of, status_of}
-use Rattle.top_call.specs.World.{PutsLine, SeenOut}
+use Rattle.command_ends.specs.Status.{EndsRefused, EndsWithAnswer, line_of, status_of}
+use Rattle.command_ends.specs.World.{PutsLine, SeenOut}
 
 module _ (options : SelftestOptions) (out out' : SeenOut) where
   -- what gives no summary ends the command

@@ -10,8 +10,8 @@ use Rattle.gated_run.specs.declared.ran.Reduced.{Reduced}
 use Rattle.problem_run.specs.Problem.{Problem}
 use Rattle.problem_run.specs.Ends.{IsUnfinished, ProblemEnds, RunFails}
 use Rattle.problem_run.proofs.ModeLemmas.{unfinished_without}
-use Rattle.top_call.specs.Status.{OpenFails}
-use Rattle.top_call.specs.World.{SeenGate}
+use Rattle.reduce_calls.specs.Calls.{OpenFails}
+use Rattle.command_ends.specs.World.{SeenGate}
 
 module _ (keeps : List (List ℕ)) (problem : Problem) (history : History) where
   -- why the gate wasn't opened is why there is no reduction

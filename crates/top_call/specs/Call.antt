@@ -5,7 +5,9 @@ use Rattle.top_call.specs.Normal.{PrintsNormal}
 use Rattle.top_call.specs.Reduce.{Reduces}
 use Rattle.command_words.specs.Commands.{Command, GrammarSource, ReduceOptions, SelftestOptions}
 use Rattle.top_call.specs.Selftest.{RunsSelftest}
-use Rattle.top_call.specs.World.{NotReached, PutsMessage, World}
+use Rattle.command_ends.specs.declared.status.Refusal.{Refusal}
+use Rattle.command_ends.specs.declared.status.Refusal.TheVariants.{Memory, Usage}
+use Rattle.command_ends.specs.World.{NotReached, PutsMessage, World}
 
 -- the words are no command line: the status is 2, and nothing but its line is put
 pub record EndsUsage (old new : World) (status : ℕ) : Type 0 where
@@ -30,3 +32,9 @@ pub data RunsCommand (may_say : List ℕ → Verdict → Type 0) (old new : Worl
       → RunsCommand may_say old new status (Some (Command.normal grammar))
   selftest : (options : SelftestOptions) → RunsSelftest options old.out new.out status → new.files ≡ old.files → NotReached [] old new
       → RunsCommand may_say old new status (Some (Command.selftest options))
+
+-- why no command line was read: the words are none, or memory ran out
+abbrev pub WordsFail : Option Command → Refusal → Type 0
+WordsFail asked Memory = Unit {0}
+WordsFail asked Usage = asked ≡ None
+WordsFail asked _ = ⊥

@@ -1,5 +1,6 @@
 -- The grammar in a file: that it was read, and why it wasn't.
-use Rattle.std.specs.Prelude.{◌≡◌, ◌≢◌, ℕ, List, Option, Some, string_bytes}
+use Rattle.std.specs.Prelude.{◌≡◌, ◌≢◌, ℕ, List, Option, Some, option_map, string_bytes}
+use Rattle.std.specs.Str.{chars}
 use Rattle.edge_io.specs.Files.{FileContent, IsLonger}
 use Rattle.grammar_tree.specs.Faults.{IsWellFormed, start_of}
 use Rattle.grammar_tree.specs.Written.{CheckedGrammar, WrittenGrammar}
@@ -8,13 +9,16 @@ use Rattle.checked_grammar.specs.Message.{fault_text}
 use Rattle.checked_grammar.specs.Reads.{IsProfile}
 use Rattle.checked_grammar.specs.declared.fault.GrammarFault.{GrammarFault}
 use Rattle.checked_grammar.specs.declared.fault.GrammarFault.TheVariants as grammar_fault
-use Rattle.top_call.specs.declared.status.NamedFile.TheVariants as read
-use Rattle.top_call.specs.declared.status.Refusal.{Refusal}
-use Rattle.top_call.specs.declared.status.Refusal.TheVariants.{Memory, CannotRead, Grammar, TooLong}
-use Rattle.top_call.specs.Status.{fault_line}
+use Rattle.command_ends.specs.declared.status.NamedFile.TheVariants as read
+use Rattle.command_ends.specs.declared.status.Refusal.{Refusal}
+use Rattle.command_ends.specs.declared.status.Refusal.TheVariants.{Memory, CannotRead, Grammar, TooLong}
+use Rattle.command_ends.specs.Status.{fault_line}
 use Rattle.command_words.specs.Commands.{GrammarSource}
-use Rattle.top_call.specs.Words.{start_name}
-use Rattle.top_call.specs.World.{CallFailed, IsQuiet, SeenFiles, WasRead, grammar_limit}
+use Rattle.command_ends.specs.World.{CallFailed, IsQuiet, SeenFiles, WasRead, grammar_limit}
+
+-- the characters of the start rule's name, where one is given
+abbrev pub start_name : GrammarSource → Option (List ℕ)
+start_name grammar = option_map chars grammar.start
 
 -- The bytes spell a grammar that is well-formed for the start rule that is named, or else its first parser rule.
 pub record IsGrammarText (named : GrammarSource) (bytes : List ℕ) : Type 0 where

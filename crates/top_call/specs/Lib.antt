@@ -29,12 +29,14 @@ pub use Rattle.tree_mode.specs.Candidates as TreeCandidates
 pub use Rattle.normal_form.specs.Laws as FormLaws
 pub use Rattle.normal_form.specs.NormalOf
 pub use Rattle.normal_form.specs.Print
+pub use Rattle.command_ends.specs.World
+pub use Rattle.command_ends.specs.Status
+pub use Rattle.reduce_calls.specs.FileName
+pub use Rattle.reduce_calls.specs.Journal
+pub use Rattle.reduce_calls.specs.Calls
 pub mod Selftest
-pub mod Words
-pub mod World
-pub mod Status
+pub mod Mode
 pub mod Grammar
-pub mod Journal
 pub mod Reduce
 pub mod Run
 pub mod Read

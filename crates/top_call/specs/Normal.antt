@@ -6,12 +6,12 @@ use Rattle.checked_grammar.specs.Answer.{Spells}
 use Rattle.normal_form.specs.Laws.{HasEqualLanguages}
 use Rattle.normal_form.specs.NormalOf.{normal_of}
 use Rattle.normal_form.specs.Print.{printed}
-use Rattle.top_call.specs.declared.status.Refusal.{Refusal}
+use Rattle.command_ends.specs.declared.status.Refusal.{Refusal}
 use Rattle.top_call.specs.Grammar.{IsFaultIn, IsGrammarText}
-use Rattle.top_call.specs.Status.{fault_line, line_of, status_of}
+use Rattle.command_ends.specs.Status.{fault_line, line_of, status_of}
 use Rattle.command_words.specs.Commands.{GrammarSource}
-use Rattle.top_call.specs.Words.{start_name}
-use Rattle.top_call.specs.World.{PutsPrefix, CallFailed, IsOver, IsQuiet, IsShownWithin, Puts, PutsLine, PutsMessage, SeenFiles, SeenOut, WasRead, grammar_limit}
+use Rattle.top_call.specs.Grammar.{start_name}
+use Rattle.command_ends.specs.World.{PutsPrefix, CallFailed, IsOver, IsQuiet, IsShownWithin, Puts, PutsLine, PutsMessage, SeenFiles, SeenOut, WasRead, grammar_limit}
 
 -- The text is the printed normal form of the grammar that the bytes spell, with the start rule that is named, or else its first parser rule, and the two have the same languages.
 pub record IsNormalOf (named : GrammarSource) (bytes text : List ℕ) : Type 0 where

@@ -1,12 +1,12 @@
 -- What each status of `normal` means, read off how it ends.
 use Rattle.std.specs.Prelude.{◌≡◌, ℕ, List, [], ◌∷◌}
 use Rattle.edge_io.specs.Files.{IsLonger}
-use Rattle.top_call.specs.declared.status.NamedFile.TheVariants as read
+use Rattle.command_ends.specs.declared.status.NamedFile.TheVariants as read
 use Rattle.top_call.specs.Grammar.{IsFaultIn}
 use Rattle.top_call.specs.Normal.{IsNormalOf, NormalEnds}
-use Rattle.top_call.specs.Status.{IsOneOf, PutsRefusal, fault_line}
+use Rattle.command_ends.specs.Status.{IsOneOf, PutsRefusal, fault_line}
 use Rattle.command_words.specs.Commands.{GrammarSource}
-use Rattle.top_call.specs.World.{PutsPrefix, CallFailed, Puts, PutsLine, SeenFiles, SeenOut, WasRead, grammar_limit}
+use Rattle.command_ends.specs.World.{PutsPrefix, CallFailed, Puts, PutsLine, SeenFiles, SeenOut, WasRead, grammar_limit}
 
 -- What `normal` has done, by the number of its status.
 pub record NormalMeans (grammar : GrammarSource) (files files' : SeenFiles) (out out' : SeenOut) (status : ℕ) : Type 0 where

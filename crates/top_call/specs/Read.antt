@@ -11,14 +11,14 @@ use Rattle.grammar_input.specs.Faults.{IsInputFault}
 use Rattle.grammar_input.specs.FaultText.{fault_text}
 use Rattle.grammar_input.specs.declared.fault.InputFault.{InputFault}
 use Rattle.grammar_input.specs.declared.fault.InputFault.TheVariants as input_fault
-use Rattle.top_call.specs.declared.status.NamedFile.TheVariants as named
-use Rattle.top_call.specs.declared.status.Refusal.{Refusal}
-use Rattle.top_call.specs.declared.status.Refusal.TheVariants.{Memory, CannotRead, TooLong, Grammar, Uncut, NoParse, KeepMissing}
+use Rattle.command_ends.specs.declared.status.NamedFile.TheVariants as named
+use Rattle.command_ends.specs.declared.status.Refusal.{Refusal}
+use Rattle.command_ends.specs.declared.status.Refusal.TheVariants.{Memory, CannotRead, TooLong, Grammar, Uncut, NoParse, KeepMissing}
 use Rattle.top_call.specs.Grammar.{GrammarFails, GrammarRead}
 use Rattle.top_call.specs.Reduce.{ProblemFails, ProblemRead}
-use Rattle.top_call.specs.Status.{IsKeepRefusal, IsUncut}
+use Rattle.command_ends.specs.Status.{IsKeepRefusal, IsUncut}
 use Rattle.command_words.specs.Commands.{GrammarSource, ReduceOptions}
-use Rattle.top_call.specs.World.{CallFailed, IsQuiet, SeenFiles, WasRead, input_limit, line_of_text}
+use Rattle.command_ends.specs.World.{CallFailed, IsQuiet, SeenFiles, WasRead, input_limit, line_of_text}
 
 -- The grammar was read, and the input, of whose text what was found makes the input of a reduction.
 pub record GivesTree (named : GrammarSource) (grammar input : Option FileContent) (found : ParsedInput) : Type 0 where

@@ -11,7 +11,7 @@ use Rattle.verdict_table.specs.declared.record.Record.{Record}
 use Rattle.reduce_journal.specs.History.{History, records_of}
 use Rattle.reduce_journal.specs.Report.{report_text}
 use Rattle.reduce_journal.specs.declared.counts.Counts.{Counts}
-use Rattle.top_call.specs.Journal.{JournalBroken, JournalSoFar, JournalUntouched, JournalWhole}
+use Rattle.reduce_calls.specs.Journal.{JournalBroken, JournalSoFar, JournalUntouched, JournalWhole}
 use Rattle.verdict_table.specs.TableState.{texts_of}
 use Rattle.keep_guard.specs.Keep.{first_missing, holds_all, keeps_admit}
 use Rattle.gated_run.specs.Records.{FirstIsNo}
@@ -24,17 +24,19 @@ use Rattle.grammar_input.specs.Faults.{IsInputFault}
 use Rattle.grammar_input.specs.FaultText.{fault_text}
 use Rattle.grammar_input.specs.declared.fault.InputFault.{InputFault}
 use Rattle.grammar_input.specs.declared.fault.InputFault.TheVariants as input_fault
-use Rattle.top_call.specs.declared.status.NamedFile.{NamedFile}
-use Rattle.top_call.specs.declared.status.NamedFile.TheVariants as named
+use Rattle.command_ends.specs.declared.status.NamedFile.{NamedFile}
+use Rattle.command_ends.specs.declared.status.NamedFile.TheVariants as named
 use Rattle.top_call.specs.Grammar.{GrammarFails, GrammarRead, IsFaultIn, IsGrammarText}
 use Rattle.problem_run.specs.Problem.{Problem, start_of}
 use Rattle.problem_run.specs.Ends.{AreOf, IsRefused, IsUnfinished, ReducesFrom}
-use Rattle.top_call.specs.declared.status.Refusal.{Refusal}
-use Rattle.top_call.specs.declared.status.Refusal.TheVariants.{Memory, CannotRead, Grammar, KeepMissing, NoParse, TooLong, Uncut}
-use Rattle.top_call.specs.Status.{IsKeepRefusal, IsOneOf, IsUncut, fault_line, keep_text, line_of, status_of, word_for}
+use Rattle.command_ends.specs.declared.status.Refusal.{Refusal}
+use Rattle.command_ends.specs.declared.status.Refusal.TheVariants.{Memory, CannotRead, Grammar, NoParse, TooLong, Uncut}
+use Rattle.command_ends.specs.Status.{IsOneOf, IsUncut, fault_line, keep_text, line_of, status_of, word_for}
 use Rattle.command_words.specs.Commands.{GrammarOptions, GrammarSource, ModeOptions, ReduceOptions}
-use Rattle.top_call.specs.Words.{file_name_of, grammar_mode, start_name}
-use Rattle.top_call.specs.World.{CallFailed, FilesKept, IsOver, IsQuiet, IsShownWithin, NotReached, Puts, PutsLine, PutsMessage, PutsPrefix, SeenFiles, SeenGate, SeenJournal, SeenOut, WasRead, World, grammar_limit, input_limit, line_of_text}
+use Rattle.reduce_calls.specs.FileName.{file_name_of}
+use Rattle.top_call.specs.Mode.{grammar_mode}
+use Rattle.top_call.specs.Grammar.{start_name}
+use Rattle.command_ends.specs.World.{CallFailed, FilesKept, IsOver, IsQuiet, IsShownWithin, NotReached, Puts, PutsLine, PutsMessage, PutsPrefix, SeenFiles, SeenGate, SeenJournal, SeenOut, WasRead, World, grammar_limit, input_limit, line_of_text}
 
 -- The input is made of this text by this grammar, what is admitted is what has each keep text, and the squeezed text of the whole is tried or not.
 pub record IsTreeProblem (keeps : List (List ℕ)) (grammar : CheckedGrammar) (squeeze : Bool) (text : List ℕ) (input : TreeInput) : Type 0 where
@@ -302,12 +304,6 @@ ProblemFails options files files' (Uncut line) =
 ProblemFails options files files' NoParse =
     (trees : GrammarOptions) × (options.mode ≡ ModeOptions.by_grammar trees) × InputHas trees.grammar (λ c bytes. IsInputFault c bytes input_fault.NoParse) options files × IsQuiet files files'
 ProblemFails options files files' _ = ⊥
-
--- why an input wasn't accepted: this keep text is the first that doesn't occur in it, or out of memory
-abbrev pub KeepFails : List (List ℕ) → List ℕ → Refusal → Type 0
-KeepFails keeps start Memory = Unit {0}
-KeepFails keeps start (KeepMissing line) = (index : ℕ) × (first_missing keeps start ≡ Some index) × IsKeepRefusal (index + 1) (KeepMissing line)
-KeepFails keeps start _ = ⊥
 
 -- What `reduce` reaches, without `out`.
 pub record Inside : Type 0 where

@@ -4,18 +4,18 @@ use Rattle.keep_guard.specs.Keep.{first_missing}
 use Rattle.edge_io.specs.Files.{IsLonger, SameFiles, SameOthers}
 use Rattle.reduce_journal.specs.History.{History, records_of}
 use Rattle.gated_run.specs.Records.{OnlyNo}
-use Rattle.top_call.specs.Journal.{JournalBroken, JournalSoFar, JournalWhole}
+use Rattle.reduce_calls.specs.Journal.{JournalBroken, JournalSoFar, JournalWhole}
 use Rattle.grammar_input.specs.Faults.{IsInputFault}
 use Rattle.grammar_input.specs.FaultText.{fault_text}
 use Rattle.grammar_input.specs.declared.fault.InputFault.{InputFault}
 use Rattle.grammar_input.specs.declared.fault.InputFault.TheVariants as input_fault
-use Rattle.top_call.specs.declared.status.NamedFile.{NamedFile}
+use Rattle.command_ends.specs.declared.status.NamedFile.{NamedFile}
 use Rattle.top_call.specs.Grammar.{IsFaultIn}
 use Rattle.problem_run.specs.Problem.{start_of}
 use Rattle.top_call.specs.Reduce.{InputHas, IsReached, IsReduced, ProblemRead, ReduceEnds, ReducesTo, ScriptLeaves, limit_of, name_of}
-use Rattle.top_call.specs.Status.{IsOneOf, IsUncut, PutsRefusal, fault_line, keep_text}
+use Rattle.command_ends.specs.Status.{IsOneOf, IsUncut, PutsRefusal, fault_line, keep_text}
 use Rattle.command_words.specs.Commands.{GrammarOptions, ModeOptions, ReduceOptions}
-use Rattle.top_call.specs.World.{CallFailed, NotReached, Puts, PutsLine, PutsMessage, PutsPrefix, SeenFiles, SeenOut, WasRead, World, grammar_limit}
+use Rattle.command_ends.specs.World.{CallFailed, NotReached, Puts, PutsLine, PutsMessage, PutsPrefix, SeenFiles, SeenOut, WasRead, World, grammar_limit}
 
 -- the line was put of a refusal that has this status, and names a file that is read if it names one
 abbrev pub PutsItsLine : ModeOptions → SeenFiles → SeenOut → SeenOut → ℕ → Type 0

@@ -2,10 +2,10 @@
 use Rattle.std.specs.Prelude.{◌≡◌, ◌⊎◌, ℕ, List, codes}
 use Rattle.case_reduction.specs.Summary.{IsSummary}
 use Rattle.command_words.specs.Commands.{SelftestOptions}
-use Rattle.top_call.specs.Words.{grammar_mode}
-use Rattle.top_call.specs.World.{CallFailed, IsQuiet, Puts, PutsMessage, PutsPrefix, SeenOut}
-use Rattle.top_call.specs.declared.status.Refusal.{Refusal}
-use Rattle.top_call.specs.declared.status.Refusal.TheVariants.{Memory}
+use Rattle.top_call.specs.Mode.{grammar_mode}
+use Rattle.command_ends.specs.World.{CallFailed, IsQuiet, Puts, PutsMessage, PutsPrefix, SeenOut}
+use Rattle.command_ends.specs.declared.status.Refusal.{Refusal}
+use Rattle.command_ends.specs.declared.status.Refusal.TheVariants.{Memory}
 
 -- the text is the summary of the reduction of the program of the number and the size, in the mode
 abbrev pub SummarizesCase : SelftestOptions → List ℕ → Type 0

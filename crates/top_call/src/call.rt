@@ -1,19 +1,32 @@
 //! The top call.
 
-ghost use Rattle.std.specs.Prelude.{◌≡◌, ◌⊎◌, None, map, string_bytes};
-ghost use Rattle.top_call.specs.Call.{RunsCommand};
+ghost use Rattle.std.specs.Prelude.{◌≡◌, ◌⊎◌, None, Some, IfErr, IfOk, map, string_bytes};
+ghost use Rattle.top_call.specs.Call.{RunsCommand, WordsFail};
 ghost use Rattle.command_words.specs.Commands.{command_line_of};
-ghost use Rattle.top_call.specs.World.{seen};
+ghost use Rattle.command_words.specs.Lines.{IsSized, command_read};
+ghost use Rattle.command_ends.specs.World.{seen};
 
-use crate::end::{Ended, end_refused};
 use crate::normal::normal;
 use crate::reduce::reduce;
 use crate::selftest::selftest;
-use crate::status::Refusal;
+use command_ends::{Ended, Refusal, end_refused};
 use command_words::{CommandLine, read_words};
 use edge_io::{Files, Sink};
 use script_gate::Gate;
 use std::alloc::Global;
+
+/// The command line that the words are, or why there is none.
+fn read_line<'a>(alloc: Global, words: &'a [String]) -> Result<CommandLine<'a>, Refusal>
+    ensures line { IfOk result (λ line. Some (command_read line) ≡ command_line_of (map string_bytes words.entry.now)) }
+    ensures size { IfOk result IsSized }
+    ensures refused { IfErr result (WordsFail (command_line_of (map string_bytes words.entry.now))) }
+{
+    match read_words(alloc, words) {
+        Err(_) => Err(Refusal::Memory),
+        Ok(None) => Err(Refusal::Usage),
+        Ok(Some(line)) => Ok(line),
+    }
+}
 
 /// Does what the words ask for. What it promises at each status is stated with the command:
 /// `ReduceEnds` for `reduce`, `NormalEnds` for `normal`, `SelftestEnds` for `selftest`. Words that are
@@ -34,21 +47,17 @@ pub fn perses<F: Files, G: Gate, J: Sink + Drop, O: Sink>(
     ensures usage { result.status ≡ 2 → command_line_of (map string_bytes words.now) ≡ None }
     ensures no_other { command_line_of (map string_bytes words.now) ≡ None → (result.status ≡ 2) ⊎ (result.status ≡ 1) }
 {
-    match read_words(alloc, words) {
-        Err(_) => Ended {
-            status: end_refused(out, &Refusal::Memory),
+    match read_line(alloc, words) {
+        Err(refusal) => Ended {
+            status: end_refused(out, &refusal),
             journal,
         },
-        Ok(None) => Ended {
-            status: end_refused(out, &Refusal::Usage),
-            journal,
-        },
-        Ok(Some(CommandLine::Reduce(line))) => reduce(alloc, &line, files, gate, journal, out),
-        Ok(Some(CommandLine::Normal(grammar))) => Ended {
+        Ok(CommandLine::Reduce(line)) => reduce(alloc, &line, files, gate, journal, out),
+        Ok(CommandLine::Normal(grammar)) => Ended {
             status: normal(alloc, grammar, files, out),
             journal,
         },
-        Ok(Some(CommandLine::Selftest(line))) => Ended {
+        Ok(CommandLine::Selftest(line)) => Ended {
             status: selftest(alloc, line, out),
             journal,
         },

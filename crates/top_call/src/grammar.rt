@@ -1,14 +1,14 @@
 //! Reading the grammar that a command line names.
 
-ghost use Rattle.std.specs.Prelude.{◌≤◌, IfErr, IfOk, OnOk, length};
+ghost use Rattle.std.specs.Prelude.{◌≡◌, ◌≤◌, IfErr, IfOk, OnOk, length, option_map};
+ghost use Rattle.std.specs.Str.{chars};
 ghost use Rattle.edge_io.specs.Files.{SameFiles};
 ghost use Rattle.command_words.specs.Lines.{grammar_read};
-ghost use Rattle.top_call.specs.Grammar.{GrammarFails, GrammarRead, IsFaultRefusal, SpellsTheGrammar};
-ghost use Rattle.top_call.specs.World.{IsQuiet, grammar_limit, seen};
+ghost use Rattle.top_call.specs.Grammar.{GrammarFails, GrammarRead, IsFaultRefusal, SpellsTheGrammar, start_name};
+ghost use Rattle.command_ends.specs.World.{IsQuiet, grammar_limit, seen};
 
-use crate::file::read_file;
-use crate::status::{NamedFile, Refusal};
 use checked_grammar::{GrammarFault, checked_grammar};
+use command_ends::{NamedFile, Refusal, read_file};
 use command_words::NamedGrammar;
 use edge_io::Files;
 use grammar_tree::Checked;
@@ -16,6 +16,13 @@ use std::alloc::Global;
 
 /// The longest grammar, in bytes.
 const GRAMMAR_LIMIT: u64 = 1_048_576;
+
+/// The name of the start rule, where one is given.
+fn named_start<'a>(grammar: NamedGrammar<'a>) -> Option<&'a str>
+    ensures { option_map (λ name. chars name.now) result ≡ start_name (grammar_read grammar.entry) }
+{
+    grammar.start
+}
 
 /// The grammar that a text spells, checked, with this start rule, or its first parser rule.
 fn grammar_of_text(
@@ -27,7 +34,7 @@ fn grammar_of_text(
     ensures ok { IfOk result (SpellsTheGrammar (grammar_read grammar.entry) text.now) }
     ensures refused { IfErr result (λ refusal. IsFaultRefusal (grammar_read grammar.entry) text.now refusal) }
 {
-    match checked_grammar(alloc, text, grammar.start) {
+    match checked_grammar(alloc, text, named_start(grammar)) {
         Ok(checked) => Ok(checked),
         Err(GrammarFault::Memory) => Err(Refusal::Memory),
         Err(fault) => Err(Refusal::of_grammar(alloc, &fault)),

@@ -2,8 +2,9 @@
 //!
 //! Enter by [`perses`], whose contract is the program's; read first how `reduce` ends, by its status:
 //! `ReduceEnds` in `specs/Reduce.antt`. Each command is a function in a file of its own and ends at a
-//! status, whose line is in `status.rt`. [`reduce_by_status`] and [`normal_by_status`] say the same by
-//! the numbers of the statuses. So a program runs over the machine's files and processes:
+//! status, whose line is in `command_ends`; what `reduce` opens and writes is in `reduce_calls`.
+//! [`reduce_by_status`] and [`normal_by_status`] say the same by the numbers of the statuses. So a
+//! program runs over the machine's files and processes:
 //!
 //! ```
 //! let mut files = DiskFiles::new(rt.clone()?, rt.alloc());
@@ -15,17 +16,14 @@
 #![tactic(auto)]
 
 mod call;
-mod end;
-mod file;
 mod grammar;
 mod laws;
+mod mode;
 mod normal;
 mod read;
 mod reduce;
 mod selftest;
-mod status;
-mod words;
 
 pub use call::perses;
-pub use end::Ended;
+pub use command_ends::Ended;
 pub use laws::{normal_by_status, reduce_by_status};

@@ -6,12 +6,11 @@ ghost use Rattle.checked_grammar.specs.Answer.{Spells};
 ghost use Rattle.top_call.specs.Normal.{IsNormalOf, NormalFails, PrintsNormal};
 ghost use Rattle.command_words.specs.Commands.{GrammarSource};
 ghost use Rattle.command_words.specs.Lines.{grammar_read};
-ghost use Rattle.top_call.specs.Words.{start_name};
-ghost use Rattle.top_call.specs.World.{IsQuiet, WasRead, grammar_limit, seen};
+ghost use Rattle.top_call.specs.Grammar.{start_name};
+ghost use Rattle.command_ends.specs.World.{IsQuiet, WasRead, grammar_limit, seen};
 
-use crate::end::end_with;
 use crate::grammar::grammar_of_file;
-use crate::status::Refusal;
+use command_ends::{Refusal, end_with};
 use command_words::NamedGrammar;
 use edge_io::{Files, Sink};
 use faults::Memory;

@@ -1,29 +1,23 @@
-//! Reading what is to be reduced: the grammar and the input, and the keep texts, which are looked for
-//! in it.
+//! Reading what is to be reduced: the grammar and the input.
 
-ghost use Rattle.std.specs.Prelude.{◌≡◌, true, IfErr, IfOk, OnOk, map};
+ghost use Rattle.std.specs.Prelude.{◌≡◌, IfErr, IfOk, OnOk};
 ghost use Rattle.edge_io.specs.Files.{SameFiles};
-ghost use Rattle.keep_guard.specs.Keep.{holds_all};
+ghost use Rattle.problem_run.specs.declared.problem.ReadProblem.TheVariants.{Tree};
 ghost use Rattle.problem_run.specs.Read.{IsReadAs, IsReady};
 ghost use Rattle.top_call.specs.Read.{GivesTree, TreeFails};
-ghost use Rattle.top_call.specs.Reduce.{KeepFails, ProblemFails, ProblemRead};
+ghost use Rattle.top_call.specs.Reduce.{ProblemFails, ProblemRead};
 ghost use Rattle.command_words.specs.Lines.{grammar_read, reduce_read};
-ghost use Rattle.top_call.specs.World.{IsQuiet, seen};
+ghost use Rattle.top_call.specs.Mode.{grammar_mode};
+ghost use Rattle.command_ends.specs.World.{IsQuiet, seen};
 
-use crate::file::read_file;
 use crate::grammar::grammar_of_file;
-use crate::status::{NamedFile, Refusal};
-use crate::words::grammar_mode;
-use command_words::{ModeLine, NamedGrammar, ReduceLine};
+use crate::mode::grammar_mode;
+use command_ends::{Refusal, read_input};
+use command_words::{ModeLine, NamedGrammar, ReduceLine, TreeMode};
 use edge_io::Files;
-use faults::Memory;
 use grammar_input::{ParsedInput, parsed_input};
-use keep_guard::{Guard, KeepTexts};
 use problem_run::ReadProblem;
 use std::alloc::Global;
-
-/// The longest input, in bytes.
-const INPUT_LIMIT: u64 = 262_144;
 
 /// What is found in the input by the grammar in a file.
 fn read_tree<F: Files>(
@@ -39,10 +33,21 @@ fn read_tree<F: Files>(
 {
     let checked = grammar_of_file(alloc, grammar, files)?;
     checked.is_checked();
-    let bytes = read_file(files, input, INPUT_LIMIT, NamedFile::Input)?;
+    let bytes = read_input(files, input)?;
     match parsed_input(alloc, &checked, &bytes) {
         Ok(found) => Ok(found),
         Err(fault) => Err(Refusal::of_input(alloc, &fault)),
+    }
+}
+
+/// What was found, to be reduced as the command line says.
+fn tree_problem(found: ParsedInput, mode: TreeMode, squeeze: bool) -> ReadProblem
+    ensures { result ≡ Tree found (grammar_mode mode) squeeze }
+{
+    ReadProblem::Tree {
+        found,
+        mode: grammar_mode(mode),
+        squeeze,
     }
 }
 
@@ -60,44 +65,12 @@ pub fn read_problem<F: Files>(
 {
     match line.mode {
         ModeLine::Lines => {
-            let start = read_file(files, line.input, INPUT_LIMIT, NamedFile::Input)?;
+            let start = read_input(files, line.input)?;
             Ok(ReadProblem::Lines(start))
         }
         ModeLine::ByGrammar(trees) => {
             let found = read_tree(alloc, trees.grammar, line.input, files)?;
-            Ok(ReadProblem::Tree {
-                found,
-                mode: grammar_mode(trees.mode),
-                squeeze: trees.squeeze,
-            })
+            Ok(tree_problem(found, trees.mode, trees.squeeze))
         }
-    }
-}
-
-/// The keep texts of the command line, in their order.
-fn keep_texts<'a>(alloc: Global, texts: &[&'a str]) -> Result<KeepTexts<'a>, Memory>
-    ensures { IfOk result (λ keeps. keeps ≡ map (λ text. text.now) texts.now) }
-{
-    let mut keeps = KeepTexts::new(alloc);
-    for text in texts {
-        keeps.push(text.as_bytes())?;
-    }
-    Ok(keeps)
-}
-
-/// The guard over the keep texts of the command line, each of which occurs in the start.
-pub fn guard_of<'a>(
-    alloc: Global,
-    line: &ReduceLine<'a>,
-    start: &[u8],
-) -> Result<Guard<KeepTexts<'a>>, Refusal>
-    ensures guard { IfOk result (λ guard. guard ≡ (reduce_read line.now).keeps) }
-    ensures kept { IfOk result (λ guard. holds_all guard start.now ≡ true) }
-    ensures refused { IfErr result (λ refusal. KeepFails (reduce_read line.now).keeps start.now refusal) }
-{
-    let keeps = keep_texts(alloc, &line.keeps)?;
-    match keeps.first_missing(start) {
-        None => Ok(Guard::new(keeps)),
-        Some(index) => Err(Refusal::of_keep(alloc, index as u64 + 1)),
     }
 }

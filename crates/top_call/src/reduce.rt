@@ -1,65 +1,31 @@
 //! The command `reduce`, step by step.
 
-ghost use Rattle.std.specs.Prelude.{◌≡◌, true, IfErr, IfOk, OnErr, OnOk, option_map};
+ghost use Rattle.std.specs.Prelude.{◌≡◌, true, IfErr, IfOk, OnOk};
 ghost use Rattle.edge_io.specs.Files.{SameFiles};
 ghost use Rattle.keep_guard.specs.Keep.{holds_all};
 ghost use Rattle.reduce_journal.specs.History.{records_of};
-ghost use Rattle.script_gate.specs.Log.{with_opening};
 ghost use Rattle.gated_run.specs.Records.{AreAnswers};
 ghost use Rattle.problem_run.specs.Problem.{Problem};
 ghost use Rattle.problem_run.specs.Read.{IsReadAs, IsReady, start_read};
 ghost use Rattle.problem_run.specs.Ends.{AreOf, ProblemEnds};
-ghost use Rattle.top_call.specs.Journal.{opened_as};
 ghost use Rattle.top_call.specs.Reduce.{ProblemRead, RecordsAreSound, ReduceSteps, Reduces};
 ghost use Rattle.top_call.specs.Read.{AcceptFails};
-ghost use Rattle.top_call.specs.Run.{JournalAfter, OpeningFails, StartLeaves, WriteEnds};
-ghost use Rattle.top_call.specs.Status.{OpenFails};
+ghost use Rattle.top_call.specs.Run.{JournalAfter, StartLeaves};
 ghost use Rattle.command_words.specs.Lines.{reduce_read};
-ghost use Rattle.top_call.specs.Words.{file_name_of};
-ghost use Rattle.top_call.specs.World.{IsQuiet, seen};
+ghost use Rattle.command_ends.specs.World.{IsQuiet, seen};
 
-use crate::end::{Ended, end_with};
-use crate::file::write_file;
-use crate::read::{guard_of, read_problem};
-use crate::status::Refusal;
-use crate::words::file_name_of;
-use command_words::{ReduceLine, journal_name};
+use crate::read::read_problem;
+use command_ends::{Ended, Refusal, end_with};
+use command_words::ReduceLine;
 use edge_io::{Files, Sink};
-use gated_run::{Ran, Reduced, RunFault};
+use gated_run::Ran;
 use grammar_input::{input_fault_once, inputs_are_in_language};
 use keep_guard::{Guard, KeepTexts};
 use problem_run::{ReadProblem, run_problem};
-use reduce_journal::{Event, report};
-use script_gate::{Gate, GateFault};
+use reduce_calls::{guard_of, open_gate, open_journal, without_gate, write_result};
+use reduce_journal::Event;
+use script_gate::Gate;
 use std::alloc::Global;
-
-/// Opens the gate of the only worker.
-fn open_gate<G: Gate>(gate: &mut G, line: &ReduceLine<'_>) -> Result<(), GateFault>
-    ensures opened { OnOk result (G.log gate.new ≡ option_map (with_opening line.now.work.now line.now.script.now (file_name_of line.now.input.now) 1) (G.log gate.old)) }
-    ensures kept { OnErr result (G.log gate.new ≡ G.log gate.old) }
-    ensures quiet { OnOk result (IsQuiet (seen G.log G.faults gate.old) (seen G.log G.faults gate.new)) }
-    ensures refused { IfErr result (λ fault. OpenFails (seen G.log G.faults gate.old) (seen G.log G.faults gate.new) fault) }
-{
-    gate.open(line.work, line.script, file_name_of(line.input), 1)
-}
-
-/// Opens the journal, whose path the command line says.
-fn open_journal<J: Sink>(
-    alloc: Global,
-    journal: &mut J,
-    line: &ReduceLine<'_>,
-) -> Result<(), RunFault>
-    ensures opened { OnOk result (J.put_so_far journal.new ≡ opened_as ((reduce_read line.now).journal) (J.put_so_far journal.old)) }
-    ensures kept { OnErr result (J.put_so_far journal.new ≡ J.put_so_far journal.old) }
-    ensures quiet { OnOk result (J.faults journal.new ≡ J.faults journal.old) }
-    ensures refused { IfErr result (λ fault. OpeningFails (J.faults journal.old) (J.faults journal.new) fault) }
-{
-    let Ok(name) = journal_name(alloc, line) else {
-        return Err(RunFault::Memory);
-    };
-    journal.open(name.as_str())?;
-    Ok(())
-}
 
 /// Opens the journal and reduces what was read, by a gate that is open.
 fn run_opened<G: Gate, J: Sink + Drop>(
@@ -105,23 +71,8 @@ fn reduce_start<G: Gate, J: Sink + Drop>(
 {
     match open_gate(gate, line) {
         Ok(()) => run_opened(alloc, line, problem, guard, gate, journal),
-        Err(fault) => Ran::refused(alloc, journal, fault.into()),
+        Err(fault) => without_gate(alloc, journal, fault),
     }
-}
-
-/// Makes the report of a reduction and writes its result, which is written only where there is one.
-fn write_result<F: Files>(
-    alloc: Global,
-    line: &ReduceLine<'_>,
-    files: &mut F,
-    outcome: Result<Reduced, RunFault>,
-) -> Result<Vec<u8>, Refusal>
-    ensures { WriteEnds line.now.output.now (seen F.content F.faults files.old) (seen F.content F.faults files.new) outcome result }
-{
-    let reduced = outcome?;
-    let text = report(alloc, &reduced.counts)?;
-    write_file(files, line.output, &reduced.text)?;
-    Ok(text)
 }
 
 /// What is reduced, and the guard of the keep texts, each of which occurs in it.

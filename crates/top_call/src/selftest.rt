@@ -1,15 +1,13 @@
 //! The command `selftest`.
 
 ghost use Rattle.std.specs.Prelude.{◌≤◌, IfErr, IfOk};
-ghost use Rattle.case_reduction.specs.Summary.{IsSummary};
 ghost use Rattle.command_words.specs.Lines.{selftest_read};
 ghost use Rattle.top_call.specs.Selftest.{RunsSelftest, SelftestFails, SummarizesCase};
-ghost use Rattle.top_call.specs.World.{seen};
+ghost use Rattle.command_ends.specs.World.{seen};
 
-use crate::end::end_with;
-use crate::status::Refusal;
-use crate::words::grammar_mode;
+use crate::mode::grammar_mode;
 use case_reduction::case_summary;
+use command_ends::{Refusal, end_with};
 use command_words::SelftestLine;
 use edge_io::Sink;
 use std::alloc::Global;

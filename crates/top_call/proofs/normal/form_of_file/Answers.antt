@@ -1,6 +1,6 @@
 use Rattle.std.proofs.lemmas.Result.{err_from_is_err_and}
 use Rattle.command_words.specs.Lines.{grammar_read}
-use Rattle.top_call.specs.World.{seen}
+use Rattle.command_ends.specs.World.{seen}
 use Rattle.top_call.proofs.NormalLemmas.{fails_grammar, fails_memory, is_formed}
 use Rattle.top_call.proofs.normal.form_of_file.Goals as goal
 

@@ -2,11 +2,10 @@ use Rattle.std.proofs.Common.{ap, sym, subst}
 use Rattle.std.proofs.lemmas.Result.{err_from_is_err_and}
 use Rattle.command_words.specs.Commands.{GrammarOptions}
 use Rattle.command_words.specs.Lines.{grammar_read, mode_of, reduce_read}
-use Rattle.problem_run.specs.declared.problem.GrammarMode.{GrammarMode}
-use Rattle.problem_run.specs.declared.problem.ReadProblem.TheVariants as read
+use Rattle.problem_run.specs.declared.problem.ReadProblem.{ReadProblem}
 use Rattle.problem_run.specs.Read.{IsReadAs}
 use Rattle.top_call.specs.Reduce.{ProblemRead}
-use Rattle.top_call.specs.World.{seen}
+use Rattle.command_ends.specs.World.{seen}
 use Rattle.top_call.proofs.ReadLemmas.{tree_fails, tree_read}
 use Rattle.top_call.proofs.read.read_problem.Goals as goal
 
@@ -14,8 +13,7 @@ pub returns-in_ok-found-in-ByGrammar-clause-problem : goal.returns-in_ok-found-i
 returns-in_ok-found-in-ByGrammar-clause-problem g c =
     let files = seen g.F.Files.content g.F.Files.faults c.args.files.now in
     let trees : GrammarOptions = record { grammar = grammar_read c.in-ByGrammar.trees.grammar; mode = c.in-ByGrammar.trees.mode; squeeze = c.in-ByGrammar.trees.squeeze } in
-    let was : GrammarMode → Type 0 = λ mode. ProblemRead (reduce_read c.args.line.now) files (IsReadAs (reduce_read c.args.line.now).keeps (read.Tree c.in_ok-found-in-ByGrammar.found mode c.in-ByGrammar.trees.squeeze)) in
-    subst was (sym c.grammar_mode.ensures) (tree_read (reduce_read c.args.line.now) files trees (ap mode_of c.in-ByGrammar.is) c.in_ok-found-in-ByGrammar.found c.in_ok-found-in-ByGrammar.ensures.found)
+    subst (λ (problem : ReadProblem). ProblemRead (reduce_read c.args.line.now) files (IsReadAs (reduce_read c.args.line.now).keeps problem)) (sym c.tree_problem.ensures) (tree_read (reduce_read c.args.line.now) files trees (ap mode_of c.in-ByGrammar.is) c.in_ok-found-in-ByGrammar.found c.in_ok-found-in-ByGrammar.ensures.found)
 
 pub returns-in_err-found-in-ByGrammar-clause-refused : goal.returns-in_err-found-in-ByGrammar-clause-refused
 returns-in_err-found-in-ByGrammar-clause-refused g c =

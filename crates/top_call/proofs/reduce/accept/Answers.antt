@@ -2,7 +2,7 @@ use Rattle.std.proofs.Common.{◌≡◌, ℕ, List, true, inr, subst}
 use Rattle.std.proofs.lemmas.Result.{err_from_is_err_and}
 use Rattle.keep_guard.specs.Keep.{holds_all}
 use Rattle.command_words.specs.Lines.{reduce_read}
-use Rattle.top_call.specs.World.{seen}
+use Rattle.command_ends.specs.World.{seen}
 use Rattle.top_call.proofs.ReadLemmas.{keep_refused}
 use Rattle.top_call.proofs.reduce.accept.Goals as goal
 

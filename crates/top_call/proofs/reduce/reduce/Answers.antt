@@ -1,6 +1,6 @@
 use Rattle.top_call.specs.Reduce.{Inside}
 use Rattle.command_words.specs.Lines.{reduce_read}
-use Rattle.top_call.specs.World.{seen}
+use Rattle.command_ends.specs.World.{seen}
 use Rattle.top_call.proofs.CommandLemmas.{reduce_ends}
 use Rattle.top_call.proofs.reduce.reduce.Goals as goal
 

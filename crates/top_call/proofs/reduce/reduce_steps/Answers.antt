@@ -1,7 +1,7 @@
 use Rattle.std.proofs.Common.{refl}
 use Rattle.top_call.specs.Reduce.{Inside}
 use Rattle.command_words.specs.Lines.{reduce_read}
-use Rattle.top_call.specs.World.{seen}
+use Rattle.command_ends.specs.World.{seen}
 use Rattle.top_call.proofs.CommandLemmas.{steps_end, stops_accept}
 use Rattle.top_call.proofs.reduce.reduce_steps.Goals as goal
 

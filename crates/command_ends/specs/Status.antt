@@ -1,0 +1,118 @@
+-- The refusals of the program: the status and the line of each, and which of them a step may give. The texts are also written where the ends of each command are defined, so that those can be read by themselves.
+use Rattle.std.specs.Prelude.{◌≡◌, ◌⊎◌, ℕ, ◌==◌, List, ◌++◌, IsTrue, Option, codes, string_bytes}
+use Rattle.std.specs.List.{list_any}
+use Rattle.std.specs.Fmt.{decimal}
+use Rattle.edge_io.specs.Files.{FileContent, IsLonger}
+use Rattle.grammar_input.specs.FaultText.{fault_text}
+use Rattle.grammar_input.specs.declared.fault.InputFault.{InputFault}
+use Rattle.grammar_input.specs.declared.fault.InputFault.TheVariants as input_fault
+use Rattle.gated_run.specs.declared.fault.RunFault.{RunFault}
+use Rattle.gated_run.specs.declared.fault.RunFault.TheVariants as run
+use Rattle.command_ends.specs.declared.status.NamedFile.{NamedFile}
+use Rattle.command_ends.specs.declared.status.NamedFile.TheVariants as read
+use Rattle.command_ends.specs.declared.status.Refusal.{Refusal}
+use Rattle.command_ends.specs.declared.status.Refusal.TheVariants.{Memory, Usage, CannotRead, CannotWrite, Grammar, Uncut, NoParse, NotInteresting, KeepMissing, TooLong, Script, Journal}
+use Rattle.command_ends.specs.World.{PutsPrefix, CallFailed, FilesKept, IsQuiet, Puts, PutsLine, SeenFiles, SeenOut, line_of_text}
+
+-- how a line names a file that is read
+abbrev pub word_for : NamedFile → List ℕ
+word_for read.Input = codes "input"
+word_for read.Grammar = codes "grammar"
+
+-- the line of a grammar's fault
+abbrev pub fault_line : List ℕ → List ℕ
+fault_line text = line_of_text (codes "grammar: " ++ text)
+
+-- the text for an input in which keep text `number`, counted from 1, doesn't occur
+abbrev pub keep_text : ℕ → List ℕ
+keep_text number = codes "keep text " ++ (decimal number ++ codes " is missing")
+
+-- the status is one of these
+abbrev pub IsOneOf : List ℕ → ℕ → Type 0
+IsOneOf statuses status = IsTrue (list_any (λ s. s == status) statuses)
+
+-- the status and the line of a refusal
+abbrev pub ending_of : Refusal → ℕ × List ℕ
+ending_of Memory = (1, line_of_text (codes "out of memory"))
+ending_of Usage = (2, line_of_text (codes "bad command line"))
+ending_of (CannotRead file) = (3, line_of_text (codes "cannot read " ++ word_for file))
+ending_of CannotWrite = (4, line_of_text (codes "cannot write"))
+ending_of (Grammar line) = (5, string_bytes line)
+ending_of (Uncut line) = (6, string_bytes line)
+ending_of NoParse = (7, line_of_text (codes "input does not parse"))
+ending_of NotInteresting = (8, line_of_text (codes "start is not interesting"))
+ending_of (KeepMissing line) = (9, string_bytes line)
+ending_of (TooLong file) = (10, line_of_text (word_for file ++ codes " is too long"))
+ending_of Script = (11, line_of_text (codes "script fault at worker 1"))
+ending_of Journal = (12, line_of_text (codes "journal fault"))
+
+abbrev pub status_of : Refusal → ℕ
+status_of refusal = (ending_of refusal).0
+
+abbrev pub line_of : Refusal → List ℕ
+line_of refusal = (ending_of refusal).1
+
+-- the refusal for a run that ended without a result
+abbrev pub refusal_of_run : RunFault → Refusal
+refusal_of_run run.NotInteresting = NotInteresting
+refusal_of_run run.Script = Script
+refusal_of_run run.Journal = Journal
+refusal_of_run run.Memory = Memory
+
+-- the status is that of the refusal, and its line was put
+pub record EndsRefused (old new : SeenOut) (status : ℕ) (refusal : Refusal) : Type 0 where
+  pub status_is : status ≡ status_of refusal
+  pub line : PutsLine (line_of refusal) old new
+
+-- the answer was put whole, at status 0, or some prefix of it, at status 4
+abbrev pub EndsWithAnswer : List ℕ → SeenOut → SeenOut → ℕ → Type 0
+EndsWithAnswer answer old new status = ((status ≡ 0) × Puts answer old new) ⊎ ((status ≡ 4) × PutsPrefix answer old new)
+
+-- why a file wasn't read
+abbrev pub ReadFails : ℕ → NamedFile → Option FileContent → SeenFiles → SeenFiles → Refusal → Type 0
+ReadFails limit file content old new Memory = IsQuiet old new
+ReadFails limit file content old new (CannotRead named) = (named ≡ file) × CallFailed old new
+ReadFails limit file content old new (TooLong named) = (named ≡ file) × IsLonger limit content × IsQuiet old new
+ReadFails limit file content old new _ = ⊥
+
+-- why a file wasn't written
+abbrev pub WriteFails : SeenFiles → SeenFiles → Refusal → Type 0
+WriteFails old new Memory = FilesKept old new
+WriteFails old new CannotWrite = CallFailed old new
+WriteFails old new _ = ⊥
+
+-- a refusal that names a file names this one
+abbrev pub NamesNoOther : NamedFile → Refusal → Type 0
+NamesNoOther file (CannotRead named) = named ≡ file
+NamesNoOther file (TooLong named) = named ≡ file
+NamesNoOther file _ = Unit {0}
+
+-- the line was put of a refusal that has this status and names no file but this one
+abbrev pub PutsRefusal : NamedFile → SeenOut → SeenOut → ℕ → Type 0
+PutsRefusal file out out' status = (refusal : Refusal) × NamesNoOther file refusal × (status ≡ status_of refusal) × PutsLine (line_of refusal) out out'
+
+-- the refusal of a grammar whose fault has this text, or out of memory
+abbrev pub IsGrammarRefusal : List ℕ → Refusal → Type 0
+IsGrammarRefusal text Memory = Unit {0}
+IsGrammarRefusal text (Grammar line) = string_bytes line ≡ fault_line text
+IsGrammarRefusal text _ = ⊥
+
+-- the fault is that bytes aren't UTF-8, or aren't cut into tokens
+abbrev pub IsUncut : InputFault → Type 0
+IsUncut (input_fault.NotUtf8 offset) = Unit {0}
+IsUncut (input_fault.NoToken offset) = Unit {0}
+IsUncut input_fault.NoParse = ⊥
+IsUncut input_fault.Memory = ⊥
+
+-- the refusal of an input that has this fault
+abbrev pub IsInputRefusal : InputFault → Refusal → Type 0
+IsInputRefusal fault Memory = Unit {0}
+IsInputRefusal fault (Uncut line) = IsUncut fault × (string_bytes line ≡ line_of_text (fault_text fault))
+IsInputRefusal fault NoParse = fault ≡ input_fault.NoParse
+IsInputRefusal fault _ = ⊥
+
+-- the refusal of an input in which this keep text doesn't occur, or out of memory
+abbrev pub IsKeepRefusal : ℕ → Refusal → Type 0
+IsKeepRefusal number Memory = Unit {0}
+IsKeepRefusal number (KeepMissing line) = string_bytes line ≡ line_of_text (keep_text number)
+IsKeepRefusal number _ = ⊥

@@ -1,0 +1,146 @@
+//! The refusals of the program, each with its status and its line.
+
+ghost use Rattle.std.specs.Prelude.{◌≡◌};
+ghost use Rattle.checked_grammar.specs.Message.{fault_text};
+ghost use Rattle.command_ends.specs.Status.{IsGrammarRefusal, IsInputRefusal, IsKeepRefusal, line_of, status_of};
+
+use checked_grammar::GrammarFault;
+use faults::Memory;
+use gated_run::RunFault;
+use grammar_input::InputFault;
+use std::alloc::{AllocError, Global};
+
+/// A file that the program reads.
+#[derive(Clone, Copy, Debug, PartialEq, Eq)]
+pub enum NamedFile {
+    /// The file to be reduced.
+    Input,
+    /// The file of the grammar.
+    Grammar,
+}
+
+/// Why a command ends without its result.
+#[derive(Drop)]
+pub enum Refusal {
+    /// Memory ran out.
+    Memory,
+    /// The words are no command line.
+    Usage,
+    /// This file can't be read.
+    CannotRead(NamedFile),
+    /// The result can't be written.
+    CannotWrite,
+    /// The grammar has a fault, which this line names.
+    Grammar(String),
+    /// The input isn't UTF-8, or isn't cut into tokens, which this line says.
+    Uncut(String),
+    /// The grammar's start rule doesn't derive the input's tokens.
+    NoParse,
+    /// A keep text doesn't occur in the input, which this line says.
+    KeepMissing(String),
+    /// The script says no to the start.
+    NotInteresting,
+    /// This file is longer than its limit.
+    TooLong(NamedFile),
+    /// The script can't be asked.
+    Script,
+    /// The journal can't be written.
+    Journal,
+}
+
+impl Refusal {
+    /// The refusal of a grammar that has this fault; `Memory` where memory runs out.
+    pub fn of_grammar(alloc: Global, fault: &GrammarFault) -> Refusal
+        ensures { IsGrammarRefusal (fault_text fault.now) result }
+    {
+        match format!(in alloc; "perses: grammar: {fault}\n") {
+            Ok(line) => Refusal::Grammar(line),
+            Err(_) => Refusal::Memory,
+        }
+    }
+
+    /// The refusal of an input that has this fault; `Memory` where memory runs out.
+    pub fn of_input(alloc: Global, fault: &InputFault) -> Refusal
+        ensures { IsInputRefusal fault.now result }
+    {
+        match fault {
+            InputFault::NotUtf8 { .. } | InputFault::NoToken { .. } => {
+                match format!(in alloc; "perses: {fault}\n") {
+                    Ok(line) => Refusal::Uncut(line),
+                    Err(_) => Refusal::Memory,
+                }
+            }
+            InputFault::NoParse => Refusal::NoParse,
+            InputFault::Memory => Refusal::Memory,
+        }
+    }
+
+    /// The refusal of an input in which keep text `number`, counted from 1, doesn't occur; `Memory`
+    /// where memory runs out.
+    pub fn of_keep(alloc: Global, number: u64) -> Refusal
+        ensures { IsKeepRefusal number result }
+    {
+        match format!(in alloc; "perses: keep text {number} is missing\n") {
+            Ok(line) => Refusal::KeepMissing(line),
+            Err(_) => Refusal::Memory,
+        }
+    }
+
+    /// The status that the program ends with, and the line that it puts on `out`.
+    pub fn ending(&self) -> (u8, &str)
+        ensures status { result.0 ≡ status_of self.now }
+        ensures line { result.1.now ≡ line_of self.now }
+    {
+        match self {
+            Refusal::Memory => (1, "perses: out of memory\n"),
+            Refusal::Usage => (2, "perses: bad command line\n"),
+            Refusal::CannotRead(NamedFile::Input) => (3, "perses: cannot read input\n"),
+            Refusal::CannotRead(NamedFile::Grammar) => (3, "perses: cannot read grammar\n"),
+            Refusal::CannotWrite => (4, "perses: cannot write\n"),
+            Refusal::Grammar(line) => (5, line.as_str()),
+            Refusal::Uncut(line) => (6, line.as_str()),
+            Refusal::NoParse => (7, "perses: input does not parse\n"),
+            Refusal::NotInteresting => (8, "perses: start is not interesting\n"),
+            Refusal::KeepMissing(line) => (9, line.as_str()),
+            Refusal::TooLong(NamedFile::Input) => (10, "perses: input is too long\n"),
+            Refusal::TooLong(NamedFile::Grammar) => (10, "perses: grammar is too long\n"),
+            Refusal::Script => (11, "perses: script fault at worker 1\n"),
+            Refusal::Journal => (12, "perses: journal fault\n"),
+        }
+    }
+}
+
+impl From<Memory> for Refusal {
+    ghost use Rattle.command_ends.specs.declared.status.Refusal.TheVariants.{Memory as OutOfMemory};
+
+    ghost from_gives = { λ _ refusal. refusal ≡ OutOfMemory };
+
+    fn from(_: Memory) -> Refusal {
+        Refusal::Memory
+    }
+}
+
+impl From<AllocError> for Refusal {
+    ghost use Rattle.command_ends.specs.declared.status.Refusal.TheVariants.{Memory as OutOfMemory};
+
+    ghost from_gives = { λ _ refusal. refusal ≡ OutOfMemory };
+
+    fn from(_: AllocError) -> Refusal {
+        Refusal::Memory
+    }
+}
+
+impl From<RunFault> for Refusal {
+    ghost use Rattle.command_ends.specs.Status.{refusal_of_run};
+
+    ghost from_gives = { λ fault refusal. refusal ≡ refusal_of_run fault };
+
+    fn from(fault: RunFault) -> Refusal {
+        match fault {
+            RunFault::NotInteresting => Refusal::NotInteresting,
+            RunFault::Script => Refusal::Script,
+            RunFault::Journal => Refusal::Journal,
+            RunFault::Memory => Refusal::Memory,
+        }
+    }
+}

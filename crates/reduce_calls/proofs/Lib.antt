@@ -1,0 +1,2 @@
+mod KeepsLemmas
+mod NameLemmas

@@ -1,0 +1,17 @@
+pub use Rattle.faults.specs.Count
+pub use Rattle.edge_io.specs.Files
+pub use Rattle.edge_io.specs.Sink
+pub use Rattle.command_words.specs.Commands
+pub use Rattle.command_words.specs.Lines
+pub use Rattle.script_gate.specs.Log
+pub use Rattle.keep_guard.specs.Keep
+pub use Rattle.gated_run.specs.Faults
+pub use Rattle.reduce_journal.specs.History
+pub use Rattle.reduce_journal.specs.Report
+pub use Rattle.one_worker.specs.RunEnds
+pub use Rattle.command_ends.specs.World
+pub use Rattle.command_ends.specs.Status
+pub mod FileName
+pub mod Journal
+pub mod Calls
+pub mod Keeps
