@@ -47,9 +47,8 @@ impl CharSet {
     pub fn copy(&self) -> Result<CharSet, Memory>
         ensures { IfOk result (λ set. set ≡ self.now) }
     {
-        Ok(CharSet {
-            class: self.class.clone()?,
-        })
+        let class = self.class.clone()?;
+        Ok(CharSet { class })
     }
 
     /// The ranges of the set, both ends included. They rise, and between two of them at least one
@@ -57,7 +56,7 @@ impl CharSet {
     pub fn ranges(&self) -> &[ClassRange]
         ensures { result.now ≡ self.now }
     {
-        &self.class.ranges
+        self.class.ranges.as_slice()
     }
 
     /// The ranges are those of a set: a caller calls this so that its proof knows.
@@ -87,7 +86,8 @@ impl CharSet {
     pub fn complement(&self) -> Result<CharSet, Memory>
         ensures { IfOk result (λ set. HasExactlyChars set (λ c. not (has self.now c))) }
     {
-        chars_outside(&self.class)
+        let outside = chars_outside(&self.class)?;
+        Ok(outside)
     }
 }
 

@@ -87,9 +87,11 @@ impl Checked {
     pub fn copy(&self, alloc: Global) -> Result<Checked, Memory>
         ensures { IfOk result (λ c. c ≡ self.now) }
     {
+        let grammar = self.grammar.copy(alloc)?;
+        let kinds = copy_kinds(alloc, &self.kinds)?;
         Ok(Checked {
-            grammar: self.grammar.copy(alloc)?,
-            kinds: copy_kinds(alloc, &self.kinds)?,
+            grammar,
+            kinds,
             start: self.start,
         })
     }

@@ -3,7 +3,7 @@
 ghost use Rattle.std.specs.Prelude.{◌≡◌, IfOk};
 ghost use Rattle.grammar_tree.specs.Matches.{any_is_short, has_short, is_short};
 ghost use Rattle.grammar_tree.specs.View.{lex_alts, lex_term, lex_terms};
-ghost use Rattle.grammar_tree.specs.Written.{lexer_alts, lexer_seq};
+ghost use Rattle.grammar_tree.specs.Written.{LexerTerm, lexer_alts, lexer_seq};
 
 use crate::char_set::CharSet;
 use crate::text::Text;
@@ -45,6 +45,34 @@ pub struct LexAlts {
     pub items: Vec<LexTerms>,
 }
 
+/// The term at most once.
+fn opt(alloc: Global, term: LexTerm) -> Result<LexTerm, Memory>
+    ensures { IfOk result (λ t. lex_term t ≡ LexerTerm.opt (lex_term term)) }
+{
+    Ok(LexTerm::Opt(Box::new(alloc, term)?))
+}
+
+/// The term any number of times.
+fn star(alloc: Global, term: LexTerm) -> Result<LexTerm, Memory>
+    ensures { IfOk result (λ t. lex_term t ≡ LexerTerm.star (lex_term term)) }
+{
+    Ok(LexTerm::Star(Box::new(alloc, term)?))
+}
+
+/// The term once or more.
+fn plus(alloc: Global, term: LexTerm) -> Result<LexTerm, Memory>
+    ensures { IfOk result (λ t. lex_term t ≡ LexerTerm.plus (lex_term term)) }
+{
+    Ok(LexTerm::Plus(Box::new(alloc, term)?))
+}
+
+/// The non-greedy star of an equal set.
+fn short(set: &CharSet) -> Result<LexTerm, Memory>
+    ensures { IfOk result (λ t. lex_term t ≡ LexerTerm.short set.now) }
+{
+    Ok(LexTerm::Short(set.copy()?))
+}
+
 impl LexTerm {
     /// An equal term.
     #[cycle(copy)]
@@ -56,10 +84,10 @@ impl LexTerm {
             LexTerm::Set(set) => Ok(LexTerm::Set(set.copy()?)),
             LexTerm::Name(name) => Ok(LexTerm::Name(name.copy()?)),
             LexTerm::Block(alts) => Ok(LexTerm::Block(alts.copy(alloc)?)),
-            LexTerm::Opt(term) => Ok(LexTerm::Opt(Box::new(alloc, term.copy(alloc)?)?)),
-            LexTerm::Star(term) => Ok(LexTerm::Star(Box::new(alloc, term.copy(alloc)?)?)),
-            LexTerm::Plus(term) => Ok(LexTerm::Plus(Box::new(alloc, term.copy(alloc)?)?)),
-            LexTerm::Short(set) => Ok(LexTerm::Short(set.copy()?)),
+            LexTerm::Opt(term) => opt(alloc, term.copy(alloc)?),
+            LexTerm::Star(term) => star(alloc, term.copy(alloc)?),
+            LexTerm::Plus(term) => plus(alloc, term.copy(alloc)?),
+            LexTerm::Short(set) => short(set),
         }
     }
 

@@ -2,6 +2,7 @@
 
 ghost use Rattle.std.specs.Prelude.{◌≡◌, IfOk, map};
 ghost use Rattle.grammar_tree.specs.View.{parser_alts, parser_term, parser_terms, token_ref};
+ghost use Rattle.grammar_tree.specs.Written.{WrittenTerm};
 
 use crate::text::Text;
 use faults::Memory;
@@ -84,6 +85,27 @@ impl TokenRefs {
     }
 }
 
+/// The term at most once.
+fn opt(alloc: Global, term: ParserTerm) -> Result<ParserTerm, Memory>
+    ensures { IfOk result (λ t. parser_term t ≡ WrittenTerm.opt (parser_term term)) }
+{
+    Ok(ParserTerm::Opt(Box::new(alloc, term)?))
+}
+
+/// The term any number of times.
+fn star(alloc: Global, term: ParserTerm) -> Result<ParserTerm, Memory>
+    ensures { IfOk result (λ t. parser_term t ≡ WrittenTerm.star (parser_term term)) }
+{
+    Ok(ParserTerm::Star(Box::new(alloc, term)?))
+}
+
+/// The term once or more.
+fn plus(alloc: Global, term: ParserTerm) -> Result<ParserTerm, Memory>
+    ensures { IfOk result (λ t. parser_term t ≡ WrittenTerm.plus (parser_term term)) }
+{
+    Ok(ParserTerm::Plus(Box::new(alloc, term)?))
+}
+
 impl ParserTerm {
     /// An equal term.
     #[cycle(copy)]
@@ -96,9 +118,9 @@ impl ParserTerm {
             ParserTerm::Any => Ok(ParserTerm::Any),
             ParserTerm::Not(refs) => Ok(ParserTerm::Not(refs.copy(alloc)?)),
             ParserTerm::Block(alts) => Ok(ParserTerm::Block(alts.copy(alloc)?)),
-            ParserTerm::Opt(term) => Ok(ParserTerm::Opt(Box::new(alloc, term.copy(alloc)?)?)),
-            ParserTerm::Star(term) => Ok(ParserTerm::Star(Box::new(alloc, term.copy(alloc)?)?)),
-            ParserTerm::Plus(term) => Ok(ParserTerm::Plus(Box::new(alloc, term.copy(alloc)?)?)),
+            ParserTerm::Opt(term) => opt(alloc, term.copy(alloc)?),
+            ParserTerm::Star(term) => star(alloc, term.copy(alloc)?),
+            ParserTerm::Plus(term) => plus(alloc, term.copy(alloc)?),
             ParserTerm::Eof => Ok(ParserTerm::Eof),
         }
     }

@@ -89,10 +89,13 @@ impl Grammar {
     pub fn copy(&self, alloc: Global) -> Result<Grammar, Memory>
         ensures { IfOk result (λ g. grammar_of g ≡ grammar_of self.now) }
     {
+        let name = self.name.copy()?;
+        let tokens = copy_texts(alloc, &self.tokens)?;
+        let rules = copy_rules(alloc, &self.rules)?;
         Ok(Grammar {
-            name: self.name.copy()?,
-            tokens: copy_texts(alloc, &self.tokens)?,
-            rules: copy_rules(alloc, &self.rules)?,
+            name,
+            tokens,
+            rules,
         })
     }
 }

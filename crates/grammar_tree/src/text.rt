@@ -37,9 +37,8 @@ impl Text {
     pub fn copy(&self) -> Result<Text, Memory>
         ensures { IfOk result (λ t. t ≡ self.now) }
     {
-        Ok(Text {
-            text: self.text.clone()?,
-        })
+        let text = self.text.clone()?;
+        Ok(Text { text })
     }
 
     pub fn as_str(&self) -> &str
