@@ -1,1 +1,2 @@
 pub mod NextOf
+pub mod Pushed
