@@ -7,3 +7,4 @@ pub mod Spanned
 pub mod Ones
 pub mod Reading
 pub mod Lent
+pub mod Pushed

@@ -41,7 +41,8 @@ pub fn union(alloc: Global, left: &[bool], right: &[bool]) -> Result<Vec<bool>, 
 {
     let mut marks = Vec::new(alloc);
     for i in 0..left.len() {
-        marks.push(left[i] || right[i])?;
+        let marked = left[i] || right[i];
+        marks.push(marked)?;
     }
     Ok(marks)
 }
@@ -87,7 +88,8 @@ pub fn steps(
     let mut to = Vec::new(alloc);
     to.push(false)?;
     for i in 0..list.len() {
-        to.push(from[i] && is_in_ranges(ranges, list[i]))?;
+        let marked = from[i] && is_in_ranges(ranges, list[i]);
+        to.push(marked)?;
     }
     Ok(to)
 }
