@@ -1,7 +1,9 @@
 //! What the first word that can't follow is called.
 
-ghost use Rattle.std.specs.Prelude.{◌≡◌, Some, None, cond};
-ghost use Rattle.grammar_reader.specs.Rows.{breaks_command, fault_at, is_deep, last_row, later_row, loop_row, option_row, own_row, reserved_row};
+ghost use Rattle.std.specs.Prelude.{◌≡◌, ◌&&◌, Some, None, cond};
+ghost use Rattle.grammar_notation.specs.Notation.{is_eof};
+ghost use Rattle.grammar_reader.specs.Positions as at;
+ghost use Rattle.grammar_reader.specs.Rows.{breaks_command, fault_at, is_deep, last_row, later_row, loop_row, of_loop, option_row, own_row, reserved_row};
 ghost use Rattle.grammar_machine.specs.View.{state_of};
 
 use crate::positions::{
@@ -82,15 +84,28 @@ fn option_row(state: &State, name: &Text) -> Option<What>
     row_if(is(name, "tokenVocab"), What::TokenVocab)
 }
 
+/// Whether the state is after a non-greedy loop, or after what follows it.
+fn of_loop(state: &State) -> bool
+    ensures { result ≡ of_loop (state_of state.now) }
+{
+    after_loop(state) || after_last(state)
+}
+
 /// The row of a word that can't follow a suffix, or a loop or what follows it.
 fn loop_row(state: &State, word: &Word) -> Option<What>
     ensures { result ≡ loop_row (state_of state.now) word.now }
 {
-    let of_loop = after_loop(state) || after_last(state);
     match word {
-        Word::Question => row_if(of_loop || after_suffix(state), What::NonGreedy),
-        _ => row_if(of_loop, What::NonGreedy),
+        Word::Question => row_if(of_loop(state) || after_suffix(state), What::NonGreedy),
+        _ => row_if(of_loop(state), What::NonGreedy),
     }
+}
+
+/// Whether the name is that of the end of the input, in a lexer rule.
+fn is_lexer_eof(state: &State, name: &Text) -> bool
+    ensures { result ≡ (at.within_lexer_rule (state_of state.now) && is_eof name.now) }
+{
+    within_lexer_rule(state) && is(name, "EOF")
 }
 
 /// The row below `command` that fits first, if there is one.
@@ -100,10 +115,9 @@ fn last_row(state: &State, word: &Word) -> Option<What>
     match word {
         Word::Property => Some(What::Property),
         Word::Lower(name) => option_row(state, name).or(loop_row(state, word)),
-        Word::Upper(name) => loop_row(state, word).or(row_if(
-            within_lexer_rule(state) && is(name, "EOF"),
-            What::Eof,
-        )),
+        Word::Upper(name) => {
+            loop_row(state, word).or(row_if(is_lexer_eof(state, name), What::Eof))
+        }
         _ => loop_row(state, word),
     }
 }

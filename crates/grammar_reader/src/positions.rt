@@ -35,7 +35,10 @@ pub fn at_colon(state: &State) -> bool
 pub fn at_option(state: &State) -> bool
     ensures { result ≡ at.at_option (state_of state.now) }
 {
-    matches!(state, State::Entry(_, _))
+    match state {
+        State::Entry(_, _) => true,
+        _ => false,
+    }
 }
 
 /// Directly after the name of a parser rule.
