@@ -13,9 +13,9 @@ use Rattle.grammar_notation.proofs.Sizes.{profile_fits}
 use Rattle.grammar_tree.specs.Kinds.{kinds_of}
 use Rattle.case_language.proofs.WellFormed.{well_formed}
 use Rattle.grammar_machine.specs.Machine.{AtEnd, AtStart}
-use Rattle.grammar_reader.proofs.WordByWord.{run}
-use Rattle.grammar_reader.proofs.Rest.{Goes, Rest}
-use Rattle.grammar_reader.proofs.Runs.{accepts, run_complete}
+use Rattle.machine_laws.specs.WordByWord.{run}
+use Rattle.machine_laws.proofs.Rest.{Goes, Rest}
+use Rattle.machine_laws.proofs.Runs.{accepts, run_complete}
 use Rattle.case_maker.specs.Mini.{mini_text}
 use Rattle.case_language.specs.Mini.{all_chars, blank_of, comment_of, digits, grammar_with, id_of, int_of, letters, letters_digits, line_chars, line_of, mini, plain_chars, str_of}
 use Rattle.case_language.specs.Laws.{CasesAreInLanguage, MiniIsSpelled}

@@ -8,18 +8,18 @@ use Rattle.grammar_words.specs.declared.word.Placed.{Placed}
 use Rattle.grammar_notation.specs.Sets.{outside}
 use Rattle.grammar_machine.specs.Machine as m
 use Rattle.grammar_machine.specs.Machine.{State, AtStart, AtEnd, step}
-use Rattle.grammar_reader.proofs.WordByWord.{run}
+use Rattle.machine_laws.specs.WordByWord.{run}
 use Rattle.grammar_notation.specs.Notation.{IsTextOf, BeginsOf, IsText}
-use Rattle.grammar_reader.proofs.Regions.{Region, starting, heading, between, prequel, named, opening, body, suffixed, looped, last, command, finished, next}
+use Rattle.machine_laws.proofs.Regions.{Region, starting, heading, between, prequel, named, opening, body, suffixed, looped, last, command, finished, next}
 use Rattle.std.specs.Str.{IsUtf8}
 use Rattle.grammar_notation.specs.declared.fault.ReadFault.{ReadFault}
 use Rattle.grammar_notation.specs.declared.fault.ReadFault.TheVariants as f
 use Rattle.grammar_notation.specs.Naming.{IsNamed}
 use Rattle.grammar_notation.specs.Reads.{only_words, IsFirstFault, IsFaultOf}
-use Rattle.grammar_reader.proofs.RegionSteps.{Keeps, region_of, region_of_owner, region_of_value, keeps_step}
-use Rattle.grammar_reader.specs.Rows.{fault_at}
-use Rattle.grammar_reader.proofs.Called as called
-use Rattle.grammar_reader.proofs.Runs.{reached, stuck, accepts, further, accepted, EndsText, end_step}
+use Rattle.machine_laws.proofs.RegionSteps.{Keeps, region_of, region_of_owner, region_of_value, keeps_step}
+use Rattle.word_faults.specs.Rows.{fault_at}
+use Rattle.machine_laws.proofs.Called as called
+use Rattle.machine_laws.proofs.Runs.{reached, stuck, accepts, further, accepted, EndsText, end_step}
 
 -- No bad word can follow, and no set with a property.
 

@@ -7,5 +7,3 @@ pub use Rattle.grammar_notation.specs.FaultText
 pub use Rattle.grammar_notation.specs.Naming
 pub use Rattle.grammar_notation.specs.Reads
 pub mod Ended
-pub mod Positions
-pub mod Rows

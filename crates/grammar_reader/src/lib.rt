@@ -5,13 +5,11 @@
 //! `)`, at byte 21. Read `IsText` in `grammar_notation/specs/Notation.antt` first, which has a family
 //! for each row of the notation, then `IsFirstFault` in `grammar_notation/specs/Reads.antt`.
 //!
-//! The reader is a pushdown machine (`grammar_machine`, whose step is `grammar_steps::step`). Its
-//! states are proved to accept exactly the texts of the notation, and each word that can't follow is
-//! named by the state that it can't follow (`specs/Rows.antt`).
+//! The reader is a pushdown machine (`grammar_machine`, whose step is `grammar_steps::step`).
+//! `machine_laws` proves that it reads exactly the texts of the notation, and that `word_faults` calls
+//! a word that can't follow what the notation calls it.
 #![tactic(auto)]
 
-mod naming;
-mod positions;
 mod reader;
 
 pub use reader::read_grammar;

@@ -9,13 +9,13 @@ ghost use Rattle.grammar_reader.specs.Ended.{IsEnded};
 ghost use Rattle.grammar_notation.specs.Reads.{IsFaultOf, IsProfile, IsReadAs};
 ghost use Rattle.grammar_machine.specs.View.{state_of};
 
-use crate::naming::fault_at;
 use grammar_machine::State;
 use grammar_notation::ReadFault;
 use grammar_steps::step;
 use grammar_tree::Grammar;
 use grammar_words::{Placed, Words};
 use std::alloc::Global;
+use word_faults::fault_at;
 
 /// The grammar, where the text has ended.
 fn ended(state: State) -> Result<Grammar, State>

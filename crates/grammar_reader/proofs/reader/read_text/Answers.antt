@@ -5,7 +5,7 @@ use Rattle.grammar_words.specs.Words.{is_last}
 use Rattle.grammar_machine.specs.View.{state_of, Gives}
 use Rattle.grammar_machine.specs.Machine as m
 use Rattle.grammar_notation.specs.Reads.{IsFirstFault}
-use Rattle.grammar_reader.specs.Rows.{fault_at}
+use Rattle.word_faults.specs.Rows.{fault_at}
 use Rattle.grammar_reader.proofs.Reading.{goes_on, stops, is_fault, no_text, is_text, same_text}
 use Rattle.grammar_notation.proofs.Sizes.{profile_fits}
 use Rattle.grammar_reader.proofs.reader.read_text.Goals as goal
