@@ -1,14 +1,16 @@
 //! Reading a text, a word at a time.
 
-ghost use Rattle.std.specs.Prelude.{◌≡◌, ◌≤◌, IfOk, length};
+ghost use Rattle.std.specs.Prelude.{◌≡◌, ◌≢◌, ◌≤◌, ◌∷◌, [], IfOk, false, length, true};
 ghost use Rattle.std.specs.Str.{IsUtf8};
 ghost use Rattle.grammar_tree.specs.Written.{WrittenGrammar};
 ghost use Rattle.grammar_tree.specs.GrammarView.{grammar_of};
 ghost use Rattle.grammar_tree.specs.Size.{grammar_size};
+ghost use Rattle.grammar_words.specs.Words.{is_last};
 ghost use Rattle.grammar_reader.specs.Ended.{IsEnded};
 ghost use Rattle.grammar_notation.specs.Reads.{IsFaultOf, IsProfile, IsReadAs};
 ghost use Rattle.grammar_machine.specs.View.{state_of};
 
+use faults::Memory;
 use grammar_machine::State;
 use grammar_notation::ReadFault;
 use grammar_steps::step;
@@ -27,6 +29,27 @@ fn ended(state: State) -> Result<Grammar, State>
     }
 }
 
+/// The next word, and the state before it.
+fn next_word(alloc: Global, words: &mut Words<'_>, state: State) -> Result<(Placed, State), Memory>
+    requires { words.old ≢ [] }
+    ensures word { IfOk result (λ next. words.old ≡ next.0 ∷ words.new) }
+    ensures ends { IfOk result (λ next. is_last next.0.word ≡ true → words.new ≡ []) }
+    ensures goes_on { IfOk result (λ next. is_last next.0.word ≡ false → words.new ≢ []) }
+    ensures state { IfOk result (λ next. next.1 ≡ state) }
+{
+    match words.next(alloc) {
+        Ok(found) => {
+            let Some(placed) = found else { unreachable!() };
+            Ok((placed, state))
+        }
+        Err(fault) => {
+            // By a call, since each part of a state that goes out of scope is a step of the proof.
+            drop(state);
+            Err(fault)
+        }
+    }
+}
+
 fn read_text(alloc: Global, text: &str) -> Result<Grammar, ReadFault>
     requires { IsUtf8 text.now }
     ensures ok { IfOk result (λ g. IsProfile text.now (grammar_of g)) }
@@ -37,13 +60,11 @@ fn read_text(alloc: Global, text: &str) -> Result<Grammar, ReadFault>
     let mut words = Words::new(text);
     let mut state = State::Start;
     loop {
-        let Some(placed) = words.next(alloc)? else {
-            unreachable!()
-        };
+        let (placed, current) = next_word(alloc, &mut words, state)?;
         let Placed { word, offset } = placed;
         // The step takes the state and the word, so what the word would be called is found first.
-        let fault = fault_at(&state, &word, offset as u64);
-        match step(alloc, state, word)? {
+        let fault = fault_at(&current, &word, offset as u64);
+        match step(alloc, current, word)? {
             None => return Err(fault),
             Some(next) => match ended(next) {
                 Ok(grammar) => return Ok(grammar),
