@@ -5,11 +5,12 @@ ghost use Rattle.std.specs.Prelude.{◌≡◌, IfOk, encode_utf8_all};
 ghost use Rattle.grammar_tree.specs.Written.{CheckedGrammar};
 ghost use Rattle.grammar_reader.specs.Reads.{IsProfile};
 ghost use Rattle.normal_form.specs.NormalOf.{normal_of};
-ghost use Rattle.normal_form.specs.Print.{printed};
+ghost use Rattle.normal_print.specs.Print.{printed};
 
 use anyhow::{Result, bail};
 use grammar_tests::checked;
-use normal_form::{normal_text, normalise};
+use normal_print::normal_text;
+use normalisation::normalise;
 use std::alloc::Global;
 use std::fs;
 

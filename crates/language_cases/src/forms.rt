@@ -2,7 +2,8 @@
 
 use anyhow::Result;
 use grammar_tree::Checked;
-use normal_form::{normal_text, normalise};
+use normal_print::normal_text;
+use normalisation::normalise;
 use plain_derivations::{derives, start_derives};
 use std::alloc::Global;
 

@@ -3,7 +3,8 @@
 use crate::forms::numbers;
 use anyhow::Result;
 use grammar_tree::Checked;
-use normal_form::{KindSets, normalise};
+use kind_sets::KindSets;
+use normalisation::normalise;
 use std::alloc::Global;
 
 /// The number, with a blank before it.

@@ -14,7 +14,8 @@ use faults::Memory;
 use grammar_tests::checked;
 use grammar_tree::Checked;
 use lexer::{LexFault, Lexer, Tokens};
-use normal_form::{Normal, normalise};
+use normal_form::Normal;
+use normalisation::normalise;
 use std::alloc::Global;
 use syntax_tree::Tree;
 

@@ -11,7 +11,7 @@ use Rattle.normal_form.specs.Form.{NormalForm}
 use Rattle.normal_form.specs.Numbering.{Numbering, group, groups}
 use Rattle.normal_form.specs.NormalOf.{group_names, names_from, new_names, normal_of, numbering}
 use Rattle.normal_form.specs.FormLaws.{HasFewRules, RulesAreFew}
-use Rattle.normal_form.proofs.Assembly.{few_rules, number_within}
+use Rattle.normal_form.proofs.Bounds.{few_rules, number_within}
 use Rattle.normal_form.proofs.Counted.{group_positive}
 use Rattle.normal_form.proofs.Named.{group_length}
 

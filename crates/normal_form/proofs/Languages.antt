@@ -13,7 +13,7 @@ use Rattle.normal_form.specs.Numbering.{groups, group}
 use Rattle.normal_form.specs.NormalOf.{normal_of, numbering, own_rule, alts_sets}
 use Rattle.normal_form.specs.NormalDerives.{NormalDerives}
 use Rattle.normal_form.specs.Laws.{EqualLanguages}
-use Rattle.normal_form.proofs.Assembly.{number_within}
+use Rattle.normal_form.proofs.Bounds.{number_within}
 use Rattle.normal_form.proofs.Represents.{HasEachRule}
 use Rattle.normal_form.proofs.Closed.{IsClosedAlts, bodies_closed}
 use Rattle.normal_form.proofs.SetNumbers.{set_is_there}

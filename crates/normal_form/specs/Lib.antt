@@ -4,17 +4,13 @@ pub use Rattle.grammar_tree.specs.Derives
 pub use Rattle.grammar_tree.specs.Corners
 pub use Rattle.grammar_tree.specs.Checked
 pub use Rattle.grammar_tree.specs.Laws as GrammarLaws
-pub mod Sets
+pub use Rattle.kind_sets.specs.Sets
 pub mod Form
 pub mod NormalDerives
 pub mod Numbering
-pub mod Terms
 pub mod NormalOf
-pub mod Print
-pub mod Printing
 pub mod Code
 pub mod View
-pub mod Numbers
 pub mod Laws
 pub mod Symbols
 pub mod FormLaws

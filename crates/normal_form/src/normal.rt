@@ -4,9 +4,9 @@ ghost use Rattle.std.specs.Prelude.{◌≡◌, IfOk, map};
 ghost use Rattle.normal_form.specs.NormalOf.{IsNormal};
 ghost use Rattle.normal_form.specs.View.{alts_form, normal_form, rule_form};
 
-use crate::kind_sets::KindSets;
 use faults::Memory;
 use grammar_tree::Text;
+use kind_sets::KindSets;
 use std::alloc::Global;
 use std::marker::Model;
 

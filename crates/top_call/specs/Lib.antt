@@ -28,7 +28,7 @@ pub use Rattle.tree_mode.specs.Input
 pub use Rattle.tree_mode.specs.Candidates as TreeCandidates
 pub use Rattle.normal_form.specs.Laws as FormLaws
 pub use Rattle.normal_form.specs.NormalOf
-pub use Rattle.normal_form.specs.Print
+pub use Rattle.normal_print.specs.Print
 pub use Rattle.command_ends.specs.World
 pub use Rattle.command_ends.specs.Status
 pub use Rattle.reduce_calls.specs.FileName

@@ -5,7 +5,7 @@ use Rattle.grammar_tree.specs.Written.{CheckedGrammar}
 use Rattle.checked_grammar.specs.Answer.{Spells}
 use Rattle.normal_form.specs.Laws.{HasEqualLanguages}
 use Rattle.normal_form.specs.NormalOf.{normal_of}
-use Rattle.normal_form.specs.Print.{printed}
+use Rattle.normal_print.specs.Print.{printed}
 use Rattle.command_ends.specs.declared.status.Refusal.{Refusal}
 use Rattle.top_call.specs.Grammar.{IsFaultIn, IsGrammarText}
 use Rattle.command_ends.specs.Status.{fault_line, line_of, status_of}

@@ -15,7 +15,8 @@ use command_words::NamedGrammar;
 use edge_io::{Files, Sink};
 use faults::Memory;
 use grammar_tree::Checked;
-use normal_form::{normal_text, normalise};
+use normal_print::normal_text;
+use normalisation::normalise;
 use std::alloc::Global;
 
 /// The printed normal form of the grammar.

@@ -1,6 +1,6 @@
 use Rattle.std.proofs.Common.{◌≡◌, sym, ◌∙◌, subst}
 use Rattle.normal_form.specs.View.{rule_form}
-use Rattle.normal_form.proofs.Lacking.{item_some}
+use Rattle.kind_sets.proofs.Lacking.{item_some}
 use Rattle.span_chart.specs.Firsts.{Keeps}
 use Rattle.span_chart.proofs.FirstRows.{covers_within, same_row}
 use Rattle.span_chart.proofs.firsts.has_enough.Goals as goal

@@ -1,6 +1,6 @@
 use Rattle.std.proofs.Common.{◌≡◌, true, sym, subst}
 use Rattle.normal_form.specs.declared.normal.Sym.{Sym}
-use Rattle.normal_form.proofs.Lacking.{item_some}
+use Rattle.kind_sets.proofs.Lacking.{item_some}
 use Rattle.span_chart.specs.Firsts.{MayBeEmpty}
 use Rattle.span_chart.proofs.FirstRows.{empty_by_row}
 use Rattle.span_chart.proofs.firsts.may_be_empty.Goals as goal

@@ -1,0 +1,3 @@
+pub use Rattle.grammar_tree.specs.Kinds
+pub use Rattle.grammar_names.specs.KindLists
+pub mod Sets

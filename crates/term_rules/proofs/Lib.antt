@@ -1,0 +1,4 @@
+pub mod NamedSets
+pub mod Replaced
+pub mod RuleSteps
+pub mod TermRules
