@@ -14,3 +14,6 @@ callees_first-requires-clause-closed c =
 
 pub returns : goal.returns
 returns c = λ i cycle. c.loop-node.invariant i (omega (arith, on_cycle_within items c.args.edges.now i cycle)) cycle
+
+pub returns-then-branch : goal.returns-then-branch
+returns-then-branch c = record { holds = c.in_ok-is_on_cycle.ensures.0 c.if-branch.true; before = c.loop-node.invariant }
