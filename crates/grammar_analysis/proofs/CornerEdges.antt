@@ -12,7 +12,8 @@ use Rattle.grammar_tree.specs.Written.{ParserRule, WrittenTerm, WrittenSeq, Writ
 use Rattle.grammar_tree.proofs.LeftRecursion.{leads as front}
 use Rattle.grammar_tree.proofs.Places.{numbers}
 use Rattle.grammar_analysis.specs.Corners.{AreCornerEdges, alts_corners, corners, rule_corners, seq_corners}
-use Rattle.grammar_analysis.specs.Empty.{AreEmptyRules, alts_is_empty, flag, is_empty}
+use Rattle.node_tables.specs.Flags.{flag}
+use Rattle.grammar_analysis.specs.Empty.{AreEmptyRules, alts_is_empty, is_empty}
 use Rattle.graph_cycles.specs.Graph.{IsClosed, IsOnCycle}
 use Rattle.grammar_analysis.proofs.CornerFacts.{leads, reaches}
 

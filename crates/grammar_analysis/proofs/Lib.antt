@@ -8,7 +8,4 @@ pub mod CornerFacts
 pub mod ReferenceForms
 pub mod CornerEdges
 pub mod CountForms
-pub mod LexerForms
-pub mod LexerFacts
-pub mod LexerEdges
 pub mod BodyForms

@@ -1,12 +1,9 @@
 -- Which terms can be empty, where it is known which rules can be.
-use Rattle.std.specs.Prelude.{◌≡◌, ℕ, Bool, true, false, ◌&&◌, ◌||◌, List, [], map, slice_get, slice_index_or}
+use Rattle.std.specs.Prelude.{◌≡◌, ℕ, Bool, true, false, ◌&&◌, ◌||◌, List, [], map, slice_get}
 use Rattle.std.specs.Option.{option_map_or}
 use Rattle.grammar_tree.specs.Written.{WrittenTerm, WrittenGrammar, written_alts}
 use Rattle.grammar_tree.specs.Derives.{Term, Seq, Alts, Derives, bodies, resolved_alts}
-
--- what a table says of a number; false past its end
-abbrev pub flag : List Bool → ℕ → Bool
-flag flags r = slice_index_or flags r false
+use Rattle.node_tables.specs.Flags.{flag}
 
 -- whether a term can be empty, where `e` says this of rules
 abbrev mutual

@@ -1,8 +1,7 @@
 pub use Rattle.grammar_names.specs.Index
+pub use Rattle.node_tables.specs.Flags
 pub mod Empty
-pub mod Marking
 pub mod Loops
 pub mod Corners
 pub mod Recursion
 pub mod Rules
-pub mod Lexer

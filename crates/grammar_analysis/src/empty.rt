@@ -4,17 +4,12 @@ ghost use Rattle.std.specs.Prelude.{◌≡◌};
 ghost use Rattle.grammar_tree.specs.Derives.{resolved, resolved_alts, resolved_seq};
 ghost use Rattle.grammar_tree.specs.View.{parser_alts, parser_term, parser_terms};
 ghost use Rattle.grammar_tree.specs.Written.{WrittenTerm, written_alts, written_seq};
-ghost use Rattle.grammar_analysis.specs.Empty.{alts_is_empty, flag, is_empty, seq_is_empty};
+ghost use Rattle.node_tables.specs.Flags.{flag};
+ghost use Rattle.grammar_analysis.specs.Empty.{alts_is_empty, is_empty, seq_is_empty};
 
 use grammar_names::Names;
 use grammar_tree::{ParserAlts, ParserTerm, ParserTerms, Text};
-
-/// What a table says of a number; false past its end.
-pub fn is_flagged(flags: &[bool], number: u32) -> bool
-    ensures { result ≡ flag flags.now number }
-{
-    flags.get(number as usize).copied().unwrap_or(false)
-}
+use node_tables::is_flagged;
 
 /// Whether a name is that of a parser rule that can be empty, where the table says which can be.
 fn name_can_be_empty(name: &Text, names: &Names, flags: &[bool]) -> bool

@@ -6,11 +6,11 @@ ghost use Rattle.grammar_tree.specs.View.{parser_alts};
 ghost use Rattle.grammar_analysis.specs.Empty.{AreBodies, AreEmptyRules};
 
 use crate::empty::alts_can_be_empty;
-use crate::marking::{Test, least_table};
 use crate::parser_clauses::empty_order;
 use faults::Memory;
 use grammar_names::Names;
 use grammar_tree::ParserAlts;
+use node_tables::{Test, least_table};
 use std::alloc::Global;
 
 /// The alternatives of parser rules, in the order of their numbers.

@@ -3,10 +3,10 @@
 ghost use Rattle.std.specs.Prelude.{◌<◌, ◌^◌, List, IfOk, length};
 ghost use Rattle.std.specs.List.{All};
 
-use crate::horn::Clauses;
 use faults::Memory;
 use grammar_names::Names;
 use grammar_tree::{ParserAlts, ParserTerm, ParserTerms, Text};
+use node_tables::Clauses;
 use std::alloc::Global;
 
 /// Adds the rule of a name, where it is one. False says that a name is that of a token, which is

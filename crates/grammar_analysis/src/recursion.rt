@@ -7,7 +7,8 @@ ghost use Rattle.grammar_tree.specs.Derives.{bodies, resolved, resolved_alts, re
 ghost use Rattle.grammar_tree.specs.View.{parser_alts, parser_term, parser_terms};
 ghost use Rattle.grammar_tree.specs.Written.{written_alts, written_seq};
 ghost use Rattle.grammar_analysis.specs.Corners.{AreCornerEdges, alts_corners, rule_corners};
-ghost use Rattle.grammar_analysis.specs.Empty.{AreBodies, alts_is_empty, flag, is_empty, seq_is_empty};
+ghost use Rattle.node_tables.specs.Flags.{flag};
+ghost use Rattle.grammar_analysis.specs.Empty.{AreBodies, alts_is_empty, is_empty, seq_is_empty};
 ghost use Rattle.grammar_analysis.specs.Recursion.{is_empty_base};
 
 use crate::corners::add_seq_corners;

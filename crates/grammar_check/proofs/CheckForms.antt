@@ -1,24 +1,24 @@
 -- The rows of the table of faults, and the grammar that has none of them.
-use Rattle.std.proofs.Common.{◌≡◌, ◌<◌, ℕ, List, [], Option, Some, None, slice_get, refl, sym, ap, ◌∙◌, subst, arith}
+use Rattle.std.proofs.Common.{◌≡◌, ◌<◌, ℕ, List, Option, Some, None, slice_get, refl, sym, ap, ◌∙◌, subst, arith}
 use Rattle.std.specs.Prelude.{option_map}
 use Rattle.std.proofs.lemmas.Option.{none-some, same_Some}
 use Rattle.grammar_tree.specs.Faults as fault
 use Rattle.grammar_tree.specs.Faults.{IsWellFormed, NoStart, start_of}
-use Rattle.grammar_tree.specs.Kinds.{parser_rules, rule_name}
+use Rattle.grammar_tree.specs.Kinds.{rule_name}
 use Rattle.grammar_tree.specs.Written.{WrittenRule, WrittenGrammar}
 use Rattle.grammar_tree.proofs.Counts.{start_is_found}
 use Rattle.grammar_tree.proofs.StartLaws.{there}
 use Rattle.graph_cycles.specs.First.{Nowhere}
-use Rattle.grammar_check.specs.Answer.{IsFirstNamed}
+use Rattle.rule_faults.specs.Answer.{IsFirstNamed}
 use Rattle.grammar_check.specs.CheckFaults.{HasNoneBefore, HoldsAt, IsFirstInTable, IsNamedAt, row}
 use Rattle.grammar_check.specs.Laws.{NoFaultIsWellFormed, WellFormedHasNoFault}
-use Rattle.grammar_check.specs.Twins.{IsTwinAt}
-use Rattle.grammar_check.specs.Unknown.{IsFirstUnknown, IsUnknownAt}
+use Rattle.rule_faults.specs.Twins.{IsTwinAt}
+use Rattle.rule_faults.specs.Unknown.{IsFirstUnknown, IsUnknownAt}
 use Rattle.grammar_check.specs.declared.fault.CheckFault.{CheckFault}
 use Rattle.grammar_check.specs.declared.fault.CheckFault.TheVariants as variant
-use Rattle.grammar_check.proofs.AnswerForms.{HasRules, baseless_are_rules, empty_loops_in_rules, eof_in_rules, loops_are_rules, recursive_are_rules, shorts_are_rules, tokens_are_rules}
+use Rattle.rule_faults.proofs.AnswerForms.{HasRules, baseless_are_rules, empty_loops_in_rules, eof_in_rules, loops_are_rules, recursive_are_rules, shorts_are_rules, tokens_are_rules}
 use Rattle.grammar_check.proofs.Table.{IsOfRow, first_at, first_named, none_at_all, passed}
-use Rattle.grammar_check.proofs.Twins.{no_two}
+use Rattle.rule_faults.proofs.Twins.{no_two}
 
 module _ (G : WrittenGrammar) (wanted : Option (List ℕ)) where
   rule_named : (o : Option WrittenRule) (name : List ℕ) → option_map rule_name o ≡ Some name → (rule : WrittenRule) × (o ≡ Some rule) × (rule_name rule ≡ name)
@@ -169,21 +169,3 @@ no_fault_is_well_formed G wanted none = by (start_of G wanted) refl
     by : (o : Option ℕ) → start_of G wanted ≡ o → (start : ℕ) × (start_of G wanted ≡ Some start) × IsWellFormed G start
     by None e = let it = (start_is_found G).missing wanted e in absurd (none (variant.NoStart it.0) 0 it.1)
     by (Some start) e = (start, e, fine G wanted (λ other i lt. none other i) start e)
-
-module _ (G : WrittenGrammar) where
-  no_rules : (name : List ℕ) → NoStart G None name → parser_rules G.rules ≡ []
-  no_rules name (NoStart.no_parser_rule w e) = e
-
-  pub none_wanted : start_of G None ≡ None → NoStart G None []
-  none_wanted e = let it = (start_is_found G).missing None e in NoStart.no_parser_rule None (no_rules it.0 it.1)
-
-  pub none_there : (name : List ℕ) → start_of G None ≡ None → NoStart G (Some name) []
-  none_there name e = let it = (start_is_found G).missing None e in NoStart.no_parser_rule (Some name) (no_rules it.0 it.1)
-
-  module _ (s : List ℕ) (i : ℕ) (some : start_of G None ≡ Some i) where
-    its_name : (name : List ℕ) → NoStart G (Some s) name → NoStart G (Some s) s
-    its_name name (NoStart.not_there n rules missing) = NoStart.not_there n rules missing
-    its_name name (NoStart.no_parser_rule w e) = absurd ((start_is_found G).there None i some [] (NoStart.no_parser_rule None e))
-
-    pub not_found : start_of G (Some s) ≡ None → NoStart G (Some s) s
-    not_found e = let it = (start_is_found G).missing (Some s) e in its_name it.0 it.1

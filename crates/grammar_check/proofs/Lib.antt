@@ -1,12 +1,4 @@
 pub mod KindForms
-pub mod FirstForms
-pub mod LexerChecks
-pub mod FoundFirst
-pub mod Twins
-pub mod EofForms
-pub mod FindForms
-pub mod IndexForms
-pub mod UnknownForms
-pub mod AnswerForms
 pub mod Table
 pub mod CheckForms
+pub mod MessageForms

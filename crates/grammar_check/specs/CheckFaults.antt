@@ -2,9 +2,9 @@
 use Rattle.std.specs.Prelude.{◌≡◌, ◌≢◌, ◌⊎◌, ◌<◌, ℕ, List, Option, Some, None}
 use Rattle.grammar_tree.specs.Faults as fault
 use Rattle.grammar_tree.specs.Written.{WrittenGrammar}
-use Rattle.grammar_check.specs.Answer.{name_at}
+use Rattle.rule_faults.specs.Answer.{name_at}
 use Rattle.graph_cycles.specs.First.{IsFirstOrNone}
-use Rattle.grammar_check.specs.LexerFaults.{LexerLoopAt}
+use Rattle.rule_faults.specs.LexerFaults.{LexerLoopAt}
 use Rattle.grammar_check.specs.declared.fault.Answer.{Answer}
 use Rattle.grammar_check.specs.declared.fault.Answer.TheVariants.{Broken, Fine}
 use Rattle.grammar_check.specs.declared.fault.CheckFault.{CheckFault}
@@ -65,10 +65,10 @@ abbrev pub IsLexerAnswer : WrittenGrammar → Option (List ℕ) → LexerAnswer 
 IsLexerAnswer G wanted (Faulty it) = IsFirstInTable G wanted it
 IsLexerAnswer G wanted (Sound index) = HasNoneBefore G wanted 8 × IsFirstOrNone (LexerLoopAt G) index
 
--- of the rows of the parser: its first fault, or that it has none
-abbrev pub IsParserAnswer : WrittenGrammar → Option (List ℕ) → Option CheckFault → Type 0
-IsParserAnswer G wanted None = HasNoneBefore G wanted 12
-IsParserAnswer G wanted (Some it) = IsFirstInTable G wanted it
+-- the first fault in the table; or, where there is no fault, that none holds of a row before this one
+abbrev pub IsFirstBefore : WrittenGrammar → Option (List ℕ) → ℕ → Option CheckFault → Type 0
+IsFirstBefore G wanted k None = HasNoneBefore G wanted k
+IsFirstBefore G wanted k (Some it) = IsFirstInTable G wanted it
 
 -- the fault that the grammar has first; or the index of its start, where it is well-formed
 abbrev pub IsAnswer : WrittenGrammar → Option (List ℕ) → Answer → Type 0

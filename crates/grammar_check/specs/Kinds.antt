@@ -1,12 +1,8 @@
 -- The kinds of tokens of a grammar, as they are found one after another.
-use Rattle.std.specs.Prelude.{ℕ, false, List, [], ◌∷◌, Option, Some, None, filter, is_none, if◌then◌else◌}
+use Rattle.std.specs.Prelude.{ℕ, false, List, [], ◌∷◌, Option, filter, is_none, if◌then◌else◌}
 use Rattle.std.specs.List.{list_any}
 use Rattle.grammar_tree.specs.Kinds.{same_text}
 use Rattle.grammar_tree.specs.Written.{Source, TokenKind}
-
--- what an index of the texts so far says of a text
-abbrev pub seen_in : List (List ℕ) → List ℕ → Option ℕ
-seen_in texts t = if list_any (λ u. same_text u t) texts then Some 0 else None
 
 -- the texts that an index has no number for
 abbrev pub absent : (List ℕ → Option ℕ) → List (List ℕ) → List (List ℕ)

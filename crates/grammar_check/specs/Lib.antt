@@ -1,12 +1,7 @@
 pub use Rattle.graph_cycles.specs.First
+pub use Rattle.rule_faults.specs.LexerFaults
+pub use Rattle.rule_faults.specs.Answer
 pub mod Kinds
-pub mod ParserFaults
-pub mod LexerFaults
-pub mod Twins
-pub mod Eof
-pub mod Unknown
-pub mod ParserIndices
-pub mod Answer
 pub mod CheckFaults
 pub mod Messages
 pub mod Check

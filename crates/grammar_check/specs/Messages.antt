@@ -1,8 +1,12 @@
 -- The text that a fault of a grammar prints. Names print as their UTF-8.
 use Rattle.std.specs.Prelude.{ℕ, List, ◌++◌, codes, decimal, encode_utf8_all, if◌then◌else◌}
-use Rattle.grammar_analysis.specs.Lexer.{is_nil}
+use Rattle.lexer_analysis.specs.Lexer.{is_nil}
 use Rattle.grammar_check.specs.declared.fault.CheckFault.{CheckFault}
 use Rattle.grammar_check.specs.declared.fault.CheckFault.TheVariants.{TwoRules, NoRule, NoStart, EofPlace, FragmentLoop, ShortUse, EmptyToken, NoBase, EmptyLoop, LeftRecursion, TooManyRules, Memory}
+
+-- what is printed before the name of a start rule that isn't there
+abbrev pub no_start : List ℕ → List ℕ
+no_start name = if is_nil name then codes "no start" else codes "no start "
 
 abbrev pub fault_text : CheckFault → List ℕ
 fault_text (TwoRules name) = codes "two rules " ++ encode_utf8_all name

@@ -1,7 +1,10 @@
 //! The faults of a grammar, and the texts that they print.
 
-use grammar_analysis::is_empty_text;
+ghost use Rattle.std.specs.Prelude.{◌≡◌};
+ghost use Rattle.grammar_check.specs.Messages.{no_start};
+
 use grammar_tree::Text;
+use lexer_analysis::is_empty_text;
 use std::fmt;
 
 /// Why a grammar wasn't checked: its first fault in the order in which they are listed here, or out
@@ -44,23 +47,29 @@ pub enum CheckFault {
     Memory,
 }
 
+/// What is printed before the name of a start rule that isn't there; no space where it is empty.
+fn no_start(name: &Text) -> &'static str
+    ensures { result.now ≡ no_start name.now }
+{
+    if is_empty_text(name) {
+        "no start"
+    } else {
+        "no start "
+    }
+}
+
 impl fmt::Display for CheckFault {
     ghost use Rattle.std.specs.Prelude.{Some};
     ghost use Rattle.grammar_check.specs.Messages.{fault_text};
 
     ghost output = { λ fault. Some (fault_text fault) };
 
+    #[tactic(auto, using(crate::proofs::MessageForms::no_start_then))]
     fn fmt<W: fmt::Write>(&self, f: &mut fmt::Formatter<W>) -> fmt::Result {
         match self {
             CheckFault::TwoRules { name } => write!(f, "two rules {name}"),
             CheckFault::NoRule { name } => write!(f, "no rule {name}"),
-            CheckFault::NoStart { name } => {
-                if is_empty_text(name) {
-                    f.write_str("no start")
-                } else {
-                    write!(f, "no start {name}")
-                }
-            }
+            CheckFault::NoStart { name } => write!(f, "{}{name}", no_start(name)),
             CheckFault::EofPlace { rule } => write!(f, "misplaced EOF in {rule}"),
             CheckFault::FragmentLoop { rule } => write!(f, "fragment loop in {rule}"),
             CheckFault::ShortUse { rule } => write!(f, "non-greedy rule {rule} is used"),

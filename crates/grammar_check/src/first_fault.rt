@@ -6,16 +6,14 @@ ghost use Rattle.grammar_tree.specs.Kinds.{kinds_of};
 ghost use Rattle.grammar_tree.specs.Size.{grammar_size};
 ghost use Rattle.grammar_check.specs.CheckFaults.{IsAnswer};
 
-use crate::answer::{misplaced_eof, twin};
 use crate::fault::{Answer, CheckFault};
 use crate::lexer_fault::{LexerAnswer, lexer_fault};
 use crate::parser_fault::parser_fault;
-use crate::rule_checks::{find_start, missing_name};
-use crate::unknown::first_unknown_use;
 use faults::Memory;
-use grammar_analysis::LexerNames;
 use grammar_names::Names;
 use grammar_tree::{Grammar, Kind};
+use lexer_analysis::LexerNames;
+use rule_faults::{find_start, first_unknown_use, misplaced_eof, missing_name, twin};
 use std::alloc::Global;
 
 /// The fault of a grammar that is first in the table, or the index of its start rule where it has

@@ -4,20 +4,13 @@
 //! `IsFirstInTable` in `specs/CheckFaults.antt`.
 #![tactic(auto)]
 
-mod answer;
 mod checking;
-mod eof;
 mod fault;
 mod first_fault;
 mod kinds;
 mod laws;
-mod lexer_checks;
 mod lexer_fault;
-mod parser_checks;
 mod parser_fault;
-mod parser_indices;
-mod rule_checks;
-mod unknown;
 
 pub use checking::check;
 pub use fault::CheckFault;

@@ -2,21 +2,35 @@
 
 ghost use Rattle.std.specs.Prelude.{◌≡◌, ℕ, ◌<◌, ◌^◌, List, Option, IfOk};
 ghost use Rattle.grammar_tree.specs.GrammarView.{grammar_of};
+ghost use Rattle.grammar_tree.specs.Corners.{normal_count};
+ghost use Rattle.grammar_tree.specs.Derives.{bodies};
 ghost use Rattle.grammar_tree.specs.Size.{grammar_size};
-ghost use Rattle.grammar_check.specs.CheckFaults.{HasNoneBefore, IsParserAnswer};
+ghost use Rattle.grammar_tree.specs.Written.{WrittenGrammar};
+ghost use Rattle.grammar_check.specs.CheckFaults.{HasNoneBefore, IsFirstBefore};
 ghost use Rattle.graph_cycles.specs.First.{IsFirstOrNone};
-ghost use Rattle.grammar_check.specs.LexerFaults.{LexerLoopAt};
+ghost use Rattle.rule_faults.specs.LexerFaults.{LexerLoopAt};
 
-use crate::answer::name_at;
 use crate::fault::CheckFault;
-use crate::parser_indices::{
-    first_empty_loop, index_with_loop, index_without_base, left_recursive_index, parser_indices,
-};
 use faults::Memory;
 use grammar_analysis::{empty_bodies, normal_count, numbered_bodies};
 use grammar_names::Names;
 use grammar_tree::Grammar;
+use rule_faults::{
+    first_empty_loop, index_with_loop, index_without_base, left_recursive_index, name_at,
+    parser_indices,
+};
 use std::alloc::Global;
+
+/// The fault of a normal form with this many rules, where they are too many.
+fn count_fault(count: u64) -> Option<CheckFault>
+    ensures { (G : WrittenGrammar) (wanted : Option (List ℕ)) → count ≡ normal_count (bodies G) → HasNoneBefore G wanted 11 → IsFirstBefore G wanted 12 result }
+{
+    if count > 65535 {
+        Some(CheckFault::TooManyRules { count })
+    } else {
+        None
+    }
+}
 
 /// The first fault of the rules of the parser, from rules without a base on; the first lexer rule
 /// with an empty loop is at the given index.
@@ -29,7 +43,7 @@ pub(crate) fn parser_fault(
     requires names { names.now ≡ grammar_of grammar.now }
     requires small { grammar_size (grammar_of grammar.now) < 2 ^ 32 }
     requires lexer { IsFirstOrNone (LexerLoopAt (grammar_of grammar.now)) lexer_loop }
-    ensures { (wanted : Option (List ℕ)) → HasNoneBefore (grammar_of grammar.now) wanted 8 → IfOk result (IsParserAnswer (grammar_of grammar.now) wanted) }
+    ensures { (wanted : Option (List ℕ)) → HasNoneBefore (grammar_of grammar.now) wanted 8 → IfOk result (IsFirstBefore (grammar_of grammar.now) wanted 12) }
 {
     let indices = parser_indices(alloc, &grammar.rules)?;
     let rules = numbered_bodies(alloc, grammar, names)?;
@@ -47,9 +61,5 @@ pub(crate) fn parser_fault(
     if let Some(rule) = name_at(grammar, corner)? {
         return Ok(Some(CheckFault::LeftRecursion { rule }));
     }
-    let count = normal_count(&rules, names);
-    if count > 65535 {
-        return Ok(Some(CheckFault::TooManyRules { count }));
-    }
-    Ok(None)
+    Ok(count_fault(normal_count(&rules, names)))
 }

@@ -6,7 +6,7 @@ use Rattle.grammar_tree.specs.Derives.{resolved_seq}
 use Rattle.grammar_tree.specs.View.{parser_terms}
 use Rattle.grammar_tree.specs.Written.{written_seq}
 use Rattle.grammar_analysis.specs.Corners.{seq_corners}
-use Rattle.grammar_analysis.specs.Empty.{flag}
+use Rattle.node_tables.specs.Flags.{flag}
 use Rattle.grammar_analysis.proofs.CornerForms.{alts_by_flat, goes_on, seq_end, stops}
 use Rattle.grammar_analysis.proofs.corners.+corners.Goals as goal
 

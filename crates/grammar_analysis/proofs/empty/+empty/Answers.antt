@@ -1,11 +1,13 @@
-use Rattle.std.proofs.Common.{Bool, List, sym, ◌∙◌, arith}
+use Rattle.std.proofs.Common.{Bool, List, sym, ap, ◌∙◌, arith}
 use Rattle.grammar_tree.specs.Derives.{resolved, resolved_seq}
 use Rattle.grammar_tree.specs.View.{parser_term, parser_terms}
-use Rattle.grammar_tree.specs.Written.{WrittenGrammar, written_seq}
+use Rattle.grammar_tree.specs.Written.{WrittenGrammar, WrittenTerm, written_seq}
 use Rattle.grammar_tree.specs.declared.parser_term.ParserAlts.{out-ParserAlts}
 use Rattle.grammar_tree.specs.declared.parser_term.ParserTerm.{ParserTerm}
 use Rattle.grammar_tree.specs.declared.parser_term.ParserTerms.{ParserTerms, out-ParserTerms}
-use Rattle.grammar_analysis.specs.Empty.{flag, is_empty, seq_is_empty}
+use Rattle.grammar_tree.proofs.ParserViews.{parser_term-Plus}
+use Rattle.node_tables.specs.Flags.{flag}
+use Rattle.grammar_analysis.specs.Empty.{is_empty, seq_is_empty}
 use Rattle.grammar_analysis.proofs.EmptyForms.{alts_by_any, seq_by_all}
 use Rattle.grammar_analysis.proofs.Traversed.{all_fails, all_pass, any_passes, none_passes}
 use Rattle.grammar_analysis.proofs.empty.+empty.Goals as goal
@@ -39,3 +41,8 @@ seq_can_be_empty-returns t c =
     let whole = out-ParserTerms c.args.terms.now in
     sym (seq_by_all (flag c.args.flags.now) c.args.names.now c.args.terms.now
     ∙ all_pass (one c.args.flags.now c.args.names.now) whole.items.items c.loop-i.i (omega (arith, whole.items.ok.0)) c.loop-i.invariant)
+
+pub term_can_be_empty-returns-in-Plus : goal.term_can_be_empty-returns-in-Plus
+term_can_be_empty-returns-in-Plus t c =
+    let test = λ (w : WrittenTerm). is_empty (flag c.args.flags.now) (resolved c.args.names.now w) in
+    c.term_can_be_empty.ensures ∙ ap (one c.args.flags.now c.args.names.now) c.deref.ensures ∙ sym (ap test (ap parser_term c.in-Plus.is ∙ parser_term-Plus c.in-Plus.term))

@@ -5,7 +5,8 @@ use Rattle.grammar_tree.specs.declared.parser_term.ParserTerms.{out-ParserTerms}
 use Rattle.grammar_tree.specs.Derives.{resolved, resolved_seq}
 use Rattle.grammar_tree.specs.View.{parser_term, parser_terms}
 use Rattle.grammar_tree.specs.Written.{written_seq}
-use Rattle.grammar_analysis.specs.Empty.{flag, is_empty, seq_is_empty}
+use Rattle.node_tables.specs.Flags.{flag}
+use Rattle.grammar_analysis.specs.Empty.{is_empty, seq_is_empty}
 use Rattle.grammar_analysis.proofs.empty.+empty.Given as goal
 
 abbrev pub invariant-alts_can_be_empty-loop-i : goal.invariant-alts_can_be_empty-loop-i

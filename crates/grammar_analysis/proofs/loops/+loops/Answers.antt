@@ -1,11 +1,12 @@
-use Rattle.std.proofs.Common.{Bool, List, sym, ◌∙◌, arith}
+use Rattle.std.proofs.Common.{Bool, List, sym, ap, ◌∙◌, arith}
 use Rattle.grammar_tree.specs.Derives.{resolved, resolved_seq}
 use Rattle.grammar_tree.specs.View.{parser_term, parser_terms}
-use Rattle.grammar_tree.specs.Written.{WrittenGrammar, written_seq}
+use Rattle.grammar_tree.specs.Written.{WrittenGrammar, WrittenTerm, written_seq}
 use Rattle.grammar_tree.specs.declared.parser_term.ParserAlts.{out-ParserAlts}
 use Rattle.grammar_tree.specs.declared.parser_term.ParserTerm.{ParserTerm}
 use Rattle.grammar_tree.specs.declared.parser_term.ParserTerms.{ParserTerms, out-ParserTerms}
-use Rattle.grammar_analysis.specs.Empty.{flag}
+use Rattle.grammar_tree.proofs.ParserViews.{parser_term-Opt}
+use Rattle.node_tables.specs.Flags.{flag}
 use Rattle.grammar_analysis.specs.Loops.{has_loop, seq_has_loop}
 use Rattle.grammar_analysis.proofs.LoopForms.{alts_by_any, seq_by_any}
 use Rattle.grammar_analysis.proofs.Traversed.{any_passes, none_passes}
@@ -40,3 +41,8 @@ seq_has_empty_loop-returns t c =
     let whole = out-ParserTerms c.args.terms.now in
     sym (seq_by_any (flag c.args.flags.now) c.args.names.now c.args.terms.now
     ∙ none_passes (one c.args.flags.now c.args.names.now) whole.items.items c.loop-i.i (omega (arith, whole.items.ok.0)) c.loop-i.invariant)
+
+pub term_has_empty_loop-returns-in-Opt : goal.term_has_empty_loop-returns-in-Opt
+term_has_empty_loop-returns-in-Opt t c =
+    let test = λ (w : WrittenTerm). has_loop (flag c.args.flags.now) (resolved c.args.names.now w) in
+    c.term_has_empty_loop.ensures ∙ ap (one c.args.flags.now c.args.names.now) c.deref.ensures ∙ sym (ap test (ap parser_term c.in-Opt.is ∙ parser_term-Opt c.in-Opt.term))

@@ -6,7 +6,8 @@ use Rattle.grammar_tree.specs.Derives.{resolved_seq}
 use Rattle.grammar_tree.specs.View.{parser_terms}
 use Rattle.grammar_tree.specs.Written.{WrittenGrammar, written_seq}
 use Rattle.grammar_tree.specs.declared.parser_term.ParserTerms.{ParserTerms}
-use Rattle.grammar_analysis.specs.Empty.{flag, seq_is_empty}
+use Rattle.node_tables.specs.Flags.{flag}
+use Rattle.grammar_analysis.specs.Empty.{seq_is_empty}
 use Rattle.grammar_analysis.proofs.RecursionForms.{rests_by_any}
 use Rattle.grammar_analysis.proofs.Traversed.{any_passes, none_passes}
 use Rattle.grammar_analysis.proofs.recursion.some_rest_can_be_empty.Goals as goal

@@ -5,7 +5,8 @@ use Rattle.grammar_tree.specs.Corners.{rest_of}
 use Rattle.grammar_tree.specs.Derives.{resolved_seq}
 use Rattle.grammar_tree.specs.View.{parser_terms}
 use Rattle.grammar_tree.specs.Written.{written_seq}
-use Rattle.grammar_analysis.specs.Empty.{flag, seq_is_empty}
+use Rattle.node_tables.specs.Flags.{flag}
+use Rattle.grammar_analysis.specs.Empty.{seq_is_empty}
 use Rattle.grammar_analysis.proofs.recursion.some_rest_can_be_empty.Given as goal
 
 abbrev pub invariant-loop-terms : goal.invariant-loop-terms

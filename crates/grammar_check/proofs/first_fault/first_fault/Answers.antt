@@ -5,14 +5,14 @@ use Rattle.grammar_tree.specs.Faults.{EofPlace}
 use Rattle.grammar_tree.specs.GrammarView.{grammar_of, rule_of}
 use Rattle.grammar_tree.specs.Written.{WrittenGrammar}
 use Rattle.grammar_tree.proofs.Counts.{counts_fit}
-use Rattle.grammar_check.specs.CheckFaults.{IsLexerAnswer, IsParserAnswer}
-use Rattle.grammar_check.specs.Twins.{IsTwinAt}
-use Rattle.grammar_check.specs.Unknown.{IsFirstUnknown}
+use Rattle.grammar_check.specs.CheckFaults.{IsFirstBefore, IsLexerAnswer}
+use Rattle.rule_faults.specs.Twins.{IsTwinAt}
+use Rattle.rule_faults.specs.Unknown.{IsFirstUnknown}
 use Rattle.grammar_check.specs.declared.fault.CheckFault.{CheckFault}
 use Rattle.grammar_check.specs.declared.lexer_fault.LexerAnswer.{LexerAnswer}
-use Rattle.grammar_check.proofs.AnswerForms.{with_name}
+use Rattle.rule_faults.proofs.AnswerForms.{with_name}
 use Rattle.grammar_check.proofs.CheckForms.{before_eof, before_loops, eof_at, fine, no_rule, no_start, two_rules}
-use Rattle.grammar_check.proofs.Twins.{one_rule}
+use Rattle.rule_faults.proofs.Twins.{one_rule}
 use Rattle.grammar_check.proofs.first_fault.first_fault.Goals as goal
 
 abbrev text : Bor (List ℕ) → List ℕ
@@ -112,7 +112,7 @@ returns-in-Some-5 c =
     let ends = before_loops G wanted c.in-Some-3.start found started (with_name G (EofPlace G c.in-Some-3.start) c.in_ok-rule.field-0 None c.in_default-4.is c.in_ok-rule.ensures) in
     let Lexer : LexerAnswer → Type 0 = λ a. IsLexerAnswer G wanted a in
     let lexer = subst Lexer c.in-Sound.is (c.in_ok-fault.ensures wanted ends) in
-    let Parser : Option CheckFault → Type 0 = λ a. IsParserAnswer G wanted a in
+    let Parser : Option CheckFault → Type 0 = λ a. IsFirstBefore G wanted 12 a in
     subst Parser c.in-Some-5.is (c.in_ok-fault-in-Sound.ensures wanted lexer.0)
 
 pub returns : goal.returns
@@ -128,5 +128,5 @@ returns c =
     let ends = before_loops G wanted c.in-Some-3.start found started (with_name G (EofPlace G c.in-Some-3.start) c.in_ok-rule.field-0 None c.in_default-4.is c.in_ok-rule.ensures) in
     let Lexer : LexerAnswer → Type 0 = λ a. IsLexerAnswer G wanted a in
     let lexer = subst Lexer c.in-Sound.is (c.in_ok-fault.ensures wanted ends) in
-    let Parser : Option CheckFault → Type 0 = λ a. IsParserAnswer G wanted a in
+    let Parser : Option CheckFault → Type 0 = λ a. IsFirstBefore G wanted 12 a in
     (fine G wanted (subst Parser c.in-None.is (c.in_ok-fault-in-Sound.ensures wanted lexer.0)) c.in-Some-3.start found, found)

@@ -1,0 +1,3 @@
+pub mod LexerForms
+pub mod LexerFacts
+pub mod LexerEdges

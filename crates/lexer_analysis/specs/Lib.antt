@@ -1,0 +1,2 @@
+pub use Rattle.node_tables.specs.Flags
+pub mod Lexer

@@ -1,0 +1,11 @@
+pub mod SeenForms
+pub mod FirstForms
+pub mod LexerChecks
+pub mod FoundFirst
+pub mod Twins
+pub mod EofForms
+pub mod FindForms
+pub mod IndexForms
+pub mod UnknownForms
+pub mod AnswerForms
+pub mod StartForms

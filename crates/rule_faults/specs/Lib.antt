@@ -1,0 +1,11 @@
+pub use Rattle.graph_cycles.specs.First
+pub use Rattle.grammar_analysis.specs.Empty
+pub use Rattle.lexer_analysis.specs.Lexer
+pub mod ParserFaults
+pub mod LexerFaults
+pub mod Twins
+pub mod Eof
+pub mod Unknown
+pub mod ParserIndices
+pub mod Answer
+pub mod Seen

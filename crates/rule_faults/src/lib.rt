@@ -1,0 +1,21 @@
+//! Where a grammar has each of its faults first: the index of the first rule that has it, or the name
+//! of the first use of a name. Each is found in time near linear in the grammar's size.
+//!
+//! Read `grammar_tree/specs/Faults.antt` first, which says what each fault is.
+#![tactic(auto)]
+
+mod answer;
+mod eof;
+mod lexer_checks;
+mod parser_checks;
+mod parser_rules;
+mod rule_checks;
+mod unknown;
+
+pub use answer::{fragment_loop, misplaced_eof, name_at, twin};
+pub use lexer_checks::{first_empty_token, first_lexer_loop};
+pub use parser_rules::{
+    first_empty_loop, index_with_loop, index_without_base, left_recursive_index, parser_indices,
+};
+pub use rule_checks::{find_start, first_short_use, missing_name};
+pub use unknown::first_unknown_use;
