@@ -45,27 +45,6 @@ pub struct LexAlts {
     pub items: Vec<LexTerms>,
 }
 
-/// The term at most once.
-fn opt(alloc: Global, term: LexTerm) -> Result<LexTerm, Memory>
-    ensures { IfOk result (λ t. lex_term t ≡ LexerTerm.opt (lex_term term)) }
-{
-    Ok(LexTerm::Opt(Box::new(alloc, term)?))
-}
-
-/// The term any number of times.
-fn star(alloc: Global, term: LexTerm) -> Result<LexTerm, Memory>
-    ensures { IfOk result (λ t. lex_term t ≡ LexerTerm.star (lex_term term)) }
-{
-    Ok(LexTerm::Star(Box::new(alloc, term)?))
-}
-
-/// The term once or more.
-fn plus(alloc: Global, term: LexTerm) -> Result<LexTerm, Memory>
-    ensures { IfOk result (λ t. lex_term t ≡ LexerTerm.plus (lex_term term)) }
-{
-    Ok(LexTerm::Plus(Box::new(alloc, term)?))
-}
-
 /// The non-greedy star of an equal set.
 fn short(set: &CharSet) -> Result<LexTerm, Memory>
     ensures { IfOk result (λ t. lex_term t ≡ LexerTerm.short set.now) }
@@ -74,6 +53,27 @@ fn short(set: &CharSet) -> Result<LexTerm, Memory>
 }
 
 impl LexTerm {
+    /// The term at most once.
+    pub fn opt(alloc: Global, term: LexTerm) -> Result<LexTerm, Memory>
+        ensures { IfOk result (λ t. lex_term t ≡ LexerTerm.opt (lex_term term)) }
+    {
+        Ok(LexTerm::Opt(Box::new(alloc, term)?))
+    }
+
+    /// The term any number of times.
+    pub fn star(alloc: Global, term: LexTerm) -> Result<LexTerm, Memory>
+        ensures { IfOk result (λ t. lex_term t ≡ LexerTerm.star (lex_term term)) }
+    {
+        Ok(LexTerm::Star(Box::new(alloc, term)?))
+    }
+
+    /// The term once or more.
+    pub fn plus(alloc: Global, term: LexTerm) -> Result<LexTerm, Memory>
+        ensures { IfOk result (λ t. lex_term t ≡ LexerTerm.plus (lex_term term)) }
+    {
+        Ok(LexTerm::Plus(Box::new(alloc, term)?))
+    }
+
     /// An equal term.
     #[cycle(copy)]
     pub fn copy(&self, alloc: Global) -> Result<LexTerm, Memory>
@@ -84,9 +84,9 @@ impl LexTerm {
             LexTerm::Set(set) => Ok(LexTerm::Set(set.copy()?)),
             LexTerm::Name(name) => Ok(LexTerm::Name(name.copy()?)),
             LexTerm::Block(alts) => Ok(LexTerm::Block(alts.copy(alloc)?)),
-            LexTerm::Opt(term) => opt(alloc, term.copy(alloc)?),
-            LexTerm::Star(term) => star(alloc, term.copy(alloc)?),
-            LexTerm::Plus(term) => plus(alloc, term.copy(alloc)?),
+            LexTerm::Opt(term) => LexTerm::opt(alloc, term.copy(alloc)?),
+            LexTerm::Star(term) => LexTerm::star(alloc, term.copy(alloc)?),
+            LexTerm::Plus(term) => LexTerm::plus(alloc, term.copy(alloc)?),
             LexTerm::Short(set) => short(set),
         }
     }

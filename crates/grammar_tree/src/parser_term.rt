@@ -85,28 +85,28 @@ impl TokenRefs {
     }
 }
 
-/// The term at most once.
-fn opt(alloc: Global, term: ParserTerm) -> Result<ParserTerm, Memory>
-    ensures { IfOk result (λ t. parser_term t ≡ WrittenTerm.opt (parser_term term)) }
-{
-    Ok(ParserTerm::Opt(Box::new(alloc, term)?))
-}
-
-/// The term any number of times.
-fn star(alloc: Global, term: ParserTerm) -> Result<ParserTerm, Memory>
-    ensures { IfOk result (λ t. parser_term t ≡ WrittenTerm.star (parser_term term)) }
-{
-    Ok(ParserTerm::Star(Box::new(alloc, term)?))
-}
-
-/// The term once or more.
-fn plus(alloc: Global, term: ParserTerm) -> Result<ParserTerm, Memory>
-    ensures { IfOk result (λ t. parser_term t ≡ WrittenTerm.plus (parser_term term)) }
-{
-    Ok(ParserTerm::Plus(Box::new(alloc, term)?))
-}
-
 impl ParserTerm {
+    /// The term at most once.
+    pub fn opt(alloc: Global, term: ParserTerm) -> Result<ParserTerm, Memory>
+        ensures { IfOk result (λ t. parser_term t ≡ WrittenTerm.opt (parser_term term)) }
+    {
+        Ok(ParserTerm::Opt(Box::new(alloc, term)?))
+    }
+
+    /// The term any number of times.
+    pub fn star(alloc: Global, term: ParserTerm) -> Result<ParserTerm, Memory>
+        ensures { IfOk result (λ t. parser_term t ≡ WrittenTerm.star (parser_term term)) }
+    {
+        Ok(ParserTerm::Star(Box::new(alloc, term)?))
+    }
+
+    /// The term once or more.
+    pub fn plus(alloc: Global, term: ParserTerm) -> Result<ParserTerm, Memory>
+        ensures { IfOk result (λ t. parser_term t ≡ WrittenTerm.plus (parser_term term)) }
+    {
+        Ok(ParserTerm::Plus(Box::new(alloc, term)?))
+    }
+
     /// An equal term.
     #[cycle(copy)]
     pub fn copy(&self, alloc: Global) -> Result<ParserTerm, Memory>
@@ -118,9 +118,9 @@ impl ParserTerm {
             ParserTerm::Any => Ok(ParserTerm::Any),
             ParserTerm::Not(refs) => Ok(ParserTerm::Not(refs.copy(alloc)?)),
             ParserTerm::Block(alts) => Ok(ParserTerm::Block(alts.copy(alloc)?)),
-            ParserTerm::Opt(term) => opt(alloc, term.copy(alloc)?),
-            ParserTerm::Star(term) => star(alloc, term.copy(alloc)?),
-            ParserTerm::Plus(term) => plus(alloc, term.copy(alloc)?),
+            ParserTerm::Opt(term) => ParserTerm::opt(alloc, term.copy(alloc)?),
+            ParserTerm::Star(term) => ParserTerm::star(alloc, term.copy(alloc)?),
+            ParserTerm::Plus(term) => ParserTerm::plus(alloc, term.copy(alloc)?),
             ParserTerm::Eof => Ok(ParserTerm::Eof),
         }
     }
