@@ -1,3 +1,2 @@
-pub mod Spelled
 pub mod Next
 pub mod Pieces

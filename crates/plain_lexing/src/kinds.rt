@@ -8,9 +8,9 @@ ghost use Rattle.grammar_tree.specs.Lexes.{SourceMatches};
 ghost use Rattle.grammar_tree.specs.Matches.{MatchesRule};
 ghost use Rattle.plain_lexing.specs.Next.{IsLeastKind, MatchesNothing};
 
-use crate::lexer_rules::matches_rule;
 use faults::Memory;
 use grammar_tree::{Checked, Kind, KindSource, Rule, Text};
+use plain_matches::matches_rule;
 use std::alloc::Global;
 
 /// Whether the kind matches the whole text.

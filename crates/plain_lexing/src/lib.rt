@@ -4,7 +4,7 @@
 //! Begin with [`matches_rule`] (does a lexer rule match this text?) and [`lex`] (into which pieces is
 //! this text cut?). Read `Matches` and `Lexes` in `grammar_tree` first.
 //!
-//! Terms are seen as patterns over lists of characters (`pattern_spans`), which says what a table of
+//! Texts are matched by `plain_matches`, over patterns (`pattern_spans`), which says what a table of
 //! them costs. They are for small inputs.
 //!
 //! A text is cut into pieces by the definition alone: at each position every beginning of the
@@ -12,11 +12,10 @@
 #![tactic(auto)]
 
 mod kinds;
-mod lexer_rules;
 mod pieces;
 mod texts;
 
 pub use faults::Memory;
 pub use lexer::LexFault;
-pub use lexer_rules::{matches, matches_rule};
 pub use pieces::{Piece, lex};
+pub use plain_matches::{matches, matches_rule};

@@ -6,7 +6,7 @@ use Rattle.plain_lexing.proofs.Scalars.{scalars-take}
 use Rattle.plain_lexing.proofs.pieces.next_match.Goals as goal
 
 pub text_of-requires : goal.text_of-requires
-text_of-requires c = scalars-take (c.loop-i.i - 1 + 1) c.args.list.now c.requires
+text_of-requires c = scalars-take _ c.args.list.now c.requires
 
 pub loop-i-init : goal.loop-i-init
 loop-i-init c k front back e l = none_longer c.args.checked.now.grammar c.args.list.now (length c.args.list.now) (omega arith) k front back e l

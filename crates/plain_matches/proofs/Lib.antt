@@ -1,0 +1,4 @@
+pub mod LexerViews
+pub mod LexerMeaning
+pub mod LexerResults
+pub mod LexerAlternatives
