@@ -2,7 +2,7 @@
 use Rattle.std.proofs.Common.{◌≡◌, ◌-◌, ◌+◌, ℕ, zero, suc, length, List, [], ◌∷◌, ◌++◌, Bool, Some, None, refl, ap, sym, ◌∙◌}
 use Rattle.std.proofs.Math.Numerals.{sub-one, add-one}
 use Rattle.grammar_tree.specs.Written.{LexerTerm, lexer_alts}
-use Rattle.grammar_tree.proofs.LexerViews.{lex_term-Literal, lex_term-Set, lex_term-Name, lex_term-Block, lex_term-Opt, lex_term-Star, lex_term-Plus}
+use Rattle.grammar_tree.proofs.LexerViews.{lex_term-Literal, lex_term-Set, lex_term-Name, lex_term-Block}
 use Rattle.grammar_words.specs.declared.word.Word.{Word}
 use Rattle.grammar_machine.specs.declared.frame.LexFrame.{LexFrame}
 use Rattle.grammar_machine.specs.View.{lex_frame_of, lex_frames_around}
@@ -43,4 +43,4 @@ pub no_loop_end : (b : m.LexBody) (s : List (ℕ × ℕ)) (fs : List LexFrame) (
 no_loop_end b s [] fragment h = absurd (h refl)
 no_loop_end b s (f ∷ fs) fragment h = no_loop b s [] (lex_frame_of f) fs fragment
 
-pub ruleset views = (lex_term-Literal, lex_term-Set, lex_term-Name, lex_term-Block, lex_term-Opt, lex_term-Star, lex_term-Plus, lex_frames_push, lex_with_block_as, lex_block_end_as)
+pub ruleset views = (lex_term-Literal, lex_term-Set, lex_term-Name, lex_term-Block, lex_frames_push, lex_with_block_as, lex_block_end_as)

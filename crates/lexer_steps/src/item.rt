@@ -1,7 +1,7 @@
 //! One word further after a literal, a set, or `~` in a lexer rule.
 #![tactic(auto, using(crate::proofs::Views::views, crate::proofs::OneChars::one_chars))]
 
-ghost use Rattle.std.specs.Prelude.{◌≡◌, ◌∷◌, [], ℕ, Some, nat_le};
+ghost use Rattle.std.specs.Prelude.{◌≡◌, ◌++◌, ◌∷◌, [], ℕ, Some, IfOk, nat_le};
 ghost use Rattle.grammar_tree.specs.Written.{LexerTerm};
 ghost use Rattle.grammar_machine.specs.Machine as m;
 ghost use Rattle.grammar_machine.specs.NextState.{NextIs};
@@ -9,12 +9,16 @@ ghost use Rattle.lexer_steps.specs.OneChar.{only_char};
 ghost use Rattle.grammar_notation.specs.Sets.{within};
 ghost use Rattle.grammar_machine.specs.View.{Gives, item_position_of, lex_body_of, lexer_state};
 
-use crate::lexer::{add_star, after_but, at, refused, refused_word, step_lex, step_lex_after, top};
+use crate::lexer::{
+    after_but, at, failed, failed_word, refused, refused_word, step_lex, step_lex_after,
+    step_past_star, top,
+};
 use faults::Memory;
 use grammar_machine::{EndPosition, ItemPosition, LexBody, LexerPosition, Next, State};
-use grammar_notation::{outside, within};
+use grammar_notation::outside;
 use grammar_tree::{CharSet, LexTerm, Text};
 use grammar_words::{Word, first_char};
+use lexer_terms::range_set;
 use std::alloc::Global;
 
 /// The character of a text that has just one.
@@ -52,11 +56,11 @@ fn step_after_literal(alloc: Global, body: LexBody, text: Text, word: Word) -> R
 fn range(alloc: Global, body: LexBody, first: u32, last: u32) -> Result<Next, Memory>
     ensures { NextIs result (m.provided (nat_le first last) (m.AfterLexAtom (lex_body_of body) (LexerTerm.set (within ((first, last) ∷ []))))) }
 {
-    if first > last {
-        return Ok(refused(body));
+    match range_set(alloc, first, last) {
+        Ok(Some(set)) => at(body, LexerPosition::After(LexTerm::Set(set))),
+        Ok(None) => Ok(refused(body)),
+        Err(error) => Err(failed(body, error)),
     }
-    let set = within(alloc, &[(first, last)])?;
-    at(body, LexerPosition::After(LexTerm::Set(set)))
 }
 
 fn end_of_range(alloc: Global, body: LexBody, first: u32, text: Text) -> Result<Next, Memory>
@@ -109,8 +113,19 @@ fn step_after_set_star(
 {
     match word {
         Word::Question => loop_end(body, set),
-        _ => step_lex(alloc, add_star(alloc, body, LexTerm::Set(set))?, word),
+        _ => step_past_star(alloc, body, set, word),
     }
+}
+
+/// The ranges of the items before, and those of one more.
+fn with_ranges(
+    mut before: Vec<(u32, u32)>,
+    ranges: &[(u32, u32)],
+) -> Result<Vec<(u32, u32)>, Memory>
+    ensures { IfOk result (λ all. all.items ≡ before.items ++ ranges.now) }
+{
+    before.extend_from_slice(ranges)?;
+    Ok(before)
 }
 
 /// After an item, alone or in brackets.
@@ -124,10 +139,10 @@ fn after_item(
 {
     match position {
         ItemPosition::Alone => after_but(alloc, body, ranges),
-        ItemPosition::Listed(mut before) => {
-            before.extend_from_slice(ranges)?;
-            at(body, LexerPosition::AfterItem(before))
-        }
+        ItemPosition::Listed(before) => match with_ranges(before, ranges) {
+            Ok(ranges) => at(body, LexerPosition::AfterItem(ranges)),
+            Err(error) => Err(failed(body, error)),
+        },
     }
 }
 
@@ -193,11 +208,14 @@ fn step_after_one(
     ensures { NextIs result (m.step_after_one (lex_body_of body) (item_position_of position) ((char, char) ∷ []) word) }
 {
     match position {
-        ItemPosition::Alone => step_after_set(alloc, body, outside(alloc, &[(char, char)])?, word),
-        ItemPosition::Listed(mut ranges) => {
-            ranges.push((char, char))?;
-            step_after_item(alloc, body, ranges, word)
-        }
+        ItemPosition::Alone => match outside(alloc, &[(char, char)]) {
+            Ok(set) => step_after_set(alloc, body, set, word),
+            Err(error) => Err(failed(body, failed_word(word, error))),
+        },
+        ItemPosition::Listed(before) => match with_ranges(before, &[(char, char)]) {
+            Ok(ranges) => step_after_item(alloc, body, ranges, word),
+            Err(error) => Err(failed(body, failed_word(word, error))),
+        },
     }
 }
 

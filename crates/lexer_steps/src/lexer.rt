@@ -8,13 +8,16 @@ ghost use Rattle.grammar_machine.specs.Machine as m;
 ghost use Rattle.grammar_machine.specs.NextState.{NextIs};
 ghost use Rattle.grammar_notation.specs.Sets.{outside, within};
 ghost use Rattle.grammar_machine.specs.View.{lex_body_of, lexer_state, top_body_of};
+ghost use Rattle.lexer_terms.specs.Terms.{lex_suffixed};
 
 use faults::Memory;
 use grammar_machine::{LexBody, LexFrame, LexerPosition, Next, State, TopBody};
-use grammar_notation::{outside, within};
-use grammar_tree::LexTerm;
+use grammar_notation::within;
+use grammar_tree::{CharSet, LexTerm};
 use grammar_words::{Word, is};
 use lexer_end_steps::step_done;
+use lexer_terms::{BlockEnd, end_in_block, lex_suffixed, negated};
+use parser_terms::Suffix;
 use std::alloc::Global;
 
 pub fn at(body: LexBody, position: LexerPosition) -> Result<Next, Memory>
@@ -24,16 +27,33 @@ pub fn at(body: LexBody, position: LexerPosition) -> Result<Next, Memory>
 }
 
 /// The word can't follow. A body is let go here, since elsewhere each of its parts is a step of the proof.
-pub fn refused(_body: LexBody) -> Next
+pub fn refused(body: LexBody) -> Next
     ensures { result ≡ None }
 {
+    drop(body);
     Next::none()
 }
 
-pub fn refused_word(_body: LexBody, word: Word) -> Next
+pub fn refused_word(body: LexBody, word: Word) -> Next
     ensures { result ≡ None }
 {
+    drop(body);
     Next::refused(word)
+}
+
+/// Out of memory. A body is let go here too.
+pub fn failed(body: LexBody, error: Memory) -> Memory
+    ensures { result ≡ error }
+{
+    drop(body);
+    error
+}
+
+pub fn failed_word(word: Word, error: Memory) -> Memory
+    ensures { result ≡ error }
+{
+    drop(word);
+    error
 }
 
 fn add(body: LexBody, term: LexTerm) -> Result<LexBody, Memory>
@@ -173,10 +193,10 @@ pub fn top(body: LexBody) -> TopBody
 fn step_inner_end(alloc: Global, body: LexBody, word: Word) -> Result<Next, Memory>
     ensures { NextIs result (m.step_inner_end (lex_body_of body) word) }
 {
-    match word {
-        Word::Bar => next_alternative(alloc, body),
-        Word::Close => block_end(body),
-        _ => Ok(refused_word(body, word)),
+    match end_in_block(word) {
+        Some(BlockEnd::Alternative) => next_alternative(alloc, body),
+        Some(BlockEnd::Block) => block_end(body),
+        None => Ok(refused(body)),
     }
 }
 
@@ -194,21 +214,19 @@ fn step_lex_end(alloc: Global, body: LexBody, word: Word) -> Result<Next, Memory
 fn after_set(alloc: Global, body: LexBody, ranges: &[(u32, u32)]) -> Result<Next, Memory>
     ensures { NextIs result (Some (m.AfterSet (lex_body_of body) (within ranges.now))) }
 {
-    at(body, LexerPosition::Set(within(alloc, ranges)?))
-}
-
-/// Where a set of all characters but those in the ranges is read.
-fn negated(alloc: Global, ranges: &[(u32, u32)]) -> Result<LexerPosition, Memory>
-    ensures { IfOk result (λ p. (b : m.LexBody) → lexer_state b p ≡ m.AfterSet b (outside ranges.now)) }
-{
-    let set = outside(alloc, ranges)?;
-    Ok(LexerPosition::Set(set))
+    match within(alloc, ranges) {
+        Ok(set) => at(body, LexerPosition::Set(set)),
+        Err(error) => Err(failed(body, error)),
+    }
 }
 
 pub fn after_but(alloc: Global, body: LexBody, ranges: &[(u32, u32)]) -> Result<Next, Memory>
     ensures { NextIs result (Some (m.AfterSet (lex_body_of body) (outside ranges.now))) }
 {
-    at(body, negated(alloc, ranges)?)
+    match negated(alloc, ranges) {
+        Ok(position) => at(body, position),
+        Err(error) => Err(failed(body, error)),
+    }
 }
 
 pub fn step_lex(alloc: Global, body: LexBody, word: Word) -> Result<Next, Memory>
@@ -231,35 +249,54 @@ pub fn step_lex(alloc: Global, body: LexBody, word: Word) -> Result<Next, Memory
     }
 }
 
-fn add_optional(alloc: Global, body: LexBody, term: LexTerm) -> Result<LexBody, Memory>
-    ensures { IfOk result (λ b. lex_body_of b ≡ m.lex_add (lex_body_of body) (LexerTerm.opt (lex_term term))) }
+/// With one more element, which has the suffix.
+fn add_suffixed(
+    alloc: Global,
+    body: LexBody,
+    term: LexTerm,
+    suffix: Suffix,
+) -> Result<LexBody, Memory>
+    ensures { IfOk result (λ b. lex_body_of b ≡ m.lex_add (lex_body_of body) (lex_suffixed suffix (lex_term term))) }
 {
-    add(body, LexTerm::Opt(Box::new(alloc, term)?))
+    match lex_suffixed(alloc, term, suffix) {
+        Ok(term) => add(body, term),
+        Err(error) => Err(failed(body, error)),
+    }
 }
 
-pub fn add_star(alloc: Global, body: LexBody, term: LexTerm) -> Result<LexBody, Memory>
-    ensures { IfOk result (λ b. lex_body_of b ≡ m.lex_add (lex_body_of body) (LexerTerm.star (lex_term term))) }
+/// After an element that has the suffix.
+fn with_suffix(alloc: Global, body: LexBody, term: LexTerm, suffix: Suffix) -> Result<Next, Memory>
+    ensures { NextIs result (Some (m.LexSuffixed (m.lex_add (lex_body_of body) (lex_suffixed suffix (lex_term term))))) }
 {
-    add(body, LexTerm::Star(Box::new(alloc, term)?))
-}
-
-fn plus(alloc: Global, term: LexTerm) -> Result<LexTerm, Memory>
-    ensures { IfOk result (λ t. lex_term t ≡ LexerTerm.plus (lex_term term)) }
-{
-    Ok(LexTerm::Plus(Box::new(alloc, term)?))
-}
-
-fn add_plus(alloc: Global, body: LexBody, term: LexTerm) -> Result<LexBody, Memory>
-    ensures { IfOk result (λ b. lex_body_of b ≡ m.lex_add (lex_body_of body) (LexerTerm.plus (lex_term term))) }
-{
-    add(body, plus(alloc, term)?)
+    at(
+        add_suffixed(alloc, body, term, suffix)?,
+        LexerPosition::Suffixed,
+    )
 }
 
 /// After an element with no suffix.
 fn step_past(alloc: Global, body: LexBody, term: LexTerm, word: Word) -> Result<Next, Memory>
     ensures { NextIs result (m.step_lex (m.lex_add (lex_body_of body) (lex_term term)) word) }
 {
-    step_lex(alloc, add(body, term)?, word)
+    match add(body, term) {
+        Ok(body) => step_lex(alloc, body, word),
+        Err(error) => Err(failed_word(word, error)),
+    }
+}
+
+/// After a set with a star.
+pub fn step_past_star(
+    alloc: Global,
+    body: LexBody,
+    set: CharSet,
+    word: Word,
+) -> Result<Next, Memory>
+    ensures { NextIs result (m.step_lex (m.lex_add (lex_body_of body) (LexerTerm.star (LexerTerm.set set))) word) }
+{
+    match add_suffixed(alloc, body, LexTerm::Set(set), Suffix::Star) {
+        Ok(body) => step_lex(alloc, body, word),
+        Err(error) => Err(failed_word(word, error)),
+    }
 }
 
 pub fn step_lex_after(
@@ -271,9 +308,9 @@ pub fn step_lex_after(
     ensures { NextIs result (m.step_lex_after (lex_body_of body) (lex_term term) word) }
 {
     match word {
-        Word::Question => at(add_optional(alloc, body, term)?, LexerPosition::Suffixed),
-        Word::Star => at(add_star(alloc, body, term)?, LexerPosition::Suffixed),
-        Word::Plus => at(add_plus(alloc, body, term)?, LexerPosition::Suffixed),
+        Word::Question => with_suffix(alloc, body, term, Suffix::Question),
+        Word::Star => with_suffix(alloc, body, term, Suffix::Star),
+        Word::Plus => with_suffix(alloc, body, term, Suffix::Plus),
         _ => step_past(alloc, body, term, word),
     }
 }

@@ -5,7 +5,8 @@ use Rattle.grammar_words.specs.declared.word.Word.{Word}
 use Rattle.grammar_words.specs.declared.word.Word.TheVariants as w
 use Rattle.grammar_notation.specs.Notation.{is_eof}
 use Rattle.grammar_machine.specs.Machine as m
-use Rattle.parser_steps.specs.Terms.{reference, after_reference, after_listed}
+use Rattle.parser_terms.specs.Terms.{is_name, reference}
+use Rattle.parser_steps.specs.References.{after_reference, after_listed}
 
 pub no_opening : (b : m.Body) (word : Word) → (word ≡ w.Less → ⊥) → m.step_alt b word ≡ m.step_elements b word
 no_opening b w.Less h = absurd (h refl)
@@ -38,3 +39,23 @@ unless_end_listed b refs r false = refl
 pub listed : (b : m.Body) (refs : List Reference) (word : Word) → m.step_ref_in b refs word ≡ after_listed b refs (reference word)
 listed b refs (w.Upper n) = unless_end_listed b refs (Reference.name n) (is_eof n)
 listed b refs _ = refl
+
+pub alternative_named : (b : m.Body) (word : Word) → is_name word ≡ true → m.step_alt_name b word ≡ Some (m.AfterAltName b)
+alternative_named b (w.Upper n) h = refl
+alternative_named b (w.Lower n) h = refl
+alternative_named b _ h = cc h
+
+pub no_alternative_name : (b : m.Body) (word : Word) → is_name word ≡ false → m.step_alt_name b word ≡ None
+no_alternative_name b (w.Upper n) h = cc h
+no_alternative_name b (w.Lower n) h = cc h
+no_alternative_name b _ h = refl
+
+pub opening_named : (b : m.Body) (word : Word) → is_name word ≡ true → m.step_opening_name b word ≡ Some (m.AtOpeningEquals b)
+opening_named b (w.Upper n) h = refl
+opening_named b (w.Lower n) h = refl
+opening_named b _ h = cc h
+
+pub no_opening_name : (b : m.Body) (word : Word) → is_name word ≡ false → m.step_opening_name b word ≡ None
+no_opening_name b (w.Upper n) h = cc h
+no_opening_name b (w.Lower n) h = cc h
+no_opening_name b _ h = refl

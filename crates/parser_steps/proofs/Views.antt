@@ -2,7 +2,7 @@
 use Rattle.std.proofs.Common.{◌≡◌, ◌-◌, ◌+◌, ℕ, zero, suc, length, List, [], ◌∷◌, ◌++◌, Some, None, refl, ap, sym, ◌∙◌}
 use Rattle.std.proofs.Math.Numerals.{sub-one, add-one}
 use Rattle.grammar_tree.specs.Written.{WrittenTerm, written_alts}
-use Rattle.grammar_tree.proofs.ParserViews.{parser_term-Literal, parser_term-Name, parser_term-Not, parser_term-Any, parser_term-Eof, parser_term-Block, parser_term-Opt, parser_term-Star, parser_term-Plus}
+use Rattle.grammar_tree.proofs.ParserViews.{parser_term-Literal, parser_term-Name, parser_term-Not, parser_term-Any, parser_term-Block}
 use Rattle.grammar_machine.specs.declared.frame.Frame.{Frame}
 use Rattle.grammar_machine.specs.View.{frame_of, frames_around}
 use Rattle.grammar_machine.specs.Machine as m
@@ -55,11 +55,7 @@ pub ruleset views = (
   parser_term-Name,
   parser_term-Not,
   parser_term-Any,
-  parser_term-Eof,
   parser_term-Block,
-  parser_term-Opt,
-  parser_term-Star,
-  parser_term-Plus,
   frames_push,
   with_block_as,
   block_end_as,

@@ -1,3 +1,3 @@
 pub use Rattle.grammar_machine.specs.Machine
 pub use Rattle.grammar_machine.specs.View
-pub mod Terms
+pub mod References

@@ -6,6 +6,5 @@
 #![tactic(auto)]
 
 mod parser;
-mod terms;
 
 pub use parser::step_parser;

@@ -1,20 +1,20 @@
 //! One word further in a parser rule.
 #![tactic(auto, using(crate::proofs::Views::views))]
 
-ghost use Rattle.std.specs.Prelude.{◌≡◌, ◌++◌, ◌∷◌, [], ℕ, Some, None, IfOk};
-ghost use Rattle.grammar_tree.specs.View.{parser_term, token_ref};
-ghost use Rattle.grammar_tree.specs.GrammarView.{rule_of};
+ghost use Rattle.std.specs.Prelude.{◌≡◌, ℕ, Some, None, IfOk};
+ghost use Rattle.grammar_tree.specs.View.{parser_term};
 ghost use Rattle.grammar_tree.specs.Written.{WrittenTerm};
 ghost use Rattle.grammar_machine.specs.Machine as m;
 ghost use Rattle.grammar_machine.specs.View.{Gives, body_of, parser_state, refs_of};
 ghost use Rattle.grammar_machine.specs.NextState.{NextIs};
-ghost use Rattle.parser_steps.specs.Terms.{after_listed, after_reference, reference_of, suffixed};
+ghost use Rattle.parser_steps.specs.References.{after_listed, after_reference};
+ghost use Rattle.parser_terms.specs.Terms.{reference_of, suffixed};
 
-use crate::terms::{Suffix, more_refs, named, one_ref, past_label, reference, suffixed};
 use faults::Memory;
 use grammar_machine::{Body, Frame, Next, ParserPosition, State, ValueOf, with_rule};
 use grammar_tree::{ParserTerm, Rule, TokenRef, TokenRefs};
 use grammar_words::Word;
+use parser_terms::{Suffix, is_name, more_refs, named, one_ref, past_label, reference, suffixed};
 use std::alloc::Global;
 
 fn at(body: Body, position: ParserPosition) -> Result<Next, Memory>
@@ -24,15 +24,32 @@ fn at(body: Body, position: ParserPosition) -> Result<Next, Memory>
 }
 
 /// The word can't follow. A body is let go here, since elsewhere each of its parts is a step of the proof.
-fn refused(_body: Body) -> Next
+fn refused(body: Body) -> Next
     ensures { result ≡ None }
 {
+    drop(body);
     Next::none()
 }
 
-fn refused_word(_body: Body, word: Word) -> Next
+/// Out of memory. A body is let go here too.
+fn failed(body: Body, error: Memory) -> Memory
+    ensures { result ≡ error }
+{
+    drop(body);
+    error
+}
+
+fn failed_word(word: Word, error: Memory) -> Memory
+    ensures { result ≡ error }
+{
+    drop(word);
+    error
+}
+
+fn refused_word(body: Body, word: Word) -> Next
     ensures { result ≡ None }
 {
+    drop(body);
     Next::refused(word)
 }
 
@@ -204,15 +221,20 @@ fn step_elements(alloc: Global, body: Body, word: Word) -> Result<Next, Memory>
 fn with_suffix(alloc: Global, body: Body, term: ParserTerm, suffix: Suffix) -> Result<Next, Memory>
     ensures { NextIs result (Some (m.Suffixed (m.add (body_of body) (suffixed suffix (parser_term term))))) }
 {
-    let term = suffixed(alloc, term, suffix)?;
-    at(add(body, term)?, ParserPosition::Suffixed)
+    match suffixed(alloc, term, suffix) {
+        Ok(term) => at(add(body, term)?, ParserPosition::Suffixed),
+        Err(error) => Err(failed(body, error)),
+    }
 }
 
 /// One word further after a term that has no suffix.
 fn without_suffix(alloc: Global, body: Body, term: ParserTerm, word: Word) -> Result<Next, Memory>
     ensures { NextIs result (m.step_elements (m.add (body_of body) (parser_term term)) word) }
 {
-    step_elements(alloc, add(body, term)?, word)
+    match add(body, term) {
+        Ok(body) => step_elements(alloc, body, word),
+        Err(error) => Err(failed_word(word, error)),
+    }
 }
 
 fn step_after(alloc: Global, body: Body, term: ParserTerm, word: Word) -> Result<Next, Memory>
@@ -255,10 +277,10 @@ fn step_alt(alloc: Global, body: Body, word: Word) -> Result<Next, Memory>
 fn step_opening_name(body: Body, word: Word) -> Result<Next, Memory>
     ensures { NextIs result (m.step_opening_name (body_of body) word) }
 {
-    match word {
-        Word::Upper(_) => at(body, ParserPosition::OpeningEquals),
-        Word::Lower(_) => at(body, ParserPosition::OpeningEquals),
-        _ => Ok(refused_word(body, word)),
+    if is_name(word) {
+        at(body, ParserPosition::OpeningEquals)
+    } else {
+        Ok(refused(body))
     }
 }
 
@@ -285,7 +307,10 @@ fn after_reference(alloc: Global, body: Body, token: Option<TokenRef>) -> Result
     ensures { NextIs result (after_reference (body_of body) (reference_of token)) }
 {
     match token {
-        Some(token) => but(body, one_ref(alloc, token)?),
+        Some(token) => match one_ref(alloc, token) {
+            Ok(refs) => but(body, refs),
+            Err(error) => Err(failed(body, error)),
+        },
         None => Ok(refused(body)),
     }
 }
@@ -304,7 +329,10 @@ fn after_listed(body: Body, refs: Vec<TokenRef>, token: Option<TokenRef>) -> Res
     ensures { NextIs result (after_listed (body_of body) (refs_of refs) (reference_of token)) }
 {
     match token {
-        Some(token) => at(body, ParserPosition::AfterRef(more_refs(refs, token)?)),
+        Some(token) => match more_refs(refs, token) {
+            Ok(refs) => at(body, ParserPosition::AfterRef(refs)),
+            Err(error) => Err(failed(body, error)),
+        },
         None => Ok(refused(body)),
     }
 }
@@ -328,10 +356,10 @@ fn step_after_ref(body: Body, refs: Vec<TokenRef>, word: Word) -> Result<Next, M
 fn step_alt_name(body: Body, word: Word) -> Result<Next, Memory>
     ensures { NextIs result (m.step_alt_name (body_of body) word) }
 {
-    match word {
-        Word::Upper(_) => at(body, ParserPosition::AfterAltName),
-        Word::Lower(_) => at(body, ParserPosition::AfterAltName),
-        _ => Ok(refused_word(body, word)),
+    if is_name(word) {
+        at(body, ParserPosition::AfterAltName)
+    } else {
+        Ok(refused(body))
     }
 }
 

@@ -1,8 +1,12 @@
-use Rattle.std.proofs.Common.{subst, sym, ap}
-use Rattle.grammar_machine.specs.Machine as m
+use Rattle.std.proofs.Common.{subst, sym, ◌∙◌}
 use Rattle.grammar_machine.specs.View.{body_of}
 use Rattle.grammar_machine.specs.NextState.{NextIs}
+use Rattle.parser_steps.proofs.Defaults.{alternative_named, no_alternative_name}
 use Rattle.parser_steps.proofs.parser.step_alt_name.Goals as goal
 
-pub returns-in-Upper : goal.returns-in-Upper
-returns-in-Upper c = subst (NextIs c.at.result) (sym (ap (m.step_alt_name (body_of c.args.body)) c.in-Upper.is)) c.at.ensures
+pub returns-then-is_name : goal.returns-then-is_name
+returns-then-is_name c =
+    subst (NextIs c.at.result) (sym (alternative_named (body_of c.args.body) c.args.word (sym c.is_name.ensures ∙ c.if-is_name.true))) c.at.ensures
+
+pub returns-else-is_name : goal.returns-else-is_name
+returns-else-is_name c = c.refused.ensures ∙ sym (no_alternative_name (body_of c.args.body) c.args.word (sym c.is_name.ensures ∙ c.if-is_name.false))

@@ -1,6 +1,6 @@
 use Rattle.std.proofs.Common.{subst, sym, ap, ◌∙◌}
 use Rattle.grammar_machine.specs.View.{body_of}
-use Rattle.parser_steps.specs.Terms.{after_reference}
+use Rattle.parser_steps.specs.References.{after_reference}
 use Rattle.grammar_machine.specs.NextState.{NextIs}
 use Rattle.parser_steps.proofs.Defaults.{no_bracket}
 use Rattle.parser_steps.proofs.parser.step_ref.Goals as goal

@@ -1,6 +1,6 @@
 use Rattle.std.proofs.Common.{subst, sym, ap, ◌∙◌}
 use Rattle.grammar_machine.specs.View.{body_of, refs_of}
-use Rattle.parser_steps.specs.Terms.{after_listed}
+use Rattle.parser_steps.specs.References.{after_listed}
 use Rattle.grammar_machine.specs.NextState.{NextIs}
 use Rattle.parser_steps.proofs.Defaults.{listed}
 use Rattle.parser_steps.proofs.parser.step_ref_in.Goals as goal
