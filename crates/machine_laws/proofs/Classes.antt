@@ -126,14 +126,6 @@ parser_region _ e = cc e
 abbrev pub in_side : Side → Region → Bool
 in_side side p = is_side side (side_within p)
 
-none_prequel : (side : Side) → in_side side prequel ≡ false
-none_prequel parsing = refl
-none_prequel lexing = refl
-
-none_opening : (side other : Side) → in_side side (opening other) ≡ false
-none_opening parsing other = refl
-none_opening lexing other = refl
-
 pub region_parser : (s : m.State) → in_side parsing (region_of s) ≡ true → at.within_parser_rule s ≡ true
 region_parser (m.AtOptionsBrace g o) e = absurd (not_owner (in_side parsing) refl (λ side. refl) o e)
 region_parser (m.AtEntry g o) e = absurd (not_owner (in_side parsing) refl (λ side. refl) o e)

@@ -19,9 +19,6 @@ untested true t words h e = cc e
 untested false t words h e = let x : false ≡ true = sym h ∙ e in cc x
 
 -- `:` in an alternative
-lex_colon : (b : m.LexBody) → m.step_lex_end b b.enclosing w.Colon ≡ None
-lex_colon b = no_end b b.enclosing w.Colon refl
-
 after_colon : (b : m.LexBody) (k : List ℕ) → goes (m.AfterLexAtom b (LexerTerm.name k)) (w.Colon ∷ []) ≡ false
 after_colon b k = let c : m.LexBody = m.lex_add b (LexerTerm.name k) in ap (λ o. reads (and_then o (λ t. Some t))) (no_end c b.enclosing w.Colon refl)
 

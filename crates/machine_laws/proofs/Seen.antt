@@ -129,10 +129,6 @@ rule_on {before} side word r i e =
     ∙ ap (λ p. region_from p (r.options ++ w.Colon ∷ r.part)) (name_on side word i) ∙ opened_on side (named side) r.options r.part is_named r.closed in
     ap side_within whole ∙ side_on (body side) side r.part refl r.within
 
-same_side : (side : Side) → is_side side (Some side) ≡ true
-same_side parsing = refl
-same_side lexing = refl
-
 star_leads_on : (p q : Region) → is_suffixed p ≡ true → next p w.Question ≡ q → is_looped q ≡ true
 star_leads_on (suffixed side) q h e = ap is_looped (sym e)
 star_leads_on _ q h e = cc h

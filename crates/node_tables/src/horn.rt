@@ -14,7 +14,11 @@ struct Clause {
     body: Vec<u32>,
 }
 
-/// Clauses over nodes, of which the first are rules, and the others blocks in rules.
+/// Clauses over nodes: over the first ones, whose order is wanted, and others after them, by which
+/// clauses are kept few.
+///
+/// No contract says which order they give. What [`least_table`](crate::least_table) promises is the
+/// same in any order: only its time depends on it.
 #[derive(Drop)]
 pub struct Clauses {
     alloc: Global,
@@ -23,11 +27,11 @@ pub struct Clauses {
 }
 
 impl Clauses {
-    /// No clauses yet, and this many rules.
-    pub fn new(alloc: Global, rules: u32) -> Clauses {
+    /// No clauses yet, and this many nodes, which are the first ones.
+    pub fn new(alloc: Global, first: u32) -> Clauses {
         Clauses {
             alloc,
-            nodes: rules,
+            nodes: first,
             clauses: Vec::new(alloc),
         }
     }
@@ -37,22 +41,25 @@ impl Clauses {
         Vec::new(self.alloc)
     }
 
-    /// One more node.
+    /// The number of one more node. There are 2^32 - 1 nodes at most: after that the answer stays
+    /// 2^32 - 1, which is no node and never follows.
     pub fn add_node(&mut self) -> u32 {
         let node = self.nodes;
         self.nodes = node.saturating_add(1);
         node
     }
 
+    /// Adds the clause that the head holds where all nodes of the body do. Out of memory leaves the
+    /// clauses as before.
     pub fn add(&mut self, head: u32, body: Vec<u32>) -> Result<(), Memory> {
         self.clauses.push(Clause { head, body })?;
         Ok(())
     }
 
-    /// The rules, of which there are this many, that follow from the clauses, each after those that
-    /// it follows from. It takes time linear in the clauses.
-    pub fn order(&self, rules: usize) -> Result<Vec<u32>, Memory>
-        ensures { IfOk result (λ order. All (λ r. r < rules) order.items) }
+    /// Those of the first nodes, of which there are this many, that follow from the clauses, each
+    /// after those that it follows from. It takes time linear in the nodes and clauses.
+    pub fn order(&self, first: usize) -> Result<Vec<u32>, Memory>
+        ensures { IfOk result (λ order. All (λ node. node < first) order.items) }
     {
         let users = self.users()?;
         let mut resolution = Resolution::new(self.alloc, &self.clauses, self.nodes as usize)?;
@@ -64,7 +71,7 @@ impl Clauses {
                 resolution.meet_all(&self.clauses, users)?;
             }
         }
-        rules_among(self.alloc, &resolution.found, rules)
+        first_among(self.alloc, &resolution.found, first)
     }
 
     /// For each node the clauses in whose bodies it is, each as often as it is there.
@@ -91,13 +98,13 @@ fn add_user(users: &mut Vec<Vec<usize>>, body: &[u32], clause: usize) -> Result<
     Ok(())
 }
 
-/// Those of the nodes that are rules, of which there are this many.
-fn rules_among(alloc: Global, nodes: &[u32], rules: usize) -> Result<Vec<u32>, Memory>
-    ensures { IfOk result (λ order. All (λ r. r < rules) order.items) }
+/// Those of the nodes that are first ones, of which there are this many.
+fn first_among(alloc: Global, nodes: &[u32], first: usize) -> Result<Vec<u32>, Memory>
+    ensures { IfOk result (λ order. All (λ node. node < first) order.items) }
 {
     let mut order = Vec::new(alloc);
     for node in nodes {
-        if (*node as usize) < rules {
+        if (*node as usize) < first {
             order.push(*node)?;
         }
     }

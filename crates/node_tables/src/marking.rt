@@ -18,9 +18,11 @@ pub trait Test {
     /// Whether a node passes by a table.
     ghost test: { Self → List Bool → ℕ → Bool };
 
+    /// How many nodes there are.
     fn count(&self) -> usize
         ensures { result ≡ nodes self.now };
 
+    /// Whether the node with this number, from 0, passes by the table.
     fn passes(&self, flags: &[bool], node: usize) -> bool
         requires { node < nodes self.now }
         ensures { result ≡ test self.now flags.now node };

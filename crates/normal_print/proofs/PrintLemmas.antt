@@ -49,9 +49,6 @@ code_bytes c =
     encodes-IsAscii (code_of c) (cons_ascii 92 (117 ∷ 123 ∷ (radix_digits 16 true c ++ 125 ∷ [])) (omega arith) (cons_ascii 117 (123 ∷ (radix_digits 16 true c ++ 125 ∷ [])) (omega arith) (cons_ascii 123 (radix_digits 16 true c ++ 125 ∷ []) (omega arith) (append_ascii (radix_digits 16 true c) (125 ∷ []) (hex_is_ascii c) (cons_ascii 125 [] (omega arith) nil_ascii)))))
 
 -- two pieces, one after the other
-pub encode_append : (xs ys : List ℕ) → encode_utf8_all (xs ++ ys) ≡ encode_utf8_all xs ++ encode_utf8_all ys
-encode_append xs ys = encodes-append xs ys
-
 pub grown_twice : (bytes xs ys : List ℕ) → (bytes ++ encode_utf8_all xs) ++ encode_utf8_all ys ≡ bytes ++ encode_utf8_all (xs ++ ys)
 grown_twice bytes xs ys = append_assoc bytes (encode_utf8_all xs) (encode_utf8_all ys) ∙ ap (λ l. bytes ++ l) (sym (encodes-append xs ys))
 

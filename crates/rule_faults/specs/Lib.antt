@@ -1,3 +1,4 @@
+pub use Rattle.grammar_tree.specs.Faults
 pub use Rattle.graph_cycles.specs.First
 pub use Rattle.grammar_analysis.specs.Empty
 pub use Rattle.lexer_analysis.specs.Lexer

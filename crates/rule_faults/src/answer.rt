@@ -14,7 +14,7 @@ use faults::Memory;
 use grammar_tree::{Grammar, Text};
 use std::alloc::Global;
 
-/// The name of the rule at an index.
+/// The name of the rule at an index, from 0, or None past the end.
 pub fn name_at(grammar: &Grammar, index: Option<usize>) -> Result<Option<Text>, Memory>
     ensures { IfOk result (λ name. name ≡ name_at (grammar_of grammar.now) index) }
 {
@@ -41,7 +41,8 @@ pub fn twin(alloc: Global, grammar: &Grammar) -> Result<Option<Text>, Memory>
     Ok(name)
 }
 
-/// The name of the first rule in which `EOF` is misplaced.
+/// The name of the first rule in which `EOF` is misplaced, where the start rule is the one at the
+/// index `start`, from 0.
 pub fn misplaced_eof(alloc: Global, grammar: &Grammar, start: usize) -> Result<Option<Text>, Memory>
     ensures { IfOk result (IsNamedOrNone (grammar_of grammar.now) (EofPlace (grammar_of grammar.now) start)) }
 {
@@ -50,7 +51,7 @@ pub fn misplaced_eof(alloc: Global, grammar: &Grammar, start: usize) -> Result<O
     Ok(name)
 }
 
-/// The name of the first lexer rule that uses itself.
+/// The name of the first lexer rule that uses itself, directly or through others.
 pub fn fragment_loop(
     alloc: Global,
     grammar: &Grammar,

@@ -118,10 +118,6 @@ no_symbol G (WrittenTerm.star t) s h = absurd (cc)
 no_symbol G (WrittenTerm.plus t) s h = absurd (cc)
 
 -- the symbols of one alternative among the bases and among the rests, by whether it has a rest
-pub is_base : (o : Option Seq) (ss : List Sym) → is_some o ≡ false → with_base o ss [] ≡ ss ∷ []
-is_base None ss h = refl
-is_base (Some rest) ss h = absurd (cc)
-
 pub no_base : (o : Option Seq) (ss : List Sym) → is_some o ≡ true → with_base o ss [] ≡ []
 no_base None ss h = absurd (cc)
 no_base (Some rest) ss h = refl
@@ -129,10 +125,6 @@ no_base (Some rest) ss h = refl
 pub is_rest : (o : Option Seq) (ss : List Sym) → is_some o ≡ true → with_rest o ss [] ≡ tail ss ∷ []
 is_rest None ss h = absurd (cc)
 is_rest (Some rest) ss h = refl
-
-pub no_rest : (o : Option Seq) (ss : List Sym) → is_some o ≡ false → with_rest o ss [] ≡ []
-no_rest None ss h = refl
-no_rest (Some rest) ss h = absurd (cc)
 
 module _ (M : Numbering) (n k : ℕ) where
   module _ (t : Term) (a b : Seq) (taken : a ≡ next t b) (counted : k ≡ n + new_rules t) where

@@ -1,4 +1,6 @@
 pub use Rattle.grammar_tree.specs.Written
+pub use Rattle.grammar_tree.specs.Derives
+pub use Rattle.grammar_tree.specs.Corners
 pub use Rattle.normal_form.specs.Form
 pub use Rattle.normal_form.specs.Numbering
 pub use Rattle.normal_form.specs.NormalOf

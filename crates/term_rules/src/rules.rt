@@ -113,7 +113,8 @@ fn push_suffixed(
 }
 
 /// Adds the regular rule of the alternatives, and after it their new rules. It takes time near
-/// linear in the alternatives.
+/// linear in the alternatives. Out of memory may leave some of these rules after those that were
+/// there, regular ones without their alternatives; no contract says which.
 #[cycle(rules)]
 pub fn push_block(
     alts: &ParserAlts,
@@ -153,7 +154,8 @@ fn push_alts(
 }
 
 /// Adds the new rules of the terms. The answer is their symbols. It takes time near linear in the
-/// terms.
+/// terms. Out of memory may leave some of these rules after those that were there, regular ones
+/// without their alternatives; no contract says which.
 #[cycle(rules)]
 pub fn push_seq(
     terms: &ParserTerms,

@@ -1,6 +1,6 @@
 use Rattle.std.proofs.Common.{◌<◌}
 use Rattle.std.specs.List.{All}
-use Rattle.node_tables.proofs.horn.rules_among.Given as goal
+use Rattle.node_tables.proofs.horn.first_among.Given as goal
 
 abbrev pub invariant-loop-node : goal.invariant-loop-node
-invariant-loop-node l = All (λ r. r < l.rules) l.order.items
+invariant-loop-node l = All (λ node. node < l.first) l.order.items
