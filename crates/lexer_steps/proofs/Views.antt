@@ -1,5 +1,5 @@
 -- What is seen of terms and of the blocks around them, for the proofs of code that reads lexer rules.
-use Rattle.std.proofs.Common.{◌≡◌, ◌-◌, ◌+◌, ℕ, zero, suc, length, List, [], ◌∷◌, ◌++◌, Bool, Some, None, refl, ap, sym, ◌∙◌}
+use Rattle.std.proofs.Common.{◌≡◌, ◌-◌, ◌+◌, ℕ, zero, suc, length, List, [], ◌∷◌, ◌++◌, Bool, true, false, Some, None, refl, ap, sym, ◌∙◌}
 use Rattle.std.proofs.Math.Numerals.{sub-one, add-one}
 use Rattle.grammar_tree.specs.Written.{LexerTerm, lexer_alts}
 use Rattle.grammar_tree.proofs.LexerViews.{lex_term-Literal, lex_term-Set, lex_term-Name, lex_term-Block}
@@ -42,5 +42,10 @@ no_loop b s inner f (g ∷ fs) fragment = no_loop b s (f ∷ inner) (lex_frame_o
 pub no_loop_end : (b : m.LexBody) (s : List (ℕ × ℕ)) (fs : List LexFrame) (fragment : Bool) → (length fs ≡ 0 → ⊥) → m.loop_end b s (lex_frames_around [] fs) fragment ≡ None
 no_loop_end b s [] fragment h = absurd (h refl)
 no_loop_end b s (f ∷ fs) fragment h = no_loop b s [] (lex_frame_of f) fs fragment
+
+pub loop_end_as : (b : m.LexBody) (s : List (ℕ × ℕ)) (fs : List LexFrame) (fragment : Bool) → length fs ≡ 0 → fragment ≡ false → m.loop_end b s (lex_frames_around [] fs) fragment ≡ Some (m.AfterLoop b s)
+loop_end_as b s [] false h k = refl
+loop_end_as b s [] true h k = cc k
+loop_end_as b s (f ∷ fs) fragment h k = cc h
 
 pub ruleset views = (lex_term-Literal, lex_term-Set, lex_term-Name, lex_term-Block, lex_frames_push, lex_with_block_as, lex_block_end_as)

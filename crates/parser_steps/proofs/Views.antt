@@ -1,6 +1,8 @@
 -- What is seen of terms and of the blocks around them, for the proofs of code that reads parser rules.
-use Rattle.std.proofs.Common.{◌≡◌, ◌-◌, ◌+◌, ℕ, zero, suc, length, List, [], ◌∷◌, ◌++◌, Some, None, refl, ap, sym, ◌∙◌}
+use Rattle.std.proofs.Common.{◌≡◌, ◌-◌, ◌+◌, ℕ, zero, suc, length, List, [], ◌∷◌, ◌++◌, Some, None, refl, ap, sym, ◌∙◌, arith}
 use Rattle.std.proofs.Math.Numerals.{sub-one, add-one}
+use Rattle.std.proofs.lemmas.Grind.{common_steps}
+use Rattle.std.proofs.lemmas.List.{length_push}
 use Rattle.grammar_tree.specs.Written.{WrittenTerm, written_alts}
 use Rattle.grammar_tree.proofs.ParserViews.{parser_term-Literal, parser_term-Name, parser_term-Not, parser_term-Any, parser_term-Block}
 use Rattle.grammar_machine.specs.declared.frame.Frame.{Frame}
@@ -25,6 +27,11 @@ block_end_as b after enclosing f t e e' =
     ap (m.block_end b) e
     ∙ ap (λ k. Some (m.AfterAtom (record { text = b.text; name = b.name; blocks_left = k; enclosing = enclosing; current = f }) (WrittenTerm.block (written_alts (m.whole b.current))))) (sym (add-one b.blocks_left))
     ∙ ap (λ t. Some (m.AfterAtom (record { text = b.text; name = b.name; blocks_left = b.blocks_left + 1; enclosing = enclosing; current = f }) t)) (sym e')
+
+pub one_more_open : {T : Type 0} (left : ℕ) (before after : List T) (x : T) → (left ≡ 0 → ⊥) → left + length before ≡ 64 → after ≡ before ++ x ∷ [] → left - 1 + length after ≡ 64
+one_more_open left before after x h e f =
+    let longer : length after ≡ length before + 1 = ap length f ∙ length_push before x in
+    grind (arith, common_steps, h, e, longer)
 
 no_finish : (b : m.Body) (inner : List (m.Frame WrittenTerm)) (f : m.Frame WrittenTerm) (fs : List Frame) → m.rule_end b (frames_around (f ∷ inner) fs) ≡ None
 no_finish b inner f [] = refl
