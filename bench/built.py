@@ -7,8 +7,7 @@ import tempfile
 
 TOP = os.path.dirname(os.path.dirname(os.path.realpath(__file__)))
 PERSES = os.path.join(TOP, "perses")
-LEXER_BENCH = os.path.join(TOP, "crates", "lexer_bench", "out", "lexer_bench")
-PARSER_BENCH = os.path.join(TOP, "crates", "parser_bench", "out", "parser_bench")
+BENCH_TEXTS = os.path.join(TOP, "crates", "bench_texts", "out", "bench_texts")
 
 
 def build_perses():
@@ -19,20 +18,12 @@ def build_perses():
         sys.exit("perses was not built")
 
 
-def build_bench(name):
-    """Builds the program of this name, which reads a text, by running it once on an empty one."""
-    print(f"proving and building {name}, where it isn't built yet", file=sys.stderr)
+def build_bench_texts():
+    """Builds `bench_texts`, which reads a text, by running it once on an empty one."""
+    print("proving and building bench_texts, where it isn't built yet", file=sys.stderr)
     with tempfile.NamedTemporaryFile() as text:
-        words = ["rt", "run", "--", text.name, "1"]
-        folder = os.path.join(TOP, "crates", name)
+        words = ["rt", "run", "--", text.name, "1", "0"]
+        folder = os.path.join(TOP, "crates", "bench_texts")
         done = subprocess.run(words, cwd=folder, stdin=subprocess.DEVNULL, capture_output=True)
     if done.returncode != 0:
         sys.exit(done.stdout.decode() + done.stderr.decode())
-
-
-def build_lexer_bench():
-    build_bench("lexer_bench")
-
-
-def build_parser_bench():
-    build_bench("parser_bench")

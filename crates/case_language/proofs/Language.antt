@@ -10,7 +10,7 @@ use Rattle.grammar_tree.specs.Checked.{StartDerives}
 use Rattle.grammar_tree.specs.Faults.{number_at}
 use Rattle.grammar_tree.specs.Lexes.{PlacedToken, placed_tokens}
 use Rattle.lexer.specs.Tokens.{HasTokens}
-use Rattle.tree_mode.specs.Candidates.{InLanguage}
+use Rattle.reduce_trees_mode.specs.Candidates.{InLanguage}
 use Rattle.case_maker.specs.Cases.{case_text, form_line, function_text, target_line, target_of}
 use Rattle.case_language.specs.Mini.{mini}
 use Rattle.case_language.proofs.MiniKinds.{bodies_mini}

@@ -1,10 +1,10 @@
 -- What holds of Mini and of every generated program.
 use Rattle.std.specs.Prelude.{◌≡◌, ℕ, ◌≤◌, None}
 use Rattle.grammar_tree.specs.Written.{CheckedGrammar}
-use Rattle.checked_grammar.specs.Answer.{Spells, SpellsOnly}
-use Rattle.script_gate.specs.declared.gate.Verdict.TheVariants.{Yes}
-use Rattle.script_gate.specs.Rule.{rule_verdict}
-use Rattle.tree_mode.specs.Candidates.{InLanguage}
+use Rattle.grammar_load.specs.Answer.{Spells, SpellsOnly}
+use Rattle.script_gate_trait.specs.declared.gate.Verdict.TheVariants.{Yes}
+use Rattle.script_gate_trait.specs.Rule.{rule_verdict}
+use Rattle.reduce_trees_mode.specs.Candidates.{InLanguage}
 use Rattle.case_maker.specs.Cases.{case_text}
 use Rattle.case_maker.specs.Mini.{mini_text}
 use Rattle.case_language.specs.Mini.{mini}

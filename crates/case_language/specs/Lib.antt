@@ -1,7 +1,6 @@
-pub use Rattle.checked_grammar.specs.Answer
-pub use Rattle.script_gate.specs.Rule
-pub use Rattle.tree_mode.specs.Candidates
-pub use Rattle.case_maker.specs.Cases
-pub use Rattle.case_maker.specs.Mini as MiniText
+pub use Rattle.grammar_load.specs.Answer
+pub use Rattle.script_gate_trait.specs.Rule
+pub use Rattle.reduce_trees_mode.specs.Candidates
+pub use Rattle.case_maker.specs as CaseMaker
 pub mod Mini
 pub mod Laws

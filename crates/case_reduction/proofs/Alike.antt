@@ -3,23 +3,23 @@ use Rattle.std.proofs.Common.{◌≡◌, ◌∙◌, ℕ, Bool, true, false, List
 use Rattle.std.specs.List.{AllByRecursion}
 use Rattle.std.proofs.lemmas.List.Elements.{recursion_from_All}
 use Rattle.std.proofs.lemmas.Slice.Eq.{bytes_eq-Decides}
-use Rattle.script_gate.specs.declared.gate.Verdict.{Verdict}
-use Rattle.script_gate.specs.declared.gate.Verdict.TheVariants.{Yes, No}
-use Rattle.script_gate.specs.Rule.{rule_verdict}
+use Rattle.script_gate_trait.specs.declared.gate.Verdict.{Verdict}
+use Rattle.script_gate_trait.specs.declared.gate.Verdict.TheVariants.{Yes, No}
+use Rattle.script_gate_trait.specs.Rule.{rule_verdict}
 use Rattle.verdict_table.specs.declared.record.Record.{Record}
 use Rattle.verdict_table.specs.TableState.{verdict_in}
-use Rattle.reduction_rounds.specs.Laws.{Agree, AgreeingMapsReduceAlike, HasVerdicts}
-use Rattle.reduction_rounds.specs.Reduction as rounds
-use Rattle.reduction_rounds.specs.RoundsPlan.{capped_count}
+use Rattle.reduce_rounds.specs.Laws.{Agree, AgreeingMapsReduceAlike, HasVerdicts}
+use Rattle.reduce_rounds.specs.Reduction as rounds
+use Rattle.reduce_rounds.specs.RoundsPlan.{capped_count}
 use Rattle.reduce_journal.specs.declared.counts.Counts.{Counts}
-use Rattle.tree_mode.specs.Input.{TreeInput, TreeState}
+use Rattle.reduce_trees_mode.specs.Input.{TreeInput, TreeState}
 use Rattle.syntax_tree.specs.Trees.{weight}
-use Rattle.tree_mode.specs.Candidates.{IsCandidate}
-use Rattle.tree_mode.specs.Lawful.{IsEditIn}
-use Rattle.tree_mode.specs.Listed as listed
-use Rattle.tree_rounds.specs.WalkMode.{walk_mode}
-use Rattle.problem_run.specs.declared.problem.GrammarMode.{GrammarMode}
-use Rattle.problem_run.specs.Problem.{IsEditBy, IsReductionOf, Problem, counts_of, questions_of, reduced_text, round_of, tree_reduction}
+use Rattle.reduce_trees_mode.specs.Candidates.{IsCandidate}
+use Rattle.reduce_trees_mode.specs.Lawful.{IsEditIn}
+use Rattle.reduce_trees_mode.specs.Listed.{text_of_state}
+use Rattle.reduce_trees.specs.WalkMode.{walk_mode}
+use Rattle.reduce_step.specs.declared.mode.TreeMode.{TreeMode}
+use Rattle.run_problem.specs.Problem.{IsEditBy, IsReductionOf, Problem, counts_of, questions_of, reduced_text, round_of, tree_reduction}
 use Rattle.reduce_journal.specs.Report.{first_lines, four_lines}
 use Rattle.case_reduction.specs.Summary.{rule_map, summary_text}
 
@@ -54,15 +54,15 @@ pub rule_says : (texts : List (List ℕ)) → HasVerdicts rule_map texts
 rule_says [] = tt
 rule_says (text ∷ texts) = (refl, rule_says texts)
 
-module _ (mode : GrammarMode) (input : TreeInput) where
+module _ (mode : TreeMode) (input : TreeInput) where
   abbrev problem : Problem
   problem = Problem.of_tree mode input
 
   -- the summary of a reduction
   abbrev summary_of : rounds.Reduction TreeState → List ℕ
   summary_of r =
-      four_lines (weight input.whole) (weight r.state.tree) (length input.start) (length (listed.text_of input r.state)) (capped_count r.rounds) (capped_count (length r.questions))
-      ++ listed.text_of input r.state
+      four_lines (weight input.whole) (weight r.state.tree) (length input.start) (length (text_of_state input r.state)) (capped_count r.rounds) (capped_count (length r.questions))
+      ++ text_of_state input r.state
 
   module _ (alike : AgreeingMapsReduceAlike (walk_mode (round_of mode) input)) where
     -- the reduction over a map that agrees with the rule is that over the rule
@@ -77,7 +77,7 @@ module _ (mode : GrammarMode) (input : TreeInput) where
       pub by_rule : (text : List ℕ) → IsReductionOf [] (verdict_in records) problem text → IsReductionOf [] rule_map problem (reduced_text [] problem rule_map)
       by_rule text is =
           let one = same_reduction (verdict_in records) (agree records by) is.defined in
-          let ends : text ≡ reduced_text [] problem rule_map = is.is_text ∙ ap (λ (r : rounds.Reduction TreeState). listed.text_of input r.state) one in
+          let ends : text ≡ reduced_text [] problem rule_map = is.is_text ∙ ap (λ (r : rounds.Reduction TreeState). text_of_state input r.state) one in
           record {
             defined = rule_says (questions_of [] problem rule_map);
             interesting = sym (ap (λ (r : rounds.Reduction TreeState). r.refused) one) ∙ is.interesting;
@@ -86,7 +86,7 @@ module _ (mode : GrammarMode) (input : TreeInput) where
             keeps_stay = refl;
             candidate = subst (λ (t : List ℕ). IsCandidate input t) ends is.candidate;
             minimal = λ other edit lists.
-                rule_too records by (listed.text_of input other) No
+                rule_too records by (text_of_state input other) No
                 (is.minimal other (subst (λ (r : rounds.Reduction TreeState). IsEditIn (IsEditBy mode input.form input.symbol) r.state other) (sym one) edit) lists);
           }
 

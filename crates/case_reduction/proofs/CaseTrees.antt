@@ -4,15 +4,16 @@ use Rattle.grammar_tree.specs.Checked.{IsChecked}
 use Rattle.grammar_tree.specs.Written.{CheckedGrammar}
 use Rattle.grammar_tree.specs.Faults.{IsWellFormed}
 use Rattle.keep_guard.specs.Keep.{keeps_admit}
-use Rattle.checked_grammar.specs.Answer.{Spells}
+use Rattle.grammar_load.specs.Answer.{Spells}
+use Rattle.reduce_step.specs.Limits.{text_limit}
 use Rattle.case_maker.specs.Cases.{case_text}
 use Rattle.case_maker.specs.Mini.{mini_text}
-use Rattle.grammar_input.specs.Parsed.{IsParsed, MakesInputOf, tree_input}
-use Rattle.grammar_input.specs.declared.parsed.ParsedInput.{ParsedInput}
-use Rattle.problem_run.specs.declared.problem.GrammarMode.{GrammarMode}
-use Rattle.problem_run.specs.declared.problem.ReadProblem.TheVariants as read
-use Rattle.problem_run.specs.Problem.{Problem, start_of}
-use Rattle.problem_run.specs.Read.{IsFoundIn, IsReadAs}
+use Rattle.reduce_trees_input.specs.Parsed.{IsParsed, MakesInputOf, tree_input}
+use Rattle.reduce_trees_input.specs.declared.parsed.ParsedInput.{ParsedInput}
+use Rattle.reduce_step.specs.declared.mode.TreeMode.{TreeMode}
+use Rattle.run_problem.specs.declared.problem.ReadProblem.TheVariants as read
+use Rattle.run_problem.specs.Problem.{Problem, start_of}
+use Rattle.run_problem.specs.Read.{IsFoundIn, IsReadAs}
 use Rattle.case_reduction.specs.Summary.{IsCaseProblem}
 
 module _ (grammar : CheckedGrammar) (text : List ℕ) (found : ParsedInput) (is : IsChecked grammar) (parsed : IsParsed grammar text found) where
@@ -20,20 +21,20 @@ module _ (grammar : CheckedGrammar) (text : List ℕ) (found : ParsedInput) (is 
   checked = subst IsChecked (sym parsed.same_grammar) is
 
   -- it can be reduced
-  pub found_in : MakesInputOf grammar text found → length text ≤ 1048576 → IsFoundIn found
+  pub found_in : MakesInputOf grammar text found → length text ≤ text_limit → IsFoundIn found
   found_in makes short = record {
     checked = checked;
     parsed = subst (λ (t : List ℕ). IsParsed found.lexer t found) (sym parsed.same_text) (subst (λ (g : CheckedGrammar). IsParsed g text found) (sym parsed.same_grammar) parsed);
     kinds = (makes checked.well_formed (λ kept text. true) false).is_input.kinds_are;
-    short = subst (λ (t : List ℕ). length t ≤ 1048576) (sym parsed.same_text) short;
+    short = subst (λ (t : List ℕ). length t ≤ text_limit) (sym parsed.same_text) short;
   }
 
 -- a program is short
-pub short : (text : List ℕ) (size : ℕ) → size ≤ 1500 → length text ≤ 170 * size + 24 → length text ≤ 1048576
+pub short : (text : List ℕ) (size : ℕ) → size ≤ 1500 → length text ≤ 170 * size + 24 → length text ≤ text_limit
 short text size most within = omega (arith, most, within)
 
 -- what is found in a program is its problem
-pub is_case : (mode : GrammarMode) (number size : ℕ) (grammar : CheckedGrammar) (found : ParsedInput) → Spells mini_text None grammar → IsParsed grammar (case_text number size) found → MakesInputOf grammar (case_text number size) found
+pub is_case : (mode : TreeMode) (number size : ℕ) (grammar : CheckedGrammar) (found : ParsedInput) → Spells mini_text None grammar → IsParsed grammar (case_text number size) found → MakesInputOf grammar (case_text number size) found
     → (problem : Problem) × IsReadAs [] (read.Tree found mode false) problem × IsCaseProblem mode number size problem
 is_case mode number size grammar found spelled parsed makes =
     let formed : IsWellFormed found.lexer.grammar found.lexer.start = (checked grammar (case_text number size) found spelled.checked parsed).well_formed in
@@ -52,5 +53,5 @@ is_case mode number size grammar found spelled parsed makes =
     )
 
 -- the problem begins with the program
-pub begins_with_case : (mode : GrammarMode) (number size : ℕ) (problem : Problem) → IsCaseProblem mode number size problem → start_of problem ≡ case_text number size
+pub begins_with_case : (mode : TreeMode) (number size : ℕ) (problem : Problem) → IsCaseProblem mode number size problem → start_of problem ≡ case_text number size
 begins_with_case mode number size problem of = ap start_of of.is_problem ∙ of.of_case.same_text

@@ -4,15 +4,15 @@ use Rattle.std.proofs.lemmas.Option.{same_Some}
 use Rattle.grammar_tree.specs.Written.{CheckedGrammar, TokenKind, WrittenGrammar}
 use Rattle.grammar_tree.specs.Faults.{start_of}
 use Rattle.grammar_tree.specs.Kinds.{kinds_of}
-use Rattle.checked_grammar.specs.Answer.{Spells, SpellsOnly}
-use Rattle.grammar_input.specs.Parsed.{IsInputOf}
-use Rattle.grammar_input.specs.Laws.{InputsAreOne}
+use Rattle.grammar_load.specs.Answer.{Spells, SpellsOnly}
+use Rattle.reduce_trees_input.specs.Parsed.{IsInputOf}
+use Rattle.reduce_trees_input.specs.Laws.{InputsAreOne}
 use Rattle.case_maker.specs.Cases.{case_text}
 use Rattle.case_maker.specs.Mini.{mini_text}
 use Rattle.case_language.specs.Mini.{mini}
-use Rattle.tree_mode.specs.Input.{TreeInput}
-use Rattle.problem_run.specs.declared.problem.GrammarMode.{GrammarMode}
-use Rattle.problem_run.specs.Problem.{Problem, questions_of}
+use Rattle.reduce_trees_mode.specs.Input.{TreeInput}
+use Rattle.reduce_step.specs.declared.mode.TreeMode.{TreeMode}
+use Rattle.run_problem.specs.Problem.{Problem, questions_of}
 use Rattle.case_reduction.specs.Summary.{IsCaseProblem, IsSummary, rule_map, summary_text}
 use Rattle.case_reduction.specs.Laws.{SummariesAreOne}
 use Rattle.case_reduction.proofs.Alike.{rule_says}
@@ -32,7 +32,7 @@ spelled_once only one other spells also =
     ∙ ap (made other.grammar other.kinds) start
 
 -- a program has one problem in a mode
-problem_once : SpellsOnly mini_text mini → InputsAreOne → (mode : GrammarMode) (number size : ℕ) (one other : Problem) → IsCaseProblem mode number size one → IsCaseProblem mode number size other → one ≡ other
+problem_once : SpellsOnly mini_text mini → InputsAreOne → (mode : TreeMode) (number size : ℕ) (one other : Problem) → IsCaseProblem mode number size one → IsCaseProblem mode number size other → one ≡ other
 problem_once only inputs mode number size one other of also =
     let same : of.grammar ≡ also.grammar = spelled_once only of.grammar also.grammar of.spelled also.spelled in
     let moved = subst (λ (g : CheckedGrammar). IsInputOf g (case_text number size) of.input) same of.of_case in

@@ -5,27 +5,27 @@ use Rattle.std.proofs.lemmas.Result.{IfOk-weaker}
 use Rattle.std.specs.List.{AllByRecursion}
 use Rattle.std.proofs.lemmas.List.Elements.{recursion_from_All}
 use Rattle.faults.specs.Count.{Rose}
-use Rattle.script_gate.specs.declared.gate.Verdict.TheVariants.{Yes, No}
-use Rattle.script_gate.specs.Rule.{rule_verdict}
+use Rattle.script_gate_trait.specs.declared.gate.Verdict.TheVariants.{Yes, No}
+use Rattle.script_gate_trait.specs.Rule.{rule_verdict}
 use Rattle.verdict_table.specs.declared.record.Record.{Record}
 use Rattle.verdict_table.specs.TableState.{verdict_in}
-use Rattle.reduction_rounds.specs.Laws.{AgreeingMapsReduceAlike}
+use Rattle.reduce_rounds.specs.Laws.{AgreeingMapsReduceAlike}
 use Rattle.reduce_journal.specs.History.{History, records_of}
 use Rattle.reduce_journal.specs.declared.counts.Counts.{Counts}
-use Rattle.tree_mode.specs.Input.{TreeInput}
-use Rattle.tree_rounds.specs.WalkMode.{walk_mode}
-use Rattle.tree_visits.specs.VisitRounds.{visit_round}
-use Rattle.level_walks.specs.LevelRounds.{level_round}
-use Rattle.gated_run.specs.Records.{FirstIs}
-use Rattle.gated_run.specs.declared.fault.RunFault.{RunFault}
-use Rattle.gated_run.specs.declared.ran.Reduced.{Reduced}
-use Rattle.gated_run.specs.declared.fault.RunFault.TheVariants as run
-use Rattle.problem_run.specs.declared.problem.GrammarMode.{GrammarMode}
-use Rattle.problem_run.specs.declared.problem.GrammarMode.TheVariants.{Hdd, Perses}
-use Rattle.problem_run.specs.Problem.{IsReductionOf, Problem, counts_of, round_of, start_of}
-use Rattle.problem_run.specs.Ends.{ProblemEnds, ReducesFrom, RunFails}
-use Rattle.problem_run.specs.Read.{IsReadAs}
-use Rattle.problem_run.specs.declared.problem.ReadProblem.{ReadProblem}
+use Rattle.reduce_trees_mode.specs.Input.{TreeInput}
+use Rattle.reduce_trees.specs.WalkMode.{walk_mode}
+use Rattle.reduce_perses.specs.VisitRounds.{visit_round}
+use Rattle.reduce_hdd.specs.LevelRounds.{level_round}
+use Rattle.run_gated.specs.Records.{FirstIs}
+use Rattle.run_gated.specs.declared.fault.RunFault.{RunFault}
+use Rattle.run_gated.specs.declared.ran.Reduced.{Reduced}
+use Rattle.run_gated.specs.declared.fault.RunFault.TheVariants as run
+use Rattle.reduce_step.specs.declared.mode.TreeMode.{TreeMode}
+use Rattle.reduce_step.specs.declared.mode.TreeMode.TheVariants.{Hdd, Perses}
+use Rattle.run_problem.specs.Problem.{IsReductionOf, Problem, counts_of, round_of, start_of}
+use Rattle.run_problem.specs.Ends.{ProblemEnds, ReducesFrom, RunFails}
+use Rattle.run_problem.specs.Read.{IsReadAs}
+use Rattle.run_problem.specs.declared.problem.ReadProblem.{ReadProblem}
 use Rattle.case_language.specs.Laws.{CasesGetYes}
 use Rattle.reduce_journal.specs.Report.{first_lines}
 use Rattle.case_reduction.specs.Summary.{IsCaseProblem, IsSummary}
@@ -45,12 +45,12 @@ not_refused (r ∷ records) by start is first =
     cc
 
 -- both modes: reductions over maps that agree are equal
-pub alike_in : (mode : GrammarMode) → ((input : TreeInput) → AgreeingMapsReduceAlike (walk_mode visit_round input)) → ((input : TreeInput) → AgreeingMapsReduceAlike (walk_mode level_round input))
+pub alike_in : (mode : TreeMode) → ((input : TreeInput) → AgreeingMapsReduceAlike (walk_mode visit_round input)) → ((input : TreeInput) → AgreeingMapsReduceAlike (walk_mode level_round input))
     → (input : TreeInput) → AgreeingMapsReduceAlike (walk_mode (round_of mode) input)
 alike_in Perses visits levels input = visits input
 alike_in Hdd visits levels input = levels input
 
-module _ (mode : GrammarMode) (number size : ℕ) (problem : Problem) (of : IsCaseProblem mode number size problem) (history : History) (by : BySaid (records_of history)) where
+module _ (mode : TreeMode) (number size : ℕ) (problem : Problem) (of : IsCaseProblem mode number size problem) (history : History) (by : BySaid (records_of history)) where
   -- it fails only where memory runs out
   pub only_memory : CasesGetYes → 1 ≤ size → (fault : RunFault) → RunFails [] problem history 0 0 0 0 fault → fault ≡ run.Memory
   only_memory get_yes some run.NotInteresting why =
@@ -73,7 +73,7 @@ module _ (mode : GrammarMode) (number size : ℕ) (problem : Problem) (of : IsCa
       }
 
 -- A run of what was read of the program, without keep texts.
-module _ (mode : GrammarMode) (number size : ℕ) (read : ReadProblem) (of : (problem : Problem) × IsReadAs [] read problem × IsCaseProblem mode number size problem) (keeps : List (List ℕ)) (none : keeps ≡ [])
+module _ (mode : TreeMode) (number size : ℕ) (read : ReadProblem) (of : (problem : Problem) × IsReadAs [] read problem × IsCaseProblem mode number size problem) (keeps : List (List ℕ)) (none : keeps ≡ [])
     (history : History) (by : BySaid (records_of history)) (outcome : Result Reduced RunFault) (ends : (one : Problem) → IsReadAs keeps read one → ProblemEnds keeps one history 0 0 0 0 outcome) where
   its_end : ProblemEnds [] of.0 history 0 0 0 0 outcome
   its_end = subst (λ (k : List (List ℕ)). ProblemEnds k of.0 history 0 0 0 0 outcome) none (ends of.0 (subst (λ (k : List (List ℕ)). IsReadAs k read of.0) (sym none) of.1))

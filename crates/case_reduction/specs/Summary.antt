@@ -1,26 +1,26 @@
 -- The summary of the reduction of a generated program by a rule.
 use Rattle.std.specs.Prelude.{◌≡◌, ℕ, List, [], ◌++◌, false, Option, None, Some, length}
 use Rattle.grammar_tree.specs.Written.{CheckedGrammar}
-use Rattle.script_gate.specs.declared.gate.Verdict.{Verdict}
-use Rattle.script_gate.specs.Rule.{rule_verdict}
+use Rattle.script_gate_trait.specs.declared.gate.Verdict.{Verdict}
+use Rattle.script_gate_trait.specs.Rule.{rule_verdict}
 use Rattle.keep_guard.specs.Keep.{keeps_admit}
-use Rattle.checked_grammar.specs.Answer.{Spells}
+use Rattle.grammar_load.specs.Answer.{Spells}
 use Rattle.case_maker.specs.Cases.{case_text}
 use Rattle.case_maker.specs.Mini.{mini_text}
-use Rattle.tree_mode.specs.Input.{TreeInput}
-use Rattle.grammar_input.specs.Parsed.{IsInputOf}
+use Rattle.reduce_trees_mode.specs.Input.{TreeInput}
+use Rattle.reduce_trees_input.specs.Parsed.{IsInputOf}
 use Rattle.reduce_journal.specs.Report.{four_lines}
-use Rattle.reduction_rounds.specs.Laws.{Agree, HasVerdicts}
-use Rattle.reduction_rounds.specs.RoundsPlan.{capped_count}
-use Rattle.problem_run.specs.declared.problem.GrammarMode.{GrammarMode}
-use Rattle.problem_run.specs.Problem.{IsReductionOf, Problem, questions_of, reduced_text, reduced_units, rounds_of, start_of, units_of}
+use Rattle.reduce_rounds.specs.Laws.{Agree, HasVerdicts}
+use Rattle.reduce_rounds.specs.RoundsPlan.{capped_count}
+use Rattle.reduce_step.specs.declared.mode.TreeMode.{TreeMode}
+use Rattle.run_problem.specs.Problem.{IsReductionOf, Problem, questions_of, reduced_text, reduced_units, rounds_of, start_of, units_of}
 
 -- what the rule that asks for the letters Q and Z says of each text: its number has their bytes
 abbrev pub rule_map : List ℕ → Option Verdict
 rule_map text = Some (rule_verdict 23121 text)
 
 -- The problem is the tree of the program of this number and size by the grammar that the text of Mini spells, in this mode: all texts in the language are admitted, and the squeezed text isn't tried.
-pub record IsCaseProblem (mode : GrammarMode) (number size : ℕ) (problem : Problem) : Type 0 where
+pub record IsCaseProblem (mode : TreeMode) (number size : ℕ) (problem : Problem) : Type 0 where
   pub grammar : CheckedGrammar
   pub spelled : Spells mini_text None grammar
   pub input : TreeInput
@@ -37,7 +37,7 @@ summary_text problem V =
     ++ reduced_text [] problem V
 
 -- The text is the summary of the reduction of the program over the rule, which ends at a text that the rule says yes to, in the language, and minimal. It is that over each map that agrees with the rule and has a verdict for each text that its own reduction asks; one of these is the rule's.
-pub record IsSummary (mode : GrammarMode) (number size : ℕ) (text : List ℕ) : Type 0 where
+pub record IsSummary (mode : TreeMode) (number size : ℕ) (text : List ℕ) : Type 0 where
   pub problem : Problem
   pub of_case : IsCaseProblem mode number size problem
   pub reduces : IsReductionOf [] rule_map problem (reduced_text [] problem rule_map)

@@ -4,7 +4,7 @@
 ghost use Rattle.case_reduction.specs.Laws.{SummariesAreOne};
 
 use case_language::mini_is_spelled;
-use grammar_input::inputs_are_one;
+use reduce_trees_input::inputs_are_one;
 
 /// A program has one summary at most in a mode.
 pub fn summaries_are_one()

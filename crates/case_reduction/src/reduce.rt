@@ -1,34 +1,34 @@
 //! The reduction.
 
 ghost use Rattle.std.specs.Prelude.{◌≡◌, ◌≤◌, [], None, IfOk};
-ghost use Rattle.checked_grammar.specs.Answer.{Spells};
+ghost use Rattle.grammar_load.specs.Answer.{Spells};
 ghost use Rattle.case_maker.specs.Mini.{mini_text};
-ghost use Rattle.tree_mode.specs.Input.{TreeInput};
-ghost use Rattle.tree_rounds.specs.WalkMode.{walk_mode};
-ghost use Rattle.reduction_rounds.specs.Laws.{AgreeingMapsReduceAlike};
-ghost use Rattle.gated_run.specs.declared.fault.RunFault.TheVariants.{Memory as OutOfMemory};
-ghost use Rattle.problem_run.specs.Problem.{Problem};
-ghost use Rattle.problem_run.specs.Read.{IsReadAs, IsReady};
+ghost use Rattle.reduce_trees_mode.specs.Input.{TreeInput};
+ghost use Rattle.reduce_trees.specs.WalkMode.{walk_mode};
+ghost use Rattle.reduce_rounds.specs.Laws.{AgreeingMapsReduceAlike};
+ghost use Rattle.run_gated.specs.declared.fault.RunFault.TheVariants.{Memory as OutOfMemory};
+ghost use Rattle.run_problem.specs.Problem.{Problem};
+ghost use Rattle.run_problem.specs.Read.{IsReadAs, IsReady};
 ghost use Rattle.case_reduction.specs.Summary.{IsCaseProblem, IsSummary};
 
 use crate::summary::summary;
 use case_language::{cases_are_in_language, cases_get_yes, mini_is_spelled};
 use case_maker::{cases_are_short, make_case, mini_grammar};
-use checked_grammar::{GrammarFault, checked_grammar};
 use edge_io::NullSink;
 use faults::Memory;
-use gated_run::{Ran, RunFault};
-use grammar_input::{InputFault, parsed_input};
+use grammar_load::{GrammarFault, checked_grammar};
 use grammar_tree::Checked;
 use keep_guard::{Guard, KeepTexts};
-use level_walks::TreeLevels;
-use problem_run::{GrammarMode, ReadProblem, run_problem};
-use reduction_rounds::agreeing_maps;
-use script_gate::RuleGate;
+use reduce_hdd::TreeLevels;
+use reduce_perses::TreeVisits;
+use reduce_rounds::agreeing_maps;
+use reduce_trees::TreeRound;
+use reduce_trees_input::{InputFault, parsed_input};
+use reduce_walk::TreeWalk;
+use run_gated::{Ran, RunFault};
+use run_problem::{ReadProblem, TreeMode, run_problem};
+use script_gate_trait::RuleGate;
 use std::alloc::Global;
-use tree_rounds::TreeRound;
-use tree_visits::TreeVisits;
-use tree_walk::TreeWalk;
 
 /// The rule: its two bytes are the letters Q and Z.
 const RULE: u64 = 23_121;
@@ -51,7 +51,7 @@ fn case_problem(
     alloc: Global,
     number: u32,
     size: u32,
-    mode: GrammarMode,
+    mode: TreeMode,
 ) -> Result<ReadProblem, Memory>
     requires least { 1 ≤ size }
     requires most { size ≤ 1500 }
@@ -100,7 +100,7 @@ pub fn case_summary(
     alloc: Global,
     number: u32,
     size: u32,
-    mode: GrammarMode,
+    mode: TreeMode,
 ) -> Result<Vec<u8>, Memory>
     requires least { 1 ≤ size }
     requires most { size ≤ 1500 }

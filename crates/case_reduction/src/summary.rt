@@ -4,8 +4,8 @@ ghost use Rattle.std.specs.Prelude.{◌≡◌, ◌++◌, IfOk};
 ghost use Rattle.reduce_journal.specs.Report.{first_lines};
 
 use faults::Memory;
-use gated_run::Reduced;
 use reduce_journal::first_lines;
+use run_gated::Reduced;
 use std::alloc::Global;
 
 /// The summary of a reduction: the first four lines of its report, and the text that is left.

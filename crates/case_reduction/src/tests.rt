@@ -1,24 +1,24 @@
 use crate::case_summary;
-use problem_run::GrammarMode;
+use run_problem::TreeMode;
 use std::test::Fail;
 
 #[test]
 fn reduces_programs_to_what_is_left_of_the_target_line(rt: HostRuntime) -> Result<(), Fail> {
     let rows = [
         (
-            (0, 1, GrammarMode::Perses),
+            (0, 1, TreeMode::Perses),
             "units: 70 -> 10\nbytes: 158 -> 24\nrounds: 2\nused: 17\nint f0( ) {\nQ = \"Z\" ;\n}\n",
         ),
         (
-            (0, 1, GrammarMode::Hdd),
+            (0, 1, TreeMode::Hdd),
             "units: 70 -> 19\nbytes: 158 -> 36\nrounds: 2\nused: 16\nint f0( ) {\nQ = f0(a, (b + \"Z\"));\n}\n",
         ),
         (
-            (1, 10, GrammarMode::Perses),
+            (1, 10, TreeMode::Perses),
             "units: 519 -> 10\nbytes: 1334 -> 24\nrounds: 2\nused: 24\nint f4( ) {\nQ = \"Z\" ;\n}\n",
         ),
         (
-            (1, 10, GrammarMode::Hdd),
+            (1, 10, TreeMode::Hdd),
             "units: 519 -> 19\nbytes: 1334 -> 36\nrounds: 2\nused: 23\nint f4( ) {\nQ = f0(a, (b + \"Z\"));\n}\n",
         ),
     ];

@@ -1,5 +1,5 @@
 -- How an alternative is cut into its parts.
-use Rattle.std.proofs.Common.{◌≡◌, ℕ, zero, suc, ◌+◌, ◌-◌, ◌<◌, ◌≤◌, ◌⊎◌, ◌↔◌, inl, inr, true, false, is_some, List, [], ◌∷◌, ◌++◌, Option, Some, None, length, get_or, take, drop, map, refl, sym, ap, ◌∙◌, subst, arith, length-append, append_assoc}
+use Rattle.std.proofs.Common.{◌≡◌, ℕ, zero, suc, ◌+◌, ◌-◌, ◌<◌, ◌≤◌, ◌⊎◌, ◌↔◌, inl, inr, true, false, is_some, List, [], ◌∷◌, ◌++◌, Option, Some, None, length, get_or, take, drop, refl, sym, ap, ◌∙◌, subst, arith, length-append, append_assoc}
 use Rattle.std.proofs.lemmas.List.{drop_more, drop_all, get_or_append_left, take_more, get_or_push, get_or-take, length-take, append-nil}
 use Rattle.std.proofs.lemmas.Bool.{cases_lt}
 use Rattle.std.proofs.lemmas.Grind.{get_or_default_zero}
@@ -11,18 +11,14 @@ use Rattle.std.specs.List.{Contains}
 use Rattle.std.specs.List.Sorted.{IsStrictlyIncreasing}
 use Rattle.normal_form.specs.declared.normal.Sym.{Sym}
 use Rattle.normal_form.specs.Form.{NormalForm}
-use Rattle.derived_spans.specs.Spans.{DerivesSpan, DerivesSpanSeq}
+use Rattle.normal_form_spans.specs.Spans.{DerivesSpan, DerivesSpanSeq}
 use Rattle.syntax_tree.specs.Preferred.{IsLongest}
-use Rattle.span_chart.specs.Input.{ChartInput}
-use Rattle.span_chart.specs.Positions.{EndsUpTo, HasAll, HasExactly, IsGrown, IsGreatest, IsLastAmong}
-use Rattle.span_chart.proofs.Spans.{joins, lists, spans}
+use Rattle.chart_parser_ends.specs.Input.{ChartInput}
+use Rattle.chart_parser_ends.specs.Positions.{EndsUpTo, HasAll, HasExactly, IsGrown, IsGreatest, IsLastAmong}
+use Rattle.chart_parser_ends.proofs.Spans.{joins, lists, spans}
 use Rattle.chart_parser.specs.declared.part.Part.{Part}
 use Rattle.chart_parser.specs.GoingOn.{AreGoingOn, AreReached, EndsFrom, HasGoingOn, HasReached, Meets, set_at}
 use Rattle.chart_parser.specs.Parts.{AreParts, IsPart}
-
--- lists of positions by their numbers
-abbrev lists_of : List (Vec ℕ) → List (List ℕ)
-lists_of sets = map (λ (v : Vec ℕ). v.items) sets
 
 pub set_at_read : (sets : List (Vec ℕ)) (k : ℕ) (v : Vec ℕ) → k < length sets → v ≡ get_or sets k v → v.items ≡ set_at sets k
 set_at_read [] k v l e = absurd (omega (arith, l))

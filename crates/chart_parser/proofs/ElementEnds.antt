@@ -10,10 +10,10 @@ use Rattle.std.specs.List.{Contains}
 use Rattle.std.specs.List.Sorted.{IsStrictlyIncreasing}
 use Rattle.normal_form.specs.declared.normal.Sym.{Sym}
 use Rattle.normal_form.specs.Form.{NormalForm}
-use Rattle.derived_spans.specs.Spans.{DerivesSpan, DerivesSpanMany}
+use Rattle.normal_form_spans.specs.Spans.{DerivesSpan, DerivesSpanMany}
 use Rattle.syntax_tree.specs.Preferred.{IsLongest}
-use Rattle.span_chart.specs.Positions.{EndsUpTo, HasAll, HasExactly, IsGrown, IsGreatest, IsLastAmong}
-use Rattle.span_chart.proofs.Spans.{joins, lists, spans}
+use Rattle.chart_parser_ends.specs.Positions.{EndsUpTo, HasAll, HasExactly, IsGrown, IsGreatest, IsLastAmong}
+use Rattle.chart_parser_ends.proofs.Spans.{joins, lists, spans}
 use Rattle.chart_parser.specs.declared.part.Part.{Part}
 use Rattle.chart_parser.specs.GoingOn.{ElementsGoOn, HasEndsOfElements, IsClosedBefore, IsListOf, MovesOn}
 use Rattle.chart_parser.specs.Parts.{AreElements, IsPart}

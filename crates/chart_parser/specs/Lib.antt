@@ -1,10 +1,6 @@
-pub use Rattle.normal_form.specs.Form
-pub use Rattle.normal_form.specs.NormalDerives
-pub use Rattle.normal_form.specs.NormalOf
-pub use Rattle.derived_spans.specs.Spans
-pub use Rattle.syntax_tree.specs.Trees
-pub use Rattle.syntax_tree.specs.Nodes
-pub use Rattle.syntax_tree.specs.Preferred
+pub use Rattle.normal_form.specs as NormalForm
+pub use Rattle.normal_form_spans.specs.Spans
+pub use Rattle.syntax_tree.specs as SyntaxTree
 pub mod Parse
 pub mod Parts
 pub mod GoingOn

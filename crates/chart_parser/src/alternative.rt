@@ -2,15 +2,15 @@
 
 ghost use Rattle.std.specs.Prelude.{◌≡◌, ◌+◌, ◌<◌, ◌≤◌, [], false, length, IfOk, IsTrue, OnOk};
 ghost use Rattle.std.specs.List.Sorted.{IsStrictlyIncreasing};
-ghost use Rattle.derived_spans.specs.Spans.{DerivesSpanSeq};
-ghost use Rattle.span_chart.specs.Positions.{HasAll, HasExactly};
+ghost use Rattle.normal_form_spans.specs.Spans.{DerivesSpanSeq};
+ghost use Rattle.chart_parser_ends.specs.Positions.{HasAll, HasExactly};
 ghost use Rattle.chart_parser.specs.GoingOn.{AreGoingOn, AreReached, EndsFrom, Meets};
 ghost use Rattle.chart_parser.specs.Parts.{AreParts};
 
 use crate::part::Part;
+use chart_parser_ends::Chart;
 use faults::Memory;
 use normal_form::Sym;
-use span_chart::Chart;
 use std::alloc::Global;
 
 /// Where the symbol can end that begins at one of these positions, up to the position `end`.

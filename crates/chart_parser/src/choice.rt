@@ -1,7 +1,7 @@
 //! How the span of a rule is cut into those of its children.
 
 ghost use Rattle.std.specs.Prelude.{◌≡◌, ◌⊎◌, ◌<◌, ◌≤◌, ◌^◌, ℕ, List, [], Some, length, slice_get, IfOk, OnOk};
-ghost use Rattle.derived_spans.specs.Spans.{DerivesSpan, DerivesSpanSeq};
+ghost use Rattle.normal_form_spans.specs.Spans.{DerivesSpan, DerivesSpanSeq};
 ghost use Rattle.normal_form.specs.declared.normal.Sym;
 ghost use Rattle.normal_form.specs.View.{alts_form};
 ghost use Rattle.chart_parser.specs.Parts.{AreOfLeast, AreOfRule, IsContent};
@@ -9,10 +9,10 @@ ghost use Rattle.chart_parser.specs.Parts.{AreOfLeast, AreOfRule, IsContent};
 use crate::alternative::alternative_parts;
 use crate::elements::add_list;
 use crate::part::Part;
-use derived_spans::{elements_move_on, spans_by_form};
+use chart_parser_ends::Chart;
 use faults::Memory;
 use normal_form::{Normal, NormalRule, Sym, numbers_are_small};
-use span_chart::Chart;
+use normal_form_spans::{elements_move_on, spans_by_form};
 use std::alloc::Global;
 
 /// The number of the first alternative that derives the span, with its parts.

@@ -3,15 +3,15 @@
 ghost use Rattle.std.specs.Prelude.{◌≡◌, ◌<◌, ◌≤◌, ℕ, [], drop, length, vec_len, IfOk, OnOk};
 ghost use Rattle.std.specs.List.{Contains};
 ghost use Rattle.std.specs.List.Sorted.{IsStrictlyIncreasing};
-ghost use Rattle.derived_spans.specs.Spans.{DerivesSpanMany};
-ghost use Rattle.span_chart.specs.Positions.{HasExactly};
+ghost use Rattle.normal_form_spans.specs.Spans.{DerivesSpanMany};
+ghost use Rattle.chart_parser_ends.specs.Positions.{HasExactly};
 ghost use Rattle.chart_parser.specs.GoingOn.{ElementsGoOn, HasEndsOfElements, IsClosedBefore, IsListOf, MovesOn};
 ghost use Rattle.chart_parser.specs.Parts.{AreElements};
 
 use crate::part::Part;
+use chart_parser_ends::Chart;
 use faults::Memory;
 use normal_form::Sym;
-use span_chart::Chart;
 use std::alloc::Global;
 
 /// Adds the position `end`, and moves those of the positions to the end of the list from which

@@ -6,7 +6,7 @@
 //!
 //! Read `specs/Parse.antt` first: what the answer is; then `specs/Parts.antt`: how the span of a node
 //! is cut into those of its children, and `specs/Preorder.antt`: what the nodes that were made and
-//! those that are still asked for make together.
+//! those that are still asked for make together. An ambiguous list is never refused.
 #![tactic(auto)]
 
 mod alternative;

@@ -1,7 +1,7 @@
 //! The nodes of a preferred tree, each before those below it, from left to right.
 
 ghost use Rattle.std.specs.Prelude.{◌≡◌, ◌+◌, ◌<◌, ◌^◌, ◌++◌, ◌∷◌, [], length, map, reverse, slice_index, vec_len, IfOk, OnOk};
-ghost use Rattle.derived_spans.specs.Spans.{DerivesSpan};
+ghost use Rattle.normal_form_spans.specs.Spans.{DerivesSpan};
 ghost use Rattle.normal_form.specs.declared.normal.Sym;
 ghost use Rattle.syntax_tree.specs.Nodes.{AreNodesOf};
 ghost use Rattle.syntax_tree.specs.Preferred.{Preferred};
@@ -11,10 +11,10 @@ ghost use Rattle.chart_parser.specs.Preorder.{AreBegun, AreDerived, below, leaf_
 
 use crate::choice::rule_parts;
 use crate::part::{Asked, Part};
-use derived_spans::spans_by_form;
+use chart_parser_ends::Chart;
 use faults::Memory;
 use normal_form::{Normal, Sym};
-use span_chart::Chart;
+use normal_form_spans::spans_by_form;
 use std::alloc::Global;
 use syntax_tree::{Node, preferred_trees_are_valid};
 

@@ -2,13 +2,13 @@
 
 ghost use Rattle.std.specs.Prelude.{◌≡◌, ◌<◌, ◌^◌, length, IfOk, MatchOption};
 ghost use Rattle.normal_form.specs.NormalDerives.{NormalDerives};
-ghost use Rattle.derived_spans.specs.Spans.{DerivesSpan};
+ghost use Rattle.normal_form_spans.specs.Spans.{DerivesSpan};
 ghost use Rattle.chart_parser.specs.Parse.{IsParse};
 
 use crate::nodes::preferred_nodes;
+use chart_parser_ends::Chart;
 use faults::Memory;
 use normal_form::{Normal, Sym};
-use span_chart::Chart;
 use std::alloc::Global;
 use syntax_tree::Tree;
 

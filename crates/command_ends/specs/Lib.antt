@@ -1,8 +1,6 @@
-pub use Rattle.faults.specs.Count
-pub use Rattle.edge_io.specs.Files
-pub use Rattle.edge_io.specs.Sink
+pub use Rattle.edge_io.specs as EdgeIo
 pub use Rattle.reduce_journal.specs.History
-pub use Rattle.checked_grammar.specs.Message
-pub use Rattle.grammar_input.specs.FaultText
+pub use Rattle.grammar_load.specs.Message
+pub use Rattle.reduce_trees_input.specs.FaultText
 pub mod World
 pub mod Status

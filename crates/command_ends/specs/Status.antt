@@ -3,11 +3,11 @@ use Rattle.std.specs.Prelude.{◌≡◌, ◌⊎◌, ℕ, ◌==◌, List, ◌++�
 use Rattle.std.specs.List.{list_any}
 use Rattle.std.specs.Fmt.{decimal}
 use Rattle.edge_io.specs.Files.{FileContent, IsLonger}
-use Rattle.grammar_input.specs.FaultText.{fault_text}
-use Rattle.grammar_input.specs.declared.fault.InputFault.{InputFault}
-use Rattle.grammar_input.specs.declared.fault.InputFault.TheVariants as input_fault
-use Rattle.gated_run.specs.declared.fault.RunFault.{RunFault}
-use Rattle.gated_run.specs.declared.fault.RunFault.TheVariants as run
+use Rattle.reduce_trees_input.specs.FaultText.{input_fault_text}
+use Rattle.reduce_trees_input.specs.declared.fault.InputFault.{InputFault}
+use Rattle.reduce_trees_input.specs.declared.fault.InputFault.TheVariants as input_fault
+use Rattle.run_gated.specs.declared.fault.RunFault.{RunFault}
+use Rattle.run_gated.specs.declared.fault.RunFault.TheVariants as run
 use Rattle.command_ends.specs.declared.status.NamedFile.{NamedFile}
 use Rattle.command_ends.specs.declared.status.NamedFile.TheVariants as read
 use Rattle.command_ends.specs.declared.status.Refusal.{Refusal}
@@ -107,7 +107,7 @@ IsUncut input_fault.Memory = ⊥
 -- the refusal of an input that has this fault
 abbrev pub IsInputRefusal : InputFault → Refusal → Type 0
 IsInputRefusal fault Memory = Unit {0}
-IsInputRefusal fault (Uncut line) = IsUncut fault × (string_bytes line ≡ line_of_text (fault_text fault))
+IsInputRefusal fault (Uncut line) = IsUncut fault × (string_bytes line ≡ line_of_text (input_fault_text fault))
 IsInputRefusal fault NoParse = fault ≡ input_fault.NoParse
 IsInputRefusal fault _ = ⊥
 

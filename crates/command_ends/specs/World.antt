@@ -3,7 +3,7 @@ use Rattle.std.specs.Prelude.{◌≡◌, ◌<◌, ◌≤◌, ◌⊎◌, ℕ, Lis
 use Rattle.faults.specs.Count.{Rose}
 use Rattle.edge_io.specs.Files.{FileContent, Holds, SameFiles}
 use Rattle.edge_io.specs.Sink.{Put, GrewByPrefix, with_piece}
-use Rattle.script_gate.specs.declared.log.Log.{Log}
+use Rattle.script_gate_trait.specs.declared.log.Log.{Log}
 use Rattle.reduce_journal.specs.History.{History}
 
 -- what an object shows, and how many of its calls failed

@@ -12,5 +12,5 @@ mod file;
 mod status;
 
 pub use end::{Ended, end_refused, end_with};
-pub use file::{read_file, read_input, write_file};
+pub use file::{GRAMMAR_LIMIT, read_file, read_input, write_file};
 pub use status::{NamedFile, Refusal};

@@ -1,14 +1,14 @@
 //! The refusals of the program, each with its status and its line.
 
 ghost use Rattle.std.specs.Prelude.{◌≡◌};
-ghost use Rattle.checked_grammar.specs.Message.{fault_text};
+ghost use Rattle.grammar_load.specs.Message.{grammar_fault_text};
 ghost use Rattle.command_ends.specs.Status.{IsGrammarRefusal, IsInputRefusal, IsKeepRefusal, line_of, status_of};
 
-use checked_grammar::GrammarFault;
 use faults::Memory;
-use gated_run::RunFault;
-use grammar_input::InputFault;
-use std::alloc::{AllocError, Global};
+use grammar_load::GrammarFault;
+use reduce_trees_input::InputFault;
+use run_gated::RunFault;
+use std::alloc::Global;
 
 /// A file that the program reads.
 #[derive(Clone, Copy, Debug, PartialEq, Eq)]
@@ -51,7 +51,7 @@ pub enum Refusal {
 impl Refusal {
     /// The refusal of a grammar that has this fault; `Memory` where memory runs out.
     pub fn of_grammar(alloc: Global, fault: &GrammarFault) -> Refusal
-        ensures { IsGrammarRefusal (fault_text fault.now) result }
+        ensures { IsGrammarRefusal (grammar_fault_text fault.now) result }
     {
         match format!(in alloc; "perses: grammar: {fault}\n") {
             Ok(line) => Refusal::Grammar(line),
@@ -116,16 +116,6 @@ impl From<Memory> for Refusal {
     ghost from_gives = { λ _ refusal. refusal ≡ OutOfMemory };
 
     fn from(_: Memory) -> Refusal {
-        Refusal::Memory
-    }
-}
-
-impl From<AllocError> for Refusal {
-    ghost use Rattle.command_ends.specs.declared.status.Refusal.TheVariants.{Memory as OutOfMemory};
-
-    ghost from_gives = { λ _ refusal. refusal ≡ OutOfMemory };
-
-    fn from(_: AllocError) -> Refusal {
         Refusal::Memory
     }
 }

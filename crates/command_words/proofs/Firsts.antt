@@ -9,7 +9,7 @@ use Rattle.command_words.specs.Tables.{optional, reduce_table, tree_modes}
 use Rattle.command_words.specs.Commands.{GrammarSource, ModeOptions, is_given, lines_options, named_grammar, text_of, tree_mode_named, trees_options, value_of, value_or}
 use Rattle.command_words.specs.Found.{HasFound, fitting_mode, names_files}
 use Rattle.command_words.specs.Read.{flag_text, NamesValue, where_some}
-use Rattle.command_words.specs.declared.commands.TreeMode.{TreeMode}
+use Rattle.reduce_step.specs.declared.mode.TreeMode.{TreeMode}
 use Rattle.command_words.proofs.FoundValues.{given_none, given_some, mode_default, mode_of_lines, mode_of_trees, mode_unknown}
 
 -- ---- the first value

@@ -51,9 +51,9 @@ keeps_fit values = ap (λ (b : Bool). (nat_le (length values) 8 && true) && b) (
 
 -- ---- tables
 
-eleven : (a b c e g j a' b' c' d e' f g' h i j' k : Bool) → a ≡ a' → b ≡ b' → c ≡ c' → d ≡ true → e ≡ e' → f ≡ true → g ≡ g' → h ≡ true → i ≡ true → j ≡ j' → k ≡ true
+reduce_conjuncts : (a b c e g j a' b' c' d e' f g' h i j' k : Bool) → a ≡ a' → b ≡ b' → c ≡ c' → d ≡ true → e ≡ e' → f ≡ true → g ≡ g' → h ≡ true → i ≡ true → j ≡ j' → k ≡ true
     → (a && (b && (c && (d && (e && (f && (g && (h && (i && (j && (k && true))))))))))) ≡ ((a' && (b' && c')) && (e' && (g' && j')))
-eleven a b c e g j a' b' c' d e' f g' h i j' k a_is b_is c_is d_is e_is f_is g_is h_is i_is j_is k_is =
+reduce_conjuncts a b c e g j a' b' c' d e' f g' h i j' k a_is b_is c_is d_is e_is f_is g_is h_is i_is j_is k_is =
     rw (a_is, b_is, c_is, d_is, e_is, f_is, g_is, h_is, i_is, j_is, k_is) (regroup a' b' c' e' g' j')
   where
     regroup : (a b c e g j : Bool) → (a && (b && (c && (true && (e && (true && (g && (true && (true && (j && (true && true))))))))))) ≡ ((a && (b && c)) && (e && (g && j)))
@@ -69,7 +69,7 @@ pub reduce_fits : (uses : List Use) → IsOnce reduce_table uses
     && (values_fit (Values.one_of (codes "lines" ∷ tree_modes)) (codes "mode") uses && (values_fit (Values.number 1 1) (codes "jobs") uses && nat_le (length (values_for (codes "keep") uses)) 8)))
 reduce_fits uses once =
     let g : List ℕ → List (List ℕ) = λ name. values_for name uses in
-    eleven _ _ _ _ _ _ _ _ _ _ _ _ _ _ _ _ _
+    reduce_conjuncts _ _ _ _ _ _ _ _ _ _ _ _ _ _ _ _ _
     (required_fits (g (codes "input")) (once (required (codes "input") Values.any_text) refl refl))
     (required_fits (g (codes "output")) (once (required (codes "output") Values.any_text) refl refl))
     (required_fits (g (codes "script")) (once (required (codes "script") Values.any_text) refl refl))
@@ -89,8 +89,8 @@ normal_fits uses once =
     (optional_fits (g (codes "start")) (once (optional (codes "start") Values.any_text) refl refl))
     ∙ and_true (is_given (codes "grammar") uses)
 
-three : (a b c a' b' c' : Bool) → a ≡ a' → b ≡ b' → c ≡ c' → (a && (b && (c && true))) ≡ (a' && (b' && c'))
-three a b c a' b' c' a_is b_is c_is = rw (a_is, b_is, c_is) (ap (λ (x : Bool). a' && (b' && x)) (and_true c'))
+selftest_conjuncts : (a b c a' b' c' : Bool) → a ≡ a' → b ≡ b' → c ≡ c' → (a && (b && (c && true))) ≡ (a' && (b' && c'))
+selftest_conjuncts a b c a' b' c' a_is b_is c_is = rw (a_is, b_is, c_is) (ap (λ (x : Bool). a' && (b' && x)) (and_true c'))
 
 pub selftest_fits : (uses : List Use) → IsOnce selftest_table uses
     → fits_table selftest_table uses
@@ -98,7 +98,7 @@ pub selftest_fits : (uses : List Use) → IsOnce selftest_table uses
     && ((is_given (codes "size") uses && values_fit (Values.number 1 1500) (codes "size") uses) && values_fit (Values.one_of tree_modes) (codes "mode") uses))
 selftest_fits uses once =
     let g : List ℕ → List (List ℕ) = λ name. values_for name uses in
-    three _ _ _ _ _ _
+    selftest_conjuncts _ _ _ _ _ _
     (required_values_fit (Values.number 0 4294967295) (g (codes "number")) (once (required (codes "number") (Values.number 0 4294967295)) refl refl))
     (required_values_fit (Values.number 1 1500) (g (codes "size")) (once (required (codes "size") (Values.number 1 1500)) refl refl))
     (optional_values_fit (Values.one_of tree_modes) (g (codes "mode")) (once (optional (codes "mode") (Values.one_of tree_modes)) refl refl))

@@ -8,8 +8,8 @@ use Rattle.command_words.specs.Tables.{tree_modes}
 use Rattle.command_words.specs.Commands.{ModeOptions, is_given, lines_options, text_of, tree_mode_named, trees_options, value_of}
 use Rattle.command_words.specs.Found.{fitting_jobs, fitting_keeps, fitting_mode}
 use Rattle.command_words.specs.Read.{NamesValue, where_some}
-use Rattle.command_words.specs.declared.commands.TreeMode.{TreeMode}
-use Rattle.command_words.specs.declared.commands.TreeMode.TheVariants.{Perses}
+use Rattle.reduce_step.specs.declared.mode.TreeMode.{TreeMode}
+use Rattle.reduce_step.specs.declared.mode.TreeMode.TheVariants.{Perses}
 use Rattle.command_words.proofs.Texts.{both_answers, text_equal, text_same}
 
 -- the option that this row is has a value, where a table has it

@@ -4,8 +4,8 @@ use Rattle.std.specs.Str.{bytes_eq}
 use Rattle.std.specs.Str.Parse.{digits_value}
 use Rattle.command_words.specs.Options.{Use, options_in, values_for}
 use Rattle.command_words.specs.Tables.{normal_table, reduce_table, selftest_table}
-use Rattle.command_words.specs.declared.commands.TreeMode.{TreeMode}
-use Rattle.command_words.specs.declared.commands.TreeMode.TheVariants.{Hdd, Perses}
+use Rattle.reduce_step.specs.declared.mode.TreeMode.{TreeMode}
+use Rattle.reduce_step.specs.declared.mode.TreeMode.TheVariants.{Hdd, Perses}
 
 -- a grammar by its path and the name of its start rule, where one is given
 pub record GrammarSource : Type 0 where

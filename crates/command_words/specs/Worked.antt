@@ -2,7 +2,7 @@
 use Rattle.std.specs.Prelude.{◌≡◌, ℕ, ◌==◌, Bool, true, false, List, [], ◌∷◌, ◌++◌, Option, Some, None, if◌then◌else◌, codes, is_none}
 use Rattle.std.specs.List.{list_all}
 use Rattle.command_words.specs.Commands.{Command, ModeOptions, ReduceOptions, command_line_of}
-use Rattle.command_words.specs.declared.commands.TreeMode.TheVariants.{Hdd, Perses}
+use Rattle.reduce_step.specs.declared.mode.TreeMode.TheVariants.{Hdd, Perses}
 
 -- a byte before the first word
 abbrev pub at_front : ℕ → List (List ℕ) → List (List ℕ)

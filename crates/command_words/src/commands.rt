@@ -1,13 +1,6 @@
 //! What command lines ask for.
 
-/// How a round goes through a tree of a grammar.
-#[derive(Clone, Copy, Debug, PartialEq, Eq)]
-pub enum TreeMode {
-    /// Node after node, the heaviest first; a node may be replaced by one below it.
-    Perses,
-    /// Depth after depth, by deletions alone.
-    Hdd,
-}
+use reduce_step::TreeMode;
 
 /// A grammar.
 #[derive(Clone, Copy, Debug)]

@@ -18,9 +18,7 @@ mod tests;
 mod values;
 mod words;
 
-pub use commands::{
-    CommandLine, GrammarLine, ModeLine, NamedGrammar, ReduceLine, SelftestLine, TreeMode,
-};
+pub use commands::{CommandLine, GrammarLine, ModeLine, NamedGrammar, ReduceLine, SelftestLine};
 pub use faults::Memory;
 pub use laws::worked_lines;
 pub use reduce::journal_name;

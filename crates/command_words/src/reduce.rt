@@ -7,12 +7,13 @@ ghost use Rattle.command_words.specs.Found.{HasFound, fitting_jobs, fitting_keep
 ghost use Rattle.command_words.specs.Commands.{is_given, lines_options, reduce_line, reduce_of, text_of, tree_mode_named, trees_options};
 ghost use Rattle.command_words.specs.Lines.{journal_of, mode_of, reduce_read};
 
-use crate::commands::{GrammarLine, ModeLine, ReduceLine, TreeMode};
+use crate::commands::{GrammarLine, ModeLine, ReduceLine};
 use crate::grammar::grammar_of;
 use crate::options::{ClapOption, Takes, read_options};
 use crate::values::read_number;
 use clap::ArgMatches;
 use faults::Memory;
+use reduce_step::TreeMode;
 use std::alloc::Global;
 
 /// The options of `reduce`.

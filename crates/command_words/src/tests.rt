@@ -1,4 +1,5 @@
-use crate::{CommandLine, ModeLine, ReduceLine, TreeMode, journal_name, read_words};
+use crate::{CommandLine, ModeLine, ReduceLine, journal_name, read_words};
+use reduce_step::TreeMode;
 use std::alloc::Global;
 use std::test::Fail;
 

@@ -1,10 +1,6 @@
 pub use Rattle.normal_form.specs.Form
 pub use Rattle.compat_table.specs.Fits
-pub use Rattle.syntax_tree.specs.Trees
-pub use Rattle.syntax_tree.specs.Numbered
-pub use Rattle.syntax_tree.specs.Valid
-pub use Rattle.syntax_tree.specs.Nodes
-pub use Rattle.syntax_tree.specs.Levels
-pub use Rattle.tree_cut.specs.Cuts
+pub use Rattle.syntax_tree.specs as SyntaxTree
+pub use Rattle.syntax_tree_cut.specs.Cuts
 pub mod Compatible
 pub mod LevelLaws

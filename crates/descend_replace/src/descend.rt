@@ -1,13 +1,13 @@
 //! What is below a node that is left, level by level.
 
-ghost use Rattle.std.specs.Prelude.{◌≡◌, ◌≢◌, ◌↔◌, ◌<◌, ◌++◌, Bool, Some, IfOk, IsSome, IsTrue, OnOk, map};
+ghost use Rattle.std.specs.Prelude.{◌≡◌, ◌≢◌, ◌↔◌, ◌<◌, Bool, Some, IfOk, IsSome, IsTrue, map};
 ghost use Rattle.normal_form.specs.declared.normal.Sym.{Sym as Symbol};
 ghost use Rattle.compat_table.specs.Fits.{Fits};
-ghost use Rattle.syntax_tree.specs.Trees.{PlainTree, children_of, symbol_of, weight};
-ghost use Rattle.syntax_tree.specs.Numbered.{number_of, roots, subtree};
+ghost use Rattle.syntax_tree.specs.Trees.{PlainTree, symbol_of, weight};
+ghost use Rattle.syntax_tree.specs.Numbered.{number_of, subtree};
 ghost use Rattle.syntax_tree.specs.Valid.{slot_at};
 ghost use Rattle.syntax_tree.specs.Levels.{below_in_level_order};
-ghost use Rattle.tree_cut.specs.Cuts.{IsCutOf, cut_tree};
+ghost use Rattle.syntax_tree_cut.specs.Cuts.{IsCutOf, cut_tree};
 ghost use Rattle.descend_replace.specs.Compatible.{DecidesFits, compatible as compatible_trees};
 
 use compat_table::Compat;
@@ -15,7 +15,7 @@ use faults::Memory;
 use normal_form::Sym;
 use std::alloc::Global;
 use syntax_tree::Tree;
-use tree_cut::Cut;
+use syntax_tree_cut::Cut;
 
 /// The descendants of a node that is left which can take its position: those that are left, whose
 /// symbol fits the node's slot, and that have fewer tokens. They come level by level, each level from
@@ -60,27 +60,10 @@ pub fn level_order(alloc: Global, tree: &Tree, cut: &Cut, node: u32) -> Result<V
     let mut next = 0;
     while next < found.len() {
         let parent = found[next];
-        push_children(alloc, tree, cut, parent, &mut found)?;
+        cut.push_children(tree, parent, &mut found)?;
         next += 1;
     }
     Ok(found)
-}
-
-/// Adds the children of a node that is left.
-fn push_children(
-    alloc: Global,
-    tree: &Tree,
-    cut: &Cut,
-    node: u32,
-    into: &mut Vec<u32>,
-) -> Result<(), Memory>
-    requires of { IsCutOf tree.now cut.now }
-    requires left { IsSome (subtree node (cut_tree tree.now cut.now)) }
-    ensures { OnOk result ((u : PlainTree) → subtree node (cut_tree tree.now cut.now) ≡ Some u → into.new.items ≡ into.old.items ++ roots (children_of u)) }
-{
-    let children = cut.children(alloc, tree, node)?;
-    into.extend_from_slice(children.as_slice())?;
-    Ok(())
 }
 
 /// Whether the node, which is left, fits the slot and has fewer tokens than `tokens`.

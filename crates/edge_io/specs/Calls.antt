@@ -1,9 +1,6 @@
 -- Counts of calls, and the calls that an object in memory lets fail.
-use Rattle.std.specs.Prelude.{◌≡◌, ℕ, ◌+◌, ◌-◌, ◌^◌, min, List, Contains}
-
--- one more than the count, which stays at its last value
-abbrev pub one_more : ℕ → ℕ
-one_more count = min (count + 1) (2 ^ 64 - 1)
+use Rattle.std.specs.Prelude.{◌≡◌, ℕ, List, Contains}
+use Rattle.faults.specs.Count.{one_more}
 
 -- the count of faults after a call: one more exactly where the call failed
 pub record CountsFault (failed : Type 0) (old new : ℕ) : Type 0 where

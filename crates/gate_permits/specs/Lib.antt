@@ -1,3 +1,3 @@
-pub use Rattle.script_gate.specs.Log
+pub use Rattle.script_gate_trait.specs.Log
 pub use Rattle.faults.specs.Count
 pub mod Permits

@@ -1,8 +1,8 @@
 -- Permits to ask about claimed texts, and what comes of them.
 use Rattle.std.specs.Prelude.{◌≡◌, ℕ, List, Result, Ok, Err}
-use Rattle.script_gate.specs.declared.gate.Verdict.{Verdict}
-use Rattle.script_gate.specs.declared.gate.GateFault.{GateFault}
-use Rattle.script_gate.specs.declared.gate.GateFault.TheVariants.{Failed}
+use Rattle.script_gate_trait.specs.declared.gate.Verdict.{Verdict}
+use Rattle.script_gate_trait.specs.declared.gate.GateFault.{GateFault}
+use Rattle.script_gate_trait.specs.declared.gate.GateFault.TheVariants.{Failed}
 
 -- the number of a claim, and its text
 pub record ClaimedText : Type 0 where

@@ -2,11 +2,11 @@
 
 ghost use Rattle.std.specs.Prelude.{◌≡◌, ◌≤◌, option_map, IfErr, IfOk, OnErr, OnOk};
 ghost use Rattle.faults.specs.Count.{Rose};
-ghost use Rattle.script_gate.specs.Log.{with_asked};
+ghost use Rattle.script_gate_trait.specs.Log.{with_asked};
 ghost use Rattle.gate_permits.specs.Permits.{GateFailed, IsAnswerTo};
 
 use crate::permit::{Permit, Unasked};
-use script_gate::{Bytes, Gate, Verdict};
+use script_gate_trait::{Bytes, Gate, Verdict};
 use std::marker::{Model, PhantomData};
 
 /// A verdict on the text of a claim, which a gate of the type `G` may say of it. Only [`ask_once`] makes
@@ -38,7 +38,7 @@ impl<G: Gate> Answer<G> {
     }
 
     /// The text that was asked about.
-    pub fn token(&self) -> &Bytes
+    pub fn text(&self) -> &Bytes
         ensures { result.now ≡ self.now.text }
     {
         &self.text
@@ -53,7 +53,7 @@ impl<G: Gate> Answer<G> {
     }
 
     /// The text that was asked about, without a copy.
-    pub fn into_token(self) -> Bytes
+    pub fn into_text(self) -> Bytes
         ensures { result ≡ self.text }
     {
         let Answer {

@@ -2,7 +2,7 @@
 
 ghost use Rattle.std.specs.Prelude.{◌≡◌};
 
-use script_gate::{Bytes, GateFault};
+use script_gate_trait::{Bytes, GateFault};
 use std::marker::Model;
 
 /// The permit to ask a gate about the text of one claim, once. It can't be copied, and it has to be
@@ -34,13 +34,6 @@ impl Permit {
         ensures { result ≡ self.now.claim }
     {
         self.claim
-    }
-
-    /// The text that it allows to ask about.
-    pub fn token(&self) -> &Bytes
-        ensures { result.now ≡ self.now.text }
-    {
-        &self.text
     }
 }
 

@@ -1,5 +1,5 @@
 use crate::{Permit, ask_once};
-use script_gate::{Bytes, GateFault, ListGate, RuleGate, Said, Verdict};
+use script_gate_trait::{Bytes, GateFault, ListGate, RuleGate, Said, Verdict};
 use std::test::Fail;
 
 #[test]

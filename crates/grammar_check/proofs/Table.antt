@@ -4,8 +4,8 @@ use Rattle.std.proofs.lemmas.Bool.{cases_lt}
 use Rattle.std.proofs.lemmas.Option.{same_Some}
 use Rattle.grammar_tree.specs.Faults.{NoStart, used_name}
 use Rattle.grammar_tree.specs.Written.{WrittenGrammar}
-use Rattle.graph_cycles.specs.First.{Nowhere}
-use Rattle.rule_faults.specs.Answer.{IsFirstNamed}
+use Rattle.grammar_check_cycles.specs.First.{Nowhere}
+use Rattle.grammar_check_faults.specs.Answer.{IsFirstNamed}
 use Rattle.grammar_check.specs.CheckFaults.{HasNoneBefore, HoldsAt, IsFirstInTable, IsNamedAt, row}
 use Rattle.grammar_check.specs.Laws.{FirstFaultOnce}
 use Rattle.grammar_check.specs.declared.fault.CheckFault.{CheckFault}

@@ -1,6 +1,6 @@
-pub use Rattle.graph_cycles.specs.First
-pub use Rattle.rule_faults.specs.LexerFaults
-pub use Rattle.rule_faults.specs.Answer
+pub use Rattle.grammar_check_cycles.specs.First
+pub use Rattle.grammar_check_faults.specs.LexerFaults
+pub use Rattle.grammar_check_faults.specs.Answer
 pub mod Kinds
 pub mod CheckFaults
 pub mod Messages

@@ -1,6 +1,6 @@
 -- The text that a fault of a grammar prints. Names print as their UTF-8.
 use Rattle.std.specs.Prelude.{ℕ, List, ◌++◌, codes, decimal, encode_utf8_all, if◌then◌else◌}
-use Rattle.lexer_analysis.specs.Lexer.{is_nil}
+use Rattle.grammar_check_lexer_rules.specs.Lexer.{is_nil}
 use Rattle.grammar_check.specs.declared.fault.CheckFault.{CheckFault}
 use Rattle.grammar_check.specs.declared.fault.CheckFault.TheVariants.{TwoRules, NoRule, NoStart, EofPlace, FragmentLoop, ShortUse, EmptyToken, NoBase, EmptyLoop, LeftRecursion, TooManyRules, Memory}
 
@@ -8,16 +8,16 @@ use Rattle.grammar_check.specs.declared.fault.CheckFault.TheVariants.{TwoRules, 
 abbrev pub no_start : List ℕ → List ℕ
 no_start name = if is_nil name then codes "no start" else codes "no start "
 
-abbrev pub fault_text : CheckFault → List ℕ
-fault_text (TwoRules name) = codes "two rules " ++ encode_utf8_all name
-fault_text (NoRule name) = codes "no rule " ++ encode_utf8_all name
-fault_text (NoStart name) = if is_nil name then codes "no start" else codes "no start " ++ encode_utf8_all name
-fault_text (EofPlace rule) = codes "misplaced EOF in " ++ encode_utf8_all rule
-fault_text (FragmentLoop rule) = codes "fragment loop in " ++ encode_utf8_all rule
-fault_text (ShortUse rule) = codes "non-greedy rule " ++ encode_utf8_all rule ++ codes " is used"
-fault_text (EmptyToken rule) = codes "empty token " ++ encode_utf8_all rule
-fault_text (NoBase rule) = codes "no base in " ++ encode_utf8_all rule
-fault_text (EmptyLoop rule) = codes "empty loop in " ++ encode_utf8_all rule
-fault_text (LeftRecursion rule) = codes "left recursion in " ++ encode_utf8_all rule
-fault_text (TooManyRules count) = codes "too many rules: " ++ decimal count
-fault_text Memory = codes "out of memory"
+abbrev pub check_fault_text : CheckFault → List ℕ
+check_fault_text (TwoRules name) = codes "two rules " ++ encode_utf8_all name
+check_fault_text (NoRule name) = codes "no rule " ++ encode_utf8_all name
+check_fault_text (NoStart name) = if is_nil name then codes "no start" else codes "no start " ++ encode_utf8_all name
+check_fault_text (EofPlace rule) = codes "misplaced EOF in " ++ encode_utf8_all rule
+check_fault_text (FragmentLoop rule) = codes "fragment loop in " ++ encode_utf8_all rule
+check_fault_text (ShortUse rule) = codes "non-greedy rule " ++ encode_utf8_all rule ++ codes " is used"
+check_fault_text (EmptyToken rule) = codes "empty token " ++ encode_utf8_all rule
+check_fault_text (NoBase rule) = codes "no base in " ++ encode_utf8_all rule
+check_fault_text (EmptyLoop rule) = codes "empty loop in " ++ encode_utf8_all rule
+check_fault_text (LeftRecursion rule) = codes "left recursion in " ++ encode_utf8_all rule
+check_fault_text (TooManyRules count) = codes "too many rules: " ++ decimal count
+check_fault_text Memory = codes "out of memory"

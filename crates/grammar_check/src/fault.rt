@@ -3,8 +3,8 @@
 ghost use Rattle.std.specs.Prelude.{◌≡◌};
 ghost use Rattle.grammar_check.specs.Messages.{no_start};
 
+use grammar_check_lexer_rules::is_empty_text;
 use grammar_tree::Text;
-use lexer_analysis::is_empty_text;
 use std::fmt;
 
 /// Why a grammar wasn't checked: its first fault in the order in which they are listed here, or out
@@ -60,9 +60,9 @@ fn no_start(name: &Text) -> &'static str
 
 impl fmt::Display for CheckFault {
     ghost use Rattle.std.specs.Prelude.{Some};
-    ghost use Rattle.grammar_check.specs.Messages.{fault_text};
+    ghost use Rattle.grammar_check.specs.Messages.{check_fault_text};
 
-    ghost output = { λ fault. Some (fault_text fault) };
+    ghost output = { λ fault. Some (check_fault_text fault) };
 
     #[tactic(auto, using(crate::proofs::MessageForms::no_start_then))]
     fn fmt<W: fmt::Write>(&self, f: &mut fmt::Formatter<W>) -> fmt::Result {

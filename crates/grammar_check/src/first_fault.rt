@@ -10,10 +10,10 @@ use crate::fault::{Answer, CheckFault};
 use crate::lexer_fault::{LexerAnswer, lexer_fault};
 use crate::parser_fault::parser_fault;
 use faults::Memory;
+use grammar_check_faults::{find_start, first_unknown_use, misplaced_eof, missing_name, twin};
+use grammar_check_lexer_rules::LexerNames;
 use grammar_names::Names;
 use grammar_tree::{Grammar, Kind};
-use lexer_analysis::LexerNames;
-use rule_faults::{find_start, first_unknown_use, misplaced_eof, missing_name, twin};
 use std::alloc::Global;
 
 /// The fault of a grammar that is first in the table, or the index of its start rule where it has

@@ -6,11 +6,11 @@ ghost use Rattle.grammar_tree.specs.GrammarView.{grammar_of, kind_of, rule_of, s
 ghost use Rattle.grammar_tree.specs.Kinds.{as_literal, declared_kind, declared_names, distinct, implicit_kind, implicit_literals, kinds_of, written_kinds};
 ghost use Rattle.grammar_tree.specs.View.{token_ref};
 ghost use Rattle.grammar_names.specs.Index.{Finds};
-ghost use Rattle.rule_faults.specs.Seen.{seen_in};
+ghost use Rattle.grammar_check_faults.specs.Seen.{seen_in};
 ghost use Rattle.grammar_check.specs.Kinds.{absent, plain_kind, unless_seen};
 
 use faults::Memory;
-use grammar_analysis::{Key, references_of, rules_by};
+use grammar_check_parser_rules::{Key, references_of, rules_by};
 use grammar_names::Index;
 use grammar_tree::{Grammar, Kind, KindSource, Rule, Text, TokenRef};
 use std::alloc::Global;

@@ -3,13 +3,16 @@
 ghost use Rattle.std.specs.Prelude.{◌≡◌, ℕ, ◌<◌, ◌^◌, List, Option, IfOk, length, map};
 ghost use Rattle.grammar_tree.specs.GrammarView.{grammar_of, rule_of};
 ghost use Rattle.grammar_check.specs.CheckFaults.{HasNoneBefore, IsFirstBefore, IsLexerAnswer};
-ghost use Rattle.lexer_analysis.specs.Lexer.{OneRule, lexer_edges};
+ghost use Rattle.grammar_check_lexer_rules.specs.Lexer.{OneRule};
+ghost use Rattle.grammar_check_faults.specs.LexerFaults.{AreEdgesOf};
 
 use crate::fault::CheckFault;
 use faults::Memory;
+use grammar_check_faults::{
+    first_empty_token, first_lexer_loop, first_short_use, fragment_loop, name_at,
+};
+use grammar_check_lexer_rules::{LexerNames, empty_lexer_rules, lexer_edges};
 use grammar_tree::Grammar;
-use lexer_analysis::{LexerNames, empty_lexer_rules, lexer_edges};
-use rule_faults::{first_empty_token, first_lexer_loop, first_short_use, fragment_loop, name_at};
 use std::alloc::Global;
 
 /// What is found in the rules of the lexer: a fault, or the index of the first empty loop, which is
@@ -26,9 +29,7 @@ fn use_fault(
     grammar: &Grammar,
     edges: &[Vec<u32>],
 ) -> Result<Option<CheckFault>, Memory>
-    requires small { length grammar.now.rules.items < 2 ^ 32 }
-    requires one { OneRule (map rule_of grammar.now.rules.items) }
-    requires edges { map (λ successors. successors.items) edges.now ≡ lexer_edges (map rule_of grammar.now.rules.items) }
+    requires { AreEdgesOf grammar.now.rules.items (map (λ successors. successors.items) edges.now) }
     ensures { (wanted : Option (List ℕ)) → HasNoneBefore (grammar_of grammar.now) wanted 5 → IfOk result (IsFirstBefore (grammar_of grammar.now) wanted 7) }
 {
     if let Some(rule) = fragment_loop(alloc, grammar, edges)? {

@@ -1,7 +1,8 @@
 //! Whether a grammar is well-formed, and if not, its first fault.
 //!
 //! Begin with [`check`]. Read `IsWellFormed` in `grammar_tree/specs/Faults.antt` first, then
-//! `IsFirstInTable` in `specs/CheckFaults.antt`.
+//! `IsFirstInTable` in `specs/CheckFaults.antt`. A grammar is well-formed exactly where it has no
+//! fault, and it has one first fault at most ([`no_fault_is_well_formed`], [`first_fault_once`]).
 #![tactic(auto)]
 
 mod checking;

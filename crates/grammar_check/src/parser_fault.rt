@@ -7,18 +7,18 @@ ghost use Rattle.grammar_tree.specs.Derives.{bodies};
 ghost use Rattle.grammar_tree.specs.Size.{grammar_size};
 ghost use Rattle.grammar_tree.specs.Written.{WrittenGrammar};
 ghost use Rattle.grammar_check.specs.CheckFaults.{HasNoneBefore, IsFirstBefore};
-ghost use Rattle.graph_cycles.specs.First.{IsFirstOrNone};
-ghost use Rattle.rule_faults.specs.LexerFaults.{LexerLoopAt};
+ghost use Rattle.grammar_check_cycles.specs.First.{IsFirstOrNone};
+ghost use Rattle.grammar_check_faults.specs.LexerFaults.{LexerLoopAt};
 
 use crate::fault::CheckFault;
 use faults::Memory;
-use grammar_analysis::{empty_bodies, normal_count, numbered_bodies};
-use grammar_names::Names;
-use grammar_tree::Grammar;
-use rule_faults::{
+use grammar_check_faults::{
     first_empty_loop, index_with_loop, index_without_base, left_recursive_index, name_at,
     parser_indices,
 };
+use grammar_check_parser_rules::{empty_bodies, normal_count, numbered_bodies};
+use grammar_names::Names;
+use grammar_tree::Grammar;
 use std::alloc::Global;
 
 /// The fault of a normal form with this many rules, where they are too many.

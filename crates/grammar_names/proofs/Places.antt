@@ -86,9 +86,6 @@ pub index_push : {X : Type 0} (p : List ℕ → X → Bool) (old new : Index) (x
 index_push p old new xs y number e finds added bytes u =
     added (λ t. position (p t) xs) finds bytes u ∙ ap (λ k. or_added (position (p (chars bytes)) xs) (p (chars bytes) y) k) e ∙ position_push (p (chars bytes)) xs y
 
-named : List ℕ → ParserRule → Bool
-named n r = same_text r.name n
-
 -- the index of parser rules after one more rule
 pub rules_push : (old new : Index) (rules : List WrittenRule) (rule : WrittenRule) (number : ℕ) → number ≡ length (parser_rules rules) → Finds old (λ n. position (λ (r : ParserRule). same_text r.name n) (parser_rules rules)) → IsAdded old new (is_parser_rule_of rule) number → Finds new (λ n. position (λ (r : ParserRule). same_text r.name n) (parser_rules (rules ++ rule ∷ [])))
 rules_push old new rules (WrittenRule.parser_rule r) number e finds added bytes u =

@@ -1,4 +1,4 @@
--- Numbers of texts.
+-- An index of texts: the number that it has for each.
 use Rattle.std.specs.Prelude.{◌≡◌, ℕ, Bool, true, false, List, Option, Some, None}
 use Rattle.std.specs.BTreeMap.{get_by_text}
 use Rattle.std.specs.Str.{IsUtf8, chars}

@@ -1,4 +1,4 @@
--- Lists of numbers of kinds.
+-- Lists of kinds by their numbers: which are in one, and which it lacks.
 use Rattle.std.specs.Prelude.{◌≡◌, ℕ, Bool, List, filter, nat_eq, not}
 use Rattle.std.specs.List.{filter_map, list_any}
 use Rattle.grammar_tree.specs.Written.{Reference, WrittenGrammar}

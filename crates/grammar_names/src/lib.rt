@@ -2,7 +2,7 @@
 //!
 //! Begin with [`Names::new`], and ask it for a rule's number, a token's kind, or the kinds of `.` and
 //! `~`. Read `name_kind`, `literal_kind` and `rule_number` in `grammar_tree/specs/Kinds.antt` and
-//! `Derives.antt` first.
+//! `Derives.antt` first. Each answer is exact for the grammar that the names were made of.
 #![tactic(auto)]
 
 mod index;

@@ -1,25 +1,25 @@
 -- Reading a text, a word at a time.
 use Rattle.std.proofs.Common.{ℕ, ◌≡◌, true, false, List, [], ◌∷◌, ◌++◌, Option, Some, None, Err, refl, sym, ap, subst, ◌∙◌, append_assoc}
 use Rattle.grammar_tree.specs.Written.{WrittenGrammar, LexerTerm}
-use Rattle.grammar_words.specs.Words.{words_of, is_last}
-use Rattle.grammar_words.specs.declared.word.Word.{Word}
-use Rattle.grammar_words.specs.declared.word.Word.TheVariants as w
-use Rattle.grammar_words.specs.declared.word.Placed.{Placed}
-use Rattle.grammar_notation.specs.Sets.{outside}
-use Rattle.grammar_machine.specs.Machine as m
-use Rattle.grammar_machine.specs.Machine.{State, AtStart, AtEnd, step}
-use Rattle.machine_laws.specs.WordByWord.{run}
-use Rattle.grammar_notation.specs.Notation.{IsTextOf, BeginsOf, IsText}
-use Rattle.machine_laws.proofs.Regions.{Region, starting, heading, between, prequel, named, opening, body, suffixed, looped, last, command, finished, next}
+use Rattle.grammar_reader_words.specs.Words.{words_of, is_last}
+use Rattle.grammar_reader_words.specs.declared.word.Word.{Word}
+use Rattle.grammar_reader_words.specs.declared.word.Word.TheVariants as w
+use Rattle.grammar_reader_words.specs.declared.word.Placed.{Placed}
+use Rattle.grammar_reader_notation.specs.Sets.{outside}
+use Rattle.grammar_reader_machine.specs.Machine as m
+use Rattle.grammar_reader_machine.specs.Machine.{State, AtStart, AtEnd, step}
+use Rattle.grammar_reader_laws.specs.WordByWord.{run}
+use Rattle.grammar_reader_notation.specs.Notation.{IsTextOf, BeginsOf, IsText}
+use Rattle.grammar_reader_laws.proofs.Regions.{Region, starting, heading, between, prequel, named, opening, body, suffixed, looped, last, command, finished, next}
 use Rattle.std.specs.Str.{IsUtf8}
-use Rattle.grammar_notation.specs.declared.fault.ReadFault.{ReadFault}
-use Rattle.grammar_notation.specs.declared.fault.ReadFault.TheVariants as f
-use Rattle.grammar_notation.specs.Naming.{IsNamed}
-use Rattle.grammar_notation.specs.Reads.{only_words, IsFirstFault, IsFaultOf}
-use Rattle.machine_laws.proofs.RegionSteps.{Keeps, region_of, region_of_owner, region_of_value, keeps_step}
-use Rattle.word_faults.specs.Rows.{fault_at}
-use Rattle.machine_laws.proofs.Called as called
-use Rattle.machine_laws.proofs.Runs.{reached, stuck, accepts, further, accepted, EndsText, end_step}
+use Rattle.grammar_reader_notation.specs.declared.fault.ReadFault.{ReadFault}
+use Rattle.grammar_reader_notation.specs.declared.fault.ReadFault.TheVariants as f
+use Rattle.grammar_reader_notation.specs.Naming.{IsNamed}
+use Rattle.grammar_reader_notation.specs.Reads.{only_words, IsFirstFault, IsFaultOf}
+use Rattle.grammar_reader_laws.proofs.RegionSteps.{Keeps, region_of, region_of_owner, region_of_value, keeps_step}
+use Rattle.grammar_reader_faults.specs.Rows.{fault_at}
+use Rattle.grammar_reader_laws.proofs.Called as called
+use Rattle.grammar_reader_laws.proofs.Runs.{reached, stuck, accepts, further, accepted, EndsText, end_step}
 
 -- No bad word can follow, and no set with a property.
 
@@ -159,9 +159,6 @@ parted (x ∷ before) p remaining = ap (λ ws. x.word ∷ ws) (parted before p r
 snoc : (before : List Placed) (p : Placed) → only_words (before ++ p ∷ []) ≡ only_words before ++ p.word ∷ []
 snoc [] p = refl
 snoc (x ∷ before) p = ap (λ ws. x.word ∷ ws) (snoc before p)
-
-pub starts : (bytes : List ℕ) (remaining : List Placed) → remaining ≡ words_of bytes → (remaining ≡ [] → ⊥) → IsReading bytes remaining AtStart
-starts bytes remaining e k = record { before = []; cut = sym e; read = refl; some = k }
 
 module _ (bytes : List ℕ) (remaining more : List Placed) (p : Placed) (s : State) (r : IsReading bytes remaining s) (e : remaining ≡ p ∷ more) where
   whole : words_of bytes ≡ r.before ++ p ∷ more

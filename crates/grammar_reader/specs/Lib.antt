@@ -1,9 +1,4 @@
-pub use Rattle.grammar_tree.specs.Written
-pub use Rattle.grammar_tree.specs.Size
-pub use Rattle.grammar_notation.specs.Sets
-pub use Rattle.grammar_notation.specs.Notation
-pub use Rattle.grammar_notation.specs.Printed
-pub use Rattle.grammar_notation.specs.FaultText
-pub use Rattle.grammar_notation.specs.Naming
-pub use Rattle.grammar_notation.specs.Reads
+pub use Rattle.grammar_tree.specs as GrammarTree
+pub use Rattle.grammar_reader_notation.specs.Reads
+pub use Rattle.grammar_reader_notation.specs as GrammarReaderNotation
 pub mod Ended

@@ -5,19 +5,19 @@ ghost use Rattle.std.specs.Str.{IsUtf8};
 ghost use Rattle.grammar_tree.specs.Written.{WrittenGrammar};
 ghost use Rattle.grammar_tree.specs.GrammarView.{grammar_of};
 ghost use Rattle.grammar_tree.specs.Size.{grammar_size};
-ghost use Rattle.grammar_words.specs.Words.{is_last};
+ghost use Rattle.grammar_reader_words.specs.Words.{is_last};
 ghost use Rattle.grammar_reader.specs.Ended.{IsEnded};
-ghost use Rattle.grammar_notation.specs.Reads.{IsFaultOf, IsProfile, IsReadAs};
-ghost use Rattle.grammar_machine.specs.View.{state_of};
+ghost use Rattle.grammar_reader_notation.specs.Reads.{IsFaultOf, IsProfile, IsReadAs};
+ghost use Rattle.grammar_reader_machine.specs.View.{state_of};
 
 use faults::Memory;
-use grammar_machine::State;
-use grammar_notation::ReadFault;
-use grammar_steps::step;
+use grammar_reader_faults::fault_at;
+use grammar_reader_machine::State;
+use grammar_reader_notation::ReadFault;
+use grammar_reader_step::step;
+use grammar_reader_words::{Placed, Words};
 use grammar_tree::Grammar;
-use grammar_words::{Placed, Words};
 use std::alloc::Global;
-use word_faults::fault_at;
 
 /// The grammar, where the text has ended.
 fn ended(state: State) -> Result<Grammar, State>

@@ -1,9 +1,9 @@
 -- Elements of lists that are mapped, filtered and joined.
-use Rattle.std.proofs.Common.{◌≡◌, ◌⊎◌, inl, inr, ℕ, zero, suc, Bool, true, false, not, cond, List, [], ◌∷◌, ◌++◌, Option, Some, None, map, refl, sym, ap, ◌∙◌, subst, arith, true≢false}
+use Rattle.std.proofs.Common.{◌≡◌, ◌⊎◌, inl, inr, ℕ, zero, suc, Bool, true, false, not, cond, List, [], ◌∷◌, Option, Some, None, map, refl, sym, ap, ◌∙◌, arith, true≢false}
 use Rattle.std.specs.Prelude.{filter, find, is_none}
 use Rattle.std.specs.List.{Contains, cons_option, filter_map, flat_map, position}
 use Rattle.std.proofs.lemmas.Bool.{cases_Bool}
-use Rattle.std.proofs.lemmas.List.Elements.{Contains-append_left, Contains-append_right, Contains-append_cases}
+use Rattle.std.proofs.lemmas.List.Elements.{Contains-append_cases}
 use Rattle.std.proofs.lemmas.Option.{none-some, same_Some}
 use Rattle.std.proofs.lemmas.Slice.Eq.{bytes_eq-Decides}
 use Rattle.grammar_tree.specs.Kinds.{distinct, same_text}
@@ -93,14 +93,6 @@ module _ {X Y : Type 0} where
       step None g more (inr later) = more later
       step (Some w) g more (inl same) = contains_first w (filter_map h xs) y (same_Some w y (sym g ∙ ap h same ∙ e))
       step (Some w) g more (inr later) = contains_later w (filter_map h xs) y (more later)
-
-  pub contains_flat_map : (f : X → List Y) (xs : List X) (x : X) (y : Y) → Contains xs x → Contains (f x) y → Contains (flat_map f xs) y
-  contains_flat_map f [] x y c d = absurd (contains_none x c)
-  contains_flat_map f (z ∷ xs) x y c d = step (λ later. contains_flat_map f xs x y later d) (contains_cases z xs x c)
-    where
-      step : (Contains xs x → Contains (flat_map f xs) y) → (z ≡ x) ⊎ Contains xs x → Contains (f z ++ flat_map f xs) y
-      step more (inl same) = let P : X → Type 0 = λ v. Contains (f v) y in Contains-append_left (f z) (flat_map f xs) y (subst P (sym same) d)
-      step more (inr later) = Contains-append_right (f z) (flat_map f xs) y (more later)
 
   pub flat_mapped : (f : X → List Y) (xs : List X) (y : Y) → Contains (flat_map f xs) y → (x : X) × Contains xs x × Contains (f x) y
   flat_mapped f [] y c = absurd (contains_none y c)

@@ -126,9 +126,6 @@ module _ (G : WrittenGrammar) where
     | inr later ↦ Contains-append_right (rule_uses (WrittenRule.lexer_rule r)) (flat_map rule_uses rules) (NameUse.by_lexer_rule n) (used_in_lexer rules rule n later d)
   ]
 
-  abbrev parser_names : List (List ℕ)
-  parser_names = map (λ (r : ParserRule). r.name) (parser_rules G.rules)
-
   no_position : {X : Type 0} (p : X → Bool) (xs : List X) (x : X) → position p xs ≡ None → Contains xs x → p x ≡ true → ⊥
   no_position p xs x e c h = let at = some_position p xs x c h in none-some at.0 (sym e ∙ at.1)
 

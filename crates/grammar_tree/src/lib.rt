@@ -1,10 +1,12 @@
 //! Grammars in the notation of ANTLR 4: their types, sets of characters, and what a grammar means.
 //!
-//! A [`Grammar`] is what a reader makes of a text. A [`Checked`] is a grammar that has no fault,
-//! with its numbered token kinds and its start. Contracts see both as they are written; read
+//! A [`Grammar`] is what a reader makes of a text. A [`Checked`] is a grammar that has no fault, with
+//! its numbered token kinds and its start. Contracts see both as they are written; read
 //! `specs/Written.antt` first, then `specs/Matches.antt` (which texts a lexer rule matches),
 //! `specs/Derives.antt` (which lists of token kinds a parser rule derives) and `specs/Faults.antt`
-//! (when a grammar is well-formed). The rule `s : 'a' s | 'b' ;` derives `b`, `a b`, `a a b`, ..
+//! (when a grammar is well-formed). The rule `s : 'a' s | 'b' ;` derives `b`, `a b`, `a a b`, .. Laws
+//! say what each form of term matches or derives, and nothing else: begin with [`matches_by_form`] and
+//! [`derives_by_form`].
 #![tactic(auto)]
 
 mod char_set;
@@ -13,8 +15,7 @@ mod laws;
 mod lex_term;
 mod parser_term;
 mod rule;
-#[cfg(test)]
-mod tests;
+mod suffix;
 mod text;
 
 pub use char_set::CharSet;
@@ -30,4 +31,5 @@ pub use laws::{
 pub use lex_term::{LexAlts, LexTerm, LexTerms};
 pub use parser_term::{ParserAlts, ParserTerm, ParserTerms, TokenRef, TokenRefs};
 pub use rule::{Grammar, Kind, KindSource, Rule};
+pub use suffix::Suffix;
 pub use text::Text;

@@ -1,9 +1,9 @@
 -- Levels of a tree, one after another.
-use Rattle.std.proofs.Common.{◌≡◌, ◌⊎◌, inl, inr, ℕ, zero, suc, ◌+◌, ◌<◌, ◌≤◌, List, [], ◌∷◌, ◌++◌, Some, None, Bool, true, false, length, map, refl, sym, ap, ◌∙◌, subst, arith, length-append}
+use Rattle.std.proofs.Common.{◌≡◌, inl, inr, ℕ, zero, suc, ◌+◌, ◌<◌, ◌≤◌, List, Some, None, Bool, true, false, length, map, refl, sym, ap, ◌∙◌, subst, arith, length-append}
 use Rattle.std.specs.Prelude.{if◌then◌else◌, max}
 use Rattle.std.specs.List.{All, flat_map, list_all}
 use Rattle.std.proofs.Math.Nat.{le-max_left, le-max_right}
-use Rattle.std.proofs.lemmas.Bool.{cases_lt, false≢true, le-leb, lt-leb}
+use Rattle.std.proofs.lemmas.Bool.{cases_lt, le-leb, lt-leb}
 use Rattle.std.proofs.lemmas.List.{length-map}
 use Rattle.std.proofs.lemmas.List.Elements.{All-nil}
 use Rattle.std.proofs.lemmas.Option.{none-some, same_Some}
@@ -13,10 +13,10 @@ use Rattle.syntax_tree.specs.Trees.{PlainTree, PlainTrees}
 use Rattle.syntax_tree.specs.Numbered.{number_of}
 use Rattle.syntax_tree.specs.Valid.{IsValid}
 use Rattle.syntax_tree.specs.Levels.{at_depth, at_depth_all, depth, height}
-use Rattle.tree_cut.specs.WithoutNodes.{AreElements, CanDrop, dropped, without_nodes}
-use Rattle.tree_cut.proofs.Rising.{Rises}
-use Rattle.tree_cut.proofs.CutEdits.{in_found}
-use Rattle.tree_cut.proofs.WithoutNodes.{nothing_out}
+use Rattle.syntax_tree_cut.specs.WithoutNodes.{AreElements, CanDrop, dropped, without_nodes}
+use Rattle.syntax_tree_cut.proofs.Rising.{Rises}
+use Rattle.syntax_tree_cut.proofs.CutEdits.{in_found}
+use Rattle.syntax_tree_cut.proofs.WithoutNodes.{nothing_out}
 use Rattle.descend_replace.specs.LevelLaws.{children_of_each}
 use Rattle.descend_replace.proofs.Queue.{levels_are_children}
 use Rattle.hdd_levels.specs.declared.level_nodes.Elements.{Elements}
@@ -77,14 +77,6 @@ not_deep d t found e none =
       | inr deep ↦ absurd (let some = some_at d t deep in let same = ap length e in let long = length-map (at_depth d t) number_of in omega (arith, same, long, some, none))
     ]
 
--- what is less deep is so deep too
-pub less_deep : (d e : ℕ) (t : PlainTree) → d ≤ e → is_so_deep d t ≡ false → is_so_deep e t ≡ false
-less_deep d e t le not =
-    elim (cases_lt (depth t) e) [
-      | inl less ↦ lt-leb e (depth t) less
-      | inr deep ↦ absurd (false≢true (sym not ∙ le-leb d (depth t) (omega (arith, le, deep))))
-    ]
-
 -- the nodes of a depth are found
 pub depth_nodes : (d low high : ℕ) (t : PlainTree) → Rises low high t → (numbers : List ℕ) → numbers ≡ map number_of (at_depth d t) → AreNodesIn t numbers (at_depth d t)
 depth_nodes d low high t h numbers e = record { numbers = e; found = λ u has. in_found low high t h u (depth_in d t u has) }
@@ -98,9 +90,6 @@ next_level N d t l numbers below are parents nodes pluses lower some = record {
   nodes = nodes;
   pluses = pluses;
 }
-
-pub first_level : (N : NormalForm) (t : PlainTree) (l : LevelForm) → l.parents ≡ None → l.nodes ≡ [] → l.pluses ≡ [] → IsLevelAt N t 0 l
-first_level N t l parents nodes pluses = record { deep = le-leb 0 (depth t) (omega arith); parents = parents; nodes = nodes; pluses = pluses }
 
 -- what may be deleted of a level
 module _ (N : NormalForm) (s : Sym) (t : PlainTree) (high : ℕ) (h : Rises 0 high t) (valid : IsValid N s t) (keep : List Bool) where

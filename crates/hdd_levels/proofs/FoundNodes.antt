@@ -1,12 +1,12 @@
 -- Lists of nodes that are left, and what is gathered from them one by one.
-use Rattle.std.proofs.Common.{◌≡◌, ◌⊎◌, ℕ, zero, suc, ◌+◌, ◌-◌, ◌<◌, ◌≤◌, List, [], ◌∷◌, ◌++◌, Option, Some, None, Bool, true, false, length, map, nat_eq, take, refl, sym, ap, ◌∙◌, subst, arith, append_assoc, length-append}
+use Rattle.std.proofs.Common.{◌≡◌, ℕ, zero, suc, ◌+◌, ◌-◌, ◌<◌, List, [], ◌∷◌, ◌++◌, Option, Some, None, Bool, true, false, length, map, nat_eq, take, refl, sym, ap, ◌∙◌, subst, arith, append_assoc, length-append}
 use Rattle.std.specs.Prelude.{◌&&◌, if◌then◌else◌, nat_lt, slice_get, slice_index_or, IsSome}
 use Rattle.std.specs.List.{Contains, flat_map}
 use Rattle.std.specs.Option.{option_and_then, option_map, option_map_or}
 use Rattle.std.proofs.Math.Numerals.{add-one}
 use Rattle.std.proofs.lemmas.Bool.{cond-false, cond-true}
 use Rattle.std.proofs.lemmas.Grind.{flat_map-append}
-use Rattle.std.proofs.lemmas.List.{append-nil, length-map, map-append, take_all}
+use Rattle.std.proofs.lemmas.List.{append-nil, length-map, map-append}
 use Rattle.std.proofs.lemmas.List.Elements.{filter-append}
 use Rattle.std.proofs.lemmas.Option.{none-some, same_Some}
 use Rattle.grammar_tree.proofs.Elements.{contains_none}
@@ -15,13 +15,13 @@ use Rattle.syntax_tree.specs.Trees.{IsInSome, PlainTree, PlainTrees, children_of
 use Rattle.syntax_tree.specs.Trees as trees
 use Rattle.syntax_tree.specs.Numbered.{number_of, roots, subtree}
 use Rattle.syntax_tree.specs.Nodes.{AreNodesOf, SyntaxTree, whole}
-use Rattle.tree_cut.specs.Cuts.{CutForm, IsCutOf, cut_tree}
-use Rattle.tree_cut.specs.declared.shape.Shape.{Shape}
-use Rattle.tree_cut.specs.declared.shape.Shape.TheVariants.{Leaf}
-use Rattle.tree_cut.specs.Shapes.{shape_of, shape_of_form}
-use Rattle.tree_cut.specs.WithoutNodes.{form_loses}
-use Rattle.tree_cut.proofs.Rising.{Rises, subtree_within}
-use Rattle.tree_cut.proofs.CutEdits.{deeper_found, some_is}
+use Rattle.syntax_tree_cut.specs.Cuts.{CutForm, IsCutOf, cut_tree}
+use Rattle.syntax_tree_cut.specs.declared.shape.Shape.{Shape}
+use Rattle.syntax_tree_cut.specs.declared.shape.Shape.TheVariants.{Leaf}
+use Rattle.syntax_tree_cut.specs.Shapes.{shape_of, shape_of_form}
+use Rattle.syntax_tree_cut.specs.WithoutNodes.{form_loses}
+use Rattle.syntax_tree_cut.proofs.Rising.{Rises, subtree_within}
+use Rattle.syntax_tree_cut.proofs.CutEdits.{deeper_found, some_is}
 use Rattle.descend_replace.specs.LevelLaws.{children_of_each, list_of}
 use Rattle.descend_replace.proofs.Found.{cut_rises}
 use Rattle.descend_replace.proofs.Queue.{roots_numbers}
@@ -68,9 +68,6 @@ module _ (t : PlainTree) (nodes : List ℕ) (ts : List PlainTree) (are : AreNode
 
   pub is_left : (k d : ℕ) → k < length nodes → IsSome (subtree (slice_index_or nodes k d) t)
   is_left k d lt = let it = node_at k d lt in some_is (subtree (slice_index_or nodes k d) t) it.0 it.1
-
-  pub all_taken : (k : ℕ) → length nodes ≤ k → take k ts ≡ ts
-  all_taken k le = take_all k ts (let e = as_long in omega (arith, le, e))
 
   -- with the children of the next node
   pub children_more : (k d : ℕ) → k < length nodes → (old new : List ℕ) → old ≡ map number_of (children_of_each (take k ts)) → ((u : PlainTree) → subtree (slice_index_or nodes k d) t ≡ Some u → new ≡ old ++ roots (children_of u)) →

@@ -1,5 +1,5 @@
 -- Which nodes of a tree are in a level, and in which order.
-use Rattle.std.proofs.Common.{◌≡◌, ◌⊎◌, inl, inr, ℕ, zero, suc, ◌+◌, ◌<◌, ◌≤◌, List, [], ◌∷◌, ◌++◌, Some, None, Bool, true, false, map, refl, sym, ap, ◌∙◌, subst, arith}
+use Rattle.std.proofs.Common.{◌≡◌, inl, inr, ℕ, zero, suc, ◌+◌, ◌<◌, ◌≤◌, List, [], ◌∷◌, ◌++◌, Some, None, Bool, true, false, map, refl, sym, ap, ◌∙◌, subst, arith}
 use Rattle.std.specs.Prelude.{nat_lt}
 use Rattle.std.specs.List.{Contains, flat_map}
 use Rattle.std.proofs.lemmas.Bool.{cases_Bool, cond-false, cond-true, ltb-true}
@@ -14,9 +14,9 @@ use Rattle.syntax_tree.specs.Trees as trees
 use Rattle.syntax_tree.specs.Numbered.{NumbersRise, number_of, subtree}
 use Rattle.syntax_tree.proofs.Within.{AreWithin, IsWithin, within_from}
 use Rattle.syntax_tree.specs.Levels.{at_depth, at_depth_all}
-use Rattle.tree_cut.specs.WithoutNodes.{AreApart, dropped, is_among, loses_children}
-use Rattle.tree_cut.proofs.Rising.{Rises, RiseAll, bounds_rise, found_among_within, found_within, not_found, number_within, rises_wider, subtree_below, subtree_within}
-use Rattle.tree_cut.proofs.CutEdits.{deeper_found, in_found, in_some_found}
+use Rattle.syntax_tree_cut.specs.WithoutNodes.{AreApart, dropped, is_among, loses_children}
+use Rattle.syntax_tree_cut.proofs.Rising.{Rises, RiseAll, bounds_rise, found_among_within, found_within, not_found, number_within, rises_wider, subtree_below, subtree_within}
+use Rattle.syntax_tree_cut.proofs.CutEdits.{deeper_found, in_found, in_some_found}
 use Rattle.hdd_levels.specs.Levels.{deletable_at, deletable_children, level, with_leaves}
 
 -- The numbers of the trees, and of what is below them, rise from tree to tree.
@@ -91,11 +91,6 @@ tree_of_number (t ∷ ts) q (zero, lt, e) = (t, (zero, omega arith, refl), e)
 tree_of_number (t ∷ ts) q (suc k, lt, e) =
     let more = tree_of_number ts q (k, omega (arith, lt), e) in
     (more.0, (suc more.1.0, (let in_it = more.1.1 in omega (arith, in_it)), more.1.2), more.2)
-
-pub number_in : (ts : List PlainTree) (u : PlainTree) → Contains ts u → Contains (map number_of ts) (number_of u)
-number_in [] u has = absurd (contains_none u has)
-number_in (t ∷ ts) u (zero, lt, e) = (zero, omega arith, ap number_of e)
-number_in (t ∷ ts) u (suc k, lt, e) = let more = number_in ts u (k, omega (arith, lt), e) in (suc more.0, (let in_it = more.1 in omega (arith, in_it)), more.2)
 
 mutual
   pub depth_in : (d : ℕ) (t u : PlainTree) → Contains (at_depth d t) u → IsIn u t

@@ -1,6 +1,6 @@
 -- What is left of a tree where nodes of one level are deleted.
 use Rattle.std.proofs.Common.{◌≡◌, ◌⊎◌, inl, inr, ℕ, zero, suc, ◌+◌, ◌<◌, ◌≤◌, List, [], ◌∷◌, ◌++◌, Option, Some, Bool, true, false, map, refl, sym, ap, ◌∙◌, subst, arith}
-use Rattle.std.specs.Prelude.{◌&&◌, length, not, nat_lt, replicate, slice_get}
+use Rattle.std.specs.Prelude.{length, not, nat_lt, replicate, slice_get}
 use Rattle.std.specs.List.{Contains, flat_map}
 use Rattle.std.specs.Option.{option_map_or}
 use Rattle.std.proofs.lemmas.Bool.{and_from, and_parts, cases_Bool, cond-false, cond-true, eqb-true, false_from_ne_true, false≢true}
@@ -14,11 +14,11 @@ use Rattle.syntax_tree.specs.Trees.{PlainTree, PlainTrees, weight}
 use Rattle.syntax_tree.specs.Numbered.{number_of, roots}
 use Rattle.syntax_tree.specs.Valid.{AreValid, EachIsValid, IsValid, of_absent, of_leaf, of_next, of_no_slots, of_none, of_plus, of_present, of_regular, of_slot, of_star}
 use Rattle.syntax_tree.specs.Levels.{at_depth, at_depth_all}
-use Rattle.tree_cut.specs.WithoutNodes.{AreElements, AreElementsOfAll, NoneAmong, dropped, form_loses, is_among, loses_children, without_nodes, without_nodes_all}
-use Rattle.tree_cut.proofs.Rising.{Rises, RiseAll, bounds_rise, number_within}
-use Rattle.tree_cut.proofs.Deletions.{child_within}
+use Rattle.syntax_tree_cut.specs.WithoutNodes.{AreElements, AreElementsOfAll, NoneAmong, dropped, form_loses, is_among, loses_children, without_nodes, without_nodes_all}
+use Rattle.syntax_tree_cut.proofs.Rising.{Rises, RiseAll, bounds_rise, number_within}
+use Rattle.syntax_tree_cut.proofs.Deletions.{child_within}
 use Rattle.syntax_tree.proofs.LeftTrees.{part}
-use Rattle.tree_cut.proofs.WithoutNodes.{NoneFrom, first_kept, first_out, nothing_out, number_without, without_left}
+use Rattle.syntax_tree_cut.proofs.WithoutNodes.{NoneFrom, first_kept, first_out, nothing_out, number_without, without_left}
 use Rattle.hdd_levels.specs.Levels.{deletable_at, deletable_children, fills_plus, fills_pluses, fills_pluses_all, is_plus, is_plus_form, level, with_leaves}
 use Rattle.hdd_levels.specs.Laws.{HigherNodesStay, KeepingAllKeepsTree, KeptTreesAreLeft, KeptTreesAreTrees, ValidTreesFillPluses}
 use Rattle.hdd_levels.proofs.InLevels.{AreOf, depth_spread_all, dropped_in, each_spread, in_with, level_all, level_found, level_next, level_spread, number_spread, rising_bound, tree_of_number}

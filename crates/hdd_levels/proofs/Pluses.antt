@@ -1,5 +1,5 @@
 -- Where of each plus whose elements are all in a level one is kept, each plus of what is left has an element.
-use Rattle.std.proofs.Common.{◌≡◌, ◌⊎◌, inl, inr, ℕ, zero, suc, ◌+◌, ◌-◌, ◌<◌, ◌≤◌, List, [], ◌∷◌, ◌++◌, Option, Some, None, Bool, true, false, drop, length, map, nat_eq, take, refl, sym, ap, ◌∙◌, subst, arith, append_assoc, length-append, length-drop}
+use Rattle.std.proofs.Common.{◌≡◌, inl, inr, ℕ, zero, suc, ◌+◌, ◌-◌, ◌<◌, ◌≤◌, List, [], ◌∷◌, ◌++◌, Option, Some, None, Bool, true, false, drop, length, map, nat_eq, take, refl, sym, ap, ◌∙◌, subst, arith, append_assoc, length-append, length-drop}
 use Rattle.std.specs.Prelude.{◌&&◌, ◌||◌, nat_lt, not, slice_get}
 use Rattle.std.specs.List.{All, Contains, between, flat_map, list_all, list_any}
 use Rattle.std.proofs.lemmas.Bool.{and_parts, cases_Bool, cond-false, cond-true, eq-eqb, eqb-false, eqb-true, false_from_ne_true, false≢true, ne_eqb, or_left}
@@ -12,10 +12,10 @@ use Rattle.normal_form.specs.Form.{RuleForm, NormalForm}
 use Rattle.syntax_tree.specs.Trees.{PlainTree, PlainTrees, children_of, count, weight}
 use Rattle.syntax_tree.specs.Numbered.{number_of, roots}
 use Rattle.syntax_tree.specs.Levels.{at_depth, at_depth_all}
-use Rattle.tree_cut.specs.WithoutNodes.{NoneAmong, dropped, form_loses, is_among, loses_children, without_nodes, without_nodes_all}
-use Rattle.tree_cut.proofs.Rising.{Rises, RiseAll, bounds_rise, number_within, rise_wider}
-use Rattle.tree_cut.proofs.Deletions.{child_within}
-use Rattle.tree_cut.proofs.WithoutNodes.{NoneFrom, first_kept, first_out, without_others}
+use Rattle.syntax_tree_cut.specs.WithoutNodes.{NoneAmong, dropped, form_loses, is_among, loses_children, without_nodes, without_nodes_all}
+use Rattle.syntax_tree_cut.proofs.Rising.{Rises, RiseAll, bounds_rise, number_within, rise_wider}
+use Rattle.syntax_tree_cut.proofs.Deletions.{child_within}
+use Rattle.syntax_tree_cut.proofs.WithoutNodes.{NoneFrom, first_kept, first_out, without_others}
 use Rattle.hdd_levels.specs.Levels.{deletable_children, fills_plus, fills_pluses, fills_pluses_all, is_plus, is_plus_form, level, with_leaves}
 use Rattle.hdd_levels.specs.LevelForms.{IsWithin, elements_if, is_plus_node, keeps_element, plus_of, pluses_of}
 use Rattle.hdd_levels.proofs.InLevels.{AreOf, Spread, children_spread, depth_spread, dropped_in, each_spread, leaves_spread, level_all, number_spread}

@@ -6,7 +6,7 @@ use Rattle.syntax_tree.specs.Trees.{PlainTree}
 use Rattle.syntax_tree.specs.Numbered.{NumbersRise, number_of}
 use Rattle.syntax_tree.specs.Valid.{IsTreeFor, IsValid}
 use Rattle.syntax_tree.specs.Edits.{IsSingleDeletion}
-use Rattle.syntax_tree.specs.Left.{IsLeftOf}
+use Rattle.syntax_tree.specs.Left.{IsRemainderOf}
 use Rattle.syntax_tree.specs.Levels.{at_depth, depth}
 use Rattle.hdd_levels.specs.Levels.{fills_pluses, kept_tree, level}
 
@@ -20,7 +20,7 @@ ValidTreesFillPluses = (N : NormalForm) (s : Sym) (t : PlainTree) → IsValid N 
 
 -- What is kept of a tree is left of it.
 abbrev pub KeptTreesAreLeft : Type 0
-KeptTreesAreLeft = (nodes : List ℕ) (keep : List Bool) (t : PlainTree) → IsLeftOf t (kept_tree nodes keep t)
+KeptTreesAreLeft = (nodes : List ℕ) (keep : List Bool) (t : PlainTree) → IsRemainderOf t (kept_tree nodes keep t)
 
 -- What is kept of a tree for a slot, where of one level some nodes are deleted, is a tree for the slot if each plus has an element.
 abbrev pub KeptTreesAreTrees : Type 0

@@ -1,12 +1,12 @@
 -- What contracts see of a level.
-use Rattle.std.specs.Prelude.{◌≡◌, ◌&&◌, ℕ, zero, suc, ◌+◌, ◌≤◌, ◌<◌, if◌then◌else◌, nat_eq, nat_lt, Bool, true, false, List, [], ◌∷◌, ◌++◌, Option, Some, None, length, map}
+use Rattle.std.specs.Prelude.{◌≡◌, ◌&&◌, ℕ, zero, suc, ◌+◌, ◌≤◌, if◌then◌else◌, nat_eq, nat_lt, Bool, true, false, List, [], ◌∷◌, ◌++◌, Option, Some, None, length, map}
 use Rattle.std.specs.List.{Contains, between, filter, list_any}
 use Rattle.normal_form.specs.Form.{NormalForm}
 use Rattle.syntax_tree.specs.Trees.{PlainTree, children_of, count, weight}
 use Rattle.syntax_tree.specs.Numbered.{number_of, subtree}
 use Rattle.syntax_tree.specs.Levels.{at_depth}
-use Rattle.tree_cut.specs.declared.shape.Shape.{Shape}
-use Rattle.tree_cut.specs.declared.shape.Shape.TheVariants.{Leaf, Star, Plus, Optional, Regular}
+use Rattle.syntax_tree_cut.specs.declared.shape.Shape.{Shape}
+use Rattle.syntax_tree_cut.specs.declared.shape.Shape.TheVariants.{Leaf, Star, Plus, Optional, Regular}
 use Rattle.hdd_levels.specs.declared.level_nodes.Elements.{Elements}
 use Rattle.hdd_levels.specs.Levels.{deletable_children, is_plus, is_so_deep, level}
 

@@ -6,7 +6,7 @@ use Rattle.normal_form.specs.Form.{RuleForm, NormalForm}
 use Rattle.syntax_tree.specs.Trees.{PlainTree, PlainTrees, weight}
 use Rattle.syntax_tree.specs.Numbered.{number_of}
 use Rattle.syntax_tree.specs.Levels.{at_depth, depth}
-use Rattle.tree_cut.specs.WithoutNodes.{dropped, loses_children, without_nodes}
+use Rattle.syntax_tree_cut.specs.WithoutNodes.{dropped, loses_children, without_nodes}
 
 -- those of the trees that have a leaf
 abbrev pub with_leaves : PlainTrees → List PlainTree
@@ -30,10 +30,6 @@ level N d t = map number_of (deletable_at N d t)
 -- whether the tree has a node or leaf so deep
 abbrev pub is_so_deep : ℕ → PlainTree → Bool
 is_so_deep d t = nat_le d (depth t)
-
--- the level of a depth, where the tree has a node or leaf so deep
-abbrev pub level_if_deep : NormalForm → ℕ → PlainTree → Option (List ℕ)
-level_if_deep N d t = if is_so_deep d t then Some (level N d t) else None
 
 -- the tree without those of the nodes that the flags don't keep
 abbrev pub kept_tree : List ℕ → List Bool → PlainTree → PlainTree

@@ -2,13 +2,13 @@
 
 ghost use Rattle.std.specs.Prelude.{◌≡◌, ℕ, if◌then◌else◌, false, Some, None, length};
 ghost use Rattle.std.specs.List.{All, list_all, list_any};
-ghost use Rattle.tree_cut.specs.Cuts.{IsCutOf, cut_tree};
+ghost use Rattle.syntax_tree_cut.specs.Cuts.{IsCutOf, cut_tree};
 ghost use Rattle.hdd_levels.specs.LevelForms.{IsLevelAt, IsWithin, keeps_element};
 ghost use Rattle.hdd_levels.specs.Levels.{fills_pluses, kept_only, kept_tree};
 
 use crate::level_nodes::{Elements, LevelNodes};
 use syntax_tree::Tree;
-use tree_cut::Cut;
+use syntax_tree_cut::Cut;
 
 /// Deletes those nodes of the level that are marked by false, and answers true; or false, where a plus
 /// would be empty, and then nothing changes. It takes no memory, and time linear in the number of nodes

@@ -6,16 +6,16 @@ ghost use Rattle.std.specs.Option.{option_map};
 ghost use Rattle.syntax_tree.specs.Trees.{PlainTree};
 ghost use Rattle.syntax_tree.specs.Numbered.{number_of};
 ghost use Rattle.syntax_tree.specs.Levels.{at_depth};
-ghost use Rattle.tree_cut.specs.Cuts.{IsCutOf, cut_tree};
+ghost use Rattle.syntax_tree_cut.specs.Cuts.{IsCutOf, cut_tree};
 ghost use Rattle.hdd_levels.specs.LevelForms.{AreNodesIn, IsLevelAt, IsLevelIfDeep, parents_at, pluses_of};
 ghost use Rattle.hdd_levels.specs.Levels.{deletable_children};
 
-use crate::nodes::{children_of_each, push_deletable};
+use crate::nodes::{children_of_nodes, push_deletable};
 use faults::Memory;
 use std::alloc::Global;
 use std::marker::Model;
 use syntax_tree::Tree;
-use tree_cut::Cut;
+use syntax_tree_cut::Cut;
 
 /// Which of the nodes of a level are the elements of one plus: those from the index `from` up to but
 /// not including the index `end`.
@@ -87,7 +87,7 @@ impl LevelNodes {
     {
         let _nodes = tree.nodes();
         let parents = self.own_nodes(alloc, tree, cut)?;
-        let below = children_of_each(alloc, tree, cut, parents.as_slice())?;
+        let below = children_of_nodes(alloc, tree, cut, parents.as_slice())?;
         if below.is_empty() {
             return Ok(None);
         }
@@ -121,7 +121,7 @@ impl LevelNodes {
                 Ok(nodes)
             }
             Some(parents) => {
-                let nodes = children_of_each(alloc, tree, cut, parents.as_slice())?;
+                let nodes = children_of_nodes(alloc, tree, cut, parents.as_slice())?;
                 Ok(nodes)
             }
         }

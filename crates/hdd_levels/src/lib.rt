@@ -2,10 +2,11 @@
 //! the contents of optionals that have a token.
 //!
 //! Read `specs/Levels.antt` first: `level` says which nodes are deletable at a depth, and `kept_only`
-//! what is left where some of them are deleted at once. [`level`] finds them, [`LevelNodes::next`] goes one
-//! level down, so that all levels of a tree take time linear in its size, and [`keep_only`] deletes
+//! what is left where some of them are deleted at once. [`level`] finds them, [`LevelNodes::next`] goes
+//! one level down, so that all levels of a tree take time linear in its size, and [`keep_only`] deletes
 //! those that aren't kept. What follows of these definitions is in `specs/Laws.antt`, each law with a
-//! function of its name.
+//! function of its name. The single deletions of a tree are those of one node of a level
+//! ([`single_deletions_are_of_levels`]).
 #![tactic(auto)]
 
 mod keeping;

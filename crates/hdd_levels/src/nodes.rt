@@ -1,10 +1,10 @@
 //! Lists of nodes that are left, and what is below them.
 
 ghost use Rattle.std.specs.Prelude.{◌≡◌, ◌-◌, ◌≤◌, ◌++◌, List, IfOk, IsSome, OnOk, Some, length, map, option_map};
-ghost use Rattle.syntax_tree.specs.Trees.{PlainTree, children_of};
-ghost use Rattle.syntax_tree.specs.Numbered.{number_of, roots, subtree};
-ghost use Rattle.tree_cut.specs.Cuts.{IsCutOf, cut_tree};
-ghost use Rattle.descend_replace.specs.LevelLaws.{children_of_each as children_of_all};
+ghost use Rattle.syntax_tree.specs.Trees.{PlainTree};
+ghost use Rattle.syntax_tree.specs.Numbered.{number_of, subtree};
+ghost use Rattle.syntax_tree_cut.specs.Cuts.{IsCutOf, cut_tree};
+ghost use Rattle.descend_replace.specs.LevelLaws.{children_of_each};
 ghost use Rattle.hdd_levels.specs.LevelForms.{AreNodesIn, elements_if, has_leaf, plus_of, shape_loses, whole_plus, with_leaves_in};
 ghost use Rattle.hdd_levels.specs.Levels.{deletable_children};
 
@@ -12,10 +12,10 @@ use crate::level_nodes::Elements;
 use faults::Memory;
 use std::alloc::Global;
 use syntax_tree::Tree;
-use tree_cut::{Cut, Shape};
+use syntax_tree_cut::{Cut, Shape};
 
 /// The children of these nodes, those of the first one first.
-pub(crate) fn children_of_each(
+pub(crate) fn children_of_nodes(
     alloc: Global,
     tree: &Tree,
     cut: &Cut,
@@ -23,30 +23,13 @@ pub(crate) fn children_of_each(
 ) -> Result<Vec<u32>, Memory>
     requires of { IsCutOf tree.now cut.now }
     requires nodes { (ts : List PlainTree) × AreNodesIn (cut_tree tree.now cut.now) nodes.now ts }
-    ensures { IfOk result (λ found. (ts : List PlainTree) → AreNodesIn (cut_tree tree.now cut.now) nodes.now ts → found.items ≡ map number_of (children_of_all ts)) }
+    ensures { IfOk result (λ found. (ts : List PlainTree) → AreNodesIn (cut_tree tree.now cut.now) nodes.now ts → found.items ≡ map number_of (children_of_each ts)) }
 {
     let mut found = Vec::new(alloc);
     for node in nodes {
-        push_children(alloc, tree, cut, *node, &mut found)?;
+        cut.push_children(tree, *node, &mut found)?;
     }
     Ok(found)
-}
-
-/// Adds the children of a node that is left.
-fn push_children(
-    alloc: Global,
-    tree: &Tree,
-    cut: &Cut,
-    node: u32,
-    into: &mut Vec<u32>,
-) -> Result<(), Memory>
-    requires of { IsCutOf tree.now cut.now }
-    requires left { IsSome (subtree node (cut_tree tree.now cut.now)) }
-    ensures { OnOk result ((u : PlainTree) → subtree node (cut_tree tree.now cut.now) ≡ Some u → into.new.items ≡ into.old.items ++ roots (children_of u)) }
-{
-    let children = cut.children(alloc, tree, node)?;
-    into.extend_from_slice(children.as_slice())?;
-    Ok(())
 }
 
 /// Adds the deletable children of a node that is left, and where they are all elements of a plus,

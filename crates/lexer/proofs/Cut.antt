@@ -6,8 +6,8 @@ use Rattle.std.specs.Str.{chars, IsUtf8, IsCharBoundary}
 use Rattle.std.proofs.lemmas.Str.{IsCharBoundary-at_seam, encodes-append, encodes-chars, chars-encodes, scalars-chars, length-le-encodes, chars-nil}
 use Rattle.grammar_tree.specs.Written.{WrittenGrammar}
 use Rattle.grammar_tree.specs.Lexes.{IsNext, Lexes, LexesTo, Piece, PlacedToken, StopsAt, is_gap_kind, placed_tokens}
-use Rattle.longest_match.specs.declared.nfa.State.{State}
-use Rattle.longest_match.specs.declared.alternative.Alternative.{Alternative}
+use Rattle.lexer_match.specs.declared.nfa.State.{State}
+use Rattle.lexer_match.specs.declared.alternative.Alternative.{Alternative}
 use Rattle.lexer_nfa.specs.GrammarNfa.{IsNfaOf}
 use Rattle.lexer.specs.Candidates.{ComesNext, HasNoNext}
 use Rattle.lexer.specs.Tokens.{unless_gap}
@@ -60,11 +60,6 @@ drop_front [] ys (suc n) e = absurd (omega (arith, e))
 drop_front (x ∷ xs) ys zero e = absurd (omega (arith, e))
 drop_front (x ∷ xs) ys (suc n) e = drop_front xs ys n (omega (arith, e))
 
--- one front of a list can be taken away
-same_back : (xs ys zs : List ℕ) → xs ++ ys ≡ xs ++ zs → ys ≡ zs
-same_back [] ys zs e = e
-same_back (x ∷ xs) ys zs e = same_back xs ys zs (cc)
-
 module _ (G : WrittenGrammar) (text : List ℕ) where
   pub nothing_read : IsUtf8 text → IsReadTo G text 0 []
   nothing_read utf8 =
@@ -89,9 +84,6 @@ module _ (G : WrittenGrammar) (text : List ℕ) where
     is_boundary =
         let Q : ℕ → Type 0 = λ n. IsCharBoundary text n in
         subst Q (sym s.count) (IsCharBoundary-at_seam text (encode_utf8_all s.before) s.left s.bytes s.utf8)
-
-    pub within : at ≤ length text
-    within = omega (arith, s.count, ap length s.bytes, length-append (encode_utf8_all s.before) s.left)
 
     pub read_all : length text ≤ at → Lexes G (chars text) s.pieces
     read_all h =

@@ -4,17 +4,17 @@ use Rattle.std.specs.List.{Contains}
 use Rattle.std.proofs.lemmas.Bool.{cases_lt}
 use Rattle.std.proofs.lemmas.List.Elements.{Contains-push, Contains-push_cases, Contains-append_left}
 use Rattle.std.proofs.lemmas.Option.{slice_get-get_or}
-use Rattle.longest_match.specs.declared.nfa.State.{State}
-use Rattle.longest_match.specs.declared.alternative.Alternative.{Alternative}
-use Rattle.longest_match.specs.Nfa.{Reads}
+use Rattle.lexer_match.specs.declared.nfa.State.{State}
+use Rattle.lexer_match.specs.declared.alternative.Alternative.{Alternative}
+use Rattle.lexer_match.specs.Nfa.{Reads}
 use Rattle.lexer.specs.declared.candidates.Beginning.{Beginning}
 use Rattle.lexer_nfa.specs.Order.{NeverFall}
-use Rattle.longest_match.specs.StateSets.{ReadsTo}
+use Rattle.lexer_match.specs.StateSets.{ReadsTo}
 use Rattle.lexer.specs.Candidates.{AreCandidates, AreListed, IsBeginning}
 use Rattle.std.proofs.lemmas.List.{map-append}
 use Rattle.lexer_nfa.proofs.Pushed.{mapped_len}
-use Rattle.longest_match.proofs.StateSets.{index_default}
-use Rattle.longest_match.proofs.States.{get_before, get_last, get_within}
+use Rattle.lexer_match.proofs.StateSets.{index_default}
+use Rattle.lexer_match.proofs.States.{get_before, get_last, get_within}
 
 take_snoc : (all : List Alternative) (i : ℕ) (d : Alternative) → i < length all → take (suc i) all ≡ take i all ++ slice_index_or all i d ∷ []
 take_snoc [] i d h = absurd (omega (arith, h))

@@ -6,15 +6,15 @@ use Rattle.std.proofs.lemmas.Bool.{cases_lt}
 use Rattle.std.proofs.lemmas.Option.{slice_get-get_or}
 use Rattle.std.specs.Str.{chars, IsUtf8}
 use Rattle.std.proofs.lemmas.Str.{chars_past_char, encodes-append, length-le-encodes}
-use Rattle.longest_match.specs.declared.nfa.State.{State}
-use Rattle.longest_match.specs.declared.alternative.Alternative.{Alternative}
+use Rattle.lexer_match.specs.declared.nfa.State.{State}
+use Rattle.lexer_match.specs.declared.alternative.Alternative.{Alternative}
 use Rattle.lexer.specs.declared.pieces.Match.{Match}
-use Rattle.longest_match.specs.Nfa.{Reads}
-use Rattle.longest_match.specs.Longest.{HasNone, IsLongestLen}
-use Rattle.longest_match.specs.Reading.{IsRead}
-use Rattle.longest_match.specs.Alternatives.{HasAlternative}
+use Rattle.lexer_match.specs.Nfa.{Reads}
+use Rattle.lexer_match.specs.Longest.{HasNone, IsLongestLen}
+use Rattle.lexer_match.specs.Reading.{IsRead}
+use Rattle.lexer_match.specs.Alternatives.{HasAlternative}
 use Rattle.lexer.specs.Candidates.{AreCandidates, ComesNext, HasNoNext, IsBestOf}
-use Rattle.longest_match.proofs.Best.{begins, begins_same}
+use Rattle.lexer_match.proofs.Best.{begins, begins_same}
 
 some_bytes : (x : List ℕ) → 0 < length x → 0 < length (encode_utf8_all x)
 some_bytes x h = omega (arith, h, length-le-encodes x)

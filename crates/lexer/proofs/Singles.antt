@@ -1,5 +1,5 @@
 -- Which characters kinds match by themselves, and which of them are gap text.
-use Rattle.std.proofs.Common.{◌≡◌, ◌≢◌, ◌↔◌, ◌<◌, ◌≤◌, ◌+◌, ◌⊎◌, inl, inr, ℕ, zero, suc, Bool, true, false, cond, not, map, List, [], ◌∷◌, ◌++◌, Some, None, slice_get, slice_index_or, length, refl, sym, ap, ◌∙◌, subst, arith, length-append, nat_eq}
+use Rattle.std.proofs.Common.{◌≡◌, ◌↔◌, ◌<◌, ◌≤◌, ◌+◌, ◌⊎◌, inl, inr, ℕ, zero, suc, Bool, true, false, cond, not, map, List, [], ◌∷◌, ◌++◌, Some, None, slice_get, slice_index_or, length, refl, sym, ap, ◌∙◌, subst, arith, length-append, nat_eq}
 use Rattle.std.specs.Prelude.{◌&&◌, ◌||◌}
 use Rattle.std.specs.Char.{IsScalar}
 use Rattle.std.specs.List.{Contains}
@@ -13,19 +13,19 @@ use Rattle.grammar_tree.specs.Written.{WrittenGrammar}
 use Rattle.lexer.specs.declared.candidates.Beginning.{Beginning}
 use Rattle.lexer.specs.declared.gaps.Decided.{Decided}
 use Rattle.lexer.specs.declared.gaps.Singles.{Singles}
-use Rattle.longest_match.specs.declared.nfa.State.{State}
-use Rattle.longest_match.specs.declared.alternative.Alternative.{Alternative}
-use Rattle.longest_match.specs.Alternatives.{HasAlternative}
+use Rattle.lexer_match.specs.declared.nfa.State.{State}
+use Rattle.lexer_match.specs.declared.alternative.Alternative.{Alternative}
+use Rattle.lexer_match.specs.Alternatives.{HasAlternative}
 use Rattle.lexer_nfa.specs.GrammarNfa.{IsNfaOf}
 use Rattle.lexer.specs.Gaps.{AreDecided, AreEmptyFlags, AreGapChars, HasSingle, IsLastOf, IsLeastSingle, SinglesAreUpTo, SinglesNeverFall}
-use Rattle.longest_match.specs.Nfa.{Reads}
+use Rattle.lexer_match.specs.Nfa.{Reads}
 use Rattle.lexer_nfa.specs.Order.{NeverFall}
-use Rattle.longest_match.specs.Reading.{IsRead}
-use Rattle.longest_match.specs.StateSets.{AreFirst, ReadsTo}
+use Rattle.lexer_match.specs.Reading.{IsRead}
+use Rattle.lexer_match.specs.StateSets.{AreFirst, ReadsTo}
 use Rattle.lexer.specs.Tokens.{IsGapText}
-use Rattle.longest_match.proofs.StateSets.{index_default}
-use Rattle.longest_match.proofs.States.{cond_some, get_within}
-use Rattle.longest_match.proofs.Steps.{both_ways, or_same}
+use Rattle.lexer_match.proofs.StateSets.{index_default}
+use Rattle.lexer_match.proofs.States.{cond_some, get_within}
+use Rattle.lexer_match.proofs.Steps.{both_ways, or_same}
 use Rattle.lexer_nfa.proofs.Pushed.{with_same}
 
 -- the one character of a range
@@ -50,16 +50,6 @@ module _ (flags : List Bool) (next : ℕ) where
     λ h. (next, ap (λ b. cond b (Some next) None) (ap (λ s. has s c) (sym same) ∙ h), flag),
     λ (n, step, f). ap (λ s. has s c) same ∙ (cond_some (has old c) next n step).0,
   )
-
-  pub char_not_last : (d : ℕ) → slice_index_or flags next false ≡ false → (c : ℕ) → ¬ IsLastOf flags (State.Char d next) c
-  char_not_last d flag c (n, step, f) =
-      let e = (cond_some (nat_eq d c) next n step).1 in
-      let bad : false ≡ true = sym flag ∙ ap (λ k. slice_index_or flags k false) e ∙ f in absurd (cc)
-
-  pub set_not_last : (old : List (ℕ × ℕ)) → slice_index_or flags next false ≡ false → (c : ℕ) → ¬ IsLastOf flags (State.Set old next) c
-  set_not_last old flag c (n, step, f) =
-      let e = (cond_some (has old c) next n step).1 in
-      let bad : false ≡ true = sym flag ∙ ap (λ k. slice_index_or flags k false) e ∙ f in absurd (cc)
 
 abbrev one : ℕ → List (ℕ × ℕ) → Singles
 one kind set = record { kind = kind; set = set }
@@ -167,10 +157,6 @@ module _ (P : List State) (flags : List Bool) where
 pub not_alone : (P : List State) (a : Alternative) (c : ℕ) → a.short ≡ true → Reads P a.start [] → ¬ IsRead P a (c ∷ [])
 not_alone P a c short r is = let bad : c ∷ [] ≡ [] = is.shortest short [] (c ∷ []) refl r in absurd (cc)
 
-pub both_true : (a b : Bool) → (a && b) ≡ false → a ≡ true → b ≡ false
-both_true true b e h = e
-both_true false b e h = absurd (cc)
-
 -- The characters of the alternatives up to an index.
 module _ (P : List State) (beginnings : List Beginning) where
   abbrev pub SingleUpTo : ℕ → ℕ → ℕ → Type 0
@@ -179,9 +165,6 @@ module _ (P : List State) (beginnings : List Beginning) where
   -- a kind up to the index is at least this number
   abbrev pub IsBelowSome : ℕ → ℕ → Type 0
   IsBelowSome i k = (m : ℕ) × (b : Beginning) × (m < i) × (slice_get beginnings m ≡ Some b) × (k ≤ b.alternative.kind)
-
-  pub single_none : (list : List Singles) (k c : ℕ) → list ≡ [] → HasSingle list k c ↔ SingleUpTo 0 k c
-  single_none list k c e = (λ (s, (n, h, is), named, t). absurd (omega (arith, h, ap length e)), λ (m, b, h, at, named, r). absurd (omega (arith, h)))
 
   pub single_more : (old new : List Singles) (i k c : ℕ) (b : Beginning) → slice_get beginnings i ≡ Some b → HasSingle old k c ↔ SingleUpTo i k c → HasSingle new k c ↔ (HasSingle old k c ⊎ ((k ≡ b.alternative.kind) × IsRead P b.alternative (c ∷ []))) → HasSingle new k c ↔ SingleUpTo (i + 1) k c
   single_more old new i k c b at before more = (λ h. to (more.0 h), λ (m, x, h, g, named, r). more.1 (back m x g named r (cases_lt m i) h))
@@ -348,13 +331,6 @@ first_text (p ∷ rest) = p.text
 
 -- The characters of which the least kind is a gap kind are gap text.
 module _ (G : WrittenGrammar) (P : List State) (all : List Alternative) (of : IsNfaOf G P all) (list : List Singles) (singles : (k c : ℕ) → IsScalar c → HasSingle list k c ↔ HasAlternative P all k (c ∷ [])) where
-  whole : (c : ℕ) (front back : List ℕ) → c ∷ [] ≡ front ++ back → front ≢ [] → (front ≡ c ∷ []) × (back ≡ [])
-  whole c [] back e some = absurd (some refl)
-  whole c (d ∷ []) back e some =
-      let heads : d ≡ c = cc in
-      let tails : back ≡ [] = cc in (ap (λ x. x ∷ []) heads, tails)
-  whole c (d ∷ x ∷ front) back e some = absurd (omega (arith, ap length e, length-append (d ∷ x ∷ front) back))
-
   matches : (k c : ℕ) → IsScalar c → HasSingle list k c ↔ KindMatches G k (c ∷ [])
   matches k c s = (λ h. (of.exact k (c ∷ [])).0 ((singles k c s).0 h), λ m. (singles k c s).1 ((of.exact k (c ∷ [])).1 m))
 

@@ -1,11 +1,11 @@
 -- What a lexer is made of.
 use Rattle.grammar_tree.specs.Written.{CheckedGrammar}
 use Rattle.lexer.specs.declared.rules.Rules.{Rules}
-use Rattle.longest_match.specs.Alternatives.{IsNfa}
+use Rattle.lexer_match.specs.Alternatives.{IsNfa}
 use Rattle.lexer_nfa.specs.GrammarNfa.{IsNfaOf}
 use Rattle.lexer.specs.Candidates.{AreListed}
 use Rattle.lexer.specs.Gaps.{AreGapChars}
-use Rattle.longest_match.specs.Table.{IsTable}
+use Rattle.lexer_match.specs.Table.{IsTable}
 
 -- Each rule can be read, each list has the candidates for its first character, and the table is right.
 pub record IsRunnable (r : Rules) : Type 0 where

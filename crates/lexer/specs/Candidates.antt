@@ -1,14 +1,14 @@
 -- Which alternatives have to be read, and what comes next by them.
 use Rattle.std.specs.Prelude.{◌≡◌, ◌≢◌, ◌<◌, ◌≤◌, ℕ, List, [], ◌∷◌, ◌++◌, Some, slice_get, length, map, encode_utf8_all, Vec}
 use Rattle.std.specs.List.{Contains}
-use Rattle.longest_match.specs.declared.nfa.State.{State}
-use Rattle.longest_match.specs.declared.alternative.Alternative.{Alternative}
+use Rattle.lexer_match.specs.declared.nfa.State.{State}
+use Rattle.lexer_match.specs.declared.alternative.Alternative.{Alternative}
 use Rattle.lexer.specs.declared.candidates.Beginning.{Beginning}
-use Rattle.longest_match.specs.Nfa.{Reads}
-use Rattle.longest_match.specs.StateSets.{AreFirst}
-use Rattle.longest_match.specs.Longest.{IsLongestLen}
-use Rattle.longest_match.specs.Reading.{IsRead}
-use Rattle.longest_match.specs.Alternatives.{HasAlternative}
+use Rattle.lexer_match.specs.Nfa.{Reads}
+use Rattle.lexer_match.specs.StateSets.{AreFirst}
+use Rattle.lexer_match.specs.Longest.{IsLongestLen}
+use Rattle.lexer_match.specs.Reading.{IsRead}
+use Rattle.lexer_match.specs.Alternatives.{HasAlternative}
 
 -- Some of the alternatives, with all that can read a text which begins with the character.
 pub record AreCandidates (P : List State) (all some : List Alternative) (c : ℕ) : Type 0 where

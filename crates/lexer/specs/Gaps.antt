@@ -6,8 +6,8 @@ use Rattle.grammar_tree.specs.Chars.{has}
 use Rattle.grammar_tree.specs.Written.{WrittenGrammar}
 use Rattle.lexer.specs.declared.gaps.Decided.{Decided}
 use Rattle.lexer.specs.declared.gaps.Singles.{Singles}
-use Rattle.longest_match.specs.declared.nfa.State.{State}
-use Rattle.longest_match.specs.Nfa.{Reads, after}
+use Rattle.lexer_match.specs.declared.nfa.State.{State}
+use Rattle.lexer_match.specs.Nfa.{Reads, after}
 use Rattle.lexer_nfa.specs.Order.{AreUpTo, NeverFall}
 use Rattle.lexer.specs.Tokens.{IsGapText}
 

@@ -2,15 +2,15 @@
 
 ghost use Rattle.std.specs.Prelude.{◌≡◌, ◌<◌, ℕ, List, false, IfOk, OnOk, length, map};
 ghost use Rattle.std.specs.List.{Contains};
-ghost use Rattle.longest_match.specs.Alternatives.{IsNfa};
+ghost use Rattle.lexer_match.specs.Alternatives.{IsNfa};
 ghost use Rattle.lexer.specs.declared.candidates.Beginning.{Beginning};
-ghost use Rattle.longest_match.specs.declared.nfa.State.{State};
+ghost use Rattle.lexer_match.specs.declared.nfa.State.{State};
 ghost use Rattle.lexer.specs.Candidates.{AreBeginnings, AreCandidates, AreListed, IsBeginning};
-ghost use Rattle.longest_match.specs.Reading.{IsReady};
-ghost use Rattle.longest_match.specs.StateSets.{ReadsTo};
+ghost use Rattle.lexer_match.specs.Reading.{IsReady};
+ghost use Rattle.lexer_match.specs.StateSets.{ReadsTo};
 
 use faults::Memory;
-use longest_match::{Alternative, Reading, State};
+use lexer_match::{Alternative, Reading, State};
 use std::alloc::Global;
 
 /// The lists of alternatives together have at most so many entries. Where they would have more there

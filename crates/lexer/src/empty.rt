@@ -1,14 +1,14 @@
 //! Which states of an NFA read the empty text.
 
 ghost use Rattle.std.specs.Prelude.{◌≡◌, ◌⊎◌, ◌↔◌, ◌<◌, ◌^◌, ℕ, IfOk, OnOk, length, map, vec_len};
-ghost use Rattle.graph_cycles.specs.Graph.{HasEdge};
+ghost use Rattle.grammar_check_cycles.specs.Graph.{HasEdge};
 ghost use Rattle.lexer.specs.Gaps.{AreEmptyFlags};
-ghost use Rattle.longest_match.specs.Nfa.{IsClosed};
-ghost use Rattle.longest_match.specs.StateSets.{GoesFrom, GoesTo};
+ghost use Rattle.lexer_match.specs.Nfa.{IsClosed};
+ghost use Rattle.lexer_match.specs.StateSets.{GoesFrom, GoesTo};
 
 use faults::Memory;
-use graph_cycles::reached_from;
-use longest_match::State;
+use grammar_check_cycles::reached_from;
+use lexer_match::State;
 use std::alloc::Global;
 
 /// For each state those that go on at it without reading a character.

@@ -13,20 +13,20 @@ ghost use Rattle.grammar_tree.specs.Kinds.{kinds_of};
 ghost use Rattle.grammar_tree.specs.Lexes.{is_gap_kind};
 ghost use Rattle.grammar_tree.specs.Written.{WrittenGrammar};
 ghost use Rattle.lexer.specs.declared.candidates.Beginning.{Beginning};
-ghost use Rattle.longest_match.specs.Alternatives.{HasAlternative, IsNfa};
+ghost use Rattle.lexer_match.specs.Alternatives.{HasAlternative, IsNfa};
 ghost use Rattle.lexer_nfa.specs.GrammarNfa.{IsNfaOf};
 ghost use Rattle.lexer.specs.Candidates.{IsBeginning};
 ghost use Rattle.lexer.specs.Gaps.{AreDecided, AreEmptyFlags, AreGapChars, HasSingle, IsLastOf, SinglesAreUpTo, SinglesNeverFall};
-ghost use Rattle.longest_match.specs.Nfa.{GoesBelow, IsClosed};
+ghost use Rattle.lexer_match.specs.Nfa.{GoesBelow, IsClosed};
 ghost use Rattle.lexer_nfa.specs.Order.{NeverFall};
-ghost use Rattle.longest_match.specs.Reading.{IsRead};
+ghost use Rattle.lexer_match.specs.Reading.{IsRead};
 
 use crate::candidates::Beginning;
 use crate::empty::read_nothing;
 use crate::tokens::is_gap;
 use faults::Memory;
 use grammar_tree::{CharSet, Kind};
-use longest_match::{Alternative, State};
+use lexer_match::{Alternative, State};
 use std::alloc::Global;
 
 /// Characters that a kind matches, each by itself.

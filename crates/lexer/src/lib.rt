@@ -4,7 +4,7 @@
 //! first, then `HasTokens` in `specs/Tokens.antt`.
 //!
 //! [`Lexer::build`] makes an NFA of the alternatives of each kind (`lexer_nfa`), of which one after
-//! another is read (`longest_match`). What comes next in a text is the longest match of the
+//! another is read (`lexer_match`). What comes next in a text is the longest match of the
 //! alternatives that can begin with its first character (`candidates`, `pieces`), and the text is cut
 //! so from its beginning on (`tokens`). Which characters are gap text by themselves is found when the
 //! lexer is built (`empty`, `gaps`).

@@ -3,17 +3,17 @@
 ghost use Rattle.std.specs.Prelude.{◌≡◌, ◌⊎◌, ◌<◌, ◌≤◌, ℕ, List, IfOk, MatchOption, OnOk, length};
 ghost use Rattle.std.specs.List.{Contains};
 ghost use Rattle.std.specs.Str.{chars};
-ghost use Rattle.longest_match.specs.declared.alternative.Alternative.{Alternative};
-ghost use Rattle.longest_match.specs.Alternatives.{IsNfa};
+ghost use Rattle.lexer_match.specs.declared.alternative.Alternative.{Alternative};
+ghost use Rattle.lexer_match.specs.Alternatives.{IsNfa};
 ghost use Rattle.lexer.specs.Candidates.{AreListed, ComesNext, HasNoNext, IsBestOf};
-ghost use Rattle.longest_match.specs.Dead.{AreDead, StayDead};
-ghost use Rattle.longest_match.specs.Nfa.{IsClosed};
-ghost use Rattle.longest_match.specs.Reading.{IsReady};
-ghost use Rattle.longest_match.specs.Table.{IsTable};
+ghost use Rattle.lexer_match.specs.Dead.{AreDead, StayDead};
+ghost use Rattle.lexer_match.specs.Nfa.{IsClosed};
+ghost use Rattle.lexer_match.specs.Reading.{IsReady};
+ghost use Rattle.lexer_match.specs.Table.{IsTable};
 
 use crate::candidates::candidates;
 use faults::Memory;
-use longest_match::{Alternative, Reading, State, Table};
+use lexer_match::{Alternative, Reading, State, Table};
 
 /// A match at the beginning of a text: the number of its kind, and its length in bytes. The length
 /// 0 means none.

@@ -4,16 +4,16 @@ ghost use Rattle.std.specs.Prelude.{ℕ, IfOk, MatchOption, OnOk, length};
 ghost use Rattle.std.specs.Str.{chars};
 ghost use Rattle.lexer.specs.Built.{IsBuilt, IsRunnable};
 ghost use Rattle.lexer.specs.Candidates.{ComesNext, HasNoNext};
-ghost use Rattle.longest_match.specs.Dead.{AreDead, HasDead, StayDead};
-ghost use Rattle.longest_match.specs.Reading.{IsReady};
+ghost use Rattle.lexer_match.specs.Dead.{AreDead, HasDead, StayDead};
+ghost use Rattle.lexer_match.specs.Reading.{IsReady};
 
 use crate::candidates::{beginnings, by_first_character};
 use crate::gaps::gap_characters;
 use crate::pieces::{Match, next_match};
 use faults::Memory;
 use grammar_tree::{CharSet, Checked};
+use lexer_match::{Alternative, Reading, State, Table, table_of};
 use lexer_nfa::add_kinds;
-use longest_match::{Alternative, Reading, State, Table, table_of};
 use std::alloc::Global;
 
 /// The rules of a lexer: their states, and the alternatives of their kinds.

@@ -8,14 +8,14 @@ ghost use Rattle.grammar_tree.specs.Lexes.{is_gap_kind};
 ghost use Rattle.grammar_tree.specs.Written.{WrittenGrammar};
 ghost use Rattle.lexer.specs.Built.{IsBuilt};
 ghost use Rattle.lexer.specs.Tokens.{HasTokens, ReportsStop, token_of, unless_gap};
-ghost use Rattle.longest_match.specs.Dead.{HasDead};
-ghost use Rattle.longest_match.specs.Reading.{IsReady};
+ghost use Rattle.lexer_match.specs.Dead.{HasDead};
+ghost use Rattle.lexer_match.specs.Reading.{IsReady};
 
 use crate::rules::Rules;
 use crate::token::{LexFault, Token};
 use faults::Memory;
 use grammar_tree::{Checked, Kind};
-use longest_match::Reading;
+use lexer_match::Reading;
 use std::alloc::Global;
 
 /// Whether the kind with this number is a gap kind.

@@ -19,11 +19,11 @@ use Rattle.grammar_tree.specs.Kinds.{lexer_rules}
 use Rattle.grammar_tree.proofs.MatchForms as forms
 use Rattle.grammar_tree.specs.Matches.{Matches, MatchesAlts}
 use Rattle.grammar_tree.specs.Laws.{CutsInto}
-use Rattle.longest_match.specs.declared.nfa.State.{State}
-use Rattle.longest_match.specs.Nfa.{GoesBelow, IsClosed}
+use Rattle.lexer_match.specs.declared.nfa.State.{State}
+use Rattle.lexer_match.specs.Nfa.{GoesBelow, IsClosed}
 use Rattle.lexer_nfa.specs.Compile.{IsAdded, MatchesRuleAt}
 use Rattle.lexer_nfa.specs.Names.{HaveNoLoops, HaveOneName, is_named, rule_index}
-use Rattle.longest_match.proofs.States.{get_within}
+use Rattle.lexer_match.proofs.States.{get_within}
 use Rattle.lexer_nfa.proofs.Added.{added_as, added_call, added_never, added_then, added_char, added_set, added_star, added_plus, pushed_closed}
 
 -- the NFA and the entry under other names

@@ -5,12 +5,12 @@ use Rattle.std.proofs.Math.ListN.{set, length-set}
 use Rattle.std.proofs.lemmas.Bool.{cases_lt}
 use Rattle.grammar_tree.specs.Written.{WrittenRule}
 use Rattle.grammar_tree.specs.Laws.{CutsInto}
-use Rattle.longest_match.specs.declared.nfa.State.{State}
-use Rattle.longest_match.specs.Nfa.{Reads, IsClosed}
+use Rattle.lexer_match.specs.declared.nfa.State.{State}
+use Rattle.lexer_match.specs.Nfa.{Reads, IsClosed}
 use Rattle.lexer_nfa.specs.Compile.{AreExpanded, Implements, ImplementsAll, IsAdded, IsCompiled, IsExpanded, IsNoCall, MatchesRuleAt}
-use Rattle.longest_match.proofs.States.{call_reads, get_within, set_at, set_other, split_reads}
+use Rattle.lexer_match.proofs.States.{call_reads, get_within, set_at, set_other, split_reads}
 use Rattle.lexer_nfa.proofs.Added.{set_closed}
-use Rattle.longest_match.proofs.Steps.{both_ways}
+use Rattle.lexer_match.proofs.Steps.{both_ways}
 
 two_states : (x y : State) → Some x ≡ Some y → x ≡ y
 two_states x y e = cc
@@ -21,17 +21,6 @@ either {A} = (pick, λ a. inl a)
     pick : A ⊎ A → A
     pick (inl a) = a
     pick (inr a) = a
-
--- a state that is no call stays
-pub expanded_not : (R : List WrittenRule) (old : List State) (number : ℕ) (state : State) → IsClosed old → slice_get old number ≡ Some state → IsNoCall state → IsExpanded R old old number
-expanded_not R old number state closed at none =
-    record {
-      longer = omega arith;
-      closed = closed;
-      kept = λ n h d. refl;
-      expanded = λ other there. let Q : State → Type 0 = λ x. IsNoCall x in subst Q (two_states state other (sym at ∙ there)) none;
-      means = λ low h P all. all;
-    }
 
 -- a call goes on where the states for its rule begin
 module _ (R : List WrittenRule) (old mid : List State) (number rule entry next : ℕ) (at : slice_get old number ≡ Some (State.Call rule next)) (some : 0 < number) (a : IsAdded R (MatchesRuleAt R rule) old mid entry next) where

@@ -38,10 +38,6 @@ module _ {X : Type 0} (key : X → ℕ) where
       let right = get_or-take n list j d j_in in
       omega (arith, never i j d before (omega (arith, j_in, h)), ap key left, ap key right)
 
-  pub drop_order : (n : ℕ) (list : List X) → n ≤ length list → NeverFall key list → NeverFall key (drop n list)
-  drop_order n list h never i j d before within =
-      omega (arith, never (n + i) (n + j) d (omega (arith, before)) (omega (arith, within, length-drop n list, h)), ap key (get_or-drop n list i d), ap key (get_or-drop n list j d))
-
   pub apart : (n : ℕ) (list : List X) → n ≤ length list → NeverFall key list → (a b : X) → Contains (take n list) a → Contains (drop n list) b → key a ≤ key b
   apart n list h never a b (i, k, e) (j, l, f) =
       let i_in : i < n = omega (arith, k, length-take-le n list h) in

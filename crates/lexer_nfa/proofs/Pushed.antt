@@ -9,12 +9,12 @@ use Rattle.grammar_tree.proofs.MatchForms as forms
 use Rattle.grammar_tree.specs.View.{lex_terms, lex_alts}
 use Rattle.grammar_tree.specs.declared.lex_term.LexAlts.{LexAlts, out-LexAlts}
 use Rattle.grammar_tree.specs.declared.lex_term.LexTerms.{LexTerms}
-use Rattle.longest_match.specs.declared.nfa.State.{State}
-use Rattle.longest_match.specs.declared.alternative.Alternative.{Alternative}
-use Rattle.longest_match.specs.Nfa.{Reads, GoesBelow, IsClosed, after}
-use Rattle.longest_match.specs.Reading.{IsRead}
+use Rattle.lexer_match.specs.declared.nfa.State.{State}
+use Rattle.lexer_match.specs.declared.alternative.Alternative.{Alternative}
+use Rattle.lexer_match.specs.Nfa.{Reads, GoesBelow, IsClosed, after}
+use Rattle.lexer_match.specs.Reading.{IsRead}
 use Rattle.lexer_nfa.specs.Compile.{HaveSame, IsCompiled}
-use Rattle.longest_match.specs.Alternatives.{HasAlternative, IsNfa}
+use Rattle.lexer_match.specs.Alternatives.{HasAlternative, IsNfa}
 use Rattle.grammar_tree.specs.Written.{TokenKind}
 use Rattle.grammar_tree.specs.Kinds.{kinds_of, lexer_rules}
 use Rattle.grammar_tree.specs.Lexes.{KindMatches, SourceMatches}
@@ -24,8 +24,8 @@ use Rattle.grammar_tree.specs.declared.rule.Kind.{Kind}
 use Rattle.std.specs.Option.{option_map}
 use Rattle.std.proofs.lemmas.Bool.{cases_lt}
 use Rattle.std.proofs.lemmas.Option.{slice_get-map, slice_get_read}
-use Rattle.longest_match.proofs.States.{get_within}
-use Rattle.longest_match.proofs.Steps.{after_inside}
+use Rattle.lexer_match.proofs.States.{get_within}
+use Rattle.lexer_match.proofs.Steps.{after_inside}
 use Rattle.lexer_nfa.proofs.Terms.{alts_out, take_all, take_at}
 
 -- what a closed NFA reads stays the same where states come after it
@@ -182,14 +182,6 @@ rule_snoc G (u ∷ ss) s w =
         MatchesRule G (lexer_alts (u ∷ ss)) w ⊎ MatchesAlternative G (lexer_seq s) w → MatchesAlternative G (lexer_seq u) w ⊎ MatchesRule G (lexer_alts (ss ++ s ∷ [])) w
     from f g (inr m) = inr (f (inr m))
     from f g (inl m) = elim (g m) [ inl k ↦ inl k | inr k ↦ inr (f (inl k)) ]
-
--- the rule up to an index, and with the alternative there
-pub rule_none : (G : List LexerRule) (P : List State) (before : List Alternative) (kind k : ℕ) (w : List ℕ) → HasAlternative P before k w ↔ (HasAlternative P before k w ⊎ ((k ≡ kind) × MatchesRule G LexerAlts.none w))
-rule_none G P before kind k w = (λ h. inl h, pick)
-  where
-    pick : HasAlternative P before k w ⊎ ((k ≡ kind) × MatchesRule G LexerAlts.none w) → HasAlternative P before k w
-    pick (inl h) = h
-    pick (inr (e, m)) = absurd ((forms.rule_by_form G).none w m)
 
 pub rule_more : (G : List LexerRule) (A B C : Type 0) (xs : List LexTerms) (i kind k : ℕ) (x : LexTerms) (w : List ℕ) → i < length xs → x ≡ slice_index_or xs i x →
     B ↔ (A ⊎ ((k ≡ kind) × MatchesRule G (lexer_alts (map lex_terms (take i xs))) w)) →

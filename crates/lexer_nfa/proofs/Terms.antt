@@ -10,8 +10,8 @@ use Rattle.grammar_tree.specs.declared.lex_term.LexAlts.{LexAlts, out-LexAlts, f
 use Rattle.grammar_tree.specs.declared.lex_term.LexTerms.{LexTerms, out-LexTerms, fold_out-LexTerms}
 use Rattle.grammar_tree.specs.declared.lex_term.LexTerm.{LexTerm}
 use Rattle.grammar_tree.proofs.MatchForms as forms
-use Rattle.longest_match.specs.declared.nfa.State.{State}
-use Rattle.longest_match.specs.Nfa.{IsClosed}
+use Rattle.lexer_match.specs.declared.nfa.State.{State}
+use Rattle.lexer_match.specs.Nfa.{IsClosed}
 use Rattle.lexer_nfa.specs.Compile.{IsAdded}
 use Rattle.lexer_nfa.proofs.Added.{added_as, added_nothing, added_never, added_opt, added_or, added_then}
 use Rattle.lexer_nfa.proofs.Compiled.{added_to}

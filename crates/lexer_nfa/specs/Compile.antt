@@ -4,8 +4,8 @@ use Rattle.grammar_tree.specs.Written.{LexerRule, WrittenRule}
 use Rattle.grammar_tree.specs.Kinds.{lexer_rules}
 use Rattle.grammar_tree.specs.Matches.{MatchesAlts}
 use Rattle.grammar_tree.specs.Laws.{CutsInto}
-use Rattle.longest_match.specs.declared.nfa.State.{State}
-use Rattle.longest_match.specs.Nfa.{Reads, IsClosed}
+use Rattle.lexer_match.specs.declared.nfa.State.{State}
+use Rattle.lexer_match.specs.Nfa.{Reads, IsClosed}
 
 -- From the low number up to but not including the high one, the two programs have the same states.
 abbrev pub HaveSame : List State → List State → ℕ → ℕ → Type 0

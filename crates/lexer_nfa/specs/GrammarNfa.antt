@@ -2,9 +2,9 @@
 use Rattle.std.specs.Prelude.{◌↔◌, ℕ, List}
 use Rattle.grammar_tree.specs.Written.{WrittenGrammar}
 use Rattle.grammar_tree.specs.Lexes.{KindMatches}
-use Rattle.longest_match.specs.declared.nfa.State.{State}
-use Rattle.longest_match.specs.declared.alternative.Alternative.{Alternative}
-use Rattle.longest_match.specs.Alternatives.{HasAlternative, IsNfa}
+use Rattle.lexer_match.specs.declared.nfa.State.{State}
+use Rattle.lexer_match.specs.declared.alternative.Alternative.{Alternative}
+use Rattle.lexer_match.specs.Alternatives.{HasAlternative, IsNfa}
 use Rattle.lexer_nfa.specs.Order.{AreUpTo, NeverFall}
 
 -- their kinds never fall, and none is above the last one

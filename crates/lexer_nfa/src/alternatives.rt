@@ -8,14 +8,14 @@ ghost use Rattle.grammar_tree.specs.Lexes.{SourceMatches};
 ghost use Rattle.grammar_tree.specs.Matches.{MatchesAlternative, MatchesRule};
 ghost use Rattle.grammar_tree.specs.View.{lex_alts, lex_terms};
 ghost use Rattle.grammar_tree.specs.Written.{WrittenGrammar, lexer_alts, lexer_seq};
-ghost use Rattle.longest_match.specs.Alternatives.{HasAlternative, IsNfa};
+ghost use Rattle.lexer_match.specs.Alternatives.{HasAlternative, IsNfa};
 ghost use Rattle.lexer_nfa.specs.GrammarNfa.{IsNfaOf, KindsAreUpTo};
 
 use crate::compile::{Budget, add_literal, compile};
 use crate::names::NamedRules;
 use faults::Memory;
 use grammar_tree::{Checked, Kind, KindSource, LexAlts, LexTerms, Text};
-use longest_match::{Alternative, State};
+use lexer_match::{Alternative, State};
 use std::alloc::Global;
 
 /// Adds an alternative of a lexer rule, whose kind has this number.

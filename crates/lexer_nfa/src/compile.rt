@@ -13,13 +13,13 @@ ghost use Rattle.grammar_tree.specs.Matches.{Matches, MatchesAlts, MatchesSeq};
 ghost use Rattle.grammar_tree.specs.View.{lex_alts, lex_term, lex_terms};
 ghost use Rattle.grammar_tree.specs.Written.{LexerTerm, WrittenRule, lexer_alts, lexer_seq};
 ghost use Rattle.lexer_nfa.specs.Compile.{AreExpanded, IsAdded, IsCompiled, IsExpanded, MatchesRuleAt};
-ghost use Rattle.longest_match.specs.Nfa.{IsClosed};
-ghost use Rattle.longest_match.specs.declared.nfa.State.{State};
+ghost use Rattle.lexer_match.specs.Nfa.{IsClosed};
+ghost use Rattle.lexer_match.specs.declared.nfa.State.{State};
 
 use crate::names::NamedRules;
 use faults::Memory;
 use grammar_tree::{CharSet, LexAlts, LexTerm, LexTerms, Text};
-use longest_match::State;
+use lexer_match::State;
 
 /// An NFA has at most so many states. Without this bound a short grammar would make a very large
 /// one, as fragments of which each names another one twice.

@@ -4,9 +4,9 @@ use Rattle.std.proofs.lemmas.Bool.{false≢true, and_parts, cond_both}
 use Rattle.std.specs.Prelude.{◌&&◌, ◌||◌, nat_lt}
 use Rattle.std.specs.List.{AllByRecursion}
 use Rattle.list_ddmin.specs.ListStep.{Outcome, list_step, kept_count, part, complement, IsOneMinimal}
-use Rattle.list_ddmin.specs.Machine.{State, Answered, Nothing, Parts, Complements, End, begun, start, asks, kept, after}
-use Rattle.list_ddmin.specs.Asked.{WasAsked, DeletionsAsked, EndsAtYes, KeepsLastYes, KeepsAllAtFirst}
-use Rattle.list_ddmin.proofs.Follows.{follows_list_step, agreeing_maps}
+use Rattle.list_ddmin.specs.Machine.{State, Nothing, Parts, Complements, End, begun, asks, kept, after}
+use Rattle.list_ddmin.specs.Asked.{WasAsked, DeletionsAsked, KeepsLastYes, KeepsAllAtFirst}
+use Rattle.list_ddmin.proofs.Follows.{agreeing_maps}
 use Rattle.list_ddmin.proofs.Minimal.{ends_one_minimal}
 
 kept-begun : (keep : List Bool) (n : ℕ) → kept (begun keep n) ≡ keep
@@ -115,18 +115,3 @@ deletions_asked verdict len k = (
   λ is. deletion_asked verdict len k true (λ map same. (ends_one_minimal map len).0) is,
   λ two is. deletion_asked verdict len k false (λ map same. (ends_one_minimal map len).1 (subst (λ (o : Outcome). 2 ≤ kept_count o.result) same two)) is,
 )
-
-kept_is_yes : (verdict : List Bool → Bool) (state : State) (question : List Bool) (answer : Bool) → asks state ≡ Some question → verdict question ≡ answer → verdict (kept state) ≡ true
-    → verdict (kept (after state answer)) ≡ true
-kept_is_yes verdict state question true asked says before = rw (kept-yes state question asked) says
-kept_is_yes verdict state question false asked says before = rw (kept-no state) before
-
-ends_yes : (verdict : List Bool → Bool) (questions : List (List Bool)) (state : State) (result : List Bool) → Answered verdict state questions result → verdict (kept state) ≡ true → verdict result ≡ true
-ends_yes verdict [] state result run before = subst (λ keep. verdict keep ≡ true) run.1 before
-ends_yes verdict (question ∷ questions) state result run before =
-    ends_yes verdict questions (after state (verdict question)) result run.1 (kept_is_yes verdict state question (verdict question) run.0 refl before)
-
-pub ends_at_yes : EndsAtYes
-ends_at_yes verdict len may_be_empty whole =
-    ends_yes verdict (list_step verdict len may_be_empty).questions (start len may_be_empty) (list_step verdict len may_be_empty).result
-    (follows_list_step verdict len may_be_empty) (rw (keeps_all_at_first len may_be_empty) whole)

@@ -1,7 +1,7 @@
 -- How many elements are kept.
-use Rattle.std.proofs.Common.{◌≡◌, ℕ, suc, zero, ◌<◌, true, false, [], ◌∷◌, replicate, arith, refl, ap, subst}
+use Rattle.std.proofs.Common.{◌≡◌, ℕ, suc, zero, ◌<◌, true, false, [], ◌∷◌, replicate, arith, refl, subst}
 use Rattle.list_ddmin.specs.ListStep.{kept_count, part, complement}
-use Rattle.list_ddmin.specs.Machine.{Nothing, Parts, Complements, End, kept, CountsKept, CountIsWithin, CountsAllOnlyOfAll, EachYesIsSmaller}
+use Rattle.list_ddmin.specs.Machine.{Nothing, Parts, Complements, End, kept, CountsKept, EachYesIsSmaller}
 use Rattle.list_ddmin.proofs.Borders.{kept_count-part}
 use Rattle.list_ddmin.proofs.Minimal.{kept_count-all}
 
@@ -10,16 +10,6 @@ length-kept_of X [] xs same = refl
 length-kept_of X (kept ∷ keep) [] same = absurd (omega arith)
 length-kept_of X (true ∷ keep) (x ∷ xs) same = omega (arith, length-kept_of X keep xs (omega arith))
 length-kept_of X (false ∷ keep) (x ∷ xs) same = omega (arith, length-kept_of X keep xs (omega arith))
-
-pub kept_count_within : CountIsWithin
-kept_count_within [] = omega arith
-kept_count_within (true ∷ keep) = omega (arith, kept_count_within keep)
-kept_count_within (false ∷ keep) = omega (arith, kept_count_within keep)
-
-pub all_kept : CountsAllOnlyOfAll
-all_kept [] same = refl
-all_kept (true ∷ keep) same = ap (λ l. true ∷ l) (all_kept keep (omega arith))
-all_kept (false ∷ keep) same = absurd (omega (arith, kept_count_within keep))
 
 pub kept_count-none : (len : ℕ) → kept_count (replicate len false) ≡ 0
 kept_count-none zero = refl

@@ -6,36 +6,36 @@ use Rattle.std.proofs.lemmas.List.{length-replicate}
 use Rattle.std.specs.Prelude.{◌&&◌, nat_lt}
 use Rattle.list_ddmin.specs.declared.machine.Phase.{Phase}
 use Rattle.list_ddmin.specs.declared.machine.Phase.TheVariants.{Nothing, Parts, Complements, End}
-use Rattle.list_ddmin.specs.ListStep.{kept_count, those, border, part, complement}
+use Rattle.list_ddmin.specs.ListStep.{kept_count, kept_where, border, part, complement}
 use Rattle.list_ddmin.specs.Machine as machine
-use Rattle.list_ddmin.specs.Machine.{State, IsSound, begun, after}
-use Rattle.list_ddmin.specs.Fields.{state_of, IsWhole, begun_phase, next_phase, first_phase_of, chosen, Numbered, Marks, Agrees}
+use Rattle.list_ddmin.specs.Machine.{IsSound, begun, after}
+use Rattle.list_ddmin.specs.Fields.{state_of, IsWhole, begun_phase, next_phase, first_phase_of, chosen, Marks, Agrees}
 use Rattle.list_ddmin.proofs.Minimal.{length-part, length-complement, kept_count-all}
 use Rattle.list_ddmin.proofs.Follows.{IsSound-after, IsSound-start}
 
 none_chosen : (place : ℕ) → chosen 0 0 true place ≡ false
 none_chosen place = grind (arith, nat_tests)
 
-pub those-none : (place : ℕ) (keep : List Bool) → those (chosen 0 0 true) place keep ≡ replicate (length keep) false
-those-none place [] = refl
-those-none place (true ∷ keep) = let here : chosen 0 0 true place ≡ false = none_chosen place in let rest = those-none (place + 1) keep in cc
-those-none place (false ∷ keep) = ap (λ l. false ∷ l) (those-none place keep)
+pub kept_where-none : (place : ℕ) (keep : List Bool) → kept_where (chosen 0 0 true) place keep ≡ replicate (length keep) false
+kept_where-none place [] = refl
+kept_where-none place (true ∷ keep) = let here : chosen 0 0 true place ≡ false = none_chosen place in let rest = kept_where-none (place + 1) keep in cc
+kept_where-none place (false ∷ keep) = ap (λ l. false ∷ l) (kept_where-none place keep)
 
-pub those-part : (keep : List Bool) (size n i low high : ℕ) → size ≡ kept_count keep → low ≡ border size n i → high ≡ border size n (i + 1)
-    → those (chosen low high true) 0 keep ≡ part keep n i
+pub kept_where-part : (keep : List Bool) (size n i low high : ℕ) → size ≡ kept_count keep → low ≡ border size n i → high ≡ border size n (i + 1)
+    → kept_where (chosen low high true) 0 keep ≡ part keep n i
 unfolding part
-those-part keep size n i low high counted from to =
+kept_where-part keep size n i low high counted from to =
     let from' : low ≡ border (kept_count keep) n i = from ∙ ap (λ s. border s n i) counted in
     let to' : high ≡ border (kept_count keep) n (i + 1) = to ∙ ap (λ s. border s n (i + 1)) counted in
-    λ j. those (chosen (from' j) (to' j) true) 0 keep
+    λ j. kept_where (chosen (from' j) (to' j) true) 0 keep
 
-pub those-complement : (keep : List Bool) (size n i low high : ℕ) → size ≡ kept_count keep → low ≡ border size n i → high ≡ border size n (i + 1)
-    → those (chosen low high false) 0 keep ≡ complement keep n i
+pub kept_where-complement : (keep : List Bool) (size n i low high : ℕ) → size ≡ kept_count keep → low ≡ border size n i → high ≡ border size n (i + 1)
+    → kept_where (chosen low high false) 0 keep ≡ complement keep n i
 unfolding complement
-those-complement keep size n i low high counted from to =
+kept_where-complement keep size n i low high counted from to =
     let from' : low ≡ border (kept_count keep) n i = from ∙ ap (λ s. border s n i) counted in
     let to' : high ≡ border (kept_count keep) n (i + 1) = to ∙ ap (λ s. border s n (i + 1)) counted in
-    λ j. those (chosen (from' j) (to' j) false) 0 keep
+    λ j. kept_where (chosen (from' j) (to' j) false) 0 keep
 
 pub Marks-length : (phase : Phase) (keep asked : List Bool) → Marks phase keep asked → length asked ≡ length keep
 Marks-length Nothing keep asked marks = ap length marks ∙ length-replicate (length keep) false
@@ -116,12 +116,6 @@ answered phase next keep asked now marked answer size agrees asking now_is size_
     subst (λ p. P p now) (sym next')
     (subst (λ k. P (next_phase phase answer (kept_count (cond answer asked keep))) k) (sym now_is)
     (Agrees-next phase keep asked marked answer agrees asking marks', state_of-next_phase phase keep asked answer agrees.whole agrees.marked asking))
-
-pub Numbered-sound : (phase : Phase) (keep : List Bool) → IsSound (state_of phase keep) → Numbered phase
-Numbered-sound Nothing keep sound = tt
-Numbered-sound (Parts n at) keep sound = (sound.two, sound.at)
-Numbered-sound (Complements n at) keep sound = (sound.two, sound.at)
-Numbered-sound End keep sound = tt
 
 pub state_of-first : (len : ℕ) (may_be_empty : Bool) → state_of (first_phase_of len may_be_empty) (replicate len true) ≡ machine.start len may_be_empty
 state_of-first len may_be_empty =

@@ -2,7 +2,7 @@
 use Rattle.std.proofs.Common.{◌≡◌, ℕ, suc, zero, ◌+◌, ◌-◌, ◌*◌, ◌<◌, ◌⊎◌, inl, inr, min, max, Bool, true, false, cond, List, [], ◌∷◌, Some, length, replicate, arith, refl, ap, subst}
 use Rattle.std.proofs.lemmas.Bool.{cond_both}
 use Rattle.std.specs.Prelude.{nat_lt}
-use Rattle.list_ddmin.specs.ListStep.{kept_count, those, part, complement}
+use Rattle.list_ddmin.specs.ListStep.{kept_count, kept_where, part, complement}
 use Rattle.list_ddmin.specs.Machine.{State, Nothing, Parts, Complements, End, begun, after, asks, kept, IsSound}
 use Rattle.list_ddmin.specs.Asked.{KeepsOnlyOf, KeepsFewer, IsNothing, AsksFewer, AsksForNothingFirst}
 use Rattle.list_ddmin.proofs.Borders.{kept_count-part}
@@ -24,18 +24,18 @@ only-both (a ∷ first) (b ∷ second) (c ∷ third) left right = ((λ is. right
 pub only-fewer : {first second third : List Bool} → KeepsFewer first second → KeepsFewer second third → KeepsFewer first third
 only-fewer {first} {second} {third} left right = record { only = only-both first second third left.only right.only; fewer = omega arith }
 
-only-those : (test : ℕ → Bool) (place : ℕ) (keep : List Bool) → KeepsOnlyOf (those test place keep) keep
-only-those test place [] = tt
-only-those test place (true ∷ keep) = ((λ is. refl), only-those test (place + 1) keep)
-only-those test place (false ∷ keep) = ((λ is. is), only-those test place keep)
+only-kept_where : (test : ℕ → Bool) (place : ℕ) (keep : List Bool) → KeepsOnlyOf (kept_where test place keep) keep
+only-kept_where test place [] = tt
+only-kept_where test place (true ∷ keep) = ((λ is. refl), only-kept_where test (place + 1) keep)
+only-kept_where test place (false ∷ keep) = ((λ is. is), only-kept_where test place keep)
 
 pub only-part : (keep : List Bool) (n i : ℕ) → KeepsOnlyOf (part keep n i) keep
 unfolding part
-only-part keep n i = only-those _ 0 keep
+only-part keep n i = only-kept_where _ 0 keep
 
 pub only-complement : (keep : List Bool) (n i : ℕ) → KeepsOnlyOf (complement keep n i) keep
 unfolding complement
-only-complement keep n i = only-those _ 0 keep
+only-complement keep n i = only-kept_where _ 0 keep
 
 only-none : (len : ℕ) → KeepsOnlyOf (replicate len false) (replicate len true)
 only-none zero = tt

@@ -3,7 +3,7 @@ use Rattle.std.proofs.Common.{◌≡◌, ℕ, suc, zero, ◌+◌, ◌-◌, ◌<�
 use Rattle.std.proofs.lemmas.Bool.{cases_lt}
 use Rattle.std.proofs.lemmas.Bool.Decides.{nat_tests}
 use Rattle.std.specs.Prelude.{◌&&◌, nat_le, nat_lt}
-use Rattle.list_ddmin.specs.ListStep.{kept_count, kept_of, those, border, part, complement}
+use Rattle.list_ddmin.specs.ListStep.{kept_count, kept_of, kept_where, border, part, complement}
 use Rattle.list_ddmin.specs.Machine.{PartsAreSlices}
 use Rattle.list_ddmin.proofs.Borders.{border_rises}
 
@@ -45,11 +45,11 @@ module _ {X : Type 0} (x : X) (xs : List X) (lo hi place : ℕ) where
       ∙ sym (ap (λ n. take n (drop (lo - place) (x ∷ xs))) none ∙ take_none (drop (lo - place) (x ∷ xs)))
 
 pub kept_of-part : (X : Type 0) (lo hi place : ℕ) (keep : List Bool) (xs : List X) → length xs ≡ length keep
-    → kept_of (those (λ r. nat_le lo r && nat_lt r hi) place keep) xs ≡ take (hi - max lo place) (drop (lo - place) (kept_of keep xs))
+    → kept_of (kept_where (λ r. nat_le lo r && nat_lt r hi) place keep) xs ≡ take (hi - max lo place) (drop (lo - place) (kept_of keep xs))
 kept_of-part X lo hi place [] xs same = of_none X (hi - max lo place) (lo - place)
 kept_of-part X lo hi place (kept ∷ keep) [] same = absurd (omega arith)
 kept_of-part X lo hi place (true ∷ keep) (x ∷ xs) same =
-    let others = those (λ r. nat_le lo r && nat_lt r hi) (place + 1) keep in
+    let others = kept_where (λ r. nat_le lo r && nat_lt r hi) (place + 1) keep in
     let rest = kept_of-part X lo hi (place + 1) keep xs (omega arith) in
     ⊎_elim
     (λ before.
@@ -96,11 +96,11 @@ module _ {X : Type 0} (x : X) (xs : List X) (lo hi place : ℕ) (order : lo ≤ 
       (λ i. x ∷ (take (one i) xs ++ drop (two i) xs)) ∙ (λ i. take (three i) (x ∷ xs) ++ drop (four i) (x ∷ xs))
 
 pub kept_of-complement : (X : Type 0) (lo hi place : ℕ) (keep : List Bool) (xs : List X) → lo ≤ hi → length xs ≡ length keep
-    → kept_of (those (λ r. not (nat_le lo r && nat_lt r hi)) place keep) xs ≡ take (lo - place) (kept_of keep xs) ++ drop (hi - place) (kept_of keep xs)
+    → kept_of (kept_where (λ r. not (nat_le lo r && nat_lt r hi)) place keep) xs ≡ take (lo - place) (kept_of keep xs) ++ drop (hi - place) (kept_of keep xs)
 kept_of-complement X lo hi place [] xs order same = of_none_joined X (lo - place) (hi - place)
 kept_of-complement X lo hi place (kept ∷ keep) [] order same = absurd (omega arith)
 kept_of-complement X lo hi place (true ∷ keep) (x ∷ xs) order same =
-    let others = those (λ r. not (nat_le lo r && nat_lt r hi)) (place + 1) keep in
+    let others = kept_where (λ r. not (nat_le lo r && nat_lt r hi)) (place + 1) keep in
     let rest = kept_of-complement X lo hi (place + 1) keep xs order (omega arith) in
     ⊎_elim
     (λ before.

@@ -37,11 +37,6 @@ DeletionsAsked = (verdict : List Bool → Bool) (len k : ℕ) →
     × (2 ≤ kept_count (list_step verdict len false).result → slice_get (list_step verdict len false).result k ≡ Some true
     → WasAsked (list_step verdict len false).questions (slice_set (list_step verdict len false).result k false))
 
--- A yes is never lost: where the whole list is a yes, the end is one.
-abbrev pub EndsAtYes : Type 0
-EndsAtYes = (verdict : List Bool → Bool) (len : ℕ) (may_be_empty : Bool) → verdict (replicate len true) ≡ true
-    → verdict (list_step verdict len may_be_empty).result ≡ true
-
 -- A yes keeps what was asked, a no keeps what was kept, and at a start everything is kept.
 abbrev pub KeepsLastYes : Type 0
 KeepsLastYes = (state : State) (question : List Bool) → asks state ≡ Some question

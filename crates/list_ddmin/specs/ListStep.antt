@@ -19,10 +19,10 @@ kept_of (true ∷ keep) (x ∷ xs) = x ∷ kept_of keep xs
 kept_of (false ∷ keep) (x ∷ xs) = kept_of keep xs
 
 -- Of the kept elements those whose place passes a test. A place counts the kept elements alone: the first kept element of the list has the place that is given.
-abbrev pub those : (ℕ → Bool) → ℕ → List Bool → List Bool
-those test place [] = []
-those test place (true ∷ keep) = test place ∷ those test (place + 1) keep
-those test place (false ∷ keep) = false ∷ those test place keep
+abbrev pub kept_where : (ℕ → Bool) → ℕ → List Bool → List Bool
+kept_where test place [] = []
+kept_where test place (true ∷ keep) = test place ∷ kept_where test (place + 1) keep
+kept_where test place (false ∷ keep) = false ∷ kept_where test place keep
 
 -- the place where part i of n begins, the first part being part 0, in a list of this size
 abbrev pub border : ℕ → ℕ → ℕ → ℕ
@@ -34,11 +34,11 @@ is_in_part size n i place = nat_le (border size n i) place && nat_lt place (bord
 
 -- part i of n of the kept elements
 unfoldable pub part : List Bool → ℕ → ℕ → List Bool
-part keep n i = those (is_in_part (kept_count keep) n i) 0 keep
+part keep n i = kept_where (is_in_part (kept_count keep) n i) 0 keep
 
 -- the kept elements that aren't in part i of n
 unfoldable pub complement : List Bool → ℕ → ℕ → List Bool
-complement keep n i = those (λ place. not (is_in_part (kept_count keep) n i place)) 0 keep
+complement keep n i = kept_where (λ place. not (is_in_part (kept_count keep) n i place)) 0 keep
 
 -- what a procedure asks, in order, and what it ends with
 pub record Outcome : Type 0 where

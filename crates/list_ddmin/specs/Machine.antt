@@ -161,16 +161,6 @@ StartsWithAll = (len : ℕ) (may_be_empty : Bool) → length (kept (start len ma
 abbrev pub CountsKept : Type 0 → Type 0
 CountsKept X = (keep : List Bool) (xs : List X) → length xs ≡ length keep → length (kept_of keep xs) ≡ kept_count keep
 
-abbrev pub CountIsWithin : Type 0
-CountIsWithin = (keep : List Bool) → kept_count keep ≤ length keep
-
-abbrev pub CountOfAll : Type 0
-CountOfAll = (n : ℕ) → kept_count (replicate n true) ≡ n
-
--- Only the list that keeps all elements counts them all.
-abbrev pub CountsAllOnlyOfAll : Type 0
-CountsAllOnlyOfAll = (keep : List Bool) → kept_count keep ≡ length keep → keep ≡ replicate (length keep) true
-
 -- What is asked keeps fewer elements than what is kept, so each yes is a smaller list.
 abbrev pub EachYesIsSmaller : Type 0
 EachYesIsSmaller = (state : State) (question : List Bool) → IsSound state → asks state ≡ Some question → kept_count question < kept_count (kept state)

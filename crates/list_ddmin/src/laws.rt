@@ -1,29 +1,13 @@
 //! What holds of the states of the machine, and of the list step, for the proofs of callers.
 
 ghost use Rattle.std.specs.Prelude.{ℕ, List};
-ghost use Rattle.list_ddmin.specs.Asked.{AsksFewer, AsksForNothingFirst, DeletionsAsked, EndsAtYes, KeepsAllAtFirst, KeepsLastYes};
-ghost use Rattle.list_ddmin.specs.Machine.{AgreeingMaps, AsksAsKept, BeginsListStep, CountIsWithin, CountOfAll, CountsAllOnlyOfAll, CountsKept, EachYesIsSmaller, EndsOneMinimal, FollowsListStep, GoesByItsSteps, GoesOn, KeepsLength, PartsAreSlices, QuestionsFit, RestFits, StartsWithAll, StopsAtEnd};
+ghost use Rattle.list_ddmin.specs.Asked.{AsksFewer, AsksForNothingFirst, DeletionsAsked};
+ghost use Rattle.list_ddmin.specs.Machine.{AgreeingMaps, AsksAsKept, EndsOneMinimal, FollowsListStep, GoesByItsSteps, KeepsLength, PartsAreSlices, QuestionsFit, RestFits, StartsWithAll};
 
 /// Answered from any map, the machine asks the questions of the list step in their order, and
 /// ends with its result.
 pub fn follows_list_step()
     ensures { FollowsListStep }
-{}
-
-/// At a start the machine has the whole list step before it.
-pub fn begins_list_step()
-    ensures { BeginsListStep }
-{}
-
-/// What one answer does: the list step goes one question on, the state stays sound, and fewer
-/// answers are left.
-pub fn goes_on()
-    ensures { GoesOn }
-{}
-
-/// A machine that asks nothing has nothing of the list step before it.
-pub fn stops_at_end()
-    ensures { StopsAtEnd }
 {}
 
 /// The list step over two maps is the same, if they agree on what it asks over the first. So a
@@ -58,34 +42,10 @@ pub fn questions_fit()
     ensures started { StartsWithAll }
 {}
 
-/// How many elements a keep list keeps. Here the elements are lists, as lines are.
-pub fn counts_kept()
-    ensures elements { CountsKept (List ℕ) }
-    ensures within { CountIsWithin }
-    ensures all { CountOfAll }
-    ensures only_all { CountsAllOnlyOfAll }
-{}
-
-/// What is asked keeps fewer elements than what is kept, so each yes makes the list smaller.
-pub fn each_yes_is_smaller()
-    ensures { EachYesIsSmaller }
-{}
-
 /// Each list with one element fewer than the end was asked. Where not all elements may go, this is
 /// said of an end with two elements or more.
 pub fn deletions_asked()
     ensures { DeletionsAsked }
-{}
-
-/// A yes is never lost: where the whole list is a yes, so is the end.
-pub fn ends_at_yes()
-    ensures { EndsAtYes }
-{}
-
-/// What the machine keeps is what the last yes asked, and everything before a yes.
-pub fn keeps_last_yes()
-    ensures answered { KeepsLastYes }
-    ensures started { KeepsAllAtFirst }
 {}
 
 /// What is asked is some of the elements that are kept, and not all of them. None at all is asked

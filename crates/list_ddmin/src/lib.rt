@@ -23,9 +23,8 @@ mod tests;
 
 pub use faults::Memory;
 pub use laws::{
-    agreeing_maps, asks_fewer, begins_list_step, counts_kept, deletions_asked, each_yes_is_smaller,
-    ends_at_yes, ends_one_minimal, follows_list_step, goes_by_its_steps, goes_on, keeps_last_yes,
-    parts_are_slices, questions_fit, stops_at_end,
+    agreeing_maps, asks_fewer, deletions_asked, ends_one_minimal, follows_list_step,
+    goes_by_its_steps, parts_are_slices, questions_fit,
 };
 pub use machine::Ddmin;
 pub use plain::{Outcome, Test, plain_list_step};

@@ -1,7 +1,7 @@
 //! The list step as a machine that is asked and answered.
 
 ghost use Rattle.std.specs.Prelude.{◌≡◌, ◌+◌, ◌*◌, ◌/◌, ◌^◌, ◌<◌, ◌≤◌, ◌↔◌, length, IfOk, IsSome, option_copied, MatchOption, Some, None, if◌then◌else◌};
-ghost use Rattle.list_ddmin.specs.ListStep.{border, kept_count, those};
+ghost use Rattle.list_ddmin.specs.ListStep.{border, kept_count, kept_where};
 ghost use Rattle.list_ddmin.specs.Machine.{IsSound, after, asks, kept, start};
 ghost use Rattle.list_ddmin.specs.Fields.{begun_phase, chosen, first_phase_of, next_phase, Numbered, Marks};
 
@@ -147,7 +147,7 @@ pub(crate) fn border_of(size: u32, n: u32, i: u32) -> u32
 fn mark_places(asked: &mut [bool], keep: &[bool], low: u32, high: u32, inside: bool)
     requires same { length asked.old ≡ length keep.now }
     requires few { length keep.now < 2 ^ 32 }
-    ensures { asked.new ≡ those (chosen low high inside) 0 keep.now }
+    ensures { asked.new ≡ kept_where (chosen low high inside) 0 keep.now }
 {
     let mut place: u32 = 0;
     for k in 0..keep.len() {

@@ -73,10 +73,6 @@ star_inverse {N = N} n of at (of_star r s w h m) e =
     let P : Sym → Type 0 = λ x. NormalDerivesMany N x w in subst P same m
 star_inverse n of at (of_plus r s u v h d m) e = absurd (cc)
 
--- the parts of what two symbols derive
-abbrev pub Two : NormalForm → Sym → Sym → List ℕ → Type 0
-Two N s t w = (u : List ℕ) × (v : List ℕ) × (w ≡ u ++ v) × NormalDerives N s u × NormalDerives N t v
-
 all_inverse_nil : {N : NormalForm} {ss : List Sym} {w : List ℕ} → NormalDerivesSeq N ss w → ss ≡ [] → w ≡ []
 all_inverse_nil of_done e = refl
 all_inverse_nil (of_next s ss u v d h) e = absurd (cc)

@@ -23,7 +23,7 @@ use Rattle.normal_form.proofs.Languages.{sets_among}
 use Rattle.normal_form.proofs.Named.{At_all, IsThere, group_at}
 use Rattle.normal_form.proofs.Origins.{Origin, RuleAt, in_groups, origin}
 use Rattle.normal_form.proofs.Parts.{HasKinds, HasKindsAlts, HasKindsSeq, Setting, alts_size, seq_size, size}
-use Rattle.direct_recursion.proofs.Resolving.{kind_term, name_term}
+use Rattle.grammar_check_recursion.proofs.Resolving.{kind_term, name_term}
 use Rattle.normal_form.proofs.SetNumbers.{set_is_there}
 
 abbrev pub setting : CheckedGrammar → Setting

@@ -13,9 +13,9 @@ use Rattle.grammar_names.specs.KindLists.{IsPartOf, is_in}
 use Rattle.normal_form.specs.NormalOf.{alts_sets, normal_of, seq_sets, sets_of, term_sets}
 use Rattle.normal_form.specs.Form.{NormalForm}
 use Rattle.normal_form.specs.FormLaws.{AreVisibleKinds, PartsAreVisible, PartsAreVisibleKinds, SetsAreVisibleKinds}
-use Rattle.kind_sets.proofs.Lacking.{all_part, kept_part, none_part, part_rises}
+use Rattle.normal_form_sets.proofs.Lacking.{all_part, kept_part, none_part, part_rises}
 use Rattle.normal_form.proofs.Lists.{Contains-only}
-use Rattle.direct_recursion.proofs.Resolving.{kind_term, name_term}
+use Rattle.grammar_check_recursion.proofs.Resolving.{kind_term, name_term}
 
 -- a number of a kind that isn't a gap kind, where the first kind has the number n
 abbrev IsVisible : ℕ → List TokenKind → ℕ → Type 0

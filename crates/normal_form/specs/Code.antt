@@ -20,7 +20,8 @@ symbol_same (Kind k) = refl
 symbol_same (Set i) = refl
 symbol_same (Rule r) = refl
 
-abbrev symbol_coded : Coded Sym
+-- symbols have a code
+abbrev pub symbol_coded : Coded Sym
 symbol_coded = code_by (ℕ × ℕ) (coded× coded_ℕ coded_ℕ) symbol_parts symbol_back symbol_same
 
 -- the kind of the form, its symbol, and its alternatives

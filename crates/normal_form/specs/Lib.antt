@@ -1,10 +1,5 @@
-pub use Rattle.grammar_tree.specs.Written
-pub use Rattle.grammar_tree.specs.Kinds
-pub use Rattle.grammar_tree.specs.Derives
-pub use Rattle.grammar_tree.specs.Corners
-pub use Rattle.grammar_tree.specs.Checked
-pub use Rattle.grammar_tree.specs.Laws as GrammarLaws
-pub use Rattle.kind_sets.specs.Sets
+pub use Rattle.grammar_tree.specs as GrammarTree
+pub use Rattle.normal_form_sets.specs.Sets
 pub mod Form
 pub mod NormalDerives
 pub mod Numbering

@@ -2,13 +2,14 @@
 //!
 //! Each rule of a [`Normal`] has alternatives of symbols, or is an optional, a star or a plus of one
 //! symbol. Each value of the type is the normal form of some checked grammar ([`Normal::is_normal`]),
-//! which has the same languages ([`equal_languages`]); the crate `normalisation` makes it, and
-//! `normal_print` prints it.
+//! which has the same languages ([`equal_languages`]); the crate `normal_form_build` makes it, and
+//! `normal_form_print` prints it.
 //!
 //! The definitions are in `specs/`: what a normal form is and derives (`Form.antt`,
 //! `NormalDerives.antt`; read these first), which rules a grammar's terms give and how they are
 //! numbered (`Numbering.antt`, `NormalOf.antt`), and what holds of every normal form (`Symbols.antt`,
-//! `FormLaws.antt`), for trees and a parser.
+//! `FormLaws.antt`), for trees and a parser. In every normal form no rule is on a cycle of left corners
+//! ([`no_left_recursion`]).
 #![tactic(auto)]
 
 mod form_laws;

@@ -6,7 +6,7 @@ ghost use Rattle.normal_form.specs.View.{alts_form, normal_form, rule_form};
 
 use faults::Memory;
 use grammar_tree::Text;
-use kind_sets::KindSets;
+use normal_form_sets::KindSets;
 use std::alloc::Global;
 use std::marker::Model;
 

@@ -15,10 +15,11 @@ use crate::outcome::{Outcome, Refused};
 use crate::seat::{Seat, is_held, new_seats, seat_of};
 use edge_io::Sink;
 use reduce_journal::{Event, write_head};
-use script_gate::Gate;
+use reduce_step::Step;
+use script_gate_trait::Gate;
 use std::alloc::Global;
 use std::marker::{Model, PhantomData};
-use verdict_table::{Step, Table};
+use verdict_table::Table;
 
 /// What the workers of one run share: the front, which is the reducer that is committed to; the records
 /// and open claims; the history, and the journal that it is written to; and the fault that is kept, if

@@ -1,8 +1,9 @@
 //! How a worker gets a text to ask about.
 
 ghost use Rattle.std.specs.Prelude.{◌≡◌, ◌≤◌, ◌*◌, ◌+◌, None, Some, true, IfOk, IfSome, find, length, position, vec_capacity};
-ghost use Rattle.verdict_table.specs.Ahead.{ahead};
-ghost use Rattle.verdict_table.specs.Plan.{asked};
+ghost use Rattle.reduce_step.specs.Limits.{text_limit};
+ghost use Rattle.reduce_step.specs.Ahead.{ahead};
+ghost use Rattle.reduce_step.specs.Plan.{asked};
 ghost use Rattle.ordered_commit.specs.BoardState.{IsSettled};
 ghost use Rattle.verdict_table.specs.TableState.{found_in};
 ghost use Rattle.ordered_commit.specs.Claiming.{ClaimsNext, is_absent, is_claimed};
@@ -17,9 +18,10 @@ use edge_io::Sink;
 use faults::Memory;
 use gate_permits::Permit;
 use reduce_journal::Event;
-use script_gate::{Bytes, Gate};
+use reduce_step::Step;
+use script_gate_trait::{Bytes, Gate};
 use std::alloc::Global;
-use verdict_table::{Found, Step, Table};
+use verdict_table::{Found, Table};
 
 /// Whether the table holds neither a record nor an open claim of the text.
 fn is_absent(table: &Table, text: &[u8]) -> bool
@@ -50,7 +52,7 @@ fn first_absent(table: &Table, texts: &[Bytes]) -> Option<usize>
 /// A copy of the text that the front asks, where the table doesn't hold it.
 fn own_text<S: Step>(alloc: Global, front: &S, table: &Table) -> Result<Option<Bytes>, Memory>
     ensures own { IfOk result (λ text. IfSome text (λ text. (asked (S.plan front.now) ≡ Some text) × (is_absent table.now text ≡ true))) }
-    ensures short { IfOk result (λ text. IfSome text (λ text. length text ≤ 1048576)) }
+    ensures short { IfOk result (λ text. IfSome text (λ text. length text ≤ text_limit)) }
 {
     match front.asks() {
         Some(text) if is_absent(table, text) => Ok(Some(Bytes::from_slice(alloc, text)?)),
@@ -68,7 +70,7 @@ fn next_text<S: Step>(
 ) -> Result<Option<Bytes>, Memory>
     requires { 1 ≤ most }
     ensures text { IfOk result (λ text. text ≡ find (is_absent table.now) (ahead most (S.plan front.now))) }
-    ensures short { IfOk result (λ text. IfSome text (λ text. length text ≤ 1048576)) }
+    ensures short { IfOk result (λ text. IfSome text (λ text. length text ≤ text_limit)) }
 {
     if let Some(text) = own_text(alloc, front, table)? {
         return Ok(Some(text));
@@ -90,7 +92,7 @@ fn claim_next<S: Step>(
 ) -> Result<Option<Permit>, Memory>
     requires { (1 ≤ workers) × (workers ≤ 16) }
     ensures claim { ClaimsNext (ahead (2 * workers) (S.plan front.now)) result table.old table.new }
-    ensures short { IfOk result (λ permit. IfSome permit (λ permit. length permit.text ≤ 1048576)) }
+    ensures short { IfOk result (λ permit. IfSome permit (λ permit. length permit.text ≤ text_limit)) }
     ensures events { events.new.items ≡ events.old.items }
     ensures capacity { vec_capacity events.old ≤ vec_capacity events.new }
     ensures places { IfOk result (λ permit. IfSome permit (λ permit. length events.old.items + workers ≤ vec_capacity events.new)) }

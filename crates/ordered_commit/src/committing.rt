@@ -2,7 +2,7 @@
 
 ghost use Rattle.std.specs.Prelude.{◌≡◌, ◌≤◌, ◌<◌, ◌+◌, IsSome, IsErrOf, length, vec_capacity};
 ghost use Rattle.faults.specs.Count.{Rose};
-ghost use Rattle.verdict_table.specs.Plan.{asked};
+ghost use Rattle.reduce_step.specs.Plan.{asked};
 ghost use Rattle.ordered_commit.specs.CommitEnds.{CommitEnds, WritesCommit};
 ghost use Rattle.ordered_commit.specs.Numbers.{number_asked};
 ghost use Rattle.ordered_commit.specs.Writes.{HasSameName};
@@ -11,8 +11,9 @@ use crate::board::Board;
 use crate::fault::{BoardFault, PoolFault};
 use edge_io::Sink;
 use reduce_journal::{Event, write_event};
-use script_gate::{Gate, Verdict};
-use verdict_table::{Found, Step, Table};
+use reduce_step::Step;
+use script_gate_trait::{Gate, Verdict};
+use verdict_table::{Found, Table};
 
 /// The number and the verdict of the record of the text that the front asks.
 fn next_commit<S: Step>(front: &S, table: &Table) -> Option<(u64, Verdict)>

@@ -3,7 +3,7 @@
 //!
 //! Read `specs/BoardState.antt` first, then `specs/Kept.antt`: what holds of every board. Enter by
 //! [`Board::new`], which gives a [`Seat`] for each worker. A worker commits while it can and takes,
-//! asks, and records or gives up; each call is a move of `commit_moves` or none
+//! asks, and records or gives up; each call is a move of `ordered_commit_moves` or none
 //! (`specs/CommitEnds.antt`, `specs/TakeEnds.antt`, `specs/RecordEnds.antt`). No call waits. So a
 //! worker goes on:
 //!

@@ -16,8 +16,8 @@ use crate::seat::{Seat, put_seat, with_record, without_claim};
 use edge_io::{Sink, SinkFault};
 use gate_permits::{Answer, Unasked};
 use reduce_journal::{Event, write_event};
-use script_gate::Gate;
-use verdict_table::Step;
+use reduce_step::Step;
+use script_gate_trait::Gate;
 
 /// Writes the event, but while a journal fault is kept nothing.
 fn write_unless_broken<J: Sink>(
@@ -61,7 +61,7 @@ impl<S: Step + Drop, G: Gate, J: Sink + Drop> Board<S, G, J> {
         *seat = with_record(*seat);
         put_seat(&mut self.seats, *seat);
         let event = Event::Recorded {
-            text: answer.into_token(),
+            text: answer.into_text(),
             verdict,
         };
         let written = write_unless_broken(&mut self.journal, self.fault, &event);

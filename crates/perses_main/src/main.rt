@@ -4,7 +4,7 @@
 //! (`--grammar F`), of the input's tree, with `--mode hdd` by deletions alone; or of the input's lines
 //! (`--mode lines`). It keeps a journal beside the output, and prints a report at the end. `perses normal
 //! --grammar F` prints the normal form of a grammar, and `perses selftest` reduces a generated program in
-//! memory. All words are in `docs/FORMATS.md`. The work is done by the top call, [`top_call::perses`],
+//! memory. All words are in `docs/FORMATS.md`. The work is done by the top call, [`command_perses::perses`],
 //! whose contract is the program's; here it gets the machine's files, processes, a file for the journal,
 //! and standard output.
 #![tactic(auto)]
@@ -12,11 +12,11 @@
 mod args;
 
 use args::words_of;
+use command_perses::perses;
 use edge_io::{DiskFiles, StreamSink};
 use script_gate::ProcessGate;
 use std::io;
 use std::process::ExitCode;
-use top_call::perses;
 
 /// Runs the program over the machine's files, processes and standard output.
 fn run_program(rt: &HostRuntime) -> io::Result<u8> {

@@ -1,10 +1,10 @@
 -- How reductions end, whatever the mode.
 use Rattle.std.proofs.Common.{◌≡◌, ℕ, Bool, List, Option, Result, sym, subst}
 use Rattle.std.specs.Prelude.{IfOk, IsTrue}
-use Rattle.script_gate.specs.declared.gate.Verdict.{Verdict}
-use Rattle.verdict_table.specs.Plan.{End, StepResult, follow}
-use Rattle.reduction_rounds.specs.RoundsPlan.{plan_first}
-use Rattle.tree_mode.specs.Input.{TreeInput}
+use Rattle.script_gate_trait.specs.declared.gate.Verdict.{Verdict}
+use Rattle.reduce_step.specs.Plan.{End, StepResult, follow}
+use Rattle.reduce_rounds.specs.RoundsPlan.{plan_first}
+use Rattle.reduce_trees_mode.specs.Input.{TreeInput}
 use Rattle.plain_reducer.specs.declared.reduction.Mode.{Mode}
 use Rattle.plain_agreement.specs.RoundsOf.{rounds_of}
 

@@ -1,8 +1,8 @@
 -- The reductions by rounds that a plain reduction is compared with.
-use Rattle.reduction_rounds.specs.Mode.{RoundMode}
-use Rattle.tree_mode.specs.Input.{TreeInput, TreeState}
-use Rattle.tree_rounds.specs.HddMode.{hdd_mode}
-use Rattle.tree_rounds.specs.PersesMode.{perses_mode}
+use Rattle.reduce_rounds.specs.Mode.{RoundMode}
+use Rattle.reduce_trees_mode.specs.Input.{TreeInput, TreeState}
+use Rattle.reduce_trees.specs.HddMode.{hdd_mode}
+use Rattle.reduce_trees.specs.PersesMode.{perses_mode}
 use Rattle.plain_reducer.specs.declared.reduction.Mode.{Mode}
 use Rattle.plain_reducer.specs.declared.reduction.Mode.TheVariants.{Perses, Hdd}
 

@@ -1,8 +1,8 @@
 ghost use Rattle.std.specs.Prelude.{◌≡◌, ◌↔◌, IfOk, IsTrue, Some};
-ghost use Rattle.verdict_table.specs.Plan.{End, asked, follow};
-ghost use Rattle.reduction_rounds.specs.RoundsPlan.{plan_first};
-ghost use Rattle.tree_rounds.specs.HddMode.{hdd_mode};
-ghost use Rattle.tree_rounds.specs.PersesMode.{perses_mode};
+ghost use Rattle.reduce_step.specs.Plan.{End, asked, follow};
+ghost use Rattle.reduce_rounds.specs.RoundsPlan.{plan_first};
+ghost use Rattle.reduce_trees.specs.HddMode.{hdd_mode};
+ghost use Rattle.reduce_trees.specs.PersesMode.{perses_mode};
 ghost use Rattle.plain_reducer.specs.Results.{result_of};
 ghost use Rattle.plain_reducer.specs.Verdicts.{verdicts_by};
 ghost use Rattle.plain_agreement.specs.RoundsOf.{rounds_of};
@@ -10,10 +10,10 @@ ghost use Rattle.plain_agreement.specs.RoundsOf.{rounds_of};
 use faults::Memory;
 use keep_guard::Relation;
 use plain_reducer::{Mode, Reduction, VerdictRule};
-use reduction_rounds::ReducerStep;
+use reduce_rounds::ReducerStep;
+use reduce_step::Step;
+use reduce_trees::{HasInput, TreeParts, hdd_reducer, perses_reducer};
 use std::alloc::Global;
-use tree_rounds::{HasInput, TreeParts, hdd_reducer, perses_reducer};
-use verdict_table::Step;
 
 /// Whether this text is asked now.
 fn is_asked<S: Step>(reducer: &S, text: &[u8]) -> bool

@@ -1,12 +1,12 @@
 -- How a reduction of a text ends, as it is defined.
 use Rattle.std.specs.Prelude.{◌≡◌, ℕ, Bool, List, [], Option}
 use Rattle.grammar_tree.specs.Written.{CheckedGrammar}
-use Rattle.grammar_input.specs.Parsed.{IsInputOf}
+use Rattle.reduce_trees_input.specs.Parsed.{IsInputOf}
 use Rattle.keep_guard.specs.Keep.{keeps_admit}
-use Rattle.script_gate.specs.declared.gate.Verdict.{Verdict}
-use Rattle.verdict_table.specs.Plan.{End, StepResult, follow}
-use Rattle.reduction_rounds.specs.RoundsPlan.{plan_first}
-use Rattle.tree_mode.specs.Input.{TreeInput}
+use Rattle.script_gate_trait.specs.declared.gate.Verdict.{Verdict}
+use Rattle.reduce_step.specs.Plan.{End, StepResult, follow}
+use Rattle.reduce_rounds.specs.RoundsPlan.{plan_first}
+use Rattle.reduce_trees_mode.specs.Input.{TreeInput}
 use Rattle.plain_reducer.specs.declared.reduction.Mode.{Mode}
 use Rattle.plain_agreement.specs.RoundsOf.{rounds_of}
 

@@ -8,10 +8,10 @@ ghost use Rattle.plain_comparison.specs.Ends.{EndsAs};
 use crate::parts::{found, tree_parts};
 use compat_table::compat;
 use faults::Memory;
-use grammar_input::ParsedInput;
 use grammar_tree::Checked;
 use plain_agreement::agrees_with_plain;
 use plain_reducer::{Mode, Problem, Reduction, VerdictRule, reduced};
+use reduce_trees_input::ParsedInput;
 use std::alloc::Global;
 
 /// What is reduced.

@@ -2,22 +2,24 @@
 
 ghost use Rattle.std.specs.Prelude.{◌≡◌, ◌≤◌, [], IfOk, length};
 ghost use Rattle.std.specs.Option.{IfSome};
-ghost use Rattle.grammar_input.specs.Parsed.{MakesInputOf, tree_input};
+ghost use Rattle.reduce_step.specs.Limits.{text_limit};
+ghost use Rattle.reduce_trees_input.specs.Parsed.{MakesInputOf, tree_input};
 ghost use Rattle.grammar_tree.specs.Faults.{IsWellFormed};
 ghost use Rattle.keep_guard.specs.Keep.{keeps_admit};
 ghost use Rattle.plain_comparison.specs.Found.{IsFound};
 
 use compat_table::compat;
 use faults::Memory;
-use grammar_input::{InputFault, ParsedInput, parsed_input};
 use grammar_tree::Checked;
 use keep_guard::{Guard, KeepTexts};
+use reduce_step::TEXT_LIMIT;
+use reduce_trees::{HasInput, TreeParts};
+use reduce_trees_input::{InputFault, ParsedInput, parsed_input};
 use std::alloc::Global;
-use tree_rounds::{HasInput, TreeParts};
 
 /// What is found in a text of the grammar.
 fn found_in(alloc: Global, grammar: &Checked, start: &str) -> Result<ParsedInput, InputFault>
-    requires { length start.now ≤ 1048576 }
+    requires { length start.now ≤ text_limit }
     ensures found { IfOk result IsFound }
     ensures input { IfOk result (MakesInputOf grammar.now start.now) }
 {
@@ -35,7 +37,7 @@ pub(crate) fn found(
     ensures found { IfOk result (λ found. IfSome found IsFound) }
     ensures input { IfOk result (λ found. IfSome found (MakesInputOf grammar.now start.now)) }
 {
-    if start.len() > 1_048_576 {
+    if start.len() > TEXT_LIMIT {
         return Ok(None);
     }
     match found_in(alloc, grammar, start) {

@@ -8,13 +8,13 @@ use Rattle.grammar_tree.specs.Written.{LexerTerm, LexerSeq, LexerAlts, LexerRule
 use Rattle.grammar_tree.specs.Kinds.{lexer_rules, same_text}
 use Rattle.grammar_tree.specs.Matches.{Matches, MatchesMany, MatchesSeq, MatchesAlts}
 use Rattle.grammar_tree.proofs.Places.{at_of_contains, contains_later, lexer_place}
-use Rattle.pattern_spans.specs.Patterns.{Pattern, Spans}
-use Rattle.pattern_spans.specs.Positions.{IsExact, Known as rows_known, Many, SpansBy}
-use Rattle.pattern_spans.specs.declared.chart.Row.{Row}
+use Rattle.plain_matches.specs.Patterns.{Pattern, Spans}
+use Rattle.plain_matches.specs.Positions.{IsExact, Known as rows_known, Many, SpansBy}
+use Rattle.plain_matches.specs.declared.chart.Row.{Row}
 use Rattle.plain_matches.specs.Spelled.{named_from, or_rule, spelled, spelled_alts, spelled_rule, spelled_rules, spelled_seq, spelled_text}
-use Rattle.pattern_spans.proofs.Reading.{Reads, join, cut}
-use Rattle.pattern_spans.proofs.Spanned.{spans_of, exact_ends}
-use Rattle.pattern_spans.proofs.Ones.{one_only, one_itself}
+use Rattle.plain_matches.proofs.Reading.{Reads, join, cut}
+use Rattle.plain_matches.proofs.Spanned.{spans_of, exact_ends}
+use Rattle.plain_matches.proofs.Ones.{one_only, one_itself}
 
 -- a lexer rule at a position among all rules is a lexer rule
 contains_at : (rules : List WrittenRule) (r : ℕ) (rule : LexerRule) → slice_get rules r ≡ Some (WrittenRule.lexer_rule rule) → Contains (lexer_rules rules) rule

@@ -3,10 +3,10 @@ use Rattle.std.proofs.Common.{◌≡◌, ◌<◌, ◌+◌, ◌↔◌, ℕ, Bool,
 use Rattle.grammar_tree.specs.Written.{LexerTerm, LexerSeq, WrittenRule}
 use Rattle.grammar_tree.specs.Kinds.{lexer_rules}
 use Rattle.grammar_tree.specs.Matches.{Matches, MatchesAlternative, MatchesSeq, is_short}
-use Rattle.pattern_spans.specs.Positions.{IsExact, IsIn, Known, SpansBy}
+use Rattle.plain_matches.specs.Positions.{IsExact, IsIn, Known, SpansBy}
 use Rattle.plain_matches.specs.Spelled.{spelled, spelled_rules, spelled_seq}
-use Rattle.pattern_spans.specs.declared.chart.Row.{Row}
-use Rattle.pattern_spans.proofs.Reading.{front_of, reads_front, reads_whole, whole_of}
+use Rattle.plain_matches.specs.declared.chart.Row.{Row}
+use Rattle.plain_matches.proofs.Reading.{front_of, reads_front, reads_whole, whole_of}
 use Rattle.plain_matches.proofs.LexerMeaning.{term_meaning, seq_meaning}
 
 module _ (rules : List WrittenRule) (K : List ℕ) (rows : List Row) (exact : IsExact rows (spelled_rules rules) K (length K + 1)) (ends : List Bool) where

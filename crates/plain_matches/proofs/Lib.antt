@@ -1,3 +1,13 @@
+pub mod Marks
+pub mod Ends
+pub mod Rows
+pub mod Views
+pub mod Pairs
+pub mod Spanned
+pub mod Ones
+pub mod Reading
+pub mod Lent
+pub mod Pushed
 pub mod LexerViews
 pub mod LexerMeaning
 pub mod LexerResults

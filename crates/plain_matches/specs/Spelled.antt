@@ -2,7 +2,7 @@
 use Rattle.std.specs.Prelude.{ℕ, suc, Bool, true, false, List, [], ◌∷◌, map}
 use Rattle.grammar_tree.specs.Written.{LexerTerm, LexerSeq, LexerAlts, WrittenRule}
 use Rattle.grammar_tree.specs.Kinds.{same_text}
-use Rattle.pattern_spans.specs.Patterns.{Pattern}
+use Rattle.plain_matches.specs.Patterns.{Pattern}
 
 -- exactly this text
 abbrev pub spelled_text : List ℕ → Pattern

@@ -10,13 +10,14 @@ ghost use Rattle.grammar_tree.specs.Kinds.{lexer_rules};
 ghost use Rattle.grammar_tree.specs.Matches.{Matches, MatchesAlternative, MatchesRule};
 ghost use Rattle.grammar_tree.specs.View.{lex_alts, lex_term, lex_terms};
 ghost use Rattle.grammar_tree.specs.Written.{lexer_alts, lexer_seq};
-ghost use Rattle.pattern_spans.specs.Positions.{Fit, IsExact, IsIn, Known, SpansBy};
+ghost use Rattle.plain_matches.specs.Positions.{Fit, IsExact, IsIn};
 ghost use Rattle.plain_matches.specs.Spelled.{is_lexer_rule_named, named_from, spelled, spelled_alts, spelled_rule, spelled_rules, spelled_seq, spelled_text};
-ghost use Rattle.pattern_spans.specs.View.{pattern};
+ghost use Rattle.plain_matches.specs.View.{pattern};
 
+use crate::chart::{Row, closed_rows, ends_from_start};
+use crate::pattern::Pattern;
 use faults::Memory;
 use grammar_tree::{Grammar, LexAlts, LexTerm, LexTerms, Rule, Text};
-use pattern_spans::{Pattern, Row, closed_rows, ends_from_start};
 use std::alloc::Global;
 
 /// Whether the term, in this grammar, matches the whole text. A non-greedy loop in it is read as a
@@ -26,7 +27,8 @@ pub fn matches(alloc: Global, grammar: &Grammar, term: &LexTerm, text: &str) -> 
 {
     let list = characters(alloc, text)?;
     let rows = rule_rows(alloc, &grammar.rules, &list)?;
-    let ends = term_ends(alloc, &grammar.rules, &rows, &list, term)?;
+    let whole = term_pattern(alloc, &grammar.rules, term)?;
+    let ends = ends_from_start(alloc, &rows, &list, &whole)?;
     Ok(ends[list.len()])
 }
 
@@ -78,7 +80,8 @@ fn alternative_matches(
     requires exact { IsExact rows.now (spelled_rules (map rule_of rules.now)) list.now (length list.now + 1) }
     ensures { IfOk result (λ b. IsTrue b ↔ MatchesAlternative (lexer_rules (map rule_of rules.now)) (lexer_seq (lex_terms terms.now)) list.now) }
 {
-    let ends = seq_ends(alloc, rules, rows, list, terms)?;
+    let whole = seq_pattern(alloc, rules, terms)?;
+    let ends = ends_from_start(alloc, rows, list, &whole)?;
     if !ends[list.len()] {
         return Ok(false);
     }
@@ -110,40 +113,6 @@ fn rule_rows(alloc: Global, rules: &[Rule], list: &[u32]) -> Result<Vec<Row>, Me
     let bodies = rule_patterns(alloc, rules)?;
     let rows = closed_rows(alloc, &bodies, list)?;
     Ok(rows)
-}
-
-/// Up to which positions the term spans from the list's start.
-fn term_ends(
-    alloc: Global,
-    rules: &[Rule],
-    rows: &[Row],
-    list: &[u32],
-    term: &LexTerm,
-) -> Result<Vec<bool>, Memory>
-    requires { Fit rows.now (length list.now + 1) }
-    ensures len { IfOk result (λ ends. vec_len ends ≡ length list.now + 1) }
-    ensures ends { IfOk result (λ ends. (j : ℕ) → IsIn ends.items j ↔ SpansBy (Known rows.now) list.now (spelled (map rule_of rules.now) (lex_term term.now)) 0 j) }
-{
-    let whole = term_pattern(alloc, rules, term)?;
-    let ends = ends_from_start(alloc, rows, list, &whole)?;
-    Ok(ends)
-}
-
-/// Up to which positions the terms span from the list's start.
-fn seq_ends(
-    alloc: Global,
-    rules: &[Rule],
-    rows: &[Row],
-    list: &[u32],
-    terms: &LexTerms,
-) -> Result<Vec<bool>, Memory>
-    requires { Fit rows.now (length list.now + 1) }
-    ensures len { IfOk result (λ ends. vec_len ends ≡ length list.now + 1) }
-    ensures ends { IfOk result (λ ends. (j : ℕ) → IsIn ends.items j ↔ SpansBy (Known rows.now) list.now (spelled_seq (map rule_of rules.now) (lexer_seq (lex_terms terms.now))) 0 j) }
-{
-    let whole = seq_pattern(alloc, rules, terms)?;
-    let ends = ends_from_start(alloc, rows, list, &whole)?;
-    Ok(ends)
 }
 
 /// The pattern of each rule, at its position.

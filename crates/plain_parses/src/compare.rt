@@ -3,14 +3,13 @@
 use crate::lists::{advance, first_list};
 use crate::plain::{Forest, Plain, PlainNode, preferred};
 use anyhow::{Result, bail};
-use grammar_tests::checked;
+use cases_answers::start_tree;
 use grammar_tree::Checked;
-use language_trees::start_tree;
 use normal_form::{Normal, NormalRule, Sym};
-use normalisation::normalise;
-use plain_derivations::start_derives;
+use normal_form_build::normalise;
 use std::alloc::Global;
 use syntax_tree::{Node, Tree};
+use test_grammars::checked;
 
 /// How deep the plain parser may go.
 const DEPTH: u32 = 200;
@@ -101,9 +100,6 @@ fn compare_list(alloc: Global, language: &Language, kinds: &[u32]) -> Result<boo
             "of {kinds:?} the parser's tree isn't the preferred one of {}",
             trees.len()
         );
-    }
-    if answer.is_some() != start_derives(alloc, &language.checked, kinds)? {
-        bail!("{kinds:?} has a tree and isn't derived, or has none and is derived");
     }
     Ok(answer.is_some())
 }

@@ -1,10 +1,10 @@
 //! Compares the parser with a plain one on all short lists of kinds, for the gate.
 //!
 //! A line of the input is a length and a grammar, with a blank between. For each list of at most so
-//! many of the grammar's kinds the parser's answer has to be the preferred one of all trees, where
-//! there are any, and whether it has one is what the grammar as written says. The program prints how
-//! many lists there are and how many of them have a tree, and ends with the first list for which
-//! something differs. The numbers in `stdout` are counted from the grammars by hand.
+//! many of the grammar's kinds the parser's answer has to be the preferred one of all trees, or none
+//! where there are none. The program prints how many lists there are and how many of them have a tree,
+//! and ends with the first list for which something differs. The numbers in `stdout` are counted from
+//! the grammars by hand.
 #![tactic(auto)]
 
 mod compare;

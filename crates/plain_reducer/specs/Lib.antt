@@ -1,4 +1,3 @@
 pub mod Verdicts
 pub mod Texts
-pub mod Forms
 pub mod Results

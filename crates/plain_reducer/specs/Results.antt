@@ -1,6 +1,6 @@
 -- What a plain reduction comes to.
 use Rattle.std.specs.Prelude.{false, length}
-use Rattle.verdict_table.specs.Plan.{StepResult}
+use Rattle.reduce_step.specs.Plan.{StepResult}
 use Rattle.plain_reducer.specs.declared.reduction.Reduction.{Reduction}
 
 -- Its text, how many tokens that has, how many questions there were, and how many rounds. Its start was answered yes.

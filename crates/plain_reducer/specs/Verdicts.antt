@@ -1,8 +1,8 @@
 -- The rule of verdicts by which the reducers are compared.
 use Rattle.std.specs.Prelude.{ℕ, ◌+◌, ◌*◌, ◌%◌, ◌==◌, ◌||◌, Bool, List, Option, Some, if◌then◌else◌, fold}
 use Rattle.std.specs.Str.{bytes_eq}
-use Rattle.script_gate.specs.declared.gate.Verdict.{Verdict}
-use Rattle.script_gate.specs.declared.gate.Verdict.TheVariants.{Yes, No}
+use Rattle.script_gate_trait.specs.declared.gate.Verdict.{Verdict}
+use Rattle.script_gate_trait.specs.declared.gate.Verdict.TheVariants.{Yes, No}
 
 -- the number of a text that is one byte longer
 abbrev pub next_number : ℕ → ℕ → ℕ

@@ -2,8 +2,6 @@
 //! list step. It answers its questions itself, by a rule of verdicts.
 
 ghost use Rattle.std.specs.Prelude.{◌≡◌, ◌++◌, ◌∷◌, [], IfOk, OnOk, if◌then◌else◌};
-ghost use Rattle.normal_form.specs.View.{rule_form};
-ghost use Rattle.plain_reducer.specs.Forms.{visited_as};
 ghost use Rattle.plain_reducer.specs.Verdicts.{has_yes};
 
 use crate::texts::listed_text;
@@ -104,37 +102,22 @@ pub fn reduced(problem: Problem) -> Result<Reduction, Memory> {
     Ok(asked)
 }
 
-/// How a node is visited, by its rule.
-#[derive(Clone, Copy)]
-enum Form {
-    Star,
-    Plus,
-    Optional,
-    Regular,
-    Leaf,
-}
-
-/// How the nodes of a rule are visited.
-fn form_of_rule(rule: &NormalRule) -> Form
-    ensures { result ≡ visited_as (rule_form rule.now) }
-{
-    match rule {
-        NormalRule::Star(_) => Form::Star,
-        NormalRule::Plus(_) => Form::Plus,
-        NormalRule::Opt(_) => Form::Optional,
-        NormalRule::Regular(_) => Form::Regular,
-    }
-}
-
-/// How the nodes with this symbol are visited.
-fn form_of(normal: &Normal, symbol: Sym) -> Form {
+/// The rule of the nodes with this symbol, by which they are visited. A token has none.
+fn rule_of(normal: &Normal, symbol: Sym) -> Option<&NormalRule> {
     match symbol {
-        Sym::Kind(_) | Sym::Set(_) => Form::Leaf,
-        Sym::Rule(rule) => match normal.rules().get(rule as usize) {
-            Some(rule) => form_of_rule(rule),
-            None => Form::Leaf,
-        },
+        Sym::Kind(_) | Sym::Set(_) => None,
+        Sym::Rule(rule) => normal.rules().get(rule as usize),
     }
+}
+
+/// What is kept when a part of a list is tried.
+#[derive(Clone, Copy)]
+enum Kept {
+    /// The part alone.
+    Part,
+
+    /// All but the part.
+    Rest,
 }
 
 impl Reduction {
@@ -252,14 +235,14 @@ impl Reducer<'_> {
 
     /// The children of those of these nodes that are lists or optionals.
     fn loose_children(&self, parents: &[LeftNode]) -> Result<Vec<LeftNode>, Memory> {
-        let alloc = self.problem.alloc;
+        let Problem { alloc, compat, .. } = self.problem;
         let mut nodes = Vec::new(alloc);
         for parent in parents {
-            match form_of(self.problem.compat.normal(), parent.symbol) {
-                Form::Star | Form::Plus | Form::Optional => {
+            match rule_of(compat.normal(), parent.symbol) {
+                Some(NormalRule::Star(_) | NormalRule::Plus(_) | NormalRule::Opt(_)) => {
                     nodes.extend_from_slice(&children(alloc, &self.tree, *parent)?)?;
                 }
-                Form::Regular | Form::Leaf => {}
+                Some(NormalRule::Regular(_)) | None => {}
             }
         }
         Ok(nodes)
@@ -280,8 +263,8 @@ impl Reducer<'_> {
     fn has_empty_plus(&self, tree: &[LeftNode]) -> Result<bool, Memory> {
         let Problem { alloc, compat, .. } = self.problem;
         for node in tree {
-            let is_plus = match form_of(compat.normal(), node.symbol) {
-                Form::Plus => true,
+            let is_plus = match rule_of(compat.normal(), node.symbol) {
+                Some(NormalRule::Plus(_)) => true,
                 _ => false,
             };
             if is_plus && children(alloc, tree, *node)?.is_empty() {
@@ -315,20 +298,20 @@ impl Reducer<'_> {
 
     /// Tries what is tried of a node. The answer is the nodes that wait in its stead.
     fn visit(&mut self, node: LeftNode) -> Result<Vec<LeftNode>, Memory> {
-        let alloc = self.problem.alloc;
+        let Problem { alloc, compat, .. } = self.problem;
         let content = children(alloc, &self.tree, node)?;
-        match form_of(self.problem.compat.normal(), node.symbol) {
-            Form::Star => self.list_step(content, true)?,
-            Form::Plus => self.list_step(content, false)?,
-            Form::Optional => {
+        match rule_of(compat.normal(), node.symbol) {
+            Some(NormalRule::Star(_)) => self.list_step(content, true)?,
+            Some(NormalRule::Plus(_)) => self.list_step(content, false)?,
+            Some(NormalRule::Opt(_)) => {
                 self.try_without(&content)?;
             }
-            Form::Regular => {
+            Some(NormalRule::Regular(_)) => {
                 if let Some(by) = self.try_descendants(node)? {
                     return Ok(Vec::from_slice(alloc, &[by])?);
                 }
             }
-            Form::Leaf => {}
+            None => {}
         }
         children(alloc, &self.tree, node)
     }
@@ -406,9 +389,9 @@ impl Reducer<'_> {
             if left.len() < 2 {
                 return Ok(());
             }
-            if self.try_parts(&mut left, n)? {
+            if self.try_parts(&mut left, n, Kept::Part)? {
                 n = 2;
-            } else if self.try_rests(&mut left, n)? {
+            } else if self.try_parts(&mut left, n, Kept::Rest)? {
                 n = n.saturating_sub(1).max(2);
             } else if n < left.len() {
                 n = n.saturating_mul(2).min(left.len());
@@ -419,28 +402,26 @@ impl Reducer<'_> {
         Err(Memory)
     }
 
-    /// Tries each of n parts of these nodes alone, up to the first yes, after which it is left.
-    fn try_parts(&mut self, nodes: &mut Vec<LeftNode>, n: usize) -> Result<bool, Memory> {
+    /// Tries each of n parts of these nodes alone, or all but it, up to the first yes, after which that
+    /// is left.
+    fn try_parts(
+        &mut self,
+        nodes: &mut Vec<LeftNode>,
+        n: usize,
+        kept: Kept,
+    ) -> Result<bool, Memory> {
         let alloc = self.problem.alloc;
         for i in 0..n {
             let from = part_start(nodes.len(), n, i);
             let to = part_start(nodes.len(), n, i + 1);
-            if self.try_without(&outside(alloc, nodes, from, to)?)? {
-                *nodes = inside(alloc, nodes, from, to)?;
-                return Ok(true);
-            }
-        }
-        Ok(false)
-    }
-
-    /// Tries these nodes without each of n parts, up to the first yes, after which the rest is left.
-    fn try_rests(&mut self, nodes: &mut Vec<LeftNode>, n: usize) -> Result<bool, Memory> {
-        let alloc = self.problem.alloc;
-        for i in 0..n {
-            let from = part_start(nodes.len(), n, i);
-            let to = part_start(nodes.len(), n, i + 1);
-            if self.try_without(&inside(alloc, nodes, from, to)?)? {
-                *nodes = outside(alloc, nodes, from, to)?;
+            let part = inside(alloc, nodes, from, to)?;
+            let rest = outside(alloc, nodes, from, to)?;
+            let (left, cut) = match kept {
+                Kept::Part => (part, rest),
+                Kept::Rest => (rest, part),
+            };
+            if self.try_without(&cut)? {
+                *nodes = left;
                 return Ok(true);
             }
         }

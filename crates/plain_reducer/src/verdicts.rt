@@ -3,7 +3,7 @@
 ghost use Rattle.std.specs.Prelude.{◌≡◌, Some};
 ghost use Rattle.plain_reducer.specs.Verdicts.{has_yes, next_number, number_of, verdicts_by};
 
-use script_gate::Verdict;
+use script_gate_trait::Verdict;
 
 /// A rule of verdicts: the start has yes, and of the other texts about one in so many.
 #[derive(Clone, Copy)]

@@ -10,10 +10,10 @@
 
 use anyhow::Result;
 use faults::Memory;
-use grammar_tests::checked;
 use grammar_tree::Checked;
 use plain_comparison::{Case, Mode, answer};
 use std::alloc::{AllocError, Global};
+use test_grammars::checked;
 
 /// Statements with nested blocks and expressions.
 const STATEMENTS: &str =

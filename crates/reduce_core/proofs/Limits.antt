@@ -4,6 +4,7 @@ use Rattle.std.proofs.lemmas.Bool.{cond_both}
 use Rattle.std.proofs.lemmas.List.{length-append}
 use Rattle.std.specs.Prelude.{◌==◌}
 use Rattle.list_ddmin.specs.ListStep.{kept_of}
+use Rattle.reduce_step.specs.Limits.{text_limit}
 use Rattle.reduce_core.specs.declared.lines.Line.{Line}
 use Rattle.reduce_core.specs.Lines.{at_front_of, lines_of, numbered_lines, text_of}
 use Rattle.reduce_core.specs.Fields.{IsInLimit}
@@ -40,7 +41,7 @@ length-lines_of (byte ∷ text) =
     cond_both (byte == 10) ((byte ∷ []) ∷ lines_of text) (at_front_of byte (lines_of text)) (λ lines. length lines ≤ length (byte ∷ text))
     (λ _. omega arith) (λ _. let front = length-at_front_of byte (lines_of text) in omega arith)
 
-pub limit-lines_of : (text : List ℕ) → length text ≤ 1048576 → IsInLimit (numbered_lines text)
+pub limit-lines_of : (text : List ℕ) → length text ≤ text_limit → IsInLimit (numbered_lines text)
 limit-lines_of text short = record {
   few = let fewer = length-lines_of text in omega (arith, length-numbered 0 (lines_of text));
   short = let same = ap length (text-numbered_lines text) in omega arith;

@@ -5,11 +5,11 @@ use Rattle.list_ddmin.specs.ListStep.{kept_of}
 use Rattle.list_ddmin.specs.Machine.{start as list_start}
 use Rattle.list_ddmin.specs.Asked.{KeepsFewer, KeepsOnlyOf}
 use Rattle.list_ddmin.proofs.Counts.{length-kept_of as count-kept_of}
-use Rattle.reduction_rounds.specs.Trials.{EachIsSmaller, IsTriedAtNo}
-use Rattle.reduction_rounds.specs.Mode.{IsLawful, Keeps, TriesEdits}
-use Rattle.list_trials.proofs.Tried.{becomes_smaller, tries_selections}
-use Rattle.list_trials.proofs.AtNo.{tries_deletions}
-use Rattle.reduction_rounds.specs.Trials.{Done}
+use Rattle.reduce_rounds.specs.Trials.{EachIsSmaller, IsTriedAtNo}
+use Rattle.reduce_rounds.specs.Mode.{IsLawful, Keeps, TriesEdits}
+use Rattle.reduce_list_trials.proofs.Tried.{becomes_smaller, tries_selections}
+use Rattle.reduce_list_trials.proofs.AtNo.{tries_deletions}
+use Rattle.reduce_rounds.specs.Trials.{Done}
 use Rattle.reduce_core.specs.declared.lines.Line.{Line}
 use Rattle.reduce_core.specs.Lines.{numbered_lines}
 use Rattle.reduce_core.specs.LineMode.{AreOfStart, IsLineEdit, LineInput, line_mode, line_trials}

@@ -7,8 +7,8 @@ use Rattle.list_ddmin.specs.ListStep.{Outcome, kept_of, list_step}
 use Rattle.list_ddmin.specs.Machine.{AgreeingMaps, QuestionsFit}
 use Rattle.reduce_core.specs.declared.lines.Line.{Line}
 use Rattle.reduce_core.specs.Lines.{numbered_lines}
-use Rattle.reduce_core.specs.Reduction.{Admits, Reduction, after_round, asks_first, candidate, ends_with, is_listed_at, next_round, reduction, round_of, rounds_of, rounds_within, texts_asked}
-use Rattle.reduce_core.proofs.Rounds.{rounds_of-step}
+use Rattle.reduce_core.specs.Reduction.{Admits, LineReduction, after_line_round, asks_lines_first, candidate, ends_at_lines, is_listed_at, next_round, line_reduction, line_round_of, line_rounds, line_rounds_within, texts_asked}
+use Rattle.reduce_core.proofs.Rounds.{line_rounds-step}
 use Rattle.std.proofs.lemmas.Bool.{cond_both, eqb-true, eqb-false}
 use Rattle.std.specs.Prelude.{◌==◌}
 use Rattle.std.specs.Bool.{beq}
@@ -207,18 +207,18 @@ pub answered-none : (verdict : List Bool → Bool) → IsAnswered verdict [] []
 answered-none verdict keep = refl
 
 -- each round adds one to the count, and there are at most so many
-rounds-within-few : (admits : Admits) (verdict : List ℕ → Bool) (n : ℕ) (lines : List Line) → (rounds_within n admits verdict lines).rounds ≤ n
-unfolding rounds_within
+rounds-within-few : (admits : Admits) (verdict : List ℕ → Bool) (n : ℕ) (lines : List Line) → (line_rounds_within n admits verdict lines).rounds ≤ n
+unfolding line_rounds_within
 rounds-within-few admits verdict zero lines = omega arith
 rounds-within-few admits verdict (suc n) lines =
-    let left : List Line = kept_of (round_of admits verdict lines).result lines in
-    let few : (next_round (λ l. rounds_within n admits verdict l) lines left).rounds ≤ n =
-    cond_both (length left == length lines) (ends_with lines false) (rounds_within n admits verdict left) (λ r. r.rounds ≤ n)
+    let left : List Line = kept_of (line_round_of admits verdict lines).result lines in
+    let few : (next_round (λ l. line_rounds_within n admits verdict l) lines left).rounds ≤ n =
+    cond_both (length left == length lines) (ends_at_lines lines false) (line_rounds_within n admits verdict left) (λ r. r.rounds ≤ n)
     (λ _. omega arith) (λ _. rounds-within-few admits verdict n left) in
     omega arith
 
-pub rounds-few : (admits : Admits) (verdict : List ℕ → Bool) (lines : List Line) → (rounds_of admits verdict lines).rounds ≤ suc (length lines)
-unfolding rounds_of
+pub rounds-few : (admits : Admits) (verdict : List ℕ → Bool) (lines : List Line) → (line_rounds admits verdict lines).rounds ≤ suc (length lines)
+unfolding line_rounds
 rounds-few admits verdict lines = rounds-within-few admits verdict (suc (length lines)) lines
 
 eqb-same : (m n : ℕ) → m ≡ n → (m == n) ≡ true
@@ -228,29 +228,29 @@ differ : (m n : ℕ) → m ≢ n → (m == n) ≡ false
 differ m n other = ⊎_elim (λ same. absurd (other (eqb-true m n same))) (λ is. is) (either (m == n))
 
 module _ (admits : Admits) (verdict : List ℕ → Bool) (lines : List Line) (o : Outcome) (texts : List (List ℕ)) (left : List Line)
-    (round_is : o ≡ round_of admits verdict lines) (texts_are : texts ≡ texts_asked admits lines o.questions) (left_is : left ≡ kept_of o.result lines) where
-  by-parts : (later : Reduction) → later ≡ next_round (λ l. rounds_of admits verdict l) lines left → after_round texts later ≡ rounds_of admits verdict lines
+    (round_is : o ≡ line_round_of admits verdict lines) (texts_are : texts ≡ texts_asked admits lines o.questions) (left_is : left ≡ kept_of o.result lines) where
+  by-parts : (later : LineReduction) → later ≡ next_round (λ l. line_rounds admits verdict l) lines left → after_line_round texts later ≡ line_rounds admits verdict lines
   by-parts later later_is =
-      (λ i. after_round (texts_are i) (later_is i))
-      ∙ ap (λ l. after_round (texts_asked admits lines o.questions) (next_round (λ l'. rounds_of admits verdict l') lines l)) left_is
-      ∙ ap (λ (p : Outcome). after_round (texts_asked admits lines p.questions) (next_round (λ l. rounds_of admits verdict l) lines (kept_of p.result lines))) round_is
-      ∙ sym (rounds_of-step admits verdict lines)
+      (λ i. after_line_round (texts_are i) (later_is i))
+      ∙ ap (λ l. after_line_round (texts_asked admits lines o.questions) (next_round (λ l'. line_rounds admits verdict l') lines l)) left_is
+      ∙ ap (λ (p : Outcome). after_line_round (texts_asked admits lines p.questions) (next_round (λ l. line_rounds admits verdict l) lines (kept_of p.result lines))) round_is
+      ∙ sym (line_rounds-step admits verdict lines)
 
   -- a round that changed nothing is the last one
-  pub last-round : length left ≡ length lines → after_round texts (ends_with lines false) ≡ rounds_of admits verdict lines
-  last-round same = by-parts (ends_with lines false) (sym (ap (λ b. cond b (ends_with lines false) (rounds_of admits verdict left)) (eqb-same (length left) (length lines) same)))
+  pub last-round : length left ≡ length lines → after_line_round texts (ends_at_lines lines false) ≡ line_rounds admits verdict lines
+  last-round same = by-parts (ends_at_lines lines false) (sym (ap (λ b. cond b (ends_at_lines lines false) (line_rounds admits verdict left)) (eqb-same (length left) (length lines) same)))
 
   -- after any other the rounds go on with what is left
-  pub next-rounds : length left ≢ length lines → after_round texts (rounds_of admits verdict left) ≡ rounds_of admits verdict lines
-  next-rounds other = by-parts (rounds_of admits verdict left) (sym (ap (λ b. cond b (ends_with lines false) (rounds_of admits verdict left)) (differ (length left) (length lines) other)))
+  pub next-rounds : length left ≢ length lines → after_line_round texts (line_rounds admits verdict left) ≡ line_rounds admits verdict lines
+  next-rounds other = by-parts (line_rounds admits verdict left) (sym (ap (λ b. cond b (ends_at_lines lines false) (line_rounds admits verdict left)) (differ (length left) (length lines) other)))
 
-pub reduction-no : (admits : Admits) (verdict : List ℕ → Bool) (start : List ℕ) → verdict start ≡ false → asks_first start (ends_with (numbered_lines start) true) ≡ reduction admits verdict start
-unfolding reduction
-reduction-no admits verdict start is = ap (λ b. asks_first start (cond b (rounds_of admits verdict (numbered_lines start)) (ends_with (numbered_lines start) true))) (sym is)
+pub line_reduction-no : (admits : Admits) (verdict : List ℕ → Bool) (start : List ℕ) → verdict start ≡ false → asks_lines_first start (ends_at_lines (numbered_lines start) true) ≡ line_reduction admits verdict start
+unfolding line_reduction
+line_reduction-no admits verdict start is = ap (λ b. asks_lines_first start (cond b (line_rounds admits verdict (numbered_lines start)) (ends_at_lines (numbered_lines start) true))) (sym is)
 
-pub reduction-yes : (admits : Admits) (verdict : List ℕ → Bool) (start : List ℕ) → verdict start ≡ true → asks_first start (rounds_of admits verdict (numbered_lines start)) ≡ reduction admits verdict start
-unfolding reduction
-reduction-yes admits verdict start is = ap (λ b. asks_first start (cond b (rounds_of admits verdict (numbered_lines start)) (ends_with (numbered_lines start) true))) (sym is)
+pub line_reduction-yes : (admits : Admits) (verdict : List ℕ → Bool) (start : List ℕ) → verdict start ≡ true → asks_lines_first start (line_rounds admits verdict (numbered_lines start)) ≡ line_reduction admits verdict start
+unfolding line_reduction
+line_reduction-yes admits verdict start is = ap (λ b. asks_lines_first start (cond b (line_rounds admits verdict (numbered_lines start)) (ends_at_lines (numbered_lines start) true))) (sym is)
 
 -- one keep list more before those that follow
 pub asked-more : (admits : Admits) (lines : List Line) (texts texts' : List (List ℕ)) (keep : List Bool) (keeps : List (List Bool)) (whole : List (List ℕ))

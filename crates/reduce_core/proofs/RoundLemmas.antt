@@ -8,9 +8,10 @@ use Rattle.list_ddmin.specs.ListStep.{kept_of}
 use Rattle.list_ddmin.proofs.AskedLemmas.{keeps_all_at_first, keeps_last_yes}
 use Rattle.list_ddmin.proofs.Lengths.{keeps_length, starts_with_all}
 use Rattle.list_ddmin.proofs.Follows as list_follows
-use Rattle.reduction_rounds.specs.Trials.{Done, Try, is_done, state_after, tried_state, trials_after}
-use Rattle.reduction_rounds.specs.Fields.{listed_text, text_if}
-use Rattle.list_trials.proofs.GoesOn.{at_end, at_question, by_asked}
+use Rattle.reduce_step.specs.Limits.{text_limit}
+use Rattle.reduce_rounds.specs.Trials.{Done, Try, is_done, state_after, tried_state, trials_after}
+use Rattle.reduce_rounds.specs.Fields.{listed_text, text_if}
+use Rattle.reduce_list_trials.proofs.GoesOn.{at_end, at_question, by_asked}
 use Rattle.reduce_core.specs.declared.lines.Line.{Line}
 use Rattle.reduce_core.specs.declared.line_round.Question.{Question}
 use Rattle.reduce_core.specs.Reduction.{Admits}
@@ -41,7 +42,7 @@ module _ (input : LineInput) (lines : List Line) (step : State) where
       let q = question-of input.admits (list.asks step) lines other agrees.ready in
       ap (listed_text (line_mode input)) (step-is q.0 agrees.sound q.1) ∙ (λ i. text_if (sym q.2.listed i) (sym q.2.text i)) ∙ ap (λ (x : Question). text_if x.listed x.candidate.text.items) same
 
-  pub short-now : (asked : Option Question) (question : Question) → Agrees input.admits lines step asked → asked ≡ Some question → length question.candidate.text.items ≤ 1048576
+  pub short-now : (asked : Option Question) (question : Question) → Agrees input.admits lines step asked → asked ≡ Some question → length question.candidate.text.items ≤ text_limit
   short-now asked question agrees is =
       let q = question-of input.admits (list.asks step) lines question (subst (IsReady input.admits (list.asks step) lines) is agrees.ready) in
       let shorter = length-text-kept_of q.0 lines in

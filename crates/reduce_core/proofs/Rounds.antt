@@ -4,7 +4,7 @@ use Rattle.std.proofs.lemmas.Bool.{eqb-false}
 use Rattle.std.specs.Prelude.{◌==◌, ◌≢◌}
 use Rattle.list_ddmin.specs.ListStep.{kept_of}
 use Rattle.reduce_core.specs.declared.lines.Line.{Line}
-use Rattle.reduce_core.specs.Reduction.{Admits, Reduction, ends_with, after_round, round_of, next_round, rounds_within, rounds_of, texts_asked}
+use Rattle.reduce_core.specs.Reduction.{Admits, LineReduction, ends_at_lines, after_line_round, line_round_of, next_round, line_rounds_within, line_rounds, texts_asked}
 
 pub length-kept_of : {X : Type 0} (keep : List Bool) (xs : List X) → length (kept_of keep xs) ≤ length xs
 length-kept_of [] xs = omega arith
@@ -24,32 +24,32 @@ cond_same true x y z same = refl
 cond_same false x y z same = same refl
 
 -- what goes on after a round is asked for fewer lines alone
-pub next_round-same : (go go' : List Line → Reduction) (lines left : List Line) → length left ≤ length lines
+pub next_round-same : (go go' : List Line → LineReduction) (lines left : List Line) → length left ≤ length lines
     → (length left < length lines → go left ≡ go' left) → next_round go lines left ≡ next_round go' lines left
 next_round-same go go' lines left fewer same =
-    cond_same (length left == length lines) (ends_with lines false) (go left) (go' left)
+    cond_same (length left == length lines) (ends_at_lines lines false) (go left) (go' left)
     (λ differs. let other : length left ≢ length lines = eqb-false (length left) (length lines) differs in same (omega arith))
 
 module _ (admits : Admits) (verdict : List ℕ → Bool) where
   -- more rounds than can change something are no use
-  rounds_within-more : (n m : ℕ) (lines : List Line) → length lines < n → length lines < m → rounds_within n admits verdict lines ≡ rounds_within m admits verdict lines
-  unfolding rounds_within
-  rounds_within-more zero m lines enough enough' = absurd (omega arith)
-  rounds_within-more (suc n) zero lines enough enough' = absurd (omega arith)
-  rounds_within-more (suc n) (suc m) lines enough enough' =
-      let left : List Line = kept_of (round_of admits verdict lines).result lines in
-      let fewer : length left ≤ length lines = length-kept_of (round_of admits verdict lines).result lines in
-      ap (λ r. after_round (texts_asked admits lines (round_of admits verdict lines).questions) r)
-      (next_round-same (λ l. rounds_within n admits verdict l) (λ l. rounds_within m admits verdict l) lines left fewer
-      (λ less. rounds_within-more n m left (omega arith) (omega arith)))
+  line_rounds_within-more : (n m : ℕ) (lines : List Line) → length lines < n → length lines < m → line_rounds_within n admits verdict lines ≡ line_rounds_within m admits verdict lines
+  unfolding line_rounds_within
+  line_rounds_within-more zero m lines enough enough' = absurd (omega arith)
+  line_rounds_within-more (suc n) zero lines enough enough' = absurd (omega arith)
+  line_rounds_within-more (suc n) (suc m) lines enough enough' =
+      let left : List Line = kept_of (line_round_of admits verdict lines).result lines in
+      let fewer : length left ≤ length lines = length-kept_of (line_round_of admits verdict lines).result lines in
+      ap (λ r. after_line_round (texts_asked admits lines (line_round_of admits verdict lines).questions) r)
+      (next_round-same (λ l. line_rounds_within n admits verdict l) (λ l. line_rounds_within m admits verdict l) lines left fewer
+      (λ less. line_rounds_within-more n m left (omega arith) (omega arith)))
 
   -- the rounds go by one round and what follows
-  pub rounds_of-step : (lines : List Line) → rounds_of admits verdict lines
-      ≡ after_round (texts_asked admits lines (round_of admits verdict lines).questions) (next_round (λ l. rounds_of admits verdict l) lines (kept_of (round_of admits verdict lines).result lines))
-  unfolding rounds_of rounds_within
-  rounds_of-step lines =
-      let left : List Line = kept_of (round_of admits verdict lines).result lines in
-      let fewer : length left ≤ length lines = length-kept_of (round_of admits verdict lines).result lines in
-      ap (λ r. after_round (texts_asked admits lines (round_of admits verdict lines).questions) r)
-      (next_round-same (λ l. rounds_within (length lines) admits verdict l) (λ l. rounds_within (suc (length l)) admits verdict l) lines left fewer
-      (λ less. rounds_within-more (length lines) (suc (length left)) left (omega arith) (omega arith)))
+  pub line_rounds-step : (lines : List Line) → line_rounds admits verdict lines
+      ≡ after_line_round (texts_asked admits lines (line_round_of admits verdict lines).questions) (next_round (λ l. line_rounds admits verdict l) lines (kept_of (line_round_of admits verdict lines).result lines))
+  unfolding line_rounds line_rounds_within
+  line_rounds-step lines =
+      let left : List Line = kept_of (line_round_of admits verdict lines).result lines in
+      let fewer : length left ≤ length lines = length-kept_of (line_round_of admits verdict lines).result lines in
+      ap (λ r. after_line_round (texts_asked admits lines (line_round_of admits verdict lines).questions) r)
+      (next_round-same (λ l. line_rounds_within (length lines) admits verdict l) (λ l. line_rounds_within (suc (length l)) admits verdict l) lines left fewer
+      (λ less. line_rounds_within-more (length lines) (suc (length left)) left (omega arith) (omega arith)))

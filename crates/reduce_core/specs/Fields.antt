@@ -4,7 +4,8 @@ use Rattle.list_ddmin.specs.ListStep.{kept_of}
 use Rattle.list_ddmin.specs.Machine as list
 use Rattle.list_ddmin.specs.Machine.{State}
 use Rattle.keep_guard.specs.Relation.{Rises}
-use Rattle.reduction_rounds.specs.Trials.{Trials, Done}
+use Rattle.reduce_step.specs.Limits.{text_limit}
+use Rattle.reduce_rounds.specs.Trials.{Trials, Done}
 use Rattle.reduce_core.specs.declared.lines.Line.{Line}
 use Rattle.reduce_core.specs.declared.line_round.Question.{Question}
 use Rattle.reduce_core.specs.Lines.{numbers_of, text_of}
@@ -13,8 +14,8 @@ use Rattle.reduce_core.specs.LineMode.{line_trials}
 
 -- the lines are few and short enough for a candidate, which has at most 1,048,576 bytes, and their numbers rise
 pub record IsInLimit (lines : List Line) : Type 0 where
-  pub few : length lines ≤ 1048576
-  pub short : length (text_of lines) ≤ 1048576
+  pub few : length lines ≤ text_limit
+  pub short : length (text_of lines) ≤ text_limit
   pub rising : Rises (numbers_of lines)
 
 -- the question is about those of the lines that are kept

@@ -1,16 +1,16 @@
 -- Mode `lines` of reductions by rounds: a state is some of the start's lines, and a round is one list step over them.
 use Rattle.std.specs.Prelude.{◌≡◌, ◌<◌, ℕ, true, List, length, remove}
-use Rattle.verdict_table.specs.Plan.{Plan}
+use Rattle.reduce_step.specs.Plan.{Plan}
 use Rattle.list_ddmin.specs.ListStep.{kept_of}
 use Rattle.list_ddmin.specs.Machine.{State, start as list_start}
-use Rattle.reduction_rounds.specs.Trials.{Trials, Done}
-use Rattle.reduction_rounds.specs.Mode.{RoundMode}
-use Rattle.reduction_rounds.specs.Reduction as rounds
-use Rattle.reduction_rounds.specs.RoundsPlan.{plan_first}
-use Rattle.list_trials.specs.ListTrials.{list_trials}
+use Rattle.reduce_rounds.specs.Trials.{Trials, Done}
+use Rattle.reduce_rounds.specs.Mode.{RoundMode}
+use Rattle.reduce_rounds.specs.Reduction.{Reduction}
+use Rattle.reduce_rounds.specs.RoundsPlan.{plan_first}
+use Rattle.reduce_list_trials.specs.ListTrials.{list_trials}
 use Rattle.reduce_core.specs.declared.lines.Line.{Line}
 use Rattle.reduce_core.specs.Lines.{numbered_lines, text_of}
-use Rattle.reduce_core.specs.Reduction.{Admits, Reduction, is_listed}
+use Rattle.reduce_core.specs.Reduction.{Admits, LineReduction, is_listed}
 use Rattle.reduce_core.specs.Minimal.{IsSubsequence}
 
 -- what never changes: which candidates are admitted, and the start
@@ -45,5 +45,5 @@ abbrev pub line_plan : Admits → List ℕ → Plan
 line_plan admits start = plan_first (line_mode (record { admits = admits; start = start }))
 
 -- a reduction of lines in the words of reductions by rounds
-abbrev pub in_rounds : Reduction → rounds.Reduction (List Line)
+abbrev pub in_rounds : LineReduction → Reduction (List Line)
 in_rounds r = record { questions = r.questions; state = r.lines; rounds = r.rounds; refused = r.refused }

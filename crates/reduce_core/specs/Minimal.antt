@@ -1,7 +1,7 @@
--- What a finished reduction of lines is known to be.
+-- Which texts of lines may be asked, and which lines are minimal.
 use Rattle.std.specs.Prelude.{◌≡◌, ◌<◌, ℕ, true, List, [], ◌∷◌, length, remove, Option, Some}
-use Rattle.script_gate.specs.declared.gate.Verdict.{Verdict}
-use Rattle.script_gate.specs.declared.gate.Verdict.TheVariants.{No}
+use Rattle.script_gate_trait.specs.declared.gate.Verdict.{Verdict}
+use Rattle.script_gate_trait.specs.declared.gate.Verdict.TheVariants.{No}
 use Rattle.reduce_core.specs.declared.lines.Line.{Line}
 use Rattle.reduce_core.specs.Lines.{numbered_lines, text_of}
 use Rattle.reduce_core.specs.Reduction.{Admits, is_listed}
@@ -17,7 +17,7 @@ pub data IsSubsequence : List Line → List Line → Type 0 where
   leaves : (y : Line) (xs ys : List Line) → IsSubsequence xs ys → IsSubsequence xs (y ∷ ys)
 
 -- the text is some of the start's lines, one after another in their order, which are admitted
-pub record IsCandidate (admits : Admits) (start text : List ℕ) : Type 0 where
+pub record IsLineCandidate (admits : Admits) (start text : List ℕ) : Type 0 where
   pub lines : List Line
   pub some : IsSubsequence lines (numbered_lines start)
   pub listed : is_listed admits lines ≡ true

@@ -9,23 +9,23 @@ abbrev pub Admits : Type 0
 Admits = List ℕ → List ℕ → Bool
 
 -- what a reduction asks, in order and repeated texts each time, the lines that it ends with, its rounds, and whether the start was refused
-pub record Reduction : Type 0 where
+pub record LineReduction : Type 0 where
   pub questions : List (List ℕ)
   pub lines : List Line
   pub rounds : ℕ
   pub refused : Bool
 
 -- nothing is asked any more
-abbrev pub ends_with : List Line → Bool → Reduction
-ends_with lines refused = record { questions = []; lines = lines; rounds = 0; refused = refused }
+abbrev pub ends_at_lines : List Line → Bool → LineReduction
+ends_at_lines lines refused = record { questions = []; lines = lines; rounds = 0; refused = refused }
 
 -- this text is asked first
-abbrev pub asks_first : List ℕ → Reduction → Reduction
-asks_first text later = record later { questions = text ∷ later.questions }
+abbrev pub asks_lines_first : List ℕ → LineReduction → LineReduction
+asks_lines_first text later = record later { questions = text ∷ later.questions }
 
 -- a round is made first, which asks these texts
-abbrev pub after_round : List (List ℕ) → Reduction → Reduction
-after_round texts later = record later { questions = texts ++ later.questions; rounds = later.rounds + 1 }
+abbrev pub after_line_round : List (List ℕ) → LineReduction → LineReduction
+after_line_round texts later = record later { questions = texts ++ later.questions; rounds = later.rounds + 1 }
 
 -- some lines are listed, which is to say that they may be asked, where they are admitted
 abbrev pub is_listed : Admits → List Line → Bool
@@ -50,25 +50,25 @@ texts_asked admits lines (keep ∷ keeps) =
     if is_listed_at admits lines keep then candidate lines keep ∷ texts_asked admits lines keeps else texts_asked admits lines keeps
 
 -- one list step over the lines, after which there may be none
-abbrev pub round_of : Admits → (List ℕ → Bool) → List Line → Outcome
-round_of admits verdict lines = list_step (λ keep. verdict_on admits verdict (kept_of keep lines)) (length lines) true
+abbrev pub line_round_of : Admits → (List ℕ → Bool) → List Line → Outcome
+line_round_of admits verdict lines = list_step (λ keep. verdict_on admits verdict (kept_of keep lines)) (length lines) true
 
 -- what follows a round that began with the first lines, of which the others remain: a round after which as many remain was the last one, and any other is followed by rounds over those that remain
-abbrev pub next_round : (List Line → Reduction) → List Line → List Line → Reduction
-next_round go lines remaining = if length remaining == length lines then ends_with lines false else go remaining
+abbrev pub next_round : (List Line → LineReduction) → List Line → List Line → LineReduction
+next_round go lines remaining = if length remaining == length lines then ends_at_lines lines false else go remaining
 
 -- rounds until one changes nothing, but at most so many
-unfoldable pub rounds_within : ℕ → Admits → (List ℕ → Bool) → List Line → Reduction
-rounds_within zero admits verdict lines = ends_with lines false
-rounds_within (suc rounds) admits verdict lines =
-    after_round (texts_asked admits lines (round_of admits verdict lines).questions)
-    (next_round (λ remaining. rounds_within rounds admits verdict remaining) lines (kept_of (round_of admits verdict lines).result lines))
+unfoldable pub line_rounds_within : ℕ → Admits → (List ℕ → Bool) → List Line → LineReduction
+line_rounds_within zero admits verdict lines = ends_at_lines lines false
+line_rounds_within (suc rounds) admits verdict lines =
+    after_line_round (texts_asked admits lines (line_round_of admits verdict lines).questions)
+    (next_round (λ remaining. line_rounds_within rounds admits verdict remaining) lines (kept_of (line_round_of admits verdict lines).result lines))
 
 -- Each round but the last leaves fewer lines, so there is at most one round more than lines.
-unfoldable pub rounds_of : Admits → (List ℕ → Bool) → List Line → Reduction
-rounds_of admits verdict lines = rounds_within (suc (length lines)) admits verdict lines
+unfoldable pub line_rounds : Admits → (List ℕ → Bool) → List Line → LineReduction
+line_rounds admits verdict lines = line_rounds_within (suc (length lines)) admits verdict lines
 
 -- the start is asked first; at no it is refused
-unfoldable pub reduction : Admits → (List ℕ → Bool) → List ℕ → Reduction
-reduction admits verdict start =
-    asks_first start (if verdict start then rounds_of admits verdict (numbered_lines start) else ends_with (numbered_lines start) true)
+unfoldable pub line_reduction : Admits → (List ℕ → Bool) → List ℕ → LineReduction
+line_reduction admits verdict start =
+    asks_lines_first start (if verdict start then line_rounds admits verdict (numbered_lines start) else ends_at_lines (numbered_lines start) true)

@@ -2,7 +2,7 @@
 //!
 //! Enter by [`line_reducer`], the reducer of mode `lines` with the guard of its candidates, and then
 //! `asks` and `answer` of `Step`; read `specs/Reduction.antt` first. What a reducer does is defined there as a recursion over a map
-//! of verdicts; as code it is a mode of `reduction_rounds` (`specs/LineMode.antt`), whose machine is
+//! of verdicts; as code it is a mode of `reduce_rounds` (`specs/LineMode.antt`), whose machine is
 //! asked and answered from outside. The laws tie the two together: each is a function that does
 //! nothing, which a caller calls so that its proof has the law. [`plain_reduction`] is the recursion
 //! itself as a plain program, with which a test compares the machine.
@@ -22,5 +22,5 @@ pub use laws::{
 pub use line_round::LineRound;
 pub use lines::{Candidate, Line, Lines};
 pub use plain::{Reduction, Test, plain_reduction};
+pub use reduce_rounds::ReducerStep;
 pub use reducer::{LineReducer, line_reducer};
-pub use reduction_rounds::ReducerStep;

@@ -2,6 +2,7 @@
 
 ghost use Rattle.std.specs.Prelude.{◌≡◌, ◌≤◌, length, IfOk};
 ghost use Rattle.list_ddmin.specs.Machine as list;
+ghost use Rattle.reduce_step.specs.Limits.{text_limit};
 ghost use Rattle.reduce_core.specs.Fields.{Agrees, AreCopies, IsAsked, IsInLimit};
 ghost use Rattle.reduce_core.specs.FieldProps.{agrees_prop};
 
@@ -9,7 +10,7 @@ use crate::lines::{Candidate, Lines};
 use faults::Memory;
 use keep_guard::{Guard, Relation};
 use list_ddmin::Ddmin;
-use reduction_rounds::Round;
+use reduce_rounds::Round;
 use std::alloc::Global;
 
 /// A candidate of a list step, and whether the guard admits it.
@@ -38,7 +39,7 @@ pub struct LineRound<'a, F: Relation> {
 
 impl<'a, F: Relation> LineRound<'a, F> {
     ghost use Rattle.reduce_core.specs.Lines.{numbered_lines};
-    ghost use Rattle.reduction_rounds.specs.Trials.{Done};
+    ghost use Rattle.reduce_rounds.specs.Trials.{Done};
 
     /// Before the first round of the lines of a start, of at most 1,048,576 bytes.
     pub(crate) fn new(
@@ -47,7 +48,7 @@ impl<'a, F: Relation> LineRound<'a, F> {
         guard: &'a Guard<F>,
         lines: Lines,
     ) -> Result<LineRound<'a, F>, Memory>
-        requires short { length start.now ≤ 1048576 }
+        requires short { length start.now ≤ text_limit }
         requires lines { lines ≡ numbered_lines start.now }
         ensures input { IfOk result (λ round. ⟦<LineRound<'a, F> as Round>⟧.input round ≡ record { admits = F.admits guard.now; start = start.now }) }
         ensures state { IfOk result (λ round. ⟦<LineRound<'a, F> as Round>⟧.state round ≡ numbered_lines start.now) }

@@ -4,7 +4,7 @@ ghost use Rattle.reduce_core.specs.Lines.{lines_of, numbered_lines, numbers_of, 
 
 use faults::Memory;
 use memchr::memchr;
-use script_gate::Bytes;
+use script_gate_trait::Bytes;
 use std::alloc::Global;
 use std::marker::Model;
 

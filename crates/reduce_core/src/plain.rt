@@ -4,10 +4,11 @@ ghost use Rattle.std.specs.Prelude.{◌≡◌, ◌≤◌, ◌+◌, ℕ, Bool, Li
 ghost use Rattle.std.specs.List.{AllByRecursion};
 ghost use Rattle.std.specs.Option.{option_copied};
 ghost use Rattle.list_ddmin.specs.Machine.{HasLength};
+ghost use Rattle.reduce_step.specs.Limits.{text_limit};
 ghost use Rattle.reduce_core.specs.Plain.{first_other, is_among, with_yes};
 ghost use Rattle.keep_guard.specs.Relation.{Rises};
 ghost use Rattle.reduce_core.specs.Lines.{numbers_of};
-ghost use Rattle.reduce_core.specs.Reduction.{after_round, ends_with, reduction, round_of, rounds_of, texts_asked, verdict_on};
+ghost use Rattle.reduce_core.specs.Reduction.{after_line_round, ends_at_lines, line_reduction, line_round_of, line_rounds, texts_asked, verdict_on};
 ghost use Rattle.list_ddmin.specs.ListStep.{kept_of};
 
 use crate::lines::{Candidate, Lines};
@@ -46,7 +47,7 @@ impl Model for Reduction {
     ghost use Rattle.std.specs.Prelude.{map};
     ghost use Rattle.reduce_core.specs.Reduction as definition;
 
-    ghost Value = { definition.Reduction };
+    ghost Value = { definition.LineReduction };
 
     ghost view = { λ r. record { questions = map (λ v. v.items) r.questions.items; lines = r.lines; rounds = r.rounds; refused = r.refused } };
 }
@@ -62,8 +63,8 @@ pub fn plain_reduction<T: Test, F: Relation>(
     guard: &Guard<F>,
     start: &[u8],
 ) -> Result<Reduction, Memory>
-    requires { length start.now ≤ 1048576 }
-    ensures { IfOk result (λ found. found ≡ reduction (F.admits guard.now) (T.verdict test.now) start.now) }
+    requires { length start.now ≤ text_limit }
+    ensures { IfOk result (λ found. found ≡ line_reduction (F.admits guard.now) (T.verdict test.now) start.now) }
 {
     let mut questions = Vec::new(alloc);
     questions.push(Vec::from_slice(alloc, start)?)?;
@@ -106,9 +107,9 @@ fn plain_rounds<T: Test, F: Relation>(
     guard: &Guard<F>,
     lines: Lines,
 ) -> Result<Reduction, Memory>
-    requires few { length lines ≤ 1048576 }
+    requires few { length lines ≤ text_limit }
     requires rising { Rises (numbers_of lines) }
-    ensures { IfOk result (λ found. found ≡ rounds_of (F.admits guard.now) (T.verdict test.now) lines) }
+    ensures { IfOk result (λ found. found ≡ line_rounds (F.admits guard.now) (T.verdict test.now) lines) }
 {
     let round = plain_round(alloc, test, guard, &lines)?;
     let texts = texts(alloc, guard, &lines, &round.questions)?;
@@ -123,7 +124,7 @@ fn plain_rounds<T: Test, F: Relation>(
 /// The reduction that makes a round first, which asks these texts.
 fn after_round(texts: Vec<Vec<u8>>, mut later: Reduction) -> Result<Reduction, Memory>
     requires { later.rounds ≤ 1048577 }
-    ensures { IfOk result (λ found. found ≡ after_round (map (λ v. v.items) texts.items) later) }
+    ensures { IfOk result (λ found. found ≡ after_line_round (map (λ v. v.items) texts.items) later) }
 {
     later.rounds += 1;
     after(texts, later)
@@ -131,7 +132,7 @@ fn after_round(texts: Vec<Vec<u8>>, mut later: Reduction) -> Result<Reduction, M
 
 /// No round is made any more.
 fn nothing_more(alloc: Global, lines: Lines) -> Reduction
-    ensures { result ≡ ends_with lines false }
+    ensures { result ≡ ends_at_lines lines false }
 {
     Reduction {
         questions: Vec::new(alloc),
@@ -189,9 +190,9 @@ fn plain_round<T: Test, F: Relation>(
     guard: &Guard<F>,
     lines: &Lines,
 ) -> Result<Outcome, Memory>
-    requires few { length lines.now ≤ 1048576 }
+    requires few { length lines.now ≤ text_limit }
     requires rising { Rises (numbers_of lines.now) }
-    ensures round { IfOk result (λ outcome. outcome ≡ round_of (F.admits guard.now) (T.verdict test.now) lines.now) }
+    ensures round { IfOk result (λ outcome. outcome ≡ line_round_of (F.admits guard.now) (T.verdict test.now) lines.now) }
     ensures fits { IfOk result (λ outcome. HasLength (length lines.now) outcome) }
 {
     agreeing_maps();

@@ -1,16 +1,17 @@
 //! The reducer of mode `lines`.
 
 ghost use Rattle.std.specs.Prelude.{◌≡◌, ◌≤◌, length, IfOk};
+ghost use Rattle.reduce_step.specs.Limits.{text_limit};
 ghost use Rattle.reduce_core.specs.LineMode.{line_mode, line_plan};
-ghost use Rattle.reduction_rounds.specs.RoundsPlan.{IsStart};
+ghost use Rattle.reduce_rounds.specs.RoundsPlan.{IsStart};
 
 use crate::line_round::LineRound;
 use crate::lines::Lines;
 use faults::Memory;
 use keep_guard::{Guard, Relation};
-use reduction_rounds::{ReducerStep, Rounds};
+use reduce_rounds::{ReducerStep, Rounds};
+use reduce_step::Step;
 use std::alloc::Global;
-use verdict_table::Step;
 
 /// The reducer of mode `lines`: the start is asked first, and then rounds of delta debugging over
 /// the lines of the last yes are made until one round changes nothing. A candidate that its guard
@@ -29,7 +30,7 @@ pub fn line_reducer<'a, F: Relation>(
     start: &'a [u8],
     guard: &'a Guard<F>,
 ) -> Result<Rounds<LineRound<'a, F>>, Memory>
-    requires { length start.now ≤ 1048576 }
+    requires { length start.now ≤ text_limit }
     ensures plan { IfOk result (λ reducer. ⟦<Rounds<LineRound<'a, F>> as Step>⟧.plan reducer ≡ line_plan (F.admits guard.now) start.now) }
     ensures first { IfOk result (λ reducer. ⟦<Rounds<LineRound<'a, F>> as Step>⟧.first reducer ≡ line_plan (F.admits guard.now) start.now) }
     ensures start { IfOk result (λ reducer. IsStart (line_mode (record { admits = F.admits guard.now; start = start.now })) (⟦<Rounds<LineRound<'a, F>> as ReducerStep>⟧.so_far reducer)) }

@@ -3,8 +3,9 @@ use Rattle.std.proofs.Common.{◌≡◌, ◌≢◌, inl, inr, ℕ, ◌+◌, ◌-
 use Rattle.std.specs.Prelude.{if◌then◌else◌}
 use Rattle.std.proofs.lemmas.Bool.{cases_Bool, cases_lt, eqb-true, ltb-true, ltb-false, le-ltb, ne_eqb}
 use Rattle.std.proofs.lemmas.List.{take_at, drop_at, take-append-drop, length-take-le, length-replicate, length-drop, drop_all}
-use Rattle.script_gate.specs.declared.gate.Verdict.{Verdict}
-use Rattle.script_gate.specs.declared.gate.Verdict.TheVariants.{Yes, No}
+use Rattle.script_gate_trait.specs.declared.gate.Verdict.{Verdict}
+use Rattle.script_gate_trait.specs.declared.gate.Verdict.TheVariants.{Yes, No}
+use Rattle.reduce_step.specs.Limits.{text_limit}
 use Rattle.reduce_journal.specs.declared.event.Event.{Event}
 use Rattle.reduce_journal.specs.declared.event.Event.TheVariants.{Recorded, Committed}
 use Rattle.reduce_journal.specs.declared.numbers.Mismatch.TheVariants.{Torn, Bad}
@@ -148,7 +149,7 @@ number_of (Recorded text verdict) = 0
 number_of (Committed number) = number
 
 abbrev IsShortRecord : Event → Type 0
-IsShortRecord (Recorded text verdict) = length text ≤ 1048576
+IsShortRecord (Recorded text verdict) = length text ≤ text_limit
 IsShortRecord (Committed number) = ⊥
 
 abbrev IsCommitTo : ℕ → Event → Type 0
@@ -163,7 +164,7 @@ record_text e = 32 ∷ (spelled_verdict (verdict_of e) ++ (32 ∷ (ended (length
 abbrev HasVerdict : Verdict → Event → Type 0
 HasVerdict verdict e = (verdict_of e ≡ verdict) × IsShortRecord e
 
-of_length : (verdict : Verdict) (count : ℕ) → count ≤ 1048576
+of_length : (verdict : Verdict) (count : ℕ) → count ≤ text_limit
     → Decides (λ e. (length (text_of e) ≡ count) × HasVerdict verdict e) (λ e. with_newline (text_of e)) (λ bytes. text_at count bytes >>= λ found. Ok (Recorded found.0 verdict, found.1))
 of_length verdict count short =
     renamed (HasLength count) with_newline (text_at count) (λ e. (length (text_of e) ≡ count) × HasVerdict verdict e) text_of (λ text. Recorded text verdict)
@@ -174,14 +175,14 @@ of_length verdict count short =
     has (Committed number) p = absurd p.1.1
 
 with_verdict : (verdict : Verdict) → Decides (HasVerdict verdict) (λ e. ended (length (text_of e)) ++ with_newline (text_of e))
-    (λ bytes. number_at 1048576 bytes >>= λ count. text_at count.0 count.1 >>= λ found. Ok (Recorded found.0 verdict, found.1))
+    (λ bytes. number_at text_limit bytes >>= λ count. text_at count.0 count.1 >>= λ found. Ok (Recorded found.0 verdict, found.1))
 with_verdict verdict =
-    in_order (λ n. n ≤ 1048576) ended (number_at 1048576) (HasVerdict verdict) (λ e. length (text_of e)) (λ e. with_newline (text_of e))
+    in_order (λ n. n ≤ text_limit) ended (number_at text_limit) (HasVerdict verdict) (λ e. length (text_of e)) (λ e. with_newline (text_of e))
     (λ count bytes. text_at count bytes >>= λ found. Ok (Recorded found.0 verdict, found.1))
-    (number_decides 1048576 (omega arith)) has (of_length verdict)
+    (number_decides text_limit (omega arith)) has (of_length verdict)
     (λ count short. (Recorded (replicate count 0) verdict, length-replicate {A = ℕ} count 0, (refl, omega (arith, short, length-replicate {A = ℕ} count 0))))
   where
-    has : (e : Event) → HasVerdict verdict e → length (text_of e) ≤ 1048576
+    has : (e : Event) → HasVerdict verdict e → length (text_of e) ≤ text_limit
     has (Recorded text v) p = p.1
     has (Committed number) p = absurd p.1
 
@@ -189,13 +190,13 @@ record_decides : Decides IsShortRecord record_text record_at
 unfolding record_at
 record_decides =
     after_byte 32 IsShortRecord (λ e. spelled_verdict (verdict_of e) ++ (32 ∷ (ended (length (text_of e)) ++ with_newline (text_of e))))
-    (λ bytes. verdict_at bytes >>= λ verdict. after 32 verdict.1 >>= λ number. number_at 1048576 number >>= λ count. text_at count.0 count.1 >>= λ found. Ok (Recorded found.0 verdict.0, found.1))
+    (λ bytes. verdict_at bytes >>= λ verdict. after 32 verdict.1 >>= λ number. number_at text_limit number >>= λ count. text_at count.0 count.1 >>= λ found. Ok (Recorded found.0 verdict.0, found.1))
     (Recorded [] Yes, omega arith)
     (in_order any_verdict spelled_verdict verdict_at IsShortRecord verdict_of (λ e. 32 ∷ (ended (length (text_of e)) ++ with_newline (text_of e)))
-    (λ verdict bytes. after 32 bytes >>= λ number. number_at 1048576 number >>= λ count. text_at count.0 count.1 >>= λ found. Ok (Recorded found.0 verdict, found.1))
+    (λ verdict bytes. after 32 bytes >>= λ number. number_at text_limit number >>= λ count. text_at count.0 count.1 >>= λ found. Ok (Recorded found.0 verdict, found.1))
     verdict_decides (λ e p. tt)
     (λ verdict _. after_byte 32 (HasVerdict verdict) (λ e. ended (length (text_of e)) ++ with_newline (text_of e))
-    (λ bytes. number_at 1048576 bytes >>= λ count. text_at count.0 count.1 >>= λ found. Ok (Recorded found.0 verdict, found.1))
+    (λ bytes. number_at text_limit bytes >>= λ count. text_at count.0 count.1 >>= λ found. Ok (Recorded found.0 verdict, found.1))
     (Recorded [] verdict, (refl, omega arith)) (with_verdict verdict))
     (λ verdict _. (Recorded [] verdict, refl, omega arith)))
 
@@ -296,7 +297,7 @@ module _ (records : ℕ) (fits : records < 2 ^ 64) where
         | inr none ↦ let is_zero : records ≡ 0 = omega (arith, none) in cc (sym (no_commit bytes) ∙ (ap (λ k. commit_at k bytes) (sym is_zero) ∙ e))
       ]
 
-  record_cut : (b : ℕ) (bytes : List ℕ) (text : List ℕ) (verdict : Verdict) (more : List ℕ) → length text ≤ 1048576 → more ≢ []
+  record_cut : (b : ℕ) (bytes : List ℕ) (text : List ℕ) (verdict : Verdict) (more : List ℕ) → length text ≤ text_limit → more ≢ []
       → 82 ∷ record_text (Recorded text verdict) ≡ b ∷ (bytes ++ more) → event_at records (b ∷ bytes) ≡ Err Torn
   unfolding event_at
   record_cut b bytes text verdict more short some e =

@@ -1,5 +1,6 @@
 -- Histories of reductions.
 use Rattle.std.specs.Prelude.{ℕ, suc, ◌<◌, ◌≤◌, ◌^◌, List, [], ◌∷◌, length}
+use Rattle.reduce_step.specs.Limits.{text_limit}
 use Rattle.verdict_table.specs.declared.record.Record.{Record}
 use Rattle.reduce_journal.specs.declared.event.Event.{Event}
 use Rattle.reduce_journal.specs.declared.event.Event.TheVariants.{Recorded, Committed}
@@ -16,7 +17,7 @@ records_of (Committed number ∷ events) = records_of events
 
 -- a record's text has at most 1,048,576 bytes
 abbrev pub HasShortText : Event → Type 0
-HasShortText (Recorded text verdict) = length text ≤ 1048576
+HasShortText (Recorded text verdict) = length text ≤ text_limit
 HasShortText (Committed number) = Unit {0}
 
 -- a commit names one of the records before it, of which there are so many, by a number that an event can hold

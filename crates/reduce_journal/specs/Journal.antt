@@ -1,8 +1,8 @@
 -- The bytes of a history, version 1.
 use Rattle.std.specs.Prelude.{◌≡◌, ◌≢◌, ℕ, List, [], ◌++◌, Result, Ok, Err, length, codes, decimal}
 use Rattle.std.specs.List.{flat_map}
-use Rattle.script_gate.specs.declared.gate.Verdict.{Verdict}
-use Rattle.script_gate.specs.declared.gate.Verdict.TheVariants.{Yes, No}
+use Rattle.script_gate_trait.specs.declared.gate.Verdict.{Verdict}
+use Rattle.script_gate_trait.specs.declared.gate.Verdict.TheVariants.{Yes, No}
 use Rattle.reduce_journal.specs.declared.event.Event.{Event}
 use Rattle.reduce_journal.specs.declared.event.Event.TheVariants.{Recorded, Committed}
 use Rattle.reduce_journal.specs.declared.read.Journal.{Journal}

@@ -1,8 +1,9 @@
 -- What is at the front of some bytes of a journal: a part of an event and the bytes after it, or why there is none.
 use Rattle.std.specs.Prelude.{◌≡◌, ℕ, ◌+◌, ◌-◌, ◌*◌, List, [], ◌∷◌, length, take, drop, Result, Ok, Err, ◌&&◌, ◌==◌, nat_le, nat_lt, if◌then◌else◌}
 use Rattle.std.specs.Char.{is_ascii_digit}
-use Rattle.script_gate.specs.declared.gate.Verdict.{Verdict}
-use Rattle.script_gate.specs.declared.gate.Verdict.TheVariants.{Yes, No}
+use Rattle.script_gate_trait.specs.declared.gate.Verdict.{Verdict}
+use Rattle.script_gate_trait.specs.declared.gate.Verdict.TheVariants.{Yes, No}
+use Rattle.reduce_step.specs.Limits.{text_limit}
 use Rattle.reduce_journal.specs.declared.event.Event.{Event}
 use Rattle.reduce_journal.specs.declared.event.Event.TheVariants.{Recorded, Committed}
 use Rattle.reduce_journal.specs.declared.numbers.Mismatch.{Mismatch}
@@ -68,7 +69,7 @@ record_at bytes = do
   letter ← after 32 bytes
   verdict ← verdict_at letter
   number ← after 32 verdict.1
-  count ← number_at 1048576 number
+  count ← number_at text_limit number
   text ← text_at count.0 count.1
   Ok (Recorded text.0 verdict.0, text.1)
 

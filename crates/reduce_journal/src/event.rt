@@ -1,4 +1,4 @@
-use script_gate::{Bytes, Verdict};
+use script_gate_trait::{Bytes, Verdict};
 
 /// What happened in a reduction.
 #[derive(Drop)]

@@ -1,10 +1,12 @@
 //! The journal of a reduction, as it is written and read, and the report at its end.
 //!
 //! A reduction's history is a list of [`Event`]s: verdicts as they came, and the answers that the
-//! reducer was given. Read `specs/History.antt` and `specs/Journal.antt` first. [`write_head`] begins
-//! a journal and [`write_event`] adds to it; [`read_journal`] reads it back, also where the run that
+//! reducer was given. Read `specs/History.antt` and `specs/Journal.antt` first. [`write_head`] begins a
+//! journal and [`write_event`] adds to it; [`read_journal`] reads it back, also where the run that
 //! wrote it was killed. [`report`] makes the five lines that a reduction ends with, and [`first_lines`]
-//! the first four of them. So a history is kept:
+//! the first four of them. Bytes are a journal of one history at most
+//! ([`equal_bytes_have_one_history`]); what a killed run left, with the whole first line, is a journal
+//! of its first events ([`prefixes_are_read`]). So a history is kept:
 //!
 //! ```
 //! write_head(&mut journal)?;

@@ -6,11 +6,9 @@ ghost use Rattle.reduce_journal.specs.Reading.{Gives, commit_at, event_at, lent_
 use crate::event::Event;
 use crate::numbers::{Mismatch, after, number_at, positive_at};
 use faults::Memory;
-use script_gate::{Bytes, Verdict};
+use reduce_step::TEXT_LIMIT;
+use script_gate_trait::{Bytes, Verdict};
 use std::alloc::Global;
-
-/// The most bytes that the text of a record has.
-const LONGEST_TEXT: u64 = 1_048_576;
 
 /// An event whose text lies in the journal.
 #[derive(Clone, Copy)]
@@ -60,7 +58,7 @@ fn record_at(bytes: &[u8]) -> Result<(LentEvent<'_>, &[u8]), Mismatch>
     let letter = after(b' ', bytes)?;
     let (verdict, rest) = verdict_at(letter)?;
     let number = after(b' ', rest)?;
-    let (count, rest) = number_at(LONGEST_TEXT, number)?;
+    let (count, rest) = number_at(TEXT_LIMIT as u64, number)?;
     let (text, rest) = text_at(count as usize, rest)?;
     Ok((LentEvent::Recorded { text, verdict }, rest))
 }

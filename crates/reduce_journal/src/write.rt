@@ -3,13 +3,14 @@
 ghost use Rattle.std.specs.Prelude.{◌≡◌, ◌≤◌, length, option_map, OnErr, OnOk};
 ghost use Rattle.faults.specs.Count.{Rose};
 ghost use Rattle.edge_io.specs.Sink.{GrewByPrefix, with_piece};
+ghost use Rattle.reduce_step.specs.Limits.{text_limit};
 ghost use Rattle.reduce_journal.specs.History.{HasShortText};
 ghost use Rattle.reduce_journal.specs.Journal.{event_text, head, line, record_prefix};
 
 use crate::event::Event;
 use arrayvec::ArrayString;
 use edge_io::{Sink, SinkFault};
-use script_gate::Verdict;
+use script_gate_trait::Verdict;
 
 /// The first line of a journal.
 pub(crate) const HEAD: &[u8] = b"perses-journal 1\n";
@@ -45,7 +46,7 @@ pub fn write_event<J: Sink>(journal: &mut J, event: &Event) -> Result<(), SinkFa
 
 /// Puts a record: its line, its text and a newline.
 fn write_record<J: Sink>(journal: &mut J, text: &[u8], verdict: Verdict) -> Result<(), SinkFault>
-    requires { length text.now ≤ 1048576 }
+    requires { length text.now ≤ text_limit }
     ensures ok { OnOk result (J.put_so_far journal.new
         ≡ option_map (with_piece (event_text (Event.Recorded text.now verdict))) (J.put_so_far journal.old)) }
     ensures err { OnErr result

@@ -5,9 +5,9 @@ ghost use Rattle.edge_io.specs.Calls.{CountsFault};
 ghost use Rattle.edge_io.specs.Machine.{IsOutOfMemory};
 ghost use Rattle.script_gate.specs.Script.{file_of, folder_of, path_in, script_of};
 
-use crate::gate::{Gate, GateFault, Verdict};
 use edge_io::{count_failure, write_whole};
 use faults::Memory;
+use script_gate_trait::{Gate, GateFault, Verdict};
 use std::alloc::Global;
 use std::marker::Model;
 use std::process::{Command, ExitStatus, Processes, Stdio};

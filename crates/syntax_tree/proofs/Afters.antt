@@ -18,9 +18,6 @@ pub record IsAfterSome (after : List ℕ) (i first number : ℕ) (ts : PlainTree
   pub more : HaveAfters after number (later_trees i ts)
   pub ends : number + size_all (later_trees i ts) ≡ first + size_all ts
 
-pub start_after : (after : List ℕ) (first : ℕ) (ts : PlainTrees) → HaveAfters after first ts → IsAfterSome after 0 first first ts
-start_after after first ts have = record { more = have; ends = refl }
-
 pub step_after : (after : List ℕ) (i number : ℕ) (ts : PlainTrees) → i < count ts → HaveAfters after number (later_trees i ts) →
     (number < length after) × HaveAfters after (get_or after number 0) (later_trees (suc i) ts) × (get_or after number 0 + size_all (later_trees (suc i) ts) ≡ number + size_all (later_trees i ts))
 step_after after i number PlainTrees.none within have = absurd (omega (arith, within))

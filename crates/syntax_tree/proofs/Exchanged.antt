@@ -5,7 +5,7 @@ use Rattle.std.proofs.lemmas.Bool.{cases_Bool, cases_lt, cond-false, cond-true}
 use Rattle.std.proofs.lemmas.Option.{same_Some, none-some}
 use Rattle.syntax_tree.specs.Trees.{PlainTree, PlainTrees, leaves, of_leaves_all, weight, weight_all}
 use Rattle.syntax_tree.specs.Numbered.{subtree, subtree_among, with_subtree, with_subtree_among}
-use Rattle.syntax_tree.specs.Left.{IsLeftOf, AreLeftOf, node_left, kept}
+use Rattle.syntax_tree.specs.Left.{IsRemainderOf, AreRemaindersOf, node_left, kept}
 use Rattle.syntax_tree.specs.EditLaws.{SubtreesAreLeft, SubtreesChange}
 use Rattle.syntax_tree.proofs.Within.{AreWithin, IsWithin, all_outside, lack_subtree, lack_with, lacks_subtree, lacks_with, or_none, outside, within_from}
 use Rattle.syntax_tree.proofs.LeftTrees.{left_all, left_itself}
@@ -96,13 +96,13 @@ module _ (v w : PlainTree) where
     leaves_are_all ts us (at_first t u ts' d) = more_after (leaves v) (leaves w) (leaves t) (leaves u) (of_leaves_all (λ k i. i) ts') (leaves_are t u d)
     leaves_are_all ts us (at_later t ts' us' d) = more_before (leaves v) (leaves w) (of_leaves_all (λ k i. i) ts') (of_leaves_all (λ k i. i) us') (leaves t) (leaves_are_all ts' us' d)
 
-  module _ (left : IsLeftOf v w) where
+  module _ (left : IsRemainderOf v w) where
     mutual
-      pub stays_left : (t u : PlainTree) → IsExchanged v w t u → IsLeftOf t u
+      pub stays_left : (t u : PlainTree) → IsExchanged v w t u → IsRemainderOf t u
       stays_left t u at_root = left
       stays_left t u (at_child n r a ts us d) = node_left n r a ts us (stay_left ts us d)
 
-      stay_left : (ts us : PlainTrees) → AreExchanged v w ts us → AreLeftOf ts us
+      stay_left : (ts us : PlainTrees) → AreExchanged v w ts us → AreRemaindersOf ts us
       stay_left ts us (at_first t u ts' d) = kept t u ts' ts' (stays_left t u d) (left_all ts')
       stay_left ts us (at_later t ts' us' d) = kept t t ts' us' (left_itself t) (stay_left ts' us' d)
 

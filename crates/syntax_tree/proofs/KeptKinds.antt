@@ -5,7 +5,7 @@ use Rattle.std.specs.List.{cons_option}
 use Rattle.std.proofs.lemmas.List.Elements.{filter_map-append}
 use Rattle.std.proofs.lemmas.Option.{none-some}
 use Rattle.syntax_tree.specs.Trees.{PlainTree, PlainTrees, HasTokensFrom, HaveTokensFrom, kinds_of, kinds_of_all, leaves, of_leaves_all, weight, weight_all}
-use Rattle.syntax_tree.specs.Left.{IsLeftOf, AreLeftOf, IsLeftOfSome, leaf_left, node_left, below_left, none_left, kept, left_out, of_first, of_later}
+use Rattle.syntax_tree.specs.Left.{IsRemainderOf, AreRemaindersOf, IsRemainderOfSome, leaf_left, node_left, below_left, none_left, kept, left_out, of_first, of_later}
 use Rattle.syntax_tree.specs.LeftLaws.{LeavesKeepKinds}
 
 -- From the position f on the kinds are these.
@@ -57,17 +57,17 @@ module _ (kinds : List ℕ) where
     )
 
   mutual
-    keeps_kinds : (t u : PlainTree) → IsLeftOf t u → HasKinds t → HasKinds u
+    keeps_kinds : (t u : PlainTree) → IsRemainderOf t u → HasKinds t → HasKinds u
     keeps_kinds t u (leaf_left n k i) has = has
     keeps_kinds t u (node_left n r a ts us d) has = keep_kinds ts us d has
     keeps_kinds t u (below_left n r a ts u' d) has = some_kinds ts u d has
 
-    keep_kinds : (ts us : PlainTrees) → AreLeftOf ts us → HaveKinds ts → HaveKinds us
+    keep_kinds : (ts us : PlainTrees) → AreRemaindersOf ts us → HaveKinds ts → HaveKinds us
     keep_kinds ts us none_left has = tt
     keep_kinds ts us (kept t u ts' us' d more) has = (keeps_kinds t u d has.0, keep_kinds ts' us' more has.1)
     keep_kinds ts us (left_out t ts' us' more) has = keep_kinds ts' us more has.1
 
-    some_kinds : (ts : PlainTrees) (u : PlainTree) → IsLeftOfSome ts u → HaveKinds ts → HasKinds u
+    some_kinds : (ts : PlainTrees) (u : PlainTree) → IsRemainderOfSome ts u → HaveKinds ts → HasKinds u
     some_kinds ts u (of_first t ts' u' d) has = keeps_kinds t u d has.0
     some_kinds ts u (of_later t ts' u' d) has = some_kinds ts' u d has.1
 

@@ -6,7 +6,7 @@ use Rattle.std.proofs.lemmas.Bool.{cases_Bool, cond-false, cond-true, ne_eqb}
 use Rattle.std.proofs.lemmas.Option.{same_Some, none-some}
 use Rattle.syntax_tree.specs.Trees.{PlainTree, PlainTrees, HasTokensFrom, HaveTokensFrom, leaves, of_leaves_all, weight, weight_all}
 use Rattle.syntax_tree.specs.Numbered.{subtree, subtree_among, with_subtree, with_subtree_among}
-use Rattle.syntax_tree.specs.Left.{IsLeftOf, AreLeftOf, IsLeftOfSome, IsSublist, leaf_left, node_left, below_left, none_left, kept, left_out, of_first, of_later, of_nothing, with_first, without_first}
+use Rattle.syntax_tree.specs.Left.{IsRemainderOf, AreRemaindersOf, IsRemainderOfSome, IsSublist, leaf_left, node_left, below_left, none_left, kept, left_out, of_first, of_later, of_nothing, with_first, without_first}
 use Rattle.syntax_tree.specs.LeftLaws.{NodesAreLeft}
 use Rattle.syntax_tree.proofs.Within.{AllLack, AreWithin, IsWithin, Lacks, all_outside, found, found_among, lack_with, lacks_subtree, lacks_with, or_some, outside, within_from}
 use Rattle.syntax_tree.proofs.LeftTrees.{leaves_part}
@@ -41,25 +41,25 @@ mutual
       (bounded_wider f (f + weight t) f (f + (weight t + weight_all ts)) (leaves t) (omega arith) (omega arith) (tokens_bounded f t e.0))
       (bounded_wider (f + weight t) (f + weight t + weight_all ts) f (f + (weight t + weight_all ts)) (of_leaves_all (λ k i. i) ts) (omega arith) (omega arith) (all_tokens_bounded (f + weight t) ts e.1))
 
-pub left_bounded : (f : ℕ) (t u : PlainTree) → HasTokensFrom f t → IsLeftOf t u → IsBounded f (f + weight t) (leaves u)
+pub left_bounded : (f : ℕ) (t u : PlainTree) → HasTokensFrom f t → IsRemainderOf t u → IsBounded f (f + weight t) (leaves u)
 left_bounded f t u e d = bounded_part f (f + weight t) (leaves u) (leaves t) (leaves_part (λ k i. i) t u d) (tokens_bounded f t e)
 
-all_left_bounded : (f : ℕ) (ts us : PlainTrees) → HaveTokensFrom f ts → AreLeftOf ts us → IsBounded f (f + weight_all ts) (of_leaves_all (λ k i. i) us)
+all_left_bounded : (f : ℕ) (ts us : PlainTrees) → HaveTokensFrom f ts → AreRemaindersOf ts us → IsBounded f (f + weight_all ts) (of_leaves_all (λ k i. i) us)
 all_left_bounded f ts us e d = left_bounded f (PlainTree.node 0 0 0 ts) (PlainTree.node 0 0 0 us) e (node_left 0 0 0 ts us d)
 
 mutual
   -- a number that a tree lacks is in nothing that is left of it
-  pub left_lacks : (q : ℕ) (t u : PlainTree) → IsLeftOf t u → Lacks q t → Lacks q u
+  pub left_lacks : (q : ℕ) (t u : PlainTree) → IsRemainderOf t u → Lacks q t → Lacks q u
   left_lacks q t u (leaf_left n k i) e = e
   left_lacks q t u (node_left n r a ts us d) e = (e.0, left_lack q ts us d e.1)
   left_lacks q t u (below_left n r a ts u' d) e = some_lacks q ts u d e.1
 
-  pub left_lack : (q : ℕ) (ts us : PlainTrees) → AreLeftOf ts us → AllLack q ts → AllLack q us
+  pub left_lack : (q : ℕ) (ts us : PlainTrees) → AreRemaindersOf ts us → AllLack q ts → AllLack q us
   left_lack q ts us none_left e = tt
   left_lack q ts us (kept t u ts' us' d more) e = (left_lacks q t u d e.0, left_lack q ts' us' more e.1)
   left_lack q ts us (left_out t ts' us' more) e = left_lack q ts' us more e.1
 
-  some_lacks : (q : ℕ) (ts : PlainTrees) (u : PlainTree) → IsLeftOfSome ts u → AllLack q ts → Lacks q u
+  some_lacks : (q : ℕ) (ts : PlainTrees) (u : PlainTree) → IsRemainderOfSome ts u → AllLack q ts → Lacks q u
   some_lacks q ts u (of_first t ts' u' d) e = left_lacks q t u d e.0
   some_lacks q ts u (of_later t ts' u' d) e = some_lacks q ts' u d e.1
 
@@ -80,19 +80,19 @@ pub record IsSplit (f end : ℕ) (ls : List ℕ) (with : PlainTree → List ℕ)
 pub record IsKept (q : ℕ) (t left u : PlainTree) : Type 0 where
   pub node : PlainTree
   pub node_is : subtree q t ≡ Some node
-  pub is_left : IsLeftOf node u
+  pub is_left : IsRemainderOf node u
   pub split : (f : ℕ) → HasTokensFrom f t → IsSplit f (f + weight t) (leaves left) (λ w. leaves (with_subtree q w left)) node u
 
 pub record IsKeptAmong (q : ℕ) (ts lefts : PlainTrees) (u : PlainTree) : Type 0 where
   pub node : PlainTree
   pub node_is : subtree_among q ts ≡ Some node
-  pub is_left : IsLeftOf node u
+  pub is_left : IsRemainderOf node u
   pub split : (f : ℕ) → HaveTokensFrom f ts → IsSplit f (f + weight_all ts) (of_leaves_all (λ k i. i) lefts) (λ w. of_leaves_all (λ k i. i) (with_subtree_among q w lefts)) node u
 
 pub record IsKeptSome (q : ℕ) (ts : PlainTrees) (left u : PlainTree) : Type 0 where
   pub node : PlainTree
   pub node_is : subtree_among q ts ≡ Some node
-  pub is_left : IsLeftOf node u
+  pub is_left : IsRemainderOf node u
   pub split : (f : ℕ) → HaveTokensFrom f ts → IsSplit f (f + weight_all ts) (leaves left) (λ w. leaves (with_subtree q w left)) node u
 
 -- the same leaves
@@ -156,7 +156,7 @@ then_split f f' end ls more with v u l b s = record {
 }
 
 -- what is left of the node itself
-kept_itself : (q : ℕ) (t left u : PlainTree) → subtree q t ≡ Some t → ((w : PlainTree) → with_subtree q w left ≡ w) → IsLeftOf t left → left ≡ u → IsKept q t left u
+kept_itself : (q : ℕ) (t left u : PlainTree) → subtree q t ≡ Some t → ((w : PlainTree) → with_subtree q w left ≡ w) → IsRemainderOf t left → left ≡ u → IsKept q t left u
 kept_itself q t left u is by d e =
     let P : PlainTree → Type 0 = λ y. IsKept q t left y in
     subst P e (record {
@@ -178,7 +178,7 @@ kept_itself q t left u is by d e =
     })
 
 mutual
-  pub keeps : (low high q : ℕ) (t left u : PlainTree) → IsWithin low high t → IsLeftOf t left → subtree q left ≡ Some u → IsKept q t left u
+  pub keeps : (low high q : ℕ) (t left u : PlainTree) → IsWithin low high t → IsRemainderOf t left → subtree q left ≡ Some u → IsKept q t left u
   keeps low high q t left u within (leaf_left n k i) e = elim (cases_Bool (nat_eq n q)) [
     | inl is ↦
         kept_itself q (PlainTree.leaf n k i) (PlainTree.leaf n k i) u (cond-true (nat_eq n q) (Some (PlainTree.leaf n k i)) None is) (λ w. cond-true (nat_eq n q) w (PlainTree.leaf n k i) is) (leaf_left n k i)
@@ -205,7 +205,7 @@ mutual
       let other : nat_eq n q ≡ false = ne_eqb n q (omega (arith, (found_among (n + 1) high q ts it.node within.1 it.node_is).above)) in
       record { node = it.node; node_is = cond-false (nat_eq n q) (Some (PlainTree.node n r a ts)) (subtree_among q ts) other ∙ it.node_is; is_left = it.is_left; split = it.split }
 
-  keep : (low high q : ℕ) (ts lefts : PlainTrees) (u : PlainTree) → AreWithin low high ts → AreLeftOf ts lefts → subtree_among q lefts ≡ Some u → IsKeptAmong q ts lefts u
+  keep : (low high q : ℕ) (ts lefts : PlainTrees) (u : PlainTree) → AreWithin low high ts → AreRemaindersOf ts lefts → subtree_among q lefts ≡ Some u → IsKeptAmong q ts lefts u
   keep low high q ts lefts u within none_left e = absurd (none-some u e)
   keep low high q ts lefts u within (kept t left ts' lefts' d more) e = elim (or_some (subtree q left) (subtree_among q lefts') u e) [
     | inl first ↦
@@ -248,7 +248,7 @@ mutual
             (omega arith) (omega arith) (it.split (f + weight t) tokens.1);
       }
 
-  keep_some : (low high q : ℕ) (ts : PlainTrees) (left u : PlainTree) → AreWithin low high ts → IsLeftOfSome ts left → subtree q left ≡ Some u → IsKeptSome q ts left u
+  keep_some : (low high q : ℕ) (ts : PlainTrees) (left u : PlainTree) → AreWithin low high ts → IsRemainderOfSome ts left → subtree q left ≡ Some u → IsKeptSome q ts left u
   keep_some low high q ts left u within (of_first t ts' left' d) e =
       let it = keeps low within.0 q t left u within.1 d e in
       record {

@@ -10,7 +10,7 @@ use Rattle.syntax_tree.specs.Valid.{IsTreeFor, IsValid, AreValid, EachIsValid, o
 use Rattle.syntax_tree.specs.Numbered.{NumbersRise, number_of, with_subtree}
 use Rattle.syntax_tree.specs.Edits.{Deletes, DeletesAmong, IsLocalDeletion, IsLocalEdit, IsLocalReplacement, IsSingleEdit, LeavesOut, Replaces, ReplacesAmong, by_descendant}
 use Rattle.syntax_tree.specs.Edits as edits
-use Rattle.syntax_tree.specs.Left.{IsLeftOf, AreLeftOf, IsLeftOfSome, below_left, left_out, none_left, node_left, kept, of_first, of_later, selected_trees}
+use Rattle.syntax_tree.specs.Left.{IsRemainderOf, AreRemaindersOf, IsRemainderOfSome, below_left, left_out, none_left, node_left, kept, of_first, of_later, selected_trees}
 use Rattle.syntax_tree.specs.EditLaws.{EditsByNumber, IsEditAt, LocalEditsAreValid, SelectedAreValid, SelectionsAreValid, SelectsElements, SingleEditsAreTrees}
 use Rattle.syntax_tree.specs.EditLaws as selects
 use Rattle.syntax_tree.proofs.Decoding.{children_valid, no_slots, slot_valid}
@@ -19,16 +19,16 @@ use Rattle.syntax_tree.proofs.LeftTrees.{left_all, left_itself, leaves_part, sel
 use Rattle.syntax_tree.proofs.Exchanged.{change, stays_left}
 use Rattle.syntax_tree.proofs.InSlots.{IsExchangedIn, AreExchangedIn, at_child, at_first, at_later, at_number, at_root, exchanged, stays_valid, was_valid, without_slots}
 
-left_out_of : (ts us : PlainTrees) → LeavesOut ts us → AreLeftOf ts us
+left_out_of : (ts us : PlainTrees) → LeavesOut ts us → AreRemaindersOf ts us
 left_out_of ts us (edits.first t ts') = left_out t ts' ts' (left_all ts')
 left_out_of ts us (edits.later t ts' us' d) = kept t t ts' us' (left_itself t) (left_out_of ts' us' d)
 
 mutual
-  in_left : (t u : PlainTree) → IsIn u t → IsLeftOf t u
+  in_left : (t u : PlainTree) → IsIn u t → IsRemainderOf t u
   in_left t u (itself t') = left_itself t
   in_left t u (below u' n r a ts d) = below_left n r a ts u (some_left ts u d)
 
-  some_left : (ts : PlainTrees) (u : PlainTree) → IsInSome u ts → IsLeftOfSome ts u
+  some_left : (ts : PlainTrees) (u : PlainTree) → IsInSome u ts → IsRemainderOfSome ts u
   some_left ts u (trees.in_first u' t ts' d) = of_first t ts' u (in_left t u d)
   some_left ts u (trees.in_later u' t ts' d) = of_later t ts' u (some_left ts' u d)
 
@@ -100,22 +100,22 @@ module _ (N : NormalForm) where
   each_selected y (false ∷ mask) (PlainTrees.next t ts) each = each_selected y mask ts (each_first y t ts each).1
 
   -- what a local edit gives
-  deletion_valid : (x : Sym) (v w : PlainTree) → IsValid N x v → IsLocalDeletion N v w → IsValid N x w × IsLeftOf v w
+  deletion_valid : (x : Sym) (v w : PlainTree) → IsValid N x v → IsLocalDeletion N v w → IsValid N x w × IsRemainderOf v w
   deletion_valid x v w valid (edits.of_star n r a ts us y rule out) = (star_with x n r a ts us y valid rule (each_without y ts us out), node_left n r a ts us (left_out_of ts us out))
   deletion_valid x v w valid (edits.of_plus n r a ts u us y rule out) = (plus_with x n r a ts u us y valid rule (each_without y ts (PlainTrees.next u us) out), node_left n r a ts (PlainTrees.next u us) (left_out_of ts (PlainTrees.next u us) out))
   deletion_valid x v w valid (edits.of_opt n r a t y rule) =
       (opt_with x n r a (PlainTrees.next t PlainTrees.none) y valid rule, node_left n r a (PlainTrees.next t PlainTrees.none) PlainTrees.none (left_out t PlainTrees.none PlainTrees.none none_left))
 
-  replacement_valid : (x : Sym) (v w : PlainTree) → IsValid N x v → IsLocalReplacement N x v w → IsValid N x w × IsLeftOf v w
+  replacement_valid : (x : Sym) (v w : PlainTree) → IsValid N x v → IsLocalReplacement N x v w → IsValid N x w × IsRemainderOf v w
   replacement_valid x v w valid (by_descendant x' n r a ts alts u rule is_below fits) =
       let it = some_valid (slots_of N r a ts) ts w (children_valid N x n r a ts valid) is_below in
       (fits_slot it.0 x w it.1 fits, below_left n r a ts w (some_left ts w is_below))
 
-  edit_valid : (x : Sym) (v w : PlainTree) → IsValid N x v → IsLocalEdit N x v w → IsValid N x w × IsLeftOf v w
+  edit_valid : (x : Sym) (v w : PlainTree) → IsValid N x v → IsLocalEdit N x v w → IsValid N x w × IsRemainderOf v w
   edit_valid x v w valid (inl deletion) = deletion_valid x v w valid deletion
   edit_valid x v w valid (inr replacement) = replacement_valid x v w valid replacement
 
-  selection_valid : (x : Sym) (mask : List Bool) (v w : PlainTree) → IsValid N x v → SelectsElements N mask v w → IsValid N x w × IsLeftOf v w
+  selection_valid : (x : Sym) (mask : List Bool) (v w : PlainTree) → IsValid N x v → SelectsElements N mask v w → IsValid N x w × IsRemainderOf v w
   selection_valid x mask v w valid (selects.of_star n r a ts y rule) =
       (star_with x n r a ts (selected_trees mask ts) y valid rule (each_selected y mask ts), node_left n r a ts (selected_trees mask ts) (selected_left mask ts))
   selection_valid x mask v w valid (selects.of_plus n r a ts y rule some) =
@@ -220,7 +220,7 @@ module _ (N : NormalForm) where
       let same : weight u ≡ weight (with_subtree q w t) = ap weight e.tree in
       record { edit = edited x v w s t u d e.edit; smaller = omega (arith, e.smaller, weights, same) }
 
-  stays_tree : (s : Sym) (t u : PlainTree) → IsTreeFor N s t → IsSingleEdit N s t u → IsTreeFor N s u × IsLeftOf t u
+  stays_tree : (s : Sym) (t u : PlainTree) → IsTreeFor N s t → IsSingleEdit N s t u → IsTreeFor N s u × IsRemainderOf t u
   stays_tree s t u tree e =
       let it = edit_of s t u tree.valid e.edit in
       let local = edit_valid it.slot it.node it.by (was_valid N it.slot it.node it.by s t u it.exchanged tree.valid) it.edit in

@@ -6,7 +6,7 @@ use Rattle.std.proofs.lemmas.Option.{same_Some}
 use Rattle.syntax_tree.specs.Trees.{PlainTree, PlainTrees, HasTokensFrom, HaveTokensFrom, leaves, of_leaves_all, size, weight, weight_all}
 use Rattle.syntax_tree.specs.Numbered.{with_subtree}
 use Rattle.syntax_tree.specs.Nodes.{whole}
-use Rattle.syntax_tree.specs.Left.{IsLeftOf}
+use Rattle.syntax_tree.specs.Left.{IsRemainderOf}
 use Rattle.syntax_tree.specs.LeftLaws.{LeavesInSpan, is_within}
 use Rattle.syntax_tree.proofs.Within.{RisesFrom, numbered_within, rises_weaker}
 use Rattle.syntax_tree.proofs.LeftTrees.{leaves_part, lighter, no_leaves, sublist_rises}
@@ -63,7 +63,7 @@ mutual
       subst P (sym (append_assoc (leaves t) (of_leaves_all (λ k i. i) ts) rest))
       (tokens_rise f t (of_leaves_all (λ k i. i) ts ++ rest) e.0 (all_tokens_rise (f + weight t) ts rest e.1 (rises_weaker (f + (weight t + weight_all ts)) (f + weight t + weight_all ts) rest (omega arith) r)))
 
-pub leaves_rise : (f : ℕ) (t u : PlainTree) → HasTokensFrom f t → IsLeftOf t u → RisesFrom f (leaves u)
+pub leaves_rise : (f : ℕ) (t u : PlainTree) → HasTokensFrom f t → IsRemainderOf t u → RisesFrom f (leaves u)
 leaves_rise f t u e d =
     let P : List ℕ → Type 0 = λ l. RisesFrom f l in
     sublist_rises f (leaves u) (leaves t) (leaves_part (λ k i. i) t u d) (subst P (append-nil (leaves t)) (tokens_rise f t [] e tt))
@@ -81,7 +81,7 @@ mutual
     | inr none ↦ omega (arith, same_first_all (a + weight t) (b + weight t) ts e.1 f.1 (omega (arith, w, none)))
   ]
 
-module _ (q c e f end : ℕ) (t u v : PlainTree) (s : IsSplit f end (leaves t) (λ w. leaves (with_subtree q w t)) v u) (left : IsLeftOf v u) where
+module _ (q c e f end : ℕ) (t u v : PlainTree) (s : IsSplit f end (leaves t) (λ w. leaves (with_subtree q w t)) v u) (left : IsRemainderOf v u) where
   -- where the span has tokens
   module _ (starts : c ≡ s.first) (ends : e ≡ s.first + weight v) where
     is_bounded : IsBounded s.first (s.first + weight v) (leaves u)
@@ -124,7 +124,7 @@ module _ (q c e f end : ℕ) (t u v : PlainTree) (s : IsSplit f end (leaves t) (
         ∙ ap (λ l. l ++ filter (λ i. nat_le c i) (leaves t)) (sym (append-nil (filter (λ i. nat_lt i c) (leaves t))) ∙ ap (λ l. filter (λ i. nat_lt i c) (leaves t) ++ l) (sym none))
         ∙ ap (λ (n : ℕ). filter (λ i. nat_lt i c) (leaves t) ++ ys ++ filter (λ i. nat_le n i) (leaves t)) (sym same)
 
-    no_change : (w : PlainTree) → IsLeftOf u w → leaves (with_subtree q w t) ≡ leaves t
+    no_change : (w : PlainTree) → IsRemainderOf u w → leaves (with_subtree q w t) ≡ leaves t
     no_change w d =
         let none : leaves u ≡ [] = no_leaves (λ k i. i) u (omega (arith, lighter v u left, empty)) in
         let none_of : leaves w ≡ [] = no_leaves (λ k i. i) w (omega (arith, lighter v u left, lighter u w d, empty)) in

@@ -7,7 +7,7 @@ use Rattle.syntax_tree.specs.Trees.{PlainTree, PlainTrees, count, leaves, weight
 use Rattle.syntax_tree.specs.Valid.{EachIsValid, IsTreeFor, IsValid, slot_at}
 use Rattle.syntax_tree.specs.Numbered.{NumbersRise, subtree, with_subtree}
 use Rattle.syntax_tree.specs.Edits.{IsLocalEdit, IsSingleEdit}
-use Rattle.syntax_tree.specs.Left.{IsLeftOf, selected_trees}
+use Rattle.syntax_tree.specs.Left.{IsRemainderOf, selected_trees}
 
 -- The second tree is the first one, which is in the slot, with an edit at the node q, which is in the slot x.
 pub record IsEditAt (N : NormalForm) (s : Sym) (t u : PlainTree) (q : ℕ) (x : Sym) (v w : PlainTree) : Type 0 where
@@ -24,11 +24,11 @@ EditsByNumber = (N : NormalForm) (s : Sym) (t u : PlainTree) → IsValid N s t �
 
 -- A single edit of a tree for a slot gives a tree for the slot, which is left of it.
 abbrev pub SingleEditsAreTrees : Type 0
-SingleEditsAreTrees = (N : NormalForm) (s : Sym) (t u : PlainTree) → IsTreeFor N s t → IsSingleEdit N s t u → IsTreeFor N s u × IsLeftOf t u
+SingleEditsAreTrees = (N : NormalForm) (s : Sym) (t u : PlainTree) → IsTreeFor N s t → IsSingleEdit N s t u → IsTreeFor N s u × IsRemainderOf t u
 
 -- A local edit of a tree that is valid for its slot gives one that is valid for it, and is left of it.
 abbrev pub LocalEditsAreValid : Type 0
-LocalEditsAreValid = (N : NormalForm) (x : Sym) (v w : PlainTree) → IsValid N x v → IsLocalEdit N x v w → IsValid N x w × IsLeftOf v w
+LocalEditsAreValid = (N : NormalForm) (x : Sym) (v w : PlainTree) → IsValid N x v → IsLocalEdit N x v w → IsValid N x w × IsRemainderOf v w
 
 -- A tree that is valid for the slot of a node can take the node's position.
 abbrev pub SubtreesFit : Type 0
@@ -51,7 +51,7 @@ SubtreesChange = (t : PlainTree) (q : ℕ) (v w : PlainTree) → NumbersRise t �
 
 -- What is left of a node can take its position: the tree is then left of the one before.
 abbrev pub SubtreesAreLeft : Type 0
-SubtreesAreLeft = (t : PlainTree) (q : ℕ) (v w : PlainTree) → NumbersRise t → subtree q t ≡ Some v → IsLeftOf v w → IsLeftOf t (with_subtree q w t)
+SubtreesAreLeft = (t : PlainTree) (q : ℕ) (v w : PlainTree) → NumbersRise t → subtree q t ≡ Some v → IsRemainderOf v w → IsRemainderOf t (with_subtree q w t)
 
 -- The nodes and slots after what is left of a node has taken its position: those in the node are those of the tree w, and the others are as before.
 pub record HasOtherNodes (N : NormalForm) (s : Sym) (t : PlainTree) (q : ℕ) (x : Sym) (v w : PlainTree) : Type 0 where
@@ -62,7 +62,7 @@ pub record HasOtherNodes (N : NormalForm) (s : Sym) (t : PlainTree) (q : ℕ) (x
 
 -- A valid tree whose numbers rise has them.
 abbrev pub OtherNodesStay : Type 0
-OtherNodesStay = (N : NormalForm) (s x : Sym) (q : ℕ) (t v w : PlainTree) → IsValid N s t → NumbersRise t → subtree q t ≡ Some v → slot_at N s q t ≡ Some x → IsLeftOf v w →
+OtherNodesStay = (N : NormalForm) (s x : Sym) (q : ℕ) (t v w : PlainTree) → IsValid N s t → NumbersRise t → subtree q t ≡ Some v → slot_at N s q t ≡ Some x → IsRemainderOf v w →
     HasOtherNodes N s t q x v w
 
 -- Some of the elements of a list are valid elements again, and are left of them.
@@ -77,4 +77,4 @@ pub data SelectsElements (N : NormalForm) (mask : List Bool) : PlainTree → Pla
 
 -- A list with some of its elements is valid for the slot that it was valid for, and is left of it.
 abbrev pub SelectionsAreValid : Type 0
-SelectionsAreValid = (N : NormalForm) (x : Sym) (mask : List Bool) (v w : PlainTree) → IsValid N x v → SelectsElements N mask v w → IsValid N x w × IsLeftOf v w
+SelectionsAreValid = (N : NormalForm) (x : Sym) (mask : List Bool) (v w : PlainTree) → IsValid N x v → SelectsElements N mask v w → IsValid N x w × IsRemainderOf v w

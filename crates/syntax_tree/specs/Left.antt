@@ -4,22 +4,22 @@ use Rattle.syntax_tree.specs.Trees.{PlainTree, PlainTrees}
 
 mutual
   -- The second tree is what edits can leave of the first one.
-  pub data IsLeftOf : PlainTree → PlainTree → Type 0 where
-    leaf_left : (n k i : ℕ) → IsLeftOf (PlainTree.leaf n k i) (PlainTree.leaf n k i)
-    node_left : (n r a : ℕ) (ts us : PlainTrees) → AreLeftOf ts us → IsLeftOf (PlainTree.node n r a ts) (PlainTree.node n r a us)
+  pub data IsRemainderOf : PlainTree → PlainTree → Type 0 where
+    leaf_left : (n k i : ℕ) → IsRemainderOf (PlainTree.leaf n k i) (PlainTree.leaf n k i)
+    node_left : (n r a : ℕ) (ts us : PlainTrees) → AreRemaindersOf ts us → IsRemainderOf (PlainTree.node n r a ts) (PlainTree.node n r a us)
     -- what is left of one below it has taken its position
-    below_left : (n r a : ℕ) (ts : PlainTrees) (u : PlainTree) → IsLeftOfSome ts u → IsLeftOf (PlainTree.node n r a ts) u
+    below_left : (n r a : ℕ) (ts : PlainTrees) (u : PlainTree) → IsRemainderOfSome ts u → IsRemainderOf (PlainTree.node n r a ts) u
 
   -- The second trees are what is left of the first ones, some of which may be left out.
-  pub data AreLeftOf : PlainTrees → PlainTrees → Type 0 where
-    none_left : AreLeftOf PlainTrees.none PlainTrees.none
-    kept : (t u : PlainTree) (ts us : PlainTrees) → IsLeftOf t u → AreLeftOf ts us → AreLeftOf (PlainTrees.next t ts) (PlainTrees.next u us)
-    left_out : (t : PlainTree) (ts us : PlainTrees) → AreLeftOf ts us → AreLeftOf (PlainTrees.next t ts) us
+  pub data AreRemaindersOf : PlainTrees → PlainTrees → Type 0 where
+    none_left : AreRemaindersOf PlainTrees.none PlainTrees.none
+    kept : (t u : PlainTree) (ts us : PlainTrees) → IsRemainderOf t u → AreRemaindersOf ts us → AreRemaindersOf (PlainTrees.next t ts) (PlainTrees.next u us)
+    left_out : (t : PlainTree) (ts us : PlainTrees) → AreRemaindersOf ts us → AreRemaindersOf (PlainTrees.next t ts) us
 
   -- The tree is what is left of one of the trees.
-  pub data IsLeftOfSome : PlainTrees → PlainTree → Type 0 where
-    of_first : (t : PlainTree) (ts : PlainTrees) (u : PlainTree) → IsLeftOf t u → IsLeftOfSome (PlainTrees.next t ts) u
-    of_later : (t : PlainTree) (ts : PlainTrees) (u : PlainTree) → IsLeftOfSome ts u → IsLeftOfSome (PlainTrees.next t ts) u
+  pub data IsRemainderOfSome : PlainTrees → PlainTree → Type 0 where
+    of_first : (t : PlainTree) (ts : PlainTrees) (u : PlainTree) → IsRemainderOf t u → IsRemainderOfSome (PlainTrees.next t ts) u
+    of_later : (t : PlainTree) (ts : PlainTrees) (u : PlainTree) → IsRemainderOfSome ts u → IsRemainderOfSome (PlainTrees.next t ts) u
 
 -- The first list is the second one without some of its elements.
 pub data IsSublist : List ℕ → List ℕ → Type 0 where

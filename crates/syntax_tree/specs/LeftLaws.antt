@@ -6,15 +6,15 @@ use Rattle.syntax_tree.specs.declared.node.Node.{Node}
 use Rattle.syntax_tree.specs.Trees.{PlainTree, HasTokensFrom, IsIn, kinds_of, leaves, weight}
 use Rattle.syntax_tree.specs.Numbered.{NumbersRise, numbers, subtree, with_subtree}
 use Rattle.syntax_tree.specs.Nodes.{AreNodesOf, SyntaxTree, whole}
-use Rattle.syntax_tree.specs.Left.{IsLeftOf, IsSublist}
+use Rattle.syntax_tree.specs.Left.{IsRemainderOf, IsSublist}
 
 -- A tree is left of itself.
 abbrev pub LeftIsReflexive : Type 0
-LeftIsReflexive = (t : PlainTree) → IsLeftOf t t
+LeftIsReflexive = (t : PlainTree) → IsRemainderOf t t
 
 -- What is left of what is left of a tree is left of the tree.
 abbrev pub LeftIsTransitive : Type 0
-LeftIsTransitive = (t u v : PlainTree) → IsLeftOf t u → IsLeftOf u v → IsLeftOf t v
+LeftIsTransitive = (t u v : PlainTree) → IsRemainderOf t u → IsRemainderOf u v → IsRemainderOf t v
 
 -- What is left has some of the numbers and some of the leaves, in their order.
 pub record IsPartOfTree (t u : PlainTree) : Type 0 where
@@ -27,15 +27,15 @@ pub record IsPartOfTree (t u : PlainTree) : Type 0 where
   pub same_leaves : (n k i : ℕ) → IsIn (PlainTree.leaf n k i) u → IsIn (PlainTree.leaf n k i) t
 
 abbrev pub LeftIsPart : Type 0
-LeftIsPart = (t u : PlainTree) → IsLeftOf t u → IsPartOfTree t u
+LeftIsPart = (t u : PlainTree) → IsRemainderOf t u → IsPartOfTree t u
 
 -- The leaves that are left of a tree of all tokens have the kinds that their tokens have.
 abbrev pub LeavesKeepKinds : Type 0
-LeavesKeepKinds = (t u : PlainTree) → HasTokensFrom 0 t → IsLeftOf t u → kinds_of u ≡ filter_map (λ i. slice_get (kinds_of t) i) (leaves u)
+LeavesKeepKinds = (t u : PlainTree) → HasTokensFrom 0 t → IsRemainderOf t u → kinds_of u ≡ filter_map (λ i. slice_get (kinds_of t) i) (leaves u)
 
 -- What is left at a node is left of what was there.
 abbrev pub NodesAreLeft : Type 0
-NodesAreLeft = (t u w : PlainTree) (q : ℕ) → NumbersRise t → IsLeftOf t u → subtree q u ≡ Some w → (v : PlainTree) × (subtree q t ≡ Some v) × IsLeftOf v w
+NodesAreLeft = (t u w : PlainTree) (q : ℕ) → NumbersRise t → IsRemainderOf t u → subtree q u ≡ Some w → (v : PlainTree) × (subtree q t ≡ Some v) × IsRemainderOf v w
 
 -- the token i is one of those from the token `first` up to but not including the token `end`
 abbrev pub is_within : ℕ → ℕ → ℕ → Bool
@@ -45,8 +45,8 @@ is_within first end i = nat_le first i && nat_lt i end
 pub record AreLeavesInSpan (x : Node) (q : ℕ) (t u : PlainTree) : Type 0 where
   pub inside : leaves u ≡ filter (is_within x.first x.end) (leaves t)
   pub all : leaves t ≡ filter (λ i. nat_lt i x.first) (leaves t) ++ leaves u ++ filter (λ i. nat_le x.end i) (leaves t)
-  pub changed : (w : PlainTree) → IsLeftOf u w → leaves (with_subtree q w t) ≡ filter (λ i. nat_lt i x.first) (leaves t) ++ leaves w ++ filter (λ i. nat_le x.end i) (leaves t)
+  pub changed : (w : PlainTree) → IsRemainderOf u w → leaves (with_subtree q w t) ≡ filter (λ i. nat_lt i x.first) (leaves t) ++ leaves w ++ filter (λ i. nat_le x.end i) (leaves t)
 
 abbrev pub LeavesInSpan : Type 0
 LeavesInSpan = (tree : SyntaxTree) → AreNodesOf tree.form tree.start tree.nodes (whole tree) → (t u : PlainTree) (q : ℕ) (x : Node) →
-    IsLeftOf (whole tree) t → subtree q t ≡ Some u → slice_get tree.nodes q ≡ Some x → AreLeavesInSpan x q t u
+    IsRemainderOf (whole tree) t → subtree q t ≡ Some u → slice_get tree.nodes q ≡ Some x → AreLeavesInSpan x q t u

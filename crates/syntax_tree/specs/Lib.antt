@@ -1,9 +1,6 @@
-pub use Rattle.normal_form.specs.Form
-pub use Rattle.normal_form.specs.NormalDerives
-pub use Rattle.normal_form.specs.NormalOf
-pub use Rattle.compat_table.specs.Fits
-pub use Rattle.compat_table.specs.Laws as FitLaws
-pub use Rattle.derived_spans.specs.Spans
+pub use Rattle.normal_form.specs as NormalForm
+pub use Rattle.compat_table.specs as CompatTable
+pub use Rattle.normal_form_spans.specs.Spans
 pub mod Trees
 pub mod Numbered
 pub mod Valid

@@ -3,12 +3,14 @@
 //! [`Tree`] is the tree of an input's tokens, as a list of [`Node`]s. Nothing here recurs as deep as
 //! a tree: the recursive trees are definitions.
 //!
-//! Read `specs/Trees.antt`, `specs/Valid.antt` and `specs/Numbered.antt` first: trees, which are
-//! valid for which slots, and how calls name their nodes; then `specs/Edits.antt` and
-//! `specs/Left.antt`: the single edits, and what edits can leave. Which tree a parser takes is in
-//! `specs/Preferred.antt`, what contracts see of a [`Tree`] in `specs/Nodes.antt`, and the order of
-//! descendants in `specs/Levels.antt`. What follows from these is in `specs/Laws.antt`,
-//! `NodeLaws.antt`, `EditLaws.antt` and `LeftLaws.antt`, each law with a function of its name.
+//! Read `specs/Trees.antt`, `specs/Valid.antt` and `specs/Numbered.antt` first: trees, which are valid
+//! for which slots, and how calls name their nodes; then `specs/Edits.antt` and `specs/Left.antt`: the
+//! single edits, and what edits can leave. Which tree a parser takes is in `specs/Preferred.antt`, what
+//! contracts see of a [`Tree`] in `specs/Nodes.antt`, and the order of descendants in
+//! `specs/Levels.antt`. What follows from these is in `specs/Laws.antt`, `NodeLaws.antt`,
+//! `EditLaws.antt` and `LeftLaws.antt`, each law with a function of its name. A slot derives the kinds
+//! of each tree that is valid for it ([`valid_trees_are_derived`]), and a single edit of a tree for a
+//! slot gives a tree for the slot ([`single_edits_are_trees`]).
 #![tactic(auto)]
 
 mod edit_laws;

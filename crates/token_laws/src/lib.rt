@@ -1,10 +1,11 @@
 //! What is known of the tokens of a text, for the proofs of the crates that take texts apart and put
 //! them together again.
 //!
-//! Begin with `specs/Spelling.antt`, which defines a token's spelling and the gaps between tokens
-//! over the bytes of a text. Each law is a function that does nothing: a caller calls it so that its
-//! proof has the law. The statements are in `specs/Laws.antt`; `specs/Spells.antt` says of a text that
-//! it is cut into given tokens, and `specs/Readings.antt` has the tokens of a text as a function.
+//! Begin with `specs/Spelling.antt`, which defines a token's spelling and the gaps between tokens over
+//! the bytes of a text. Each law is a function that does nothing: a caller calls it so that its proof
+//! has the law. The statements are in `specs/Laws.antt`; `specs/Spells.antt` says of a text that it is
+//! cut into given tokens, and `specs/Readings.antt` has the tokens of a text as a function. A text has
+//! one list of tokens at most ([`tokens_are_unique`]).
 #![tactic(auto)]
 
 mod laws;

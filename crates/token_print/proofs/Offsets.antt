@@ -1,15 +1,13 @@
 -- Where the tokens of a text and their gaps are, as the code reads them.
 use Rattle.std.proofs.Common.{◌≡◌, ℕ, suc, ◌-◌, ◌<◌, ◌≤◌, ◌≢◌, List, [], Some, slice_get, slice_index_or, length, map, sym, ap, ◌∙◌, subst, arith}
 use Rattle.std.specs.Option.{option_map, option_map_or}
-use Rattle.std.specs.Str.{IsUtf8}
 use Rattle.std.proofs.lemmas.List.{get_or-map, length-map}
 use Rattle.std.proofs.lemmas.Option.{slice_get-get_or, slice_get-map}
 use Rattle.grammar_tree.specs.Lexes.{PlacedToken}
 use Rattle.lexer.specs.Tokens.{token_of}
 use Rattle.lexer.specs.declared.token.Token.{Token}
 use Rattle.token_laws.specs.Laws.{AreInOrder, IsSlice}
-use Rattle.token_laws.specs.Spelling.{gap_end, gap_start, spelling, spelling_at}
-use Rattle.token_laws.proofs.Slices.{is_slice}
+use Rattle.token_laws.specs.Spelling.{gap_start, spelling, spelling_at}
 
 module _ (text : List ℕ) (tokens : List Token) where
   pub there : (i : ℕ) (d : Token) → i < length tokens → slice_get (map token_of tokens) i ≡ Some (token_of (slice_index_or tokens i d))
@@ -30,7 +28,3 @@ module _ (text : List ℕ) (tokens : List Token) where
       let P : PlacedToken → Type 0 = λ t. IsSlice text t.start t.end in
       let same : slice_index_or (map token_of tokens) i (token_of d) ≡ token_of (slice_index_or tokens i d) = get_or-map token_of tokens i d (token_of d) h in
       subst P same (order.slices i (token_of d) (omega (arith, h, length-map tokens token_of)))
-
-  -- each gap too
-  pub gap_slice : IsUtf8 text → AreInOrder text (map token_of tokens) → (i : ℕ) → i ≤ length tokens → IsSlice text (gap_start text (map token_of tokens) i) (gap_end text (map token_of tokens) i)
-  gap_slice utf8 order i h = is_slice text (map token_of tokens) utf8 order i (omega (arith, h, length-map tokens token_of))

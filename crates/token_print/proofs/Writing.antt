@@ -1,5 +1,5 @@
 -- The kept tokens are written one after another.
-use Rattle.std.proofs.Common.{◌≡◌, ℕ, suc, ◌+◌, ◌<◌, ◌≤◌, List, [], ◌++◌, Option, Some, None, drop, slice_index_or, length, sym, ap, ap₂, ◌∙◌, arith, append_assoc, ◌-◌, ◌^◌, min, length-append}
+use Rattle.std.proofs.Common.{◌≡◌, ℕ, suc, ◌+◌, ◌<◌, ◌≤◌, List, [], ◌++◌, Option, Some, None, drop, slice_index_or, length, sym, ap, ap₂, ◌∙◌, arith, append_assoc, ◌-◌, ◌^◌}
 use Rattle.std.proofs.Math.Seq.{drop-cons}
 use Rattle.std.proofs.lemmas.List.{drop_all}
 use Rattle.grammar_tree.specs.Lexes.{PlacedToken}
@@ -41,39 +41,3 @@ module _ (skips : Skips) (start : List ℕ) (tokens : List PlacedToken) (style :
   abbrev pub IsCounted : ℕ → Option ℕ → ℕ → Type 0
   IsCounted size last i =
       length (printed_after skips start tokens style None kept) < 2 ^ 64 → size + length (printed_after skips start tokens style last (drop i kept)) ≡ length (printed_after skips start tokens style None kept)
-
-  pub counted_first : IsCounted 0 None 0
-  counted_first few = omega arith
-
-  -- one more kept token
-  pub counted_more : (size with_gap longer gap word : ℕ) (last : Option ℕ) (i : ℕ) → i < length kept →
-      gap ≡ length (before skips start tokens style last (slice_index_or kept i 0)) →
-      word ≡ length (spelling_at start tokens (slice_index_or kept i 0)) →
-      with_gap ≡ min (size + gap) (2 ^ 64 - 1) →
-      longer ≡ min (with_gap + word) (2 ^ 64 - 1) →
-      IsCounted size last i → IsCounted longer (Some (slice_index_or kept i 0)) (i + 1)
-  counted_more size with_gap longer gap word last i h gap_is word_is first second is few =
-      let x = slice_index_or kept i 0 in
-      let next : i + 1 ≡ suc i = omega arith in
-      let rest = printed_after skips start tokens style (Some x) (drop (suc i) kept) in
-      let b = before skips start tokens style last x in
-      let w = spelling_at start tokens x in
-      omega (
-        arith,
-        is few,
-        few,
-        gap_is,
-        word_is,
-        first,
-        second,
-        ap (λ l. length (printed_after skips start tokens style last l)) (drop-cons kept i 0 h),
-        length-append b (w ++ rest),
-        length-append w rest,
-        ap (λ k. length (printed_after skips start tokens style (Some x) (drop k kept))) next,
-      )
-
-  pub counted_all : (size whole end : ℕ) (last : Option ℕ) (i : ℕ) → length kept ≤ i →
-      end ≡ length (after skips start tokens style last) → whole ≡ min (size + end) (2 ^ 64 - 1) → IsCounted size last i →
-      length (printed_after skips start tokens style None kept) < 2 ^ 64 → whole ≡ length (printed_after skips start tokens style None kept)
-  counted_all size whole end last i h end_is sum is few =
-      omega (arith, is few, few, end_is, sum, ap (λ l. length (printed_after skips start tokens style last l)) (drop_all i kept h))

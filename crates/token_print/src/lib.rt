@@ -1,8 +1,9 @@
 //! The text of the kept tokens of a start, and whether a text is cut into them again.
 //!
-//! Begin with [`print`] and [`keeps_tokens`]; [`are_kept`] tests what they ask of the kept tokens.
-//! Read `printed` in `specs/Printed.antt` first, then `KeepsTokens` in `specs/Kept.antt`;
-//! `specs/Laws.antt` has what is known of printed texts.
+//! Begin with [`print`] and [`keeps_tokens`]; [`are_kept`] tests what they ask of the kept tokens. Read
+//! `printed` in `specs/Printed.antt` first, then `KeepsTokens` in `specs/Kept.antt`; `specs/Laws.antt`
+//! has what is known of printed texts. All tokens as they were give the start itself
+//! ([`all_kept_is_start`]).
 #![tactic(auto)]
 
 mod keeps;

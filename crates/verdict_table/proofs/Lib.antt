@@ -1,5 +1,2 @@
-pub mod PlanLemmas
-pub mod AheadLemmas
 pub mod RecordLemmas
 pub mod TableLemmas
-pub mod GrowLemmas

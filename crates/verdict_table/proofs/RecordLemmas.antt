@@ -6,8 +6,7 @@ use Rattle.std.proofs.lemmas.Cmp.{nat_list_eq_equiv}
 use Rattle.std.proofs.lemmas.Slice.Eq.{bytes_eq-Decides}
 use Rattle.std.specs.List.{AllByRecursion, IsDistinct, list_any}
 use Rattle.std.specs.Str.{bytes_eq}
-use Rattle.script_gate.specs.declared.gate.Verdict.{Verdict}
-use Rattle.verdict_table.specs.Plan.{Plan, End, Ask, asked, follow}
+use Rattle.script_gate_trait.specs.declared.gate.Verdict.{Verdict}
 use Rattle.verdict_table.specs.TableState.{Extends, texts_of, verdict_in}
 use Rattle.verdict_table.specs.declared.record.Record.{Record}
 
@@ -61,11 +60,3 @@ not_among [] text none = refl
 not_among (r ∷ rs) text none =
     let apart : (bytes_eq text r.text ≡ false) × (verdict_in rs text ≡ None) = apart_at (bytes_eq text r.text) r.verdict (verdict_in rs text) none in
     rw apart.0 (not_among rs text apart.1)
-
--- a plan whose text has no verdict stays as it is
-pub stays : (V : List ℕ → Option Verdict) (p : Plan) (text : List ℕ) → asked p ≡ Some text → V text ≡ None → follow V p ≡ p
-stays V (End x) text asks none = absurd (cc asks)
-stays V (Ask x a b) text asks none =
-    let same : x ≡ text = cc asks in
-    let unknown : V x ≡ None = rw same none in
-    rw unknown refl

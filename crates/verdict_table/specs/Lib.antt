@@ -1,4 +1,1 @@
-pub mod Plan
-pub mod Ahead
 pub mod TableState
-pub mod Grow

@@ -2,7 +2,7 @@
 use Rattle.std.specs.Prelude.{◌≡◌, ◌<◌, ℕ, ◌+◌, ◌==◌, List, [], ◌∷◌, ◌++◌, All, length, map, find, filter, not, Option, Some, None, option_map, unwrap_or, nat_eq, if◌then◌else◌}
 use Rattle.std.specs.List.{IsDistinct}
 use Rattle.std.specs.Str.{bytes_eq}
-use Rattle.script_gate.specs.declared.gate.Verdict.{Verdict}
+use Rattle.script_gate_trait.specs.declared.gate.Verdict.{Verdict}
 use Rattle.verdict_table.specs.declared.found.Found.{Found}
 use Rattle.verdict_table.specs.declared.found.Found.TheVariants.{Absent, Claimed, Filled}
 use Rattle.verdict_table.specs.declared.record.Record.{Record}

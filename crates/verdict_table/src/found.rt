@@ -1,4 +1,4 @@
-use script_gate::Verdict;
+use script_gate_trait::Verdict;
 
 /// What a table holds for a text.
 #[derive(Clone, Copy, Debug, PartialEq, Eq)]

@@ -1,7 +1,7 @@
 ghost use Rattle.std.specs.Prelude.{◌≡◌, ◌==◌, [], ◌∷◌, ◌++◌, length, OnOk, OnErr};
 
 use faults::Memory;
-use script_gate::{Bytes, Verdict};
+use script_gate_trait::{Bytes, Verdict};
 use std::alloc::Global;
 use std::marker::Model;
 

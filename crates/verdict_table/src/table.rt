@@ -7,7 +7,7 @@ ghost use Rattle.verdict_table.specs.TableState.{HasOnce, all_numbers, claim_cou
 use crate::found::Found;
 use crate::record::{Record, Records};
 use faults::Memory;
-use script_gate::{Bytes, Verdict};
+use script_gate_trait::{Bytes, Verdict};
 use std::alloc::Global;
 use std::marker::Model;
 

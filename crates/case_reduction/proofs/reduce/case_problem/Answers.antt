@@ -1,5 +1,5 @@
 use Rattle.std.proofs.Common.{ℕ, List, ◌∙◌, subst}
-use Rattle.grammar_input.specs.Parsed.{IsParsed, MakesInputOf}
+use Rattle.reduce_trees_input.specs.Parsed.{IsParsed, MakesInputOf}
 use Rattle.case_maker.specs.Cases.{case_text}
 use Rattle.case_reduction.proofs.CaseTrees.{found_in, is_case, short}
 use Rattle.case_reduction.proofs.reduce.case_problem.Goals as goal

@@ -1,9 +1,9 @@
 use Rattle.std.proofs.Common.{ℕ, List, take, get_or, ◌+◌, refl, sym, ◌∙◌, ap, subst}
 use Rattle.std.proofs.lemmas.List.{take_all}
 use Rattle.std.specs.Global.{Vec}
-use Rattle.span_chart.specs.Input.{ChartInput}
-use Rattle.span_chart.specs.Positions.{HasExactly, IsLastAmong}
-use Rattle.derived_spans.specs.Spans.{DerivesSpan}
+use Rattle.chart_parser_ends.specs.Input.{ChartInput}
+use Rattle.chart_parser_ends.specs.Positions.{HasExactly, IsLastAmong}
+use Rattle.normal_form_spans.specs.Spans.{DerivesSpan}
 use Rattle.chart_parser.specs.GoingOn.{Meets}
 use Rattle.chart_parser.proofs.Cutting.{is_not_there, is_there, meets_more, meets_none, meets_same}
 use Rattle.chart_parser.proofs.alternative.going_on.Goals as goal

@@ -1,5 +1,5 @@
 use Rattle.std.proofs.Common.{◌≡◌, take}
-use Rattle.span_chart.specs.Positions.{HasExactly}
+use Rattle.chart_parser_ends.specs.Positions.{HasExactly}
 use Rattle.chart_parser.specs.GoingOn.{Meets}
 use Rattle.chart_parser.proofs.alternative.going_on.Given as goal
 

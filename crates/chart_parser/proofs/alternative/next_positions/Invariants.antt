@@ -1,6 +1,6 @@
 use Rattle.std.proofs.Common.{◌≡◌, take}
 use Rattle.std.specs.List.Sorted.{IsStrictlyIncreasing}
-use Rattle.span_chart.specs.Positions.{HasAll}
+use Rattle.chart_parser_ends.specs.Positions.{HasAll}
 use Rattle.chart_parser.specs.GoingOn.{EndsFrom}
 use Rattle.chart_parser.proofs.alternative.next_positions.Given as goal
 

@@ -1,7 +1,7 @@
 use Rattle.std.proofs.Common.{List, ◌<◌, refl, sym, ◌∙◌, subst, arith}
-use Rattle.derived_spans.specs.Spans.{DerivesSpan}
-use Rattle.span_chart.specs.Input.{ChartInput}
-use Rattle.span_chart.specs.Positions.{IsLastAmong}
+use Rattle.normal_form_spans.specs.Spans.{DerivesSpan}
+use Rattle.chart_parser_ends.specs.Input.{ChartInput}
+use Rattle.chart_parser_ends.specs.Positions.{IsLastAmong}
 use Rattle.chart_parser.specs.declared.part.Part.{Part}
 use Rattle.chart_parser.proofs.ElementEnds.{IsCutAt, always_more, cut_begins, cut_done, cut_more, moves_to_last}
 use Rattle.chart_parser.proofs.elements.add_elements.Goals as goal

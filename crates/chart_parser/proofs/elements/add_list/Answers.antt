@@ -1,8 +1,8 @@
 use Rattle.std.proofs.Common.{ℕ, List, [], ◌≤◌, ◌-◌, ◌≡◌, length, take, drop, refl, sym, ◌∙◌, ap, subst, arith}
 use Rattle.std.proofs.lemmas.List.{take_rest}
-use Rattle.derived_spans.specs.Spans.{DerivesSpanMany}
-use Rattle.span_chart.specs.Input.{ChartInput}
-use Rattle.span_chart.specs.Positions.{EndsUpTo, HasAll, HasExactly, IsGrown}
+use Rattle.normal_form_spans.specs.Spans.{DerivesSpanMany}
+use Rattle.chart_parser_ends.specs.Input.{ChartInput}
+use Rattle.chart_parser_ends.specs.Positions.{EndsUpTo, HasAll, HasExactly, IsGrown}
 use Rattle.chart_parser.specs.GoingOn.{ElementsGoOn, HasEndsOfElements, IsClosedBefore, MovesOn}
 use Rattle.chart_parser.specs.Parts.{AreElements}
 use Rattle.chart_parser.proofs.Asking.{on_ok}

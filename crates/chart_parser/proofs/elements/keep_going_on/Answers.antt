@@ -1,9 +1,9 @@
 use Rattle.std.proofs.Common.{ℕ, List, ◌+◌, ◌-◌, ◌<◌, ◌≡◌, length, get_or, drop, take, refl, sym, ◌∙◌, ap, subst, arith}
 use Rattle.std.proofs.lemmas.Grind.{get_or_default_zero}
 use Rattle.std.proofs.lemmas.List.{take_rest}
-use Rattle.derived_spans.specs.Spans.{DerivesSpan}
-use Rattle.span_chart.specs.Input.{ChartInput}
-use Rattle.span_chart.specs.Positions.{HasExactly, IsLastAmong}
+use Rattle.normal_form_spans.specs.Spans.{DerivesSpan}
+use Rattle.chart_parser_ends.specs.Input.{ChartInput}
+use Rattle.chart_parser_ends.specs.Positions.{HasExactly, IsLastAmong}
 use Rattle.chart_parser.specs.GoingOn.{ElementsGoOn}
 use Rattle.chart_parser.proofs.Cutting.{is_not_there, is_there}
 use Rattle.chart_parser.proofs.ElementEnds.{AreMoved, moved_begin, moved_more, moved_same}

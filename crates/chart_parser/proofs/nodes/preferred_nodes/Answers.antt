@@ -2,7 +2,7 @@ use Rattle.std.proofs.Common.{ℕ, List, [], ◌∷◌, ◌++◌, ◌≡◌, Non
 use Rattle.std.specs.Prelude.{reverse}
 use Rattle.std.proofs.lemmas.List.{nil_from_length}
 use Rattle.std.proofs.lemmas.Option.{get_or_from_slice_get, slice_get_within}
-use Rattle.span_chart.specs.Input.{ChartInput}
+use Rattle.chart_parser_ends.specs.Input.{ChartInput}
 use Rattle.syntax_tree.specs.declared.node.Node.{Node}
 use Rattle.chart_parser.specs.declared.part.Asked.{Asked}
 use Rattle.chart_parser.specs.Preorder.{AreBegun, AreDerived, leaf_node}

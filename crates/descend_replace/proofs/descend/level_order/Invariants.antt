@@ -3,7 +3,7 @@ use Rattle.std.specs.Option.{option_map_or}
 use Rattle.syntax_tree.specs.Trees.{PlainTree}
 use Rattle.syntax_tree.specs.Numbered.{subtree}
 use Rattle.syntax_tree.specs.Levels.{below_in_level_order}
-use Rattle.tree_cut.specs.Cuts.{cut_tree}
+use Rattle.syntax_tree_cut.specs.Cuts.{cut_tree}
 use Rattle.descend_replace.proofs.Queue.{IsQueue}
 use Rattle.descend_replace.proofs.descend.level_order.Given as goal
 

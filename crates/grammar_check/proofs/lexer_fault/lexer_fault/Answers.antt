@@ -3,7 +3,7 @@ use Rattle.grammar_tree.specs.Faults.{EmptyToken}
 use Rattle.grammar_tree.specs.GrammarView.{grammar_of}
 use Rattle.grammar_check.specs.CheckFaults.{IsFirstBefore}
 use Rattle.grammar_check.specs.declared.fault.CheckFault.{CheckFault}
-use Rattle.rule_faults.proofs.AnswerForms.{named_first, with_name, tokens_are_rules}
+use Rattle.grammar_check_faults.proofs.AnswerForms.{named_first, with_name, tokens_are_rules}
 use Rattle.grammar_check.proofs.CheckForms.{before_bases, empty_token}
 use Rattle.grammar_check.proofs.lexer_fault.lexer_fault.Goals as goal
 

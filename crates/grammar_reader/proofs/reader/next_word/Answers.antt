@@ -1,5 +1,5 @@
 use Rattle.std.proofs.Common.{◌≡◌, true, false, [], ◌∷◌, MatchOption, IfSome, subst}
-use Rattle.grammar_words.specs.Words.{is_last}
+use Rattle.grammar_reader_words.specs.Words.{is_last}
 use Rattle.grammar_reader.proofs.reader.next_word.Goals as goal
 
 pub returns-in-Some-clause-word : goal.returns-in-Some-clause-word

@@ -1,5 +1,5 @@
 use Rattle.std.proofs.Common.{length}
-use Rattle.grammar_machine.specs.View.{state_of}
+use Rattle.grammar_reader_machine.specs.View.{state_of}
 use Rattle.grammar_reader.proofs.Reading.{IsReading}
 use Rattle.grammar_reader.proofs.reader.read_text.Given as goal
 

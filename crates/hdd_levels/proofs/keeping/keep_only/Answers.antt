@@ -1,7 +1,7 @@
-use Rattle.std.proofs.Common.{◌≡◌, ℕ, List, Some, sym, ap, ◌∙◌, subst}
+use Rattle.std.proofs.Common.{ℕ, List, Some, sym, ap, ◌∙◌, subst}
 use Rattle.syntax_tree.specs.Trees.{PlainTree}
-use Rattle.tree_cut.specs.Cuts.{cut_tree}
-use Rattle.tree_cut.specs.WithoutNodes.{CanDrop, dropped, without_nodes}
+use Rattle.syntax_tree_cut.specs.Cuts.{cut_tree}
+use Rattle.syntax_tree_cut.specs.WithoutNodes.{CanDrop, dropped, without_nodes}
 use Rattle.hdd_levels.proofs.FoundNodes.{cut_rising}
 use Rattle.hdd_levels.proofs.Depths.{can_drop, kept_by}
 use Rattle.hdd_levels.proofs.keeping.keep_only.Goals as goal

@@ -1,5 +1,5 @@
 use Rattle.std.proofs.Common.{◌≤◌, ◌-◌}
-use Rattle.tree_cut.specs.Cuts.{cut_tree}
+use Rattle.syntax_tree_cut.specs.Cuts.{cut_tree}
 use Rattle.hdd_levels.specs.LevelForms.{IsLevelAt}
 use Rattle.hdd_levels.proofs.level_nodes.level.Given as goal
 

@@ -1,5 +1,5 @@
 use Rattle.syntax_tree.specs.Numbered.{subtree}
-use Rattle.tree_cut.specs.Cuts.{cut_tree}
+use Rattle.syntax_tree_cut.specs.Cuts.{cut_tree}
 use Rattle.hdd_levels.proofs.FoundNodes.{has_leaf_is}
 use Rattle.hdd_levels.proofs.nodes.has_token.Goals as goal
 

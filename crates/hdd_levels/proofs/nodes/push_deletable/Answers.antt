@@ -1,10 +1,10 @@
-use Rattle.std.proofs.Common.{◌≡◌, ◌≤◌, ◌+◌, ◌++◌, ℕ, List, Some, length, map, sym, ap, ◌∙◌, arith, length-append}
+use Rattle.std.proofs.Common.{◌≡◌, ◌++◌, ℕ, List, Some, length, map, sym, ap, ◌∙◌, arith, length-append}
 use Rattle.std.proofs.lemmas.List.{length-map}
 use Rattle.syntax_tree.specs.Trees.{PlainTree, children_of}
 use Rattle.syntax_tree.specs.Numbered.{number_of, roots, subtree}
 use Rattle.syntax_tree.specs.Nodes.{AreNodesOf, SyntaxTree, whole}
-use Rattle.tree_cut.specs.Cuts.{CutForm, IsCutOf, cut_tree}
-use Rattle.tree_cut.proofs.CutFacts.{some_of}
+use Rattle.syntax_tree_cut.specs.Cuts.{CutForm, IsCutOf, cut_tree}
+use Rattle.syntax_tree_cut.proofs.CutFacts.{some_of}
 use Rattle.descend_replace.specs.LevelLaws.{list_of}
 use Rattle.descend_replace.proofs.Found.{children_are}
 use Rattle.hdd_levels.specs.declared.level_nodes.Elements.{Elements}

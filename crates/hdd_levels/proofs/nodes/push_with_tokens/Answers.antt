@@ -2,7 +2,7 @@ use Rattle.std.proofs.Common.{ℕ, List, [], ◌∷◌, ◌++◌, sym, ap, ◌�
 use Rattle.std.specs.Prelude.{slice_index_or}
 use Rattle.std.specs.Global.{Vec}
 use Rattle.std.proofs.lemmas.Bool.{cond-false, cond-true}
-use Rattle.tree_cut.specs.Cuts.{cut_tree}
+use Rattle.syntax_tree_cut.specs.Cuts.{cut_tree}
 use Rattle.hdd_levels.proofs.FoundNodes.{is_left, leaves_more}
 use Rattle.hdd_levels.proofs.nodes.push_with_tokens.Goals as goal
 use Rattle.hdd_levels.proofs.nodes.push_with_tokens.Goals.{then-has_token+in_ok-push, else-has_token}

@@ -1,8 +1,8 @@
 use Rattle.std.proofs.Common.{◌≡◌, ◌<◌, ◌∷◌, ℕ, List, Some, map, slice_get}
 use Rattle.std.specs.List.{Contains}
 use Rattle.lexer.specs.declared.candidates.Beginning.{Beginning}
-use Rattle.longest_match.specs.declared.alternative.Alternative.{Alternative}
-use Rattle.longest_match.specs.Nfa.{Reads}
+use Rattle.lexer_match.specs.declared.alternative.Alternative.{Alternative}
+use Rattle.lexer_match.specs.Nfa.{Reads}
 use Rattle.lexer.proofs.candidates.beginning_with.Given as goal
 
 abbrev pub invariant-loop-beginning : goal.invariant-loop-beginning

@@ -1,5 +1,5 @@
 use Rattle.std.proofs.Common.{◌<◌, ℕ, slice_index_or}
-use Rattle.longest_match.specs.StateSets.{ReadsTo}
+use Rattle.lexer_match.specs.StateSets.{ReadsTo}
 use Rattle.lexer.proofs.candidates.is_read.Given as goal
 
 abbrev pub invariant-loop-state : goal.invariant-loop-state

@@ -1,7 +1,7 @@
 use Rattle.std.proofs.Common.{[], slice_index_or, refl, arith, false}
 use Rattle.std.proofs.lemmas.List.Elements.{Contains-get_or}
 use Rattle.std.specs.Str.{chars}
-use Rattle.longest_match.specs.declared.alternative.Alternative.{Alternative}
+use Rattle.lexer_match.specs.declared.alternative.Alternative.{Alternative}
 use Rattle.lexer.specs.declared.pieces.Match.{Match}
 use Rattle.lexer.proofs.Next.{each_more, some_more, each_all}
 use Rattle.lexer.proofs.pieces.best_match.Goals as goal

@@ -1,10 +1,10 @@
 use Rattle.std.proofs.Common.{◌≡◌, ◌<◌, ◌≤◌, ℕ, Some, length, slice_get}
 use Rattle.std.specs.List.{Contains}
 use Rattle.std.specs.Str.{chars}
-use Rattle.longest_match.specs.declared.alternative.Alternative.{Alternative}
-use Rattle.longest_match.specs.Dead.{StayDead}
-use Rattle.longest_match.specs.Longest.{IsLongestLen}
-use Rattle.longest_match.specs.Reading.{IsRead, IsReady}
+use Rattle.lexer_match.specs.declared.alternative.Alternative.{Alternative}
+use Rattle.lexer_match.specs.Dead.{StayDead}
+use Rattle.lexer_match.specs.Longest.{IsLongestLen}
+use Rattle.lexer_match.specs.Reading.{IsRead, IsReady}
 use Rattle.lexer.proofs.pieces.best_match.Given as goal
 
 abbrev pub invariant-loop-alternative : goal.invariant-loop-alternative

@@ -6,7 +6,7 @@ use Rattle.lexer.specs.Candidates.{ComesNext, HasNoNext}
 use Rattle.lexer.specs.declared.pieces.Match.{Match}
 use Rattle.lexer.specs.Tokens.{token_of}
 use Rattle.lexer.proofs.Cut.{IsReadTo, found_none, found_some, is_boundary, left_is, fits, nothing_read, read_all, read_more, some_read, stops}
-use Rattle.longest_match.proofs.Traced.{dead_end, none_dead, whole_ends}
+use Rattle.lexer_match.proofs.Traced.{dead_end, none_dead, whole_ends}
 use Rattle.lexer.proofs.tokens.add_tokens.Goals as goal
 
 pub loop-at-init : goal.loop-at-init

@@ -1,6 +1,6 @@
 use Rattle.std.proofs.Common.{◌-◌, map, length}
-use Rattle.longest_match.specs.Dead.{AreDead}
-use Rattle.longest_match.specs.Reading.{IsReady}
+use Rattle.lexer_match.specs.Dead.{AreDead}
+use Rattle.lexer_match.specs.Reading.{IsReady}
 use Rattle.lexer.specs.Tokens.{token_of}
 use Rattle.lexer.proofs.Cut.{IsReadTo}
 use Rattle.lexer.proofs.tokens.add_tokens.Given as goal

@@ -5,7 +5,7 @@ use Rattle.grammar_tree.specs.Matches.{MatchesSeq}
 use Rattle.grammar_tree.specs.View.{lex_terms}
 use Rattle.grammar_tree.specs.Written.{lexer_seq}
 use Rattle.lexer_nfa.proofs.Pushed.{pushed_nfa, pushed_exact, as_alternative, sum_right}
-use Rattle.longest_match.specs.declared.alternative.Alternative.{Alternative}
+use Rattle.lexer_match.specs.declared.alternative.Alternative.{Alternative}
 use Rattle.lexer_nfa.proofs.Order.{up_to_push}
 use Rattle.lexer_nfa.proofs.alternatives.add_alternative.Goals as goal
 

@@ -2,7 +2,7 @@ use Rattle.std.proofs.Common.{◌≡◌, [], false, refl}
 use Rattle.std.specs.Str.{chars}
 use Rattle.lexer_nfa.proofs.Expanded.{compiled_alone}
 use Rattle.lexer_nfa.proofs.Pushed.{some_state, pushed_nfa, pushed_exact, as_literal, sum_right}
-use Rattle.longest_match.specs.declared.alternative.Alternative.{Alternative}
+use Rattle.lexer_match.specs.declared.alternative.Alternative.{Alternative}
 use Rattle.lexer_nfa.proofs.Order.{up_to_push}
 use Rattle.lexer_nfa.proofs.alternatives.add_implicit.Goals as goal
 

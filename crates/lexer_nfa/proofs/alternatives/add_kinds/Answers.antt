@@ -3,8 +3,8 @@ use Rattle.grammar_tree.specs.Written.{WrittenRule}
 use Rattle.grammar_tree.specs.GrammarView.{kind_of, rule_of}
 use Rattle.grammar_tree.specs.Kinds.{kinds_of}
 use Rattle.grammar_tree.proofs.Counts.{counts_fit}
-use Rattle.longest_match.specs.Alternatives.{HasAlternative}
-use Rattle.longest_match.specs.declared.alternative.Alternative.{Alternative}
+use Rattle.lexer_match.specs.Alternatives.{HasAlternative}
+use Rattle.lexer_match.specs.declared.alternative.Alternative.{Alternative}
 use Rattle.lexer_nfa.proofs.Order.{up_to_more, up_to_none}
 use Rattle.lexer_nfa.specs.Names.{HaveNoLoops, HaveOneName}
 use Rattle.lexer_nfa.proofs.Checked.{has_no_loops, has_one_name, rules_are}

@@ -1,6 +1,6 @@
 use Rattle.std.proofs.Common.{◌<◌, ◌↔◌, ℕ, List}
 use Rattle.grammar_tree.specs.Lexes.{KindMatches}
-use Rattle.longest_match.specs.Alternatives.{HasAlternative, IsNfa}
+use Rattle.lexer_match.specs.Alternatives.{HasAlternative, IsNfa}
 use Rattle.lexer_nfa.specs.GrammarNfa.{KindsAreUpTo}
 use Rattle.lexer_nfa.proofs.alternatives.add_kinds.Given as goal
 

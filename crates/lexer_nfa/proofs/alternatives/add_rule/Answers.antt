@@ -2,7 +2,7 @@ use Rattle.std.proofs.Common.{map, arith}
 use Rattle.grammar_tree.specs.GrammarView.{rule_of}
 use Rattle.grammar_tree.specs.Kinds.{lexer_rules}
 use Rattle.grammar_tree.specs.declared.lex_term.LexAlts.{out-LexAlts}
-use Rattle.longest_match.specs.Alternatives.{HasAlternative}
+use Rattle.lexer_match.specs.Alternatives.{HasAlternative}
 use Rattle.lexer_nfa.proofs.Terms.{alts_item}
 use Rattle.lexer_nfa.proofs.Pushed.{rule_more, rule_all}
 use Rattle.lexer_nfa.proofs.alternatives.add_rule.Goals as goal

@@ -1,6 +1,6 @@
 use Rattle.std.proofs.Common.{◌∷◌, [], ◌++◌, ap, ◌∙◌, sym, arith, map}
 use Rattle.grammar_tree.specs.GrammarView.{rule_of}
-use Rattle.longest_match.specs.declared.nfa.State.{State}
+use Rattle.lexer_match.specs.declared.nfa.State.{State}
 use Rattle.lexer_nfa.proofs.Compiled.{call_all, unnamed_all}
 use Rattle.lexer_nfa.proofs.compile.add_call.Goals.{in-Some, in-None}
 use Rattle.lexer_nfa.proofs.compile.add_call.Goals as goal

@@ -1,7 +1,7 @@
 use Rattle.std.proofs.Common.{List, [], arith}
 use Rattle.grammar_tree.specs.Kinds.{lexer_rules}
 use Rattle.grammar_tree.specs.Written.{WrittenRule}
-use Rattle.longest_match.specs.declared.nfa.State.{State}
+use Rattle.lexer_match.specs.declared.nfa.State.{State}
 use Rattle.lexer_nfa.proofs.Compiled.{grown, pushed_is_closed, short_all}
 use Rattle.lexer_nfa.proofs.compile.add_short.Goals as goal
 

@@ -1,6 +1,6 @@
 use Rattle.std.proofs.Common.{map, refl}
 use Rattle.grammar_tree.specs.GrammarView.{rule_of}
-use Rattle.longest_match.specs.declared.nfa.State.{State}
+use Rattle.lexer_match.specs.declared.nfa.State.{State}
 use Rattle.lexer_nfa.proofs.Expanded.{expanded_call, state_is}
 use Rattle.lexer_nfa.proofs.compile.expand.Goals as goal
 

@@ -1,5 +1,5 @@
 use Rattle.std.specs.Prelude.{string_bytes}
-use Rattle.tree_mode.specs.InputOf.{input_of}
+use Rattle.reduce_trees_mode.specs.InputOf.{input_of}
 use Rattle.plain_reducer.specs.Results.{result_of}
 use Rattle.plain_reducer.specs.Verdicts.{verdicts_by}
 use Rattle.plain_reducer.specs.declared.reduction.Mode.TheVariants.{Hdd, Perses}

@@ -1,5 +1,5 @@
 use Rattle.std.proofs.Common.{◌≡◌}
-use Rattle.verdict_table.specs.Plan.{follow}
+use Rattle.reduce_step.specs.Plan.{follow}
 use Rattle.plain_reducer.specs.Verdicts.{verdicts_by}
 use Rattle.plain_agreement.proofs.agreement.goes_the_same.Given as goal
 

@@ -1,5 +1,5 @@
 use Rattle.std.proofs.Common.{ℕ, List, arith, subst}
-use Rattle.grammar_input.specs.Parsed.{MakesInputOf}
+use Rattle.reduce_trees_input.specs.Parsed.{MakesInputOf}
 use Rattle.plain_comparison.proofs.FoundLemmas.{is_found}
 use Rattle.plain_comparison.proofs.parts.found_in.Goals as goal
 

@@ -1,5 +1,5 @@
 use Rattle.std.proofs.Common.{ℕ, List, ap, ◌∙◌}
-use Rattle.grammar_input.specs.Parsed.{tree_input}
+use Rattle.reduce_trees_input.specs.Parsed.{tree_input}
 use Rattle.keep_guard.specs.Keep.{keeps_admit}
 use Rattle.plain_comparison.proofs.parts.tree_parts.Goals as goal
 

@@ -5,7 +5,7 @@ use Rattle.grammar_tree.specs.GrammarView.{rule_of}
 use Rattle.grammar_tree.specs.View.{lex_term, lex_terms}
 use Rattle.grammar_tree.specs.Written.{lexer_seq, lexer_alts}
 use Rattle.plain_matches.specs.Spelled.{spelled_seq, spelled_alts}
-use Rattle.pattern_spans.specs.View.{pattern}
+use Rattle.plain_matches.specs.View.{pattern}
 use Rattle.plain_matches.proofs.LexerViews.{lex_terms_out, lex_alts_out}
 use Rattle.plain_matches.proofs.lexer_rules.+patterns.Goals as goal
 

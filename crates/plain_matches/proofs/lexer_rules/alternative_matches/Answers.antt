@@ -2,8 +2,11 @@ use Rattle.std.proofs.Common.{◌<◌, ℕ, Bool, List, length, map, sym, refl, 
 use Rattle.grammar_tree.specs.GrammarView.{rule_of}
 use Rattle.grammar_tree.specs.View.{lex_terms}
 use Rattle.grammar_tree.specs.Written.{lexer_seq}
-use Rattle.pattern_spans.specs.Positions.{IsIn}
-use Rattle.pattern_spans.proofs.Marks.{marked_at}
+use Rattle.plain_matches.specs.Positions.{IsIn}
+use Rattle.plain_matches.specs.Spelled.{spelled_seq}
+use Rattle.plain_matches.specs.View.{pattern}
+use Rattle.plain_matches.proofs.Lent.{ends_at}
+use Rattle.plain_matches.proofs.Marks.{marked_at}
 use Rattle.plain_matches.proofs.LexerResults.{Shorter, by_answer, is_alternative, not_shorter, seq_matches}
 use Rattle.plain_matches.proofs.lexer_rules.alternative_matches.Goals as goal
 
@@ -15,7 +18,7 @@ returns-then-not-index c =
     let ends = c.in_ok-ends.ends.items in
     let h : length K < length ends = omega (arith, c.in_ok-ends.ensures.len, c.in_ok-ends.ends.ok.0) in
     let m = marked_at ends (length K) c.index.result.now h c.index.ensures in
-    let e = c.in_ok-ends.ensures.ends in
+    let e = ends_at c.args.rows.now c.args.rows.now (pattern c.in_ok-whole.whole) (spelled_seq rules s) K K ends refl c.in_ok-whole.ensures refl c.in_ok-ends.ensures.ends in
     (λ t. absurd (true≢false (sym t)), λ a. absurd (true≢false (sym ((seq_matches rules K c.args.rows.now c.requires.exact ends s e).1 a.greedily) ∙ m ∙ c.if-not-index.true)))
 
 pub returns-then-not-is_short : goal.returns-then-not-is_short
@@ -26,7 +29,7 @@ returns-then-not-is_short c =
     let ends = c.in_ok-ends.ends.items in
     let h : length K < length ends = omega (arith, c.in_ok-ends.ensures.len, c.in_ok-ends.ends.ok.0) in
     let m = marked_at ends (length K) c.index.result.now h c.index.ensures ∙ c.if-not-index.false in
-    let e = c.in_ok-ends.ensures.ends in
+    let e = ends_at c.args.rows.now c.args.rows.now (pattern c.in_ok-whole.whole) (spelled_seq rules s) K K ends refl c.in_ok-whole.ensures refl c.in_ok-ends.ensures.ends in
     (λ _. is_alternative rules K c.args.rows.now c.requires.exact ends s e m (λ short _. true≢false (sym short ∙ sym c.is_short.ensures ∙ c.if-not-is_short.true)), λ _. refl)
 
 pub returns : goal.returns
@@ -37,7 +40,7 @@ returns c =
     let ends = c.in_ok-ends.ends.items in
     let h : length K < length ends = omega (arith, c.in_ok-ends.ensures.len, c.in_ok-ends.ends.ok.0) in
     let m = marked_at ends (length K) c.index.result.now h c.index.ensures ∙ c.if-not-index.false in
-    let e = c.in_ok-ends.ensures.ends in
+    let e = ends_at c.args.rows.now c.args.rows.now (pattern c.in_ok-whole.whole) (spelled_seq rules s) K K ends refl c.in_ok-whole.ensures refl c.in_ok-ends.ensures.ends in
     let short = sym c.is_short.ensures ∙ c.if-not-is_short.false in
     let P : List Bool → Type 0 = λ x. (j : ℕ) × (j < length K) × IsIn x j in
     let Q : List Bool → Type 0 = λ x. (j : ℕ) → j < length K → IsIn x j → ⊥ in

@@ -1,5 +1,5 @@
 use Rattle.std.proofs.Common.{◌<◌, ℕ}
-use Rattle.pattern_spans.specs.Positions.{IsIn}
+use Rattle.plain_matches.specs.Positions.{IsIn}
 use Rattle.plain_matches.proofs.lexer_rules.is_any_before.Given as goal
 
 abbrev pub invariant-loop-i : goal.invariant-loop-i

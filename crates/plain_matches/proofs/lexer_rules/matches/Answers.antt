@@ -4,13 +4,14 @@ use Rattle.grammar_tree.specs.Kinds.{lexer_rules}
 use Rattle.grammar_tree.specs.Matches.{Matches}
 use Rattle.grammar_tree.specs.View.{lex_term}
 use Rattle.plain_matches.specs.Spelled.{spelled, spelled_rules}
-use Rattle.pattern_spans.proofs.Lent.{fit_at, exact_at, ends_at}
+use Rattle.plain_matches.specs.View.{pattern}
+use Rattle.plain_matches.proofs.Lent.{fit_at, exact_at, ends_at}
 use Rattle.plain_matches.proofs.LexerResults.{term_matches}
-use Rattle.pattern_spans.proofs.Marks.{tells}
+use Rattle.plain_matches.proofs.Marks.{tells}
 use Rattle.plain_matches.proofs.lexer_rules.matches.Goals as goal
 
-pub term_ends-requires : goal.term_ends-requires
-term_ends-requires c =
+pub ends_from_start-requires : goal.ends_from_start-requires
+ends_from_start-requires c =
     fit_at c.in_ok-rows.rows.items c.deref-4.result.now c.deref-2.result.now c.deref-5.result.now (sym c.deref-4.ensures.value) (c.deref-2.ensures.value ∙ sym c.deref-5.ensures.value) c.in_ok-rows.ensures.fit
 
 pub returns : goal.returns
@@ -21,7 +22,7 @@ returns c =
     let ends = c.in_ok-ends.ends.items in
     let t = lex_term c.args.term.now in
     let exact = exact_at rows rows (spelled_rules (map rule_of c.deref.result.now)) (spelled_rules R) c.deref-2.result.now K refl (ap (λ l. spelled_rules (map rule_of l)) c.deref.ensures.value) c.deref-2.ensures.value c.in_ok-rows.ensures.exact in
-    let e = ends_at c.deref-4.result.now rows (spelled (map rule_of c.deref-3.result.now) t) (spelled R t) c.deref-5.result.now K ends c.deref-4.ensures.value (ap (λ l. spelled (map rule_of l) t) c.deref-3.ensures.value) c.deref-5.ensures.value c.in_ok-ends.ensures.ends in
+    let e = ends_at c.deref-4.result.now rows (pattern c.in_ok-whole.whole) (spelled R t) c.deref-5.result.now K ends c.deref-4.ensures.value (c.in_ok-whole.ensures ∙ ap (λ l. spelled (map rule_of l) t) c.deref-3.ensures.value) c.deref-5.ensures.value c.in_ok-ends.ensures.ends in
     let len : length ends ≡ length K + 1 = omega (arith, c.in_ok-ends.ensures.len, c.in_ok-ends.ends.ok.0, c.deref-5.ensures.len, c.in_ok-list.list.ok.0) in
     let at : c.len.result ≡ length K = omega (arith, c.len.ensures, c.in_ok-list.list.ok.0) in
     let D : ℕ → Type 0 = λ n. c.index.result.now ≡ slice_index_or ends n c.index.result.now in

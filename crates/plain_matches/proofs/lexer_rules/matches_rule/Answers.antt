@@ -1,7 +1,7 @@
 use Rattle.std.proofs.Common.{map, sym, ap, ◌∙◌}
 use Rattle.grammar_tree.specs.GrammarView.{rule_of}
 use Rattle.plain_matches.specs.Spelled.{spelled_rules}
-use Rattle.pattern_spans.proofs.Lent.{fit_at, exact_at}
+use Rattle.plain_matches.proofs.Lent.{fit_at, exact_at}
 use Rattle.plain_matches.proofs.lexer_rules.matches_rule.Goals as goal
 
 pub any_matches-requires-clause-fit : goal.any_matches-requires-clause-fit

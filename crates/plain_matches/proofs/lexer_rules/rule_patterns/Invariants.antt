@@ -1,7 +1,7 @@
 use Rattle.std.proofs.Common.{◌≡◌, map, take}
 use Rattle.grammar_tree.specs.GrammarView.{rule_of}
 use Rattle.plain_matches.specs.Spelled.{spelled_rule}
-use Rattle.pattern_spans.specs.View.{pattern}
+use Rattle.plain_matches.specs.View.{pattern}
 use Rattle.plain_matches.proofs.lexer_rules.rule_patterns.Given as goal
 
 abbrev pub invariant-loop-rule : goal.invariant-loop-rule

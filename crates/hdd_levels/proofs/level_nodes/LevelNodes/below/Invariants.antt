@@ -2,7 +2,7 @@ use Rattle.std.proofs.Common.{◌≡◌, List, map, take}
 use Rattle.std.specs.List.{flat_map}
 use Rattle.syntax_tree.specs.Trees.{PlainTree}
 use Rattle.syntax_tree.specs.Numbered.{number_of}
-use Rattle.tree_cut.specs.Cuts.{cut_tree}
+use Rattle.syntax_tree_cut.specs.Cuts.{cut_tree}
 use Rattle.hdd_levels.specs.Levels.{deletable_children}
 use Rattle.hdd_levels.specs.LevelForms.{AreNodesIn, pluses_of}
 use Rattle.hdd_levels.proofs.level_nodes.LevelNodes.below.Given as goal

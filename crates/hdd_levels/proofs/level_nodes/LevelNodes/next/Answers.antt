@@ -1,14 +1,14 @@
-use Rattle.std.proofs.Common.{◌≡◌, ℕ, suc, length, sym, ◌∙◌, arith, vec_len}
+use Rattle.std.proofs.Common.{suc, length, sym, ◌∙◌, arith, vec_len}
 use Rattle.std.proofs.lemmas.Bool.{eqb-false, eqb-true}
 use Rattle.syntax_tree.specs.Trees.{PlainTree}
 use Rattle.syntax_tree.specs.Levels.{at_depth}
-use Rattle.tree_cut.specs.Cuts.{cut_tree}
+use Rattle.syntax_tree_cut.specs.Cuts.{cut_tree}
 use Rattle.hdd_levels.proofs.FoundNodes.{cut_rising}
 use Rattle.hdd_levels.proofs.Depths.{depth_nodes, lower_numbers, next_level, not_deep, some_long}
 use Rattle.hdd_levels.proofs.level_nodes.LevelNodes.next.Goals as goal
 
-pub children_of_each-requires-clause-nodes : goal.children_of_each-requires-clause-nodes
-children_of_each-requires-clause-nodes c =
+pub children_of_nodes-requires-clause-nodes : goal.children_of_nodes-requires-clause-nodes
+children_of_nodes-requires-clause-nodes c =
     let h = cut_rising c.args.tree.now c.nodes-nodes.ensures.whole c.args.cut.now c.requires.of in (
       at_depth c.requires.parents.0 (cut_tree c.args.tree.now c.args.cut.now),
       depth_nodes c.requires.parents.0 0 h.0 (cut_tree c.args.tree.now c.args.cut.now) h.1 c.as_slice.result.now (c.as_slice.ensures.value ∙ c.in_ok-parents.ensures c.requires.parents.0 c.requires.parents.1),

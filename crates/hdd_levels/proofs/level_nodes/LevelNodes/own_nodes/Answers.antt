@@ -4,14 +4,14 @@ use Rattle.std.specs.Global.{Vec}
 use Rattle.syntax_tree.specs.Trees.{PlainTree}
 use Rattle.syntax_tree.specs.Numbered.{number_of}
 use Rattle.syntax_tree.specs.Levels.{at_depth}
-use Rattle.tree_cut.specs.Cuts.{cut_tree}
+use Rattle.syntax_tree_cut.specs.Cuts.{cut_tree}
 use Rattle.hdd_levels.specs.LevelForms.{LevelForm}
 use Rattle.hdd_levels.proofs.FoundNodes.{cut_rising}
 use Rattle.hdd_levels.proofs.Depths.{above_is, depth_nodes, lower_numbers}
 use Rattle.hdd_levels.proofs.level_nodes.LevelNodes.own_nodes.Goals as goal
 
-pub children_of_each-requires-clause-nodes : goal.children_of_each-requires-clause-nodes
-children_of_each-requires-clause-nodes c =
+pub children_of_nodes-requires-clause-nodes : goal.children_of_nodes-requires-clause-nodes
+children_of_nodes-requires-clause-nodes c =
     let h = cut_rising c.args.tree.now c.nodes-nodes.ensures.whole c.args.cut.now c.requires.of in
     let items : Some c.in-Some.parents.items ≡ c.args.self.now.parents = ap (option_map (λ (v : Vec ℕ). v.items)) (sym c.in-Some.is) ∙ ap (λ (l : LevelForm). l.parents) c.self.view_is in
     let above = above_is c.requires.parents.0 (cut_tree c.args.tree.now c.args.cut.now) c.in-Some.parents.items (items ∙ c.requires.parents.1) in

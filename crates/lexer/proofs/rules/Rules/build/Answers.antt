@@ -3,12 +3,12 @@ use Rattle.std.specs.List.{Contains}
 use Rattle.grammar_tree.specs.GrammarView.{kind_of}
 use Rattle.grammar_tree.specs.Kinds.{kinds_of}
 use Rattle.lexer.specs.declared.candidates.Beginning.{Beginning}
-use Rattle.longest_match.specs.declared.nfa.State.{State}
-use Rattle.longest_match.specs.declared.alternative.Alternative.{Alternative}
-use Rattle.longest_match.specs.Alternatives.{IsNfa}
+use Rattle.lexer_match.specs.declared.nfa.State.{State}
+use Rattle.lexer_match.specs.declared.alternative.Alternative.{Alternative}
+use Rattle.lexer_match.specs.Alternatives.{IsNfa}
 use Rattle.lexer_nfa.specs.GrammarNfa.{IsNfaOf}
 use Rattle.lexer.specs.Candidates.{AreBeginnings, AreListed, IsBeginning}
-use Rattle.longest_match.specs.Table.{IsTable}
+use Rattle.lexer_match.specs.Table.{IsTable}
 use Rattle.lexer.proofs.Listed.{beginnings_order}
 use Rattle.lexer.proofs.rules.Rules.build.Goals as goal
 

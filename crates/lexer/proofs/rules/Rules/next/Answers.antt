@@ -1,10 +1,10 @@
 use Rattle.std.proofs.Common.{List, MatchOption, subst}
 use Rattle.std.specs.Str.{chars}
 use Rattle.lexer.specs.declared.pieces.Match.{Match}
-use Rattle.longest_match.specs.declared.nfa.State.{State}
-use Rattle.longest_match.specs.declared.alternative.Alternative.{Alternative}
+use Rattle.lexer_match.specs.declared.nfa.State.{State}
+use Rattle.lexer_match.specs.declared.alternative.Alternative.{Alternative}
 use Rattle.lexer.specs.Candidates.{ComesNext, HasNoNext}
-use Rattle.longest_match.specs.Dead.{StayDead}
+use Rattle.lexer_match.specs.Dead.{StayDead}
 use Rattle.lexer.proofs.rules.Rules.next.Goals as goal
 
 pub returns-clause-next : goal.returns-clause-next

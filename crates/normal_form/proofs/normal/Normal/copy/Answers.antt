@@ -1,6 +1,6 @@
 use Rattle.std.proofs.Common.{map, sym, ap, ◌∙◌, subst}
 use Rattle.normal_form.specs.NormalOf.{IsNormal}
-use Rattle.kind_sets.specs.Sets.{SetsOfKinds}
+use Rattle.normal_form_sets.specs.Sets.{SetsOfKinds}
 use Rattle.normal_form.specs.View.{rule_form}
 use Rattle.normal_form.proofs.SameForms.{same_parts}
 use Rattle.normal_form.proofs.normal.Normal.copy.Goals as goal

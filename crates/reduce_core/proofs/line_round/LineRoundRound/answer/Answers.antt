@@ -1,4 +1,4 @@
-use Rattle.std.proofs.Common.{◌≡◌, sym, ◌∙◌, ap, subst, rules, None}
+use Rattle.std.proofs.Common.{sym, ◌∙◌, ap, subst, rules, None}
 use Rattle.list_ddmin.specs.Machine as list
 use Rattle.list_ddmin.specs.ListStep.{kept_of}
 use Rattle.reduce_core.specs.LineMode.{line_trials}

@@ -1,6 +1,6 @@
 use Rattle.std.proofs.Common.{◌≡◌, length, List, subst, sym, rules}
 use Rattle.std.specs.Option.{IfSome}
-use Rattle.reduction_rounds.specs.Trials.{tried_state}
+use Rattle.reduce_rounds.specs.Trials.{tried_state}
 use Rattle.reduce_core.specs.declared.lines.Line.{Line}
 use Rattle.reduce_core.specs.Fields.{rest_of}
 use Rattle.reduce_core.proofs.RoundLemmas as lemmas

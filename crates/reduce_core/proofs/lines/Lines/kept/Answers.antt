@@ -1,5 +1,4 @@
 use Rattle.std.proofs.Common.{false, ap, sym, ◌∙◌, length, ◌≡◌, ◌++◌, ◌∷◌, []}
-use Rattle.reduce_core.specs.declared.lines.Line.{Line}
 use Rattle.reduce_core.proofs.Keeping.{pushed-kept, kept_of-dropped}
 use Rattle.reduce_core.proofs.lines.Lines.kept.Goals as goal
 use Rattle.reduce_core.proofs.lines.Lines.kept.Goals.{then-keep-k+in_ok-bytes+in_ok-push, else-keep-k}

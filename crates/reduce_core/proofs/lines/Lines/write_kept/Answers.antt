@@ -1,4 +1,4 @@
-use Rattle.std.proofs.Common.{false, ap, sym, ◌∙◌, length, ◌≡◌, ◌++◌, ◌∷◌, []}
+use Rattle.std.proofs.Common.{false, ap, sym, ◌∙◌, length, ◌≡◌, ◌++◌}
 use Rattle.reduce_core.specs.declared.lines.Candidate.{Candidate}
 use Rattle.reduce_core.proofs.Keeping.{joined-kept, kept_of-dropped, numbers-kept}
 use Rattle.reduce_core.proofs.lines.Lines.write_kept.Goals as goal

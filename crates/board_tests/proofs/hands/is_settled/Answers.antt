@@ -1,5 +1,0 @@
-use Rattle.board_tests.proofs.Settled.{settled_after}
-use Rattle.board_tests.proofs.hands.is_settled.Goals as goal
-
-pub returns-in-Ok : goal.returns-in-Ok
-returns-in-Ok g c = λ none. settled_after g.S.Step.plan g.J.Sink.put_so_far c.in-Ok.committed c.args.board.now c.commit.new.self none c.in-Ok.ensures.ends

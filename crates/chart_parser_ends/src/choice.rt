@@ -1,0 +1,143 @@
+//! The work on where a rule with alternatives can end.
+
+ghost use Rattle.std.specs.Prelude.{◌+◌, ◌<◌, ◌≡◌, ◌^◌, [], length, IfOk, IfSome, OnOk};
+ghost use Rattle.std.specs.List.Sorted.{IsStrictlyIncreasing};
+ghost use Rattle.std.specs.Option.{option_map};
+ghost use Rattle.chart_parser_ends.specs.Moves.{Begins, FindsAlternative, HasNextAlternative, HasNextSymbol, IsNextSymbol};
+ghost use Rattle.chart_parser_ends.specs.Working.{IsChoice, IsStep};
+
+use crate::chart::Chart;
+use crate::positions::add_all;
+use crate::work::{RuleEnds, Step, Work};
+use faults::Memory;
+use normal_form::{Normal, NormalRule, Sym};
+use std::alloc::Global;
+use std::mem;
+
+/// The work on a rule at the position `first`. Its alternatives are gone through in their order, and
+/// in each of them its symbols.
+#[derive(Drop)]
+pub(crate) struct Choice {
+    pub(crate) rule: u32,
+    pub(crate) first: u32,
+    /// The number of the present alternative, and of the symbol in it that comes next.
+    pub(crate) alternative: usize,
+    pub(crate) symbol: usize,
+    /// Where the symbols before it can end.
+    pub(crate) current: Vec<u32>,
+    /// How many of these positions were gone on from by the symbol, and where it ends from them.
+    pub(crate) done: usize,
+    pub(crate) next: Vec<u32>,
+    /// Where the earlier alternatives can end.
+    pub(crate) ends: Vec<u32>,
+}
+
+/// The alternative of the rule with this number, if it has alternatives and one with this number.
+fn alternative(normal: &Normal, rule: u32, number: usize) -> Option<&[Sym]>
+    ensures found { FindsAlternative normal.now rule number (option_map (λ a. a.now) result) }
+    ensures small { IfSome result (λ a. number + 1 < 2 ^ 64) }
+{
+    let rules = normal.rules();
+    if rule as usize >= rules.len() {
+        return None;
+    }
+    let NormalRule::Regular(alternatives) = &rules[rule as usize] else {
+        return None;
+    };
+    let count = alternatives.len();
+    if number >= count {
+        return None;
+    }
+    Some(alternatives[number].as_slice())
+}
+
+impl Choice {
+    /// The work at its beginning.
+    pub(crate) fn new(alloc: Global, rule: u32, first: u32) -> Result<Choice, Memory>
+        ensures begins { IfOk result (Begins rule first 0) }
+        ensures no_ends { IfOk result (λ w. w.ends.items ≡ []) }
+    {
+        Ok(Choice {
+            rule,
+            first,
+            alternative: 0,
+            symbol: 0,
+            current: vec![in alloc; first]?,
+            done: 0,
+            next: Vec::new(alloc),
+            ends: Vec::new(alloc),
+        })
+    }
+
+    /// The alternative can end where the work on it has come to: the next alternative comes.
+    fn next_alternative(&mut self) -> Result<(), Memory>
+        requires rising { IsStrictlyIncreasing self.old.ends.items }
+        requires small { self.old.alternative + 1 < 2 ^ 64 }
+        ensures { OnOk result (HasNextAlternative self.old self.new) }
+    {
+        add_all(&mut self.ends, &self.current)?;
+        self.alternative += 1;
+        self.symbol = 0;
+        self.current.clear();
+        self.current.push(self.first)?;
+        self.done = 0;
+        self.next.clear();
+        Ok(())
+    }
+
+    /// The symbol was gone on by from each position: the next symbol comes.
+    fn next_symbol(&mut self)
+        requires { self.old.symbol + 1 < 2 ^ 64 }
+        ensures { HasNextSymbol self.old self.new }
+    {
+        self.symbol += 1;
+        mem::swap(&mut self.current, &mut self.next);
+        self.done = 0;
+        self.next.clear();
+    }
+
+    /// Goes on by the symbol from the next position.
+    fn next_position(mut self, symbol: Sym, chart: &Chart<'_>) -> Result<Step, Memory>
+        requires work { IsChoice chart.now.normal chart.now.kinds self }
+        requires next { IsNextSymbol chart.now.normal self symbol }
+        requires more { self.done < length self.current.items }
+        ensures { IfOk result (IsStep chart.now.normal chart.now.kinds) }
+    {
+        let position = self.current[self.done];
+        match chart.ends_of(symbol, position) {
+            Ok(more) => {
+                add_all(&mut self.next, more)?;
+                self.done += 1;
+                Ok(Step::More(Work::Choice(self)))
+            }
+            Err(missing) => Ok(Step::Needs(Work::Choice(self), missing, position)),
+        }
+    }
+
+    /// One step of the work.
+    pub(crate) fn step(mut self, chart: &Chart<'_>) -> Result<Step, Memory>
+        requires { IsChoice chart.now.normal chart.now.kinds self }
+        ensures { IfOk result (IsStep chart.now.normal chart.now.kinds) }
+    {
+        let Some(symbols) = alternative(chart.normal(), self.rule, self.alternative) else {
+            let Choice {
+                rule,
+                first,
+                ends,
+                ..
+            } = self;
+            return Ok(Step::Done(RuleEnds { rule, first, ends }));
+        };
+        let reached = self.current.len();
+        if self.symbol >= symbols.len() || reached == 0 {
+            self.next_alternative()?;
+            return Ok(Step::More(Work::Choice(self)));
+        }
+        if self.done >= reached {
+            self.next_symbol();
+            return Ok(Step::More(Work::Choice(self)));
+        }
+        let symbol = symbols[self.symbol];
+        self.next_position(symbol, chart)
+    }
+}

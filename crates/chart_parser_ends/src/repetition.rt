@@ -1,0 +1,184 @@
+//! The work on where a star or plus can end.
+
+ghost use Rattle.std.specs.Prelude.{◌≡◌, ◌+◌, ◌<◌, ℕ, drop, if◌then◌else◌, length, IfOk, MatchOption};
+ghost use Rattle.std.specs.List.{Contains};
+ghost use Rattle.std.specs.List.Sorted.{IsStrictlyIncreasing};
+ghost use Rattle.chart_parser_ends.specs.Moves.{BeginsRepetition, TakesEntry};
+ghost use Rattle.chart_parser_ends.specs.Working.{IsNext, IsRepetition, IsStep};
+
+use crate::chart::Chart;
+use crate::positions::{add_all, has};
+use crate::work::{RuleEnds, Step, Work};
+use faults::Memory;
+use normal_form::Sym;
+use std::alloc::Global;
+
+/// The work on a star or plus of the symbol, at the position `first`.
+#[derive(Drop)]
+pub(crate) struct Repetition {
+    pub(crate) rule: u32,
+    pub(crate) first: u32,
+    pub(crate) symbol: Sym,
+    /// Whether it is a plus.
+    pub(crate) plus: bool,
+    /// Positions that the symbol reaches from `first`, any number of times.
+    pub(crate) reached: Vec<u32>,
+    /// What the symbol reaches from those below this position is among them, and from those that are
+    /// covered.
+    pub(crate) from: u32,
+    pub(crate) covered: Vec<u32>,
+}
+
+impl Repetition {
+    /// The work at its beginning.
+    pub(crate) fn new(
+        alloc: Global,
+        rule: u32,
+        first: u32,
+        symbol: Sym,
+        plus: bool,
+    ) -> Result<Repetition, Memory>
+        ensures { IfOk result (BeginsRepetition rule first symbol plus) }
+    {
+        Ok(Repetition {
+            rule,
+            first,
+            symbol,
+            plus,
+            reached: vec![in alloc; first]?,
+            from: first,
+            covered: Vec::new(alloc),
+        })
+    }
+
+    /// The least position from `from` on that was reached.
+    fn next(&self) -> Option<u32>
+        requires { IsStrictlyIncreasing self.now.reached.items }
+        ensures { MatchOption result ((x : ℕ) → Contains self.now.reached.items x → x < self.now.from) (IsNext self.now.reached.items self.now.from) }
+    {
+        match self.reached.binary_search(&self.from) {
+            Ok(_) => Some(self.from),
+            Err(next) => {
+                if next < self.reached.len() {
+                    Some(self.reached[next])
+                } else {
+                    None
+                }
+            }
+        }
+    }
+
+    /// What was worked for, where no position is left to go on from: a plus can't end where it
+    /// begins.
+    fn rule_ends(self) -> RuleEnds
+        requires { 0 < length self.reached.items }
+        ensures rule { result.rule ≡ self.rule }
+        ensures first { result.first ≡ self.first }
+        ensures ends { result.ends.items ≡ (if self.plus then drop 1 self.reached.items else self.reached.items) }
+    {
+        let Repetition {
+            rule,
+            first,
+            plus,
+            reached,
+            ..
+        } = self;
+        let ends = without_start(plus, reached);
+        RuleEnds { rule, first, ends }
+    }
+
+    /// All that the same rule reaches from the position, which is all that the symbol goes on to.
+    fn with_entry(mut self, position: u32, ends: &[u32]) -> Result<Repetition, Memory>
+        requires rising { IsStrictlyIncreasing self.reached.items }
+        requires rising_covered { IsStrictlyIncreasing self.covered.items }
+        ensures { IfOk result (TakesEntry self position ends.now) }
+    {
+        let from = after(position)?;
+        add_all(&mut self.reached, ends)?;
+        add_all(&mut self.covered, ends)?;
+        self.from = from;
+        Ok(self)
+    }
+
+    /// Goes on by the symbol from the position.
+    fn with_position(mut self, position: u32, chart: &Chart<'_>) -> Result<Step, Memory>
+        requires work { IsRepetition chart.now.normal chart.now.kinds self }
+        requires next { IsNext self.reached.items self.from position }
+        ensures { IfOk result (IsStep chart.now.normal chart.now.kinds) }
+    {
+        match chart.ends_of(self.symbol, position) {
+            Ok(ends) => {
+                let from = after(position)?;
+                add_all(&mut self.reached, ends)?;
+                self.from = from;
+                Ok(Step::More(Work::Repetition(self)))
+            }
+            Err(missing) => Ok(Step::Needs(Work::Repetition(self), missing, position)),
+        }
+    }
+
+    /// Passes over a position that is covered.
+    fn past(mut self, position: u32, chart: &Chart<'_>) -> Result<Step, Memory>
+        requires work { IsRepetition chart.now.normal chart.now.kinds self }
+        requires next { IsNext self.reached.items self.from position }
+        requires covered { Contains self.covered.items position }
+        ensures { IfOk result (IsStep chart.now.normal chart.now.kinds) }
+    {
+        let from = after(position)?;
+        self.from = from;
+        Ok(Step::More(Work::Repetition(self)))
+    }
+
+    /// One step of the work.
+    pub(crate) fn step(self, chart: &Chart<'_>) -> Result<Step, Memory>
+        requires { IsRepetition chart.now.normal chart.now.kinds self }
+        ensures { IfOk result (IsStep chart.now.normal chart.now.kinds) }
+    {
+        chart.normal().is_normal();
+        let Some(position) = self.next() else {
+            return Ok(Step::Done(self.rule_ends()));
+        };
+        if has(&self.covered, position) {
+            return self.past(position, chart);
+        }
+        match chart.ends_of(Sym::Rule(self.rule), position) {
+            Ok(ends) => {
+                let repetition = self.with_entry(position, ends)?;
+                Ok(Step::More(Work::Repetition(repetition)))
+            }
+            Err(_) => self.with_position(position, chart),
+        }
+    }
+}
+
+/// The position after this one.
+fn after(position: u32) -> Result<u32, Memory>
+    ensures { IfOk result (λ next. next ≡ position + 1) }
+{
+    match position.checked_add(1) {
+        Some(next) => Ok(next),
+        None => Err(Memory),
+    }
+}
+
+/// Where a star or plus can end, of the positions that its symbol reaches any number of times. The
+/// first one is where it begins.
+fn without_start(plus: bool, reached: Vec<u32>) -> Vec<u32>
+    requires { 0 < length reached.items }
+    ensures { result.items ≡ (if plus then drop 1 reached.items else reached.items) }
+{
+    if plus {
+        without_first(reached)
+    } else {
+        reached
+    }
+}
+
+/// The positions without the first one.
+fn without_first(mut positions: Vec<u32>) -> Vec<u32>
+    requires { 0 < length positions.items }
+    ensures { result.items ≡ drop 1 positions.items }
+{
+    let _ = positions.remove(0);
+    positions
+}

@@ -1,5 +1,0 @@
-pub use Rattle.grammar_notation.specs.Reads
-pub use Rattle.grammar_check.specs.CheckFaults
-pub mod Answer
-pub mod Message
-pub mod Laws

@@ -1,0 +1,2 @@
+pub mod NormalLemmas
+pub mod NormalByStatusLemmas

@@ -1,0 +1,60 @@
+//! The command `normal`, step by step.
+
+ghost use Rattle.std.specs.Prelude.{IfErr, IfOk, List, OnOk, ℕ};
+ghost use Rattle.edge_io.specs.Files.{SameFiles};
+ghost use Rattle.grammar_load.specs.Answer.{Spells};
+ghost use Rattle.command_normal.specs.Normal.{IsNormalOf, NormalFails, PrintsNormal};
+ghost use Rattle.command_words.specs.Commands.{GrammarSource};
+ghost use Rattle.command_words.specs.Lines.{grammar_read};
+ghost use Rattle.command_grammar.specs.Grammar.{start_name};
+ghost use Rattle.command_ends.specs.World.{IsQuiet, WasRead, grammar_limit, seen};
+
+use command_ends::{Refusal, end_with};
+use command_grammar::grammar_of_file;
+use command_words::NamedGrammar;
+use edge_io::{Files, Sink};
+use faults::Memory;
+use grammar_tree::Checked;
+use normal_form_build::normalise;
+use normal_form_print::normal_text;
+use std::alloc::Global;
+
+/// The printed normal form of the grammar.
+fn form_of(alloc: Global, checked: &Checked) -> Result<Vec<u8>, Memory>
+    ensures { IfOk result (λ form. (named : GrammarSource) (bytes : List ℕ) → Spells bytes (start_name named) checked.now → IsNormalOf named bytes form.items) }
+{
+    let normal = normalise(alloc, checked)?;
+    Ok(normal_text(alloc, checked, &normal)?)
+}
+
+/// The printed normal form of the grammar in a file.
+fn form_of_file<F: Files>(
+    alloc: Global,
+    grammar: NamedGrammar<'_>,
+    files: &mut F,
+) -> Result<Vec<u8>, Refusal>
+    ensures form { IfOk result (λ form. WasRead grammar_limit (F.content files.old grammar.entry.path.now) (λ bytes. IsNormalOf (grammar_read grammar.entry) bytes form.items)) }
+    ensures quiet { OnOk result (IsQuiet (seen F.content F.faults files.old) (seen F.content F.faults files.new)) }
+    ensures refused { IfErr result (λ refusal. NormalFails (grammar_read grammar.entry) (seen F.content F.faults files.old) (seen F.content F.faults files.new) refusal) }
+    ensures same { SameFiles (F.content files.old) (F.content files.new) }
+{
+    let checked = grammar_of_file(alloc, grammar, files)?;
+    let form = form_of(alloc, &checked)?;
+    Ok(form)
+}
+
+/// Puts the printed normal form of the grammar in a file on `out`, in one put, or the line that
+/// says why there is none, and gives the status. Where the normal form can't be put, nothing
+/// follows.
+pub fn normal<F: Files, O: Sink>(
+    alloc: Global,
+    grammar: NamedGrammar<'_>,
+    files: &mut F,
+    out: &mut O,
+) -> u8
+    ensures { PrintsNormal (grammar_read grammar.entry) (seen F.content F.faults files.old) (seen F.content F.faults files.new)
+        (seen O.put_so_far O.faults out.old) (seen O.put_so_far O.faults out.new) result }
+{
+    let outcome = form_of_file(alloc, grammar, files);
+    end_with(out, &outcome)
+}

@@ -1,0 +1,40 @@
+-- What the top call does, by what the words ask for.
+use Rattle.std.specs.Prelude.{◌≡◌, ℕ, List, [], Option, Some, None, codes}
+use Rattle.script_gate_trait.specs.declared.gate.Verdict.{Verdict}
+use Rattle.command_normal.specs.Normal.{PrintsNormal}
+use Rattle.command_reduce.specs.Reduce.{Reduces}
+use Rattle.command_words.specs.Commands.{Command, GrammarSource, ReduceOptions, SelftestOptions}
+use Rattle.command_selftest.specs.Selftest.{RunsSelftest}
+use Rattle.command_ends.specs.declared.status.Refusal.{Refusal}
+use Rattle.command_ends.specs.declared.status.Refusal.TheVariants.{Memory, Usage}
+use Rattle.command_ends.specs.World.{NotReached, PutsMessage, World}
+
+-- the words are no command line: the status is 2, and nothing but its line is put
+pub record EndsUsage (old new : World) (status : ℕ) : Type 0 where
+  pub status_is : status ≡ 2
+  pub files : new.files ≡ old.files
+  pub untouched : NotReached [] old new
+  pub line : PutsMessage (codes "bad command line") old.out new.out
+
+-- memory ran out before it was known that the words are none: the status is 1, and nothing but its line is put
+pub record EndsOutOfMemory (old new : World) (status : ℕ) : Type 0 where
+  pub status_is : status ≡ 1
+  pub files : new.files ≡ old.files
+  pub untouched : NotReached [] old new
+  pub line : PutsMessage (codes "out of memory") old.out new.out
+
+-- What is done, by what the words ask for: one case for each command. Where memory ran out before the words were read, the command ends as it does where memory runs out.
+pub data RunsCommand (may_say : List ℕ → Verdict → Type 0) (old new : World) (status : ℕ) : Option Command → Type 0 where
+  usage : EndsUsage old new status → RunsCommand may_say old new status None
+  out_of_memory : EndsOutOfMemory old new status → RunsCommand may_say old new status None
+  reduce : (options : ReduceOptions) → Reduces options may_say old new status → RunsCommand may_say old new status (Some (Command.reduce options))
+  normal : (grammar : GrammarSource) → PrintsNormal grammar old.files new.files old.out new.out status → NotReached [] old new
+      → RunsCommand may_say old new status (Some (Command.normal grammar))
+  selftest : (options : SelftestOptions) → RunsSelftest options old.out new.out status → new.files ≡ old.files → NotReached [] old new
+      → RunsCommand may_say old new status (Some (Command.selftest options))
+
+-- why no command line was read: the words are none, or memory ran out
+abbrev pub WordsFail : Option Command → Refusal → Type 0
+WordsFail asked Memory = Unit {0}
+WordsFail asked Usage = asked ≡ None
+WordsFail asked _ = ⊥

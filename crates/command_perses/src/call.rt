@@ -1,0 +1,65 @@
+//! The top call.
+
+ghost use Rattle.std.specs.Prelude.{◌≡◌, ◌⊎◌, None, Some, IfErr, IfOk, map, string_bytes};
+ghost use Rattle.command_perses.specs.Call.{RunsCommand, WordsFail};
+ghost use Rattle.command_words.specs.Commands.{command_line_of};
+ghost use Rattle.command_words.specs.Lines.{IsSized, command_read};
+ghost use Rattle.command_ends.specs.World.{seen};
+
+use command_ends::{Ended, Refusal, end_refused};
+use command_normal::normal;
+use command_reduce::reduce;
+use command_selftest::selftest;
+use command_words::{CommandLine, read_words};
+use edge_io::{Files, Sink};
+use script_gate_trait::Gate;
+use std::alloc::Global;
+
+/// The command line that the words are, or why there is none.
+fn read_line<'a>(alloc: Global, words: &'a [String]) -> Result<CommandLine<'a>, Refusal>
+    ensures line { IfOk result (λ line. Some (command_read line) ≡ command_line_of (map string_bytes words.entry.now)) }
+    ensures size { IfOk result IsSized }
+    ensures refused { IfErr result (WordsFail (command_line_of (map string_bytes words.entry.now))) }
+{
+    match read_words(alloc, words) {
+        Err(_) => Err(Refusal::Memory),
+        Ok(None) => Err(Refusal::Usage),
+        Ok(Some(line)) => Ok(line),
+    }
+}
+
+/// Does what the words ask for. What it promises at each status is stated with the command:
+/// `ReduceEnds` for `reduce`, `NormalEnds` for `normal`, `SelftestEnds` for `selftest`. Words that are
+/// no command line have status 2, and no others, but where memory ran out before they were read, which
+/// is status 1. `reduce` opens the journal; no other command touches it.
+pub fn perses<F: Files, G: Gate, J: Sink + Drop, O: Sink>(
+    alloc: Global,
+    words: &[String],
+    files: &mut F,
+    gate: &mut G,
+    journal: J,
+    out: &mut O,
+) -> Ended<J>
+    ensures runs { RunsCommand G.may_say
+        (record { files = seen F.content F.faults files.old; gate = seen G.log G.faults gate.old; journal = seen J.put_so_far J.faults journal; out = seen O.put_so_far O.faults out.old })
+        (record { files = seen F.content F.faults files.new; gate = seen G.log G.faults gate.new; journal = seen J.put_so_far J.faults result.journal; out = seen O.put_so_far O.faults out.new })
+        result.status (command_line_of (map string_bytes words.now)) }
+    ensures usage { result.status ≡ 2 → command_line_of (map string_bytes words.now) ≡ None }
+    ensures no_other { command_line_of (map string_bytes words.now) ≡ None → (result.status ≡ 2) ⊎ (result.status ≡ 1) }
+{
+    match read_line(alloc, words) {
+        Err(refusal) => Ended {
+            status: end_refused(out, &refusal),
+            journal,
+        },
+        Ok(CommandLine::Reduce(line)) => reduce(alloc, &line, files, gate, journal, out),
+        Ok(CommandLine::Normal(grammar)) => Ended {
+            status: normal(alloc, grammar, files, out),
+            journal,
+        },
+        Ok(CommandLine::Selftest(line)) => Ended {
+            status: selftest(alloc, line, out),
+            journal,
+        },
+    }
+}

@@ -1,0 +1,6 @@
+pub mod ProblemLemmas
+pub mod ReadLemmas
+pub mod StartLemmas
+pub mod MustEndLemmas
+pub mod CommandLemmas
+pub mod ReduceByStatusLemmas

@@ -1,0 +1,340 @@
+-- Which status `reduce` has to end with, from how it ends.
+use Rattle.std.proofs.Common.{◌≡◌, ℕ, List, [], ◌∷◌, Some, true, false, ⊎_elim, refl, sym, ap, ◌∙◌, subst}
+use Rattle.std.proofs.lemmas.Bool.{false≢true}
+use Rattle.keep_guard.specs.Keep.{first_missing, holds_all}
+use Rattle.keep_guard.proofs.KeepLemmas.{holds_all_or_misses}
+use Rattle.script_gate_trait.specs.declared.gate.Verdict.TheVariants.{Yes}
+use Rattle.verdict_table.specs.declared.record.Record.{Record}
+use Rattle.run_gated.specs.Records.{FirstIs, FirstIsNo}
+use Rattle.reduce_trees_input.specs.Faults.{IsInputFault}
+use Rattle.reduce_trees_input.specs.Laws.{InputFaultOnce, InputsAreInLanguage}
+use Rattle.reduce_trees_input.specs.declared.fault.InputFault.{InputFault}
+use Rattle.reduce_trees_input.specs.declared.fault.InputFault.TheVariants as input_fault
+use Rattle.command_ends.specs.declared.status.NamedFile.TheVariants as named
+use Rattle.command_grammar.specs.Grammar.{IsFaultIn}
+use Rattle.run_problem.specs.Problem.{Problem, start_of}
+use Rattle.run_problem.specs.Ends.{ReducesFrom}
+use Rattle.reduce_journal.specs.History.{History, records_of}
+use Rattle.reduce_journal.specs.Report.{report_text}
+use Rattle.reduce_journal.specs.declared.counts.Counts.{Counts}
+use Rattle.command_reduce_calls.specs.Journal.{JournalSoFar}
+use Rattle.command_reduce.specs.Reduce.{InputHas, IsShownFault, IsShownProblem, ProblemAccepted, ProblemRead, ReduceEnds, ReduceMustEnd, ReducesTo}
+use Rattle.command_reduce.specs.Reduce.ReduceEnds.{done, memory, unread, unwritten, unput, faulty, no_token, unparsed, uninteresting, keep_missing, too_long, script, journal}
+use Rattle.command_ends.specs.Status.{IsUncut}
+use Rattle.command_words.specs.Commands.{GrammarOptions, GrammarSource, ModeOptions, ReduceOptions}
+use Rattle.command_ends.specs.World.{IsQuiet, IsShownWithin, SeenGate, SeenJournal, WasRead, World, grammar_limit, input_limit}
+use Rattle.command_ends.proofs.FileLemmas.{longer_not_missing, not_longer, read_not_missing, read_not_over}
+use Rattle.command_reduce.proofs.ProblemLemmas.{any_problem, fault_is, fault_not_shown, faulty_not_shown, grammar_not_faulty, grammar_not_missing, grammar_not_over, input_read, long_grammar, long_grammar_not_shown, long_input_no_fault, long_input_not_shown, no_fault, no_grammar, not_faulty, parse_caused, reached_grammar, read_and_shown, shown_not_faulty, shown_not_long, uncut_caused}
+
+yes_no : (start : List ℕ) (records : List Record) → FirstIs start Yes records → FirstIsNo records → ⊥
+yes_no start [] first first_no = first
+yes_no start (r ∷ records) first first_no = absurd (cc (sym first.1 ∙ first_no))
+
+none_no : (records : List Record) → records ≡ [] → FirstIsNo records → ⊥
+none_no records none first_no = subst FirstIsNo none first_no
+
+none_missing : (keeps : List (List ℕ)) (start : List ℕ) (index : ℕ) → holds_all keeps start ≡ true → first_missing keeps start ≡ Some index → ⊥
+none_missing keeps start index holds missing = absurd (cc (sym missing ∙ (holds_all_or_misses keeps start).0 holds))
+
+-- the grammar of a mode, and of one without a grammar this one
+abbrev named_in : GrammarSource → ModeOptions → GrammarSource
+named_in other ModeOptions.lines = other
+named_in other (ModeOptions.by_grammar trees) = trees.grammar
+
+-- a mode has one grammar
+same_grammar : {mode : ModeOptions} {one other : GrammarOptions} → mode ≡ ModeOptions.by_grammar one → mode ≡ ModeOptions.by_grammar other → one.grammar ≡ other.grammar
+same_grammar {one = one} is is' = ap (named_in one.grammar) (sym is ∙ is')
+
+module _ (faults : InputFaultOnce) (languages : InputsAreInLanguage) (options : ReduceOptions) (history : History) (old new : World) where
+  abbrev records : List Record
+  records = records_of history
+
+  keeps_all : (P : Problem → Type 0) → ProblemAccepted options old.files P → IsShownProblem options old.files (λ start. holds_all options.keeps start ≡ false) → ⊥
+  keeps_all P read shown =
+      let it : (problem : Problem) × ((holds_all options.keeps (start_of problem) ≡ true) × P problem) × (holds_all options.keeps (start_of problem) ≡ false) =
+      read_and_shown options old.files (λ problem. (holds_all options.keeps (start_of problem) ≡ true) × P problem) (λ start. holds_all options.keeps start ≡ false) read shown in
+      false≢true (sym it.2 ∙ it.1.0)
+
+  missing_keeps : (index : ℕ) → ProblemRead options old.files (λ problem. first_missing options.keeps (start_of problem) ≡ Some index) → IsShownProblem options old.files (λ start. holds_all options.keeps start ≡ true) → ⊥
+  missing_keeps index read shown =
+      let it : (problem : Problem) × (first_missing options.keeps (start_of problem) ≡ Some index) × (holds_all options.keeps (start_of problem) ≡ true) =
+      read_and_shown options old.files (λ problem. first_missing options.keeps (start_of problem) ≡ Some index) (λ start. holds_all options.keeps start ≡ true) read shown in
+      none_missing options.keeps (start_of it.0) index it.2 it.1
+
+  yes_first : (text report : List ℕ) → ReducesTo options old.files history text report → FirstIsNo records → ⊥
+  yes_first text report reduces first_no =
+      let P : Problem → Type 0 = λ problem. (counts : Counts) × ReducesFrom options.keeps problem history text counts × (report ≡ report_text counts) in
+      let it : (problem : Problem) × ((holds_all options.keeps (start_of problem) ≡ true) × P problem) =
+      any_problem options old.files (λ problem. (holds_all options.keeps (start_of problem) ≡ true) × P problem) reduces in
+      yes_no (start_of it.0) records it.1.1.1.first first_no
+
+  so_far_quiet : (name : List ℕ) → JournalSoFar name history old.journal new.journal → IsQuiet old.journal new.journal
+  so_far_quiet name (JournalSoFar.whole it) = it.quiet
+  so_far_quiet name (JournalSoFar.untouched it) = ap (λ (j : SeenJournal). j.faults) it.same
+  so_far_quiet name (JournalSoFar.empty it) = it.quiet
+
+  module _ {trees g : GrammarOptions} (mode : options.mode ≡ ModeOptions.by_grammar trees) (is : options.mode ≡ ModeOptions.by_grammar g) where
+    fault_at : {text : List ℕ} → WasRead grammar_limit (old.files.shown trees.grammar.path) (λ bytes. IsFaultIn trees.grammar bytes text) → WasRead grammar_limit (old.files.shown g.grammar.path) (λ bytes. IsFaultIn g.grammar bytes text)
+    fault_at {text = text} read = subst (λ (named : GrammarSource). WasRead grammar_limit (old.files.shown named.path) (λ bytes. IsFaultIn named bytes text)) (same_grammar mode is) read
+
+    faulty_no_fault : {text : List ℕ} → WasRead grammar_limit (old.files.shown trees.grammar.path) (λ bytes. IsFaultIn trees.grammar bytes text) → (Q : InputFault → Type 0) → IsShownFault g.grammar options old.files Q → ⊥
+    faulty_no_fault {text = text} read Q shown =
+        no_grammar g.grammar (old.files.shown g.grammar.path) text (fault_at read) (λ c. IsShownWithin input_limit (old.files.shown options.input) (λ bytes. (fault : InputFault) × IsInputFault c bytes fault × Q fault)) shown
+
+    has_at : (fault : InputFault) → InputHas trees.grammar (λ c bytes. IsInputFault c bytes fault) options old.files → InputHas g.grammar (λ c bytes. IsInputFault c bytes fault) options old.files
+    has_at fault read = subst (λ (named : GrammarSource). InputHas named (λ c bytes. IsInputFault c bytes fault) options old.files) (same_grammar mode is) read
+
+  -- which status it has to be
+  pub must_end : {status : ℕ} → ReduceEnds options history old new status → ReduceMustEnd options records old new status
+  must_end (done report writes put) = record {
+    grammar_over = λ g is over. absurd (grammar_not_over options old.files _ writes.reduced.reduces g is over);
+    grammar_missing = λ g is none. absurd (grammar_not_missing options old.files _ writes.reduced.reduces g is none);
+    faulty = λ g is shown. absurd (grammar_not_faulty options old.files _ writes.reduced.reduces g is shown);
+    input_over = λ fine over. absurd (read_not_over (input_read options old.files _ writes.reduced.reduces) over);
+    input_missing = λ fine none. absurd (read_not_missing (input_read options old.files _ writes.reduced.reduces) none);
+    over = λ over. absurd (read_not_over (input_read options old.files _ writes.reduced.reduces) over);
+    missing = λ none. absurd (read_not_missing (input_read options old.files _ writes.reduced.reduces) none);
+    no_token = λ g is shown. absurd (no_fault options old.files _ writes.reduced.reduces g is faults languages IsUncut uncut_caused shown);
+    unparsed = λ g is shown. absurd (no_fault options old.files _ writes.reduced.reduces g is faults languages (λ fault. fault ≡ input_fault.NoParse) parse_caused shown);
+    keep_missing = λ shown. absurd (keeps_all _ writes.reduced.reduces shown);
+    complete = λ shown files_fine gate_fine journal_fine out_fine. refl;
+    first_no = λ first_no. absurd (yes_first _ _ writes.reduced.reduces first_no);
+    files_failed = λ failed. absurd (failed writes.files_quiet);
+    gate_failed = λ failed. absurd (failed writes.gate_quiet);
+    journal_failed = λ failed. absurd (failed writes.journal.quiet);
+    out_failed = λ failed. absurd (failed put.quiet);
+  }
+  must_end (unput report writes put) = record {
+    grammar_over = λ g is over. absurd (grammar_not_over options old.files _ writes.reduced.reduces g is over);
+    grammar_missing = λ g is none. absurd (grammar_not_missing options old.files _ writes.reduced.reduces g is none);
+    faulty = λ g is shown. absurd (grammar_not_faulty options old.files _ writes.reduced.reduces g is shown);
+    input_over = λ fine over. absurd (read_not_over (input_read options old.files _ writes.reduced.reduces) over);
+    input_missing = λ fine none. absurd (read_not_missing (input_read options old.files _ writes.reduced.reduces) none);
+    over = λ over. absurd (read_not_over (input_read options old.files _ writes.reduced.reduces) over);
+    missing = λ none. absurd (read_not_missing (input_read options old.files _ writes.reduced.reduces) none);
+    no_token = λ g is shown. absurd (no_fault options old.files _ writes.reduced.reduces g is faults languages IsUncut uncut_caused shown);
+    unparsed = λ g is shown. absurd (no_fault options old.files _ writes.reduced.reduces g is faults languages (λ fault. fault ≡ input_fault.NoParse) parse_caused shown);
+    keep_missing = λ shown. absurd (keeps_all _ writes.reduced.reduces shown);
+    complete = λ shown files_fine gate_fine journal_fine out_fine. absurd (out_fine put.failed);
+    first_no = λ first_no. absurd (yes_first _ _ writes.reduced.reduces first_no);
+    files_failed = λ failed. absurd (failed writes.files_quiet);
+    gate_failed = λ failed. absurd (failed writes.gate_quiet);
+    journal_failed = λ failed. absurd (failed writes.journal.quiet);
+    out_failed = λ failed is. cc is;
+  }
+  must_end (memory files gate_quiet kept put) = record {
+    grammar_over = λ g is over. refl;
+    grammar_missing = λ g is none. refl;
+    faulty = λ g is shown. refl;
+    input_over = λ fine over. refl;
+    input_missing = λ fine none. refl;
+    over = λ over. refl;
+    missing = λ none. refl;
+    no_token = λ g is shown. refl;
+    unparsed = λ g is shown. refl;
+    keep_missing = λ shown. refl;
+    complete = λ shown files_fine gate_fine journal_fine out_fine. refl;
+    first_no = λ first_no. refl;
+    files_failed = λ failed. absurd (failed files.quiet);
+    gate_failed = λ failed. absurd (failed gate_quiet);
+    journal_failed = λ failed. absurd (failed (so_far_quiet _ kept));
+    out_failed = λ failed is. cc is;
+  }
+  must_end (unread file reached call_failed same untouched put) = record {
+    grammar_over = λ g is over. refl;
+    grammar_missing = λ g is none. refl;
+    faulty = λ g is shown. refl;
+    input_over = λ fine over. refl;
+    input_missing = λ fine none. refl;
+    over = λ over. refl;
+    missing = λ none. refl;
+    no_token = λ g is shown. refl;
+    unparsed = λ g is shown. refl;
+    keep_missing = λ shown. refl;
+    complete = λ shown files_fine gate_fine journal_fine out_fine. absurd (files_fine call_failed);
+    first_no = λ first_no. absurd (none_no records (ap records_of untouched.no_history) first_no);
+    files_failed = λ failed. refl;
+    gate_failed = λ failed. absurd (failed (ap (λ (gate : SeenGate). gate.faults) untouched.gate));
+    journal_failed = λ failed. absurd (failed (ap (λ (j : SeenJournal). j.faults) untouched.journal));
+    out_failed = λ failed is. cc is;
+  }
+  must_end (unwritten call_failed text report reduces others gate_quiet kept put) = record {
+    grammar_over = λ g is over. absurd (grammar_not_over options old.files _ reduces g is over);
+    grammar_missing = λ g is none. absurd (grammar_not_missing options old.files _ reduces g is none);
+    faulty = λ g is shown. absurd (grammar_not_faulty options old.files _ reduces g is shown);
+    input_over = λ fine over. absurd (read_not_over (input_read options old.files _ reduces) over);
+    input_missing = λ fine none. absurd (read_not_missing (input_read options old.files _ reduces) none);
+    over = λ over. absurd (read_not_over (input_read options old.files _ reduces) over);
+    missing = λ none. absurd (read_not_missing (input_read options old.files _ reduces) none);
+    no_token = λ g is shown. absurd (no_fault options old.files _ reduces g is faults languages IsUncut uncut_caused shown);
+    unparsed = λ g is shown. absurd (no_fault options old.files _ reduces g is faults languages (λ fault. fault ≡ input_fault.NoParse) parse_caused shown);
+    keep_missing = λ shown. absurd (keeps_all _ reduces shown);
+    complete = λ shown files_fine gate_fine journal_fine out_fine. absurd (files_fine call_failed);
+    first_no = λ first_no. absurd (yes_first _ _ reduces first_no);
+    files_failed = λ failed. refl;
+    gate_failed = λ failed. absurd (failed gate_quiet);
+    journal_failed = λ failed. absurd (failed kept.quiet);
+    out_failed = λ failed is. cc is;
+  }
+  must_end (faulty trees text mode read files untouched put) = record {
+    grammar_over = λ g is over. absurd (read_not_over (fault_at mode is read) over);
+    grammar_missing = λ g is none. absurd (read_not_missing (fault_at mode is read) none);
+    faulty = λ g is shown. refl;
+    input_over = λ fine over. absurd (shown_not_faulty options old.files mode read fine);
+    input_missing = λ fine none. absurd (shown_not_faulty options old.files mode read fine);
+    over = λ over. refl;
+    missing = λ none. refl;
+    no_token = λ g is shown. absurd (faulty_no_fault mode is read IsUncut shown);
+    unparsed = λ g is shown. absurd (faulty_no_fault mode is read (λ fault. fault ≡ input_fault.NoParse) shown);
+    keep_missing = λ shown. absurd (faulty_not_shown options old.files trees text _ mode read shown);
+    complete = λ shown files_fine gate_fine journal_fine out_fine. absurd (faulty_not_shown options old.files trees text _ mode read shown);
+    first_no = λ first_no. absurd (none_no records (ap records_of untouched.no_history) first_no);
+    files_failed = λ failed. absurd (failed files.quiet);
+    gate_failed = λ failed. absurd (failed (ap (λ (gate : SeenGate). gate.faults) untouched.gate));
+    journal_failed = λ failed. absurd (failed (ap (λ (j : SeenJournal). j.faults) untouched.journal));
+    out_failed = λ failed is. cc is;
+  }
+  must_end (no_token trees fault mode uncut read files untouched put) = record {
+    grammar_over = λ g is over. absurd (read_not_over (has_at mode is fault read).1 over);
+    grammar_missing = λ g is none. absurd (read_not_missing (has_at mode is fault read).1 none);
+    faulty = λ g is shown. absurd (not_faulty _ _ _ (has_at mode is fault read).1 shown);
+    input_over = λ fine over. absurd (read_not_over read.2 over);
+    input_missing = λ fine none. absurd (read_not_missing read.2 none);
+    over = λ over. absurd (read_not_over read.2 over);
+    missing = λ none. absurd (read_not_missing read.2 none);
+    no_token = λ g is shown. refl;
+    unparsed = λ g is shown. absurd (subst IsUncut (fault_is options old.files faults g fault (uncut_caused fault uncut) (has_at mode is fault read) (λ f. f ≡ input_fault.NoParse) parse_caused shown) uncut);
+    keep_missing = λ shown. absurd (fault_not_shown options old.files faults trees fault (uncut_caused fault uncut) read _ mode shown);
+    complete = λ shown files_fine gate_fine journal_fine out_fine. absurd (fault_not_shown options old.files faults trees fault (uncut_caused fault uncut) read _ mode shown);
+    first_no = λ first_no. absurd (none_no records (ap records_of untouched.no_history) first_no);
+    files_failed = λ failed. absurd (failed files.quiet);
+    gate_failed = λ failed. absurd (failed (ap (λ (gate : SeenGate). gate.faults) untouched.gate));
+    journal_failed = λ failed. absurd (failed (ap (λ (j : SeenJournal). j.faults) untouched.journal));
+    out_failed = λ failed is. cc is;
+  }
+  must_end (unparsed trees mode read files untouched put) = record {
+    grammar_over = λ g is over. absurd (read_not_over (has_at mode is input_fault.NoParse read).1 over);
+    grammar_missing = λ g is none. absurd (read_not_missing (has_at mode is input_fault.NoParse read).1 none);
+    faulty = λ g is shown. absurd (not_faulty _ _ _ (has_at mode is input_fault.NoParse read).1 shown);
+    input_over = λ fine over. absurd (read_not_over read.2 over);
+    input_missing = λ fine none. absurd (read_not_missing read.2 none);
+    over = λ over. absurd (read_not_over read.2 over);
+    missing = λ none. absurd (read_not_missing read.2 none);
+    no_token = λ g is shown. absurd (fault_is options old.files faults g input_fault.NoParse (parse_caused input_fault.NoParse refl) (has_at mode is input_fault.NoParse read) IsUncut uncut_caused shown);
+    unparsed = λ g is shown. refl;
+    keep_missing = λ shown. absurd (fault_not_shown options old.files faults trees input_fault.NoParse (parse_caused input_fault.NoParse refl) read _ mode shown);
+    complete = λ shown files_fine gate_fine journal_fine out_fine. absurd (fault_not_shown options old.files faults trees input_fault.NoParse (parse_caused input_fault.NoParse refl) read _ mode shown);
+    first_no = λ first_no. absurd (none_no records (ap records_of untouched.no_history) first_no);
+    files_failed = λ failed. absurd (failed files.quiet);
+    gate_failed = λ failed. absurd (failed (ap (λ (gate : SeenGate). gate.faults) untouched.gate));
+    journal_failed = λ failed. absurd (failed (ap (λ (j : SeenJournal). j.faults) untouched.journal));
+    out_failed = λ failed is. cc is;
+  }
+  must_end (uninteresting read files gate_quiet kept put) = record {
+    grammar_over = λ g is over. absurd (grammar_not_over options old.files _ read g is over);
+    grammar_missing = λ g is none. absurd (grammar_not_missing options old.files _ read g is none);
+    faulty = λ g is shown. absurd (grammar_not_faulty options old.files _ read g is shown);
+    input_over = λ fine over. absurd (read_not_over (input_read options old.files _ read) over);
+    input_missing = λ fine none. absurd (read_not_missing (input_read options old.files _ read) none);
+    over = λ over. absurd (read_not_over (input_read options old.files _ read) over);
+    missing = λ none. absurd (read_not_missing (input_read options old.files _ read) none);
+    no_token = λ g is shown. absurd (no_fault options old.files _ read g is faults languages IsUncut uncut_caused shown);
+    unparsed = λ g is shown. absurd (no_fault options old.files _ read g is faults languages (λ fault. fault ≡ input_fault.NoParse) parse_caused shown);
+    keep_missing = λ shown. absurd (keeps_all _ read shown);
+    complete = λ shown files_fine gate_fine journal_fine out_fine. refl;
+    first_no = λ first_no. refl;
+    files_failed = λ failed. absurd (failed files.quiet);
+    gate_failed = λ failed. absurd (failed gate_quiet);
+    journal_failed = λ failed. absurd (failed kept.quiet);
+    out_failed = λ failed is. cc is;
+  }
+  must_end (keep_missing index read files untouched put) = record {
+    grammar_over = λ g is over. absurd (grammar_not_over options old.files _ read g is over);
+    grammar_missing = λ g is none. absurd (grammar_not_missing options old.files _ read g is none);
+    faulty = λ g is shown. absurd (grammar_not_faulty options old.files _ read g is shown);
+    input_over = λ fine over. absurd (read_not_over (input_read options old.files _ read) over);
+    input_missing = λ fine none. absurd (read_not_missing (input_read options old.files _ read) none);
+    over = λ over. absurd (read_not_over (input_read options old.files _ read) over);
+    missing = λ none. absurd (read_not_missing (input_read options old.files _ read) none);
+    no_token = λ g is shown. absurd (no_fault options old.files _ read g is faults languages IsUncut uncut_caused shown);
+    unparsed = λ g is shown. absurd (no_fault options old.files _ read g is faults languages (λ fault. fault ≡ input_fault.NoParse) parse_caused shown);
+    keep_missing = λ shown. refl;
+    complete = λ shown files_fine gate_fine journal_fine out_fine. absurd (missing_keeps index read shown);
+    first_no = λ first_no. absurd (none_no records (ap records_of untouched.no_history) first_no);
+    files_failed = λ failed. absurd (failed files.quiet);
+    gate_failed = λ failed. absurd (failed (ap (λ (gate : SeenGate). gate.faults) untouched.gate));
+    journal_failed = λ failed. absurd (failed (ap (λ (j : SeenJournal). j.faults) untouched.journal));
+    out_failed = λ failed is. cc is;
+  }
+  must_end (too_long named.Input reached longer files untouched put) = record {
+    grammar_over = λ g is over. refl;
+    grammar_missing = λ g is none. absurd (read_not_missing (reached_grammar options old.files g is reached).1 none);
+    faulty = λ g is shown. absurd (not_faulty _ _ _ (reached_grammar options old.files g is reached).1 shown);
+    input_over = λ fine over. refl;
+    input_missing = λ fine none. absurd (longer_not_missing input_limit _ longer none);
+    over = λ over. refl;
+    missing = λ none. refl;
+    no_token = λ g is shown. absurd (long_input_no_fault options old.files g is IsUncut reached longer shown);
+    unparsed = λ g is shown. absurd (long_input_no_fault options old.files g is (λ fault. fault ≡ input_fault.NoParse) reached longer shown);
+    keep_missing = λ shown. absurd (long_input_not_shown options old.files _ reached longer shown);
+    complete = λ shown files_fine gate_fine journal_fine out_fine. absurd (long_input_not_shown options old.files _ reached longer shown);
+    first_no = λ first_no. absurd (none_no records (ap records_of untouched.no_history) first_no);
+    files_failed = λ failed. absurd (failed files.quiet);
+    gate_failed = λ failed. absurd (failed (ap (λ (gate : SeenGate). gate.faults) untouched.gate));
+    journal_failed = λ failed. absurd (failed (ap (λ (j : SeenJournal). j.faults) untouched.journal));
+    out_failed = λ failed is. cc is;
+  }
+  must_end (too_long named.Grammar reached longer files untouched put) = record {
+    grammar_over = λ g is over. refl;
+    grammar_missing = λ g is none. absurd (longer_not_missing grammar_limit _ (long_grammar options old.files g is longer) none);
+    faulty = λ g is shown. absurd (not_longer grammar_limit _ _ shown (long_grammar options old.files g is longer));
+    input_over = λ fine over. refl;
+    input_missing = λ fine none. absurd (shown_not_long options old.files fine reached longer);
+    over = λ over. refl;
+    missing = λ none. refl;
+    no_token = λ g is shown. absurd (not_longer grammar_limit _ _ shown (long_grammar options old.files g is longer));
+    unparsed = λ g is shown. absurd (not_longer grammar_limit _ _ shown (long_grammar options old.files g is longer));
+    keep_missing = λ shown. absurd (long_grammar_not_shown options old.files _ reached longer shown);
+    complete = λ shown files_fine gate_fine journal_fine out_fine. absurd (long_grammar_not_shown options old.files _ reached longer shown);
+    first_no = λ first_no. absurd (none_no records (ap records_of untouched.no_history) first_no);
+    files_failed = λ failed. absurd (failed files.quiet);
+    gate_failed = λ failed. absurd (failed (ap (λ (gate : SeenGate). gate.faults) untouched.gate));
+    journal_failed = λ failed. absurd (failed (ap (λ (j : SeenJournal). j.faults) untouched.journal));
+    out_failed = λ failed is. cc is;
+  }
+  must_end (script call_failed not_no read files kept put) = record {
+    grammar_over = λ g is over. absurd (grammar_not_over options old.files _ read g is over);
+    grammar_missing = λ g is none. absurd (grammar_not_missing options old.files _ read g is none);
+    faulty = λ g is shown. absurd (grammar_not_faulty options old.files _ read g is shown);
+    input_over = λ fine over. absurd (read_not_over (input_read options old.files _ read) over);
+    input_missing = λ fine none. absurd (read_not_missing (input_read options old.files _ read) none);
+    over = λ over. absurd (read_not_over (input_read options old.files _ read) over);
+    missing = λ none. absurd (read_not_missing (input_read options old.files _ read) none);
+    no_token = λ g is shown. absurd (no_fault options old.files _ read g is faults languages IsUncut uncut_caused shown);
+    unparsed = λ g is shown. absurd (no_fault options old.files _ read g is faults languages (λ fault. fault ≡ input_fault.NoParse) parse_caused shown);
+    keep_missing = λ shown. absurd (keeps_all _ read shown);
+    complete = λ shown files_fine gate_fine journal_fine out_fine. absurd (gate_fine call_failed);
+    first_no = λ first_no. absurd (not_no first_no);
+    files_failed = λ failed. absurd (failed files.quiet);
+    gate_failed = λ failed. refl;
+    journal_failed = λ failed. absurd (⊎_elim (λ it. failed it.quiet) (λ it. failed (ap (λ (seen : SeenJournal). seen.faults) it.0.same)) kept);
+    out_failed = λ failed is. cc is;
+  }
+  must_end (journal call_failed read broken gate_quiet files put) = record {
+    grammar_over = λ g is over. absurd (grammar_not_over options old.files _ read g is over);
+    grammar_missing = λ g is none. absurd (grammar_not_missing options old.files _ read g is none);
+    faulty = λ g is shown. absurd (grammar_not_faulty options old.files _ read g is shown);
+    input_over = λ fine over. absurd (read_not_over (input_read options old.files _ read) over);
+    input_missing = λ fine none. absurd (read_not_missing (input_read options old.files _ read) none);
+    over = λ over. absurd (read_not_over (input_read options old.files _ read) over);
+    missing = λ none. absurd (read_not_missing (input_read options old.files _ read) none);
+    no_token = λ g is shown. absurd (no_fault options old.files _ read g is faults languages IsUncut uncut_caused shown);
+    unparsed = λ g is shown. absurd (no_fault options old.files _ read g is faults languages (λ fault. fault ≡ input_fault.NoParse) parse_caused shown);
+    keep_missing = λ shown. absurd (keeps_all _ read shown);
+    complete = λ shown files_fine gate_fine journal_fine out_fine. absurd (journal_fine call_failed);
+    first_no = λ first_no. refl;
+    files_failed = λ failed. absurd (failed files.quiet);
+    gate_failed = λ failed. absurd (failed gate_quiet);
+    journal_failed = λ failed. refl;
+    out_failed = λ failed is. cc is;
+  }

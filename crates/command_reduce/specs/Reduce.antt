@@ -1,0 +1,330 @@
+-- The command `reduce`: how it ends, by its status, and what its history and its records are.
+use Rattle.std.specs.Prelude.{◌≡◌, ◌≢◌, ◌⊎◌, ℕ, ◌+◌, Bool, List, [], ◌∷◌, ◌++◌, true, false, Option, Some, None, All, MatchResult, Result, codes, option_map, string_bytes}
+use Rattle.std.specs.Global.{Vec}
+use Rattle.std.specs.List.{IsDistinct}
+use Rattle.std.specs.Str.{bytes_eq}
+use Rattle.script_gate_trait.specs.declared.gate.Verdict.{Verdict}
+use Rattle.script_gate_trait.specs.declared.log.Log.{Log}
+use Rattle.script_gate_trait.specs.declared.log.Opening.{Opening}
+use Rattle.edge_io.specs.Files.{Holds, IsLonger, SameFiles, SameOthers}
+use Rattle.verdict_table.specs.declared.record.Record.{Record}
+use Rattle.reduce_journal.specs.History.{History, records_of}
+use Rattle.reduce_journal.specs.Report.{report_text}
+use Rattle.reduce_journal.specs.declared.counts.Counts.{Counts}
+use Rattle.command_reduce_calls.specs.Journal.{JournalBroken, JournalSoFar, JournalUntouched, JournalWhole}
+use Rattle.verdict_table.specs.TableState.{texts_of}
+use Rattle.keep_guard.specs.Keep.{first_missing, holds_all, keeps_admit}
+use Rattle.run_gated.specs.Records.{FirstIsNo}
+use Rattle.grammar_tree.specs.Written.{CheckedGrammar}
+use Rattle.grammar_load.specs.Answer.{Spells}
+use Rattle.reduce_trees_mode.specs.Candidates.{InLanguage}
+use Rattle.reduce_trees_mode.specs.Input.{TreeInput}
+use Rattle.reduce_trees_input.specs.Parsed.{IsInputOf}
+use Rattle.reduce_trees_input.specs.Faults.{IsInputFault}
+use Rattle.reduce_trees_input.specs.FaultText.{input_fault_text}
+use Rattle.reduce_trees_input.specs.declared.fault.InputFault.{InputFault}
+use Rattle.reduce_trees_input.specs.declared.fault.InputFault.TheVariants as input_fault
+use Rattle.command_ends.specs.declared.status.NamedFile.{NamedFile}
+use Rattle.command_ends.specs.declared.status.NamedFile.TheVariants as named
+use Rattle.command_grammar.specs.Grammar.{GrammarFails, GrammarRead, IsFaultIn, IsGrammarText}
+use Rattle.run_problem.specs.Problem.{Problem, start_of}
+use Rattle.run_problem.specs.Ends.{AreOf, IsRefused, IsUnfinished, ReducesFrom}
+use Rattle.command_ends.specs.declared.status.Refusal.{Refusal}
+use Rattle.command_ends.specs.declared.status.Refusal.TheVariants.{Memory, CannotRead, Grammar, NoParse, TooLong, Uncut}
+use Rattle.command_ends.specs.Status.{IsOneOf, IsUncut, fault_line, keep_text, line_of, status_of, word_for}
+use Rattle.command_words.specs.Commands.{GrammarOptions, GrammarSource, ModeOptions, ReduceOptions}
+use Rattle.command_reduce_calls.specs.FileName.{file_name_of}
+use Rattle.command_grammar.specs.Grammar.{start_name}
+use Rattle.command_ends.specs.World.{CallFailed, FilesKept, IsOver, IsQuiet, IsShownWithin, NotReached, Puts, PutsLine, PutsMessage, PutsPrefix, SeenFiles, SeenGate, SeenJournal, SeenOut, WasRead, World, grammar_limit, input_limit, line_of_text}
+
+-- The input is made of this text by this grammar, what is admitted is what has each keep text, and the squeezed text of the whole is tried or not.
+pub record IsTreeProblem (keeps : List (List ℕ)) (grammar : CheckedGrammar) (squeeze : Bool) (text : List ℕ) (input : TreeInput) : Type 0 where
+  pub of_text : IsInputOf grammar text input
+  pub admits : input.admits ≡ keeps_admit keeps
+  pub squeezes : input.squeezes ≡ squeeze
+
+-- The files were read whole, each within its limit, and the fact holds of what they have to be reduced: the lines of the input; or, where the grammar's bytes spell a grammar that has the input in its language, its tree.
+abbrev pub ReadIn : ModeOptions → ReduceOptions → SeenFiles → (Problem → Type 0) → Type 0
+ReadIn ModeOptions.lines options files P = WasRead input_limit (files.shown options.input) (λ start. P (Problem.of_lines start))
+ReadIn (ModeOptions.by_grammar trees) options files P =
+    (c : CheckedGrammar) × GrammarRead trees.grammar (files.shown trees.grammar.path) c
+    × WasRead input_limit (files.shown options.input) (λ text. (input : TreeInput) × IsTreeProblem options.keeps c trees.squeeze text input × P (Problem.of_tree trees.mode input))
+
+abbrev pub ProblemRead : ReduceOptions → SeenFiles → (Problem → Type 0) → Type 0
+ProblemRead options files P = ReadIn options.mode options files P
+
+-- the same of a problem in whose start each keep text occurs
+abbrev pub ProblemAccepted : ReduceOptions → SeenFiles → (Problem → Type 0) → Type 0
+ProblemAccepted options files P = ProblemRead options files (λ problem. (holds_all options.keeps (start_of problem) ≡ true) × P problem)
+
+-- the problem reduces to the text, and this is its report
+abbrev pub ReducesTo : ReduceOptions → SeenFiles → History → List ℕ → List ℕ → Type 0
+ReducesTo options files history text report =
+    ProblemAccepted options files (λ problem. (counts : Counts) × ReducesFrom options.keeps problem history text counts × (report ≡ report_text counts))
+
+-- the output file holds what the input reduces to, of which this is the report
+pub record IsReduced (options : ReduceOptions) (files files' : SeenFiles) (history : History) (report : List ℕ) : Type 0 where
+  pub text : List ℕ
+  pub reduces : ReducesTo options files history text report
+  pub written : Holds text (files'.shown options.output)
+
+-- where there is an event, the history is one of the input that was read, in which each keep text occurs
+abbrev pub IsHistoryOfInput : ReduceOptions → SeenFiles → History → Type 0
+IsHistoryOfInput options files [] = Unit {0}
+IsHistoryOfInput options files (event ∷ history) = ProblemAccepted options files (λ problem. AreOf options.keeps problem (event ∷ history))
+
+-- the opening of a worker's gate: the work folder, the script, the input's name without its folder, and the worker's number
+abbrev pub opening_for : ReduceOptions → ℕ → Opening
+opening_for options number = record { work = options.work; script = options.script; name = file_name_of options.input; number = number }
+
+-- the gate was neither opened nor asked, and the journal is as before; or the gate was opened so, and then asked for these texts, in this order and no others
+abbrev pub GateWasUsed : Opening → List (List ℕ) → Option Log → Option Log → SeenJournal → SeenJournal → Type 0
+GateWasUsed opening texts old new before after =
+    ((texts ≡ []) × (new ≡ old) × (after ≡ before)) ⊎ (new ≡ option_map (λ (log : Log). record log { asked = log.asked ++ texts; opening = Some opening }) old)
+
+-- the output file has what the input reduces to, and no other file was changed; the journal has the whole history; and no call failed
+pub record WritesReduced (options : ReduceOptions) (history : History) (report : List ℕ) (old new : World) : Type 0 where
+  pub reduced : IsReduced options old.files new.files history report
+  pub others : SameOthers old.files.shown new.files.shown options.output
+  pub files_quiet : IsQuiet old.files new.files
+  pub gate_quiet : IsQuiet old.gate new.gate
+  pub journal : JournalWhole options.journal history old.journal new.journal
+
+-- the file is read: the grammar, where the mode has one; and the input, in such a mode once the grammar was read
+abbrev pub IsReached : ModeOptions → NamedFile → SeenFiles → Type 0
+IsReached ModeOptions.lines named.Input files = Unit {0}
+IsReached ModeOptions.lines named.Grammar files = ⊥
+IsReached (ModeOptions.by_grammar trees) named.Input files = (c : CheckedGrammar) × GrammarRead trees.grammar (files.shown trees.grammar.path) c
+IsReached (ModeOptions.by_grammar trees) named.Grammar files = Unit {0}
+
+-- the limit of such a file, and its path; of a mode without a grammar no path is asked for
+abbrev pub limit_of : NamedFile → ℕ
+limit_of named.Input = input_limit
+limit_of named.Grammar = grammar_limit
+
+abbrev pub grammar_in : ModeOptions → List ℕ
+grammar_in ModeOptions.lines = []
+grammar_in (ModeOptions.by_grammar trees) = trees.grammar.path
+
+abbrev pub name_of : ReduceOptions → NamedFile → List ℕ
+name_of options named.Input = options.input
+name_of options named.Grammar = grammar_in options.mode
+
+-- the grammar's file spells a grammar, the input was read within its limit, and the fact holds of the two
+abbrev pub InputHas : GrammarSource → (CheckedGrammar → List ℕ → Type 0) → ReduceOptions → SeenFiles → Type 0
+InputHas grammar P options files = (c : CheckedGrammar) × GrammarRead grammar (files.shown grammar.path) c × WasRead input_limit (files.shown options.input) (λ bytes. P c bytes)
+
+-- where a call of the gate failed: the journal has the whole history; or the gate wasn't opened, it and the journal show what they did, and nothing was recorded
+abbrev pub ScriptLeaves : ReduceOptions → History → World → World → Type 0
+ScriptLeaves options history old new =
+    JournalWhole options.journal history old.journal new.journal ⊎ (JournalUntouched history old.journal new.journal × (new.gate.shown ≡ old.gate.shown))
+
+-- How `reduce` ends, by its status.
+pub data ReduceEnds (options : ReduceOptions) (history : History) (old new : World) : ℕ → Type 0 where
+  -- the result was written, and its report was put on `out`
+  done : (report : List ℕ)
+      → (writes : WritesReduced options history report old new)
+      → (put : Puts report old.out new.out)
+      → ReduceEnds options history old new 0
+  -- out of memory, for which there is no evidence; no file was changed
+  memory : (files : FilesKept old.files new.files)
+      → (gate_quiet : IsQuiet old.gate new.gate)
+      → (journal : JournalSoFar options.journal history old.journal new.journal)
+      → (line : PutsMessage (codes "out of memory") old.out new.out)
+      → ReduceEnds options history old new 1
+  -- a call of the files failed, the line names one of the files that are read, and neither the gate nor the journal was reached
+  unread : (file : NamedFile)
+      → (reached : IsReached options.mode file old.files)
+      → (failed : CallFailed old.files new.files)
+      → (same : SameFiles old.files.shown new.files.shown)
+      → (untouched : NotReached history old new)
+      → (line : PutsMessage (codes "cannot read " ++ word_for file) old.out new.out)
+      → ReduceEnds options history old new 3
+  -- the input reduces to some text, but a call of the files failed, and the output file may hold anything
+  unwritten : (failed : CallFailed old.files new.files)
+      → (text report : List ℕ)
+      → (reduces : ReducesTo options old.files history text report)
+      → (others : SameOthers old.files.shown new.files.shown options.output)
+      → (gate_quiet : IsQuiet old.gate new.gate)
+      → (journal : JournalWhole options.journal history old.journal new.journal)
+      → (line : PutsMessage (codes "cannot write") old.out new.out)
+      → ReduceEnds options history old new 4
+  -- the result was written, but the put of its report failed: some prefix of it was put, and nothing more
+  unput : (report : List ℕ)
+      → (writes : WritesReduced options history report old new)
+      → (put : PutsPrefix report old.out new.out)
+      → ReduceEnds options history old new 4
+  -- the file has no well-formed grammar, the line says why, and neither the gate nor the journal was reached
+  faulty : (trees : GrammarOptions) (text : List ℕ)
+      → (mode : options.mode ≡ ModeOptions.by_grammar trees)
+      → (read : WasRead grammar_limit (old.files.shown trees.grammar.path) (λ bytes. IsFaultIn trees.grammar bytes text))
+      → (files : FilesKept old.files new.files)
+      → (untouched : NotReached history old new)
+      → (line : PutsLine (fault_line text) old.out new.out)
+      → ReduceEnds options history old new 5
+  -- the grammar was read; the input isn't UTF-8, or isn't cut into tokens, and the line says from where on; and neither the gate nor the journal was reached
+  no_token : (trees : GrammarOptions) (fault : InputFault)
+      → (mode : options.mode ≡ ModeOptions.by_grammar trees)
+      → (uncut : IsUncut fault)
+      → (read : InputHas trees.grammar (λ c bytes. IsInputFault c bytes fault) options old.files)
+      → (files : FilesKept old.files new.files)
+      → (untouched : NotReached history old new)
+      → (line : PutsMessage (input_fault_text fault) old.out new.out)
+      → ReduceEnds options history old new 6
+  -- the grammar was read, its start rule doesn't derive the input's tokens, and neither the gate nor the journal was reached
+  unparsed : (trees : GrammarOptions)
+      → (mode : options.mode ≡ ModeOptions.by_grammar trees)
+      → (read : InputHas trees.grammar (λ c bytes. IsInputFault c bytes input_fault.NoParse) options old.files)
+      → (files : FilesKept old.files new.files)
+      → (untouched : NotReached history old new)
+      → (line : PutsMessage (codes "input does not parse") old.out new.out)
+      → ReduceEnds options history old new 7
+  -- the input was read, the gate said no to it, and wasn't asked again
+  uninteresting : (read : ProblemAccepted options old.files (λ problem. IsRefused options.keeps problem history))
+      → (files : FilesKept old.files new.files)
+      → (gate_quiet : IsQuiet old.gate new.gate)
+      → (journal : JournalWhole options.journal history old.journal new.journal)
+      → (line : PutsMessage (codes "start is not interesting") old.out new.out)
+      → ReduceEnds options history old new 8
+  -- the input was read, a keep text doesn't occur in it, the line names the first such by its number from 1, and neither the gate nor the journal was reached
+  keep_missing : (index : ℕ)
+      → (read : ProblemRead options old.files (λ problem. first_missing options.keeps (start_of problem) ≡ Some index))
+      → (files : FilesKept old.files new.files)
+      → (untouched : NotReached history old new)
+      → (line : PutsMessage (keep_text (index + 1)) old.out new.out)
+      → ReduceEnds options history old new 9
+  -- a file that is read is longer than its limit, the line names it, and neither the gate nor the journal was reached
+  too_long : (file : NamedFile)
+      → (reached : IsReached options.mode file old.files)
+      → (longer : IsLonger (limit_of file) (old.files.shown (name_of options file)))
+      → (files : FilesKept old.files new.files)
+      → (untouched : NotReached history old new)
+      → (line : PutsMessage (word_for file ++ codes " is too long") old.out new.out)
+      → ReduceEnds options history old new 10
+  -- the input was read, a call of the gate failed, the gate hadn't said no to the input, and its reduction wasn't finished; the history is all that one thread does over its records, and the journal has it whole, unless the gate wasn't opened
+  script : (failed : CallFailed old.gate new.gate)
+      → (not_no : ¬ FirstIsNo (records_of history))
+      → (read : ProblemAccepted options old.files (λ problem. IsUnfinished options.keeps problem history))
+      → (files : FilesKept old.files new.files)
+      → (journal : ScriptLeaves options history old new)
+      → (line : PutsMessage (codes "script fault at worker 1") old.out new.out)
+      → ReduceEnds options history old new 11
+  -- the input was read, and a call of the journal failed: it wasn't opened, or it broke off
+  journal : (failed : CallFailed old.journal new.journal)
+      → (read : ProblemAccepted options old.files (λ problem. AreOf options.keeps problem history))
+      → (broken : JournalBroken options.journal history old.journal new.journal)
+      → (gate_quiet : IsQuiet old.gate new.gate)
+      → (files : FilesKept old.files new.files)
+      → (line : PutsMessage (codes "journal fault") old.out new.out)
+      → ReduceEnds options history old new 12
+
+-- what is visible of the files has this fact of what is reduced: the input is within its limit; and by a grammar that is too, and spells a grammar that has the input in its language
+abbrev pub ShownIn : ModeOptions → ReduceOptions → SeenFiles → (List ℕ → Type 0) → Type 0
+ShownIn ModeOptions.lines options files P = IsShownWithin input_limit (files.shown options.input) P
+ShownIn (ModeOptions.by_grammar trees) options files P =
+    IsShownWithin grammar_limit (files.shown trees.grammar.path) (λ bytes. (c : CheckedGrammar) × Spells bytes (start_name trees.grammar) c
+    × IsShownWithin input_limit (files.shown options.input) (λ text. InLanguage c text × P text))
+
+abbrev pub IsShownProblem : ReduceOptions → SeenFiles → (List ℕ → Type 0) → Type 0
+IsShownProblem options files P = ShownIn options.mode options files P
+
+-- what is visible of the files is a grammar within its limit, and an input within its limit with such a fault
+abbrev pub IsShownFault : GrammarSource → ReduceOptions → SeenFiles → (InputFault → Type 0) → Type 0
+IsShownFault grammar options files P =
+    IsShownWithin grammar_limit (files.shown grammar.path) (λ bytes. (c : CheckedGrammar) × Spells bytes (start_name grammar) c
+    × IsShownWithin input_limit (files.shown options.input) (λ text. (fault : InputFault) × IsInputFault c text fault × P fault))
+
+-- where the mode has a grammar, it is visible, within its limit and well-formed
+abbrev pub IsShownGrammar : ModeOptions → SeenFiles → Type 0
+IsShownGrammar ModeOptions.lines files = Unit {0}
+IsShownGrammar (ModeOptions.by_grammar trees) files = IsShownWithin grammar_limit (files.shown trees.grammar.path) (IsGrammarText trees.grammar)
+
+-- Which status it has to be. This follows from how `reduce` ends.
+pub record ReduceMustEnd (options : ReduceOptions) (records : List Record) (old new : World) (status : ℕ) : Type 0 where
+  -- a grammar over its limit is refused
+  pub grammar_over : (trees : GrammarOptions) → options.mode ≡ ModeOptions.by_grammar trees → IsOver grammar_limit (old.files.shown trees.grammar.path) → IsOneOf (10 ∷ 3 ∷ 1 ∷ []) status
+  -- a grammar that isn't there can't be read
+  pub grammar_missing : (trees : GrammarOptions) → options.mode ≡ ModeOptions.by_grammar trees → old.files.shown trees.grammar.path ≡ Some None → IsOneOf (3 ∷ 1 ∷ []) status
+  -- a faulty grammar within its limit is refused
+  pub faulty : (trees : GrammarOptions) → options.mode ≡ ModeOptions.by_grammar trees → IsShownWithin grammar_limit (old.files.shown trees.grammar.path) (λ bytes. ¬ IsGrammarText trees.grammar bytes) → IsOneOf (5 ∷ 3 ∷ 1 ∷ []) status
+  -- an input over its limit is refused as such, where the mode has no grammar or a well-formed one
+  pub input_over : IsShownGrammar options.mode old.files → IsOver input_limit (old.files.shown options.input) → IsOneOf (10 ∷ 3 ∷ 1 ∷ []) status
+  -- an input that isn't there can't be read, where the mode has no grammar or a well-formed one
+  pub input_missing : IsShownGrammar options.mode old.files → old.files.shown options.input ≡ Some None → IsOneOf (3 ∷ 1 ∷ []) status
+  -- whatever the grammar is, an input over its limit is refused, unless the grammar was refused before
+  pub over : IsOver input_limit (old.files.shown options.input) → IsOneOf (10 ∷ 3 ∷ 5 ∷ 1 ∷ []) status
+  -- whatever the grammar is, an input that isn't there can't be read, unless the grammar was refused before
+  pub missing : old.files.shown options.input ≡ Some None → IsOneOf (3 ∷ 5 ∷ 10 ∷ 1 ∷ []) status
+  -- an input within its limit whose bytes aren't cut into tokens is refused, where the grammar is well-formed
+  pub no_token : (trees : GrammarOptions) → options.mode ≡ ModeOptions.by_grammar trees → IsShownFault trees.grammar options old.files (λ fault. IsUncut fault) → IsOneOf (6 ∷ 3 ∷ 1 ∷ []) status
+  -- one whose tokens the start rule doesn't derive is refused, where the grammar is well-formed
+  pub unparsed : (trees : GrammarOptions) → options.mode ≡ ModeOptions.by_grammar trees → IsShownFault trees.grammar options old.files (λ fault. fault ≡ input_fault.NoParse) → IsOneOf (7 ∷ 3 ∷ 1 ∷ []) status
+  -- an input in which a keep text doesn't occur is refused, where it is a problem of its mode
+  pub keep_missing : IsShownProblem options old.files (λ start. holds_all options.keeps start ≡ false) → IsOneOf (9 ∷ 3 ∷ 1 ∷ []) status
+  -- a problem in which each keep text occurs is reduced, or isn't interesting, where no call failed
+  pub complete : IsShownProblem options old.files (λ start. holds_all options.keeps start ≡ true) → ¬ CallFailed old.files new.files → ¬ CallFailed old.gate new.gate → ¬ CallFailed old.journal new.journal → ¬ CallFailed old.out new.out
+      → IsOneOf (0 ∷ 8 ∷ 1 ∷ []) status
+  -- a first no ends the run, unless it can't be written
+  pub first_no : FirstIsNo records → IsOneOf (8 ∷ 12 ∷ 1 ∷ []) status
+  -- where a call of the files failed, a file wasn't read or the result wasn't written
+  pub files_failed : ¬ IsQuiet old.files new.files → IsOneOf (3 ∷ 4 ∷ []) status
+  -- where a call of the gate failed, that is the status
+  pub gate_failed : ¬ IsQuiet old.gate new.gate → status ≡ 11
+  -- where a call of the journal failed, that is the status
+  pub journal_failed : ¬ IsQuiet old.journal new.journal → status ≡ 12
+  -- where the put failed, it was that of the report (4) or of another status's line
+  pub out_failed : ¬ IsQuiet old.out new.out → status ≢ 0
+
+-- What holds of the records at every status, as the gate sees them: no text is there twice, each verdict is the gate's,
+-- and the gate was opened for this input and script and asked for these texts alone, unless it wasn't opened, and then the journal wasn't either.
+pub record RecordsAreSound (options : ReduceOptions) (may_say : List ℕ → Verdict → Type 0) (records : List Record) (old new : SeenGate) (before after : SeenJournal) : Type 0 where
+  pub distinct : IsDistinct bytes_eq (texts_of records)
+  pub said : All (λ r. may_say r.text r.verdict) records
+  pub used : GateWasUsed (opening_for options 1) (texts_of records) old.shown new.shown before after
+
+-- A run of `reduce` with these options. Some history has come of it: that of the journal's bytes, where it shows them and is whole.
+pub record Reduces (options : ReduceOptions) (may_say : List ℕ → Verdict → Type 0) (old new : World) (status : ℕ) : Type 0 where
+  pub history : History
+  pub ends : ReduceEnds options history old new status
+  pub must_end : ReduceMustEnd options (records_of history) old new status
+  pub sound : RecordsAreSound options may_say (records_of history) old.gate new.gate old.journal new.journal
+  pub of_input : IsHistoryOfInput options old.files history
+
+-- why there is no problem: a file wasn't read, the grammar is faulty, or the input isn't in its language
+abbrev pub ProblemFails : ReduceOptions → SeenFiles → SeenFiles → Refusal → Type 0
+ProblemFails options files files' Memory = IsQuiet files files'
+ProblemFails options files files' (CannotRead file) = IsReached options.mode file files × CallFailed files files'
+ProblemFails options files files' (TooLong file) = IsReached options.mode file files × IsLonger (limit_of file) (files.shown (name_of options file)) × IsQuiet files files'
+ProblemFails options files files' (Grammar line) =
+    (trees : GrammarOptions) × (options.mode ≡ ModeOptions.by_grammar trees) × GrammarFails trees.grammar files files' (Grammar line)
+ProblemFails options files files' (Uncut line) =
+    (trees : GrammarOptions) × (fault : InputFault) × (options.mode ≡ ModeOptions.by_grammar trees) × IsUncut fault × InputHas trees.grammar (λ c bytes. IsInputFault c bytes fault) options files
+    × (string_bytes line ≡ line_of_text (input_fault_text fault)) × IsQuiet files files'
+ProblemFails options files files' NoParse =
+    (trees : GrammarOptions) × (options.mode ≡ ModeOptions.by_grammar trees) × InputHas trees.grammar (λ c bytes. IsInputFault c bytes input_fault.NoParse) options files × IsQuiet files files'
+ProblemFails options files files' _ = ⊥
+
+-- What `reduce` reaches, without `out`.
+pub record Inside : Type 0 where
+  pub files : SeenFiles
+  pub gate : SeenGate
+  pub journal : SeenJournal
+
+-- these, and this `out`
+abbrev pub beside : Inside → SeenOut → World
+beside inside out = record { files = inside.files; gate = inside.gate; journal = inside.journal; out = out }
+
+-- the run ends with this refusal, whatever becomes of its line
+abbrev pub ReduceFails : ReduceOptions → History → Inside → Inside → Refusal → Type 0
+ReduceFails options history old new refusal =
+    (out out' : SeenOut) → PutsLine (line_of refusal) out out' → ReduceEnds options history (beside old out) (beside new out') (status_of refusal)
+
+-- the run comes to this report, whatever becomes of it
+abbrev pub ReduceReports : ReduceOptions → History → Inside → Inside → List ℕ → Type 0
+ReduceReports options history old new report = (out out' : SeenOut) → WritesReduced options history report (beside old out) (beside new out')
+
+-- the steps of `reduce`, but for what is put on `out`
+pub record ReduceSteps (options : ReduceOptions) (may_say : List ℕ → Verdict → Type 0) (history : History) (old new : Inside) (outcome : Result (Vec ℕ) Refusal) : Type 0 where
+  pub sound : RecordsAreSound options may_say (records_of history) old.gate new.gate old.journal new.journal
+  pub of_input : IsHistoryOfInput options old.files history
+  pub ends : MatchResult outcome (λ report. ReduceReports options history old new report.items) (λ refusal. ReduceFails options history old new refusal)

@@ -1,0 +1,48 @@
+-- What each status of `reduce` means, read off how it ends.
+use Rattle.std.specs.Prelude.{◌≡◌, ◌≢◌, ◌⊎◌, ℕ, ◌+◌, List, [], ◌∷◌, Some}
+use Rattle.keep_guard.specs.Keep.{first_missing}
+use Rattle.edge_io.specs.Files.{IsLonger, SameFiles, SameOthers}
+use Rattle.reduce_journal.specs.History.{History, records_of}
+use Rattle.run_gated.specs.Records.{OnlyNo}
+use Rattle.command_reduce_calls.specs.Journal.{JournalBroken, JournalSoFar, JournalWhole}
+use Rattle.reduce_trees_input.specs.Faults.{IsInputFault}
+use Rattle.reduce_trees_input.specs.FaultText.{input_fault_text}
+use Rattle.reduce_trees_input.specs.declared.fault.InputFault.{InputFault}
+use Rattle.reduce_trees_input.specs.declared.fault.InputFault.TheVariants as input_fault
+use Rattle.command_ends.specs.declared.status.NamedFile.{NamedFile}
+use Rattle.command_grammar.specs.Grammar.{IsFaultIn}
+use Rattle.run_problem.specs.Problem.{start_of}
+use Rattle.command_reduce.specs.Reduce.{InputHas, IsReached, IsReduced, ProblemRead, ReduceEnds, ReducesTo, ScriptLeaves, limit_of, name_of}
+use Rattle.command_ends.specs.Status.{IsOneOf, IsUncut, PutsRefusal, fault_line, keep_text}
+use Rattle.command_words.specs.Commands.{GrammarOptions, ModeOptions, ReduceOptions}
+use Rattle.command_ends.specs.World.{CallFailed, NotReached, Puts, PutsLine, PutsMessage, PutsPrefix, SeenFiles, SeenOut, WasRead, World, grammar_limit}
+
+-- the line was put of a refusal that has this status, and names a file that is read if it names one
+abbrev pub PutsItsLine : ModeOptions → SeenFiles → SeenOut → SeenOut → ℕ → Type 0
+PutsItsLine mode files out out' status = (file : NamedFile) × IsReached mode file files × PutsRefusal file out out' status
+
+-- What `reduce` has done, by the number of its status.
+pub record ReduceMeans (options : ReduceOptions) (history : History) (old new : World) (status : ℕ) : Type 0 where
+  pub known : IsOneOf (0 ∷ 1 ∷ 3 ∷ 4 ∷ 5 ∷ 6 ∷ 7 ∷ 8 ∷ 9 ∷ 10 ∷ 11 ∷ 12 ∷ []) status
+  pub of_lines : options.mode ≡ ModeOptions.lines → IsOneOf (0 ∷ 1 ∷ 3 ∷ 4 ∷ 8 ∷ 9 ∷ 10 ∷ 11 ∷ 12 ∷ []) status
+  pub done : status ≡ 0 → (report : List ℕ) × IsReduced options old.files new.files history report × Puts report old.out new.out
+  pub unread : status ≡ 3 → CallFailed old.files new.files
+  pub write : status ≡ 4 → (CallFailed old.files new.files × PutsItsLine options.mode old.files old.out new.out status) ⊎ ((report : List ℕ) × IsReduced options old.files new.files history report × PutsPrefix report old.out new.out)
+  pub tried : status ≡ 4 → (text : List ℕ) × (report : List ℕ) × ReducesTo options old.files history text report
+  pub fault : status ≡ 5 → (trees : GrammarOptions) × (text : List ℕ) × (options.mode ≡ ModeOptions.by_grammar trees) × WasRead grammar_limit (old.files.shown trees.grammar.path) (λ bytes. IsFaultIn trees.grammar bytes text) × PutsLine (fault_line text) old.out new.out
+  pub no_token : status ≡ 6 → (trees : GrammarOptions) × (fault : InputFault) × (options.mode ≡ ModeOptions.by_grammar trees) × IsUncut fault × InputHas trees.grammar (λ c bytes. IsInputFault c bytes fault) options old.files × PutsMessage (input_fault_text fault) old.out new.out
+  pub unparsed : status ≡ 7 → (trees : GrammarOptions) × (options.mode ≡ ModeOptions.by_grammar trees) × InputHas trees.grammar (λ c bytes. IsInputFault c bytes input_fault.NoParse) options old.files
+  pub not_interesting : status ≡ 8 → OnlyNo (records_of history)
+  pub keep_missing : status ≡ 9 → (index : ℕ) × ProblemRead options old.files (λ problem. first_missing options.keeps (start_of problem) ≡ Some index) × PutsMessage (keep_text (index + 1)) old.out new.out
+  pub too_long : status ≡ 10 → (file : NamedFile) × IsReached options.mode file old.files × IsLonger (limit_of file) (old.files.shown (name_of options file))
+  pub script : status ≡ 11 → CallFailed old.gate new.gate × ScriptLeaves options history old new
+  pub journal : status ≡ 12 → CallFailed old.journal new.journal × JournalBroken options.journal history old.journal new.journal
+  pub whole : IsOneOf (0 ∷ 4 ∷ 8 ∷ []) status → JournalWhole options.journal history old.journal new.journal
+  pub so_far : status ≡ 1 → JournalSoFar options.journal history old.journal new.journal
+  pub early : IsOneOf (3 ∷ 5 ∷ 6 ∷ 7 ∷ 9 ∷ 10 ∷ []) status → NotReached history old new
+  pub others : SameOthers old.files.shown new.files.shown options.output
+  pub unwritten : status ≢ 0 → status ≢ 4 → SameFiles old.files.shown new.files.shown
+  pub line : IsOneOf (1 ∷ 3 ∷ 7 ∷ 8 ∷ 10 ∷ 11 ∷ 12 ∷ []) status → PutsItsLine options.mode old.files old.out new.out status
+
+abbrev pub ReduceByStatus : Type 0
+ReduceByStatus = (options : ReduceOptions) (history : History) (old new : World) (status : ℕ) → ReduceEnds options history old new status → ReduceMeans options history old new status

@@ -1,0 +1,15 @@
+//! The command `reduce`: it reads the input and the grammar, runs the reduction over a gate with its
+//! journal, and writes the result and the report.
+//!
+//! Enter by [`reduce`]; read `ReduceEnds` in `specs/Reduce.antt` first, how it ends at each status.
+//! [`reduce_by_status`] says the same by the numbers of the statuses (`specs/ReduceByStatus.antt`). What
+//! is read is in `specs/Read.antt`, what a run leaves of the journal in `specs/Run.antt`. What it opens
+//! and writes is done by `command_reduce_calls`.
+#![tactic(auto)]
+
+mod laws;
+mod read;
+mod steps;
+
+pub use laws::reduce_by_status;
+pub use steps::reduce;

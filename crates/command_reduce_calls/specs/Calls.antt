@@ -1,0 +1,35 @@
+-- Why the gate and the journal weren't opened, and what became of the output file.
+use Rattle.std.specs.Prelude.{◌≡◌, ℕ, List, Result, Ok, Err}
+use Rattle.std.specs.Global.{Vec}
+use Rattle.faults.specs.Count.{Rose}
+use Rattle.edge_io.specs.Files.{Holds, SameOthers}
+use Rattle.script_gate_trait.specs.declared.gate.GateFault.{GateFault}
+use Rattle.reduce_journal.specs.Report.{report_text}
+use Rattle.run_gated.specs.declared.fault.RunFault.{RunFault}
+use Rattle.run_gated.specs.declared.fault.RunFault.TheVariants as run
+use Rattle.run_gated.specs.declared.ran.Reduced.{Reduced}
+use Rattle.command_ends.specs.declared.status.Refusal.{Refusal}
+use Rattle.command_ends.specs.declared.status.Refusal.TheVariants.{Memory, CannotWrite}
+use Rattle.command_ends.specs.Status.{refusal_of_run}
+use Rattle.command_ends.specs.World.{CallFailed, FilesKept, IsQuiet, SeenFiles, SeenGate}
+use Rattle.script_gate_trait.specs.declared.gate.GateFault.TheVariants.{Failed as GateFailed, Memory as GateMemory}
+
+-- why the gate wasn't opened
+abbrev pub OpenFails : SeenGate → SeenGate → GateFault → Type 0
+OpenFails old new GateFailed = CallFailed old new
+OpenFails old new GateMemory = IsQuiet old new
+
+-- why the journal wasn't opened, by its counts before and after
+abbrev pub OpeningFails : ℕ → ℕ → RunFault → Type 0
+OpeningFails count count' run.Journal = Rose count count'
+OpeningFails count count' run.Memory = count' ≡ count
+OpeningFails count count' _ = ⊥
+
+-- the report is that of the reduction, whose text was written, and nothing else; or why there is none
+abbrev pub WriteEnds : List ℕ → SeenFiles → SeenFiles → Result Reduced RunFault → Result (Vec ℕ) Refusal → Type 0
+WriteEnds name old new (Err fault) outcome = (outcome ≡ Err (refusal_of_run fault)) × (new ≡ old)
+WriteEnds name old new (Ok reduced) (Ok report) =
+    (report.items ≡ report_text reduced.counts) × Holds reduced.text.items (new.shown name) × SameOthers old.shown new.shown name × IsQuiet old new
+WriteEnds name old new (Ok reduced) (Err Memory) = FilesKept old new
+WriteEnds name old new (Ok reduced) (Err CannotWrite) = CallFailed old new × SameOthers old.shown new.shown name
+WriteEnds name old new (Ok reduced) (Err _) = ⊥

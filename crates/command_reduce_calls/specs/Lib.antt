@@ -1,0 +1,11 @@
+pub use Rattle.command_words.specs as CommandWords
+pub use Rattle.script_gate_trait.specs.Log
+pub use Rattle.keep_guard.specs.Keep
+pub use Rattle.run_gated.specs.Faults
+pub use Rattle.reduce_journal.specs as ReduceJournal
+pub use Rattle.run_worker.specs.RunEnds
+pub use Rattle.command_ends.specs as CommandEnds
+pub mod FileName
+pub mod Journal
+pub mod Calls
+pub mod Keeps

@@ -1,7 +1,0 @@
-pub use Rattle.grammar_names.specs.Index
-pub use Rattle.node_tables.specs.Flags
-pub mod Empty
-pub mod Loops
-pub mod Corners
-pub mod Recursion
-pub mod Rules

@@ -1,8 +1,0 @@
-use Rattle.std.proofs.Common.{length}
-use Rattle.grammar_cases.proofs.words.words_shown.Given as goal
-
-abbrev pub invariant-loop-shown : goal.invariant-loop-shown
-invariant-loop-shown l = Unit {0}
-
-abbrev pub decreases-loop-shown : goal.decreases-loop-shown
-decreases-loop-shown l = length l.words

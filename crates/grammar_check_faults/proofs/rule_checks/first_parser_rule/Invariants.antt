@@ -1,0 +1,8 @@
+use Rattle.std.proofs.Common.{map}
+use Rattle.grammar_tree.specs.Faults.{is_parser_rule}
+use Rattle.grammar_tree.specs.GrammarView.{rule_of}
+use Rattle.grammar_check_faults.proofs.FoundFirst.{PassesNone}
+use Rattle.grammar_check_faults.proofs.rule_checks.first_parser_rule.Given as goal
+
+abbrev pub invariant-loop-index : goal.invariant-loop-index
+invariant-loop-index l = PassesNone is_parser_rule (map rule_of l.rules) l.index

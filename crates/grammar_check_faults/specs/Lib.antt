@@ -1,0 +1,12 @@
+pub use Rattle.grammar_tree.specs.Faults
+pub use Rattle.grammar_check_cycles.specs.First
+pub use Rattle.grammar_check_parser_rules.specs.Empty
+pub use Rattle.grammar_check_lexer_rules.specs.Lexer
+pub mod ParserFaults
+pub mod LexerFaults
+pub mod Twins
+pub mod Eof
+pub mod Unknown
+pub mod ParserIndices
+pub mod Answer
+pub mod Seen

@@ -1,0 +1,2 @@
+pub use Rattle.grammar_check_tables.specs.Flags
+pub mod Lexer

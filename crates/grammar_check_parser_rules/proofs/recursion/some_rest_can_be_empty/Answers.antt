@@ -1,0 +1,30 @@
+use Rattle.std.proofs.Common.{ℕ, Bool, List, false, sym, ap, ◌∙◌, arith}
+use Rattle.std.specs.List.{list_any}
+use Rattle.std.specs.Option.{option_map_or}
+use Rattle.grammar_tree.specs.Corners.{rest_of}
+use Rattle.grammar_tree.specs.Derives.{resolved_seq}
+use Rattle.grammar_tree.specs.View.{parser_terms}
+use Rattle.grammar_tree.specs.Written.{WrittenGrammar, written_seq}
+use Rattle.grammar_tree.specs.declared.parser_term.ParserTerms.{ParserTerms}
+use Rattle.grammar_check_tables.specs.Flags.{flag}
+use Rattle.grammar_check_parser_rules.specs.Empty.{seq_is_empty}
+use Rattle.grammar_check_parser_rules.proofs.RecursionForms.{rests_by_any}
+use Rattle.grammar_check_parser_rules.proofs.Traversed.{any_passes, none_passes}
+use Rattle.grammar_check_parser_rules.proofs.recursion.some_rest_can_be_empty.Goals as goal
+
+abbrev test : WrittenGrammar → ℕ → List Bool → ParserTerms → Bool
+test G r flags s = option_map_or (seq_is_empty (flag flags)) (rest_of r (resolved_seq G (written_seq (parser_terms s)))) false
+
+pub returns-then-rest_can_be_empty : goal.returns-then-rest_can_be_empty
+returns-then-rest_can_be_empty c =
+    let items = c.deref-terms-items.result.now in
+    let all = rests_by_any c.args.names.now c.args.number (flag c.args.flags.now) c.args.alts.now in
+    sym (all ∙ ap (list_any (test c.args.names.now c.args.number c.args.flags.now)) (sym c.deref-terms-items.ensures.value)
+    ∙ any_passes (test c.args.names.now c.args.number c.args.flags.now) items c.loop-terms.terms-index c.terms-item.result (omega arith) c.terms-item.is (sym c.rest_can_be_empty.ensures ∙ c.if-rest_can_be_empty.true))
+
+pub returns : goal.returns
+returns c =
+    let items = c.deref-terms-items.result.now in
+    let all = rests_by_any c.args.names.now c.args.number (flag c.args.flags.now) c.args.alts.now in
+    sym (all ∙ ap (list_any (test c.args.names.now c.args.number c.args.flags.now)) (sym c.deref-terms-items.ensures.value)
+    ∙ none_passes (test c.args.names.now c.args.number c.args.flags.now) items c.loop-terms.terms-index (omega arith) c.loop-terms.invariant)

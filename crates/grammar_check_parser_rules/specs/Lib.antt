@@ -1,0 +1,7 @@
+pub use Rattle.grammar_names.specs.Index
+pub use Rattle.grammar_check_tables.specs.Flags
+pub mod Empty
+pub mod Loops
+pub mod Corners
+pub mod Recursion
+pub mod Rules

@@ -1,0 +1,23 @@
+use Rattle.std.proofs.Common.{◌≢◌, Bor, ℕ, List, Option, rules}
+use Rattle.std.specs.Prelude.{chars, option_map}
+use Rattle.grammar_tree.specs.GrammarView.{grammar_of}
+use Rattle.grammar_check.specs.declared.fault.CheckFault.TheVariants as check
+use Rattle.grammar_load.proofs.AnswerLemmas.{no_text}
+use Rattle.grammar_load.proofs.reading.checked_grammar.Goals as goal
+
+abbrev wanted_in : Option (Bor (List ℕ)) → Option (List ℕ)
+wanted_in start = option_map (λ (s : Bor (List ℕ)). chars s.now) start
+
+pub returns-in-Err-clause-fault : goal.returns-in-Err-clause-fault
+returns-in-Err-clause-fault c = c.in-Err.ensures.fault (wanted_in c.args.start)
+
+pub returns-in-Err-check : goal.returns-in-Err-check
+returns-in-Err-check c =
+    let G = grammar_of c.in-Ok.grammar in
+    let caused : c.in-Err-check.fault ≢ check.Memory = search rules in
+    let first = c.in-Err-check.ensures caused in
+    record {
+      ok = tt;
+      only = λ it is. absurd (no_text c.args.bytes.now (wanted_in c.args.start) G c.in-Ok.ensures.only c.in-Err-check.fault first it is);
+      fault = (G, record { text = c.in-Ok.ensures.ok; only = c.in-Ok.ensures.only }, first);
+    }

@@ -1,0 +1,5 @@
+pub use Rattle.grammar_reader_notation.specs.Reads
+pub use Rattle.grammar_check.specs.CheckFaults
+pub mod Answer
+pub mod Message
+pub mod Laws

@@ -1,6 +1,0 @@
-use Rattle.std.proofs.Common.{refl}
-use Rattle.grammar_tree.proofs.EqualParts.{same_grammar}
-use Rattle.grammar_machine.proofs.rules.with_token.Goals as goal
-
-pub returns : goal.returns
-returns c = same_grammar refl c.in_ok-push.ensures.items refl

@@ -1,6 +1,0 @@
-pub use Rattle.grammar_notation.specs.Sets
-pub use Rattle.grammar_notation.specs.Notation
-pub mod Machine
-pub mod View
-pub mod NextState
-pub mod Codes

@@ -1,5 +1,0 @@
-use Rattle.grammar_notation.proofs.Once.{faults_once}
-use Rattle.grammar_notation.proofs.laws.faults_once.Goals as goal
-
-pub returns : goal.returns
-returns c = faults_once

@@ -1,0 +1,3 @@
+pub use Rattle.grammar_reader_machine.specs.Machine
+pub use Rattle.grammar_reader_machine.specs.View
+pub use Rattle.grammar_reader_machine.specs.NextState

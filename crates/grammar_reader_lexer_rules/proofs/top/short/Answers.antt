@@ -1,0 +1,5 @@
+use Rattle.grammar_tree.proofs.LexerViews.{lex_term-Short}
+use Rattle.grammar_reader_lexer_rules.proofs.top.short.Goals as goal
+
+pub returns : goal.returns
+returns c = lex_term-Short c.args.set

@@ -1,0 +1,6 @@
+pub use Rattle.grammar_reader_notation.specs.Sets
+pub use Rattle.grammar_reader_machine.specs.Machine
+pub use Rattle.grammar_reader_machine.specs.View
+pub use Rattle.grammar_reader_machine.specs.NextState
+pub mod Terms
+pub mod OneChar

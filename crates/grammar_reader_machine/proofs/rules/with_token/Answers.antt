@@ -1,0 +1,6 @@
+use Rattle.std.proofs.Common.{refl}
+use Rattle.grammar_tree.proofs.EqualParts.{same_grammar}
+use Rattle.grammar_reader_machine.proofs.rules.with_token.Goals as goal
+
+pub returns : goal.returns
+returns c = same_grammar refl c.in_ok-push.ensures.items refl

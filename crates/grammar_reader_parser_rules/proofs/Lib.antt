@@ -1,0 +1,3 @@
+mod TermViews
+mod Views
+mod Defaults

@@ -1,0 +1,2 @@
+pub use Rattle.grammar_reader_machine.specs.Machine
+pub use Rattle.grammar_reader_machine.specs.View

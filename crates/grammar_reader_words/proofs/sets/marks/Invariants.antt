@@ -1,0 +1,16 @@
+use Rattle.std.proofs.Common.{◌≡◌, length}
+use denote.Text.{Utf8}
+use denote.Shadow.{shadow}
+use Rattle.std.specs.Str.{chars}
+use Rattle.grammar_reader_words.specs.Quoted.{pieces_from, set_piece}
+use Rattle.grammar_reader_words.proofs.Joined.{joined}
+use Rattle.grammar_reader_words.proofs.sets.marks.Given as goal
+
+abbrev pub invariant-loop-c : goal.invariant-loop-c
+invariant-loop-c l = record {
+  text : shadow (Utf8 l.rest);
+  same : joined l.marks.items (pieces_from set_piece 0 (chars l.rest)) ≡ pieces_from set_piece 0 (chars l.fn.text);
+}
+
+abbrev pub decreases-loop-c : goal.decreases-loop-c
+decreases-loop-c l = length (chars l.rest)

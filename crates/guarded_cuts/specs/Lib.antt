@@ -1,9 +1,0 @@
-pub use Rattle.syntax_tree.specs.Trees
-pub use Rattle.syntax_tree.specs.Numbered
-pub use Rattle.syntax_tree.specs.Valid
-pub use Rattle.syntax_tree.specs.Nodes
-pub use Rattle.syntax_tree.specs.Levels
-pub use Rattle.tree_cut.specs.Cuts
-pub use Rattle.descend_replace.specs.Compatible
-pub mod Edits
-pub mod Descriptions

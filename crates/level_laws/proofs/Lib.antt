@@ -1,3 +1,0 @@
-mod KeptLevels
-mod Following
-mod WorkedLemmas

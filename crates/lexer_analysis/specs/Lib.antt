@@ -1,2 +1,0 @@
-pub use Rattle.node_tables.specs.Flags
-pub mod Lexer

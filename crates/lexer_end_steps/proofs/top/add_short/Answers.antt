@@ -1,7 +1,0 @@
-use Rattle.std.proofs.Common.{◌≡◌, IfOk, subst}
-use Rattle.grammar_machine.specs.Machine as m
-use Rattle.grammar_machine.specs.View.{top_body_of}
-use Rattle.lexer_end_steps.proofs.top.add_short.Goals as goal
-
-pub returns : goal.returns
-returns c = subst (λ t. IfOk c.add.result (λ b. top_body_of b ≡ m.lex_add (top_body_of c.args.body) t)) c.short.ensures c.add.ensures

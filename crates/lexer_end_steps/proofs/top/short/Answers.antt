@@ -1,5 +1,0 @@
-use Rattle.grammar_tree.proofs.LexerViews.{lex_term-Short}
-use Rattle.lexer_end_steps.proofs.top.short.Goals as goal
-
-pub returns : goal.returns
-returns c = lex_term-Short c.args.set

@@ -1,0 +1,11 @@
+use Rattle.lexer_match.specs.Subsets.{HasStepsBefore, IsReadyFor, StartsWith}
+use Rattle.lexer_match.specs.Table.{AreSteps}
+use Rattle.lexer_match.proofs.subsets.Subsets.add_steps.Given as goal
+
+abbrev pub invariant-loop-c : goal.invariant-loop-c
+invariant-loop-c l = record {
+  ready : IsReadyFor l.nfa l.self;
+  grown : StartsWith l.self.found.sets.items l.initial.self.found.sets.items;
+  steps : AreSteps l.nfa l.self.found.sets.items l.steps.items;
+  before : HasStepsBefore l.set l.c l.steps.items;
+}

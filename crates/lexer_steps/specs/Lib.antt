@@ -1,3 +1,0 @@
-pub use Rattle.grammar_machine.specs.Machine
-pub use Rattle.grammar_machine.specs.View
-pub mod OneChar

@@ -1,4 +1,0 @@
-use Rattle.longest_match.proofs.reading.Reading.has_ended.Goals as goal
-
-pub returns-then-ended-clause-none : goal.returns-then-ended-clause-none
-returns-then-ended-clause-none c _ = cc

@@ -1,6 +1,0 @@
-use Rattle.std.proofs.Common.{◌∷◌, [], ◌++◌, None, ap, ◌∙◌}
-use Rattle.std.proofs.lemmas.List.{replicate-append-replicate}
-use Rattle.longest_match.proofs.subsets.no_starts.Goals as goal
-
-pub loop-preserved : goal.loop-preserved
-loop-preserved c = c.in_ok-push.ensures.items ∙ ap (λ l. l ++ None ∷ []) c.loop.invariant ∙ replicate-append-replicate c.loop.counter 1 None

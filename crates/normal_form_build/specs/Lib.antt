@@ -1,0 +1,4 @@
+pub use Rattle.grammar_tree.specs.Written
+pub use Rattle.normal_form.specs as NormalForm
+pub mod ParserRules
+pub mod OwnRules

@@ -1,6 +1,0 @@
-use Rattle.std.proofs.Common.{◌≡◌, ◌++◌, ◌-◌}
-use Rattle.normal_form.specs.NormalOf.{new_names}
-use Rattle.normalisation.proofs.rule_names.push_names.Given as goal
-
-abbrev pub invariant-loop-number : goal.invariant-loop-number
-invariant-loop-number l = l.names.items ≡ l.initial.names.items ++ new_names l.name 1 (l.number - 1)

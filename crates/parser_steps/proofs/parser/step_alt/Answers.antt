@@ -1,8 +1,0 @@
-use Rattle.std.proofs.Common.{subst, sym}
-use Rattle.grammar_machine.specs.View.{body_of}
-use Rattle.grammar_machine.specs.NextState.{NextIs}
-use Rattle.parser_steps.proofs.Defaults.{no_opening}
-use Rattle.parser_steps.proofs.parser.step_alt.Goals as goal
-
-pub returns-in_default : goal.returns-in_default
-returns-in_default c = subst (NextIs c.step_elements.result) (sym (no_opening (body_of c.args.body) c.args.word c.in_default.not-Less)) c.step_elements.ensures

@@ -1,4 +1,0 @@
-pub use Rattle.grammar_notation.specs.Notation
-pub use Rattle.grammar_machine.specs.Machine
-pub use Rattle.grammar_machine.specs.View
-pub mod Terms

@@ -1,2 +1,0 @@
-pub mod ParserViews
-pub mod ParserMeaning

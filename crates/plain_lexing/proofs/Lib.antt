@@ -1,4 +1,0 @@
-pub mod Numbered
-pub mod Scalars
-pub mod Beginnings
-pub mod PiecesRead

@@ -1,0 +1,77 @@
+-- The laws of list steps as trials.
+use Rattle.std.specs.Prelude.{◌≡◌, ◌<◌, ◌≤◌, ℕ, Bool, true, false, List, Some, None, length, replicate, slice_set}
+use Rattle.list_ddmin.specs.ListStep.{list_step}
+use Rattle.list_ddmin.specs.Machine.{State, IsSound, asks, after, kept, start, rest_of}
+use Rattle.list_ddmin.specs.Asked.{KeepsFewer}
+use Rattle.reduce_rounds.specs.Trials.{Trials, Try, AllTried, EachIsSmaller, IsTriedAtNo}
+use Rattle.reduce_rounds.specs.Mode.{RoundMode}
+use Rattle.reduce_rounds.specs.Reduction.{trials_end}
+use Rattle.reduce_list_trials.specs.ListTrials.{list_trials}
+use Rattle.reduce_list_trials.specs.Selections.{IsSelection, IsRemainder, IsSelectionAt, IsRemainderAt}
+use Rattle.reduce_list_trials.specs.ListEnd.{keep_verdict, end_after}
+
+-- At a question its state is tried, and each answer goes on from the machine's next state. Where nothing is asked, it goes on from the elements that remain.
+abbrev pub GoesByQuestions : {T : Type 0} → (List Bool → T) → (List Bool → Trials T) → Type 0
+GoesByQuestions state_of next =
+    ((step : State) (question : List Bool) → IsSound step → asks step ≡ Some question
+    → list_trials state_of next step ≡ Try (state_of question) (list_trials state_of next (after step true)) (list_trials state_of next (after step false)))
+    × ((step : State) → asks step ≡ None → list_trials state_of next step ≡ next (kept step))
+
+-- All that is tried has P, where the state of each selection has it, and all that is tried from each remainder.
+abbrev pub TriesSelections : {T : Type 0} → (T → Type 0) → (List Bool → T) → (List Bool → Trials T) → Type 0
+TriesSelections P state_of next = (len : ℕ) (may_be_empty : Bool)
+    → ((keep : List Bool) → IsSelection len may_be_empty keep → P (state_of keep))
+    → ((keep : List Bool) → IsRemainder len may_be_empty keep → AllTried P (next keep))
+    → AllTried P (list_trials state_of next (start len may_be_empty))
+
+-- Each yes makes the state smaller, where the state of fewer elements is smaller, and each yes after the list step makes it smaller.
+abbrev pub BecomesSmaller : {T : Type 0} → (T → ℕ) → (List Bool → T) → (List Bool → Trials T) → Type 0
+BecomesSmaller size state_of next = (len : ℕ) (may_be_empty : Bool)
+    → ((question keep : List Bool) → length keep ≡ len → KeepsFewer question keep → size (state_of question) < size (state_of keep))
+    → ((keep : List Bool) → IsRemainder len may_be_empty keep → EachIsSmaller size (size (state_of keep)) (next keep))
+    → EachIsSmaller size (size (state_of (replicate len true))) (list_trials state_of next (start len may_be_empty))
+
+-- If all answers are no, each list with one element fewer is tried, and then what is tried from all elements. A list of one element isn't tried without it where not all elements may go.
+abbrev pub TriesDeletions : {T : Type 0} → (List Bool → T) → (List Bool → Trials T) → Type 0
+TriesDeletions {T} state_of next = (len : ℕ) (may_be_empty : Bool)
+    → ((k : ℕ) → k < len → (may_be_empty ≡ false → 2 ≤ len)
+    → IsTriedAtNo (list_trials state_of next (start len may_be_empty)) (state_of (slice_set (replicate len true) k false)))
+    × ((state : T) → IsTriedAtNo (next (replicate len true)) state → IsTriedAtNo (list_trials state_of next (start len may_be_empty)) state)
+
+-- From the state of all elements on, the trials come to what the list step does, with the verdicts on its keep lists, and then to what goes on from its result.
+abbrev pub EndsAsListStep : {T : Type 0} → RoundMode T → (List ℕ → Bool) → (List Bool → T) → (List Bool → Trials T) → Type 0
+EndsAsListStep mode verdict state_of next = (len : ℕ) (may_be_empty : Bool)
+    → trials_end mode verdict (state_of (replicate len true)) (list_trials state_of next (start len may_be_empty))
+    ≡ end_after mode verdict state_of next (list_step (keep_verdict mode verdict state_of) len may_be_empty)
+
+-- Trials that have the same states for selections, and go on in the same way from remainders, are the same.
+abbrev pub SameByKeepLists : {T : Type 0} → (List Bool → T) → (List Bool → T) → (List Bool → Trials T) → (List Bool → Trials T) → Type 0
+SameByKeepLists state_of state_of' next next' = (len : ℕ) (may_be_empty : Bool)
+    → ((keep : List Bool) → IsSelection len may_be_empty keep → state_of keep ≡ state_of' keep)
+    → ((keep : List Bool) → IsRemainder len may_be_empty keep → next keep ≡ next' keep)
+    → list_trials state_of next (start len may_be_empty) ≡ list_trials state_of' next' (start len may_be_empty)
+
+-- The same from each sound state of the machine on.
+
+abbrev pub TriesSelectionsAt : {T : Type 0} → (T → Type 0) → (List Bool → T) → (List Bool → Trials T) → Type 0
+TriesSelectionsAt P state_of next = (step : State) → IsSound step
+    → ((keep : List Bool) → IsSelectionAt step keep → P (state_of keep))
+    → ((keep : List Bool) → IsRemainderAt step keep → AllTried P (next keep))
+    → AllTried P (list_trials state_of next step)
+
+abbrev pub BecomesSmallerAt : {T : Type 0} → (T → ℕ) → (List Bool → T) → (List Bool → Trials T) → Type 0
+BecomesSmallerAt size state_of next = (step : State) → IsSound step
+    → ((question keep : List Bool) → length keep ≡ length (kept step) → KeepsFewer question keep → size (state_of question) < size (state_of keep))
+    → ((keep : List Bool) → IsRemainderAt step keep → EachIsSmaller size (size (state_of keep)) (next keep))
+    → EachIsSmaller size (size (state_of (kept step))) (list_trials state_of next step)
+
+abbrev pub EndsAsRest : {T : Type 0} → RoundMode T → (List ℕ → Bool) → (List Bool → T) → (List Bool → Trials T) → Type 0
+EndsAsRest mode verdict state_of next = (step : State) → IsSound step
+    → trials_end mode verdict (state_of (kept step)) (list_trials state_of next step)
+    ≡ end_after mode verdict state_of next (rest_of (keep_verdict mode verdict state_of) step)
+
+abbrev pub SameByKeepListsAt : {T : Type 0} → (List Bool → T) → (List Bool → T) → (List Bool → Trials T) → (List Bool → Trials T) → Type 0
+SameByKeepListsAt state_of state_of' next next' = (step : State) → IsSound step
+    → ((keep : List Bool) → IsSelectionAt step keep → state_of keep ≡ state_of' keep)
+    → ((keep : List Bool) → IsRemainderAt step keep → next keep ≡ next' keep)
+    → list_trials state_of next step ≡ list_trials state_of' next' step

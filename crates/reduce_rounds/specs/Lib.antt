@@ -1,0 +1,10 @@
+pub use Rattle.reduce_step.specs.Plan
+pub use Rattle.reduce_step.specs.Ahead
+pub use Rattle.reduce_step.specs.Limits
+pub mod Trials
+pub mod Mode
+pub mod Reduction
+pub mod RoundsPlan
+pub mod Laws
+pub mod Fields
+pub mod FieldProps

@@ -1,0 +1,28 @@
+//! The reduction of a start, in any mode: a mode says what a round tries, and [`Rounds`] makes one
+//! round after another until one has no yes.
+//!
+//! Read `specs/Reduction.antt` first: the reduction as a recursion over a verdict on every text. What a
+//! mode brings is a type that implements [`Round`]: its states, their texts, which of them may be
+//! asked, what a round tries from a state, as a finite tree (`specs/Trials.antt`, `specs/Mode.antt`),
+//! and what holds of each state that it reaches. As code a reduction is a machine that is asked and
+//! answered from outside: it is a [`Step`](reduce_step::Step), with the plan of
+//! `specs/RoundsPlan.antt`. The laws tie the two together: each is a function that does nothing, which
+//! a caller calls so that its proof has the law. Begin with the laws [`follows_reduction`], that the
+//! machine comes to what the recursion does, and [`ends_minimal`].
+#![tactic(auto)]
+
+mod ahead;
+mod laws;
+mod reducer;
+mod round;
+mod rounds;
+mod stage;
+
+pub use faults::Memory;
+pub use laws::{
+    agreeing_maps, ahead_are_candidates, ahead_is_start_alone, asks_candidates, ends_minimal,
+    follows_reduction, goes_by_its_rounds, refuses_at_no,
+};
+pub use reducer::ReducerStep;
+pub use round::Round;
+pub use rounds::Rounds;

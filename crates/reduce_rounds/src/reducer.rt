@@ -1,0 +1,35 @@
+//! A step that shows what it has come to.
+
+ghost use Rattle.std.specs.Prelude.{◌≡◌};
+ghost use Rattle.reduce_step.specs.Plan.{End, HasEnded, StepResult};
+
+use reduce_step::Step;
+
+/// A step whose result can be read: what it has come to so far, and at its end what it ends with.
+pub trait ReducerStep: Step {
+    /// What it has come to.
+    ghost so_far: { Self → StepResult };
+
+    /// The text of the last yes, at first the start.
+    fn result(&self) -> &[u8]
+        ensures { result.now ≡ (so_far self.now).text };
+
+    /// How many units (lines or tokens) the result has.
+    fn units(&self) -> u64
+        ensures { result ≡ (so_far self.now).units };
+
+    /// How many listed states were tried, the start included and repeated texts each time. It stays
+    /// at `u64::MAX` once it is there.
+    fn used(&self) -> u64
+        ensures { result ≡ (so_far self.now).used };
+
+    /// How many rounds were made, the last one included. It stays at `u64::MAX` once it is there.
+    fn rounds(&self) -> u64
+        ensures { result ≡ (so_far self.now).rounds };
+
+    /// Whether the start was answered no. A reducer that asks nothing more ends with what this and
+    /// the calls before it give.
+    fn refused(&self) -> bool
+        ensures refused { result ≡ (so_far self.now).refused }
+        ensures ended { HasEnded (Self.plan self.now) → Self.plan self.now ≡ End (so_far self.now) };
+}

@@ -1,0 +1,4 @@
+pub mod Limits
+pub mod Plan
+pub mod Ahead
+pub mod Grow

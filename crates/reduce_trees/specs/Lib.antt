@@ -1,0 +1,16 @@
+pub use Rattle.reduce_step.specs.Limits
+pub use Rattle.reduce_perses_trials.specs as ReducePersesTrials
+pub use Rattle.reduce_trees_mode.specs as ReduceTreesMode
+pub use Rattle.reduce_walk.specs.Rounds as WalkRounds
+pub use Rattle.reduce_perses.specs.VisitRounds
+pub use Rattle.reduce_hdd.specs.LevelRounds
+pub use Rattle.reduce_hdd_trials.specs.Followed as LevelsEnd
+pub mod WalkMode
+pub mod PersesMode
+pub mod HddMode
+pub mod Parts
+pub mod Candidates
+pub mod Fields
+pub mod FieldProps
+pub mod Laws
+pub mod Ends

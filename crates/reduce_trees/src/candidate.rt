@@ -1,0 +1,106 @@
+//! Texts of trees that are tried.
+
+ghost use Rattle.std.specs.Prelude.{◌≡◌, ◌≤◌, length, IfOk};
+ghost use Rattle.token_print.specs.Kept.{AreKept};
+ghost use Rattle.reduce_step.specs.Limits.{text_limit};
+ghost use Rattle.reduce_trees_mode.specs.Listed.{text_in};
+ghost use Rattle.token_print.specs.declared.style.Style.{Style as TextStyle};
+ghost use Rattle.reduce_trees.specs.Candidates.{IsCandidateIn, is_listed_in};
+
+use crate::parts::{HasInput, TreeParts};
+use faults::Memory;
+use keep_guard::Relation;
+use std::alloc::Global;
+use token_laws::spelled_by_reading;
+use token_print::{Style, keeps_tokens, print, printed_by_reading};
+
+/// The text of a tree, how many tokens it has, and whether it may be asked.
+#[derive(Drop)]
+pub(crate) struct Candidate {
+    pub(crate) text: Vec<u8>,
+    pub(crate) tokens: u64,
+    pub(crate) listed: bool,
+}
+
+impl Candidate {
+    /// The same again.
+    pub(crate) fn copy(&self) -> Result<Candidate, Memory>
+        ensures text { IfOk result (λ copy. copy.text.items ≡ self.now.text.items) }
+        ensures tokens { IfOk result (λ copy. copy.tokens ≡ self.now.tokens) }
+        ensures listed { IfOk result (λ copy. copy.listed ≡ self.now.listed) }
+    {
+        Ok(Candidate {
+            text: self.text.clone()?,
+            tokens: self.tokens,
+            listed: self.listed,
+        })
+    }
+}
+
+/// The text of the start's tokens with these numbers.
+pub(crate) fn text_of<F: Relation>(
+    alloc: Global,
+    parts: &TreeParts<F>,
+    kept: &[u32],
+    style: Style,
+) -> Result<Vec<u8>, Memory>
+    requires { AreKept (⟦<TreeParts<F> as HasInput>⟧.input parts.now).tokens kept.now }
+    ensures { IfOk result (λ text. text.items ≡ text_in (⟦<TreeParts<F> as HasInput>⟧.input parts.now) kept.now style) }
+{
+    parts.is_input();
+    printed_by_reading();
+    let start = parts.start.as_str();
+    let text = print(alloc, start, &parts.tokens, &parts.lexer, kept, style)?;
+    Ok(text)
+}
+
+/// Whether the text of these tokens is cut into them again, and is admitted.
+fn is_listed<F: Relation>(parts: &TreeParts<F>, kept: &[u32], text: &[u8]) -> Result<bool, Memory>
+    requires kept { AreKept (⟦<TreeParts<F> as HasInput>⟧.input parts.now).tokens kept.now }
+    requires short { length text.now ≤ text_limit }
+    ensures { IfOk result (λ listed. (style : TextStyle) → text.now ≡ text_in (⟦<TreeParts<F> as HasInput>⟧.input parts.now) kept.now style → listed ≡ is_listed_in (⟦<TreeParts<F> as HasInput>⟧.input parts.now) kept.now style) }
+{
+    parts.is_input();
+    spelled_by_reading();
+    let start = parts.start.as_str();
+    let keeps = keeps_tokens(start, &parts.tokens, &parts.lexer, kept, text)?;
+    if !keeps {
+        return Ok(false);
+    }
+    Ok(parts.guard.admits(kept, text))
+}
+
+/// The candidate of the start's tokens with these numbers, whose text this is. It is cut into tokens
+/// once, and the guard is called at most once.
+pub(crate) fn with_text<F: Relation>(
+    parts: &TreeParts<F>,
+    kept: &[u32],
+    text: Vec<u8>,
+) -> Result<Candidate, Memory>
+    requires kept { AreKept (⟦<TreeParts<F> as HasInput>⟧.input parts.now).tokens kept.now }
+    requires short { length text.items ≤ text_limit }
+    ensures { IfOk result (λ candidate. (style : TextStyle) → text.items ≡ text_in (⟦<TreeParts<F> as HasInput>⟧.input parts.now) kept.now style → IsCandidateIn (⟦<TreeParts<F> as HasInput>⟧.input parts.now) kept.now style candidate) }
+{
+    let listed = is_listed(parts, kept, &text)?;
+    Ok(Candidate {
+        text,
+        tokens: kept.len() as u64,
+        listed,
+    })
+}
+
+/// The candidate of the start's tokens with these numbers.
+pub(crate) fn candidate_of<F: Relation>(
+    alloc: Global,
+    parts: &TreeParts<F>,
+    kept: &[u32],
+    style: Style,
+) -> Result<Candidate, Memory>
+    requires kept { AreKept (⟦<TreeParts<F> as HasInput>⟧.input parts.now).tokens kept.now }
+    requires short { length (text_in (⟦<TreeParts<F> as HasInput>⟧.input parts.now) kept.now style) ≤ text_limit }
+    ensures { IfOk result (IsCandidateIn (⟦<TreeParts<F> as HasInput>⟧.input parts.now) kept.now style) }
+{
+    let text = text_of(alloc, parts, kept, style)?;
+    let candidate = with_text(parts, kept, text)?;
+    Ok(candidate)
+}

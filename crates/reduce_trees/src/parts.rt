@@ -1,0 +1,96 @@
+//! What never changes in a reduction of trees.
+
+ghost use Rattle.std.specs.Prelude.{◌≡◌, ◌≤◌, length, map, string_bytes};
+ghost use Rattle.std.specs.Str.{chars};
+ghost use Rattle.grammar_tree.specs.Checked.{IsChecked};
+ghost use Rattle.grammar_tree.specs.Lexes.{PlacedToken};
+ghost use Rattle.grammar_tree.specs.Faults.{IsWellFormed};
+ghost use Rattle.lexer.specs.Tokens.{HasTokens, token_of};
+ghost use Rattle.normal_form.specs.NormalOf.{normal_of};
+ghost use Rattle.normal_form.specs.declared.normal.Sym.TheVariants.{Rule};
+ghost use Rattle.syntax_tree.specs.Trees.{kinds_of};
+ghost use Rattle.syntax_tree.specs.Nodes.{whole};
+ghost use Rattle.reduce_step.specs.Limits.{text_limit};
+ghost use Rattle.reduce_trees_mode.specs.Input.{IsInput};
+ghost use Rattle.reduce_trees_mode.specs.FormedProp.{well_formed_prop};
+ghost use Rattle.reduce_trees_mode.specs.InputOf.{input_of};
+ghost use Rattle.reduce_trees.specs.Parts.{BelongTogether, together_prop};
+
+use compat_table::Compat;
+use keep_guard::{Guard, Relation};
+use lexer::{Lexer, Tokens};
+use reduce_trees_mode::parts_join;
+use syntax_tree::Tree;
+use token_laws::tokens_by_reading;
+
+/// What never changes in a reduction of trees: the start's text, its tokens and their tree, the lexer
+/// of its grammar, which symbols fit which slots, which candidates are admitted, and whether the
+/// squeezed text of the whole tree is tried before the rounds.
+#[derive(Drop)]
+pub struct TreeParts<F: Relation> {
+    pub(crate) start: String,
+    pub(crate) tokens: Tokens,
+    pub(crate) lexer: Lexer,
+    pub(crate) compat: Compat,
+    pub(crate) tree: Tree,
+    pub(crate) guard: Guard<F>,
+    pub(crate) squeezes: bool,
+    ghost formed: { IsWellFormed lexer.grammar lexer.start } by { well_formed_prop lexer.grammar lexer.start },
+    ghost together: { BelongTogether (input_of lexer formed tree (string_bytes start) tokens.items.items (F.admits guard) squeezes) compat } by { together_prop (input_of lexer formed tree (string_bytes start) tokens.items.items (F.admits guard) squeezes) compat },
+}
+
+/// What a reduction is about.
+pub trait HasInput {
+    ghost use Rattle.reduce_trees_mode.specs.Input.{TreeInput};
+
+    /// The input that it is made of.
+    ghost input: { Self → TreeInput };
+}
+
+impl<F: Relation> HasInput for TreeParts<F> {
+    ghost input = { λ p. input_of p.lexer p.formed p.tree (string_bytes p.start) p.tokens.items.items (F.admits p.guard) p.squeezes };
+}
+
+impl<F: Relation> TreeParts<F> {
+    /// The parts of a reduction of a start, of at most 1,048,576 bytes.
+    pub fn new(
+        start: String,
+        tokens: Tokens,
+        lexer: Lexer,
+        compat: Compat,
+        tree: Tree,
+        guard: Guard<F>,
+        squeezes: bool,
+    ) -> TreeParts<F>
+        requires checked { IsChecked lexer }
+        requires short { length (string_bytes start) ≤ text_limit }
+        requires tokens { HasTokens lexer.grammar (chars (string_bytes start)) (map token_of tokens.items.items) }
+        requires form { tree.form ≡ normal_of lexer }
+        requires symbol { tree.start ≡ Rule tree.form.start }
+        requires kinds { kinds_of (whole tree) ≡ map (λ (t : PlacedToken). t.kind) (map token_of tokens.items.items) }
+        requires compat { compat ≡ tree.form }
+        ensures { (formed : IsWellFormed lexer.grammar lexer.start) → ⟦<TreeParts<F> as HasInput>⟧.input result ≡ input_of lexer formed tree (string_bytes start) tokens.items.items (F.admits guard) squeezes }
+    {
+        tokens_by_reading();
+        TreeParts {
+            start,
+            tokens,
+            lexer,
+            compat,
+            tree,
+            guard,
+            squeezes,
+        }
+    }
+
+    /// The parts are those of an input, whose start has at most 1,048,576 bytes: a caller calls this so
+    /// that its proof knows.
+    pub fn is_input(&self)
+        ensures is { IsInput (⟦<TreeParts<F> as HasInput>⟧.input self.now) }
+        ensures short { length (⟦<TreeParts<F> as HasInput>⟧.input self.now).start ≤ text_limit }
+    {
+        parts_join();
+        let _nodes = self.tree.nodes();
+        let _text = self.start.as_str();
+    }
+}

@@ -1,0 +1,151 @@
+//! Rounds over what is left of a tree.
+
+ghost use Rattle.std.specs.Prelude.{◌≡◌, IfOk, if◌then◌else◌, string_bytes};
+ghost use Rattle.token_print.specs.declared.style.Style.TheVariants.{Squeezed};
+ghost use Rattle.reduce_rounds.specs.Trials.{Done};
+ghost use Rattle.reduce_trees.specs.Fields.{Agrees, IsTreeOf};
+ghost use Rattle.reduce_trees.specs.FieldProps.{agrees_prop};
+ghost use Rattle.reduce_trees_mode.specs.InputOf.{input_of};
+ghost use Rattle.reduce_trees.specs.WalkMode.{walk_mode};
+
+use crate::laws::walks_are_lawful;
+use crate::parts::{HasInput, TreeParts};
+use crate::trial::{Trial, opening_trial, trial_of};
+use faults::Memory;
+use keep_guard::Relation;
+use reduce_rounds::Round;
+use reduce_walk::TreeWalk;
+use std::alloc::Global;
+use std::mem;
+use token_print::Style;
+
+/// A round of a walk over what is left of a tree. The parts are lent, so that a copy doesn't copy them.
+///
+/// An answer takes what [`TreeWalk::answer`] takes, and time and memory linear in the nodes of the
+/// parsed tree and in the text of the candidate that is tried next: that is printed once and cut into
+/// tokens once, and the guard is called at most once.
+#[derive(Drop)]
+pub struct TreeRound<'a, F: Relation, W: TreeWalk + Drop> {
+    alloc: Global,
+    parts: &'a TreeParts<F>,
+    style: Style,
+    walk: W,
+
+    /// It is over after an error.
+    trial: Trial,
+    ghost agrees: { Agrees (input_of parts.now.lexer parts.now.formed parts.now.tree (string_bytes parts.now.start) parts.now.tokens.items.items (F.admits parts.now.guard) parts.now.squeezes) style (W.tree walk) (W.left walk) (W.rest walk) trial } by { agrees_prop (input_of parts.now.lexer parts.now.formed parts.now.tree (string_bytes parts.now.start) parts.now.tokens.items.items (F.admits parts.now.guard) parts.now.squeezes) style (W.tree walk) (W.left walk) (W.rest walk) trial },
+}
+
+impl<'a, F: Relation, W: TreeWalk + Drop> TreeRound<'a, F, W> {
+    /// Before the first round: the whole tree, and where it is asked for its squeezed text. The walk is a
+    /// new one of the parts' tree.
+    pub(crate) fn new(
+        alloc: Global,
+        parts: &'a TreeParts<F>,
+        walk: W,
+    ) -> Result<TreeRound<'a, F, W>, Memory>
+        requires tree { IsTreeOf (⟦<TreeParts<F> as HasInput>⟧.input parts.now) (W.tree walk) }
+        requires left { W.left walk ≡ (⟦<TreeParts<F> as HasInput>⟧.input parts.now).whole }
+        requires rest { W.rest walk ≡ Done }
+        ensures input { IfOk result (λ round. ⟦<TreeRound<'a, F, W> as Round>⟧.input round ≡ ⟦<TreeParts<F> as HasInput>⟧.input parts.now) }
+        ensures state { IfOk result (λ round. ⟦<TreeRound<'a, F, W> as Round>⟧.state round ≡ (walk_mode W.round (⟦<TreeParts<F> as HasInput>⟧.input parts.now)).start) }
+        ensures rest { IfOk result (λ round. ⟦<TreeRound<'a, F, W> as Round>⟧.rest round ≡ (walk_mode W.round (⟦<TreeParts<F> as HasInput>⟧.input parts.now)).opening) }
+    {
+        let trial = opening_trial(alloc, parts)?;
+        Ok(TreeRound {
+            alloc,
+            parts,
+            style: Style::AsWas,
+            walk,
+            trial,
+        })
+    }
+}
+
+impl<'a, F: Relation, W: TreeWalk + Drop> Round for TreeRound<'a, F, W> {
+    ghost use Rattle.reduce_trees_mode.specs.Input.{TreeInput, TreeState};
+    ghost use Rattle.reduce_trees_mode.specs.Listed.{IsKept};
+    ghost use Rattle.reduce_trees_mode.specs.InStyles.{in_style};
+    ghost use Rattle.reduce_trees.specs.Fields.{rest_of};
+
+    ghost Input = { TreeInput };
+
+    ghost State = { TreeState };
+
+    ghost mode = { walk_mode W.round };
+
+    ghost Kept = { IsKept };
+
+    ghost input = { λ r. input_of r.parts.now.lexer r.parts.now.formed r.parts.now.tree (string_bytes r.parts.now.start) r.parts.now.tokens.items.items (F.admits r.parts.now.guard) r.parts.now.squeezes };
+
+    ghost state = { λ r. in_style r.style (W.left r.walk) };
+
+    ghost rest = { λ r. rest_of (input_of r.parts.now.lexer r.parts.now.formed r.parts.now.tree (string_bytes r.parts.now.start) r.parts.now.tokens.items.items (F.admits r.parts.now.guard) r.parts.now.squeezes) r.style (W.rest r.walk) r.trial };
+
+    fn is_over(&self) -> bool {
+        self.trial.candidate().is_none()
+    }
+
+    fn asks(&self) -> Option<&[u8]> {
+        match self.trial.candidate() {
+            None => None,
+            Some(candidate) => {
+                if candidate.listed {
+                    Some(candidate.text.as_slice())
+                } else {
+                    None
+                }
+            }
+        }
+    }
+
+    fn units(&self) -> u64 {
+        match self.trial.candidate() {
+            None => unreachable!(),
+            Some(candidate) => candidate.tokens,
+        }
+    }
+
+    fn answer(&mut self, yes: bool) -> Result<(), Memory> {
+        match mem::replace(&mut self.trial, Trial::Over) {
+            Trial::Over => Ok(()),
+            Trial::Squeezed(_) => {
+                self.style = style_after(self.style, yes);
+                Ok(())
+            }
+            Trial::Edit(_) => {
+                self.walk.answer(yes)?;
+                self.trial = trial_of(self.alloc, self.parts, self.style, &self.walk)?;
+                Ok(())
+            }
+        }
+    }
+
+    fn begin_round(&mut self) -> Result<(), Memory> {
+        self.parts.is_input();
+        walks_are_lawful::<W>();
+        self.trial = Trial::Over;
+        self.walk.begin_round()?;
+        self.trial = trial_of(self.alloc, self.parts, self.style, &self.walk)?;
+        Ok(())
+    }
+
+    fn copy(&self) -> Result<TreeRound<'a, F, W>, Memory> {
+        let walk = self.walk.copy()?;
+        let trial = self.trial.copy()?;
+        Ok(TreeRound {
+            alloc: self.alloc,
+            parts: self.parts,
+            style: self.style,
+            walk,
+            trial,
+        })
+    }
+}
+
+/// The style after an answer to the squeezed text of the whole tree.
+fn style_after(style: Style, yes: bool) -> Style
+    ensures { result ≡ (if yes then Squeezed else style) }
+{
+    if yes { Style::Squeezed } else { style }
+}

@@ -1,5 +1,0 @@
-use Rattle.reduction_rounds.proofs.LookingAhead as lemmas
-use Rattle.reduction_rounds.proofs.laws.ahead_is_start_alone.Goals as goal
-
-pub returns : goal.returns
-returns g c = λ input. lemmas.ahead_is_start_alone (g.R.Round.mode input)

@@ -1,5 +1,0 @@
-use Rattle.reduction_rounds.proofs.Candidates as lemmas
-use Rattle.reduction_rounds.proofs.laws.asks_candidates.Goals as goal
-
-pub returns : goal.returns
-returns g c = λ input. lemmas.asks_candidates (g.R.Round.mode input) (g.R.Round.Kept input)

@@ -1,9 +1,0 @@
-pub use Rattle.verdict_table.specs.Plan
-pub use Rattle.verdict_table.specs.Ahead
-pub mod Trials
-pub mod Mode
-pub mod Reduction
-pub mod RoundsPlan
-pub mod Laws
-pub mod Fields
-pub mod FieldProps

@@ -1,7 +1,0 @@
-use Rattle.std.proofs.Common.{ℕ, ◌<◌}
-use Rattle.grammar_tree.specs.Derives.{bodies}
-use Rattle.rule_faults.specs.ParserFaults.{HasLoopAt}
-use Rattle.rule_faults.proofs.parser_checks.first_with_loop.Given as goal
-
-abbrev pub invariant-loop-number : goal.invariant-loop-number
-invariant-loop-number l = (r : ℕ) → r < l.number → ¬ HasLoopAt (bodies l.names) r

@@ -1,0 +1,73 @@
+//! Why a run ends without a result.
+
+use edge_io::OpenFault;
+use ordered_commit::PoolFault;
+use script_gate_trait::GateFault;
+use std::alloc::AllocError;
+
+/// Why a run ends without a result.
+#[derive(Clone, Copy, Debug, PartialEq, Eq)]
+pub enum RunFault {
+    /// The verdict on the start is no.
+    NotInteresting,
+    /// A call of the gate failed.
+    Script,
+    /// A call of the journal failed.
+    Journal,
+    /// Memory ran out.
+    Memory,
+}
+
+impl From<PoolFault> for RunFault {
+    ghost use Rattle.std.specs.Prelude.{◌≡◌};
+    ghost use Rattle.run_gated.specs.Faults.{fault_kept};
+
+    ghost from_gives = { λ fault run_fault. run_fault ≡ fault_kept fault };
+
+    fn from(fault: PoolFault) -> RunFault {
+        match fault {
+            PoolFault::Script { .. } => RunFault::Script,
+            PoolFault::Journal => RunFault::Journal,
+            PoolFault::Memory => RunFault::Memory,
+        }
+    }
+}
+
+impl From<GateFault> for RunFault {
+    ghost use Rattle.std.specs.Prelude.{◌≡◌};
+    ghost use Rattle.run_gated.specs.Faults.{fault_of};
+
+    ghost from_gives = { λ fault run_fault. run_fault ≡ fault_of fault };
+
+    fn from(fault: GateFault) -> RunFault {
+        match fault {
+            GateFault::Failed => RunFault::Script,
+            GateFault::Memory => RunFault::Memory,
+        }
+    }
+}
+
+impl From<OpenFault> for RunFault {
+    ghost use Rattle.std.specs.Prelude.{◌≡◌};
+    ghost use Rattle.run_gated.specs.Faults.{fault_of_opening};
+
+    ghost from_gives = { λ fault run_fault. run_fault ≡ fault_of_opening fault };
+
+    fn from(fault: OpenFault) -> RunFault {
+        match fault {
+            OpenFault::Failed => RunFault::Journal,
+            OpenFault::Memory => RunFault::Memory,
+        }
+    }
+}
+
+impl From<AllocError> for RunFault {
+    ghost use Rattle.std.specs.Prelude.{◌≡◌};
+    ghost use Rattle.run_gated.specs.declared.fault.RunFault.{RunFault};
+
+    ghost from_gives = { λ _ fault. fault ≡ RunFault.Memory };
+
+    fn from(_: AllocError) -> RunFault {
+        RunFault::Memory
+    }
+}

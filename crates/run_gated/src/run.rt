@@ -1,0 +1,117 @@
+//! The run.
+
+ghost use Rattle.std.specs.Prelude.{◌≡◌, [], true, IfSome, None, length};
+ghost use Rattle.reduce_journal.specs.History.{records_of};
+ghost use Rattle.reduce_rounds.specs.Mode.{Keeps};
+ghost use Rattle.reduce_rounds.specs.RoundsPlan.{IsStart, plan_first};
+ghost use Rattle.run_gated.specs.Records.{AreAnswers, AreOfMode};
+ghost use Rattle.reduce_step.specs.Plan.{End, HasEnded};
+ghost use Rattle.run_gated.specs.RunEnds.{AnswersFor, JournalHas, RunEndsIn};
+
+use crate::fault::RunFault;
+use crate::ran::{Ran, Reduced};
+use edge_io::Sink;
+use ordered_commit::{Outcome, PoolFault};
+use reduce_journal::{Counts, Event};
+use reduce_rounds::{
+    ReducerStep, Round, Rounds, asks_candidates, ends_minimal, follows_reduction, refuses_at_no,
+};
+use reduce_step::Step;
+use run_worker::run;
+use script_gate_trait::Gate;
+use std::alloc::Global;
+
+/// How many records a history has.
+fn record_count(events: &[Event]) -> u64
+    ensures { result ≡ length (records_of events.now) }
+{
+    let mut records = 0;
+    for event in events {
+        if matches!(event, Event::Recorded { .. }) {
+            records += 1;
+        }
+    }
+    records
+}
+
+/// How large a start is.
+#[derive(Clone, Copy)]
+struct StartSize {
+    units: u64,
+    bytes: u64,
+}
+
+/// The result that a reducer has come to, of a start of this size, by a run of so many records that this
+/// fault ended, if one did.
+fn result_of<R: Round + Drop>(
+    alloc: Global,
+    reducer: &Rounds<R>,
+    start: StartSize,
+    records: u64,
+    fault: Option<PoolFault>,
+) -> Result<Reduced, RunFault>
+    ensures answer { AnswersFor fault (⟦<Rounds<R> as ReducerStep>⟧.so_far reducer.now) start.units start.bytes records result }
+    ensures ended { fault ≡ None → HasEnded (⟦<Rounds<R> as Step>⟧.plan reducer.now) → ⟦<Rounds<R> as Step>⟧.plan reducer.now ≡ End (⟦<Rounds<R> as ReducerStep>⟧.so_far reducer.now) }
+{
+    if let Some(fault) = fault {
+        return Err(fault.into());
+    }
+    if reducer.refused() {
+        return Err(RunFault::NotInteresting);
+    }
+    let text = Vec::from_slice(alloc, reducer.result())?;
+    let counts = Counts {
+        start_units: start.units,
+        end_units: reducer.units(),
+        start_bytes: start.bytes,
+        end_bytes: text.len() as u64,
+        rounds: reducer.rounds(),
+        used: reducer.used(),
+        records,
+    };
+    Ok(Reduced { text, counts })
+}
+
+/// Asks the gate for what the reducer asks, once for each text, until it asks nothing more, writes the
+/// history into the journal, and gives the text that the reducer has come to. A start whose verdict is no
+/// ends the run at once.
+///
+/// What is said of a mode holds for each input at which the reducer's first plan, and its result so far,
+/// are those of the mode. Beside the answers of the reducer and of the gate an answer costs a search of the
+/// records and a copy of the text.
+pub fn run_to_text<R: Round + Drop, G: Gate, J: Sink + Drop>(
+    alloc: Global,
+    reducer: Rounds<R>,
+    gate: &mut G,
+    journal: J,
+) -> Ran<J>
+    requires new { ⟦<Rounds<R> as Step>⟧.first reducer ≡ ⟦<Rounds<R> as Step>⟧.plan reducer }
+    requires empty { IfSome (J.put_so_far journal) (λ put. put.bytes ≡ []) }
+    ensures answers { AreAnswers G.may_say (G.log gate.old) (G.log gate.new) (records_of result.events.items) }
+    ensures of_mode { (input : R.Input) → ⟦<Rounds<R> as Step>⟧.first reducer ≡ plan_first (R.mode input) → Keeps (R.mode input) (R.Kept input) → (R.mode input).is_listed (R.mode input).start ≡ true
+        → AreOfMode (R.mode input) (R.Kept input) result.events.items }
+    ensures ends { (input : R.Input) → ⟦<Rounds<R> as Step>⟧.first reducer ≡ plan_first (R.mode input) → IsStart (R.mode input) (⟦<Rounds<R> as ReducerStep>⟧.so_far reducer)
+        → RunEndsIn (R.mode input) (R.Kept input) result.events.items (G.faults gate.old) (G.faults gate.new) (J.faults journal) (J.faults result.journal) result.outcome }
+    ensures journal { JournalHas result.events.items (J.put_so_far journal) (J.put_so_far result.journal) (J.faults journal) (J.faults result.journal) result.outcome }
+{
+    follows_reduction::<R>();
+    refuses_at_no::<R>();
+    ends_minimal::<R>();
+    asks_candidates::<R>();
+    let start = StartSize {
+        units: reducer.units(),
+        bytes: reducer.result().len() as u64,
+    };
+    let Outcome {
+        front,
+        journal,
+        events,
+        fault,
+    } = run(alloc, reducer, gate, journal);
+    let outcome = result_of(alloc, &front, start, record_count(&events), fault);
+    Ran {
+        journal,
+        events,
+        outcome,
+    }
+}

@@ -1,0 +1,232 @@
+-- What a run of a reducer says, in the words of the reduction of lines and of that of trees.
+use Rattle.std.proofs.Common.{◌≡◌, ℕ, Bool, List, [], length, Option, IsSome, true, false, refl, sym, ap, ◌∙◌, subst, Result, Ok, Err}
+use Rattle.std.proofs.lemmas.Bool.{false≢true}
+use Rattle.std.specs.List.{IsDistinct}
+use Rattle.std.proofs.lemmas.List.Elements.{All-nil, All-weaker}
+use Rattle.script_gate_trait.specs.declared.gate.Verdict.{Verdict}
+use Rattle.script_gate_trait.specs.declared.gate.Verdict.TheVariants.{Yes, No}
+use Rattle.script_gate_trait.specs.declared.log.Log.{Log}
+use Rattle.verdict_table.specs.declared.record.Record.{Record}
+use Rattle.reduce_step.specs.Plan.{StepResult}
+use Rattle.verdict_table.specs.TableState.{verdict_in}
+use Rattle.keep_guard.specs.Keep.{holds_all, keeps_admit}
+use Rattle.reduce_rounds.specs.Reduction.{Reduction, reduction}
+use Rattle.reduce_rounds.specs.Laws.{HasVerdicts, IsTextOf, result_of, says_yes}
+use Rattle.reduce_rounds.specs.Mode.{RoundMode}
+use Rattle.run_gated.specs.declared.fault.RunFault.{RunFault}
+use Rattle.run_gated.specs.declared.fault.RunFault.TheVariants as run
+use Rattle.run_gated.specs.declared.ran.Reduced.{Reduced}
+use Rattle.reduce_journal.specs.History.{History, records_of}
+use Rattle.reduce_journal.specs.declared.counts.Counts.{Counts}
+use Rattle.run_worker.specs.RunHistory.{own_history}
+use Rattle.run_worker.proofs.EndLemmas.{none_asked}
+use Rattle.run_gated.specs.Records.{AreAnswers, AreOfMode, BeginsAt, FirstIs}
+use Rattle.run_gated.specs.RunEnds as ends
+use Rattle.run_gated.specs.RunEnds.{ReducesIn, RunEndsIn, RunFailsIn, reduction_over}
+use Rattle.reduce_core.specs.declared.lines.Line.{Line}
+use Rattle.reduce_core.specs.Laws.{EndsMinimal, IsByRounds}
+use Rattle.reduce_core.specs.LineMode.{AreOfStart, LineInput, in_rounds, line_mode}
+use Rattle.reduce_core.specs.Minimal.{IsLineCandidate}
+use Rattle.reduce_core.specs.Lines.{numbered_lines, text_of}
+use Rattle.reduce_core.specs.Reduction.{LineReduction, is_listed, line_reduction}
+use Rattle.reduce_core.proofs.LineLaws.{line_lawful}
+use Rattle.reduce_core.proofs.LinesLemmas.{text-numbered_lines}
+use Rattle.reduce_trees_mode.specs.Input.{IsInput, TreeInput, TreeState}
+use Rattle.reduce_trees_mode.specs.Candidates.{IsCandidate}
+use Rattle.reduce_trees_mode.specs.Listed.{IsKept, text_of_state}
+use Rattle.reduce_trees.specs.Ends.{AdmitsStart, BeginsWith, IsEndBy}
+use Rattle.reduce_trees.specs.WalkMode.{walk_mode}
+use Rattle.reduce_step.specs.declared.mode.TreeMode.{TreeMode}
+use Rattle.run_problem.specs.Problem.{IsEditBy, Problem, questions_of, reducer_of, round_of}
+use Rattle.run_problem.specs.Walks.{IsTreeMode}
+use Rattle.run_problem.specs.Ends.{AreOf, IsUnfinished, ProblemEnds, ReducesFrom, RunFails}
+
+-- no record was made, and the gate was not asked
+pub none_answers : (may_say : List ℕ → Verdict → Type 0) (records : List Record) (log : Option Log) → records ≡ [] → AreAnswers may_say log log records
+unfolding IsDistinct
+none_answers may_say records log none = subst (AreAnswers may_say log log) (sym none) (record {
+  distinct = tt;
+  said = All-nil _;
+  asked = none_asked log;
+})
+
+module _ (keeps : List (List ℕ)) where
+  -- the input of mode lines
+  abbrev pub lines_of : List ℕ → LineInput
+  lines_of start = record { admits = keeps_admit keeps; start = start }
+
+  -- a start in which each keep text occurs is admitted
+  pub admits_start : (start : List ℕ) → holds_all keeps start ≡ true → is_listed (keeps_admit keeps) (numbered_lines start) ≡ true
+  admits_start start kept = ap (holds_all keeps) (text-numbered_lines start) ∙ kept
+
+  -- the history is one of lines
+  pub are_of : (start : List ℕ) (history : History) → AreOfMode (line_mode (lines_of start)) (AreOfStart (lines_of start)) history → AreOf keeps (Problem.of_lines start) history
+  are_of start history of =
+      let records : List Record = records_of history in
+      record {
+        legal = of.legal;
+        readable = of.readable;
+        sequential = of.sequential;
+        candidates = All-weaker (λ (r : Record). IsTextOf (line_mode (lines_of start)) (AreOfStart (lines_of start)) r.text) (λ (r : Record). IsLineCandidate (keeps_admit keeps) start r.text)
+            (λ r one. record { lines = one.state; some = one.kept; listed = one.listed; joined = one.same }) records of.candidates;
+        first = subst (λ (text : List ℕ). BeginsAt text records) (text-numbered_lines start) of.first;
+        ends_at_no = of.ends_at_no;
+      }
+
+  -- the start is asked first, so without a record the reduction waits for its verdict
+  start_known : (V : List ℕ → Option Verdict) (start : List ℕ) → HasVerdicts V (line_reduction (keeps_admit keeps) (says_yes V) start).questions → IsSome (V start)
+  unfolding line_reduction
+  start_known V start has = has.0
+
+  module _ (by_rounds : IsByRounds) (start : List ℕ) (history : History) where
+    abbrev records : List Record
+    records = records_of history
+
+    abbrev R : LineReduction
+    R = line_reduction (keeps_admit keeps) (says_yes (verdict_in records)) start
+
+    same_reduction : reduction_over (line_mode (lines_of start)) records ≡ in_rounds R
+    same_reduction = by_rounds (keeps_admit keeps) (says_yes (verdict_in records)) start
+
+    first_text : (verdict : Verdict) → FirstIs (text_of (numbered_lines start)) verdict records → FirstIs start verdict records
+    first_text verdict first = subst (λ (text : List ℕ). FirstIs text verdict records) (text-numbered_lines start) first
+
+    -- the start is reduced to the text of the result
+    reduces : EndsMinimal → holds_all keeps start ≡ true → (result : StepResult) (counts : Counts) → counts ≡ ends.counts_of (length (numbered_lines start)) (length (text_of (numbered_lines start))) result (length records)
+        → ReducesIn (line_mode (lines_of start)) (AreOfStart (lines_of start)) history result → ReducesFrom keeps (Problem.of_lines start) history result.text counts
+    reduces minimal kept result counts are_counts it =
+        let V = verdict_in records in
+        let defined : HasVerdicts V R.questions = subst (λ (r : Reduction (List Line)). HasVerdicts V r.questions) same_reduction it.defined in
+        let interesting : R.refused ≡ false = sym (ap (λ (r : Reduction (List Line)). r.refused) same_reduction) ∙ it.interesting in
+        let text : result.text ≡ text_of R.lines = ap (λ (r : StepResult). r.text) it.is_result ∙ ap (λ (r : Reduction (List Line)). text_of r.state) same_reduction in
+        let well = minimal (keeps_admit keeps) V start (admits_start start kept) interesting defined in
+        let of_start : AreOfStart (lines_of start) R.lines =
+        subst (λ (r : Reduction (List Line)). AreOfStart (lines_of start) r.state) same_reduction (it.ends_well (line_lawful (lines_of start)) (admits_start start kept)).kept in
+        record {
+          first = first_text Yes it.first;
+          reduced =
+              record {
+                defined = defined;
+                interesting = interesting;
+                is_text = text;
+                yes_at_end = ap V text ∙ well.yes_at_end;
+                keeps_stay = ap (holds_all keeps) text ∙ well.listed;
+                candidate = record { lines = R.lines; some = of_start; listed = well.listed; joined = text };
+                minimal = well.minimal;
+              };
+          is_counts = are_counts
+              ∙ ap (λ (r : StepResult). ends.counts_of (length (numbered_lines start)) (length (text_of (numbered_lines start))) r (length records))
+              (it.is_result ∙ ap (result_of (line_mode (lines_of start))) same_reduction)
+              ∙ ap (λ (text : List ℕ). ends.counts_of (length (numbered_lines start)) (length text) (result_of (line_mode (lines_of start)) (in_rounds R)) (length records)) (text-numbered_lines start);
+          whole = it.whole;
+        }
+
+    -- why the start has no reduction
+    fails : (gate gate' journal journal' : ℕ) (fault : RunFault) → RunFailsIn (line_mode (lines_of start)) history gate gate' journal journal' fault → RunFails keeps (Problem.of_lines start) history gate gate' journal journal' fault
+    fails gate gate' journal journal' run.NotInteresting why = (record { only = why.0; first = first_text No why.1; whole = why.2 }, why.3)
+    fails gate gate' journal journal' run.Script why =
+        (why.0, why.1, record { waits = λ has. why.2 (subst (λ (r : Reduction (List Line)). HasVerdicts (verdict_in records) r.questions) (sym same_reduction) has); whole = why.3 }, why.4)
+    fails gate gate' journal journal' run.Journal why = why
+    fails gate gate' journal journal' run.Memory why = why
+
+    -- how the run of the start's lines ends
+    pub lines_end : EndsMinimal → holds_all keeps start ≡ true → (gate gate' journal journal' : ℕ) (result : Result Reduced RunFault) → RunEndsIn (line_mode (lines_of start)) (AreOfStart (lines_of start)) history gate gate' journal journal' result
+        → ProblemEnds keeps (Problem.of_lines start) history gate gate' journal journal' result
+    lines_end minimal kept gate gate' journal journal' (Ok reduced) came =
+        (subst (λ (text : List ℕ). ReducesFrom keeps (Problem.of_lines start) history text reduced.counts) (sym came.0.1) (reduces minimal kept came.0.0 reduced.counts came.0.2 came.0.3), came.1)
+    lines_end minimal kept gate gate' journal journal' (Err fault) came = fails gate gate' journal journal' fault came
+
+-- nothing was asked of a problem
+none_own : (keeps : List (List ℕ)) (problem : Problem) → own_history (reducer_of keeps problem) [] ≡ []
+none_own keeps (Problem.of_lines start) = refl
+none_own keeps (Problem.of_tree mode input) = refl
+
+pub none_of : (keeps : List (List ℕ)) (problem : Problem) (history : History) → history ≡ [] → AreOf keeps problem history
+unfolding IsDistinct
+none_of keeps problem history none = subst (AreOf keeps problem) (sym none) (record {
+  legal = record { distinct = tt; commits = tt };
+  readable = tt;
+  sequential = ([], none_own keeps problem);
+  candidates = All-nil _;
+  first = tt;
+  ends_at_no = λ first_no. first_no;
+})
+
+-- the start of a tree is asked first, so without a record the reduction waits for its verdict
+tree_known : (V : List ℕ → Option Verdict) (mode : RoundMode TreeState) → HasVerdicts V (reduction mode (says_yes V)).questions → IsSome (V (mode.text mode.start))
+unfolding reduction
+tree_known V mode has = has.0
+
+none_waits : (keeps : List (List ℕ)) (problem : Problem) → HasVerdicts (verdict_in []) (questions_of keeps problem (verdict_in [])) → ⊥
+none_waits keeps (Problem.of_lines start) has = false≢true (start_known keeps (verdict_in []) start has)
+none_waits keeps (Problem.of_tree mode input) has = false≢true (tree_known (verdict_in []) (walk_mode (round_of mode) input) has)
+
+pub unfinished_without : (keeps : List (List ℕ)) (problem : Problem) → IsUnfinished keeps problem []
+unfinished_without keeps problem = record { waits = none_waits keeps problem; whole = sym (none_own keeps problem) }
+
+-- What a run of a reducer of trees says, in the words of the reduction of trees.
+module _ (mode : TreeMode) (laws : IsTreeMode (round_of mode) (IsEditBy mode)) (input : TreeInput) (is : IsInput input) (admitted : AdmitsStart input) (history : History) where
+  abbrev tree_records : List Record
+  tree_records = records_of history
+
+  abbrev trees : RoundMode TreeState
+  trees = walk_mode (round_of mode) input
+
+  abbrev T : Reduction TreeState
+  T = reduction_over trees tree_records
+
+  begins : BeginsWith trees input.start
+  begins = laws.begins input is admitted
+
+  -- the history is one of trees
+  pub are_of_tree : (keeps : List (List ℕ)) → AreOfMode trees (IsKept input) history → AreOf keeps (Problem.of_tree mode input) history
+  are_of_tree keeps of =
+      record {
+        legal = of.legal;
+        readable = of.readable;
+        sequential = of.sequential;
+        candidates = All-weaker (λ (r : Record). IsTextOf trees (IsKept input) r.text) (λ (r : Record). IsCandidate input r.text) (λ r one. laws.asks input r.text is one) tree_records of.candidates;
+        first = subst (λ (text : List ℕ). BeginsAt text tree_records) begins.text of.first;
+        ends_at_no = of.ends_at_no;
+      }
+
+  -- the tree is reduced to the text of the result
+  tree_reduces : (keeps : List (List ℕ)) → input.admits ≡ keeps_admit keeps → (result : StepResult) (counts : Counts) → counts ≡ ends.counts_of (trees.size trees.start) (length (trees.text trees.start)) result (length tree_records)
+      → ReducesIn trees (IsKept input) history result → ReducesFrom keeps (Problem.of_tree mode input) history result.text counts
+  tree_reduces keeps admits result counts are_counts it =
+      let V = verdict_in tree_records in
+      let well = it.ends_well (laws.lawful input is) begins.listed in
+      let end : IsEndBy (IsEditBy mode) input V T.state = laws.minimal input V T.state is well in
+      let text : result.text ≡ text_of_state input T.state = ap (λ (r : StepResult). r.text) it.is_result in
+      let candidate : IsCandidate input result.text = laws.asks input result.text is (record { state = T.state; kept = well.kept; listed = well.listed; same = text }) in
+      record {
+        first = subst (λ (start : List ℕ). FirstIs start Yes tree_records) begins.text it.first;
+        reduced =
+            record {
+              defined = it.defined;
+              interesting = it.interesting;
+              is_text = text;
+              yes_at_end = ap V text ∙ well.yes_at_end;
+              keeps_stay = sym (ap (λ (a : List ℕ → List ℕ → Bool). a candidate.kept result.text) admits) ∙ candidate.admitted;
+              candidate = candidate;
+              minimal = end.minimal;
+            };
+        is_counts = are_counts
+            ∙ ap (λ (r : StepResult). ends.counts_of (trees.size trees.start) (length (trees.text trees.start)) r (length tree_records)) it.is_result
+            ∙ ap (λ (text : List ℕ). ends.counts_of (trees.size trees.start) (length text) (result_of trees T) (length tree_records)) begins.text;
+        whole = it.whole;
+      }
+
+  -- why the tree has no reduction
+  tree_fails : (keeps : List (List ℕ)) (gate gate' journal journal' : ℕ) (fault : RunFault) → RunFailsIn trees history gate gate' journal journal' fault → RunFails keeps (Problem.of_tree mode input) history gate gate' journal journal' fault
+  tree_fails keeps gate gate' journal journal' run.NotInteresting why = (record { only = why.0; first = subst (λ (start : List ℕ). FirstIs start No tree_records) begins.text why.1; whole = why.2 }, why.3)
+  tree_fails keeps gate gate' journal journal' run.Script why = (why.0, why.1, record { waits = why.2; whole = why.3 }, why.4)
+  tree_fails keeps gate gate' journal journal' run.Journal why = why
+  tree_fails keeps gate gate' journal journal' run.Memory why = why
+
+  -- how the run of the tree ends
+  pub tree_ends : (keeps : List (List ℕ)) → input.admits ≡ keeps_admit keeps → (gate gate' journal journal' : ℕ) (result : Result Reduced RunFault) → RunEndsIn trees (IsKept input) history gate gate' journal journal' result
+      → ProblemEnds keeps (Problem.of_tree mode input) history gate gate' journal journal' result
+  tree_ends keeps admits gate gate' journal journal' (Ok reduced) came =
+      (subst (λ (text : List ℕ). ReducesFrom keeps (Problem.of_tree mode input) history text reduced.counts) (sym came.0.1) (tree_reduces keeps admits came.0.0 reduced.counts came.0.2 came.0.3), came.1)
+  tree_ends keeps admits gate gate' journal journal' (Err fault) came = tree_fails keeps gate gate' journal journal' fault came

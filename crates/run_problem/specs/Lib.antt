@@ -1,0 +1,9 @@
+pub use Rattle.keep_guard.specs.Keep
+pub use Rattle.run_gated.specs as RunGated
+pub use Rattle.reduce_core.specs as ReduceCore
+pub use Rattle.reduce_trees_input.specs.Parsed
+pub use Rattle.reduce_trees.specs as ReduceTrees
+pub mod Problem
+pub mod Walks
+pub mod Read
+pub mod Ends

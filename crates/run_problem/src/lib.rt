@@ -1,0 +1,13 @@
+//! The run of what was read: the lines of some bytes, or the tree of a text by a grammar, answered by
+//! one gate on one thread, with its journal.
+//!
+//! Enter by [`run_problem`]. Read `specs/Problem.antt` first, what is reduced and what its reduction is
+//! in any mode, and then `specs/Ends.antt`, what the history of a run is and how it ends.
+#![tactic(auto)]
+
+mod problem;
+mod run;
+
+pub use problem::ReadProblem;
+pub use reduce_step::TreeMode;
+pub use run::run_problem;

@@ -1,0 +1,187 @@
+//! The run, by the mode of what was read.
+
+ghost use Rattle.std.specs.Prelude.{◌≡◌, ◌≤◌, [], ℕ, List, true, IfOk, IfSome, length};
+ghost use Rattle.reduce_step.specs.Limits.{text_limit};
+ghost use Rattle.reduce_journal.specs.History.{records_of};
+ghost use Rattle.keep_guard.specs.Keep.{holds_all, keeps_admit};
+ghost use Rattle.grammar_tree.specs.Faults.{IsWellFormed};
+ghost use Rattle.reduce_trees_input.specs.Parsed.{tree_input};
+ghost use Rattle.reduce_trees.specs.Ends.{AdmitsStart};
+ghost use Rattle.reduce_rounds.specs.RoundsPlan.{IsStart, plan_first};
+ghost use Rattle.reduce_trees.specs.WalkMode.{walk_mode};
+ghost use Rattle.reduce_trees_mode.specs.Listed.{IsKept};
+ghost use Rattle.run_gated.specs.Records.{AreAnswers, AreOfMode};
+ghost use Rattle.run_gated.specs.RunEnds.{JournalHas, RunEndsIn};
+ghost use Rattle.run_problem.specs.Problem.{Problem};
+ghost use Rattle.run_problem.specs.Read.{IsFoundIn, IsReadAs, IsReady, start_read};
+ghost use Rattle.run_problem.specs.Ends.{AreOf, ProblemEnds};
+ghost use Rattle.run_problem.specs.Walks.{IsTreeMode};
+
+use crate::problem::ReadProblem;
+use compat_table::compat;
+use edge_io::Sink;
+use faults::Memory;
+use keep_guard::{Guard, KeepTexts};
+use reduce_core::{ends_minimal, is_by_rounds, line_reducer};
+use reduce_hdd::TreeLevels;
+use reduce_perses::TreeVisits;
+use reduce_rounds::{ReducerStep, Rounds};
+use reduce_step::{Step, TreeMode};
+use reduce_trees::{
+    HasInput, TreeParts, TreeReducer, TreeRound, hdd_reducer, perses_reducer, walks_are_lawful,
+    walks_ask_candidates, walks_begin, walks_end_minimal,
+};
+use reduce_trees_input::ParsedInput;
+use reduce_walk::TreeWalk;
+use run_gated::{Ran, RunFault, run_to_text};
+use script_gate_trait::Gate;
+use std::alloc::Global;
+
+/// The text that the lines of a start reduce to.
+fn lines_result<G: Gate, J: Sink + Drop>(
+    alloc: Global,
+    start: &[u8],
+    guard: &Guard<KeepTexts<'_>>,
+    gate: &mut G,
+    journal: J,
+) -> Ran<J>
+    requires few { length start.now ≤ text_limit }
+    requires kept { holds_all guard.now start.now ≡ true }
+    requires empty { IfSome (J.put_so_far journal) (λ put. put.bytes ≡ []) }
+    ensures answers { AreAnswers G.may_say (G.log gate.old) (G.log gate.new) (records_of result.events.items) }
+    ensures of_problem { AreOf guard.now (Problem.of_lines start.now) result.events.items }
+    ensures ends { ProblemEnds guard.now (Problem.of_lines start.now) result.events.items (G.faults gate.old) (G.faults gate.new) (J.faults journal) (J.faults result.journal) result.outcome }
+    ensures journal { JournalHas result.events.items (J.put_so_far journal) (J.put_so_far result.journal) (J.faults journal) (J.faults result.journal) result.outcome }
+{
+    is_by_rounds();
+    ends_minimal();
+    match line_reducer(alloc, start, guard) {
+        Ok(reducer) => run_to_text(alloc, reducer, gate, journal),
+        Err(_) => Ran::refused(alloc, journal, RunFault::Memory),
+    }
+}
+
+/// The parts of a reduction of trees: what was found, the table of its symbols, and the guard.
+fn tree_parts<'a>(
+    alloc: Global,
+    found: ParsedInput,
+    guard: Guard<KeepTexts<'a>>,
+    squeezes: bool,
+) -> Result<TreeParts<KeepTexts<'a>>, Memory>
+    requires { IsFoundIn found }
+    ensures { IfOk result (λ parts. (formed : IsWellFormed found.lexer.grammar found.lexer.start)
+        → ⟦<TreeParts<KeepTexts<'a>> as HasInput>⟧.input parts ≡ tree_input found formed (keeps_admit guard.entry) squeezes) }
+{
+    let compat = compat(alloc, found.tree.normal())?;
+    let ParsedInput {
+        text,
+        tokens,
+        lexer,
+        tree,
+    } = found;
+    Ok(TreeParts::new(text, tokens, lexer, compat, tree, guard, squeezes))
+}
+
+/// What holds of reductions of trees in the mode of a walk. It does nothing: a caller calls it so that
+/// its proof knows.
+fn walk_laws<W: TreeWalk>()
+    ensures { IsTreeMode W.round W.IsEdit }
+{
+    walks_begin::<W>();
+    walks_ask_candidates::<W>();
+    walks_are_lawful::<W>();
+    walks_end_minimal::<W>();
+}
+
+/// The text that a tree reduces to, by a reducer of it in the mode of a walk.
+fn walk_result<'p, 'a, W: TreeWalk + Drop, G: Gate, J: Sink + Drop>(
+    alloc: Global,
+    parts: &'p TreeParts<KeepTexts<'a>>,
+    reducer: TreeReducer<'p, KeepTexts<'a>, W>,
+    gate: &mut G,
+    journal: J,
+) -> Ran<J>
+    requires kept { AdmitsStart (⟦<TreeParts<KeepTexts<'a>> as HasInput>⟧.input parts.now) }
+    requires plan { ⟦<Rounds<TreeRound<'p, KeepTexts<'a>, W>> as Step>⟧.plan reducer ≡ plan_first (walk_mode W.round (⟦<TreeParts<KeepTexts<'a>> as HasInput>⟧.input parts.now)) }
+    requires first { ⟦<Rounds<TreeRound<'p, KeepTexts<'a>, W>> as Step>⟧.first reducer ≡ plan_first (walk_mode W.round (⟦<TreeParts<KeepTexts<'a>> as HasInput>⟧.input parts.now)) }
+    requires start { IsStart (walk_mode W.round (⟦<TreeParts<KeepTexts<'a>> as HasInput>⟧.input parts.now)) (⟦<Rounds<TreeRound<'p, KeepTexts<'a>, W>> as ReducerStep>⟧.so_far reducer) }
+    requires empty { IfSome (J.put_so_far journal) (λ put. put.bytes ≡ []) }
+    ensures answers { AreAnswers G.may_say (G.log gate.old) (G.log gate.new) (records_of result.events.items) }
+    ensures of_mode { AreOfMode (walk_mode W.round (⟦<TreeParts<KeepTexts<'a>> as HasInput>⟧.input parts.now)) (IsKept (⟦<TreeParts<KeepTexts<'a>> as HasInput>⟧.input parts.now)) result.events.items }
+    ensures ends { RunEndsIn (walk_mode W.round (⟦<TreeParts<KeepTexts<'a>> as HasInput>⟧.input parts.now)) (IsKept (⟦<TreeParts<KeepTexts<'a>> as HasInput>⟧.input parts.now)) result.events.items (G.faults gate.old) (G.faults gate.new) (J.faults journal) (J.faults result.journal) result.outcome }
+    ensures journal { JournalHas result.events.items (J.put_so_far journal) (J.put_so_far result.journal) (J.faults journal) (J.faults result.journal) result.outcome }
+{
+    walk_laws::<W>();
+    parts.is_input();
+    run_to_text(alloc, reducer, gate, journal)
+}
+
+/// The text that the tree of an input reduces to, in this mode.
+fn tree_result<'a, G: Gate, J: Sink + Drop>(
+    alloc: Global,
+    mode: TreeMode,
+    parts: &TreeParts<KeepTexts<'a>>,
+    gate: &mut G,
+    journal: J,
+) -> Ran<J>
+    requires kept { AdmitsStart (⟦<TreeParts<KeepTexts<'a>> as HasInput>⟧.input parts.now) }
+    requires empty { IfSome (J.put_so_far journal) (λ put. put.bytes ≡ []) }
+    ensures answers { AreAnswers G.may_say (G.log gate.old) (G.log gate.new) (records_of result.events.items) }
+    ensures of_problem { (keeps : List (List ℕ)) → AreOf keeps (Problem.of_tree mode (⟦<TreeParts<KeepTexts<'a>> as HasInput>⟧.input parts.now)) result.events.items }
+    ensures ends { (keeps : List (List ℕ)) → (⟦<TreeParts<KeepTexts<'a>> as HasInput>⟧.input parts.now).admits ≡ keeps_admit keeps
+        → ProblemEnds keeps (Problem.of_tree mode (⟦<TreeParts<KeepTexts<'a>> as HasInput>⟧.input parts.now)) result.events.items (G.faults gate.old) (G.faults gate.new) (J.faults journal) (J.faults result.journal) result.outcome }
+    ensures journal { JournalHas result.events.items (J.put_so_far journal) (J.put_so_far result.journal) (J.faults journal) (J.faults result.journal) result.outcome }
+{
+    parts.is_input();
+    match mode {
+        TreeMode::Perses => {
+            walk_laws::<TreeVisits>();
+            match perses_reducer(alloc, parts) {
+                Ok(reducer) => walk_result(alloc, parts, reducer, gate, journal),
+                Err(_) => Ran::refused(alloc, journal, RunFault::Memory),
+            }
+        }
+        TreeMode::Hdd => {
+            walk_laws::<TreeLevels>();
+            match hdd_reducer(alloc, parts) {
+                Ok(reducer) => walk_result(alloc, parts, reducer, gate, journal),
+                Err(_) => Ran::refused(alloc, journal, RunFault::Memory),
+            }
+        }
+    }
+}
+
+/// Reduces what was read, each keep text of which occurs in its text: the gate is asked once for each
+/// text, the history is written into the journal, and the text that it reduces to is given, with what the
+/// report says. A start whose verdict is no ends the run at once.
+///
+/// Beside what the gate takes, an answer costs what the reducer of the mode says.
+pub fn run_problem<G: Gate, J: Sink + Drop>(
+    alloc: Global,
+    problem: ReadProblem,
+    guard: Guard<KeepTexts<'_>>,
+    gate: &mut G,
+    journal: J,
+) -> Ran<J>
+    requires ready { IsReady problem }
+    requires kept { holds_all guard (start_read problem) ≡ true }
+    requires empty { IfSome (J.put_so_far journal) (λ put. put.bytes ≡ []) }
+    ensures answers { AreAnswers G.may_say (G.log gate.old) (G.log gate.new) (records_of result.events.items) }
+    ensures of_problem { (one : Problem) → IsReadAs guard.entry problem one → AreOf guard.entry one result.events.items }
+    ensures ends { (one : Problem) → IsReadAs guard.entry problem one → ProblemEnds guard.entry one result.events.items (G.faults gate.old) (G.faults gate.new) (J.faults journal) (J.faults result.journal) result.outcome }
+    ensures journal { JournalHas result.events.items (J.put_so_far journal) (J.put_so_far result.journal) (J.faults journal) (J.faults result.journal) result.outcome }
+{
+    match problem {
+        ReadProblem::Lines(start) => lines_result(alloc, &start, &guard, gate, journal),
+        ReadProblem::Tree {
+            found,
+            mode,
+            squeeze,
+        } => {
+            match tree_parts(alloc, found, guard, squeeze) {
+                Ok(parts) => tree_result(alloc, mode, &parts, gate, journal),
+                Err(_) => Ran::refused(alloc, journal, RunFault::Memory),
+            }
+        }
+    }
+}

@@ -1,0 +1,72 @@
+-- How a run ends.
+use Rattle.std.proofs.Common.{◌≡◌, ◌++◌, ℕ, List, [], ◌∷◌, All, Option, Some, None, option_map, arith, refl, sym, subst}
+use Rattle.std.proofs.lemmas.Grind.{common_steps}
+use Rattle.std.proofs.lemmas.List.Elements.{All-cons, All-head, All-nil, All-tail}
+use Rattle.std.specs.List.{IsDistinct}
+use Rattle.edge_io.specs.Sink.{Put}
+use Rattle.script_gate_trait.specs.declared.gate.Verdict.{Verdict}
+use Rattle.script_gate_trait.specs.declared.log.Log.{Log}
+use Rattle.verdict_table.specs.declared.record.Record.{Record}
+use Rattle.reduce_step.specs.Plan.{HasEnded, MayAsk, Plan}
+use Rattle.verdict_table.specs.TableState.{claimed_texts, texts_of}
+use Rattle.reduce_journal.specs.History.{History, records_of}
+use Rattle.ordered_commit_moves.specs.Replay.{replay}
+use Rattle.ordered_commit.specs.declared.fault.PoolFault.{PoolFault}
+use Rattle.ordered_commit.specs.declared.fault.BoardFault.{BoardFault}
+use Rattle.ordered_commit.specs.declared.fault.BoardFault.TheVariants as board
+use Rattle.ordered_commit.specs.declared.seat.Seat.{Seat}
+use Rattle.ordered_commit.specs.BoardState.{BoardState}
+use Rattle.ordered_commit.specs.Faults.{board_fault}
+use Rattle.ordered_commit.specs.Kept.{IsKept}
+use Rattle.run_worker.specs.RunHistory.{IsHistoryOf, IsSequential, own_history, with_all_asked}
+use Rattle.run_worker.specs.RunEnds.{ReducerEnds}
+use Rattle.run_worker.specs.UnderWay.{IsUnderWay, Moment}
+use Rattle.run_worker.proofs.BeginLemmas.{is_sequential, reducer_ends}
+
+pub none_asked : (o : Option Log) → o ≡ option_map (with_all_asked []) o
+none_asked None = refl
+none_asked (Some log) = grind (arith, common_steps)
+
+-- of the texts that a table has, those of its records
+records_may : (first : Plan) (rs : List Record) (others : List (List ℕ)) → All (MayAsk first) (texts_of rs ++ others) → All (λ (r : Record). MayAsk first r.text) rs
+records_may first [] others all = All-nil (λ (r : Record). MayAsk first r.text)
+records_may first (r ∷ rs) others all =
+    All-cons (λ (q : Record). MayAsk first q.text) r rs (All-head (MayAsk first) r.text (texts_of rs ++ others) all) (records_may first rs others (All-tail (MayAsk first) r.text (texts_of rs ++ others) all))
+
+-- what a board keeps is what a run's history is
+pub kept_history : {S J : Type 0} (plan first : S → Plan) (may_say : List ℕ → Verdict → Type 0) (put : J → Option Put) (faults : J → ℕ) (state : BoardState S J) (start : Plan) → IsKept plan first may_say put faults state → first state.front ≡ start
+    → IsHistoryOf may_say start state.history
+kept_history plan first may_say put faults state start kept same =
+    let recorded = kept.recorded in
+    subst (λ (p : Plan). IsHistoryOf may_say p state.history) same (record {
+      legal = recorded.legal;
+      readable = recorded.readable;
+      said = subst (λ (rs : List Record). All (λ (r : Record). may_say r.text r.verdict) rs) recorded.recorded recorded.said;
+      may_ask = subst (λ (rs : List Record). All (λ (r : Record). MayAsk (first state.front) r.text) rs) recorded.recorded (records_may (first state.front) state.table.records (claimed_texts state.table.claims) recorded.may_ask);
+    })
+
+-- where it stops, the history is what one thread does, and the reducer has ended or waits
+pub came : (start now : Moment) (seat : Seat) → IsUnderWay start now seat → (now.fault ≡ None → HasEnded now.plan) → IsSequential now.fault start.first now.history × ReducerEnds now.fault start.first now.plan (records_of now.history)
+came start now seat way over =
+    let ended : now.fault ≡ None → HasEnded (replay start.first now.history) = λ none. subst HasEnded (way.replayed none) (over none) in (
+      is_sequential start.first now.history way.distinct now.fault way.goes_on ended way.waits,
+      reducer_ends start.first now.history way.distinct now.fault now.plan way.leads_on way.replayed ended way.waits,
+    )
+
+-- without a board there is no history
+pub none_history : (may_say : List ℕ → Verdict → Type 0) (first : Plan) (history : History) → history ≡ [] → IsHistoryOf may_say first history
+unfolding IsDistinct
+none_history may_say first history none = subst (IsHistoryOf may_say first) (sym none) (record {
+  legal = record { distinct = tt; commits = tt };
+  readable = tt;
+  said = All-nil (λ (r : Record). may_say r.text r.verdict);
+  may_ask = All-nil (λ (r : Record). MayAsk first r.text);
+})
+
+begins_whole : (fault : BoardFault) (first : Plan) → IsSequential (Some (board_fault fault)) first []
+begins_whole board.Journal first = (own_history first [], refl)
+begins_whole board.Memory first = (own_history first [], refl)
+
+pub none_sequential : (fault : BoardFault) (first : Plan) (kept : Option PoolFault) (history : History) → kept ≡ Some (board_fault fault) → history ≡ [] → IsSequential kept first history
+none_sequential fault first kept history is none =
+    subst (λ (f : Option PoolFault). IsSequential f first history) (sym is) (subst (IsSequential (Some (board_fault fault)) first) (sym none) (begins_whole fault first))

@@ -1,0 +1,72 @@
+-- How a run ends, by the fault that ended it, if one did.
+use Rattle.std.specs.Prelude.{◌≡◌, ◌⊎◌, ◌++◌, ◌∷◌, ℕ, List, [], Option, Some, None, IfSome, IsSome, option_map, take}
+use Rattle.faults.specs.Count.{Rose}
+use Rattle.edge_io.specs.Sink.{GrewByPrefix, Put, with_piece}
+use Rattle.script_gate_trait.specs.declared.gate.Verdict.{Verdict}
+use Rattle.verdict_table.specs.declared.record.Record.{Record}
+use Rattle.reduce_step.specs.Plan.{HasEnded, Plan, asked, follow}
+use Rattle.verdict_table.specs.TableState.{verdict_in}
+use Rattle.reduce_journal.specs.declared.event.Event.TheVariants.{Recorded, Committed}
+use Rattle.reduce_journal.specs.History.{History, records_of}
+use Rattle.reduce_journal.specs.Journal.{event_text, head, journal_text}
+use Rattle.ordered_commit_moves.specs.Replay.{record_at}
+use Rattle.ordered_commit.specs.declared.fault.PoolFault.{PoolFault}
+use Rattle.ordered_commit.specs.declared.fault.PoolFault.TheVariants.{Script, Journal, Memory}
+
+-- Without a fault the reducer has ended, where its records lead it. Where the gate failed it asks a text that has no record.
+abbrev pub ReducerEnds : Option PoolFault → Plan → Plan → List Record → Type 0
+ReducerEnds None first plan records = HasEnded plan × (plan ≡ follow (verdict_in records) first)
+ReducerEnds (Some (Script worker)) first plan records = IsSome (asked (follow (verdict_in records) first))
+ReducerEnds (Some Journal) first plan records = Unit {0}
+ReducerEnds (Some Memory) first plan records = Unit {0}
+
+-- A call of the gate failed, a put into the journal, or neither did: the counts before and after, of the gate and of the journal.
+abbrev pub IsCaused : Option PoolFault → ℕ → ℕ → ℕ → ℕ → Type 0
+IsCaused None gate gate' journal journal' = (gate' ≡ gate) × (journal' ≡ journal)
+IsCaused (Some (Script worker)) gate gate' journal journal' = (worker ≡ 1) × Rose gate gate' × (journal' ≡ journal)
+IsCaused (Some Journal) gate gate' journal journal' = (gate' ≡ gate) × Rose journal journal'
+IsCaused (Some Memory) gate gate' journal journal' = (gate' ≡ gate) × (journal' ≡ journal)
+
+-- the journal's bytes are those of the history, after what was put before, where that is visible
+abbrev pub HasWritten : History → Option Put → Option Put → Type 0
+HasWritten history old new = new ≡ option_map (with_piece (journal_text history)) old
+
+-- nothing was written, and there is no history
+abbrev pub HasNothing : History → Option Put → Option Put → Type 0
+HasNothing history old new = (history ≡ []) × (new ≡ old)
+
+-- the name is the one that it had
+abbrev pub HasSameName : Option Put → Option Put → Type 0
+HasSameName old new = option_map (λ put. put.name) new ≡ option_map (λ put. put.name) old
+
+-- A put of the last record failed: the events before it are written, and a part of it.
+pub record BrokeInRecord (history : History) (bytes : List ℕ) : Type 0 where
+  pub before : History
+  pub text : List ℕ
+  pub verdict : Verdict
+  pub last : history ≡ before ++ Recorded text verdict ∷ []
+  pub part : ℕ
+  pub written : bytes ≡ journal_text before ++ take part (event_text (Recorded text verdict))
+
+-- The put of a commit failed, which isn't made then: the whole history is written, and a part of that commit.
+pub record BrokeInCommit (history : History) (bytes : List ℕ) : Type 0 where
+  pub number : ℕ
+  pub of_record : IsSome (record_at number (records_of history))
+  pub part : ℕ
+  pub written : bytes ≡ journal_text history ++ take part (event_text (Committed number))
+
+-- it broke off in the last record, or in a commit that would come next
+abbrev pub BrokeAtEnd : History → List ℕ → Type 0
+BrokeAtEnd history bytes = BrokeInRecord history bytes ⊎ BrokeInCommit history bytes
+
+-- it broke off, in its first line, in the last record, or in a commit that would come next
+abbrev pub HasPart : History → Option Put → Option Put → Type 0
+HasPart history old new =
+    HasSameName old new × (((history ≡ []) × GrewByPrefix head old new) ⊎ IfSome new (λ put. BrokeAtEnd history put.bytes))
+
+-- What the journal has, by the fault.
+abbrev pub JournalEnds : Option PoolFault → History → Option Put → Option Put → Type 0
+JournalEnds None history old new = HasWritten history old new
+JournalEnds (Some (Script worker)) history old new = HasWritten history old new
+JournalEnds (Some Journal) history old new = HasPart history old new
+JournalEnds (Some Memory) history old new = HasWritten history old new ⊎ HasNothing history old new

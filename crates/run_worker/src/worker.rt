@@ -1,0 +1,103 @@
+//! The run.
+
+ghost use Rattle.std.specs.Prelude.{◌≡◌, [], IfSome, Some, option_map};
+ghost use Rattle.verdict_table.specs.TableState.{texts_of};
+ghost use Rattle.reduce_journal.specs.History.{records_of};
+ghost use Rattle.reduce_journal.specs.Journal.{journal_text};
+ghost use Rattle.ordered_commit.specs.Faults.{board_fault};
+ghost use Rattle.ordered_commit.specs.Made.{new_board};
+ghost use Rattle.ordered_commit.specs.Seats.{new_seats};
+ghost use Rattle.ordered_commit.specs.Writes.{HasSameName};
+ghost use Rattle.run_worker.specs.RunHistory.{BeginsWith, EndsAtFirst, IsHistoryOf, IsSequential, with_all_asked};
+ghost use Rattle.run_worker.specs.RunEnds.{IsCaused, JournalEnds, ReducerEnds};
+ghost use Rattle.run_worker.specs.UnderWay.{AreJournalBytes};
+
+use crate::turns::turn;
+use edge_io::Sink;
+use ordered_commit::{Board, Outcome, Refused, Seat};
+use reduce_step::Step;
+use script_gate_trait::Gate;
+use std::alloc::Global;
+
+/// What there is where there was no board.
+fn without_board<S, J>(alloc: Global, refused: Refused<S, J>) -> Outcome<S, J>
+    ensures front { result.front ≡ refused.front }
+    ensures journal { result.journal ≡ refused.journal }
+    ensures events { result.events.items ≡ [] }
+    ensures fault { result.fault ≡ Some (board_fault refused.fault) }
+{
+    let Refused {
+        front,
+        journal,
+        fault,
+    } = refused;
+    Outcome {
+        front,
+        journal,
+        events: Vec::new(alloc),
+        fault: Some(fault.into()),
+    }
+}
+
+/// Works on a new board until nothing is left to do.
+fn work<S: Step + Drop, G: Gate, J: Sink + Drop>(
+    board: Board<S, G, J>,
+    seats: Vec<Seat>,
+    gate: &mut G,
+) -> Outcome<S, J>
+    requires new { board ≡ new_board 1 board.front board.journal }
+    requires seats { seats.items ≡ new_seats 1 }
+    requires first { S.first board.front ≡ S.plan board.front }
+    requires head { IfSome (J.put_so_far board.journal) (λ put. put.bytes ≡ journal_text []) }
+    ensures history { IsHistoryOf G.may_say (S.first board.front) result.events.items }
+    ensures sequential { IsSequential result.fault (S.first board.front) result.events.items }
+    ensures begun { BeginsWith (S.first board.front) (records_of result.events.items) }
+    ensures one { EndsAtFirst (S.first board.front) (records_of result.events.items) }
+    ensures asked { G.log gate.new ≡ option_map (with_all_asked (texts_of (records_of result.events.items))) (G.log gate.old) }
+    ensures first { S.first result.front ≡ S.first board.front }
+    ensures ended { ReducerEnds result.fault (S.first board.front) (S.plan result.front) (records_of result.events.items) }
+    ensures caused { IsCaused result.fault (G.faults gate.old) (G.faults gate.new) (J.faults board.journal) (J.faults result.journal) }
+    ensures journal { IfSome (J.put_so_far result.journal) (λ put. AreJournalBytes result.fault result.events.items put.bytes) }
+    ensures name { HasSameName J.put_so_far board.journal result.journal }
+{
+    let mut board = board;
+    let mut seats = seats;
+    let mut seat = seats[0];
+    while turn(&mut board, &mut seat, gate) {}
+    seats[0] = seat;
+    board.end(seats)
+}
+
+/// Asks the gate for what the reducer asks, once for each text, until it asks nothing more, and writes the
+/// history into the journal as it comes: a verdict when it comes, and an answer before the reducer is given
+/// it. A fault ends the run at once, and is in the outcome.
+///
+/// Beside the answers of the reducer and of the gate, an answer costs a look into the table, which is a
+/// search of its records and a copy of the text.
+pub fn run<S: Step + Drop, G: Gate, J: Sink + Drop>(
+    alloc: Global,
+    front: S,
+    gate: &mut G,
+    journal: J,
+) -> Outcome<S, J>
+    requires new { S.first front ≡ S.plan front }
+    requires empty { IfSome (J.put_so_far journal) (λ put. put.bytes ≡ []) }
+
+    // The history and its records, whatever ended the run.
+    ensures history { IsHistoryOf G.may_say (S.first front) result.events.items }
+    ensures sequential { IsSequential result.fault (S.first front) result.events.items }
+    ensures begun { BeginsWith (S.first front) (records_of result.events.items) }
+    ensures one { EndsAtFirst (S.first front) (records_of result.events.items) }
+    ensures asked { G.log gate.new ≡ option_map (with_all_asked (texts_of (records_of result.events.items))) (G.log gate.old) }
+
+    // The end, by the fault.
+    ensures first { S.first result.front ≡ S.first front }
+    ensures ended { ReducerEnds result.fault (S.first front) (S.plan result.front) (records_of result.events.items) }
+    ensures caused { IsCaused result.fault (G.faults gate.old) (G.faults gate.new) (J.faults journal) (J.faults result.journal) }
+    ensures journal { JournalEnds result.fault result.events.items (J.put_so_far journal) (J.put_so_far result.journal) }
+{
+    match Board::<S, G, J>::new(alloc, front, journal, 1) {
+        Err(refused) => without_board(alloc, refused),
+        Ok((board, seats)) => work(board, seats, gate),
+    }
+}

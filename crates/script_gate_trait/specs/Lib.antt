@@ -1,0 +1,4 @@
+pub use Rattle.faults.specs.Count
+pub mod Listed
+pub mod Rule
+pub mod Log

@@ -1,5 +1,0 @@
-use Rattle.span_chart.proofs.FirstRows.{AreFirstClosed}
-use Rattle.span_chart.proofs.firsts.are_closed.Given as goal
-
-abbrev pub invariant-loop-number : goal.invariant-loop-number
-invariant-loop-number l = AreFirstClosed l.normal l.rows l.number

@@ -1,5 +1,0 @@
-use Rattle.span_chart.proofs.Greatest.{last_turned}
-use Rattle.span_chart.proofs.positions.last_common.Goals as goal
-
-pub returns-then-positions-others : goal.returns-then-positions-others
-returns-then-positions-others c = last_turned c.args.positions.now c.args.others.now c.last_of.result c.last_of.ensures

@@ -1,5 +1,0 @@
-use Rattle.span_chart.proofs.Lent.{AreFirst}
-use Rattle.span_chart.proofs.positions.positions_to.Given as goal
-
-abbrev pub invariant-loop-position : goal.invariant-loop-position
-invariant-loop-position l = AreFirst l.position l.positions.items

@@ -1,7 +1,0 @@
-use Rattle.std.proofs.Common.{◌≡◌}
-use Rattle.std.specs.List.{All}
-use Rattle.span_chart.specs.Working.{IsWork}
-use Rattle.span_chart.proofs.work.work_out.Given as goal
-
-abbrev pub invariant-loop : goal.invariant-loop
-invariant-loop l = (l.chart ≡ l.fn.chart) × All (IsWork l.chart.normal l.chart.kinds) l.stack.items

@@ -1,0 +1,17 @@
+pub mod Rising
+pub mod LeftTrees
+pub mod EditedTrees
+pub mod Deletions
+pub mod Spans
+pub mod CutEdits
+pub mod Splits
+pub mod CutFacts
+pub mod Positions
+pub mod CutCalls
+pub mod Ways
+pub mod Seen
+pub mod Questions
+pub mod TreesAfter
+pub mod Keeping
+pub mod WithoutNodes
+pub mod Dropping

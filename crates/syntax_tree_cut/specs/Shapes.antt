@@ -1,0 +1,34 @@
+-- What nodes are by their rules.
+use Rattle.std.specs.Prelude.{ℕ, Option, Some, None, slice_get}
+use Rattle.std.specs.Option.{option_map}
+use Rattle.normal_form.specs.declared.normal.Sym.{Sym}
+use Rattle.normal_form.specs.declared.normal.Sym.TheVariants.{Kind, Set, Rule}
+use Rattle.normal_form.specs.Form.{RuleForm, NormalForm}
+use Rattle.syntax_tree.specs.Trees.{PlainTree, symbol_of}
+use Rattle.syntax_tree_cut.specs.declared.shape.Shape.{Shape}
+use Rattle.syntax_tree_cut.specs.declared.shape.Shape.TheVariants.{Leaf, Star, Plus, Optional, Regular}
+
+abbrev pub shape_of_form : RuleForm → Shape
+shape_of_form (RuleForm.regular alternatives) = Regular
+shape_of_form (RuleForm.star s) = Star
+shape_of_form (RuleForm.plus s) = Plus
+shape_of_form (RuleForm.opt s) = Optional
+
+-- the shape of the nodes with this symbol: a kind's are leaves, a rule's have that of the rule, if there is such a rule
+abbrev pub shape_of_symbol : NormalForm → Sym → Option Shape
+shape_of_symbol N (Kind k) = Some Leaf
+shape_of_symbol N (Set g) = Some Leaf
+shape_of_symbol N (Rule r) = option_map shape_of_form (slice_get N.rules r)
+
+-- the shape of the tree's root
+abbrev pub shape_of : NormalForm → PlainTree → Option Shape
+shape_of N t = shape_of_symbol N (symbol_of t)
+
+-- how many elements a list has at least of which one can be deleted
+abbrev pub fewest_of : Option Shape → Option ℕ
+fewest_of None = None
+fewest_of (Some Leaf) = None
+fewest_of (Some Star) = Some 1
+fewest_of (Some Plus) = Some 2
+fewest_of (Some Optional) = None
+fewest_of (Some Regular) = None

@@ -1,9 +1,0 @@
-use Rattle.std.proofs.Common.{sym, ap}
-use Rattle.term_rules.specs.Terms.{suffix_form}
-use Rattle.term_rules.proofs.rules.suffix_rule.Goals as goal
-
-pub returns-in-Question : goal.returns-in-Question
-returns-in-Question c = sym (ap (λ s. suffix_form s c.args.symbol) c.in-Question.is)
-
-pub returns-in-Star : goal.returns-in-Star
-returns-in-Star c = sym (ap (λ s. suffix_form s c.args.symbol) c.in-Star.is)

@@ -1,0 +1,163 @@
+//! Files in memory and on the machine.
+
+use super::held::holds;
+use super::machine::SlowMachine;
+use edge_io::{DiskFiles, FileFault, Files, MemFiles, WriteFault};
+use std::alloc::Global;
+use std::fs;
+use std::test::Fail;
+
+/// A call of files, with the answer that is wanted.
+#[derive(Clone, Copy)]
+enum Call {
+    Read(&'static str, u64, Result<&'static str, FileFault>),
+    Write(&'static str, &'static str, Result<(), WriteFault>),
+}
+
+fn is_read(read: &Result<Vec<u8>, FileFault>, wanted: Result<&str, FileFault>) -> bool {
+    match (read, wanted) {
+        (Ok(bytes), Ok(text)) => bytes.as_slice() == text.as_bytes(),
+        (Err(fault), Err(other)) => *fault == other,
+        _ => false,
+    }
+}
+
+fn is_answered<F: Files>(files: &mut F, call: Call) -> bool {
+    match call {
+        Call::Read(name, limit, wanted) => is_read(&files.read(name, limit), wanted),
+        Call::Write(name, text, wanted) => files.write(name, text.as_bytes()) == wanted,
+    }
+}
+
+/// The number, from 0, of the first call that isn't answered so.
+fn first_other<F: Files>(files: &mut F, calls: &[Call]) -> Option<usize> {
+    for (number, call) in calls.iter().enumerate() {
+        if !is_answered(files, *call) {
+            return Some(number);
+        }
+    }
+    None
+}
+
+/// Files in memory, what they are asked, and what they then hold, where they are there.
+#[derive(Clone, Copy)]
+struct Case {
+    entries: &'static [(&'static str, &'static str)],
+    /// The numbers of the calls that fail, from 1.
+    failing: &'static [u64],
+    calls: &'static [Call],
+    faults: u64,
+    contents: &'static [(&'static str, Option<&'static str>)],
+}
+
+/// Reads and writes of whole files, and calls that are made to fail.
+const CASES: [Case; 2] = [
+    Case {
+        entries: &[("a", "first"), ("b", ""), ("a", "second"), ("k", "kept")],
+        failing: &[],
+        calls: &[
+            Call::Read("a", 5, Ok("first")),
+            Call::Read("b", 0, Ok("")),
+            Call::Read("a", 4, Err(FileFault::TooLong)),
+            Call::Read("c", 5, Err(FileFault::Failed)),
+            Call::Write("a", "new", Ok(())),
+            Call::Write("c", "", Ok(())),
+        ],
+        faults: 1,
+        contents: &[
+            ("a", Some("new")),
+            ("b", Some("")),
+            ("c", Some("")),
+            ("d", None),
+            ("k", Some("kept")),
+        ],
+    },
+    Case {
+        entries: &[("a", "old")],
+        failing: &[2, 3],
+        calls: &[
+            Call::Read("a", 3, Ok("old")),
+            Call::Read("a", 3, Err(FileFault::Failed)),
+            Call::Write("a", "new", Err(WriteFault::Failed)),
+            Call::Read("a", 3, Ok("old")),
+        ],
+        faults: 2,
+        contents: &[("a", Some("old"))],
+    },
+];
+
+fn files_of(alloc: Global, case: &Case) -> Result<MemFiles, Fail> {
+    let mut held = Vec::new(alloc);
+    for (name, text) in case.entries {
+        held.push((
+            String::from_str(alloc, name)?,
+            Vec::from_slice(alloc, text.as_bytes())?,
+        ))?;
+    }
+    Ok(MemFiles::new(alloc, held, Vec::from_slice(alloc, case.failing)?))
+}
+
+/// Whether the files of these names hold these texts, or are missing.
+fn has(files: &MemFiles, contents: &[(&str, Option<&str>)]) -> bool {
+    for (name, text) in contents {
+        if files.content(name) != text.map(str::as_bytes) {
+            return false;
+        }
+    }
+    true
+}
+
+/// The number, from 0, of the first case that isn't so.
+fn first_other_case(alloc: Global, cases: &[Case]) -> Result<Option<usize>, Fail> {
+    for (number, case) in cases.iter().enumerate() {
+        let mut files = files_of(alloc, case)?;
+        if first_other(&mut files, case.calls).is_some()
+            || files.faults() != case.faults
+            || !has(&files, case.contents)
+        {
+            return Ok(Some(number));
+        }
+    }
+    Ok(None)
+}
+
+#[test]
+fn files_in_memory_answer_and_hold_what_they_are_asked_for(rt: HostRuntime) -> Result<(), Fail> {
+    assert_eq!(rt; first_other_case(rt.alloc(), &CASES)?, None);
+    Ok(())
+}
+
+/// Every write of a full device fails that has a byte.
+const ON_THE_MACHINE: [Call; 8] = [
+    Call::Write("files/file", "old and long", Ok(())),
+    Call::Write("files/file", "written", Ok(())),
+    Call::Read("files/file", 7, Ok("written")),
+    Call::Read("files/file", 6, Err(FileFault::TooLong)),
+    Call::Read("files/missing", 7, Err(FileFault::Failed)),
+    Call::Write("files/missing/below", "lost", Err(WriteFault::Failed)),
+    Call::Write("/dev/full", "", Ok(())),
+    Call::Write("/dev/full", "x", Err(WriteFault::Failed)),
+];
+
+const SLOWLY: [Call; 1] = [Call::Write("files/slow", "written whole", Ok(()))];
+
+fn other_on_disk(rt: HostRuntime) -> Option<usize> {
+    let alloc = rt.alloc();
+    first_other(&mut DiskFiles::new(rt, alloc), &ON_THE_MACHINE)
+}
+
+fn other_slowly(rt: HostRuntime) -> Option<usize> {
+    let alloc = rt.alloc();
+    first_other(&mut DiskFiles::new(SlowMachine::new(rt), alloc), &SLOWLY)
+}
+
+#[test]
+fn the_machine_reads_and_writes_whole_files(rt: HostRuntime) -> Result<(), Fail> {
+    fs::create_dir_all(&rt, "files")?;
+    let others = (other_on_disk(rt.clone()?), other_slowly(rt.clone()?));
+    let held = holds(&rt, "files/file", "written") && holds(&rt, "files/slow", "written whole");
+    fs::remove_dir_all(&rt, "files")?;
+    assert_eq!(rt; others, (None, None));
+    assert!(rt; held);
+    Ok(())
+}

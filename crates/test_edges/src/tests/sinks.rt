@@ -1,0 +1,162 @@
+//! Sinks in memory and on the machine.
+
+use super::held::holds;
+use super::machine::SlowMachine;
+use edge_io::{MemSink, NullSink, OpenFault, Sink, SinkFault, StreamSink};
+use std::alloc::Global;
+use std::fs;
+use std::test::Fail;
+
+/// A call of a sink, with the answer that is wanted.
+#[derive(Clone, Copy)]
+enum Call {
+    Open(&'static str, Result<(), OpenFault>),
+    Put(&'static str, Result<(), SinkFault>),
+}
+
+/// The number, from 0, of the first call that isn't answered so. The bound `Send` shows that each
+/// sink may go to a thread.
+fn first_other<S: Sink + Send>(sink: &mut S, calls: &[Call]) -> Option<usize> {
+    for (number, call) in calls.iter().enumerate() {
+        let is_answered = match *call {
+            Call::Open(name, wanted) => sink.open(name) == wanted,
+            Call::Put(piece, wanted) => sink.put(piece.as_bytes()) == wanted,
+        };
+        if !is_answered {
+            return Some(number);
+        }
+    }
+    None
+}
+
+/// Calls of a sink in memory, and the bytes, the name and the number of faults that they leave.
+#[derive(Clone, Copy)]
+struct Step {
+    calls: &'static [Call],
+    text: &'static str,
+    name: &'static str,
+    faults: u64,
+}
+
+/// A sink in memory takes pieces while they fit.
+const FITTING: [Step; 3] = [
+    Step {
+        calls: &[
+            Call::Put("abc", Ok(())),
+            Call::Put("de", Err(SinkFault::Failed)),
+            Call::Put("d", Ok(())),
+            Call::Put("", Ok(())),
+            Call::Put("e", Err(SinkFault::Failed)),
+        ],
+        text: "abcd",
+        name: "",
+        faults: 2,
+    },
+    Step {
+        calls: &[Call::Open("next", Ok(()))],
+        text: "",
+        name: "next",
+        faults: 2,
+    },
+    Step {
+        calls: &[Call::Put("efgh", Ok(()))],
+        text: "efgh",
+        name: "next",
+        faults: 2,
+    },
+];
+
+/// It fails the puts 3 and 4.
+const FAILING: [Step; 1] = [Step {
+    calls: &[
+        Call::Put("a", Ok(())),
+        Call::Put("", Ok(())),
+        Call::Open("n", Ok(())),
+        Call::Put("b", Err(SinkFault::Failed)),
+        Call::Put("", Err(SinkFault::Failed)),
+        Call::Put("c", Ok(())),
+    ],
+    text: "c",
+    name: "n",
+    faults: 2,
+}];
+
+/// The number, from 0, of the first step that isn't so in a sink with this capacity and these failing
+/// puts, counted from 1.
+fn first_other_step(
+    alloc: Global,
+    capacity: u64,
+    failing: &[u64],
+    steps: &[Step],
+) -> Result<Option<usize>, Fail> {
+    let mut sink = MemSink::new(alloc, capacity, Vec::from_slice(alloc, failing)?)?;
+    for (number, step) in steps.iter().enumerate() {
+        if first_other(&mut sink, step.calls).is_some()
+            || sink.bytes() != step.text.as_bytes()
+            || sink.name() != step.name
+            || sink.faults() != step.faults
+        {
+            return Ok(Some(number));
+        }
+    }
+    Ok(None)
+}
+
+#[test]
+fn a_sink_in_memory_takes_what_fits_and_fails_as_listed(rt: HostRuntime) -> Result<(), Fail> {
+    let others = (
+        first_other_step(rt.alloc(), 4, &[], &FITTING)?,
+        first_other_step(rt.alloc(), 9, &[3, 4], &FAILING)?,
+    );
+    assert_eq!(rt; others, (None, None));
+    Ok(())
+}
+
+/// A stream puts into what was opened last.
+const ON_THE_MACHINE: [Call; 9] = [
+    Call::Put("", Err(SinkFault::Failed)),
+    Call::Put("x", Err(SinkFault::Failed)),
+    Call::Open("sinks/file", Ok(())),
+    Call::Put("first ", Ok(())),
+    Call::Open("sinks/missing/below", Err(OpenFault::Failed)),
+    Call::Put("second", Ok(())),
+    Call::Open("/dev/full", Ok(())),
+    Call::Put("", Ok(())),
+    Call::Put("x", Err(SinkFault::Failed)),
+];
+
+const SLOWLY: [Call; 3] = [
+    Call::Open("sinks/slow", Ok(())),
+    Call::Put("put ", Ok(())),
+    Call::Put("whole", Ok(())),
+];
+
+fn other_in_a_file(rt: HostRuntime) -> Option<usize> {
+    first_other(&mut StreamSink::file(rt), &ON_THE_MACHINE)
+}
+
+fn other_slowly(rt: HostRuntime) -> Option<usize> {
+    first_other(&mut StreamSink::file(SlowMachine::new(rt)), &SLOWLY)
+}
+
+/// Nothing is put on the standard output, and what is put on a null sink isn't kept.
+fn other_without_a_file(rt: HostRuntime) -> (Option<usize>, Option<usize>) {
+    let nothing = [Call::Put("", Ok(()))];
+    let some = [Call::Put("put", Ok(()))];
+    (
+        first_other(&mut StreamSink::output(rt), &nothing),
+        first_other(&mut NullSink::new(), &some),
+    )
+}
+
+#[test]
+fn a_stream_puts_into_what_was_opened_last(rt: HostRuntime) -> Result<(), Fail> {
+    fs::create_dir_all(&rt, "sinks")?;
+    let others = (other_in_a_file(rt.clone()?), other_slowly(rt.clone()?));
+    let without = other_without_a_file(rt.clone()?);
+    let held = holds(&rt, "sinks/file", "first second") && holds(&rt, "sinks/slow", "put whole");
+    fs::remove_dir_all(&rt, "sinks")?;
+    assert_eq!(rt; (others, without), ((None, None), (None, None)));
+    assert!(rt; held);
+    Ok(())
+}

@@ -1,0 +1,4 @@
+//! Tests of the crates of grammars.
+
+mod printed_faults;
+mod types;

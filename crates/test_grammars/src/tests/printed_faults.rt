@@ -1,0 +1,28 @@
+//! What is printed of the faults of a text.
+
+use grammar_reader_notation::{ReadFault, What};
+use std::test::Fail;
+
+#[test]
+fn faults_print_where_they_are(rt: HostRuntime) -> Result<(), Fail> {
+    let non_greedy = ReadFault::Unsupported {
+        what: What::NonGreedy,
+        offset: 19,
+    };
+    for (fault, text) in [
+        (ReadFault::NotUtf8 { offset: 0 }, "not UTF-8 at byte 0"),
+        (
+            ReadFault::Syntax { offset: 1_234_567 },
+            "syntax at byte 1234567",
+        ),
+        (non_greedy, "unsupported non-greedy at byte 19"),
+        (
+            ReadFault::NestedTooDeep { offset: 76 },
+            "nested too deep at byte 76",
+        ),
+        (ReadFault::Memory, "out of memory"),
+    ] {
+        assert_eq!(rt; fault.to_string(rt.alloc())?.as_str(), text);
+    }
+    Ok(())
+}

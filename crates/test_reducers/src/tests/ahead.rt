@@ -1,0 +1,98 @@
+//! What is ahead before the start is answered, after its yes, after further answers and at the end.
+
+use super::answering::answer_all;
+use super::looking::{Ahead, looks_ahead, looks_ahead_so};
+use super::trees::parts_of;
+use crate::byte_round::byte_reducer;
+use keep_guard::{Guard, KeepTexts};
+use reduce_core::line_reducer;
+use reduce_trees::{hdd_reducer, perses_reducer};
+use script_gate_trait::Verdict;
+use std::alloc::Global;
+use std::test::Fail;
+use test_grammars::grammars::STATEMENTS;
+
+/// Whether that is ahead of a text's reducer in mode `perses`.
+fn in_mode_perses(alloc: Global, text: &str, ahead: Ahead<'_>) -> Result<bool, Fail> {
+    let Some(parts) = parts_of(alloc, STATEMENTS, text)? else {
+        return Ok(false);
+    };
+    let mut reducer = perses_reducer(alloc, &parts)?;
+    Ok(looks_ahead_so(&mut reducer, ahead)?)
+}
+
+/// Whether that is ahead of a text's reducer in mode `hdd`.
+fn in_mode_hdd(alloc: Global, text: &str, ahead: Ahead<'_>) -> Result<bool, Fail> {
+    let Some(parts) = parts_of(alloc, STATEMENTS, text)? else {
+        return Ok(false);
+    };
+    let mut reducer = hdd_reducer(alloc, &parts)?;
+    Ok(looks_ahead_so(&mut reducer, ahead)?)
+}
+
+/// Of statements the same texts are ahead in both modes; of nested blocks only three deletions in mode
+/// `hdd`.
+#[test]
+fn looks_ahead_in_modes_of_trees(rt: HostRuntime) -> Result<(), Fail> {
+    let of_statements = Ahead {
+        at_first: &[b"a=1;b=2;c=3;"],
+        after_yes: &[b"", b"a=1;\n", b"b=2;c=3;", b"b=2;c=3;", b"a=1;\n"],
+        first_two: &[b"", b"a=1;\n"],
+    };
+    assert!(rt; in_mode_perses(rt.alloc(), "a=1;b=2;c=3;", of_statements)?);
+    assert!(rt; in_mode_hdd(rt.alloc(), "a=1;b=2;c=3;", of_statements)?);
+    let by_perses = Ahead {
+        at_first: &[b"{{a=1;}}"],
+        after_yes: &[b"", b"{a=1;}\n", b"a=1;\n", b"{ }", b"{ a=1; }"],
+        first_two: &[b"", b"{a=1;}\n"],
+    };
+    assert!(rt; in_mode_perses(rt.alloc(), "{{a=1;}}", by_perses)?);
+    let by_hdd = Ahead {
+        at_first: &[b"{{a=1;}}"],
+        after_yes: &[b"", b"{ }", b"{{ }}"],
+        first_two: &[b"", b"{ }"],
+    };
+    assert!(rt; in_mode_hdd(rt.alloc(), "{{a=1;}}", by_hdd)?);
+    Ok(())
+}
+
+#[test]
+fn looks_ahead_in_mode_lines(rt: HostRuntime) -> Result<(), Fail> {
+    let guard = Guard::new(KeepTexts::new(rt.alloc()));
+    let mut reducer = line_reducer(rt.alloc(), b"a\nb\nc\n", &guard)?;
+    let of_lines = Ahead {
+        at_first: &[b"a\nb\nc\n"],
+        after_yes: &[b"", b"a\n", b"b\nc\n", b"b\nc\n", b"a\n"],
+        first_two: &[b"", b"a\n"],
+    };
+    assert!(rt; looks_ahead_so(&mut reducer, of_lines)?);
+    Ok(())
+}
+
+/// In the second half the second round begins, which asks the empty text again.
+#[test]
+fn looks_ahead_over_rounds(rt: HostRuntime) -> Result<(), Fail> {
+    let guard = Guard::new(KeepTexts::new(rt.alloc()));
+    let mut reducer = line_reducer(rt.alloc(), b"a\nb\nc\n", &guard)?;
+    answer_all(
+        &mut reducer,
+        &[Verdict::Yes, Verdict::No, Verdict::No, Verdict::Yes],
+    )?;
+    let b = b"b\n".as_slice();
+    let c = b"c\n".as_slice();
+    assert!(rt; looks_ahead(&reducer, 20, &[b, c, c, b, b"", b, c, c, b])?);
+    Ok(())
+}
+
+/// The opening of a mode is ahead of its rounds.
+#[test]
+fn looks_ahead_before_rounds(rt: HostRuntime) -> Result<(), Fail> {
+    let mut reducer = byte_reducer(rt.alloc(), &[1, 5, 6, 5])?;
+    let of_bytes = Ahead {
+        at_first: &[&[1, 5, 6, 5]],
+        after_yes: &[&[9, 5, 6, 5], &[1, 6, 5], &[1, 5, 5], &[1, 5, 6]],
+        first_two: &[&[9, 5, 6, 5], &[1, 6, 5]],
+    };
+    assert!(rt; looks_ahead_so(&mut reducer, of_bytes)?);
+    Ok(())
+}

@@ -1,0 +1,150 @@
+//! Workers by hand: each looks before it calls, as a worker does that has just got the board.
+
+ghost use Rattle.std.specs.Prelude.{IsTrue};
+ghost use Rattle.ordered_commit.specs.BoardState.{IsSettled};
+ghost use Rattle.ordered_commit.specs.Seats.{AreFreeSeats};
+
+use crate::small_step::SmallStep;
+use edge_io::{MemSink, Sink};
+use faults::Memory;
+use gate_permits::{Answer, ask_once};
+use ordered_commit::{Board, Seat, Take};
+use reduce_step::Step;
+use script_gate_trait::Gate;
+use std::alloc::Global;
+
+/// A worker: its seat, its gate, and the answer that it has to record.
+#[derive(Drop)]
+pub(crate) struct Hand<G: Gate> {
+    pub(crate) seat: Seat,
+    gate: G,
+    answer: Option<Answer<G>>,
+}
+
+impl<G: Gate> Hand<G> {
+    pub(crate) fn new(seat: Seat, gate: G) -> Hand<G> {
+        Hand {
+            seat,
+            gate,
+            answer: None,
+        }
+    }
+
+    /// Whether it has an answer about this text.
+    pub(crate) fn asked_about(&self, text: &[u8]) -> bool {
+        match &self.answer {
+            Some(answer) => answer.text().as_slice() == text,
+            None => false,
+        }
+    }
+}
+
+/// How a take went.
+#[derive(Clone, Copy, Debug, PartialEq, Eq)]
+pub(crate) enum Got {
+    /// A text, about which the gate was asked.
+    Work,
+    /// A text, about which the gate gave no verdict: the claim was given up.
+    Unasked,
+    /// Nothing now.
+    NotYet,
+    /// Nothing more.
+    Done,
+    /// Nothing more, since a fault is kept.
+    Stopped,
+    /// Memory ran out, or the worker may not take.
+    Refused,
+}
+
+/// Makes a commit if one can be made, and says whether none could.
+fn is_settled<S: Step + Drop, G: Gate, J: Sink + Drop>(board: &mut Board<S, G, J>) -> bool
+    ensures { IsTrue result → IsSettled S.plan board.new }
+{
+    match board.commit() {
+        Ok(committed) => !committed,
+        Err(_) => false,
+    }
+}
+
+/// Takes for a worker, and asks its gate.
+pub(crate) fn take_for<G: Gate>(
+    board: &mut Board<SmallStep, G, MemSink>,
+    hand: &mut Hand<G>,
+) -> Got {
+    if !is_settled(board) || hand.seat.claim.is_some() || !board.agrees(&hand.seat) {
+        return Got::Refused;
+    }
+    match board.take(&mut hand.seat) {
+        Err(_) => Got::Refused,
+        Ok(Take::NotYet) => Got::NotYet,
+        Ok(Take::Done) => Got::Done,
+        Ok(Take::Stopped) => Got::Stopped,
+        Ok(Take::Work(permit)) => match ask_once(&mut hand.gate, permit) {
+            Ok(answer) => {
+                hand.answer = Some(answer);
+                Got::Work
+            }
+            Err(unasked) => {
+                board.give_up(&mut hand.seat, unasked);
+                Got::Unasked
+            }
+        },
+    }
+}
+
+/// Records the answer that the worker has, if it may. The record's number.
+pub(crate) fn record_for<G: Gate>(
+    board: &mut Board<SmallStep, G, MemSink>,
+    hand: &mut Hand<G>,
+) -> Option<u64> {
+    let answer = hand.answer.take()?;
+    let claim = hand.seat.claim?;
+    if claim != answer.claim()
+        || !board.agrees(&hand.seat)
+        || !board.holds(claim, answer.text().as_slice())
+    {
+        return None;
+    }
+    board.record(&mut hand.seat, answer).ok()
+}
+
+/// How many commits are made until no more can be; none where one fails.
+pub(crate) fn commits<G: Gate>(board: &mut Board<SmallStep, G, MemSink>) -> Option<u64> {
+    for count in 0..10u64 {
+        match board.commit() {
+            Ok(true) => {}
+            Ok(false) => return Some(count),
+            Err(_) => return None,
+        }
+    }
+    None
+}
+
+/// Whether these are the free seats of all the board's workers, in order.
+#[tactic(auto, using(crate::proofs::FreeSeats::none_looked_at, crate::proofs::FreeSeats::one_more_free, crate::proofs::FreeSeats::all_looked_at))]
+pub(crate) fn are_free<G: Gate>(board: &Board<SmallStep, G, MemSink>, seats: &Vec<Seat>) -> bool
+    ensures { IsTrue result → AreFreeSeats board.now.seats seats.now.items }
+{
+    let Some(first) = seats.first() else {
+        return false;
+    };
+    if !board.agrees(first) || seats.len() != board.workers() {
+        return false;
+    }
+    for index in 0..seats.len() {
+        let seat = &seats[index];
+        if seat.worker as usize != index + 1 || seat.claim.is_some() || !board.agrees(seat) {
+            return false;
+        }
+    }
+    true
+}
+
+/// The workers' seats.
+pub(crate) fn seats_of<G: Gate>(alloc: Global, hands: &Vec<Hand<G>>) -> Result<Vec<Seat>, Memory> {
+    let mut seats = Vec::new(alloc);
+    for index in 0..hands.len() {
+        seats.push(hands[index].seat)?;
+    }
+    Ok(seats)
+}

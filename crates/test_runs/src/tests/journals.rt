@@ -1,0 +1,326 @@
+//! Journals that are written, read back and cut off, and the report.
+
+ghost use Rattle.std.specs.Prelude.{IsTrue};
+ghost use Rattle.reduce_journal.specs.History.{HasShortText};
+
+use edge_io::MemSink;
+use faults::Memory;
+use reduce_journal::{
+    Counts, Event, Journal, JournalFault, read_journal, report, write_event, write_head,
+};
+use reduce_step::TEXT_LIMIT;
+use script_gate_trait::{Bytes, Verdict};
+use std::alloc::Global;
+use std::test::Fail;
+
+/// The journal of a run over `a=1;b=2;c=3;`, whose script says yes where there is a `b`.
+pub(crate) const JOURNAL: &[u8] =
+    b"perses-journal 1\nR y 12\na=1;b=2;c=3;\nC 1\nR n 0\n\nC 2\nR n 5\na=1;\n\nC 3\nR y 8\nb=2;c=3;\nC 4\nR y 5\nb=2;\n\nC 5\nC 2\n";
+
+/// An event whose text is static.
+#[derive(Clone, Copy)]
+enum Row {
+    Recorded(&'static [u8], Verdict),
+    Committed(u64),
+}
+
+/// What the journal of that run has, in order.
+const HISTORY: [Row; 11] = [
+    Row::Recorded(b"a=1;b=2;c=3;", Verdict::Yes),
+    Row::Committed(1),
+    Row::Recorded(b"", Verdict::No),
+    Row::Committed(2),
+    Row::Recorded(b"a=1;\n", Verdict::No),
+    Row::Committed(3),
+    Row::Recorded(b"b=2;c=3;", Verdict::Yes),
+    Row::Committed(4),
+    Row::Recorded(b"b=2;\n", Verdict::Yes),
+    Row::Committed(5),
+    Row::Committed(2),
+];
+
+/// Where the first line ends, and then each event.
+const ENDS: [usize; 12] = [17, 37, 41, 48, 52, 64, 68, 83, 87, 99, 103, 107];
+
+fn event_of(alloc: Global, row: Row) -> Result<Event, Memory> {
+    match row {
+        Row::Recorded(text, verdict) => {
+            let text = Bytes::from_slice(alloc, text)?;
+            Ok(Event::Recorded { text, verdict })
+        }
+        Row::Committed(number) => Ok(Event::Committed { number }),
+    }
+}
+
+fn is_event(event: &Event, row: Row) -> bool {
+    match (event, row) {
+        (Event::Recorded { text, verdict }, Row::Recorded(wanted, verdict_wanted)) => {
+            text.as_slice() == wanted && *verdict == verdict_wanted
+        }
+        (Event::Committed { number }, Row::Committed(wanted)) => *number == wanted,
+        _ => false,
+    }
+}
+
+/// Whether these are the first events of the history, and no more of it.
+fn are_first(events: &[Event], count: usize) -> bool {
+    if events.len() != count {
+        return false;
+    }
+    for (event, row) in events.iter().zip(HISTORY.iter()) {
+        if !is_event(event, *row) {
+            return false;
+        }
+    }
+    true
+}
+
+/// Whether the event's text is no longer than a journal may have it.
+fn is_short(event: &Event) -> bool
+    ensures { IsTrue result → HasShortText event.now }
+{
+    match event {
+        Event::Recorded { text, .. } => text.len() <= TEXT_LIMIT,
+        Event::Committed { .. } => true,
+    }
+}
+
+/// Puts the first line and the rows; how many of these came through.
+fn written(sink: &mut MemSink, alloc: Global, rows: &[Row]) -> Result<usize, Fail> {
+    if write_head(sink).is_err() {
+        return Ok(0);
+    }
+    for (number, row) in rows.iter().enumerate() {
+        let event = event_of(alloc, *row)?;
+        if !is_short(&event) || write_event(sink, &event).is_err() {
+            return Ok(number);
+        }
+    }
+    Ok(rows.len())
+}
+
+#[test]
+fn writes_the_worked_journal(rt: HostRuntime) -> Result<(), Fail> {
+    let mut sink = MemSink::new(rt.alloc(), 107, Vec::new(rt.alloc()))?;
+    assert_eq!(rt; written(&mut sink, rt.alloc(), &HISTORY)?, 11);
+    assert_eq!(rt; sink.bytes(), JOURNAL);
+    assert_eq!(rt; sink.faults(), 0);
+    Ok(())
+}
+
+/// How many events are whole in the journal's first `cut` bytes, and where the last of them ends.
+fn whole_events(cut: usize) -> (usize, usize) {
+    let mut whole = (0, 0);
+    for (number, end) in ENDS.iter().enumerate() {
+        if *end <= cut {
+            whole = (number, *end);
+        }
+    }
+    whole
+}
+
+#[test]
+fn reads_the_worked_journal_up_to_each_cut(rt: HostRuntime) -> Result<(), Fail> {
+    for cut in 17..108 {
+        let (whole, end) = whole_events(cut);
+        let journal = read_journal(rt.alloc(), &JOURNAL[..cut])?;
+        assert!(rt; are_first(journal.events.as_slice(), whole), "at {cut}");
+        assert_eq!(rt; journal.torn, cut.abs_diff(end) as u64, "at {cut}");
+    }
+    for cut in 0..17 {
+        assert_eq!(rt;
+            read_journal(rt.alloc(), &JOURNAL[..cut]).err(),
+            Some(JournalFault::BadHead)
+        );
+    }
+    Ok(())
+}
+
+/// A journal's first line, and the same with a record.
+const BEGIN: &[u8] = b"perses-journal 1\n";
+
+const ONE_RECORD: &[u8] = b"perses-journal 1\nR y 0\n\n";
+
+/// What is torn right after the first line.
+const TORN: [&[u8]; 16] = [
+    b"",
+    b"R",
+    b"R ",
+    b"R y",
+    b"R n",
+    b"R y ",
+    b"R y 0",
+    b"R y 0\n",
+    b"R y 9",
+    b"R y 1048576",
+    b"R y 1048576\n",
+    b"R y 2\n",
+    b"R y 2\n\n",
+    b"R y 2\n\xC3",
+    b"R y 2\n\xC3\xA4",
+    b"R n 12\nC 1\nC 2\nR n",
+];
+
+/// What is bad there.
+const BAD: [&[u8]; 17] = [
+    b"C",
+    b"C 1\n",
+    b"R x",
+    b"Ry",
+    b"R  y",
+    b"R y\n",
+    b"R y \n",
+    b"R y +1",
+    b"R y 00",
+    b"R y 01\n",
+    b"R y 0\na",
+    b"R y 2\nabc",
+    b"R y 1048577",
+    b"R y 10485760",
+    b"R y 1\r\n",
+    b"r y 0\n\n",
+    b"\n",
+];
+
+/// What is torn after the first line and a record.
+const TORN_AFTER: [&[u8]; 4] = [b"", b"C", b"C ", b"C 1"];
+
+/// What is bad there.
+const BAD_AFTER: [&[u8]; 13] = [
+    b"C\n",
+    b"C \n",
+    b"C  1",
+    b"C 0",
+    b"C 01",
+    b"C 2",
+    b"C 10",
+    b"C 1 ",
+    b"C 1\r\n",
+    b"C -1",
+    b"C x",
+    b"C 18446744073709551617\n",
+    b"R y 00",
+];
+
+/// What is read where this tail comes after these bytes.
+fn read_after(
+    alloc: Global,
+    begin: &[u8],
+    tail: &[u8],
+) -> Result<Result<Journal, JournalFault>, Fail> {
+    let mut bytes = Vec::from_slice(alloc, begin)?;
+    bytes.extend_from_slice(tail)?;
+    Ok(read_journal(alloc, bytes.as_slice()))
+}
+
+/// Whether these are so many events and a torn tail of so many bytes.
+fn is_torn(read: &Result<Journal, JournalFault>, events: usize, torn: usize) -> bool {
+    match read {
+        Ok(journal) => journal.events.len() == events && journal.torn == torn as u64,
+        Err(_) => false,
+    }
+}
+
+/// Whether the bytes were bad at this offset.
+fn is_bad_at(read: &Result<Journal, JournalFault>, offset: usize) -> bool {
+    match read {
+        Ok(_) => false,
+        Err(fault) => *fault
+            == JournalFault::BadRecord {
+                offset: offset as u64,
+            },
+    }
+}
+
+/// The number, from 0, of the first of these tails that isn't torn after so many events.
+fn first_not_torn(
+    alloc: Global,
+    begin: &[u8],
+    events: usize,
+    tails: &[&[u8]],
+) -> Result<Option<usize>, Fail> {
+    for (number, tail) in tails.iter().enumerate() {
+        let read = read_after(alloc, begin, tail)?;
+        if !is_torn(&read, events, tail.len()) {
+            return Ok(Some(number));
+        }
+    }
+    Ok(None)
+}
+
+/// The number, from 0, of the first of these tails that isn't bad where it begins.
+fn first_not_bad(alloc: Global, begin: &[u8], tails: &[&[u8]]) -> Result<Option<usize>, Fail> {
+    for (number, tail) in tails.iter().enumerate() {
+        let read = read_after(alloc, begin, tail)?;
+        if !is_bad_at(&read, begin.len()) {
+            return Ok(Some(number));
+        }
+    }
+    Ok(None)
+}
+
+#[test]
+fn parts_torn_tails_from_bad_records(rt: HostRuntime) -> Result<(), Fail> {
+    assert_eq!(rt; first_not_torn(rt.alloc(), BEGIN, 0, &TORN)?, None);
+    assert_eq!(rt; first_not_bad(rt.alloc(), BEGIN, &BAD)?, None);
+    assert_eq!(rt;
+        first_not_torn(rt.alloc(), ONE_RECORD, 1, &TORN_AFTER)?,
+        None
+    );
+    assert_eq!(rt; first_not_bad(rt.alloc(), ONE_RECORD, &BAD_AFTER)?, None);
+    Ok(())
+}
+
+/// A journal whose texts come twice, and look like events.
+const TWICE: &[u8] = b"perses-journal 1\nR n 3\n\n\xFFC\nR y 3\n\n\xFFC\nC 2\n";
+
+/// The events of that journal.
+const TWICE_EVENTS: [Row; 3] = [
+    Row::Recorded(b"\n\xFFC", Verdict::No),
+    Row::Recorded(b"\n\xFFC", Verdict::Yes),
+    Row::Committed(2),
+];
+
+#[test]
+fn keeps_any_bytes_and_texts_that_come_twice(rt: HostRuntime) -> Result<(), Fail> {
+    let journal = read_journal(rt.alloc(), TWICE)?;
+    assert_eq!(rt; journal.events.len(), 3);
+    assert_eq!(rt; journal.torn, 0);
+    for (event, row) in journal.events.iter().zip(TWICE_EVENTS.iter()) {
+        assert!(rt; is_event(event, *row));
+    }
+    Ok(())
+}
+
+/// Where the first put fails, the second one, and so on: how many events came through before, and how
+/// many bytes are put.
+const FAILING: [(usize, usize); 6] = [(0, 0), (0, 17), (0, 24), (0, 36), (1, 37), (2, 41)];
+
+#[test]
+fn puts_a_record_in_three_pieces_and_a_commit_in_one(rt: HostRuntime) -> Result<(), Fail> {
+    for (number, (whole, put)) in FAILING.iter().enumerate() {
+        let fail = Vec::from_slice(rt.alloc(), &[number as u64 + 1])?;
+        let mut sink = MemSink::new(rt.alloc(), 107, fail)?;
+        assert_eq!(rt; written(&mut sink, rt.alloc(), &HISTORY)?, *whole);
+        assert_eq!(rt; Some(sink.bytes()), JOURNAL.get(..*put));
+        assert_eq!(rt; sink.faults(), 1);
+    }
+    Ok(())
+}
+
+#[test]
+fn reports_in_five_lines(rt: HostRuntime) -> Result<(), Fail> {
+    let counts = Counts {
+        start_units: 12,
+        end_units: 4,
+        start_bytes: 12,
+        end_bytes: 5,
+        rounds: 2,
+        used: 6,
+        records: 5,
+    };
+    let text = report(rt.alloc(), &counts)?;
+    let wanted: &[u8] = b"units: 12 -> 4\nbytes: 12 -> 5\nrounds: 2\nused: 6\nrecords: 5\n";
+    assert_eq!(rt; text.as_slice(), wanted);
+    Ok(())
+}

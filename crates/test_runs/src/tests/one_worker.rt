@@ -1,0 +1,96 @@
+//! Runs of one worker over the reduction of `a=1;b=2;c=3;`, statement by statement. Where nothing ends it
+//! before its time, and yes is the answer if there is a `b`, its journal is the worked one.
+
+use super::journals::JOURNAL;
+use super::outcomes::has_come_to;
+use crate::small_step::SmallStep;
+use edge_io::MemSink;
+use faults::Memory;
+use ordered_commit::{Outcome, PoolFault};
+use reduce_journal::read_journal;
+use reduce_step::Step;
+use run_worker::run;
+use script_gate_trait::{Gate, ListGate, RuleGate, Said};
+use std::alloc::Global;
+use std::test::Fail;
+
+/// The run over this gate, with a journal that takes so many bytes, and whose puts of these numbers fail;
+/// from 1.
+fn run_over<G: Gate>(
+    alloc: Global,
+    gate: &mut G,
+    size: u64,
+    fail: &[u64],
+) -> Result<Outcome<SmallStep, MemSink>, Memory> {
+    let fail = Vec::from_slice(alloc, fail)?;
+    let journal = MemSink::new(alloc, size, fail)?;
+    Ok(run(alloc, SmallStep::new(alloc), gate, journal))
+}
+
+#[test]
+fn writes_each_verdict_before_it_is_used(rt: HostRuntime) -> Result<(), Fail> {
+    let mut gate = RuleGate::<98>::new(rt.alloc(), true);
+    let outcome = run_over(rt.alloc(), &mut gate, 1000, &[])?;
+    assert!(rt; has_come_to(&outcome, None, 11, JOURNAL));
+    assert_eq!(rt; outcome.front.asks(), None);
+    let Some(log) = gate.log() else {
+        return Err("the gate keeps its log")?;
+    };
+    assert_eq!(rt; log.asked.len(), 5);
+    Ok(())
+}
+
+#[test]
+fn keeps_what_was_written_when_the_gate_fails(rt: HostRuntime) -> Result<(), Fail> {
+    let alloc = rt.alloc();
+    let mut answers = Vec::new(alloc);
+    answers.push(Said::Yes)?;
+    answers.push(Said::No)?;
+    let mut gate = ListGate::new(alloc, answers, Said::Fail);
+    let outcome = run_over(alloc, &mut gate, 1000, &[])?;
+    let journal = b"perses-journal 1\nR y 12\na=1;b=2;c=3;\nC 1\nR n 0\n\nC 2\n".as_slice();
+    assert_eq!(rt; outcome.fault, Some(PoolFault::Script { worker: 1 }));
+    assert_eq!(rt; outcome.journal.bytes(), journal);
+    assert_eq!(rt; gate.log().asked.len(), 2);
+    Ok(())
+}
+
+/// The bytes that the journal has, and the fault, where the put of this number fails; from 1.
+fn broken_at(alloc: Global, put: u64) -> Result<(MemSink, Option<PoolFault>), Memory> {
+    let mut gate = RuleGate::<98>::new(alloc, false);
+    let outcome = run_over(alloc, &mut gate, 1000, &[put])?;
+    Ok((outcome.journal, outcome.fault))
+}
+
+/// How many puts the journal takes: its first line, three for each of five records, one for each of six commits.
+const PUTS: u64 = 22;
+
+#[test]
+fn stops_where_the_journal_breaks_off(rt: HostRuntime) -> Result<(), Fail> {
+    let (journal, fault) = broken_at(rt.alloc(), 5)?;
+    assert_eq!(rt; fault, Some(PoolFault::Journal));
+    assert_eq!(rt;
+        journal.bytes(),
+        b"perses-journal 1\nR y 12\na=1;b=2;c=3;\n".as_slice()
+    );
+    for put in 1..PUTS + 1 {
+        let (journal, fault) = broken_at(rt.alloc(), put)?;
+        assert_eq!(rt; fault, Some(PoolFault::Journal));
+        assert_eq!(rt; JOURNAL.starts_with(journal.bytes()), true);
+        assert_eq!(rt; read_journal(rt.alloc(), journal.bytes()).is_ok(), put > 1);
+    }
+    let (journal, fault) = broken_at(rt.alloc(), PUTS + 1)?;
+    assert_eq!(rt; fault, None);
+    assert_eq!(rt; journal.bytes(), JOURNAL);
+    Ok(())
+}
+
+#[test]
+fn hands_all_back_where_the_first_line_does_not_fit(rt: HostRuntime) -> Result<(), Fail> {
+    let mut gate = RuleGate::<98>::new(rt.alloc(), true);
+    let outcome = run_over(rt.alloc(), &mut gate, 10, &[])?;
+    assert_eq!(rt; outcome.fault, Some(PoolFault::Journal));
+    assert_eq!(rt; outcome.events.len(), 0);
+    assert_eq!(rt; outcome.front.asks().is_some(), true);
+    Ok(())
+}

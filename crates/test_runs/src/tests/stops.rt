@@ -1,0 +1,72 @@
+//! Boards that stop.
+
+use super::hands::Got;
+use super::outcomes::has_come_to;
+use super::rows::{Row, outcome_by, outcome_with_b};
+use crate::small_step::SmallStep;
+use edge_io::MemSink;
+use ordered_commit::{Board, BoardFault, PoolFault};
+use script_gate_trait::{ListGate, RuleGate, Said};
+use std::test::Fail;
+
+/// While the second worker has a claim the script of the first one fails: the second one's record is
+/// made, and nothing is committed.
+const FAILS: [Row; 9] = [
+    Row::Works(0, b"a=1;b=2;c=3;"),
+    Row::Records(0, 1),
+    Row::Commits(1),
+    Row::Works(1, b""),
+    Row::Gets(0, Got::Unasked),
+    Row::Gets(0, Got::Stopped),
+    Row::Records(1, 2),
+    Row::Commits(0),
+    Row::Gets(1, Got::Stopped),
+];
+
+#[test]
+fn keeps_the_fault_of_a_script(rt: HostRuntime) -> Result<(), Fail> {
+    let alloc = rt.alloc();
+    let mut answers = Vec::new(alloc);
+    answers.push(Said::Yes)?;
+    let first = ListGate::new(alloc, answers, Said::Fail);
+    let second = ListGate::new(alloc, Vec::new(alloc), Said::No);
+    let outcome = outcome_by(alloc, Vec::new(alloc), first, second, &FAILS)?;
+    let journal = b"perses-journal 1\nR y 12\na=1;b=2;c=3;\nC 1\nR n 0\n\n".as_slice();
+    let fault = PoolFault::Script { worker: 1 };
+    assert!(rt; has_come_to(&outcome, Some(fault), 3, journal));
+    Ok(())
+}
+
+/// The text of the first record can't be put: the record is made, and nothing is committed.
+#[test]
+fn makes_a_record_that_cannot_be_written(rt: HostRuntime) -> Result<(), Fail> {
+    let rows = [
+        Row::Works(0, b"a=1;b=2;c=3;"),
+        Row::Unwritten(0, 1),
+        Row::Commits(0),
+        Row::Gets(1, Got::Stopped),
+    ];
+    let fail = Vec::from_slice(rt.alloc(), &[3])?;
+    let outcome = outcome_with_b(rt.alloc(), fail, &rows)?;
+    let journal = b"perses-journal 1\nR y 12\n".as_slice();
+    assert!(rt; has_come_to(&outcome, Some(PoolFault::Journal), 1, journal));
+    Ok(())
+}
+
+#[test]
+fn hands_the_journal_back_where_its_head_cannot_be_put(rt: HostRuntime) -> Result<(), Fail> {
+    let alloc = rt.alloc();
+    let journal = MemSink::new(alloc, 10, Vec::new(alloc))?;
+    let made = Board::<SmallStep, RuleGate<98>, MemSink>::new(
+        alloc,
+        SmallStep::new(alloc),
+        journal,
+        2,
+    );
+    let Err(refused) = made else {
+        return Err("there is no board")?;
+    };
+    assert_eq!(rt; refused.fault, BoardFault::Journal);
+    assert_eq!(rt; refused.journal.bytes().len(), 0);
+    Ok(())
+}

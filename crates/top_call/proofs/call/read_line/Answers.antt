@@ -1,4 +1,0 @@
-use Rattle.top_call.proofs.call.read_line.Goals as goal
-
-pub returns-in-Err-clause-refused : goal.returns-in-Err-clause-refused
-returns-in-Err-clause-refused c = tt

@@ -1,6 +1,0 @@
-use Rattle.command_words.specs.Lines.{selftest_read}
-use Rattle.top_call.proofs.SelftestLemmas.{runs_selftest}
-use Rattle.top_call.proofs.selftest.selftest.Goals as goal
-
-pub returns : goal.returns
-returns g c = runs_selftest (selftest_read c.args.line) _ _ c.summary_of-outcome.result c.end_with.result c.summary_of-outcome.ensures.summary c.summary_of-outcome.ensures.refused c.end_with.ensures

@@ -1,7 +1,0 @@
-use Rattle.std.proofs.Common.{drop}
-use Rattle.tree_cut.specs.WithoutNodes.{dropped}
-use Rattle.tree_cut.specs.Dropping.{IsDroppedSoFar}
-use Rattle.tree_cut.proofs.cut.Cut.keep_nodes.Given as goal
-
-abbrev pub invariant-loop-index : goal.invariant-loop-index
-invariant-loop-index l = IsDroppedSoFar l.fn.tree l.fn.self (dropped l.fn.nodes l.fn.keep) (dropped (drop l.index l.fn.nodes) (drop l.index l.fn.keep)) l.self l.gap

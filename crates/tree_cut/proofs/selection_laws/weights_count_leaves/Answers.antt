@@ -1,5 +1,0 @@
-use Rattle.tree_cut.proofs.Deletions.{leaves_count}
-use Rattle.tree_cut.proofs.selection_laws.weights_count_leaves.Goals as goal
-
-pub returns : goal.returns
-returns c = λ t. leaves_count t

@@ -1,5 +1,0 @@
-use Rattle.tree_mode.proofs.Listing as lemma
-use Rattle.tree_mode.proofs.laws.listed_are_candidates.Goals as goal
-
-pub returns : goal.returns
-returns c = lemma.listed_are_candidates c.printed_by_reading.ensures c.left_is_part.ensures c.valid_trees_are_derived.ensures c.leaves_keep_kinds.ensures c.kept_kinds.ensures c.equal_languages.ensures

@@ -1,5 +1,0 @@
-use Rattle.tree_mode.proofs.Listing as lemma
-use Rattle.tree_mode.proofs.laws.listed_is_decided.Goals as goal
-
-pub returns : goal.returns
-returns c = lemma.listed_is_decided c.spelled_by_reading.ensures

@@ -1,5 +1,0 @@
-use Rattle.tree_mode.proofs.Starts as lemma
-use Rattle.tree_mode.proofs.laws.opening_is_kept.Goals as goal
-
-pub returns : goal.returns
-returns c = lemma.opening_is_kept c.left_is_reflexive.ensures

@@ -1,5 +1,0 @@
-use Rattle.tree_mode.proofs.Joining as lemma
-use Rattle.tree_mode.proofs.laws.parts_join.Goals as goal
-
-pub returns : goal.returns
-returns c = lemma.parts_join c.tokens_by_reading.ensures

@@ -1,5 +1,0 @@
-use Rattle.tree_mode.proofs.Styles as lemma
-use Rattle.tree_mode.proofs.laws.styles_stay.Goals as goal
-
-pub returns : goal.returns
-returns c = lemma.stay

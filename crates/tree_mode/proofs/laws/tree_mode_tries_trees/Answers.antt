@@ -1,5 +1,0 @@
-use Rattle.tree_mode.proofs.Lawful as lemma
-use Rattle.tree_mode.proofs.laws.tree_mode_tries_trees.Goals as goal
-
-pub returns : goal.returns
-returns c = lemma.tries_trees c.styles_stay.ensures

@@ -1,5 +1,0 @@
-use Rattle.tree_rounds.proofs.CandidateLemmas.{kept_rise}
-use Rattle.tree_rounds.proofs.candidate.is_listed.Goals as goal
-
-pub admits-requires : goal.admits-requires
-admits-requires g c = kept_rise c.args.kept.now c.requires.kept.rise

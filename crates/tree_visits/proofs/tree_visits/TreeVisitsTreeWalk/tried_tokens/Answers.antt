@@ -1,8 +1,0 @@
-use Rattle.std.proofs.Common.{subst}
-use Rattle.tree_cut.specs.Cuts.{cut_tree}
-use Rattle.tree_visits.specs.Visiting.{IsVisiting}
-use Rattle.tree_visits.proofs.tree_visits.TreeVisitsTreeWalk.tried_tokens.Goals as goal
-
-pub tried_cut-requires-clause-queue : goal.tried_cut-requires-clause-queue
-tried_cut-requires-clause-queue c =
-    (c.self.inside.queue, subst (IsVisiting c.self.inside.tree.now.form c.self.inside.tree.now.start (cut_tree c.self.inside.tree.now c.self.inside.cut) c.self.inside.queue) c.in-Some.is c.self.invariant.visiting)

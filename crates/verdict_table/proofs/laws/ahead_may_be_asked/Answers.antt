@@ -1,5 +1,0 @@
-use Rattle.verdict_table.proofs.AheadLemmas.{ahead_may}
-use Rattle.verdict_table.proofs.laws.ahead_may_be_asked.Goals as goal
-
-pub returns : goal.returns
-returns c = λ plan. ahead_may plan
