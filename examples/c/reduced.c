@@ -1,4 +1,4 @@
-typedef unsigned hash_type;
+typedef int hash_type;
 struct entry {
 hash_type hash;
 }; hash_type stirred( struct entry *entry)

@@ -10,7 +10,7 @@ CREATE TABLE order_lines (
 WITH sold AS (
     SELECT article
 ), wanted AS (
-    SELECT articles.article, name
+    SELECT article, name
 FROM articles
 )
 SELECT wanted.name , price
