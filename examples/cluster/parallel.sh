@@ -1,0 +1,48 @@
+#!/bin/sh
+# An interestingness script that has one of several machines run the test, by GNU parallel over ssh:
+#     TEST=/home/me/interesting.sh NODES='red red blue me@green' perses reduce .. --script examples/cluster/parallel.sh
+# ssh must not ask for a password. The machines need perl.
+test=${TEST:?"the test, which the node calls with the candidate's name"}
+nodes=${NODES:?"the machines as ssh knows them, each as often as it may run a test at a time"}
+needs=${NEEDS:-} # files and folders that the test needs, with blanks between them; they are beside the test on the node
+limit=${LIMIT:-60} # seconds, after which the test is ended on the node; its status is then 124, a no
+here=$(CDPATH='' cd -- "$(dirname -- "$0")" && pwd)
+. "$here/ask.sh"
+
+# One lock for each place on a machine. All runs of a user have them in common.
+locks=${LOCKS:-${TMPDIR:-/tmp}/perses-nodes-$(id -u)}
+mkdir -p -- "$locks"
+
+# Whether a machine gave no answer within the last minute.
+is_bad() {
+    [ -e "$locks/$1.bad" ] && [ -n "$(find "$locks/$1.bad" -mmin -1 2>/dev/null)" ]
+}
+
+# Has the machine of a free place run the words; 75 where none is free. Machines that failed come last. Of standard input parallel
+# makes one block, which is that of the words.
+on_a_place() {
+    for bad in no yes; do
+        place=0
+        for node in $nodes; do
+            place=$((place + 1))
+            if is_bad "$node"; then [ $bad = yes ] || continue; else [ $bad = no ] || continue; fi
+            (
+                flock -n 9 || exit 75
+                answer=$(parallel --will-cite --pipe --recend '' --block 1g --sshlogin "1/${SSH:-ssh} $node" --timeout $((limit + 60)) -q "$@")
+                case $answer in
+                "answer: "*[0-9]) rm -f -- "$locks/$node.bad" ;;
+                *) touch -- "$locks/$node.bad" && echo "$0: $node gave no answer" >&2 ;;
+                esac
+                printf '%s\n' "$answer"
+            ) 9>"$locks/$place"
+            [ $? = 75 ] || return 0
+        done
+    done
+    return 75
+}
+
+on_a_node() {
+    until on_a_place "$@"; do sleep 0.2; done
+}
+
+ask "$1"
