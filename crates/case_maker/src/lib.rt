@@ -10,8 +10,6 @@ mod case;
 mod function;
 mod grammar;
 mod laws;
-#[cfg(test)]
-mod tests;
 
 pub use case::make_case;
 pub use faults::Memory;

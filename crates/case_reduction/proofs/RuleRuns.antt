@@ -1,5 +1,5 @@
 -- A run of a program over the rule ends with its summary, or out of memory.
-use Rattle.std.proofs.Common.{arith, ◌≡◌, ◌∙◌, ◌≤◌, inl, inr, ℕ, List, [], ◌∷◌, ◌++◌, Result, Ok, Err, refl, sym, ap, subst}
+use Rattle.std.proofs.Common.{arith, ◌≡◌, ◌∙◌, ◌≤◌, inl, inr, ℕ, zero, suc, List, [], ◌∷◌, ◌++◌, Result, Ok, Err, map, refl, sym, ap, subst}
 use Rattle.std.specs.Prelude.{IfOk}
 use Rattle.std.proofs.lemmas.Result.{IfOk-weaker}
 use Rattle.std.specs.List.{AllByRecursion}
@@ -17,6 +17,7 @@ use Rattle.reduce_trees.specs.WalkMode.{walk_mode}
 use Rattle.reduce_perses.specs.VisitRounds.{visit_round}
 use Rattle.reduce_hdd.specs.LevelRounds.{level_round}
 use Rattle.run_gated.specs.Records.{FirstIs}
+use Rattle.run_gated.specs.Workers.{RoseAtIndex}
 use Rattle.run_gated.specs.declared.fault.RunFault.{RunFault}
 use Rattle.run_gated.specs.declared.ran.Reduced.{Reduced}
 use Rattle.run_gated.specs.declared.fault.RunFault.TheVariants as run
@@ -32,10 +33,20 @@ use Rattle.case_reduction.specs.Summary.{IsCaseProblem, IsSummary}
 use Rattle.case_reduction.proofs.Alike.{BySaid, by_rule, over_each}
 use Rattle.case_reduction.proofs.CaseTrees.{begins_with_case}
 
--- a count that stays at zero didn't rise
-never_rose : Rose 0 0 → ⊥
-never_rose (inl less) = omega (arith, less)
-never_rose (inr full) = omega (arith, full)
+-- a count that is zero didn't rise
+never_rose : (count : ℕ) → Rose count 0 → ⊥
+never_rose count (inl less) = omega (arith, less)
+never_rose count (inr full) = omega (arith, full)
+
+-- the counts of workers whose gates never fail
+abbrev pub no_faults : {X : Type 0} → List X → List ℕ
+no_faults workers = map (λ w. 0) workers
+
+none_rose : {X : Type 0} (gates : List ℕ) (workers : List X) (index : ℕ) → RoseAtIndex gates (no_faults workers) index → ⊥
+none_rose [] workers index rose = rose
+none_rose (count ∷ gates) [] index rose = rose
+none_rose (count ∷ gates) (w ∷ workers) zero rose = never_rose count rose
+none_rose (count ∷ gates) (w ∷ workers) (suc index) rose = none_rose gates workers index rose
 
 -- the rule doesn't refuse a text that it says yes to
 not_refused : (records : List Record) → AllByRecursion (λ (r : Record). r.verdict ≡ rule_verdict 23121 r.text) records → (start : List ℕ) → rule_verdict 23121 start ≡ Yes → FirstIs start No records → ⊥
@@ -50,17 +61,17 @@ pub alike_in : (mode : TreeMode) → ((input : TreeInput) → AgreeingMapsReduce
 alike_in Perses visits levels input = visits input
 alike_in Hdd visits levels input = levels input
 
-module _ (mode : TreeMode) (number size : ℕ) (problem : Problem) (of : IsCaseProblem mode number size problem) (history : History) (by : BySaid (records_of history)) where
+module _ (mode : TreeMode) (number size : ℕ) (problem : Problem) (of : IsCaseProblem mode number size problem) {X : Type 0} (count : ℕ) (gates : List ℕ) (workers : List X) (history : History) (by : BySaid (records_of history)) where
   -- it fails only where memory runs out
-  pub only_memory : CasesGetYes → 1 ≤ size → (fault : RunFault) → RunFails [] problem history 0 0 0 0 fault → fault ≡ run.Memory
+  pub only_memory : CasesGetYes → 1 ≤ size → (fault : RunFault) → RunFails count [] problem history gates (no_faults workers) 0 0 fault → fault ≡ run.Memory
   only_memory get_yes some run.NotInteresting why =
       absurd (not_refused (records_of history) (recursion_from_All _ (records_of history) by) (start_of problem) (ap (rule_verdict 23121) (begins_with_case mode number size problem of) ∙ get_yes number size some) why.0.first)
-  only_memory get_yes some run.Script why = absurd (never_rose why.0)
-  only_memory get_yes some run.Journal why = absurd (never_rose why.1)
+  only_memory get_yes some (run.Script worker) why = absurd (none_rose gates workers why.0.0 why.0.2)
+  only_memory get_yes some run.Journal why = absurd (never_rose 0 why.0)
   only_memory get_yes some run.Memory why = refl
 
   -- the report's first lines and the text are the summary
-  pub is_summary : ((input : TreeInput) → AgreeingMapsReduceAlike (walk_mode (round_of mode) input)) → (text : List ℕ) (counts : Counts) → ReducesFrom [] problem history text counts → IsSummary mode number size (first_lines counts ++ text)
+  pub is_summary : ((input : TreeInput) → AgreeingMapsReduceAlike (walk_mode (round_of mode) input)) → (text : List ℕ) (counts : Counts) → ReducesFrom count [] problem history text counts → IsSummary mode number size (first_lines counts ++ text)
   is_summary alike text counts came =
       let records : List Record = records_of history in
       let reduced : IsReductionOf [] (verdict_in records) (Problem.of_tree mode of.input) text = subst (λ (p : Problem). IsReductionOf [] (verdict_in records) p text) of.is_problem came.reduced in
@@ -74,17 +85,17 @@ module _ (mode : TreeMode) (number size : ℕ) (problem : Problem) (of : IsCaseP
 
 -- A run of what was read of the program, without keep texts.
 module _ (mode : TreeMode) (number size : ℕ) (read : ReadProblem) (of : (problem : Problem) × IsReadAs [] read problem × IsCaseProblem mode number size problem) (keeps : List (List ℕ)) (none : keeps ≡ [])
-    (history : History) (by : BySaid (records_of history)) (outcome : Result Reduced RunFault) (ends : (one : Problem) → IsReadAs keeps read one → ProblemEnds keeps one history 0 0 0 0 outcome) where
-  its_end : ProblemEnds [] of.0 history 0 0 0 0 outcome
-  its_end = subst (λ (k : List (List ℕ)). ProblemEnds k of.0 history 0 0 0 0 outcome) none (ends of.0 (subst (λ (k : List (List ℕ)). IsReadAs k read of.0) (sym none) of.1))
+    {X : Type 0} (count : ℕ) (gates : List ℕ) (workers : List X) (history : History) (by : BySaid (records_of history)) (outcome : Result Reduced RunFault) (ends : (one : Problem) → IsReadAs keeps read one → ProblemEnds count keeps one history gates (no_faults workers) 0 0 outcome) where
+  its_end : ProblemEnds count [] of.0 history gates (no_faults workers) 0 0 outcome
+  its_end = subst (λ (k : List (List ℕ)). ProblemEnds count k of.0 history gates (no_faults workers) 0 0 outcome) none (ends of.0 (subst (λ (k : List (List ℕ)). IsReadAs k read of.0) (sym none) of.1))
 
   pub ends_with_summary : ((input : TreeInput) → AgreeingMapsReduceAlike (walk_mode (round_of mode) input)) → (reduced : Reduced) → outcome ≡ Ok reduced → IsSummary mode number size (first_lines reduced.counts ++ reduced.text.items)
   ends_with_summary alike reduced is =
-      let end = subst (ProblemEnds [] of.0 history 0 0 0 0) is its_end in
-      is_summary mode number size of.0 of.2 history by alike reduced.text.items reduced.counts end.0
+      let end = subst (ProblemEnds count [] of.0 history gates (no_faults workers) 0 0) is its_end in
+      is_summary mode number size of.0 of.2 count gates workers history by alike reduced.text.items reduced.counts end.0
 
   pub ends_in_memory : CasesGetYes → 1 ≤ size → (fault : RunFault) → outcome ≡ Err fault → fault ≡ run.Memory
-  ends_in_memory get_yes some fault is = only_memory mode number size of.0 of.2 history by get_yes some fault (subst (ProblemEnds [] of.0 history 0 0 0 0) is its_end)
+  ends_in_memory get_yes some fault is = only_memory mode number size of.0 of.2 count gates workers history by get_yes some fault (subst (ProblemEnds count [] of.0 history gates (no_faults workers) 0 0) is its_end)
 
 -- a text that is answered is this one
 pub answered : {X E : Type 0} (answer : Result X E) (items : X → List ℕ) (text : List ℕ) (P : List ℕ → Type 0) → IfOk answer (λ x. items x ≡ text) → P text → IfOk answer (λ x. P (items x))

@@ -8,8 +8,6 @@
 mod laws;
 mod reduce;
 mod summary;
-#[cfg(test)]
-mod tests;
 
 pub use faults::Memory;
 pub use laws::summaries_are_one;

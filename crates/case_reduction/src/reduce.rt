@@ -29,6 +29,9 @@ use run_gated::{Ran, RunFault};
 use run_problem::{ReadProblem, TreeMode, run_problem};
 use script_gate_trait::RuleGate;
 use std::alloc::Global;
+use std::sync::Wait;
+use std::thread::Threads;
+use worker_pool::Worker;
 
 /// The rule: its two bytes are the letters Q and Z.
 const RULE: u64 = 23_121;
@@ -96,7 +99,8 @@ fn memory_of(fault: RunFault) -> Memory
 /// The program of this number and size is reduced in this mode, with the letters Q and Z as the rule:
 /// the first four lines of the report, and the text that is left. The time is that of
 /// [`run_problem`].
-pub fn case_summary(
+pub fn case_summary<W: Threads + Wait + Sync>(
+    rt: &W,
     alloc: Global,
     number: u32,
     size: u32,
@@ -111,8 +115,8 @@ pub fn case_summary(
     reductions_agree::<TreeLevels>();
     let problem = case_problem(alloc, number, size, mode)?;
     let guard = Guard::new(KeepTexts::new(alloc));
-    let mut gate = RuleGate::<RULE>::new(alloc, false);
-    let Ran { outcome, .. } = run_problem(alloc, problem, guard, &mut gate, NullSink::new());
+    let mut workers = [Worker::new(RuleGate::<RULE>::new(alloc, false), 1)];
+    let Ran { outcome, .. } = run_problem(rt, alloc, problem, guard, &mut workers, NullSink::new());
     match outcome {
         Ok(reduced) => summary(alloc, &reduced),
         Err(fault) => Err(memory_of(fault)),

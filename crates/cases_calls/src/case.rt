@@ -23,14 +23,16 @@ pub struct Case {
     pub failing_events: Vec<u64>,
     /// The most bytes that the output takes.
     pub capacity: u64,
-    /// The rule of the gate, as the number of a `RuleGate`.
+    /// The rule of each gate, as the number of a `RuleGate`.
     pub rule: u64,
-    /// The answers of the gate in place of a rule, where there are any; the last one comes again and again.
+    /// The answers of each gate in place of a rule, where there are any; the last one comes again and again.
     pub answers: Vec<Said>,
+    /// Where it isn't 0: the gates go by the rule 98, and hold their asks until more than so many have begun.
+    pub width: u32,
 }
 
 impl Case {
-    /// No file, a gate that always says yes, no call that fails, and an output that takes all.
+    /// No file, gates that always say yes, no call that fails, and an output that takes all.
     pub fn new(alloc: Global) -> Case {
         Case {
             files: Vec::new(alloc),
@@ -40,14 +42,15 @@ impl Case {
             capacity: CAPACITY,
             rule: 0,
             answers: Vec::new(alloc),
+            width: 0,
         }
     }
 
     /// Takes a line of a case, by its first word: `case TEXT`, `file NAME TEXT`, `more COUNT TEXT`
     /// (so many times at the end of the last file), `mini NAME` (a file with the grammar of the generated
     /// programs), `generated NAME NUMBER SIZE` (a file with such a program), `rule N`, `answers yes no fail ..`,
-    /// `failing_calls N ..`, `failing_puts N ..`, `failing_events N ..` (puts into the journal) and
-    /// `capacity N`.
+    /// `holding N` (asks are held until more than so many have begun), `failing_calls N ..`,
+    /// `failing_puts N ..`, `failing_events N ..` (puts into the journal) and `capacity N`.
     pub fn set(&mut self, alloc: Global, key: &str, text: &str) -> Result<()> {
         match key {
             "case" => *self = Case::new(alloc),
@@ -57,6 +60,7 @@ impl Case {
             "generated" => self.generate(alloc, text)?,
             "rule" => self.rule = text.parse::<u64>()?,
             "answers" => self.answers = answers_in(alloc, text)?,
+            "holding" => self.width = text.parse::<u32>()?,
             "failing_calls" => self.failing_calls = numbers_in(alloc, text)?,
             "failing_puts" => self.failing_puts = numbers_in(alloc, text)?,
             "failing_events" => self.failing_events = numbers_in(alloc, text)?,

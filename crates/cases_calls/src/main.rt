@@ -1,21 +1,24 @@
-//! Prints how the top call ends over files, a gate, a journal and an output in memory, for `rt ci` to
+//! Prints how the top call ends over files, gates, a journal and an output in memory, for `rt ci` to
 //! compare with `stdout`, which was worked out by hand; none of it comes from a run. The ends of
 //! reductions by a grammar, and the journals and reports, were worked out apart from the program, by an
 //! independent model.
 //!
-//! Its input is a list of cases. `case` and what it shows begins one: there is no file, the gate always
-//! says yes, no call fails, and the output takes all. The lines after it change that, as [`Case::set`]
+//! Its input is a list of cases. `case` and what it shows begins one: there is no file, the gates always
+//! say yes, no call fails, and the output takes all. The lines after it change that, as [`Case::set`]
 //! says. `run` and the words of a command line run the program. After each run comes how it ended: the
 //! status, and then, where there are any, what was put, the journal's records, commits, torn tail and
-//! name, the gate's opening, and the files that changed. In a word or a text `%` and two hexadecimal
-//! digits are a byte, as `%0A` for a newline.
+//! name, the openings of the gates, and the files that changed. Where several workers came to a result,
+//! the records that the commits use are in place of all; and the numbers of records and of a worker are
+//! left out: these depend on how the workers interleave. In a word or a text `%` and two hexadecimal digits
+//! are a byte, as `%0A` for a newline.
 #![tactic(auto)]
 
 mod case;
 mod outcome;
+mod run;
 
 use crate::case::Case;
-use crate::outcome::outcome_of;
+use crate::run::run_shown;
 use anyhow::Result;
 use percent_encoding::percent_decode;
 use std::alloc::Global;
@@ -47,7 +50,7 @@ fn main(rt: HostRuntime) -> Result<()> {
         let (key, text) = line.as_str().split_once(' ').unwrap_or((line.as_str(), ""));
         if key == "run" {
             let words = words_in(alloc, text)?;
-            let outcome = outcome_of(alloc, &case, &words)?;
+            let outcome = run_shown(&rt, alloc, &case, &words)?;
             println!(rt; "{line}\n{outcome}")?;
         } else {
             case.set(alloc, key, text)?;

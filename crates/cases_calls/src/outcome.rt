@@ -2,66 +2,22 @@
 
 use crate::case::Case;
 use anyhow::{Result, bail};
-use command_perses::{Ended, perses};
+use command_perses::Ended;
 use edge_io::{MemFiles, MemSink};
 use percent_encoding::{CONTROLS, percent_encode};
 use reduce_journal::{Event, JournalFault, read_journal};
-use script_gate_trait::{Bytes, Gate, ListGate, Log, RuleGate, Verdict};
+use script_gate_trait::{Bytes, Log, Verdict};
 use std::alloc::Global;
 
 /// The most bytes that are printed; of a longer text its length is.
 const SHOWN: usize = 400;
 
-/// What a run leaves, beside the gate.
+/// What a run leaves, beside the gates.
 #[derive(Drop)]
-struct Outcome {
-    ended: Ended<MemSink>,
-    files: MemFiles,
-    out: MemSink,
-}
-
-/// Runs the words over a gate.
-fn run_over<G: Gate>(
-    alloc: Global,
-    case: &Case,
-    words: &[String],
-    gate: &mut G,
-) -> Result<Outcome> {
-    let mut files = case.mem_files(alloc)?;
-    let journal = case.mem_journal(alloc)?;
-    let mut out = case.mem_sink(alloc)?;
-    let ended = perses(alloc, words, &mut files, gate, journal, &mut out);
-    Ok(Outcome { ended, files, out })
-}
-
-fn by_rule<const R: u64>(alloc: Global, case: &Case, words: &[String]) -> Result<String> {
-    let mut gate = RuleGate::<R>::new(alloc, true);
-    let outcome = run_over(alloc, case, words, &mut gate)?;
-    shown(alloc, case, &outcome, gate.log())
-}
-
-fn by_answers(alloc: Global, case: &Case, words: &[String]) -> Result<String> {
-    let answers = Vec::from_slice(alloc, &case.answers)?;
-    let Some(later) = answers.last().copied() else {
-        bail!("no answer");
-    };
-    let mut gate = ListGate::new(alloc, answers, later);
-    let outcome = run_over(alloc, case, words, &mut gate)?;
-    shown(alloc, case, &outcome, Some(gate.log()))
-}
-
-/// Runs the words over the objects of the case, and says how the run ended.
-pub fn outcome_of(alloc: Global, case: &Case, words: &[String]) -> Result<String> {
-    if !case.answers.is_empty() {
-        return by_answers(alloc, case, words);
-    }
-    match case.rule {
-        0 => by_rule::<0>(alloc, case, words),
-        98 => by_rule::<98>(alloc, case, words),
-        255 => by_rule::<255>(alloc, case, words),
-        23121 => by_rule::<23121>(alloc, case, words),
-        rule => bail!("no gate has the rule {rule}"),
-    }
+pub struct Outcome {
+    pub ended: Ended<MemSink>,
+    pub files: MemFiles,
+    pub out: MemSink,
 }
 
 fn add_line(shown: &mut String, what: &str) -> Result<()> {
@@ -92,12 +48,19 @@ fn events_of(alloc: Global, journal: &MemSink) -> Result<(Vec<Event>, u64)> {
     }
 }
 
-fn add_record(shown: &mut String, alloc: Global, text: &Bytes, verdict: Verdict) -> Result<()> {
-    let verdict = match verdict {
+/// A record, after a word.
+fn add_record(
+    shown: &mut String,
+    alloc: Global,
+    word: &str,
+    text: &Bytes,
+    verdict: Verdict,
+) -> Result<()> {
+    add_line(shown, word)?;
+    shown.push_str(match verdict {
         Verdict::Yes => "yes",
         Verdict::No => "no",
-    };
-    add_line(shown, verdict)?;
+    })?;
     add_bytes(shown, alloc, text.as_slice())
 }
 
@@ -105,7 +68,7 @@ fn add_record(shown: &mut String, alloc: Global, text: &Bytes, verdict: Verdict)
 fn add_records(shown: &mut String, alloc: Global, events: &[Event]) -> Result<()> {
     for event in events {
         if let Event::Recorded { text, verdict } = event {
-            add_record(shown, alloc, text, *verdict)?;
+            add_record(shown, alloc, "", text, *verdict)?;
         }
     }
     Ok(())
@@ -126,6 +89,43 @@ fn add_commits(shown: &mut String, alloc: Global, events: &[Event]) -> Result<()
     Ok(())
 }
 
+/// The record of this number, from 1.
+fn record_at(events: &[Event], number: u64) -> Result<(&Bytes, Verdict)> {
+    let mut count: u64 = 0;
+    for event in events {
+        if let Event::Recorded { text, verdict } = event {
+            count = count.saturating_add(1);
+            if count == number {
+                return Ok((text, *verdict));
+            }
+        }
+    }
+    bail!("no record has the number {number}")
+}
+
+/// The records that the journal's commits use, in their order, each on a line. Which other records there
+/// are, and the numbers of all, depends on how the workers interleave.
+fn add_used(shown: &mut String, alloc: Global, events: &[Event]) -> Result<()> {
+    for event in events {
+        if let Event::Committed { number } = event {
+            let (text, verdict) = record_at(events, *number)?;
+            add_record(shown, alloc, "used ", text, verdict)?;
+        }
+    }
+    Ok(())
+}
+
+/// How many records the journal has.
+fn record_count(events: &[Event]) -> u64 {
+    let mut count: u64 = 0;
+    for event in events {
+        if matches!(event, Event::Recorded { .. }) {
+            count = count.saturating_add(1);
+        }
+    }
+    count
+}
+
 /// The journal's name and events, where it was opened.
 fn add_journal(
     shown: &mut String,
@@ -133,9 +133,14 @@ fn add_journal(
     journal: &MemSink,
     events: &[Event],
     torn: u64,
+    only_used: bool,
 ) -> Result<()> {
-    add_records(shown, alloc, events)?;
-    add_commits(shown, alloc, events)?;
+    if only_used {
+        add_used(shown, alloc, events)?;
+    } else {
+        add_records(shown, alloc, events)?;
+        add_commits(shown, alloc, events)?;
+    }
     if torn > 0 {
         let line = format!(in alloc; "torn tail of {torn} bytes")?;
         add_line(shown, line.as_str())?;
@@ -162,15 +167,33 @@ fn recorded_of(asked: &[Bytes], events: &[Event]) -> Option<usize> {
     Some(count)
 }
 
-/// The gate's opening, and whether it was asked for other texts than the recorded ones.
-fn add_log(shown: &mut String, alloc: Global, log: &Log, events: &[Event]) -> Result<()> {
-    if let Some(opening) = &log.opening {
-        let line = format!(in alloc; "worker {} opened with", opening.number)?;
-        add_line(shown, line.as_str())?;
-        add_bytes(shown, alloc, opening.work.as_slice())?;
-        add_bytes(shown, alloc, opening.script.as_slice())?;
-        add_bytes(shown, alloc, opening.name.as_slice())?;
+/// How many of the gates were opened.
+pub fn opened_count(logs: &[&Log]) -> u64 {
+    let mut count: u64 = 0;
+    for log in logs {
+        if log.opening.is_some() {
+            count = count.saturating_add(1);
+        }
     }
+    count
+}
+
+/// The openings of the gates.
+fn add_openings(shown: &mut String, alloc: Global, logs: &[&Log]) -> Result<()> {
+    for log in logs {
+        if let Some(opening) = &log.opening {
+            let line = format!(in alloc; "worker {} opened with", opening.number)?;
+            add_line(shown, line.as_str())?;
+            add_bytes(shown, alloc, opening.work.as_slice())?;
+            add_bytes(shown, alloc, opening.script.as_slice())?;
+            add_bytes(shown, alloc, opening.name.as_slice())?;
+        }
+    }
+    Ok(())
+}
+
+/// Whether the gate of a worker alone was asked for other texts than the recorded ones.
+fn add_asks(shown: &mut String, log: &Log, events: &[Event]) -> Result<()> {
     match recorded_of(log.asked.as_slice(), events) {
         None => add_line(shown, "other texts were asked than recorded")?,
         Some(count) if count < log.asked.len() => add_line(
@@ -197,18 +220,66 @@ fn add_files(shown: &mut String, alloc: Global, case: &Case, files: &MemFiles) -
     Ok(())
 }
 
-fn shown(alloc: Global, case: &Case, outcome: &Outcome, log: Option<&Log>) -> Result<String> {
-    let mut shown = format!(in alloc; "    status {}", outcome.ended.status)?;
-    if !outcome.out.bytes().is_empty() {
-        add_line(&mut shown, "put")?;
-        add_bytes(&mut shown, alloc, outcome.out.bytes())?;
+/// How many workers a run had.
+#[derive(Clone, Copy)]
+pub enum Workers {
+    One,
+    Several,
+}
+
+/// What was put, where several workers ran: without the number of records where it is that of the journal;
+/// and without the number of a worker where its gate was opened.
+fn add_put(shown: &mut String, alloc: Global, out: &str, opened: u64, records: u64) -> Result<()> {
+    let mut end = format!(in alloc; "records: {records}\n")?;
+    if let Some(report) = out.strip_suffix(end.as_str()) {
+        return add_bytes(shown, alloc, report.as_bytes());
     }
+    for number in 1..opened.saturating_add(1) {
+        end = format!(in alloc; "worker {number}\n")?;
+        if let Some(line) = out.strip_suffix(end.as_str()) {
+            add_bytes(shown, alloc, line.as_bytes())?;
+            shown.push_str("a worker")?;
+            return Ok(());
+        }
+    }
+    add_bytes(shown, alloc, out.as_bytes())
+}
+
+/// How the run of a case ended over gates that have these logs and answered so many asks.
+pub fn shown(
+    alloc: Global,
+    case: &Case,
+    outcome: &Outcome,
+    logs: &[&Log],
+    asked: u64,
+    workers: Workers,
+) -> Result<String> {
+    let mut shown = format!(in alloc; "    status {}", outcome.ended.status)?;
     let journal = &outcome.ended.journal;
     let (events, torn) = events_of(alloc, journal)?;
-    add_journal(&mut shown, alloc, journal, &events, torn)?;
-    match log {
-        Some(log) => add_log(&mut shown, alloc, log, &events)?,
-        None => bail!("the gate has no log"),
+    if !outcome.out.bytes().is_empty() {
+        add_line(&mut shown, "put")?;
+        match workers {
+            Workers::One => add_bytes(&mut shown, alloc, outcome.out.bytes())?,
+            Workers::Several => add_put(
+                &mut shown,
+                alloc,
+                str::from_utf8(outcome.out.bytes())?,
+                opened_count(logs),
+                record_count(&events),
+            )?,
+        }
+    }
+    let only_used = matches!(workers, Workers::Several) && outcome.ended.status == 0;
+    add_journal(&mut shown, alloc, journal, &events, torn, only_used)?;
+    add_openings(&mut shown, alloc, logs)?;
+    match (workers, logs.first()) {
+        (Workers::One, Some(log)) => add_asks(&mut shown, log, &events)?,
+        _ if asked != record_count(&events) => add_line(
+            &mut shown,
+            "more or fewer texts were asked than recorded",
+        )?,
+        _ => {}
     }
     add_files(&mut shown, alloc, case, &outcome.files)?;
     Ok(shown)

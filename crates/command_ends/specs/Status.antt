@@ -27,6 +27,10 @@ fault_line text = line_of_text (codes "grammar: " ++ text)
 abbrev pub keep_text : ℕ → List ℕ
 keep_text number = codes "keep text " ++ (decimal number ++ codes " is missing")
 
+-- the text for a call that failed of the gate of this worker
+abbrev pub script_text : ℕ → List ℕ
+script_text worker = codes "script fault at worker " ++ decimal worker
+
 -- the status is one of these
 abbrev pub IsOneOf : List ℕ → ℕ → Type 0
 IsOneOf statuses status = IsTrue (list_any (λ s. s == status) statuses)
@@ -43,7 +47,7 @@ ending_of NoParse = (7, line_of_text (codes "input does not parse"))
 ending_of NotInteresting = (8, line_of_text (codes "start is not interesting"))
 ending_of (KeepMissing line) = (9, string_bytes line)
 ending_of (TooLong file) = (10, line_of_text (word_for file ++ codes " is too long"))
-ending_of Script = (11, line_of_text (codes "script fault at worker 1"))
+ending_of (Script line) = (11, line.bytes)
 ending_of Journal = (12, line_of_text (codes "journal fault"))
 
 abbrev pub status_of : Refusal → ℕ
@@ -52,12 +56,12 @@ status_of refusal = (ending_of refusal).0
 abbrev pub line_of : Refusal → List ℕ
 line_of refusal = (ending_of refusal).1
 
--- the refusal for a run that ended without a result
-abbrev pub refusal_of_run : RunFault → Refusal
-refusal_of_run run.NotInteresting = NotInteresting
-refusal_of_run run.Script = Script
-refusal_of_run run.Journal = Journal
-refusal_of_run run.Memory = Memory
+-- the status and the line for a run that ended without a result
+abbrev pub ending_of_run : RunFault → ℕ × List ℕ
+ending_of_run run.NotInteresting = (8, line_of_text (codes "start is not interesting"))
+ending_of_run (run.Script worker) = (11, line_of_text (script_text worker))
+ending_of_run run.Journal = (12, line_of_text (codes "journal fault"))
+ending_of_run run.Memory = (1, line_of_text (codes "out of memory"))
 
 -- the status is that of the refusal, and its line was put
 pub record EndsRefused (old new : SeenOut) (status : ℕ) (refusal : Refusal) : Type 0 where

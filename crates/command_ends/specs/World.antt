@@ -1,10 +1,12 @@
--- What is visible of the files, a gate, the journal and `out` at one moment, and what may have become of each since.
-use Rattle.std.specs.Prelude.{◌≡◌, ◌<◌, ◌≤◌, ◌⊎◌, ℕ, List, [], ◌∷◌, ◌++◌, length, Option, IsSomeAnd, option_map, codes}
+-- What is visible of the files, the gates, the journal and `out` at one moment, and what may have become of each since.
+use Rattle.std.specs.Prelude.{◌≡◌, ◌<◌, ◌≤◌, ◌⊎◌, ℕ, List, [], ◌∷◌, ◌++◌, length, map, Option, IsSomeAnd, option_map, codes}
 use Rattle.faults.specs.Count.{Rose}
 use Rattle.edge_io.specs.Files.{FileContent, Holds, SameFiles}
 use Rattle.edge_io.specs.Sink.{Put, GrewByPrefix, with_piece}
 use Rattle.script_gate_trait.specs.declared.log.Log.{Log}
 use Rattle.reduce_journal.specs.History.{History}
+use Rattle.run_gated.specs.Workers.{RoseAt}
+use Rattle.worker_pool.specs.declared.worker.Worker.{Worker}
 
 -- what an object shows, and how many of its calls failed
 pub record Seen (T : Type 0) : Type 0 where
@@ -28,10 +30,34 @@ SeenJournal = Seen (Option Put)
 abbrev pub SeenOut : Type 0
 SeenOut = Seen (Option Put)
 
+-- the gates of these workers, by their members
+abbrev pub seen_gates : {G : Type 0} → (G → Option Log) → (G → ℕ) → List (Worker G) → List SeenGate
+seen_gates log faults workers = map (λ w. seen log faults w.gate) workers
+
+-- the logs of gates, and their counts
+abbrev pub logs_of : List SeenGate → List (Option Log)
+logs_of gates = map (λ (gate : SeenGate). gate.shown) gates
+
+abbrev pub counts_of : List SeenGate → List ℕ
+counts_of gates = map (λ (gate : SeenGate). gate.faults) gates
+
+-- a call failed of the gate of the worker of this number, from 1
+abbrev pub GateFailed : ℕ → List SeenGate → List SeenGate → Type 0
+GateFailed worker old new = RoseAt worker (counts_of old) (counts_of new)
+
+-- a call failed of the gate of one of so many workers
+abbrev pub AnyGateFailed : ℕ → List SeenGate → List SeenGate → Type 0
+AnyGateFailed workers old new = (worker : ℕ) × (worker ≤ workers) × GateFailed worker old new
+
+-- no call of a gate failed
+abbrev pub AreQuiet : List SeenGate → List SeenGate → Type 0
+AreQuiet old new = counts_of new ≡ counts_of old
+
 -- all that a command may reach
 pub record World : Type 0 where
   pub files : SeenFiles
-  pub gate : SeenGate
+  -- those of the workers, in the order of their numbers
+  pub gates : List SeenGate
   pub journal : SeenJournal
   pub out : SeenOut
 
@@ -48,10 +74,10 @@ pub record FilesKept (old new : SeenFiles) : Type 0 where
   pub same : SameFiles old.shown new.shown
   pub quiet : IsQuiet old new
 
--- neither the gate nor the journal was reached: nothing was recorded, and both are as before
+-- neither a gate nor the journal was reached: nothing was recorded, and all are as before
 pub record NotReached (history : History) (old new : World) : Type 0 where
   pub no_history : history ≡ []
-  pub gate : new.gate ≡ old.gate
+  pub gates : new.gates ≡ old.gates
   pub journal : new.journal ≡ old.journal
 
 -- the piece was put whole

@@ -2,8 +2,10 @@
 
 ghost use Rattle.std.specs.Prelude.{◌≡◌};
 ghost use Rattle.grammar_load.specs.Message.{grammar_fault_text};
-ghost use Rattle.command_ends.specs.Status.{IsGrammarRefusal, IsInputRefusal, IsKeepRefusal, line_of, status_of};
+ghost use Rattle.command_ends.specs.Status.{IsGrammarRefusal, IsInputRefusal, IsKeepRefusal, line_of, script_text, status_of};
+ghost use Rattle.command_ends.specs.World.{line_of_text};
 
+use arrayvec::ArrayString;
 use faults::Memory;
 use grammar_load::GrammarFault;
 use reduce_trees_input::InputFault;
@@ -42,10 +44,23 @@ pub enum Refusal {
     NotInteresting,
     /// This file is longer than its limit.
     TooLong(NamedFile),
-    /// The script can't be asked.
-    Script,
+    /// The script of a worker can't be asked, which this line says.
+    Script(ArrayString<64>),
     /// The journal can't be written.
     Journal,
+}
+
+/// The line for a call that failed of the gate of this worker. It takes no memory, so that a fault of a
+/// script keeps its status.
+fn script_line(worker: u32) -> ArrayString<64>
+    ensures { result.bytes ≡ line_of_text (script_text worker) }
+{
+    let mut digits = itoa::Buffer::new();
+    let mut line = ArrayString::<64>::new();
+    line.push_str("perses: script fault at worker ");
+    line.push_str(digits.format(worker));
+    line.push('\n');
+    line
 }
 
 impl Refusal {
@@ -104,7 +119,7 @@ impl Refusal {
             Refusal::KeepMissing(line) => (9, line.as_str()),
             Refusal::TooLong(NamedFile::Input) => (10, "perses: input is too long\n"),
             Refusal::TooLong(NamedFile::Grammar) => (10, "perses: grammar is too long\n"),
-            Refusal::Script => (11, "perses: script fault at worker 1\n"),
+            Refusal::Script(line) => (11, line.as_str()),
             Refusal::Journal => (12, "perses: journal fault\n"),
         }
     }
@@ -121,14 +136,15 @@ impl From<Memory> for Refusal {
 }
 
 impl From<RunFault> for Refusal {
-    ghost use Rattle.command_ends.specs.Status.{refusal_of_run};
+    ghost use Rattle.std.specs.Prelude.{◌≡◌};
+    ghost use Rattle.command_ends.specs.Status.{ending_of, ending_of_run};
 
-    ghost from_gives = { λ fault refusal. refusal ≡ refusal_of_run fault };
+    ghost from_gives = { λ fault refusal. ending_of refusal ≡ ending_of_run fault };
 
     fn from(fault: RunFault) -> Refusal {
         match fault {
             RunFault::NotInteresting => Refusal::NotInteresting,
-            RunFault::Script => Refusal::Script,
+            RunFault::Script { worker } => Refusal::Script(script_line(worker)),
             RunFault::Journal => Refusal::Journal,
             RunFault::Memory => Refusal::Memory,
         }

@@ -13,8 +13,8 @@ use Rattle.command_normal.specs.Normal.{NormalEnds, PrintsNormal}
 use Rattle.command_reduce.specs.Reduce.{ReduceEnds, Reduces}
 use Rattle.command_selftest.specs.Selftest.{RunsSelftest, SelftestEnds}
 use Rattle.command_ends.specs.Status.{EndsRefused, IsOneOf}
-use Rattle.command_ends.specs.World.{NotReached, SeenFiles, SeenOut, World}
-use Rattle.command_reduce.proofs.CommandLemmas.{none_sound}
+use Rattle.command_ends.specs.World.{NotReached, SeenFiles, SeenOut, World, logs_of}
+use Rattle.command_reduce.proofs.UsedLemmas.{none_sound}
 use Rattle.command_normal.proofs.NormalLemmas.{prints_normal}
 use Rattle.command_normal.proofs.NormalByStatusLemmas.{normal_by_status}
 use Rattle.command_reduce.proofs.ReduceByStatusLemmas.{reduce_by_status}
@@ -25,13 +25,13 @@ module _ (may_say : List ℕ → Verdict → Type 0) (old : World) (out : SeenOu
   new = record old { out = out }
 
   untouched : NotReached [] old new
-  untouched = record { no_history = refl; gate = refl; journal = refl }
+  untouched = record { no_history = refl; gates = refl; journal = refl }
 
   module _ (end : EndsRefused old.out out 1 Memory) where
     reduces : (options : ReduceOptions) → Reduces options may_say old new 1
     reduces options = record {
       history = [];
-      ends = ReduceEnds.memory (record { same = λ name. refl; quiet = refl }) refl (JournalSoFar.untouched (record { no_history = refl; same = refl })) end.line;
+      ends = ReduceEnds.memory (record { same = λ name. refl; quiet = refl }) (λ alone. refl) (JournalSoFar.untouched (record { no_history = refl; same = refl })) end.line;
       must_end = record {
         grammar_over = λ g is over. refl;
         grammar_missing = λ g is none. refl;
@@ -45,13 +45,16 @@ module _ (may_say : List ℕ → Verdict → Type 0) (old : World) (out : SeenOu
         keep_missing = λ shown. refl;
         complete = λ shown files_fine gate_fine journal_fine out_fine. refl;
         first_no = λ first_no. refl;
+        first_no_alone = λ alone first_no. refl;
         files_failed = λ failed. absurd (failed refl);
-        gate_failed = λ failed. absurd (failed refl);
+        gate_failed = λ failed. refl;
+        gate_failed_alone = λ alone failed. absurd (failed refl);
         journal_failed = λ failed. absurd (failed refl);
         out_failed = λ failed is. cc is;
       };
-      sound = none_sound options may_say [] old.gate old.gate old.journal old.journal refl refl refl;
+      sound = none_sound options may_say [] (logs_of old.gates) (logs_of old.gates) old.journal old.journal refl refl refl;
       of_input = tt;
+      others = refl;
     }
 
     prints : (grammar : GrammarSource) → PrintsNormal grammar old.files old.files old.out out 1

@@ -2,3 +2,4 @@ pub use Rattle.command_normal.specs as CommandNormal
 pub use Rattle.command_selftest.specs.Selftest
 pub use Rattle.command_reduce.specs as CommandReduce
 pub mod Call
+pub mod Workers

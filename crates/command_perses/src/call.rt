@@ -1,10 +1,11 @@
 //! The top call.
 
-ghost use Rattle.std.specs.Prelude.{◌≡◌, ◌⊎◌, None, Some, IfErr, IfOk, map, string_bytes};
+ghost use Rattle.std.specs.Prelude.{◌≡◌, ◌⊎◌, None, Some, IfErr, IfOk, length, map, string_bytes};
 ghost use Rattle.command_perses.specs.Call.{RunsCommand, WordsFail};
 ghost use Rattle.command_words.specs.Commands.{command_line_of};
 ghost use Rattle.command_words.specs.Lines.{IsSized, command_read};
-ghost use Rattle.command_ends.specs.World.{seen};
+ghost use Rattle.command_ends.specs.World.{seen, seen_gates};
+ghost use Rattle.run_gated.specs.Workers.{AreIdle};
 
 use command_ends::{Ended, Refusal, end_refused};
 use command_normal::normal;
@@ -14,6 +15,9 @@ use command_words::{CommandLine, read_words};
 use edge_io::{Files, Sink};
 use script_gate_trait::Gate;
 use std::alloc::Global;
+use std::sync::Wait;
+use std::thread::Threads;
+use worker_pool::Worker;
 
 /// The command line that the words are, or why there is none.
 fn read_line<'a>(alloc: Global, words: &'a [String]) -> Result<CommandLine<'a>, Refusal>
@@ -31,18 +35,24 @@ fn read_line<'a>(alloc: Global, words: &'a [String]) -> Result<CommandLine<'a>, 
 /// Does what the words ask for. What it promises at each status is stated with the command:
 /// `ReduceEnds` for `reduce`, `NormalEnds` for `normal`, `SelftestEnds` for `selftest`. Words that are
 /// no command line have status 2, and no others, but where memory ran out before they were read, which
-/// is status 1. `reduce` opens the journal; no other command touches it.
-pub fn perses<F: Files, G: Gate, J: Sink + Drop, O: Sink>(
+/// is status 1. `reduce` opens the journal; no other command touches it. The workers are numbered from 1
+/// in order; `reduce` uses as many as the words say, from the first on.
+pub fn perses<F: Files, G: Gate + Send, J: Sink + Drop + Send, O: Sink, W: Threads + Wait + Sync>(
+    rt: &W,
     alloc: Global,
     words: &[String],
     files: &mut F,
-    gate: &mut G,
+    workers: &mut [Worker<G>],
     journal: J,
     out: &mut O,
 ) -> Ended<J>
+    requires idle { AreIdle workers.old }
+    requires sixteen { length workers.old ≡ 16 }
+    ensures idle { AreIdle workers.new }
+    ensures as_many { length workers.new ≡ length workers.old }
     ensures runs { RunsCommand G.may_say
-        (record { files = seen F.content F.faults files.old; gate = seen G.log G.faults gate.old; journal = seen J.put_so_far J.faults journal; out = seen O.put_so_far O.faults out.old })
-        (record { files = seen F.content F.faults files.new; gate = seen G.log G.faults gate.new; journal = seen J.put_so_far J.faults result.journal; out = seen O.put_so_far O.faults out.new })
+        (record { files = seen F.content F.faults files.old; gates = seen_gates G.log G.faults workers.old; journal = seen J.put_so_far J.faults journal; out = seen O.put_so_far O.faults out.old })
+        (record { files = seen F.content F.faults files.new; gates = seen_gates G.log G.faults workers.new; journal = seen J.put_so_far J.faults result.journal; out = seen O.put_so_far O.faults out.new })
         result.status (command_line_of (map string_bytes words.now)) }
     ensures usage { result.status ≡ 2 → command_line_of (map string_bytes words.now) ≡ None }
     ensures no_other { command_line_of (map string_bytes words.now) ≡ None → (result.status ≡ 2) ⊎ (result.status ≡ 1) }
@@ -52,13 +62,13 @@ pub fn perses<F: Files, G: Gate, J: Sink + Drop, O: Sink>(
             status: end_refused(out, &refusal),
             journal,
         },
-        Ok(CommandLine::Reduce(line)) => reduce(alloc, &line, files, gate, journal, out),
+        Ok(CommandLine::Reduce(line)) => reduce(rt, alloc, &line, files, workers, journal, out),
         Ok(CommandLine::Normal(grammar)) => Ended {
             status: normal(alloc, grammar, files, out),
             journal,
         },
         Ok(CommandLine::Selftest(line)) => Ended {
-            status: selftest(alloc, line, out),
+            status: selftest(rt, alloc, line, out),
             journal,
         },
     }

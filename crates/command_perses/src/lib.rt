@@ -1,22 +1,28 @@
-//! The top call: what the program does, over any files, gate, journal and output.
+//! The top call: what the program does, over any files, gates, journal and output.
 //!
-//! Enter by [`perses`], whose contract is the program's, and which only dispatches. Each command is a
+//! Enter by [`perses`], whose contract is the program's, and which only dispatches; [`add_worker`] makes
+//! the workers that it takes. Each command is a
 //! crate of its own; read first how `reduce` ends, by its status: `ReduceEnds` in
 //! `command_reduce/specs/Reduce.antt`. The line of each status is in `command_ends`. So a program runs
 //! over the machine's files and processes:
 //!
 //! ```
 //! let mut files = DiskFiles::new(rt.clone()?, rt.alloc());
-//! let mut gate = ProcessGate::new(rt.clone()?, rt.alloc());
+//! let mut workers = no_workers(rt.alloc());
+//! for _ in 0..16 {
+//!     add_worker(&mut workers, ProcessGate::new(rt.clone()?, rt.alloc()))?;
+//! }
 //! let journal = StreamSink::file(rt.clone()?);
 //! let mut out = StreamSink::output(rt.clone()?);
-//! let ended = perses(rt.alloc(), &words, &mut files, &mut gate, journal, &mut out);
+//! let ended = perses(&rt, rt.alloc(), &words, &mut files, &mut workers, journal, &mut out);
 //! ```
 #![tactic(auto)]
 
 mod call;
+mod workers;
 
 pub use call::perses;
 pub use command_ends::Ended;
 pub use command_normal::normal_by_status;
 pub use command_reduce::reduce_by_status;
+pub use workers::{add_worker, no_workers};

@@ -4,3 +4,5 @@ pub mod StartLemmas
 pub mod MustEndLemmas
 pub mod CommandLemmas
 pub mod ReduceByStatusLemmas
+pub mod UsedLemmas
+pub mod LentLemmas

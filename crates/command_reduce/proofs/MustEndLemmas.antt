@@ -13,7 +13,7 @@ use Rattle.reduce_trees_input.specs.declared.fault.InputFault.TheVariants as inp
 use Rattle.command_ends.specs.declared.status.NamedFile.TheVariants as named
 use Rattle.command_grammar.specs.Grammar.{IsFaultIn}
 use Rattle.run_problem.specs.Problem.{Problem, start_of}
-use Rattle.run_problem.specs.Ends.{ReducesFrom}
+use Rattle.run_problem.specs.Ends.{IsUnfinished, ReducesFrom}
 use Rattle.reduce_journal.specs.History.{History, records_of}
 use Rattle.reduce_journal.specs.Report.{report_text}
 use Rattle.reduce_journal.specs.declared.counts.Counts.{Counts}
@@ -22,7 +22,7 @@ use Rattle.command_reduce.specs.Reduce.{InputHas, IsShownFault, IsShownProblem, 
 use Rattle.command_reduce.specs.Reduce.ReduceEnds.{done, memory, unread, unwritten, unput, faulty, no_token, unparsed, uninteresting, keep_missing, too_long, script, journal}
 use Rattle.command_ends.specs.Status.{IsUncut}
 use Rattle.command_words.specs.Commands.{GrammarOptions, GrammarSource, ModeOptions, ReduceOptions}
-use Rattle.command_ends.specs.World.{IsQuiet, IsShownWithin, SeenGate, SeenJournal, WasRead, World, grammar_limit, input_limit}
+use Rattle.command_ends.specs.World.{IsQuiet, IsShownWithin, SeenJournal, counts_of, WasRead, World, grammar_limit, input_limit}
 use Rattle.command_ends.proofs.FileLemmas.{longer_not_missing, not_longer, read_not_missing, read_not_over}
 use Rattle.command_reduce.proofs.ProblemLemmas.{any_problem, fault_is, fault_not_shown, faulty_not_shown, grammar_not_faulty, grammar_not_missing, grammar_not_over, input_read, long_grammar, long_grammar_not_shown, long_input_no_fault, long_input_not_shown, no_fault, no_grammar, not_faulty, parse_caused, reached_grammar, read_and_shown, shown_not_faulty, shown_not_long, uncut_caused}
 
@@ -63,10 +63,17 @@ module _ (faults : InputFaultOnce) (languages : InputsAreInLanguage) (options : 
 
   yes_first : (text report : List ℕ) → ReducesTo options old.files history text report → FirstIsNo records → ⊥
   yes_first text report reduces first_no =
-      let P : Problem → Type 0 = λ problem. (counts : Counts) × ReducesFrom options.keeps problem history text counts × (report ≡ report_text counts) in
+      let P : Problem → Type 0 = λ problem. (counts : Counts) × ReducesFrom options.jobs options.keeps problem history text counts × (report ≡ report_text counts) in
       let it : (problem : Problem) × ((holds_all options.keeps (start_of problem) ≡ true) × P problem) =
       any_problem options old.files (λ problem. (holds_all options.keeps (start_of problem) ≡ true) × P problem) reduces in
       yes_no (start_of it.0) records it.1.1.1.first first_no
+
+  not_no : options.jobs ≡ 1 → ProblemAccepted options old.files (λ problem. options.jobs ≡ 1 → IsUnfinished options.keeps problem history) → FirstIsNo records → ⊥
+  not_no alone read first_no =
+      let P : Problem → Type 0 = λ problem. options.jobs ≡ 1 → IsUnfinished options.keeps problem history in
+      let it : (problem : Problem) × ((holds_all options.keeps (start_of problem) ≡ true) × P problem) =
+      any_problem options old.files (λ problem. (holds_all options.keeps (start_of problem) ≡ true) × P problem) read in
+      (it.1.1 alone).not_no first_no
 
   so_far_quiet : (name : List ℕ) → JournalSoFar name history old.journal new.journal → IsQuiet old.journal new.journal
   so_far_quiet name (JournalSoFar.whole it) = it.quiet
@@ -99,8 +106,10 @@ module _ (faults : InputFaultOnce) (languages : InputsAreInLanguage) (options : 
     keep_missing = λ shown. absurd (keeps_all _ writes.reduced.reduces shown);
     complete = λ shown files_fine gate_fine journal_fine out_fine. refl;
     first_no = λ first_no. absurd (yes_first _ _ writes.reduced.reduces first_no);
+    first_no_alone = λ alone first_no. absurd (yes_first _ _ writes.reduced.reduces first_no);
     files_failed = λ failed. absurd (failed writes.files_quiet);
-    gate_failed = λ failed. absurd (failed writes.gate_quiet);
+    gate_failed = λ failed. absurd (failed writes.gates_quiet);
+    gate_failed_alone = λ alone failed. absurd (failed writes.gates_quiet);
     journal_failed = λ failed. absurd (failed writes.journal.quiet);
     out_failed = λ failed. absurd (failed put.quiet);
   }
@@ -117,12 +126,14 @@ module _ (faults : InputFaultOnce) (languages : InputsAreInLanguage) (options : 
     keep_missing = λ shown. absurd (keeps_all _ writes.reduced.reduces shown);
     complete = λ shown files_fine gate_fine journal_fine out_fine. absurd (out_fine put.failed);
     first_no = λ first_no. absurd (yes_first _ _ writes.reduced.reduces first_no);
+    first_no_alone = λ alone first_no. absurd (yes_first _ _ writes.reduced.reduces first_no);
     files_failed = λ failed. absurd (failed writes.files_quiet);
-    gate_failed = λ failed. absurd (failed writes.gate_quiet);
+    gate_failed = λ failed. absurd (failed writes.gates_quiet);
+    gate_failed_alone = λ alone failed. absurd (failed writes.gates_quiet);
     journal_failed = λ failed. absurd (failed writes.journal.quiet);
     out_failed = λ failed is. cc is;
   }
-  must_end (memory files gate_quiet kept put) = record {
+  must_end (memory files gates_quiet kept put) = record {
     grammar_over = λ g is over. refl;
     grammar_missing = λ g is none. refl;
     faulty = λ g is shown. refl;
@@ -135,8 +146,10 @@ module _ (faults : InputFaultOnce) (languages : InputsAreInLanguage) (options : 
     keep_missing = λ shown. refl;
     complete = λ shown files_fine gate_fine journal_fine out_fine. refl;
     first_no = λ first_no. refl;
+    first_no_alone = λ alone first_no. refl;
     files_failed = λ failed. absurd (failed files.quiet);
-    gate_failed = λ failed. absurd (failed gate_quiet);
+    gate_failed = λ failed. refl;
+    gate_failed_alone = λ alone failed. absurd (failed (gates_quiet alone));
     journal_failed = λ failed. absurd (failed (so_far_quiet _ kept));
     out_failed = λ failed is. cc is;
   }
@@ -153,12 +166,14 @@ module _ (faults : InputFaultOnce) (languages : InputsAreInLanguage) (options : 
     keep_missing = λ shown. refl;
     complete = λ shown files_fine gate_fine journal_fine out_fine. absurd (files_fine call_failed);
     first_no = λ first_no. absurd (none_no records (ap records_of untouched.no_history) first_no);
+    first_no_alone = λ alone first_no. absurd (none_no records (ap records_of untouched.no_history) first_no);
     files_failed = λ failed. refl;
-    gate_failed = λ failed. absurd (failed (ap (λ (gate : SeenGate). gate.faults) untouched.gate));
+    gate_failed = λ failed. absurd (failed (ap counts_of untouched.gates));
+    gate_failed_alone = λ alone failed. absurd (failed (ap counts_of untouched.gates));
     journal_failed = λ failed. absurd (failed (ap (λ (j : SeenJournal). j.faults) untouched.journal));
     out_failed = λ failed is. cc is;
   }
-  must_end (unwritten call_failed text report reduces others gate_quiet kept put) = record {
+  must_end (unwritten call_failed text report reduces others gates_quiet kept put) = record {
     grammar_over = λ g is over. absurd (grammar_not_over options old.files _ reduces g is over);
     grammar_missing = λ g is none. absurd (grammar_not_missing options old.files _ reduces g is none);
     faulty = λ g is shown. absurd (grammar_not_faulty options old.files _ reduces g is shown);
@@ -171,8 +186,10 @@ module _ (faults : InputFaultOnce) (languages : InputsAreInLanguage) (options : 
     keep_missing = λ shown. absurd (keeps_all _ reduces shown);
     complete = λ shown files_fine gate_fine journal_fine out_fine. absurd (files_fine call_failed);
     first_no = λ first_no. absurd (yes_first _ _ reduces first_no);
+    first_no_alone = λ alone first_no. absurd (yes_first _ _ reduces first_no);
     files_failed = λ failed. refl;
-    gate_failed = λ failed. absurd (failed gate_quiet);
+    gate_failed = λ failed. absurd (failed gates_quiet);
+    gate_failed_alone = λ alone failed. absurd (failed gates_quiet);
     journal_failed = λ failed. absurd (failed kept.quiet);
     out_failed = λ failed is. cc is;
   }
@@ -189,8 +206,10 @@ module _ (faults : InputFaultOnce) (languages : InputsAreInLanguage) (options : 
     keep_missing = λ shown. absurd (faulty_not_shown options old.files trees text _ mode read shown);
     complete = λ shown files_fine gate_fine journal_fine out_fine. absurd (faulty_not_shown options old.files trees text _ mode read shown);
     first_no = λ first_no. absurd (none_no records (ap records_of untouched.no_history) first_no);
+    first_no_alone = λ alone first_no. absurd (none_no records (ap records_of untouched.no_history) first_no);
     files_failed = λ failed. absurd (failed files.quiet);
-    gate_failed = λ failed. absurd (failed (ap (λ (gate : SeenGate). gate.faults) untouched.gate));
+    gate_failed = λ failed. absurd (failed (ap counts_of untouched.gates));
+    gate_failed_alone = λ alone failed. absurd (failed (ap counts_of untouched.gates));
     journal_failed = λ failed. absurd (failed (ap (λ (j : SeenJournal). j.faults) untouched.journal));
     out_failed = λ failed is. cc is;
   }
@@ -207,8 +226,10 @@ module _ (faults : InputFaultOnce) (languages : InputsAreInLanguage) (options : 
     keep_missing = λ shown. absurd (fault_not_shown options old.files faults trees fault (uncut_caused fault uncut) read _ mode shown);
     complete = λ shown files_fine gate_fine journal_fine out_fine. absurd (fault_not_shown options old.files faults trees fault (uncut_caused fault uncut) read _ mode shown);
     first_no = λ first_no. absurd (none_no records (ap records_of untouched.no_history) first_no);
+    first_no_alone = λ alone first_no. absurd (none_no records (ap records_of untouched.no_history) first_no);
     files_failed = λ failed. absurd (failed files.quiet);
-    gate_failed = λ failed. absurd (failed (ap (λ (gate : SeenGate). gate.faults) untouched.gate));
+    gate_failed = λ failed. absurd (failed (ap counts_of untouched.gates));
+    gate_failed_alone = λ alone failed. absurd (failed (ap counts_of untouched.gates));
     journal_failed = λ failed. absurd (failed (ap (λ (j : SeenJournal). j.faults) untouched.journal));
     out_failed = λ failed is. cc is;
   }
@@ -225,12 +246,14 @@ module _ (faults : InputFaultOnce) (languages : InputsAreInLanguage) (options : 
     keep_missing = λ shown. absurd (fault_not_shown options old.files faults trees input_fault.NoParse (parse_caused input_fault.NoParse refl) read _ mode shown);
     complete = λ shown files_fine gate_fine journal_fine out_fine. absurd (fault_not_shown options old.files faults trees input_fault.NoParse (parse_caused input_fault.NoParse refl) read _ mode shown);
     first_no = λ first_no. absurd (none_no records (ap records_of untouched.no_history) first_no);
+    first_no_alone = λ alone first_no. absurd (none_no records (ap records_of untouched.no_history) first_no);
     files_failed = λ failed. absurd (failed files.quiet);
-    gate_failed = λ failed. absurd (failed (ap (λ (gate : SeenGate). gate.faults) untouched.gate));
+    gate_failed = λ failed. absurd (failed (ap counts_of untouched.gates));
+    gate_failed_alone = λ alone failed. absurd (failed (ap counts_of untouched.gates));
     journal_failed = λ failed. absurd (failed (ap (λ (j : SeenJournal). j.faults) untouched.journal));
     out_failed = λ failed is. cc is;
   }
-  must_end (uninteresting read files gate_quiet kept put) = record {
+  must_end (uninteresting read files gates_quiet kept put) = record {
     grammar_over = λ g is over. absurd (grammar_not_over options old.files _ read g is over);
     grammar_missing = λ g is none. absurd (grammar_not_missing options old.files _ read g is none);
     faulty = λ g is shown. absurd (grammar_not_faulty options old.files _ read g is shown);
@@ -243,8 +266,10 @@ module _ (faults : InputFaultOnce) (languages : InputsAreInLanguage) (options : 
     keep_missing = λ shown. absurd (keeps_all _ read shown);
     complete = λ shown files_fine gate_fine journal_fine out_fine. refl;
     first_no = λ first_no. refl;
+    first_no_alone = λ alone first_no. refl;
     files_failed = λ failed. absurd (failed files.quiet);
-    gate_failed = λ failed. absurd (failed gate_quiet);
+    gate_failed = λ failed. absurd (failed gates_quiet);
+    gate_failed_alone = λ alone failed. absurd (failed gates_quiet);
     journal_failed = λ failed. absurd (failed kept.quiet);
     out_failed = λ failed is. cc is;
   }
@@ -261,8 +286,10 @@ module _ (faults : InputFaultOnce) (languages : InputsAreInLanguage) (options : 
     keep_missing = λ shown. refl;
     complete = λ shown files_fine gate_fine journal_fine out_fine. absurd (missing_keeps index read shown);
     first_no = λ first_no. absurd (none_no records (ap records_of untouched.no_history) first_no);
+    first_no_alone = λ alone first_no. absurd (none_no records (ap records_of untouched.no_history) first_no);
     files_failed = λ failed. absurd (failed files.quiet);
-    gate_failed = λ failed. absurd (failed (ap (λ (gate : SeenGate). gate.faults) untouched.gate));
+    gate_failed = λ failed. absurd (failed (ap counts_of untouched.gates));
+    gate_failed_alone = λ alone failed. absurd (failed (ap counts_of untouched.gates));
     journal_failed = λ failed. absurd (failed (ap (λ (j : SeenJournal). j.faults) untouched.journal));
     out_failed = λ failed is. cc is;
   }
@@ -279,8 +306,10 @@ module _ (faults : InputFaultOnce) (languages : InputsAreInLanguage) (options : 
     keep_missing = λ shown. absurd (long_input_not_shown options old.files _ reached longer shown);
     complete = λ shown files_fine gate_fine journal_fine out_fine. absurd (long_input_not_shown options old.files _ reached longer shown);
     first_no = λ first_no. absurd (none_no records (ap records_of untouched.no_history) first_no);
+    first_no_alone = λ alone first_no. absurd (none_no records (ap records_of untouched.no_history) first_no);
     files_failed = λ failed. absurd (failed files.quiet);
-    gate_failed = λ failed. absurd (failed (ap (λ (gate : SeenGate). gate.faults) untouched.gate));
+    gate_failed = λ failed. absurd (failed (ap counts_of untouched.gates));
+    gate_failed_alone = λ alone failed. absurd (failed (ap counts_of untouched.gates));
     journal_failed = λ failed. absurd (failed (ap (λ (j : SeenJournal). j.faults) untouched.journal));
     out_failed = λ failed is. cc is;
   }
@@ -297,12 +326,14 @@ module _ (faults : InputFaultOnce) (languages : InputsAreInLanguage) (options : 
     keep_missing = λ shown. absurd (long_grammar_not_shown options old.files _ reached longer shown);
     complete = λ shown files_fine gate_fine journal_fine out_fine. absurd (long_grammar_not_shown options old.files _ reached longer shown);
     first_no = λ first_no. absurd (none_no records (ap records_of untouched.no_history) first_no);
+    first_no_alone = λ alone first_no. absurd (none_no records (ap records_of untouched.no_history) first_no);
     files_failed = λ failed. absurd (failed files.quiet);
-    gate_failed = λ failed. absurd (failed (ap (λ (gate : SeenGate). gate.faults) untouched.gate));
+    gate_failed = λ failed. absurd (failed (ap counts_of untouched.gates));
+    gate_failed_alone = λ alone failed. absurd (failed (ap counts_of untouched.gates));
     journal_failed = λ failed. absurd (failed (ap (λ (j : SeenJournal). j.faults) untouched.journal));
     out_failed = λ failed is. cc is;
   }
-  must_end (script call_failed not_no read files kept put) = record {
+  must_end (script worker one_of call_failed read files kept put) = record {
     grammar_over = λ g is over. absurd (grammar_not_over options old.files _ read g is over);
     grammar_missing = λ g is none. absurd (grammar_not_missing options old.files _ read g is none);
     faulty = λ g is shown. absurd (grammar_not_faulty options old.files _ read g is shown);
@@ -313,14 +344,16 @@ module _ (faults : InputFaultOnce) (languages : InputsAreInLanguage) (options : 
     no_token = λ g is shown. absurd (no_fault options old.files _ read g is faults languages IsUncut uncut_caused shown);
     unparsed = λ g is shown. absurd (no_fault options old.files _ read g is faults languages (λ fault. fault ≡ input_fault.NoParse) parse_caused shown);
     keep_missing = λ shown. absurd (keeps_all _ read shown);
-    complete = λ shown files_fine gate_fine journal_fine out_fine. absurd (gate_fine call_failed);
-    first_no = λ first_no. absurd (not_no first_no);
+    complete = λ shown files_fine gate_fine journal_fine out_fine. absurd (gate_fine (worker, one_of, call_failed));
+    first_no = λ first_no. refl;
+    first_no_alone = λ alone first_no. absurd (not_no alone read first_no);
     files_failed = λ failed. absurd (failed files.quiet);
     gate_failed = λ failed. refl;
-    journal_failed = λ failed. absurd (⊎_elim (λ it. failed it.quiet) (λ it. failed (ap (λ (seen : SeenJournal). seen.faults) it.0.same)) kept);
+    gate_failed_alone = λ alone failed. refl;
+    journal_failed = λ failed. absurd (⊎_elim (λ it. failed it.quiet) (λ it. failed (ap (λ (seen : SeenJournal). seen.faults) it.untouched.same)) kept);
     out_failed = λ failed is. cc is;
   }
-  must_end (journal call_failed read broken gate_quiet files put) = record {
+  must_end (journal call_failed read broken gates_quiet files put) = record {
     grammar_over = λ g is over. absurd (grammar_not_over options old.files _ read g is over);
     grammar_missing = λ g is none. absurd (grammar_not_missing options old.files _ read g is none);
     faulty = λ g is shown. absurd (grammar_not_faulty options old.files _ read g is shown);
@@ -333,8 +366,10 @@ module _ (faults : InputFaultOnce) (languages : InputsAreInLanguage) (options : 
     keep_missing = λ shown. absurd (keeps_all _ read shown);
     complete = λ shown files_fine gate_fine journal_fine out_fine. absurd (journal_fine call_failed);
     first_no = λ first_no. refl;
+    first_no_alone = λ alone first_no. refl;
     files_failed = λ failed. absurd (failed files.quiet);
-    gate_failed = λ failed. absurd (failed gate_quiet);
+    gate_failed = λ failed. refl;
+    gate_failed_alone = λ alone failed. absurd (failed (gates_quiet alone));
     journal_failed = λ failed. refl;
     out_failed = λ failed is. cc is;
   }

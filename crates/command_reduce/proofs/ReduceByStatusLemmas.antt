@@ -1,5 +1,5 @@
 -- Each status of `reduce`, from how it ends.
-use Rattle.std.proofs.Common.{◌≡◌, ◌≢◌, ◌⊎◌, inl, inr, true, ℕ, ◌+◌, List, [], ◌∷◌, Some, refl, sym, ◌∙◌}
+use Rattle.std.proofs.Common.{◌≡◌, ◌≢◌, ◌≤◌, ◌⊎◌, inl, inr, true, ℕ, ◌+◌, List, [], ◌∷◌, Some, refl, sym, ◌∙◌}
 use Rattle.std.proofs.lemmas.Bool.{false≢true}
 use Rattle.keep_guard.specs.Keep.{first_missing, holds_all}
 use Rattle.edge_io.specs.Files.{IsLonger, SameFiles, SameOthers}
@@ -10,7 +10,7 @@ use Rattle.reduce_trees_input.specs.declared.fault.InputFault.{InputFault}
 use Rattle.reduce_trees_input.specs.declared.fault.InputFault.TheVariants as input_fault
 use Rattle.command_ends.specs.declared.status.NamedFile.{NamedFile}
 use Rattle.command_ends.specs.declared.status.NamedFile.TheVariants as named
-use Rattle.command_ends.specs.declared.status.Refusal.TheVariants.{Memory, CannotRead, CannotWrite, NoParse, NotInteresting, TooLong, Script, Journal}
+use Rattle.command_ends.specs.declared.status.Refusal.TheVariants.{Memory, CannotRead, CannotWrite, NoParse, NotInteresting, TooLong, Journal}
 use Rattle.run_gated.specs.Records.{OnlyNo}
 use Rattle.command_grammar.specs.Grammar.{IsFaultIn}
 use Rattle.run_problem.specs.Problem.{start_of}
@@ -21,8 +21,8 @@ use Rattle.command_reduce.specs.Reduce.{InputHas, IsReached, IsReduced, ProblemR
 use Rattle.command_reduce.specs.Reduce.ReduceEnds.{done, memory, unread, unwritten, unput, faulty, no_token, unparsed, uninteresting, keep_missing, too_long, script, journal}
 use Rattle.command_reduce.specs.ReduceByStatus.{PutsItsLine, ReduceByStatus}
 use Rattle.command_words.specs.Commands.{GrammarOptions, ModeOptions, ReduceOptions}
-use Rattle.command_ends.specs.Status.{IsOneOf, IsUncut, fault_line, keep_text}
-use Rattle.command_ends.specs.World.{CallFailed, NotReached, Puts, PutsLine, PutsMessage, PutsPrefix, SeenFiles, WasRead, World, grammar_limit}
+use Rattle.command_ends.specs.Status.{IsOneOf, IsUncut, fault_line, keep_text, script_text}
+use Rattle.command_ends.specs.World.{CallFailed, GateFailed, NotReached, Puts, PutsLine, PutsMessage, PutsPrefix, SeenFiles, WasRead, World, grammar_limit}
 
 -- some file is read in each mode
 file_of : (mode : ModeOptions) (files : SeenFiles) → (file : NamedFile) × IsReached mode file files
@@ -39,15 +39,15 @@ module _ (options : ReduceOptions) (history : History) (old new : World) where
   is_of_lines (no_token trees fault mode uncut read files untouched put) is = absurd (cc (sym mode ∙ is))
   is_of_lines (unparsed trees mode read files untouched put) is = absurd (cc (sym mode ∙ is))
   is_of_lines (done report writes put) is = refl
-  is_of_lines (memory files gate_quiet kept put) is = refl
+  is_of_lines (memory files gates_quiet kept put) is = refl
   is_of_lines (unread file reached failed same untouched put) is = refl
-  is_of_lines (unwritten failed text report reduces others gate_quiet kept put) is = refl
-  is_of_lines (uninteresting read files gate_quiet kept put) is = refl
+  is_of_lines (unwritten failed text report reduces others gates_quiet kept put) is = refl
+  is_of_lines (uninteresting read files gates_quiet kept put) is = refl
   is_of_lines (keep_missing index read files untouched put) is = refl
   is_of_lines (too_long file reached longer files untouched put) is = refl
-  is_of_lines (script failed not_no read files kept put) is = refl
+  is_of_lines (script worker one_of failed read files kept put) is = refl
   is_of_lines (unput report writes put) is = refl
-  is_of_lines (journal failed read broken gate_quiet files put) is = refl
+  is_of_lines (journal failed read broken gates_quiet files put) is = refl
 
   is_done : {status : ℕ} → Ends status → status ≡ 0 → (report : List ℕ) × IsReduced options old.files new.files history report × Puts report old.out new.out
   is_done (done report writes put) is = (report, writes.reduced, put)
@@ -59,40 +59,40 @@ module _ (options : ReduceOptions) (history : History) (old new : World) where
 
   is_unwritten : {status : ℕ} → Ends status → status ≡ 4
       → (CallFailed old.files new.files × PutsItsLine options.mode old.files old.out new.out status) ⊎ ((report : List ℕ) × IsReduced options old.files new.files history report × PutsPrefix report old.out new.out)
-  is_unwritten (unwritten failed text report reduces others gate_quiet kept put) is = inl (failed, ((file_of options.mode old.files).0, (file_of options.mode old.files).1, (CannotWrite, tt, refl, put)))
+  is_unwritten (unwritten failed text report reduces others gates_quiet kept put) is = inl (failed, ((file_of options.mode old.files).0, (file_of options.mode old.files).1, (CannotWrite, tt, refl, put)))
   is_unwritten (unput report writes put) is = inr (report, writes.reduced, put)
   is_unwritten _ is = absurd (cc is)
 
   is_tried : {status : ℕ} → Ends status → status ≡ 4 → (text : List ℕ) × (report : List ℕ) × ReducesTo options old.files history text report
-  is_tried (unwritten failed text report reduces others gate_quiet kept put) is = (text, report, reduces)
+  is_tried (unwritten failed text report reduces others gates_quiet kept put) is = (text, report, reduces)
   is_tried (unput report writes put) is = (writes.reduced.text, report, writes.reduced.reduces)
   is_tried _ is = absurd (cc is)
 
   is_uninteresting : {status : ℕ} → Ends status → status ≡ 8 → OnlyNo (records_of history)
-  is_uninteresting (uninteresting read files gate_quiet kept put) is = (any_problem options old.files (λ problem. (holds_all options.keeps (start_of problem) ≡ true) × IsRefused options.keeps problem history) read).1.1.only
+  is_uninteresting (uninteresting read files gates_quiet kept put) is = (any_problem options old.files (λ problem. (holds_all options.keeps (start_of problem) ≡ true) × IsRefused options.jobs options.keeps problem history) read).1.1.only
   is_uninteresting _ is = absurd (cc is)
 
-  is_journal : {status : ℕ} → Ends status → status ≡ 12 → CallFailed old.journal new.journal × JournalBroken options.journal history old.journal new.journal
-  is_journal (journal failed read broken gate_quiet files put) is = (failed, broken)
+  is_journal : {status : ℕ} → Ends status → status ≡ 12 → CallFailed old.journal new.journal × JournalBroken options.jobs options.journal history old.journal new.journal
+  is_journal (journal failed read broken gates_quiet files put) is = (failed, broken)
   is_journal _ is = absurd (cc is)
 
   is_whole : {status : ℕ} → Ends status → IsOneOf (0 ∷ 4 ∷ 8 ∷ []) status → JournalWhole options.journal history old.journal new.journal
   is_whole (done report writes put) is = writes.journal
   is_whole (unput report writes put) is = writes.journal
-  is_whole (unwritten failed text report reduces others gate_quiet kept put) is = kept
-  is_whole (uninteresting read files gate_quiet kept put) is = kept
+  is_whole (unwritten failed text report reduces others gates_quiet kept put) is = kept
+  is_whole (uninteresting read files gates_quiet kept put) is = kept
   is_whole _ is = absurd (false≢true is)
 
   is_so_far : {status : ℕ} → Ends status → status ≡ 1 → JournalSoFar options.journal history old.journal new.journal
-  is_so_far (memory files gate_quiet kept put) is = kept
+  is_so_far (memory files gates_quiet kept put) is = kept
   is_so_far _ is = absurd (cc is)
 
   is_too_long : {status : ℕ} → Ends status → status ≡ 10 → (file : NamedFile) × IsReached options.mode file old.files × IsLonger (limit_of file) (old.files.shown (name_of options file))
   is_too_long (too_long file reached longer files untouched put) is = (file, reached, longer)
   is_too_long _ is = absurd (cc is)
 
-  is_script : {status : ℕ} → Ends status → status ≡ 11 → CallFailed old.gate new.gate × ScriptLeaves options history old new
-  is_script (script failed not_no read files kept put) is = (failed, kept)
+  is_script : {status : ℕ} → Ends status → status ≡ 11 → (worker : ℕ) × (worker ≤ options.jobs) × GateFailed worker old.gates new.gates × ScriptLeaves options history worker old new × PutsMessage (script_text worker) old.out new.out
+  is_script (script worker one_of failed read files kept put) is = (worker, one_of, failed, kept, put)
   is_script _ is = absurd (cc is)
 
   is_keep_missing : {status : ℕ} → Ends status → status ≡ 9 → (index : ℕ) × ProblemRead options old.files (λ problem. first_missing options.keeps (start_of problem) ≡ Some index) × PutsMessage (keep_text (index + 1)) old.out new.out
@@ -125,57 +125,56 @@ module _ (options : ReduceOptions) (history : History) (old new : World) where
 
   same_others : {status : ℕ} → Ends status → SameOthers old.files.shown new.files.shown options.output
   same_others (done report writes put) = writes.others
-  same_others (memory files gate_quiet kept put) = λ name other. files.same name
+  same_others (memory files gates_quiet kept put) = λ name other. files.same name
   same_others (unread file reached failed same untouched put) = λ name other. same name
-  same_others (unwritten failed text report reduces others gate_quiet kept put) = others
+  same_others (unwritten failed text report reduces others gates_quiet kept put) = others
   same_others (faulty trees text mode read files untouched put) = λ name other. files.same name
   same_others (no_token trees fault mode uncut read files untouched put) = λ name other. files.same name
   same_others (unparsed trees mode read files untouched put) = λ name other. files.same name
-  same_others (uninteresting read files gate_quiet kept put) = λ name other. files.same name
+  same_others (uninteresting read files gates_quiet kept put) = λ name other. files.same name
   same_others (keep_missing index read files untouched put) = λ name other. files.same name
   same_others (too_long file reached longer files untouched put) = λ name other. files.same name
-  same_others (script failed not_no read files kept put) = λ name other. files.same name
+  same_others (script worker one_of failed read files kept put) = λ name other. files.same name
   same_others (unput report writes put) = writes.others
-  same_others (journal failed read broken gate_quiet files put) = λ name other. files.same name
+  same_others (journal failed read broken gates_quiet files put) = λ name other. files.same name
 
   same_files : {status : ℕ} → Ends status → status ≢ 0 → status ≢ 4 → SameFiles old.files.shown new.files.shown
   same_files (done report writes put) not_done not_written = absurd (not_done refl)
-  same_files (memory files gate_quiet kept put) not_done not_written = files.same
+  same_files (memory files gates_quiet kept put) not_done not_written = files.same
   same_files (unread file reached failed same untouched put) not_done not_written = same
-  same_files (unwritten failed text report reduces others gate_quiet kept put) not_done not_written = absurd (not_written refl)
+  same_files (unwritten failed text report reduces others gates_quiet kept put) not_done not_written = absurd (not_written refl)
   same_files (faulty trees text mode read files untouched put) not_done not_written = files.same
   same_files (no_token trees fault mode uncut read files untouched put) not_done not_written = files.same
   same_files (unparsed trees mode read files untouched put) not_done not_written = files.same
-  same_files (uninteresting read files gate_quiet kept put) not_done not_written = files.same
+  same_files (uninteresting read files gates_quiet kept put) not_done not_written = files.same
   same_files (keep_missing index read files untouched put) not_done not_written = files.same
   same_files (too_long file reached longer files untouched put) not_done not_written = files.same
-  same_files (script failed not_no read files kept put) not_done not_written = files.same
+  same_files (script worker one_of failed read files kept put) not_done not_written = files.same
   same_files (unput report writes put) not_done not_written = absurd (not_written refl)
-  same_files (journal failed read broken gate_quiet files put) not_done not_written = files.same
+  same_files (journal failed read broken gates_quiet files put) not_done not_written = files.same
 
   is_known : {status : ℕ} → Ends status → IsOneOf (0 ∷ 1 ∷ 3 ∷ 4 ∷ 5 ∷ 6 ∷ 7 ∷ 8 ∷ 9 ∷ 10 ∷ 11 ∷ 12 ∷ []) status
   is_known (done report writes put) = refl
-  is_known (memory files gate_quiet kept put) = refl
+  is_known (memory files gates_quiet kept put) = refl
   is_known (unread file reached failed same untouched put) = refl
-  is_known (unwritten failed text report reduces others gate_quiet kept put) = refl
+  is_known (unwritten failed text report reduces others gates_quiet kept put) = refl
   is_known (faulty trees text mode read files untouched put) = refl
   is_known (no_token trees fault mode uncut read files untouched put) = refl
   is_known (unparsed trees mode read files untouched put) = refl
-  is_known (uninteresting read files gate_quiet kept put) = refl
+  is_known (uninteresting read files gates_quiet kept put) = refl
   is_known (keep_missing index read files untouched put) = refl
   is_known (too_long file reached longer files untouched put) = refl
-  is_known (script failed not_no read files kept put) = refl
+  is_known (script worker one_of failed read files kept put) = refl
   is_known (unput report writes put) = refl
-  is_known (journal failed read broken gate_quiet files put) = refl
+  is_known (journal failed read broken gates_quiet files put) = refl
 
-  puts_line : {status : ℕ} → Ends status → IsOneOf (1 ∷ 3 ∷ 7 ∷ 8 ∷ 10 ∷ 11 ∷ 12 ∷ []) status → PutsItsLine options.mode old.files old.out new.out status
-  puts_line (memory files gate_quiet kept put) is = ((file_of options.mode old.files).0, (file_of options.mode old.files).1, (Memory, tt, refl, put))
+  puts_line : {status : ℕ} → Ends status → IsOneOf (1 ∷ 3 ∷ 7 ∷ 8 ∷ 10 ∷ 12 ∷ []) status → PutsItsLine options.mode old.files old.out new.out status
+  puts_line (memory files gates_quiet kept put) is = ((file_of options.mode old.files).0, (file_of options.mode old.files).1, (Memory, tt, refl, put))
   puts_line (unread file reached failed same untouched put) is = (file, reached, (CannotRead file, refl, refl, put))
   puts_line (unparsed trees mode read files untouched put) is = ((file_of options.mode old.files).0, (file_of options.mode old.files).1, (NoParse, tt, refl, put))
-  puts_line (uninteresting read files gate_quiet kept put) is = ((file_of options.mode old.files).0, (file_of options.mode old.files).1, (NotInteresting, tt, refl, put))
+  puts_line (uninteresting read files gates_quiet kept put) is = ((file_of options.mode old.files).0, (file_of options.mode old.files).1, (NotInteresting, tt, refl, put))
   puts_line (too_long file reached longer files untouched put) is = (file, reached, (TooLong file, refl, refl, put))
-  puts_line (script failed not_no read files kept put) is = ((file_of options.mode old.files).0, (file_of options.mode old.files).1, (Script, tt, refl, put))
-  puts_line (journal failed read broken gate_quiet files put) is = ((file_of options.mode old.files).0, (file_of options.mode old.files).1, (Journal, tt, refl, put))
+  puts_line (journal failed read broken gates_quiet files put) is = ((file_of options.mode old.files).0, (file_of options.mode old.files).1, (Journal, tt, refl, put))
   puts_line _ is = absurd (false≢true is)
 
 pub reduce_by_status : ReduceByStatus

@@ -1,11 +1,10 @@
 -- The command `reduce`: how it ends, by its status, and what its history and its records are.
-use Rattle.std.specs.Prelude.{◌≡◌, ◌≢◌, ◌⊎◌, ℕ, ◌+◌, Bool, List, [], ◌∷◌, ◌++◌, true, false, Option, Some, None, All, MatchResult, Result, codes, option_map, string_bytes}
+use Rattle.std.specs.Prelude.{◌≡◌, ◌≢◌, ◌<◌, ◌≤◌, ◌⊎◌, ℕ, suc, ◌+◌, drop, length, map, sum, Bool, List, [], ◌∷◌, ◌++◌, true, false, Option, Some, None, All, MatchResult, Result, codes, option_map, string_bytes}
 use Rattle.std.specs.Global.{Vec}
 use Rattle.std.specs.List.{IsDistinct}
 use Rattle.std.specs.Str.{bytes_eq}
 use Rattle.script_gate_trait.specs.declared.gate.Verdict.{Verdict}
 use Rattle.script_gate_trait.specs.declared.log.Log.{Log}
-use Rattle.script_gate_trait.specs.declared.log.Opening.{Opening}
 use Rattle.edge_io.specs.Files.{Holds, IsLonger, SameFiles, SameOthers}
 use Rattle.verdict_table.specs.declared.record.Record.{Record}
 use Rattle.reduce_journal.specs.History.{History, records_of}
@@ -31,11 +30,12 @@ use Rattle.run_problem.specs.Problem.{Problem, start_of}
 use Rattle.run_problem.specs.Ends.{AreOf, IsRefused, IsUnfinished, ReducesFrom}
 use Rattle.command_ends.specs.declared.status.Refusal.{Refusal}
 use Rattle.command_ends.specs.declared.status.Refusal.TheVariants.{Memory, CannotRead, Grammar, NoParse, TooLong, Uncut}
-use Rattle.command_ends.specs.Status.{IsOneOf, IsUncut, fault_line, keep_text, line_of, status_of, word_for}
+use Rattle.command_ends.specs.Status.{IsOneOf, IsUncut, fault_line, keep_text, line_of, script_text, status_of, word_for}
 use Rattle.command_words.specs.Commands.{GrammarOptions, GrammarSource, ModeOptions, ReduceOptions}
-use Rattle.command_reduce_calls.specs.FileName.{file_name_of}
+use Rattle.run_worker.specs.RunHistory.{with_all_asked}
+use Rattle.command_reduce_calls.specs.Openings.{opened_from, opened_log}
 use Rattle.command_grammar.specs.Grammar.{start_name}
-use Rattle.command_ends.specs.World.{CallFailed, FilesKept, IsOver, IsQuiet, IsShownWithin, NotReached, Puts, PutsLine, PutsMessage, PutsPrefix, SeenFiles, SeenGate, SeenJournal, SeenOut, WasRead, World, grammar_limit, input_limit, line_of_text}
+use Rattle.command_ends.specs.World.{AnyGateFailed, AreQuiet, CallFailed, GateFailed, logs_of, FilesKept, IsOver, IsQuiet, IsShownWithin, NotReached, Puts, PutsLine, PutsMessage, PutsPrefix, SeenFiles, SeenGate, SeenJournal, SeenOut, WasRead, World, grammar_limit, input_limit, line_of_text}
 
 -- The input is made of this text by this grammar, what is admitted is what has each keep text, and the squeezed text of the whole is tried or not.
 pub record IsTreeProblem (keeps : List (List ℕ)) (grammar : CheckedGrammar) (squeeze : Bool) (text : List ℕ) (input : TreeInput) : Type 0 where
@@ -60,7 +60,7 @@ ProblemAccepted options files P = ProblemRead options files (λ problem. (holds_
 -- the problem reduces to the text, and this is its report
 abbrev pub ReducesTo : ReduceOptions → SeenFiles → History → List ℕ → List ℕ → Type 0
 ReducesTo options files history text report =
-    ProblemAccepted options files (λ problem. (counts : Counts) × ReducesFrom options.keeps problem history text counts × (report ≡ report_text counts))
+    ProblemAccepted options files (λ problem. (counts : Counts) × ReducesFrom options.jobs options.keeps problem history text counts × (report ≡ report_text counts))
 
 -- the output file holds what the input reduces to, of which this is the report
 pub record IsReduced (options : ReduceOptions) (files files' : SeenFiles) (history : History) (report : List ℕ) : Type 0 where
@@ -71,23 +71,42 @@ pub record IsReduced (options : ReduceOptions) (files files' : SeenFiles) (histo
 -- where there is an event, the history is one of the input that was read, in which each keep text occurs
 abbrev pub IsHistoryOfInput : ReduceOptions → SeenFiles → History → Type 0
 IsHistoryOfInput options files [] = Unit {0}
-IsHistoryOfInput options files (event ∷ history) = ProblemAccepted options files (λ problem. AreOf options.keeps problem (event ∷ history))
+IsHistoryOfInput options files (event ∷ history) = ProblemAccepted options files (λ problem. AreOf options.jobs options.keeps problem (event ∷ history))
 
--- the opening of a worker's gate: the work folder, the script, the input's name without its folder, and the worker's number
-abbrev pub opening_for : ReduceOptions → ℕ → Opening
-opening_for options number = record { work = options.work; script = options.script; name = file_name_of options.input; number = number }
+-- the logs of gates after those of the workers from this number on were opened, and then asked these texts, a list for each; the others are as before
+abbrev pub used_from : ReduceOptions → ℕ → List (List (List ℕ)) → List (Option Log) → List (Option Log)
+used_from options number [] logs = logs
+used_from options number (texts ∷ shares) [] = []
+used_from options number (texts ∷ shares) (log ∷ logs) =
+    option_map (with_all_asked texts) (opened_log options number log) ∷ used_from options (suc number) shares logs
 
--- the gate was neither opened nor asked, and the journal is as before; or the gate was opened so, and then asked for these texts, in this order and no others
-abbrev pub GateWasUsed : Opening → List (List ℕ) → Option Log → Option Log → SeenJournal → SeenJournal → Type 0
-GateWasUsed opening texts old new before after =
-    ((texts ≡ []) × (new ≡ old) × (after ≡ before)) ⊎ (new ≡ option_map (λ (log : Log). record log { asked = log.asked ++ texts; opening = Some opening }) old)
+-- The gates of all workers were opened, and then asked as often as there are texts. The gate of a worker alone was asked for these, in this order.
+pub record GatesWereAsked (options : ReduceOptions) (texts : List (List ℕ)) (old new : List (Option Log)) : Type 0 where
+  pub shares : List (List (List ℕ))
+  pub one_each : length shares ≡ options.jobs
+  pub total : sum (map (λ share. length share) shares) ≡ length texts
+  pub alone : options.jobs ≡ 1 → shares ≡ texts ∷ []
+  pub used : new ≡ used_from options 1 shares old
+
+-- Some gates were opened, but not those of all workers, none was asked, and the journal is as before.
+pub record GatesWereOpened (options : ReduceOptions) (texts : List (List ℕ)) (old new : List (Option Log)) (before after : SeenJournal) : Type 0 where
+  pub opened : ℕ
+  pub not_all : suc opened < options.jobs
+  pub none : texts ≡ []
+  pub logs : new ≡ opened_from options 1 (suc opened) old
+  pub journal : after ≡ before
+
+-- no gate was opened or asked, and the journal is as before; or some were opened; or all of the workers were, and asked
+abbrev pub GatesWereUsed : ReduceOptions → List (List ℕ) → List (Option Log) → List (Option Log) → SeenJournal → SeenJournal → Type 0
+GatesWereUsed options texts old new before after =
+    ((texts ≡ []) × (new ≡ old) × (after ≡ before)) ⊎ GatesWereOpened options texts old new before after ⊎ GatesWereAsked options texts old new
 
 -- the output file has what the input reduces to, and no other file was changed; the journal has the whole history; and no call failed
 pub record WritesReduced (options : ReduceOptions) (history : History) (report : List ℕ) (old new : World) : Type 0 where
   pub reduced : IsReduced options old.files new.files history report
   pub others : SameOthers old.files.shown new.files.shown options.output
   pub files_quiet : IsQuiet old.files new.files
-  pub gate_quiet : IsQuiet old.gate new.gate
+  pub gates_quiet : AreQuiet old.gates new.gates
   pub journal : JournalWhole options.journal history old.journal new.journal
 
 -- the file is read: the grammar, where the mode has one; and the input, in such a mode once the grammar was read
@@ -114,10 +133,17 @@ name_of options named.Grammar = grammar_in options.mode
 abbrev pub InputHas : GrammarSource → (CheckedGrammar → List ℕ → Type 0) → ReduceOptions → SeenFiles → Type 0
 InputHas grammar P options files = (c : CheckedGrammar) × GrammarRead grammar (files.shown grammar.path) c × WasRead input_limit (files.shown options.input) (λ bytes. P c bytes)
 
--- where a call of the gate failed: the journal has the whole history; or the gate wasn't opened, it and the journal show what they did, and nothing was recorded
-abbrev pub ScriptLeaves : ReduceOptions → History → World → World → Type 0
-ScriptLeaves options history old new =
-    JournalWhole options.journal history old.journal new.journal ⊎ (JournalUntouched history old.journal new.journal × (new.gate.shown ≡ old.gate.shown))
+-- The gate of this worker wasn't opened; those of the workers before it were, and the other gates and the journal are as before.
+pub record GateUnopened (options : ReduceOptions) (history : History) (worker : ℕ) (logs logs' : List (Option Log)) (old new : SeenJournal) : Type 0 where
+  pub opened : ℕ
+  pub at : worker ≡ suc opened
+  pub before : logs' ≡ opened_from options 1 opened logs
+  pub untouched : JournalUntouched history old new
+
+-- where a call of the gate of this worker failed: the journal has the whole history; or the gate wasn't opened, and nothing was recorded
+abbrev pub ScriptLeaves : ReduceOptions → History → ℕ → World → World → Type 0
+ScriptLeaves options history worker old new =
+    JournalWhole options.journal history old.journal new.journal ⊎ GateUnopened options history worker (logs_of old.gates) (logs_of new.gates) old.journal new.journal
 
 -- How `reduce` ends, by its status.
 pub data ReduceEnds (options : ReduceOptions) (history : History) (old new : World) : ℕ → Type 0 where
@@ -126,13 +152,13 @@ pub data ReduceEnds (options : ReduceOptions) (history : History) (old new : Wor
       → (writes : WritesReduced options history report old new)
       → (put : Puts report old.out new.out)
       → ReduceEnds options history old new 0
-  -- out of memory, for which there is no evidence; no file was changed
+  -- out of memory, for which there is no evidence; no file was changed, and the gate of a worker alone didn't fail
   memory : (files : FilesKept old.files new.files)
-      → (gate_quiet : IsQuiet old.gate new.gate)
+      → (gates_quiet : options.jobs ≡ 1 → AreQuiet old.gates new.gates)
       → (journal : JournalSoFar options.journal history old.journal new.journal)
       → (line : PutsMessage (codes "out of memory") old.out new.out)
       → ReduceEnds options history old new 1
-  -- a call of the files failed, the line names one of the files that are read, and neither the gate nor the journal was reached
+  -- a call of the files failed, the line names one of the files that are read, and neither a gate nor the journal was reached
   unread : (file : NamedFile)
       → (reached : IsReached options.mode file old.files)
       → (failed : CallFailed old.files new.files)
@@ -145,7 +171,7 @@ pub data ReduceEnds (options : ReduceOptions) (history : History) (old new : Wor
       → (text report : List ℕ)
       → (reduces : ReducesTo options old.files history text report)
       → (others : SameOthers old.files.shown new.files.shown options.output)
-      → (gate_quiet : IsQuiet old.gate new.gate)
+      → (gates_quiet : AreQuiet old.gates new.gates)
       → (journal : JournalWhole options.journal history old.journal new.journal)
       → (line : PutsMessage (codes "cannot write") old.out new.out)
       → ReduceEnds options history old new 4
@@ -154,7 +180,7 @@ pub data ReduceEnds (options : ReduceOptions) (history : History) (old new : Wor
       → (writes : WritesReduced options history report old new)
       → (put : PutsPrefix report old.out new.out)
       → ReduceEnds options history old new 4
-  -- the file has no well-formed grammar, the line says why, and neither the gate nor the journal was reached
+  -- the file has no well-formed grammar, the line says why, and neither a gate nor the journal was reached
   faulty : (trees : GrammarOptions) (text : List ℕ)
       → (mode : options.mode ≡ ModeOptions.by_grammar trees)
       → (read : WasRead grammar_limit (old.files.shown trees.grammar.path) (λ bytes. IsFaultIn trees.grammar bytes text))
@@ -162,7 +188,7 @@ pub data ReduceEnds (options : ReduceOptions) (history : History) (old new : Wor
       → (untouched : NotReached history old new)
       → (line : PutsLine (fault_line text) old.out new.out)
       → ReduceEnds options history old new 5
-  -- the grammar was read; the input isn't UTF-8, or isn't cut into tokens, and the line says from where on; and neither the gate nor the journal was reached
+  -- the grammar was read; the input isn't UTF-8, or isn't cut into tokens, and the line says from where on; and neither a gate nor the journal was reached
   no_token : (trees : GrammarOptions) (fault : InputFault)
       → (mode : options.mode ≡ ModeOptions.by_grammar trees)
       → (uncut : IsUncut fault)
@@ -171,7 +197,7 @@ pub data ReduceEnds (options : ReduceOptions) (history : History) (old new : Wor
       → (untouched : NotReached history old new)
       → (line : PutsMessage (input_fault_text fault) old.out new.out)
       → ReduceEnds options history old new 6
-  -- the grammar was read, its start rule doesn't derive the input's tokens, and neither the gate nor the journal was reached
+  -- the grammar was read, its start rule doesn't derive the input's tokens, and neither a gate nor the journal was reached
   unparsed : (trees : GrammarOptions)
       → (mode : options.mode ≡ ModeOptions.by_grammar trees)
       → (read : InputHas trees.grammar (λ c bytes. IsInputFault c bytes input_fault.NoParse) options old.files)
@@ -179,21 +205,21 @@ pub data ReduceEnds (options : ReduceOptions) (history : History) (old new : Wor
       → (untouched : NotReached history old new)
       → (line : PutsMessage (codes "input does not parse") old.out new.out)
       → ReduceEnds options history old new 7
-  -- the input was read, the gate said no to it, and wasn't asked again
-  uninteresting : (read : ProblemAccepted options old.files (λ problem. IsRefused options.keeps problem history))
+  -- the input was read, and a gate said no to it
+  uninteresting : (read : ProblemAccepted options old.files (λ problem. IsRefused options.jobs options.keeps problem history))
       → (files : FilesKept old.files new.files)
-      → (gate_quiet : IsQuiet old.gate new.gate)
+      → (gates_quiet : AreQuiet old.gates new.gates)
       → (journal : JournalWhole options.journal history old.journal new.journal)
       → (line : PutsMessage (codes "start is not interesting") old.out new.out)
       → ReduceEnds options history old new 8
-  -- the input was read, a keep text doesn't occur in it, the line names the first such by its number from 1, and neither the gate nor the journal was reached
+  -- the input was read, a keep text doesn't occur in it, the line names the first such by its number from 1, and neither a gate nor the journal was reached
   keep_missing : (index : ℕ)
       → (read : ProblemRead options old.files (λ problem. first_missing options.keeps (start_of problem) ≡ Some index))
       → (files : FilesKept old.files new.files)
       → (untouched : NotReached history old new)
       → (line : PutsMessage (keep_text (index + 1)) old.out new.out)
       → ReduceEnds options history old new 9
-  -- a file that is read is longer than its limit, the line names it, and neither the gate nor the journal was reached
+  -- a file that is read is longer than its limit, the line names it, and neither a gate nor the journal was reached
   too_long : (file : NamedFile)
       → (reached : IsReached options.mode file old.files)
       → (longer : IsLonger (limit_of file) (old.files.shown (name_of options file)))
@@ -201,19 +227,18 @@ pub data ReduceEnds (options : ReduceOptions) (history : History) (old new : Wor
       → (untouched : NotReached history old new)
       → (line : PutsMessage (word_for file ++ codes " is too long") old.out new.out)
       → ReduceEnds options history old new 10
-  -- the input was read, a call of the gate failed, the gate hadn't said no to the input, and its reduction wasn't finished; the history is all that one thread does over its records, and the journal has it whole, unless the gate wasn't opened
-  script : (failed : CallFailed old.gate new.gate)
-      → (not_no : ¬ FirstIsNo (records_of history))
-      → (read : ProblemAccepted options old.files (λ problem. IsUnfinished options.keeps problem history))
+  -- the input was read, a call failed of the gate of the worker that the line names, and the journal has the whole history, unless that gate wasn't opened; with one worker the gate hadn't said no to the input, its reduction wasn't finished, and the history is all that one thread does over its records
+  script : (worker : ℕ) (one_of : worker ≤ options.jobs) (failed : GateFailed worker old.gates new.gates)
+      → (read : ProblemAccepted options old.files (λ problem. options.jobs ≡ 1 → IsUnfinished options.keeps problem history))
       → (files : FilesKept old.files new.files)
-      → (journal : ScriptLeaves options history old new)
-      → (line : PutsMessage (codes "script fault at worker 1") old.out new.out)
+      → (journal : ScriptLeaves options history worker old new)
+      → (line : PutsMessage (script_text worker) old.out new.out)
       → ReduceEnds options history old new 11
   -- the input was read, and a call of the journal failed: it wasn't opened, or it broke off
   journal : (failed : CallFailed old.journal new.journal)
-      → (read : ProblemAccepted options old.files (λ problem. AreOf options.keeps problem history))
-      → (broken : JournalBroken options.journal history old.journal new.journal)
-      → (gate_quiet : IsQuiet old.gate new.gate)
+      → (read : ProblemAccepted options old.files (λ problem. AreOf options.jobs options.keeps problem history))
+      → (broken : JournalBroken options.jobs options.journal history old.journal new.journal)
+      → (gates_quiet : options.jobs ≡ 1 → AreQuiet old.gates new.gates)
       → (files : FilesKept old.files new.files)
       → (line : PutsMessage (codes "journal fault") old.out new.out)
       → ReduceEnds options history old new 12
@@ -262,33 +287,36 @@ pub record ReduceMustEnd (options : ReduceOptions) (records : List Record) (old 
   -- an input in which a keep text doesn't occur is refused, where it is a problem of its mode
   pub keep_missing : IsShownProblem options old.files (λ start. holds_all options.keeps start ≡ false) → IsOneOf (9 ∷ 3 ∷ 1 ∷ []) status
   -- a problem in which each keep text occurs is reduced, or isn't interesting, where no call failed
-  pub complete : IsShownProblem options old.files (λ start. holds_all options.keeps start ≡ true) → ¬ CallFailed old.files new.files → ¬ CallFailed old.gate new.gate → ¬ CallFailed old.journal new.journal → ¬ CallFailed old.out new.out
+  pub complete : IsShownProblem options old.files (λ start. holds_all options.keeps start ≡ true) → ¬ CallFailed old.files new.files → ¬ AnyGateFailed options.jobs old.gates new.gates → ¬ CallFailed old.journal new.journal → ¬ CallFailed old.out new.out
       → IsOneOf (0 ∷ 8 ∷ 1 ∷ []) status
-  -- a first no ends the run, unless it can't be written
-  pub first_no : FirstIsNo records → IsOneOf (8 ∷ 12 ∷ 1 ∷ []) status
+  -- a first no ends the run, unless it can't be written; or another worker's gate fails
+  pub first_no : FirstIsNo records → IsOneOf (8 ∷ 11 ∷ 12 ∷ 1 ∷ []) status
+  pub first_no_alone : options.jobs ≡ 1 → FirstIsNo records → IsOneOf (8 ∷ 12 ∷ 1 ∷ []) status
   -- where a call of the files failed, a file wasn't read or the result wasn't written
   pub files_failed : ¬ IsQuiet old.files new.files → IsOneOf (3 ∷ 4 ∷ []) status
-  -- where a call of the gate failed, that is the status
-  pub gate_failed : ¬ IsQuiet old.gate new.gate → status ≡ 11
+  -- where a call of a gate failed, that is the status, unless memory ran out before or a call of the journal failed too; with one worker nothing else can have
+  pub gate_failed : ¬ AreQuiet old.gates new.gates → IsOneOf (11 ∷ 12 ∷ 1 ∷ []) status
+  pub gate_failed_alone : options.jobs ≡ 1 → ¬ AreQuiet old.gates new.gates → status ≡ 11
   -- where a call of the journal failed, that is the status
   pub journal_failed : ¬ IsQuiet old.journal new.journal → status ≡ 12
   -- where the put failed, it was that of the report (4) or of another status's line
   pub out_failed : ¬ IsQuiet old.out new.out → status ≢ 0
 
--- What holds of the records at every status, as the gate sees them: no text is there twice, each verdict is the gate's,
--- and the gate was opened for this input and script and asked for these texts alone, unless it wasn't opened, and then the journal wasn't either.
-pub record RecordsAreSound (options : ReduceOptions) (may_say : List ℕ → Verdict → Type 0) (records : List Record) (old new : SeenGate) (before after : SeenJournal) : Type 0 where
+-- What holds of the records at every status, as the gates show them: no text is there twice, each verdict is a gate's,
+-- and the gates of the workers were opened for this input and script and asked as often as there are records, unless one wasn't opened, and then the journal wasn't either.
+pub record RecordsAreSound (options : ReduceOptions) (may_say : List ℕ → Verdict → Type 0) (records : List Record) (old new : List (Option Log)) (before after : SeenJournal) : Type 0 where
   pub distinct : IsDistinct bytes_eq (texts_of records)
   pub said : All (λ r. may_say r.text r.verdict) records
-  pub used : GateWasUsed (opening_for options 1) (texts_of records) old.shown new.shown before after
+  pub used : GatesWereUsed options (texts_of records) old new before after
 
--- A run of `reduce` with these options. Some history has come of it: that of the journal's bytes, where it shows them and is whole.
+-- A run of `reduce` with these options. Some history has come of it: that of the journal's bytes, where it shows them and is whole. The gates beyond those of the workers are as before.
 pub record Reduces (options : ReduceOptions) (may_say : List ℕ → Verdict → Type 0) (old new : World) (status : ℕ) : Type 0 where
   pub history : History
   pub ends : ReduceEnds options history old new status
   pub must_end : ReduceMustEnd options (records_of history) old new status
-  pub sound : RecordsAreSound options may_say (records_of history) old.gate new.gate old.journal new.journal
+  pub sound : RecordsAreSound options may_say (records_of history) (logs_of old.gates) (logs_of new.gates) old.journal new.journal
   pub of_input : IsHistoryOfInput options old.files history
+  pub others : drop options.jobs new.gates ≡ drop options.jobs old.gates
 
 -- why there is no problem: a file wasn't read, the grammar is faulty, or the input isn't in its language
 abbrev pub ProblemFails : ReduceOptions → SeenFiles → SeenFiles → Refusal → Type 0
@@ -307,12 +335,12 @@ ProblemFails options files files' _ = ⊥
 -- What `reduce` reaches, without `out`.
 pub record Inside : Type 0 where
   pub files : SeenFiles
-  pub gate : SeenGate
+  pub gates : List SeenGate
   pub journal : SeenJournal
 
 -- these, and this `out`
 abbrev pub beside : Inside → SeenOut → World
-beside inside out = record { files = inside.files; gate = inside.gate; journal = inside.journal; out = out }
+beside inside out = record { files = inside.files; gates = inside.gates; journal = inside.journal; out = out }
 
 -- the run ends with this refusal, whatever becomes of its line
 abbrev pub ReduceFails : ReduceOptions → History → Inside → Inside → Refusal → Type 0
@@ -325,6 +353,7 @@ ReduceReports options history old new report = (out out' : SeenOut) → WritesRe
 
 -- the steps of `reduce`, but for what is put on `out`
 pub record ReduceSteps (options : ReduceOptions) (may_say : List ℕ → Verdict → Type 0) (history : History) (old new : Inside) (outcome : Result (Vec ℕ) Refusal) : Type 0 where
-  pub sound : RecordsAreSound options may_say (records_of history) old.gate new.gate old.journal new.journal
+  pub sound : RecordsAreSound options may_say (records_of history) (logs_of old.gates) (logs_of new.gates) old.journal new.journal
   pub of_input : IsHistoryOfInput options old.files history
+  pub others : drop options.jobs new.gates ≡ drop options.jobs old.gates
   pub ends : MatchResult outcome (λ report. ReduceReports options history old new report.items) (λ refusal. ReduceFails options history old new refusal)

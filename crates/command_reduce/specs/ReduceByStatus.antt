@@ -1,5 +1,5 @@
 -- What each status of `reduce` means, read off how it ends.
-use Rattle.std.specs.Prelude.{◌≡◌, ◌≢◌, ◌⊎◌, ℕ, ◌+◌, List, [], ◌∷◌, Some}
+use Rattle.std.specs.Prelude.{◌≡◌, ◌≢◌, ◌≤◌, ◌⊎◌, ℕ, ◌+◌, List, [], ◌∷◌, Some}
 use Rattle.keep_guard.specs.Keep.{first_missing}
 use Rattle.edge_io.specs.Files.{IsLonger, SameFiles, SameOthers}
 use Rattle.reduce_journal.specs.History.{History, records_of}
@@ -13,9 +13,9 @@ use Rattle.command_ends.specs.declared.status.NamedFile.{NamedFile}
 use Rattle.command_grammar.specs.Grammar.{IsFaultIn}
 use Rattle.run_problem.specs.Problem.{start_of}
 use Rattle.command_reduce.specs.Reduce.{InputHas, IsReached, IsReduced, ProblemRead, ReduceEnds, ReducesTo, ScriptLeaves, limit_of, name_of}
-use Rattle.command_ends.specs.Status.{IsOneOf, IsUncut, PutsRefusal, fault_line, keep_text}
+use Rattle.command_ends.specs.Status.{IsOneOf, IsUncut, PutsRefusal, fault_line, keep_text, script_text}
 use Rattle.command_words.specs.Commands.{GrammarOptions, ModeOptions, ReduceOptions}
-use Rattle.command_ends.specs.World.{CallFailed, NotReached, Puts, PutsLine, PutsMessage, PutsPrefix, SeenFiles, SeenOut, WasRead, World, grammar_limit}
+use Rattle.command_ends.specs.World.{CallFailed, GateFailed, NotReached, Puts, PutsLine, PutsMessage, PutsPrefix, SeenFiles, SeenOut, WasRead, World, grammar_limit}
 
 -- the line was put of a refusal that has this status, and names a file that is read if it names one
 abbrev pub PutsItsLine : ModeOptions → SeenFiles → SeenOut → SeenOut → ℕ → Type 0
@@ -35,14 +35,14 @@ pub record ReduceMeans (options : ReduceOptions) (history : History) (old new : 
   pub not_interesting : status ≡ 8 → OnlyNo (records_of history)
   pub keep_missing : status ≡ 9 → (index : ℕ) × ProblemRead options old.files (λ problem. first_missing options.keeps (start_of problem) ≡ Some index) × PutsMessage (keep_text (index + 1)) old.out new.out
   pub too_long : status ≡ 10 → (file : NamedFile) × IsReached options.mode file old.files × IsLonger (limit_of file) (old.files.shown (name_of options file))
-  pub script : status ≡ 11 → CallFailed old.gate new.gate × ScriptLeaves options history old new
-  pub journal : status ≡ 12 → CallFailed old.journal new.journal × JournalBroken options.journal history old.journal new.journal
+  pub script : status ≡ 11 → (worker : ℕ) × (worker ≤ options.jobs) × GateFailed worker old.gates new.gates × ScriptLeaves options history worker old new × PutsMessage (script_text worker) old.out new.out
+  pub journal : status ≡ 12 → CallFailed old.journal new.journal × JournalBroken options.jobs options.journal history old.journal new.journal
   pub whole : IsOneOf (0 ∷ 4 ∷ 8 ∷ []) status → JournalWhole options.journal history old.journal new.journal
   pub so_far : status ≡ 1 → JournalSoFar options.journal history old.journal new.journal
   pub early : IsOneOf (3 ∷ 5 ∷ 6 ∷ 7 ∷ 9 ∷ 10 ∷ []) status → NotReached history old new
   pub others : SameOthers old.files.shown new.files.shown options.output
   pub unwritten : status ≢ 0 → status ≢ 4 → SameFiles old.files.shown new.files.shown
-  pub line : IsOneOf (1 ∷ 3 ∷ 7 ∷ 8 ∷ 10 ∷ 11 ∷ 12 ∷ []) status → PutsItsLine options.mode old.files old.out new.out status
+  pub line : IsOneOf (1 ∷ 3 ∷ 7 ∷ 8 ∷ 10 ∷ 12 ∷ []) status → PutsItsLine options.mode old.files old.out new.out status
 
 abbrev pub ReduceByStatus : Type 0
 ReduceByStatus = (options : ReduceOptions) (history : History) (old new : World) (status : ℕ) → ReduceEnds options history old new status → ReduceMeans options history old new status

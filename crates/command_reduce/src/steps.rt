@@ -1,10 +1,11 @@
 //! The command `reduce`, step by step.
 
-ghost use Rattle.std.specs.Prelude.{◌≡◌, true, IfErr, IfOk, OnOk};
+ghost use Rattle.std.specs.Prelude.{◌≡◌, ◌≤◌, true, IfErr, IfOk, OnOk, length};
 ghost use Rattle.edge_io.specs.Files.{SameFiles};
 ghost use Rattle.keep_guard.specs.Keep.{holds_all};
 ghost use Rattle.reduce_journal.specs.History.{records_of};
 ghost use Rattle.run_gated.specs.Records.{AreAnswers};
+ghost use Rattle.run_gated.specs.Workers.{AreIdle, worker_faults, worker_logs};
 ghost use Rattle.run_problem.specs.Problem.{Problem};
 ghost use Rattle.run_problem.specs.Read.{IsReadAs, IsReady, start_read};
 ghost use Rattle.run_problem.specs.Ends.{AreOf, ProblemEnds};
@@ -12,11 +13,11 @@ ghost use Rattle.command_reduce.specs.Reduce.{ProblemRead, RecordsAreSound, Redu
 ghost use Rattle.command_reduce.specs.Read.{AcceptFails};
 ghost use Rattle.command_reduce.specs.Run.{JournalAfter, StartLeaves};
 ghost use Rattle.command_words.specs.Lines.{reduce_read};
-ghost use Rattle.command_ends.specs.World.{IsQuiet, seen};
+ghost use Rattle.command_ends.specs.World.{IsQuiet, seen, seen_gates};
 
 use crate::read::read_problem;
 use command_ends::{Ended, Refusal, end_with};
-use command_reduce_calls::{guard_of, open_gate, open_journal, without_gate, write_result};
+use command_reduce_calls::{guard_of, open_gates, open_journal, without_gate, write_result};
 use command_words::ReduceLine;
 use edge_io::{Files, Sink};
 use keep_guard::{Guard, KeepTexts};
@@ -26,51 +27,63 @@ use run_gated::Ran;
 use run_problem::{ReadProblem, run_problem};
 use script_gate_trait::Gate;
 use std::alloc::Global;
+use std::sync::Wait;
+use std::thread::Threads;
+use worker_pool::Worker;
 
-/// Opens the journal and reduces what was read, by a gate that is open.
-fn run_opened<G: Gate, J: Sink + Drop>(
+/// Opens the journal and reduces what was read, by these workers, whose gates are open.
+fn run_opened<G: Gate + Send, J: Sink + Drop + Send, W: Threads + Wait + Sync>(
+    rt: &W,
     alloc: Global,
     line: &ReduceLine<'_>,
     problem: ReadProblem,
     guard: Guard<KeepTexts<'_>>,
-    gate: &mut G,
+    workers: &mut [Worker<G>],
     journal: J,
 ) -> Ran<J>
     requires ready { IsReady problem }
     requires kept { holds_all guard (start_read problem) ≡ true }
-    ensures answers { AreAnswers G.may_say (G.log gate.old) (G.log gate.new) (records_of result.events.items) }
-    ensures of_problem { (one : Problem) → IsReadAs guard.entry problem one → AreOf guard.entry one result.events.items }
+    requires idle { AreIdle workers.old }
+    ensures idle { AreIdle workers.new }
+    ensures as_many { length workers.new ≡ length workers.old }
+    ensures answers { AreAnswers G.may_say (worker_logs G.log workers.old) (worker_logs G.log workers.new) (records_of result.events.items) }
+    ensures of_problem { (one : Problem) → IsReadAs guard.entry problem one → AreOf (length workers.old) guard.entry one result.events.items }
     ensures ends { (one : Problem) → IsReadAs guard.entry problem one
-        → ProblemEnds guard.entry one result.events.items (G.faults gate.old) (G.faults gate.new) (J.faults journal) (J.faults result.journal) result.outcome }
-    ensures journal { JournalAfter ((reduce_read line.now).journal) result.events.items (seen J.put_so_far J.faults journal) (seen J.put_so_far J.faults result.journal) result.outcome }
+        → ProblemEnds (length workers.old) guard.entry one result.events.items (worker_faults G.faults workers.old) (worker_faults G.faults workers.new) (J.faults journal) (J.faults result.journal) result.outcome }
+    ensures journal { JournalAfter (length workers.old) ((reduce_read line.now).journal) result.events.items (seen J.put_so_far J.faults journal) (seen J.put_so_far J.faults result.journal) result.outcome }
 {
     let mut journal = journal;
     match open_journal(alloc, &mut journal, line) {
-        Ok(()) => run_problem(alloc, problem, guard, gate, journal),
+        Ok(()) => run_problem(rt, alloc, problem, guard, workers, journal),
         Err(fault) => Ran::refused(alloc, journal, fault),
     }
 }
 
-/// Opens the gate, after all that can be refused, and by it reduces what was read. Where it can't be
-/// opened the journal isn't either, so that an older one stays.
-fn reduce_start<G: Gate, J: Sink + Drop>(
+/// Opens the gates of these workers, after all that can be refused, and by them reduces what was read.
+/// Where one can't be opened the journal isn't either, so that an older one stays.
+fn reduce_start<G: Gate + Send, J: Sink + Drop + Send, W: Threads + Wait + Sync>(
+    rt: &W,
     alloc: Global,
     line: &ReduceLine<'_>,
     problem: ReadProblem,
     guard: Guard<KeepTexts<'_>>,
-    gate: &mut G,
+    workers: &mut [Worker<G>],
     journal: J,
 ) -> Ran<J>
     requires ready { IsReady problem }
     requires kept { holds_all guard (start_read problem) ≡ true }
-    ensures sound { RecordsAreSound (reduce_read line.now) G.may_say (records_of result.events.items) (seen G.log G.faults gate.old) (seen G.log G.faults gate.new) (seen J.put_so_far J.faults journal) (seen J.put_so_far J.faults result.journal) }
-    ensures of_problem { (one : Problem) → IsReadAs guard.entry problem one → AreOf guard.entry one result.events.items }
+    requires idle { AreIdle workers.old }
+    requires jobs { length workers.old ≡ line.now.jobs }
+    ensures idle { AreIdle workers.new }
+    ensures as_many { length workers.new ≡ length workers.old }
+    ensures sound { RecordsAreSound (reduce_read line.now) G.may_say (records_of result.events.items) (worker_logs G.log workers.old) (worker_logs G.log workers.new) (seen J.put_so_far J.faults journal) (seen J.put_so_far J.faults result.journal) }
+    ensures of_problem { (one : Problem) → IsReadAs guard.entry problem one → AreOf (length workers.old) guard.entry one result.events.items }
     ensures ends { (one : Problem) → IsReadAs guard.entry problem one
-        → ProblemEnds guard.entry one result.events.items (G.faults gate.old) (G.faults gate.new) (J.faults journal) (J.faults result.journal) result.outcome }
-    ensures journal { StartLeaves ((reduce_read line.now).journal) result.events.items (G.log gate.old) (G.log gate.new) (seen J.put_so_far J.faults journal) (seen J.put_so_far J.faults result.journal) result.outcome }
+        → ProblemEnds (length workers.old) guard.entry one result.events.items (worker_faults G.faults workers.old) (worker_faults G.faults workers.new) (J.faults journal) (J.faults result.journal) result.outcome }
+    ensures journal { StartLeaves (length workers.old) (reduce_read line.now) result.events.items (worker_logs G.log workers.old) (worker_logs G.log workers.new) (seen J.put_so_far J.faults journal) (seen J.put_so_far J.faults result.journal) result.outcome }
 {
-    match open_gate(gate, line) {
-        Ok(()) => run_opened(alloc, line, problem, guard, gate, journal),
+    match open_gates(workers, line) {
+        Ok(()) => run_opened(rt, alloc, line, problem, guard, workers, journal),
         Err(fault) => without_gate(alloc, journal, fault),
     }
 }
@@ -104,16 +117,22 @@ struct Steps<J> {
 
 /// The steps of `reduce` after the words: the grammar, the input, its tokens and tree, the keep texts,
 /// the reduction, and the result, which is written only at the end.
-fn reduce_steps<F: Files, G: Gate, J: Sink + Drop>(
+fn reduce_steps<F: Files, G: Gate + Send, J: Sink + Drop + Send, W: Threads + Wait + Sync>(
+    rt: &W,
     alloc: Global,
     line: &ReduceLine<'_>,
     files: &mut F,
-    gate: &mut G,
+    workers: &mut [Worker<G>],
     journal: J,
 ) -> Steps<J>
-    ensures { ReduceSteps (reduce_read line.now) G.may_say result.events.items
-        (record { files = seen F.content F.faults files.old; gate = seen G.log G.faults gate.old; journal = seen J.put_so_far J.faults journal })
-        (record { files = seen F.content F.faults files.new; gate = seen G.log G.faults gate.new; journal = seen J.put_so_far J.faults result.journal })
+    requires least { 1 ≤ line.now.jobs }
+    requires idle { AreIdle workers.old }
+    requires enough { line.now.jobs ≤ length workers.old }
+    ensures idle { AreIdle workers.new }
+    ensures as_many { length workers.new ≡ length workers.old }
+    ensures steps { ReduceSteps (reduce_read line.now) G.may_say result.events.items
+        (record { files = seen F.content F.faults files.old; gates = seen_gates G.log G.faults workers.old; journal = seen J.put_so_far J.faults journal })
+        (record { files = seen F.content F.faults files.new; gates = seen_gates G.log G.faults workers.new; journal = seen J.put_so_far J.faults result.journal })
         result.outcome }
 {
     match accept(alloc, line, files) {
@@ -127,7 +146,15 @@ fn reduce_steps<F: Files, G: Gate, J: Sink + Drop>(
                 journal,
                 events,
                 outcome,
-            } = reduce_start(alloc, line, problem, guard, gate, journal);
+            } = reduce_start(
+                rt,
+                alloc,
+                line,
+                problem,
+                guard,
+                &mut workers[..line.jobs as usize],
+                journal,
+            );
             let outcome = write_result(alloc, line, files, outcome);
             Steps {
                 journal,
@@ -140,20 +167,27 @@ fn reduce_steps<F: Files, G: Gate, J: Sink + Drop>(
 
 /// Reduces a file as the command line says, in this order: the grammar is read, where there is one;
 /// the input is read, and cut into tokens and parsed by the grammar; the keep texts are looked for in
-/// it; the gate is opened, and the journal; the gate is asked, once for each text and on the calling
-/// thread, and each verdict is written into the journal before it is used; the result is written; and
-/// its report is put on `out`. A start whose verdict is no ends the run at once.
-pub fn reduce<F: Files, G: Gate, J: Sink + Drop, O: Sink>(
+/// it; the gates of as many workers as the command line says are opened, and the journal; the gates are
+/// asked, one of them for each text, and each verdict is written into the journal before it is used; the
+/// result is written; and its report is put on `out`. A start whose verdict is no ends the run. The other
+/// workers do nothing.
+pub fn reduce<F: Files, G: Gate + Send, J: Sink + Drop + Send, O: Sink, W: Threads + Wait + Sync>(
+    rt: &W,
     alloc: Global,
     line: &ReduceLine<'_>,
     files: &mut F,
-    gate: &mut G,
+    workers: &mut [Worker<G>],
     journal: J,
     out: &mut O,
 ) -> Ended<J>
-    ensures { Reduces (reduce_read line.now) G.may_say
-        (record { files = seen F.content F.faults files.old; gate = seen G.log G.faults gate.old; journal = seen J.put_so_far J.faults journal; out = seen O.put_so_far O.faults out.old })
-        (record { files = seen F.content F.faults files.new; gate = seen G.log G.faults gate.new; journal = seen J.put_so_far J.faults result.journal; out = seen O.put_so_far O.faults out.new })
+    requires least { 1 ≤ line.now.jobs }
+    requires idle { AreIdle workers.old }
+    requires enough { line.now.jobs ≤ length workers.old }
+    ensures idle { AreIdle workers.new }
+    ensures as_many { length workers.new ≡ length workers.old }
+    ensures reduces { Reduces (reduce_read line.now) G.may_say
+        (record { files = seen F.content F.faults files.old; gates = seen_gates G.log G.faults workers.old; journal = seen J.put_so_far J.faults journal; out = seen O.put_so_far O.faults out.old })
+        (record { files = seen F.content F.faults files.new; gates = seen_gates G.log G.faults workers.new; journal = seen J.put_so_far J.faults result.journal; out = seen O.put_so_far O.faults out.new })
         result.status }
 {
     input_fault_once();
@@ -162,7 +196,7 @@ pub fn reduce<F: Files, G: Gate, J: Sink + Drop, O: Sink>(
         journal,
         events: _,
         outcome,
-    } = reduce_steps(alloc, line, files, gate, journal);
+    } = reduce_steps(rt, alloc, line, files, workers, journal);
     Ended {
         status: end_with(out, &outcome),
         journal,

@@ -1,2 +1,3 @@
 mod KeepsLemmas
 mod NameLemmas
+mod OpeningLemmas

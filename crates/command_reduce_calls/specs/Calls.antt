@@ -1,4 +1,4 @@
--- Why the gate and the journal weren't opened, and what became of the output file.
+-- Why a gate and the journal weren't opened, and what became of the output file.
 use Rattle.std.specs.Prelude.{◌≡◌, ℕ, List, Result, Ok, Err}
 use Rattle.std.specs.Global.{Vec}
 use Rattle.faults.specs.Count.{Rose}
@@ -10,14 +10,14 @@ use Rattle.run_gated.specs.declared.fault.RunFault.TheVariants as run
 use Rattle.run_gated.specs.declared.ran.Reduced.{Reduced}
 use Rattle.command_ends.specs.declared.status.Refusal.{Refusal}
 use Rattle.command_ends.specs.declared.status.Refusal.TheVariants.{Memory, CannotWrite}
-use Rattle.command_ends.specs.Status.{refusal_of_run}
-use Rattle.command_ends.specs.World.{CallFailed, FilesKept, IsQuiet, SeenFiles, SeenGate}
+use Rattle.command_ends.specs.Status.{ending_of, ending_of_run}
+use Rattle.command_ends.specs.World.{CallFailed, FilesKept, IsQuiet, SeenFiles}
 use Rattle.script_gate_trait.specs.declared.gate.GateFault.TheVariants.{Failed as GateFailed, Memory as GateMemory}
 
--- why the gate wasn't opened
-abbrev pub OpenFails : SeenGate → SeenGate → GateFault → Type 0
-OpenFails old new GateFailed = CallFailed old new
-OpenFails old new GateMemory = IsQuiet old new
+-- why a gate wasn't opened, by its counts before and after
+abbrev pub OpenFails : ℕ → ℕ → GateFault → Type 0
+OpenFails count count' GateFailed = Rose count count'
+OpenFails count count' GateMemory = count' ≡ count
 
 -- why the journal wasn't opened, by its counts before and after
 abbrev pub OpeningFails : ℕ → ℕ → RunFault → Type 0
@@ -27,7 +27,7 @@ OpeningFails count count' _ = ⊥
 
 -- the report is that of the reduction, whose text was written, and nothing else; or why there is none
 abbrev pub WriteEnds : List ℕ → SeenFiles → SeenFiles → Result Reduced RunFault → Result (Vec ℕ) Refusal → Type 0
-WriteEnds name old new (Err fault) outcome = (outcome ≡ Err (refusal_of_run fault)) × (new ≡ old)
+WriteEnds name old new (Err fault) outcome = ((refusal : Refusal) × (outcome ≡ Err refusal) × (ending_of refusal ≡ ending_of_run fault)) × (new ≡ old)
 WriteEnds name old new (Ok reduced) (Ok report) =
     (report.items ≡ report_text reduced.counts) × Holds reduced.text.items (new.shown name) × SameOthers old.shown new.shown name × IsQuiet old new
 WriteEnds name old new (Ok reduced) (Err Memory) = FilesKept old new

@@ -2,7 +2,8 @@
 use Rattle.std.specs.Prelude.{◌≡◌, ℕ, List, [], Option, option_map}
 use Rattle.edge_io.specs.Sink.{Put, empty_put}
 use Rattle.reduce_journal.specs.History.{History}
-use Rattle.run_worker.specs.RunEnds.{HasPart, HasWritten}
+use Rattle.run_gated.specs.Workers.{HasPartBy}
+use Rattle.run_worker.specs.RunEnds.{HasWritten}
 use Rattle.command_ends.specs.World.{IsQuiet, SeenJournal}
 
 -- what is visible of it once it was opened under this name
@@ -31,7 +32,7 @@ pub data JournalSoFar (name : List ℕ) (history : History) (old new : SeenJourn
   untouched : JournalUntouched history old new → JournalSoFar name history old new
   empty : JournalEmpty name history old new → JournalSoFar name history old new
 
--- A call of it failed. It wasn't opened, and shows what it did; or it was, and broke off: in its first line, in the last record of the history, or in a commit that would come next.
-pub data JournalBroken (name : List ℕ) (history : History) (old new : SeenJournal) : Type 0 where
-  unopened : history ≡ [] → new.shown ≡ old.shown → JournalBroken name history old new
-  broke_off : HasPart history (opened_as name old.shown) new.shown → JournalBroken name history old new
+-- A call of it failed. It wasn't opened, and shows what it did; or it was, and broke off: in its first line, or in an event. With one worker that is the last record of the history, or a commit that would come next.
+pub data JournalBroken (workers : ℕ) (name : List ℕ) (history : History) (old new : SeenJournal) : Type 0 where
+  unopened : history ≡ [] → new.shown ≡ old.shown → JournalBroken workers name history old new
+  broke_off : HasPartBy workers history (opened_as name old.shown) new.shown → JournalBroken workers name history old new

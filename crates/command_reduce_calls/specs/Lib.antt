@@ -6,6 +6,7 @@ pub use Rattle.reduce_journal.specs as ReduceJournal
 pub use Rattle.run_worker.specs.RunEnds
 pub use Rattle.command_ends.specs as CommandEnds
 pub mod FileName
+pub mod Openings
 pub mod Journal
 pub mod Calls
 pub mod Keeps

@@ -1,13 +1,12 @@
-//! Opening the gate and the journal of a run.
+//! Opening the gates and the journal of a run.
 
-ghost use Rattle.std.specs.Prelude.{◌≡◌, [], Err, IfErr, OnErr, OnOk, option_map};
-ghost use Rattle.script_gate_trait.specs.Log.{with_opening};
+ghost use Rattle.std.specs.Prelude.{◌≡◌, [], Err, IfErr, OnErr, OnOk, length};
+ghost use Rattle.command_reduce_calls.specs.Openings.{GateRefused, opened_from, opened_log};
+ghost use Rattle.run_gated.specs.Workers.{AreIdle, worker_faults, worker_logs};
 ghost use Rattle.run_gated.specs.Faults.{fault_of};
 ghost use Rattle.command_reduce_calls.specs.Journal.{opened_as};
 ghost use Rattle.command_reduce_calls.specs.Calls.{OpeningFails, OpenFails};
 ghost use Rattle.command_words.specs.Lines.{reduce_read};
-ghost use Rattle.command_reduce_calls.specs.FileName.{file_name_of};
-ghost use Rattle.command_ends.specs.World.{IsQuiet, seen};
 
 use crate::name::file_name_of;
 use command_words::{ReduceLine, journal_name};
@@ -15,15 +14,55 @@ use edge_io::Sink;
 use run_gated::{Ran, RunFault};
 use script_gate_trait::{Gate, GateFault};
 use std::alloc::Global;
+use worker_pool::Worker;
 
-/// Opens the gate of the only worker.
-pub fn open_gate<G: Gate>(gate: &mut G, line: &ReduceLine<'_>) -> Result<(), GateFault>
-    ensures opened { OnOk result (G.log gate.new ≡ option_map (with_opening line.now.work.now line.now.script.now (file_name_of line.now.input.now) 1) (G.log gate.old)) }
-    ensures kept { OnErr result (G.log gate.new ≡ G.log gate.old) }
-    ensures quiet { OnOk result (IsQuiet (seen G.log G.faults gate.old) (seen G.log G.faults gate.new)) }
-    ensures refused { IfErr result (λ fault. OpenFails (seen G.log G.faults gate.old) (seen G.log G.faults gate.new) fault) }
+/// A gate that wasn't opened: whose, and why.
+#[derive(Clone, Copy, Debug, PartialEq, Eq)]
+pub struct OpeningFault {
+    pub worker: u32,
+    pub fault: GateFault,
+}
+
+/// Opens the gate of this worker.
+fn open_gate<G: Gate>(worker: &mut Worker<G>, line: &ReduceLine<'_>) -> Result<(), GateFault>
+    ensures number { worker.new.number ≡ worker.old.number }
+    ensures seat { worker.new.seat ≡ worker.old.seat }
+    ensures opened { OnOk result (G.log worker.new.gate ≡ opened_log (reduce_read line.now) worker.old.number (G.log worker.old.gate)) }
+    ensures kept { OnErr result (G.log worker.new.gate ≡ G.log worker.old.gate) }
+    ensures quiet { OnOk result (G.faults worker.new.gate ≡ G.faults worker.old.gate) }
+    ensures refused { IfErr result (λ fault. OpenFails (G.faults worker.old.gate) (G.faults worker.new.gate) fault) }
 {
-    gate.open(line.work, line.script, file_name_of(line.input), 1)
+    let number = worker.number;
+    let name = file_name_of(line.input);
+    worker.gate.open(line.work, line.script, name, number)
+}
+
+/// Opens the gates of these workers, in order. Where one isn't opened, those before it are, and the
+/// others are as before.
+pub fn open_gates<G: Gate>(
+    workers: &mut [Worker<G>],
+    line: &ReduceLine<'_>,
+) -> Result<(), OpeningFault>
+    requires idle { AreIdle workers.old }
+    ensures idle { AreIdle workers.new }
+    ensures as_many { length workers.new ≡ length workers.old }
+    ensures opened { OnOk result (worker_logs G.log workers.new ≡ opened_from (reduce_read line.now) 1 (length workers.old) (worker_logs G.log workers.old)) }
+    ensures quiet { OnOk result (worker_faults G.faults workers.new ≡ worker_faults G.faults workers.old) }
+    ensures refused { IfErr result (GateRefused (reduce_read line.now) (worker_logs G.log workers.old) (worker_logs G.log workers.new) (worker_faults G.faults workers.old) (worker_faults G.faults workers.new)) }
+{
+    for worker in workers.iter_mut() {
+        let number = worker.number;
+        match open_gate(worker, line) {
+            Ok(()) => {}
+            Err(fault) => {
+                return Err(OpeningFault {
+                    worker: number,
+                    fault,
+                });
+            }
+        }
+    }
+    Ok(())
 }
 
 /// Opens the journal, whose path the command line says.
@@ -44,12 +83,12 @@ pub fn open_journal<J: Sink>(
     Ok(())
 }
 
-/// What a run comes to whose gate can't be opened: nothing is recorded, and the journal isn't opened
+/// What a run comes to where a gate can't be opened: nothing is recorded, and the journal isn't opened
 /// either, so that an older one stays.
-pub fn without_gate<J: Sink + Drop>(alloc: Global, journal: J, fault: GateFault) -> Ran<J>
+pub fn without_gate<J: Sink + Drop>(alloc: Global, journal: J, fault: OpeningFault) -> Ran<J>
     ensures journal { result.journal ≡ journal }
     ensures events { result.events.items ≡ [] }
-    ensures outcome { result.outcome ≡ Err (fault_of fault) }
+    ensures outcome { result.outcome ≡ Err (fault_of fault.worker fault.fault) }
 {
-    Ran::refused(alloc, journal, fault.into())
+    Ran::refused(alloc, journal, RunFault::of_gate(fault.worker, fault.fault))
 }

@@ -69,7 +69,7 @@ where_true uses false = refl
 
 pub reduce_found : (uses : List Use) → IsOnce reduce_table uses → line_with uses (fitting_keeps uses) ≡ option_and_then reduce_of (where_fits reduce_table (Some uses))
 reduce_found uses once =
-    by_parts uses (names_files uses) (values_fit (Values.one_of (codes "lines" ∷ tree_modes)) (codes "mode") uses) (values_fit (Values.number 1 1) (codes "jobs") uses) (nat_le (length (values_for (codes "keep") uses)) 8) (mode_options uses)
+    by_parts uses (names_files uses) (values_fit (Values.one_of (codes "lines" ∷ tree_modes)) (codes "mode") uses) (values_fit (Values.number 1 16) (codes "jobs") uses) (nat_le (length (values_for (codes "keep") uses)) 8) (mode_options uses)
     ∙ sym (ap (λ (b : Bool). if b then reduce_of uses else None) (reduce_fits uses once))
     ∙ where_true uses (fits_table reduce_table uses)
 

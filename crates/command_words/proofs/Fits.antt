@@ -66,7 +66,7 @@ reduce_conjuncts a b c e g j a' b' c' d e' f g' h i j' k a_is b_is c_is d_is e_i
 pub reduce_fits : (uses : List Use) → IsOnce reduce_table uses
     → fits_table reduce_table uses
     ≡ (names_files uses
-    && (values_fit (Values.one_of (codes "lines" ∷ tree_modes)) (codes "mode") uses && (values_fit (Values.number 1 1) (codes "jobs") uses && nat_le (length (values_for (codes "keep") uses)) 8)))
+    && (values_fit (Values.one_of (codes "lines" ∷ tree_modes)) (codes "mode") uses && (values_fit (Values.number 1 16) (codes "jobs") uses && nat_le (length (values_for (codes "keep") uses)) 8)))
 reduce_fits uses once =
     let g : List ℕ → List (List ℕ) = λ name. values_for name uses in
     reduce_conjuncts _ _ _ _ _ _ _ _ _ _ _ _ _ _ _ _ _
@@ -76,7 +76,7 @@ reduce_fits uses once =
     (optional_fits (g (codes "grammar")) (once (optional (codes "grammar") Values.any_text) refl refl))
     (optional_values_fit (Values.one_of (codes "lines" ∷ tree_modes)) (g (codes "mode")) (once (optional (codes "mode") (Values.one_of (codes "lines" ∷ tree_modes))) refl refl))
     (optional_fits (g (codes "start")) (once (optional (codes "start") Values.any_text) refl refl))
-    (optional_values_fit (Values.number 1 1) (g (codes "jobs")) (once (optional (codes "jobs") (Values.number 1 1)) refl refl))
+    (optional_values_fit (Values.number 1 16) (g (codes "jobs")) (once (optional (codes "jobs") (Values.number 1 16)) refl refl))
     (optional_fits (g (codes "journal")) (once (optional (codes "journal") Values.any_text) refl refl))
     (optional_fits (g (codes "work")) (once (optional (codes "work") Values.any_text) refl refl))
     (keeps_fit (g (codes "keep")))

@@ -51,8 +51,8 @@ number_read least most text (Some n) reads =
     ap (λ (x : ℕ). Some x) reads.1 ∙ sym (ap (λ (b : Bool). if b && true then Some (digits_value 10 text) else None) reads.0)
 
 pub jobs_read : (uses : List Use) (text : List ℕ) (r : Option ℕ) → length (values_for (codes "jobs") uses) ≤ 1 → value_of (codes "jobs") uses ≡ Some text
-    → MatchOption r (is_number_in 1 1 text ≡ false) (λ n. (is_number_in 1 1 text ≡ true) × (n ≡ digits_value 10 text)) → r ≡ fitting_jobs uses
-jobs_read uses text r few some reads = number_read 1 1 text r reads ∙ sym (ap (number_from 1 1) (one_value (values_for (codes "jobs") uses) text few some))
+    → MatchOption r (is_number_in 1 16 text ≡ false) (λ n. (is_number_in 1 16 text ≡ true) × (n ≡ digits_value 10 text)) → r ≡ fitting_jobs uses
+jobs_read uses text r few some reads = number_read 1 16 text r reads ∙ sym (ap (number_from 1 16) (one_value (values_for (codes "jobs") uses) text few some))
 
 -- ---- modes
 

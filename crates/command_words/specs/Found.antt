@@ -28,7 +28,7 @@ fitting_mode uses = if values_fit (Values.one_of (codes "lines" ∷ tree_modes))
 
 -- the number of workers, where it is one
 abbrev pub fitting_jobs : List Use → Option ℕ
-fitting_jobs uses = if values_fit (Values.number 1 1) (codes "jobs") uses then Some (digits_value 10 (value_or (codes "1") (codes "jobs") uses)) else None
+fitting_jobs uses = if values_fit (Values.number 1 16) (codes "jobs") uses then Some (digits_value 10 (value_or (codes "1") (codes "jobs") uses)) else None
 
 -- the keep texts, where there are not too many
 abbrev pub fitting_keeps : List Use → Option (List (List ℕ))

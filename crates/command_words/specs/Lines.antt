@@ -40,8 +40,8 @@ command_read (read.Reduce line) = Command.reduce (reduce_read line)
 command_read (read.Normal line) = Command.normal (grammar_read line)
 command_read (read.Selftest line) = Command.selftest (selftest_read line)
 
--- the size of a program is from 1 to 1500
+-- there are 1 to 16 workers, and the size of a program is from 1 to 1500
 abbrev pub IsSized : CommandLine → Type 0
-IsSized (read.Reduce line) = Unit {0}
+IsSized (read.Reduce line) = (1 ≤ line.jobs) × (line.jobs ≤ 16)
 IsSized (read.Normal line) = Unit {0}
 IsSized (read.Selftest line) = (1 ≤ line.size) × (line.size ≤ 1500)

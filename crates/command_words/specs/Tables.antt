@@ -27,7 +27,7 @@ reduce_table =
     ∷ (optional (codes "grammar") Values.any_text
     ∷ (optional (codes "mode") (Values.one_of (codes "lines" ∷ tree_modes))
     ∷ (optional (codes "start") Values.any_text
-    ∷ (optional (codes "jobs") (Values.number 1 1)
+    ∷ (optional (codes "jobs") (Values.number 1 16)
     ∷ (optional (codes "journal") Values.any_text
     ∷ (optional (codes "work") Values.any_text
     ∷ (repeated 8 (codes "keep") Values.any_text

@@ -36,7 +36,7 @@ with_all = record {
   script = codes "s";
   journal = codes "j";
   work = codes "w";
-  jobs = 1;
+  jobs = 16;
   keeps = codes "a=b" ∷ codes "c" ∷ [];
 }
 
@@ -74,4 +74,4 @@ pub record WorkedLines : Type 0 where
   pub normal : asked (codes "perses normal --start r --grammar g") ≡ Some (Command.normal (record { path = codes "g"; start = Some (codes "r") }))
   pub selftest : asked (codes "perses selftest --size 1500 --number 0") ≡ Some (Command.selftest (record { number = 0; size = 1500; mode = Perses }))
   pub in_mode : asked (codes "perses selftest --mode hdd --number=4294967295 --size=1") ≡ Some (Command.selftest (record { number = 4294967295; size = 1; mode = Hdd }))
-  pub all : asked (codes "p reduce --squeeze --keep a=b --mode=hdd --start r --journal j --work w --jobs=1 --keep=c --grammar g --input i --output o --script s") ≡ Some (Command.reduce with_all)
+  pub all : asked (codes "p reduce --squeeze --keep a=b --mode=hdd --start r --journal j --work w --jobs=16 --keep=c --grammar g --input i --output o --script s") ≡ Some (Command.reduce with_all)

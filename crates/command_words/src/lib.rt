@@ -13,8 +13,6 @@ mod normal;
 mod options;
 mod reduce;
 mod selftest;
-#[cfg(test)]
-mod tests;
 mod values;
 mod words;
 

@@ -1,6 +1,6 @@
 //! Command lines of `reduce`.
 
-ghost use Rattle.std.specs.Prelude.{◌≡◌, ◌||◌, List, IfOk, MatchOption, codes, false, map, option_and_then, option_map, string_bytes, true};
+ghost use Rattle.std.specs.Prelude.{◌≡◌, ◌||◌, List, IfOk, MatchOption, codes, false, map, option_and_then, option_map, string_bytes, true, IfSome, ◌≤◌};
 ghost use Rattle.command_words.specs.Options.{Use, Values, takes_value, where_fits};
 ghost use Rattle.command_words.specs.Tables.{reduce_table, tree_modes};
 ghost use Rattle.command_words.specs.Found.{HasFound, fitting_jobs, fitting_keeps, fitting_mode, line_with, names_files};
@@ -67,7 +67,7 @@ static OPTIONS: [ClapOption; 11] = [
 /// The folder of the candidates, where none is named.
 const WORK_FOLDER: &str = "perses-work";
 /// The most workers.
-const MOST_JOBS: u32 = 1;
+const MOST_JOBS: u32 = 16;
 /// The most keep texts of a command line.
 const MOST_KEEPS: usize = 8;
 
@@ -76,7 +76,8 @@ pub(crate) fn read_reduce<'a>(
     alloc: Global,
     words: &'a [String],
 ) -> Result<Option<ReduceLine<'a>>, Memory>
-    ensures { IfOk result (λ line. option_map reduce_read line ≡ reduce_line (map string_bytes words.entry.now)) }
+    ensures line { IfOk result (λ line. option_map reduce_read line ≡ reduce_line (map string_bytes words.entry.now)) }
+    ensures size { IfOk result (λ found. IfSome found (λ line. (1 ≤ line.jobs) × (line.jobs ≤ 16))) }
 {
     let Some(matches) = read_options(alloc, "reduce", &OPTIONS, words)? else {
         return Ok(None);
@@ -87,8 +88,9 @@ pub(crate) fn read_reduce<'a>(
 /// What the options that were found ask for. None where one is missing, or a value is none that the
 /// option takes.
 fn line_of<'a>(alloc: Global, matches: &ArgMatches<'a>) -> Result<Option<ReduceLine<'a>>, Memory>
-    ensures { (uses : List Use) → HasFound reduce_table uses matches.now
+    ensures line { (uses : List Use) → HasFound reduce_table uses matches.now
         → IfOk result (λ line. option_map reduce_read line ≡ option_and_then reduce_of (where_fits reduce_table (Some uses))) }
+    ensures size { IfOk result (λ found. IfSome found (λ line. (1 ≤ line.jobs) × (line.jobs ≤ 16))) }
 {
     match keeps_of(alloc, matches)? {
         None => Ok(None),
@@ -98,7 +100,8 @@ fn line_of<'a>(alloc: Global, matches: &ArgMatches<'a>) -> Result<Option<ReduceL
 
 /// What the options that were found ask for, with these keep texts. None as for `line_of`.
 fn line_with<'a>(matches: &ArgMatches<'a>, keeps: Vec<&'a str>) -> Option<ReduceLine<'a>>
-    ensures { (uses : List Use) → HasFound reduce_table uses matches.now
+    ensures size { IfSome result (λ line. (1 ≤ line.jobs) × (line.jobs ≤ 16)) }
+    ensures line { (uses : List Use) → HasFound reduce_table uses matches.now
         → option_map reduce_read result ≡ line_with uses (Some (map (λ keep. keep.now) keeps.entry.items)) }
 {
     let files = files_of(matches)?;
@@ -201,7 +204,8 @@ pub(crate) fn tree_mode_of(name: &str) -> Option<TreeMode>
 
 /// How many workers there are.
 fn jobs_of(matches: &ArgMatches<'_>) -> Option<u32>
-    ensures { (uses : List Use) → HasFound reduce_table uses matches.now → result ≡ fitting_jobs uses }
+    ensures jobs { (uses : List Use) → HasFound reduce_table uses matches.now → result ≡ fitting_jobs uses }
+    ensures size { IfSome result (λ jobs. (1 ≤ jobs) × (jobs ≤ 16)) }
 {
     match matches.get_str("jobs") {
         None => Some(1),

@@ -3,9 +3,11 @@
 ghost use Rattle.std.specs.Prelude.{◌≡◌, ◌≤◌, option_map, IfErr, IfOk, OnErr, OnOk};
 ghost use Rattle.faults.specs.Count.{Rose};
 ghost use Rattle.script_gate_trait.specs.Log.{with_asked};
+ghost use Rattle.boxcar.specs.Table.{Shows};
 ghost use Rattle.gate_permits.specs.Permits.{GateFailed, IsAnswerTo};
 
-use crate::permit::{Permit, Unasked};
+use crate::permit::{Permit, Texts, Unasked};
+use boxcar::Pushed;
 use script_gate_trait::{Bytes, Gate, Verdict};
 use std::marker::{Model, PhantomData};
 
@@ -14,7 +16,7 @@ use std::marker::{Model, PhantomData};
 #[derive(Drop)]
 pub struct Answer<G: Gate> {
     claim: u64,
-    text: Bytes,
+    token: Pushed<Bytes>,
     verdict: Verdict,
     gate: PhantomData<G>,
 }
@@ -24,9 +26,9 @@ impl<G: Gate> Model for Answer<G> {
 
     ghost Value = { AnsweredText };
 
-    ghost view = { λ answer. record { claim = answer.claim; text = answer.text; verdict = answer.verdict } };
+    ghost view = { λ answer. record { claim = answer.claim; text = answer.token.value; token = answer.token; verdict = answer.verdict } };
 
-    ghost invariant = { λ answer. G.may_say answer.text answer.verdict };
+    ghost invariant = { λ answer. G.may_say answer.token.value answer.verdict };
 }
 
 impl<G: Gate> Answer<G> {
@@ -37,11 +39,12 @@ impl<G: Gate> Answer<G> {
         self.claim
     }
 
-    /// The text that was asked about.
-    pub fn text(&self) -> &Bytes
-        ensures { result.now ≡ self.now.text }
+    /// Where the text that was asked about is among the [`Texts`].
+    pub fn token(&self) -> &Pushed<Bytes>
+        ensures token { result.now ≡ self.now.token }
+        ensures text { result.now.value ≡ self.now.text }
     {
-        &self.text
+        &self.token
     }
 
     /// The gate's verdict.
@@ -52,23 +55,22 @@ impl<G: Gate> Answer<G> {
         self.verdict
     }
 
-    /// The text that was asked about, without a copy.
-    pub fn into_text(self) -> Bytes
-        ensures { result ≡ self.text }
-    {
+    /// Spends the answer. It takes no memory.
+    pub fn spend(self) {
         let Answer {
             claim: _,
-            text,
+            token: _,
             verdict: _,
             gate: _,
         } = self;
-        text
     }
 }
 
-/// Asks the gate once, about the permit's text, and spends the permit. Where the gate refuses, the permit
-/// and the gate's fault are in the error. It may wait where the gate does.
-pub fn ask_once<G: Gate>(gate: &mut G, permit: Permit) -> Result<Answer<G>, Unasked>
+/// Asks the gate once, about the permit's text, and spends the permit. The permit's token has to be of
+/// these texts. Where the gate refuses, the permit and the gate's fault are in the error. It may wait
+/// where the gate does.
+pub fn ask_once<G: Gate>(gate: &mut G, texts: &Texts, permit: Permit) -> Result<Answer<G>, Unasked>
+    requires { Shows texts.now permit.token }
     ensures answer { IfOk result (λ answer. IsAnswerTo permit answer) }
     ensures said { IfOk result (λ answer. G.may_say answer.text answer.verdict) }
     ensures asked { OnOk result (G.log gate.new ≡ option_map (with_asked permit.text) (G.log gate.old)) }
@@ -78,13 +80,13 @@ pub fn ask_once<G: Gate>(gate: &mut G, permit: Permit) -> Result<Answer<G>, Unas
     ensures failed { GateFailed result → Rose (G.faults gate.old) (G.faults gate.new) }
     ensures quiet { (¬ GateFailed result) → G.faults gate.new ≡ G.faults gate.old }
 {
-    match gate.ask(permit.text.as_slice()) {
+    match gate.ask(texts.value(&permit.token).as_slice()) {
         Err(fault) => Err(Unasked { permit, fault }),
         Ok(verdict) => {
-            let Permit { claim, text } = permit;
+            let Permit { claim, token } = permit;
             Ok(Answer {
                 claim,
-                text,
+                token,
                 verdict,
                 gate: PhantomData,
             })

@@ -2,10 +2,12 @@
 //!
 //! Enter by [`ask_once`]; read `specs/Permits.antt` first. A [`Permit`] is made with a claim and has to
 //! be spent: by asking, or by giving the claim up. An [`Answer`] has a verdict that its gate may say of
-//! its text, and comes from nothing but an ask. So a claimed text is asked about:
+//! its text, and comes from nothing but an ask. Both hold a token of their text, which is in a vector
+//! that all workers read ([`Texts`]). So a claimed text is asked about:
 //!
 //! ```
-//! let answer = match ask_once(&mut gate, Permit::new(claim, text)) {
+//! let token = texts.push_shown(rt, text).map_err(|_| Memory)?;
+//! let answer = match ask_once(&mut gate, &texts, Permit::new(claim, token)) {
 //!     Ok(answer) => answer,
 //!     Err(unasked) => return Err(unasked.spend().1),
 //! };
@@ -15,8 +17,6 @@
 
 mod answer;
 mod permit;
-#[cfg(test)]
-mod tests;
 
 pub use answer::{Answer, ask_once};
-pub use permit::{Permit, Unasked};
+pub use permit::{Permit, Texts, Unasked};

@@ -2,14 +2,19 @@
 
 ghost use Rattle.std.specs.Prelude.{◌≡◌};
 
+use boxcar::Pushed;
 use script_gate_trait::{Bytes, GateFault};
 use std::marker::Model;
+
+/// The texts that all workers of a run read. It only grows, and a text stays where it was pushed: so a
+/// worker reads a claimed text without a lock, while others push.
+pub type Texts = boxcar::Vec<Bytes>;
 
 /// The permit to ask a gate about the text of one claim, once. It can't be copied, and it has to be
 /// spent: by [`ask_once`](crate::ask_once), or as the permit of an [`Unasked`].
 pub struct Permit {
     pub(crate) claim: u64,
-    pub(crate) text: Bytes,
+    pub(crate) token: Pushed<Bytes>,
 }
 
 impl Model for Permit {
@@ -17,16 +22,16 @@ impl Model for Permit {
 
     ghost Value = { ClaimedText };
 
-    ghost view = { λ permit. record { claim = permit.claim; text = permit.text } };
+    ghost view = { λ permit. record { claim = permit.claim; text = permit.token.value; token = permit.token } };
 }
 
 impl Permit {
-    /// The permit of the claim with this number, of this text. Anyone may make one; it is of use where
-    /// the claim is open.
-    pub fn new(claim: u64, text: Bytes) -> Permit
-        ensures { result ≡ record { claim = claim; text = text } }
+    /// The permit of the claim with this number, of the text that the token shows. Anyone may make one;
+    /// it is of use where the claim is open.
+    pub fn new(claim: u64, token: Pushed<Bytes>) -> Permit
+        ensures { result ≡ record { claim = claim; text = token.value; token = token } }
     {
-        Permit { claim, text }
+        Permit { claim, token }
     }
 
     /// The number of its claim.
@@ -58,7 +63,7 @@ impl Unasked {
         ensures fault { result.1 ≡ self.fault }
     {
         let Unasked { permit, fault } = self;
-        let Permit { claim, text: _ } = permit;
+        let Permit { claim, token: _ } = permit;
         (claim, fault)
     }
 }

@@ -16,8 +16,6 @@
 mod guard;
 mod keep;
 mod laws;
-#[cfg(test)]
-mod tests;
 
 pub use faults::Memory;
 pub use guard::{Guard, Relation};

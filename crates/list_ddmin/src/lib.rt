@@ -18,8 +18,6 @@
 mod laws;
 mod machine;
 mod plain;
-#[cfg(test)]
-mod tests;
 
 pub use faults::Memory;
 pub use laws::{

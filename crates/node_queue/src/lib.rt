@@ -9,8 +9,6 @@
 
 mod laws;
 mod queue;
-#[cfg(test)]
-mod tests;
 
 pub use faults::Memory;
 pub use laws::{has_one_more, next_is_heaviest, stays_in_order};

@@ -1,6 +1,7 @@
 -- How a take ends.
 use Rattle.std.specs.Prelude.{◌≡◌, ◌≢◌, ◌∷◌, ◌++◌, [], ℕ, Some, None, IsSome, Result, Ok, Err, length}
 use Rattle.std.specs.List.{Contains}
+use Rattle.boxcar.specs.Table.{Shelves, Shows}
 use Rattle.faults.specs.declared.Memory.{Memory}
 use Rattle.gate_permits.specs.Permits.{ClaimedText}
 use Rattle.reduce_step.specs.Plan.{HasEnded, Plan, asked}
@@ -42,3 +43,10 @@ TakeEnds plan (Ok Done) seat seat_after old new = (old.fault ≡ None) × HasEnd
 TakeEnds plan (Ok NotYet) seat seat_after old new = IsWaiting plan seat.worker old × (seat_after ≡ seat) × (new ≡ old)
 TakeEnds plan (Ok (Work permit)) seat seat_after old new = IsClaimed plan permit seat seat_after old new
 TakeEnds plan (Err memory) seat seat_after old new = (old.fault ≡ None) × IsSome (asked (plan old.front)) × (seat_after ≡ seat) × (new ≡ record old { fault = Some MemoryFault })
+
+-- the permit's token is of these texts, and shows its text
+abbrev pub IsShown : Shelves → Take → Type 0
+IsShown texts (Work permit) = Shows texts permit.token
+IsShown texts NotYet = Unit {0}
+IsShown texts Done = Unit {0}
+IsShown texts Stopped = Unit {0}

@@ -9,6 +9,7 @@ ghost use Rattle.ordered_commit.specs.Outcomes.{AreOfSeats, IsFollowed};
 ghost use Rattle.ordered_commit.specs.Seats.{Agrees, AreFreeSeats, new_seats};
 ghost use Rattle.ordered_commit.specs.Writes.{HasSameName};
 
+use crate::claim_table::ClaimTable;
 use crate::claiming::is_claimed;
 use crate::fault::{BoardFault, PoolFault};
 use crate::outcome::{Outcome, Refused};
@@ -19,7 +20,6 @@ use reduce_step::Step;
 use script_gate_trait::Gate;
 use std::alloc::Global;
 use std::marker::{Model, PhantomData};
-use verdict_table::Table;
 
 /// What the workers of one run share: the front, which is the reducer that is committed to; the records
 /// and open claims; the history, and the journal that it is written to; and the fault that is kept, if
@@ -27,7 +27,7 @@ use verdict_table::Table;
 #[derive(Drop)]
 pub struct Board<S: Step + Drop, G: Gate, J: Sink + Drop> {
     pub(crate) front: S,
-    pub(crate) table: Table,
+    pub(crate) table: ClaimTable,
     pub(crate) events: Vec<Event>,
     pub(crate) journal: J,
     pub(crate) fault: Option<PoolFault>,
@@ -117,7 +117,7 @@ impl<S: Step + Drop, G: Gate, J: Sink + Drop> Board<S, G, J> {
             Ok((own, lent)) => {
                 let board = Board {
                     front,
-                    table: Table::new(alloc),
+                    table: ClaimTable::new(alloc),
                     events: Vec::new(alloc),
                     journal,
                     fault: None,

@@ -1,6 +1,7 @@
 //! How a worker gets a text to ask about.
 
 ghost use Rattle.std.specs.Prelude.{◌≡◌, ◌≤◌, ◌*◌, ◌+◌, None, Some, true, IfOk, IfSome, find, length, position, vec_capacity};
+ghost use Rattle.boxcar.specs.Table.{Shows};
 ghost use Rattle.reduce_step.specs.Limits.{text_limit};
 ghost use Rattle.reduce_step.specs.Ahead.{ahead};
 ghost use Rattle.reduce_step.specs.Plan.{asked};
@@ -8,30 +9,32 @@ ghost use Rattle.ordered_commit.specs.BoardState.{IsSettled};
 ghost use Rattle.verdict_table.specs.TableState.{found_in};
 ghost use Rattle.ordered_commit.specs.Claiming.{ClaimsNext, is_absent, is_claimed};
 ghost use Rattle.ordered_commit.specs.Seats.{Agrees, SameForOthers};
-ghost use Rattle.ordered_commit.specs.TakeEnds.{TakeEnds};
+ghost use Rattle.ordered_commit.specs.TakeEnds.{IsShown, TakeEnds};
 
 use crate::board::Board;
+use crate::claim_table::ClaimTable;
 use crate::fault::PoolFault;
 use crate::seat::{Seat, put_seat, with_claim};
 use crate::take::Take;
 use edge_io::Sink;
 use faults::Memory;
-use gate_permits::Permit;
+use gate_permits::{Permit, Texts};
 use reduce_journal::Event;
 use reduce_step::Step;
 use script_gate_trait::{Bytes, Gate};
 use std::alloc::Global;
-use verdict_table::{Found, Table};
+use std::sync::Wait;
+use verdict_table::Found;
 
 /// Whether the table holds neither a record nor an open claim of the text.
-fn is_absent(table: &Table, text: &[u8]) -> bool
+fn is_absent(table: &ClaimTable, text: &[u8]) -> bool
     ensures { result ≡ is_absent table.now text.now }
 {
     matches!(table.find(text), Found::Absent)
 }
 
 /// Whether this is the open claim of the text.
-pub(crate) fn is_claimed(table: &Table, text: &[u8], claim: u64) -> bool
+pub(crate) fn is_claimed(table: &ClaimTable, text: &[u8], claim: u64) -> bool
     ensures { result ≡ is_claimed claim (found_in table.now text.now) }
 {
     match table.find(text) {
@@ -41,7 +44,7 @@ pub(crate) fn is_claimed(table: &Table, text: &[u8], claim: u64) -> bool
 }
 
 /// Where the first of these texts is that the table doesn't hold.
-fn first_absent(table: &Table, texts: &[Bytes]) -> Option<usize>
+fn first_absent(table: &ClaimTable, texts: &[Bytes]) -> Option<usize>
     ensures { result ≡ position (is_absent table.now) texts.now }
 {
     texts
@@ -50,7 +53,7 @@ fn first_absent(table: &Table, texts: &[Bytes]) -> Option<usize>
 }
 
 /// A copy of the text that the front asks, where the table doesn't hold it.
-fn own_text<S: Step>(alloc: Global, front: &S, table: &Table) -> Result<Option<Bytes>, Memory>
+fn own_text<S: Step>(alloc: Global, front: &S, table: &ClaimTable) -> Result<Option<Bytes>, Memory>
     ensures own { IfOk result (λ text. IfSome text (λ text. (asked (S.plan front.now) ≡ Some text) × (is_absent table.now text ≡ true))) }
     ensures short { IfOk result (λ text. IfSome text (λ text. length text ≤ text_limit)) }
 {
@@ -65,7 +68,7 @@ fn own_text<S: Step>(alloc: Global, front: &S, table: &Table) -> Result<Option<B
 fn next_text<S: Step>(
     alloc: Global,
     front: &S,
-    table: &Table,
+    table: &ClaimTable,
     most: u32,
 ) -> Result<Option<Bytes>, Memory>
     requires { 1 ≤ most }
@@ -82,17 +85,20 @@ fn next_text<S: Step>(
     }
 }
 
-/// Claims the first free text ahead of the front, two for each worker, and reserves the places of its
-/// record and of its event.
-fn claim_next<S: Step>(
+/// Claims the first free text ahead of the front, two for each worker, reserves the places of its
+/// record and of its event, and pushes it into the texts.
+fn claim_next<S: Step, W: Wait>(
+    rt: &W,
+    texts: &Texts,
     front: &S,
-    table: &mut Table,
+    table: &mut ClaimTable,
     events: &mut Vec<Event>,
     workers: usize,
 ) -> Result<Option<Permit>, Memory>
     requires { (1 ≤ workers) × (workers ≤ 16) }
     ensures claim { ClaimsNext (ahead (2 * workers) (S.plan front.now)) result table.old table.new }
     ensures short { IfOk result (λ permit. IfSome permit (λ permit. length permit.text ≤ text_limit)) }
+    ensures shows { IfOk result (λ permit. IfSome permit (λ permit. Shows texts.now permit.token)) }
     ensures events { events.new.items ≡ events.old.items }
     ensures capacity { vec_capacity events.old ≤ vec_capacity events.new }
     ensures places { IfOk result (λ permit. IfSome permit (λ permit. length events.old.items + workers ≤ vec_capacity events.new)) }
@@ -102,23 +108,28 @@ fn claim_next<S: Step>(
         return Ok(None);
     };
     events.reserve(workers)?;
-    let claim = table.claim(text.share()?)?;
-    Ok(Some(Permit::new(claim, text)))
+    let Ok(token) = texts.push_shown(rt, text.share()?) else {
+        return Err(Memory);
+    };
+    let claim = table.claim(text)?;
+    Ok(Some(Permit::new(claim, token)))
 }
 
 impl<S: Step + Drop, G: Gate, J: Sink + Drop> Board<S, G, J> {
     /// Claims the first free text ahead of the front for the worker of this seat, if there is one. What
-    /// its record takes is reserved, so that a verdict that comes is never lost for memory. It waits for
-    /// nobody.
+    /// its record takes is reserved, so that a verdict that comes is never lost for memory. The text is
+    /// pushed into the texts, which may wait for another push; where memory runs out they may hold one
+    /// text more.
     ///
-    /// It costs a look into the table and a copy of the text, which the permit and the table share. Where
+    /// It costs a look into the table and a copy of the text, which the texts and the table share. Where
     /// the front's own text is claimed, it also costs a look ahead of two texts for each worker, and a
     /// look into the table for each.
-    pub fn take(&mut self, seat: &mut Seat) -> Result<Take, Memory>
+    pub fn take<W: Wait>(&mut self, rt: &W, texts: &Texts, seat: &mut Seat) -> Result<Take, Memory>
         requires agrees { Agrees self.old.seats seat.old }
         requires free { seat.old.claim ≡ None }
         requires settled { IsSettled S.plan self.old }
         ensures ends { TakeEnds S.plan result seat.old seat.new self.old self.new }
+        ensures shows { IfOk result (IsShown texts.now) }
         ensures agrees { Agrees self.new.seats seat.new }
         ensures others { SameForOthers seat.old.worker self.old.seats self.new.seats }
     {
@@ -129,6 +140,8 @@ impl<S: Step + Drop, G: Gate, J: Sink + Drop> Board<S, G, J> {
             return Ok(Take::Done);
         }
         match claim_next(
+            rt,
+            texts,
             &self.front,
             &mut self.table,
             &mut self.events,

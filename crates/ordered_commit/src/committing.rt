@@ -8,15 +8,16 @@ ghost use Rattle.ordered_commit.specs.Numbers.{number_asked};
 ghost use Rattle.ordered_commit.specs.Writes.{HasSameName};
 
 use crate::board::Board;
+use crate::claim_table::ClaimTable;
 use crate::fault::{BoardFault, PoolFault};
 use edge_io::Sink;
 use reduce_journal::{Event, write_event};
 use reduce_step::Step;
 use script_gate_trait::{Gate, Verdict};
-use verdict_table::{Found, Table};
+use verdict_table::Found;
 
 /// The number and the verdict of the record of the text that the front asks.
-fn next_commit<S: Step>(front: &S, table: &Table) -> Option<(u64, Verdict)>
+fn next_commit<S: Step>(front: &S, table: &ClaimTable) -> Option<(u64, Verdict)>
     ensures { result ≡ number_asked (asked (S.plan front.now)) table.now }
 {
     let text = front.asks()?;

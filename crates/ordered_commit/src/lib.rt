@@ -4,13 +4,14 @@
 //! Read `specs/BoardState.antt` first, then `specs/Kept.antt`: what holds of every board. Enter by
 //! [`Board::new`], which gives a [`Seat`] for each worker. A worker commits while it can and takes,
 //! asks, and records or gives up; each call is a move of `ordered_commit_moves` or none
-//! (`specs/CommitEnds.antt`, `specs/TakeEnds.antt`, `specs/RecordEnds.antt`). No call waits. So a
-//! worker goes on:
+//! (`specs/CommitEnds.antt`, `specs/TakeEnds.antt`, `specs/RecordEnds.antt`). A claimed text is pushed
+//! into the vector that all workers read; only that push may wait, for another push. So a worker goes
+//! on:
 //!
 //! ```
 //! while board.commit()? {}
-//! if let Take::Work(permit) = board.take(&mut seat)? {
-//!     match ask_once(&mut gate, permit) {
+//! if let Take::Work(permit) = board.take(rt, &texts, &mut seat)? {
+//!     match ask_once(&mut gate, &texts, permit) {
 //!         Ok(answer) => { board.record(&mut seat, answer)?; }
 //!         Err(unasked) => board.give_up(&mut seat, unasked),
 //!     }
@@ -19,6 +20,7 @@
 #![tactic(auto)]
 
 mod board;
+mod claim_table;
 mod claiming;
 mod committing;
 mod fault;

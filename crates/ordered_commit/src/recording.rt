@@ -57,13 +57,12 @@ impl<S: Step + Drop, G: Gate, J: Sink + Drop> Board<S, G, J> {
         ensures count { J.faults self.old.journal ≤ J.faults self.new.journal }
     {
         let verdict = answer.verdict();
-        let number = self.table.fill(answer.claim(), verdict);
+        let filled = self.table.fill(answer.claim(), verdict);
+        let (number, text) = filled;
         *seat = with_record(*seat);
         put_seat(&mut self.seats, *seat);
-        let event = Event::Recorded {
-            text: answer.into_text(),
-            verdict,
-        };
+        answer.spend();
+        let event = Event::Recorded { text, verdict };
         let written = write_unless_broken(&mut self.journal, self.fault, &event);
         self.events.push(event).unwrap();
         match written {

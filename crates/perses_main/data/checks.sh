@@ -174,6 +174,16 @@ test -e deep/down/1/lines
 test ! -e perses-work
 test ! -e reordered.journal
 printf 'perses-journal 1\nR y 4\na\nb\n\nC 1\nR n 0\n\nC 2\nR y 2\na\n\nC 3\nC 2\n' | cmp - log
+# Several scripts at once come to what one after another come to, each in a folder of its worker.
+printf 'a\nb\nc\nd\n' > letters
+for jobs in 1 2 4 16; do
+    "$program" reduce --mode lines --input letters --output several --script has-a --work many --jobs "$jobs" > put
+    test "$(cat several)" = a
+    test -d "many/$jobs"
+    sed 4q put > "four.$jobs"
+    cmp "four.$jobs" four.1
+done
+test ! -e many/17
 # Help is no command, and no words are no command line.
 for word in --help -h --version -V; do
     ends 2 'perses: bad command line' "$word"

@@ -1,36 +1,65 @@
 //! Perses reduces an input that makes something fail to the parts that matter.
 //!
-//! `perses reduce` asks the script for one candidate after another and writes what is left: by a grammar
-//! (`--grammar F`), of the input's tree, with `--mode hdd` by deletions alone; or of the input's lines
-//! (`--mode lines`). It keeps a journal beside the output, and prints a report at the end. `perses normal
-//! --grammar F` prints the normal form of a grammar, and `perses selftest` reduces a generated program in
-//! memory. All words are in `docs/FORMATS.md`. The work is done by the top call, [`command_perses::perses`],
-//! whose contract is the program's; here it gets the machine's files, processes, a file for the journal,
-//! and standard output.
+//! `perses reduce` asks the script for one candidate after another, or for up to 16 at once (`--jobs N`),
+//! and writes what is left: by a grammar (`--grammar F`), of the input's tree, with `--mode hdd` by
+//! deletions alone; or of the input's lines (`--mode lines`). It keeps a journal beside the output, and
+//! prints a report at the end. `perses normal --grammar F` prints the normal form of a grammar, and
+//! `perses selftest` reduces a generated program in memory. All words are in `docs/FORMATS.md`. The work
+//! is done by the top call, [`command_perses::perses`], whose contract is the program's; here it gets the
+//! machine's threads, files, processes, a file for the journal, and standard output.
 #![tactic(auto)]
 
 mod args;
 
+ghost use Rattle.std.specs.Prelude.{◌≡◌, IfOk, length};
+ghost use Rattle.command_perses.specs.Workers.{AreNumbered};
+
 use args::words_of;
-use command_perses::perses;
+use command_perses::{add_worker, no_workers, perses};
 use edge_io::{DiskFiles, StreamSink};
 use script_gate::ProcessGate;
 use std::io;
 use std::process::ExitCode;
+use std::sync::Wait;
+use std::thread::Threads;
+use worker_pool::Worker;
 
-/// Runs the program over the machine's files, processes and standard output.
-fn run_program(rt: &HostRuntime) -> io::Result<u8> {
+/// The most workers.
+const MOST_WORKERS: u32 = 16;
+
+/// As many workers as there can be, each with a gate of its own.
+fn all_workers(rt: &HostRuntime) -> io::Result<Vec<Worker<ProcessGate<HostRuntime>>>>
+    ensures numbered { IfOk result (λ workers. AreNumbered workers.items) }
+    ensures all { IfOk result (λ workers. length workers.items ≡ 16) }
+{
+    let mut workers = no_workers(rt.alloc());
+    for _ in 0..MOST_WORKERS {
+        add_worker(&mut workers, ProcessGate::new(rt.clone()?, rt.alloc()))?;
+    }
+    Ok(workers)
+}
+
+/// Runs the program over the machine's threads, files, processes and standard output.
+fn run_program<W: Threads + Wait + Sync>(threads: &W, rt: &HostRuntime) -> io::Result<u8> {
     let words = words_of(rt)?;
     let mut files = DiskFiles::new(rt.clone()?, rt.alloc());
-    let mut gate = ProcessGate::new(rt.clone()?, rt.alloc());
+    let mut workers = all_workers(rt)?;
     let journal = StreamSink::file(rt.clone()?);
     let mut out = StreamSink::output(rt.clone()?);
-    let ended = perses(rt.alloc(), &words, &mut files, &mut gate, journal, &mut out);
+    let ended = perses(
+        threads,
+        rt.alloc(),
+        &words,
+        &mut files,
+        &mut workers,
+        journal,
+        &mut out,
+    );
     Ok(ended.status)
 }
 
 /// Ends with the status of the call. Without memory to begin with it prints nothing and ends with
 /// status 1.
 fn main(rt: HostRuntime) -> ExitCode {
-    ExitCode::from(run_program(&rt).unwrap_or(1))
+    ExitCode::from(run_program(&rt, &rt).unwrap_or(1))
 }

@@ -1,3 +1,4 @@
+pub mod Nodes
 pub mod Verdicts
 pub mod Texts
 pub mod Results

@@ -4,16 +4,16 @@
 ghost use Rattle.std.specs.Prelude.{◌≡◌, ◌++◌, ◌∷◌, [], IfOk, OnOk, if◌then◌else◌};
 ghost use Rattle.plain_reducer.specs.Verdicts.{has_yes};
 
+use crate::nodes::{
+    LeftNode, below, children, deleted, level, placed, replaced, tokens, whole_tree,
+};
+use crate::parts::{inside, outside, part_start};
 use crate::texts::listed_text;
 use crate::verdicts::VerdictRule;
 use compat_table::Compat;
 use faults::Memory;
 use lexer::Lexer;
 use normal_form::{Normal, NormalRule, Sym};
-use plain_trees::{
-    LeftNode, below, children, deleted, inside, level, outside, part_start, placed, replaced,
-    tokens, whole_tree,
-};
 use std::alloc::Global;
 use syntax_tree::Tree;
 use token_print::Style;

@@ -6,12 +6,21 @@
 //! reducers have to ask the same questions in the same order, and to come to the same text and counts.
 //! The program prints these, or that they differ. What is in `stdout` is of a third reducer, which was
 //! written apart from the program, in another language.
+//!
+//! Read `plain_reducer/specs/Results.antt` first: where the two agree, the reduction in the mode
+//! (`specs/RoundsOf.antt`), followed over the rule's verdicts, ends with what the plain one comes to
+//! (`specs/Ends.antt`).
 #![tactic(auto)]
 
+mod agreement;
+mod compare;
+mod parts;
+
 use anyhow::Result;
+use compare::{Case, answer};
 use faults::Memory;
 use grammar_tree::Checked;
-use plain_comparison::{Case, Mode, answer};
+use plain_reducer::Mode;
 use std::alloc::{AllocError, Global};
 use test_grammars::checked;
 

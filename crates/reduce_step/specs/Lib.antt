@@ -1,4 +1,3 @@
 pub mod Limits
 pub mod Plan
 pub mod Ahead
-pub mod Grow

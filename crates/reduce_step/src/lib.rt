@@ -2,8 +2,7 @@
 //!
 //! A reducer is a [`Step`], whose plan is a finite tree of the texts that it may ask
 //! (`specs/Plan.antt`); what it would ask if every answer were no is ahead of it (`specs/Ahead.antt`).
-//! How a plan grows from the states of a machine is in `specs/Grow.antt`. [`TreeMode`] names the modes
-//! that reduce trees.
+//! [`TreeMode`] names the modes that reduce trees.
 #![tactic(auto)]
 
 mod laws;

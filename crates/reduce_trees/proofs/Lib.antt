@@ -6,3 +6,4 @@ pub mod CandidateLemmas
 pub mod TrialLemmas
 pub mod RoundLemmas
 pub mod HddRounds
+pub mod Crossing

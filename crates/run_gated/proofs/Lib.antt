@@ -1,1 +1,4 @@
 pub mod RunLemmas
+mod ShareLemmas
+mod PoolLemmas
+pub mod AllLemmas

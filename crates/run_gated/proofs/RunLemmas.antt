@@ -1,5 +1,5 @@
 -- What a run says of the reduction of a mode over its records.
-use Rattle.std.proofs.Common.{◌≡◌, ℕ, List, [], ◌∷◌, length, Option, Some, None, IsSome, true, false, Result, Ok, Err, refl, sym, ap, ◌∙◌, subst, ◌⊎◌, inl, inr, ⊎_elim}
+use Rattle.std.proofs.Common.{◌≡◌, ℕ, List, [], ◌∷◌, length, option_map, arith, Option, Some, None, IfSome, IsSome, true, false, Result, Ok, Err, refl, sym, ap, ◌∙◌, subst, ◌⊎◌, inl, inr, ⊎_elim}
 use Rattle.std.proofs.lemmas.Bool.{false≢true}
 use Rattle.std.proofs.lemmas.Cmp.{nat_list_eq_equiv}
 use Rattle.std.proofs.lemmas.List.Elements.{All-weaker}
@@ -15,14 +15,18 @@ use Rattle.reduce_rounds.specs.Reduction.{reduction}
 use Rattle.reduce_rounds.specs.RoundsPlan.{plan_first}
 use Rattle.reduce_rounds.specs.Laws.{AsksCandidates, EndsMinimal, HasVerdicts, IsTextOf, IsTheReduction, RefusesAtNo, result_of, says_yes}
 use Rattle.reduce_journal.specs.History.{History, records_of}
+use Rattle.ordered_commit_moves.specs.Replay.{replay}
 use Rattle.ordered_commit.specs.declared.fault.PoolFault.{PoolFault}
 use Rattle.ordered_commit.specs.declared.fault.PoolFault.TheVariants as pool
-use Rattle.run_worker.specs.RunHistory.{BeginsWith, EndsAtFirst, IsBeginning, IsHistoryOf, IsSequential, own_history}
-use Rattle.run_worker.specs.RunEnds.{IsCaused, JournalEnds, ReducerEnds}
+use Rattle.script_gate_trait.specs.declared.log.Log.{Log}
+use Rattle.verdict_table.specs.TableState.{texts_of}
+use Rattle.run_worker.specs.RunHistory.{BeginsWith, EndsAtFirst, IsHistoryOf, IsSequential, own_history, with_all_asked}
+use Rattle.run_worker.specs.RunEnds.{BrokeAtEnd, HasPart, IsCaused, JournalEnds, ReducerEnds}
 use Rattle.run_worker.proofs.BeginLemmas.{has_beginning}
 use Rattle.run_gated.specs.Faults.{fault_kept}
-use Rattle.run_gated.specs.Records.{AreOfMode, BeginsAt, FirstIs, FirstIsNo, OnlyNo}
-use Rattle.run_gated.specs.RunEnds.{AnswersFor, IsDefinedOver, JournalHas, NoneFailed, ReducesIn, RunEndsIn, reduction_over}
+use Rattle.run_gated.specs.Records.{AreAsked, AreOfMode, BeginsAt, FirstIs, FirstIsNo, OnlyNo}
+use Rattle.run_gated.specs.Workers.{BrokeBy, HasPartBy, IsCausedBy, IsQuietBut, IsRunBy, JournalLeft, WaitsAt}
+use Rattle.run_gated.specs.RunEnds.{AnswersFor, IsDefinedOver, IsUnfinishedIn, JournalHas, NoneFailed, ReducesIn, RunEndsIn, reduction_over}
 use Rattle.run_gated.specs.declared.fault.RunFault.{RunFault}
 use Rattle.run_gated.specs.declared.fault.RunFault.TheVariants as run
 use Rattle.run_gated.specs.declared.ran.Reduced.{Reduced}
@@ -72,138 +76,180 @@ module _ {T : Type 0} (mode : RoundMode T) where
   unfolding reduction
   start_known V has = has.0
 
-  -- what may be asked of a listed start is the text of a state that is kept, and nothing after its no
-  pub are_of_mode : (Kept : T → Type 0) (may_say : List ℕ → Verdict → Type 0) → AsksCandidates mode Kept → (first : Plan) (fault : Option PoolFault) (history : History) → first ≡ plan_first mode → IsHistoryOf may_say first history → IsSequential fault first history
-      → BeginsWith first (records_of history) → EndsAtFirst first (records_of history) → Keeps mode Kept → mode.is_listed mode.start ≡ true → AreOfMode mode Kept history
-  are_of_mode Kept may_say law first fault history same of sequential begun one keeps listed =
-      let records = records_of history in
-      let of_mode : IsHistoryOf may_say (plan_first mode) history = subst (λ (p : Plan). IsHistoryOf may_say p history) same of in
-      record {
-        legal = of_mode.legal;
-        readable = of_mode.readable;
-        sequential = subst (λ (p : Plan). IsBeginning history (own_history p history)) same (has_beginning fault first history sequential);
-        candidates = All-weaker (λ (r : Record). MayAsk (plan_first mode) r.text) (λ (r : Record). IsTextOf mode Kept r.text) (λ r may_ask. law keeps listed r.text may_ask) records of_mode.may_ask;
-        first = begins_at records (subst (λ p. BeginsWith p records) same begun);
-        ends_at_no = only_no records (subst (λ p. EndsAtFirst p records) same one);
-      }
-
-  -- a run that came to the reducer's end, which has this plan and came to this
-  pub record CameToEnd (records : List Record) (plan : Plan) (result : StepResult) : Type 0 where
-    pub followed : plan ≡ follow (verdict_in records) (plan_first mode)
-    pub ended : HasEnded plan
-    pub found : plan ≡ End result
-    pub begun : BeginsWith (plan_first mode) records
-    pub one : EndsAtFirst (plan_first mode) records
-
-  -- the same end by another name of what was done first
-  pub came_to_end : (first : Plan) (records : List Record) (plan : Plan) (result : StepResult) → first ≡ plan_first mode → plan ≡ follow (verdict_in records) first → HasEnded plan → plan ≡ End result → BeginsWith first records → EndsAtFirst first records
-      → CameToEnd records plan result
-  came_to_end first records plan result same followed ended found begun one =
-      record {
-        followed = followed ∙ ap (follow (verdict_in records)) same;
-        ended = ended;
-        found = found;
-        begun = subst (λ p. BeginsWith p records) same begun;
-        one = subst (λ p. EndsAtFirst p records) same one;
-      }
-
-  module _ (follows : (V : List ℕ → Option Verdict) → IsTheReduction mode V) (refuses : RefusesAtNo mode) (history : History) (plan : Plan) (result : StepResult) (came : CameToEnd (records_of history) plan result) (whole : history ≡ own_history (plan_first mode) history) where
+  module _ (workers : ℕ) (may_say : List ℕ → Verdict → Type 0) (last : Plan) (fault : Option PoolFault) (history : History) (logs logs' : List (Option Log)) (gates gates' : List ℕ) (ran : IsRunBy workers may_say (plan_first mode) last fault history logs logs' gates gates') where
     abbrev records : List Record
     records = records_of history
 
-    has : IsDefinedOver mode records
-    has = (follows (verdict_in records)).defined (subst HasEnded came.followed came.ended)
+    begins : BeginsAt (mode.text mode.start) records
+    begins = begins_at records (ran.start refused_ends).0
 
-    found_is : result ≡ result_of mode (reduction_over mode records)
-    found_is =
-        let same : End result ≡ End (result_of mode (reduction_over mode records)) = sym came.found ∙ came.followed ∙ (follows (verdict_in records)).ends has in
-        (cc)
+    one : EndsAtFirst (plan_first mode) records
+    one = (ran.start refused_ends).1
 
-    refused_is : result.refused ≡ (reduction_over mode records).refused
-    refused_is = ap (λ (x : StepResult). x.refused) found_is
-
-    first_yes : result.refused ≡ false → FirstIs (mode.text mode.start) Yes records
-    first_yes stays =
-        ⊎_elim (λ yes_there. start_is (mode.text mode.start) records Yes (begins_at records came.begun) yes_there)
-        (λ no_there. absurd (false≢true (sym stays ∙ refused_is ∙ ((refuses (verdict_in records)).1 no_there).1)))
-        (by_verdict (verdict_in records (mode.text mode.start)) (start_known (verdict_in records) has))
-
-    first_no : result.refused ≡ true → FirstIs (mode.text mode.start) No records
-    first_no refused =
-        ⊎_elim (λ yes_there. absurd (false≢true (sym ((refuses (verdict_in records)).0 yes_there) ∙ sym refused_is ∙ refused)))
-        (λ no_there. start_is (mode.text mode.start) records No (begins_at records came.begun) no_there)
-        (by_verdict (verdict_in records (mode.text mode.start)) (start_known (verdict_in records) has))
-
-    -- the reducer's result is that of the reduction, unless it refused the start
-    reduces_in : (Kept : T → Type 0) → EndsMinimal mode Kept (λ state other. IsTriedAtNo (mode.round state) other) → result.refused ≡ false → ReducesIn mode Kept history result
-    reduces_in Kept minimal stays =
-        let interesting : (reduction_over mode records).refused ≡ false = sym refused_is ∙ stays in
+    -- what may be asked of a listed start is the text of a state that is kept
+    pub are_of_mode : (Kept : T → Type 0) → AsksCandidates mode Kept → Keeps mode Kept → mode.is_listed mode.start ≡ true → AreOfMode workers mode Kept history
+    are_of_mode Kept law keeps listed =
         record {
-          whole = whole;
-          first = first_yes stays;
-          defined = has;
-          interesting = interesting;
-          is_result = found_is;
-          ends_well = λ lawful listed. minimal lawful (λ state other kept tried. tried) listed (verdict_in records) interesting has;
+          legal = ran.history_of.legal;
+          readable = ran.history_of.readable;
+          candidates = All-weaker (λ (r : Record). MayAsk (plan_first mode) r.text) (λ (r : Record). IsTextOf mode Kept r.text) (λ r may_ask. law keeps listed r.text may_ask) records ran.history_of.may_ask;
+          first = begins;
+          ends_at_no = only_no records one;
+          sequential = λ alone. has_beginning fault (plan_first mode) history (ran.alone alone).sequential;
         }
 
-    -- how it ends without a fault
-    without_fault : (Kept : T → Type 0) → EndsMinimal mode Kept (λ state other. IsTriedAtNo (mode.round state) other) → (gate gate' journal journal' : ℕ) → NoneFailed gate gate' journal journal'
-        → (answer : Result Reduced RunFault) → AnswersFor None result (mode.size mode.start) (length (mode.text mode.start)) (length records) answer → RunEndsIn mode Kept history gate gate' journal journal' answer
-    without_fault Kept minimal gate gate' journal journal' quiet (Ok reduced) is = ((result, is.1, is.2, reduces_in Kept minimal is.0), quiet)
-    without_fault Kept minimal gate gate' journal journal' quiet (Err run.NotInteresting) is =
-        let first = first_no is in
-        (only_no records came.one (no_is_first (mode.text mode.start) records first), first, whole, quiet)
-    without_fault Kept minimal gate gate' journal journal' quiet (Err run.Memory) is = quiet
-    without_fault Kept minimal gate gate' journal journal' quiet (Err run.Script) is = absurd is
-    without_fault Kept minimal gate gate' journal journal' quiet (Err run.Journal) is = absurd is
+    module _ (follows : (V : List ℕ → Option Verdict) → IsTheReduction mode V) (refuses : RefusesAtNo mode) where
+      module _ (result : StepResult) (ended : HasEnded last) (followed : last ≡ follow (verdict_in records) (plan_first mode)) (replayed : last ≡ replay (plan_first mode) history) (found : last ≡ End result) (whole : workers ≡ 1 → history ≡ own_history (plan_first mode) history) where
+        has : IsDefinedOver mode records
+        has = (follows (verdict_in records)).defined (subst HasEnded followed ended)
 
-  -- a text that is asked has no record, where the gate failed
-  unanswered : ((V : List ℕ → Option Verdict) → IsTheReduction mode V) → RefusesAtNo mode → (first : Plan) (history : History) → first ≡ plan_first mode → BeginsWith first (records_of history) → IsSome (asked (follow (verdict_in (records_of history)) first))
-      → (¬ FirstIsNo (records_of history)) × (¬ IsDefinedOver mode (records_of history))
-  unanswered follows refuses first history same begun waits =
-      let records : List Record = records_of history in
-      let waiting : IsSome (asked (follow (verdict_in records) (plan_first mode))) = subst (λ (p : Plan). IsSome (asked (follow (verdict_in records) p))) same waits in
-      let begins : BeginsAt (mode.text mode.start) records = begins_at records (subst (λ p. BeginsWith p records) same begun) in (
+        committed : HasEnded (replay (plan_first mode) history)
+        committed = subst HasEnded replayed ended
+
+        found_is : result ≡ result_of mode (reduction_over mode records)
+        found_is =
+            let same : End result ≡ End (result_of mode (reduction_over mode records)) = sym found ∙ followed ∙ (follows (verdict_in records)).ends has in
+            (cc)
+
+        refused_is : result.refused ≡ (reduction_over mode records).refused
+        refused_is = ap (λ (x : StepResult). x.refused) found_is
+
+        first_yes : result.refused ≡ false → FirstIs (mode.text mode.start) Yes records
+        first_yes stays =
+            ⊎_elim (λ yes_there. start_is (mode.text mode.start) records Yes begins yes_there)
+            (λ no_there. absurd (false≢true (sym stays ∙ refused_is ∙ ((refuses (verdict_in records)).1 no_there).1)))
+            (by_verdict (verdict_in records (mode.text mode.start)) (start_known (verdict_in records) has))
+
+        first_no : result.refused ≡ true → FirstIs (mode.text mode.start) No records
+        first_no refused =
+            ⊎_elim (λ yes_there. absurd (false≢true (sym ((refuses (verdict_in records)).0 yes_there) ∙ sym refused_is ∙ refused)))
+            (λ no_there. start_is (mode.text mode.start) records No begins no_there)
+            (by_verdict (verdict_in records (mode.text mode.start)) (start_known (verdict_in records) has))
+
+        -- the reducer's result is that of the reduction, unless it refused the start
+        reduces_in : (Kept : T → Type 0) → EndsMinimal mode Kept (λ state other. IsTriedAtNo (mode.round state) other) → result.refused ≡ false → ReducesIn workers mode Kept history result
+        reduces_in Kept minimal stays =
+            let interesting : (reduction_over mode records).refused ≡ false = sym refused_is ∙ stays in
+            record {
+              whole = whole;
+              committed = committed;
+              first = first_yes stays;
+              defined = has;
+              interesting = interesting;
+              is_result = found_is;
+              ends_well = λ lawful listed. minimal lawful (λ state other kept tried. tried) listed (verdict_in records) interesting has;
+            }
+
+        -- how it ends without a fault
+        without_fault : (Kept : T → Type 0) → EndsMinimal mode Kept (λ state other. IsTriedAtNo (mode.round state) other) → (journal journal' : ℕ) → NoneFailed gates gates' journal journal'
+            → (answer : Result Reduced RunFault) → AnswersFor None result (mode.size mode.start) (length (mode.text mode.start)) (length records) answer → RunEndsIn workers mode Kept history gates gates' journal journal' answer
+        without_fault Kept minimal journal journal' quiet (Ok reduced) is = ((result, is.1, is.2, reduces_in Kept minimal is.0), quiet)
+        without_fault Kept minimal journal journal' quiet (Err run.NotInteresting) is =
+            let first = first_no is in
+            (first, only_no records one (no_is_first (mode.text mode.start) records first), quiet, whole, committed)
+        without_fault Kept minimal journal journal' quiet (Err run.Memory) is = (quiet.1, λ alone. quiet.0)
+        without_fault Kept minimal journal journal' quiet (Err (run.Script worker)) is = absurd is
+        without_fault Kept minimal journal journal' quiet (Err run.Journal) is = absurd is
+
+      -- a text that is asked has no record, where the gate failed
+      unanswered : IsSome (asked (follow (verdict_in records) (plan_first mode))) → (¬ FirstIsNo records) × (¬ IsDefinedOver mode records)
+      unanswered waiting = (
         λ no_first. not_ended (follow (verdict_in records) (plan_first mode)) waiting ((refuses (verdict_in records)).1 (first_no_is (mode.text mode.start) records begins no_first)).0,
         λ has. not_ended (follow (verdict_in records) (plan_first mode)) waiting (ap asked ((follows (verdict_in records)).ends has)),
       )
 
-  -- what is all that one thread does over its records is so by another name of what was done first
-  whole_of : (first : Plan) (history : History) → first ≡ plan_first mode → history ≡ own_history first history → history ≡ own_history (plan_first mode) history
-  whole_of first history same whole = subst (λ (p : Plan). history ≡ own_history p history) same whole
+      unfinished : WaitsAt (Some (pool.Script 1)) (plan_first mode) history → history ≡ own_history (plan_first mode) history → IsUnfinishedIn mode history
+      unfinished waits whole = let both = unanswered waits in (both.0, both.1, whole)
 
-  -- how a run ends with a fault
-  with_fault : ((V : List ℕ → Option Verdict) → IsTheReduction mode V) → RefusesAtNo mode → (Kept : T → Type 0) (first plan : Plan) (history : History) (gate gate' journal journal' : ℕ) (fault : PoolFault) → first ≡ plan_first mode → BeginsWith first (records_of history)
-      → IsSequential (Some fault) first history → ReducerEnds (Some fault) first plan (records_of history) → IsCaused (Some fault) gate gate' journal journal' → RunEndsIn mode Kept history gate gate' journal journal' (Err (fault_kept fault))
-  with_fault follows refuses Kept first plan history gate gate' journal journal' (pool.Script worker) same begun sequential ends caused =
-      let both = unanswered follows refuses first history same begun ends in
-      (caused.1, both.0, both.1, whole_of first history same sequential, caused.2)
-  with_fault follows refuses Kept first plan history gate gate' journal journal' pool.Journal same begun sequential ends caused = caused
-  with_fault follows refuses Kept first plan history gate gate' journal journal' pool.Memory same begun sequential ends caused = caused
+-- how a run ends with a fault
+with_fault : {T : Type 0} (mode : RoundMode T) → ((V : List ℕ → Option Verdict) → IsTheReduction mode V) → RefusesAtNo mode → (Kept : T → Type 0) (workers : ℕ) (may_say : List ℕ → Verdict → Type 0) (last : Plan) (fault : PoolFault) (history : History) (logs logs' : List (Option Log)) (gates gates' : List ℕ) (journal journal' : ℕ)
+    → IsRunBy workers may_say (plan_first mode) last (Some fault) history logs logs' gates gates' → IsCausedBy (Some fault) gates gates' journal journal' → RunEndsIn workers mode Kept history gates gates' journal journal' (Err (fault_kept fault))
+with_fault mode follows refuses Kept workers may_say last (pool.Script worker) history logs logs' gates gates' journal journal' ran caused =
+    (caused.0, caused.1, λ alone. unfinished mode workers may_say last (Some (pool.Script worker)) history logs logs' gates gates' ran follows refuses (ran.alone alone).waits (ran.alone alone).sequential)
+with_fault mode follows refuses Kept workers may_say last pool.Journal history logs logs' gates gates' journal journal' ran caused = (caused, λ alone. (ran.alone alone).quiet)
+with_fault mode follows refuses Kept workers may_say last pool.Memory history logs logs' gates gates' journal journal' ran caused = (caused, λ alone. (ran.alone alone).quiet)
 
-  -- how a run ends
-  pub run_ends : ((V : List ℕ → Option Verdict) → IsTheReduction mode V) → RefusesAtNo mode → (Kept : T → Type 0) → EndsMinimal mode Kept (λ state other. IsTriedAtNo (mode.round state) other)
-      → (fault : Option PoolFault) (first plan : Plan) (history : History) (result : StepResult) (gate gate' journal journal' : ℕ) (answer : Result Reduced RunFault) → first ≡ plan_first mode → BeginsWith first (records_of history) → EndsAtFirst first (records_of history)
-      → IsSequential fault first history → ReducerEnds fault first plan (records_of history) → (fault ≡ None → HasEnded plan → plan ≡ End result) → IsCaused fault gate gate' journal journal'
-      → AnswersFor fault result (mode.size mode.start) (length (mode.text mode.start)) (length (records_of history)) answer → RunEndsIn mode Kept history gate gate' journal journal' answer
-  run_ends follows refuses Kept minimal (Some fault) first plan history result gate gate' journal journal' answer same begun one sequential ends found caused is =
-      subst (RunEndsIn mode Kept history gate gate' journal journal') (sym is) (with_fault follows refuses Kept first plan history gate gate' journal journal' fault same begun sequential ends caused)
-  run_ends follows refuses Kept minimal None first plan history result gate gate' journal journal' answer same begun one sequential ends found caused is =
-      let came = came_to_end first (records_of history) plan result same ends.1 ends.0 (found refl ends.0) begun one in
-      without_fault follows refuses history plan result came (whole_of first history same sequential) Kept minimal gate gate' journal journal' caused answer is
+-- how a run ends
+pub run_ends : {T : Type 0} (mode : RoundMode T) → ((V : List ℕ → Option Verdict) → IsTheReduction mode V) → RefusesAtNo mode → (Kept : T → Type 0) → EndsMinimal mode Kept (λ state other. IsTriedAtNo (mode.round state) other)
+    → (workers : ℕ) (may_say : List ℕ → Verdict → Type 0) (last : Plan) (fault : Option PoolFault) (history : History) (logs logs' : List (Option Log)) (gates gates' : List ℕ) (journal journal' : ℕ) (result : StepResult) (answer : Result Reduced RunFault)
+    → IsRunBy workers may_say (plan_first mode) last fault history logs logs' gates gates' → (fault ≡ None → HasEnded last → last ≡ End result) → IsCausedBy fault gates gates' journal journal'
+    → AnswersFor fault result (mode.size mode.start) (length (mode.text mode.start)) (length (records_of history)) answer → RunEndsIn workers mode Kept history gates gates' journal journal' answer
+run_ends mode follows refuses Kept minimal workers may_say last (Some fault) history logs logs' gates gates' journal journal' result answer ran found caused is =
+    subst (RunEndsIn workers mode Kept history gates gates' journal journal') (sym is) (with_fault mode follows refuses Kept workers may_say last fault history logs logs' gates gates' journal journal' ran caused)
+run_ends mode follows refuses Kept minimal workers may_say last None history logs logs' gates gates' journal journal' result answer ran found caused is =
+    let ended = ran.ended refl in
+    without_fault mode workers may_say last None history logs logs' gates gates' ran follows refuses result ended.0 ended.1 ended.2 (found refl ended.0) (λ alone. (ran.alone alone).sequential)
+    Kept minimal journal journal' caused answer is
+
+-- the same run by another name of what was done first
+pub run_from : (workers : ℕ) (may_say : List ℕ → Verdict → Type 0) (first first' last : Plan) (fault : Option PoolFault) (history : History) (logs logs' : List (Option Log)) (gates gates' : List ℕ)
+    → first ≡ first' → IsRunBy workers may_say first last fault history logs logs' gates gates' → IsRunBy workers may_say first' last fault history logs logs' gates gates'
+run_from workers may_say first first' last fault history logs logs' gates gates' same ran = subst (λ (p : Plan). IsRunBy workers may_say p last fault history logs logs' gates gates') same ran
 
 -- what the journal has, by the fault, by what is answered
-pub journal_has : (fault : Option PoolFault) (result : StepResult) (units bytes record_count : ℕ) (history : History) (old new : Option Put) (gate gate' count count' : ℕ) (answer : Result Reduced RunFault) → AnswersFor fault result units bytes record_count answer → JournalEnds fault history old new
-    → IsCaused fault gate gate' count count' → JournalHas history old new count count' answer
-journal_has None result units bytes record_count history old new gate gate' count count' (Ok reduced) is ends caused = (ends, caused.1)
-journal_has None result units bytes record_count history old new gate gate' count count' (Err run.NotInteresting) is ends caused = (ends, caused.1)
-journal_has None result units bytes record_count history old new gate gate' count count' (Err run.Memory) is ends caused = (inl ends, caused.1)
-journal_has None result units bytes record_count history old new gate gate' count count' (Err run.Script) is ends caused = absurd is
-journal_has None result units bytes record_count history old new gate gate' count count' (Err run.Journal) is ends caused = absurd is
-journal_has (Some (pool.Script worker)) result units bytes record_count history old new gate gate' count count' answer is ends caused = subst (JournalHas history old new count count') (sym is) (ends, caused.2)
-journal_has (Some pool.Journal) result units bytes record_count history old new gate gate' count count' answer is ends caused = subst (JournalHas history old new count count') (sym is) (ends, caused.1)
-journal_has (Some pool.Memory) result units bytes record_count history old new gate gate' count count' answer is ends caused = subst (JournalHas history old new count count') (sym is) (ends, caused.1)
+pub journal_has : (workers : ℕ) (fault : Option PoolFault) (result : StepResult) (units bytes record_count : ℕ) (history : History) (old new : Option Put) (gates gates' : List ℕ) (count count' : ℕ) (answer : Result Reduced RunFault) → AnswersFor fault result units bytes record_count answer → JournalLeft workers fault history old new
+    → IsCausedBy fault gates gates' count count' → JournalHas workers history old new count count' answer
+journal_has workers None result units bytes record_count history old new gates gates' count count' (Ok reduced) is ends caused = (ends, caused.1)
+journal_has workers None result units bytes record_count history old new gates gates' count count' (Err run.NotInteresting) is ends caused = (ends, caused.1)
+journal_has workers None result units bytes record_count history old new gates gates' count count' (Err run.Memory) is ends caused = (inl ends, caused.1)
+journal_has workers None result units bytes record_count history old new gates gates' count count' (Err (run.Script worker)) is ends caused = absurd is
+journal_has workers None result units bytes record_count history old new gates gates' count count' (Err run.Journal) is ends caused = absurd is
+journal_has workers (Some (pool.Script worker)) result units bytes record_count history old new gates gates' count count' answer is ends caused = subst (JournalHas workers history old new count count') (sym is) (ends, caused.1)
+journal_has workers (Some pool.Journal) result units bytes record_count history old new gates gates' count count' answer is ends caused = subst (JournalHas workers history old new count count') (sym is) (ends, caused)
+journal_has workers (Some pool.Memory) result units bytes record_count history old new gates gates' count count' answer is ends caused = subst (JournalHas workers history old new count count') (sym is) (ends, caused)
+
+-- a run of one worker is one by so many workers
+one_asked : (texts : List (List ℕ)) (log log' : Option Log) → log' ≡ option_map (with_all_asked texts) log → AreAsked texts (log ∷ []) (log' ∷ [])
+one_asked texts log log' is = record { shares = texts ∷ []; one_each = refl; total = omega arith; alone = λ _. refl; asked = ap (λ (l : Option Log). l ∷ []) is }
+
+pub caused_by : (fault : Option PoolFault) (gate gate' journal journal' : ℕ) → IsCaused fault gate gate' journal journal' → IsCausedBy fault (gate ∷ []) (gate' ∷ []) journal journal'
+caused_by None gate gate' journal journal' caused = (ap (λ (n : ℕ). n ∷ []) caused.0, caused.1)
+caused_by (Some (pool.Script worker)) gate gate' journal journal' caused = ((0, caused.0, caused.1), caused.2)
+caused_by (Some pool.Journal) gate gate' journal journal' caused = caused.1
+caused_by (Some pool.Memory) gate gate' journal journal' caused = caused.1
+
+quiet_but : (fault : Option PoolFault) (gate gate' journal journal' : ℕ) → IsCaused fault gate gate' journal journal' → IsQuietBut fault (gate ∷ []) (gate' ∷ [])
+quiet_but None gate gate' journal journal' caused = ap (λ (n : ℕ). n ∷ []) caused.0
+quiet_but (Some (pool.Script worker)) gate gate' journal journal' caused = tt
+quiet_but (Some pool.Journal) gate gate' journal journal' caused = ap (λ (n : ℕ). n ∷ []) caused.0
+quiet_but (Some pool.Memory) gate gate' journal journal' caused = ap (λ (n : ℕ). n ∷ []) caused.0
+
+waits_at : (fault : Option PoolFault) (first last : Plan) (history : History) → ReducerEnds fault first last (records_of history) → WaitsAt fault first history
+waits_at None first last history ends = tt
+waits_at (Some (pool.Script worker)) first last history ends = ends
+waits_at (Some pool.Journal) first last history ends = tt
+waits_at (Some pool.Memory) first last history ends = tt
+
+has_ended : (fault : Option PoolFault) (first last : Plan) (history : History) → ReducerEnds fault first last (records_of history) → (fault ≡ None → last ≡ replay first history) → fault ≡ None → HasEnded last × (last ≡ follow (verdict_in (records_of history)) first) × (last ≡ replay first history)
+has_ended None first last history ends replayed none = (ends.0, ends.1, replayed none)
+has_ended (Some fault) first last history ends replayed none = absurd (cc none)
+
+pub one_ran : (may_say : List ℕ → Verdict → Type 0) (first last : Plan) (fault : Option PoolFault) (history : History) (log log' : Option Log) (gate gate' journal journal' : ℕ) → IsHistoryOf may_say first history → IsSequential fault first history → BeginsWith first (records_of history) → EndsAtFirst first (records_of history)
+    → log' ≡ option_map (with_all_asked (texts_of (records_of history))) log → ReducerEnds fault first last (records_of history) → (fault ≡ None → last ≡ replay first history) → IsCaused fault gate gate' journal journal' → IsRunBy 1 may_say first last fault history (log ∷ []) (log' ∷ []) (gate ∷ []) (gate' ∷ [])
+one_ran may_say first last fault history log log' gate gate' journal journal' of sequential begun one asked ends replayed caused =
+    record {
+      history_of = of;
+      start = λ _. (begun, one);
+      asked = one_asked (texts_of (records_of history)) log log' asked;
+      ended = has_ended fault first last history ends replayed;
+      alone = λ _. record { sequential = sequential; waits = waits_at fault first last history ends; quiet = quiet_but fault gate gate' journal journal' caused };
+    }
+
+broke_by : (history : History) (bytes : List ℕ) → BrokeAtEnd history bytes → BrokeBy 1 history bytes
+broke_by history bytes broke = (λ _. broke, λ other. absurd (other refl))
+
+part_by : (history : History) (old new : Option Put) → HasPart history old new → HasPartBy 1 history old new
+part_by history old new part = (part.0, ⊎_elim inl (λ broke. inr (put_broke history new broke)) part.1)
+  where
+    put_broke : (history : History) (new : Option Put) → IfSome new (λ put. BrokeAtEnd history put.bytes) → IfSome new (λ put. BrokeBy 1 history put.bytes)
+    put_broke history None broke = tt
+    put_broke history (Some put) broke = broke_by history put.bytes broke
+
+pub one_left : (fault : Option PoolFault) (history : History) (old new : Option Put) → JournalEnds fault history old new → JournalLeft 1 fault history old new
+one_left None history old new ends = ends
+one_left (Some (pool.Script worker)) history old new ends = ends
+one_left (Some pool.Journal) history old new ends = part_by history old new ends
+one_left (Some pool.Memory) history old new ends = ends
 
 -- the same answer by other names of the numbers
 pub answers_at : (fault : Option PoolFault) (result : StepResult) (units units' bytes bytes' record_count record_count' : ℕ) (answer : Result Reduced RunFault) → units ≡ units' → bytes ≡ bytes' → record_count ≡ record_count' → AnswersFor fault result units bytes record_count answer → AnswersFor fault result units' bytes' record_count' answer

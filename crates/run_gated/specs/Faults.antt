@@ -1,4 +1,5 @@
 -- What a fault of the board is to a run.
+use Rattle.std.specs.Prelude.{ℕ}
 use Rattle.ordered_commit.specs.declared.fault.PoolFault.{PoolFault}
 use Rattle.ordered_commit.specs.declared.fault.PoolFault.TheVariants as pool
 use Rattle.script_gate_trait.specs.declared.gate.GateFault.{GateFault}
@@ -10,14 +11,14 @@ use Rattle.run_gated.specs.declared.fault.RunFault.TheVariants.{Script, Journal,
 
 -- the fault that ended the work on the board
 abbrev pub fault_kept : PoolFault → RunFault
-fault_kept (pool.Script worker) = Script
+fault_kept (pool.Script worker) = Script worker
 fault_kept pool.Journal = Journal
 fault_kept pool.Memory = Memory
 
--- that of a gate that wasn't opened, and of a journal
-abbrev pub fault_of : GateFault → RunFault
-fault_of GateFailed = Script
-fault_of GateMemory = Memory
+-- that of the gate of this worker, which wasn't opened, and of a journal
+abbrev pub fault_of : ℕ → GateFault → RunFault
+fault_of worker GateFailed = Script worker
+fault_of worker GateMemory = Memory
 
 abbrev pub fault_of_opening : OpenFault → RunFault
 fault_of_opening OpenFailed = Journal

@@ -1,5 +1,5 @@
 -- What the records of a run are.
-use Rattle.std.specs.Prelude.{◌≡◌, ℕ, List, [], ◌∷◌, All, Option, option_map}
+use Rattle.std.specs.Prelude.{◌≡◌, ℕ, List, [], ◌∷◌, All, Option, length, map, option_map, sum}
 use Rattle.std.specs.List.{IsDistinct}
 use Rattle.std.specs.Str.{bytes_eq}
 use Rattle.script_gate_trait.specs.declared.gate.Verdict.{Verdict}
@@ -34,17 +34,31 @@ abbrev pub BeginsAt : List ℕ → List Record → Type 0
 BeginsAt text [] = Unit {0}
 BeginsAt text (r ∷ records) = r.text ≡ text
 
--- Whatever was reduced: no text is there twice, each verdict is the gate's, and the gate was asked for these texts, in this order and no others.
-pub record AreAnswers (may_say : List ℕ → Verdict → Type 0) (old new : Option Log) (records : List Record) : Type 0 where
+-- the logs of gates after these asks more, a list of texts for each
+abbrev pub all_asked : List (List (List ℕ)) → List (Option Log) → List (Option Log)
+all_asked [] logs = logs
+all_asked (texts ∷ shares) [] = []
+all_asked (texts ∷ shares) (log ∷ logs) = option_map (with_all_asked texts) log ∷ all_asked shares logs
+
+-- The gates of the workers, in the order of their numbers, were asked as often as there are texts. The gate of a worker alone was asked for these texts, in this order.
+pub record AreAsked (texts : List (List ℕ)) (old new : List (Option Log)) : Type 0 where
+  pub shares : List (List (List ℕ))
+  pub one_each : length shares ≡ length old
+  pub total : sum (map (λ share. length share) shares) ≡ length texts
+  pub alone : length old ≡ 1 → shares ≡ texts ∷ []
+  pub asked : new ≡ all_asked shares old
+
+-- Whatever was reduced: no text is there twice, each verdict is a gate's, and the gates were asked as often as there are records.
+pub record AreAnswers (may_say : List ℕ → Verdict → Type 0) (old new : List (Option Log)) (records : List Record) : Type 0 where
   pub distinct : IsDistinct bytes_eq (texts_of records)
   pub said : All (λ r. may_say r.text r.verdict) records
-  pub asked : new ≡ option_map (with_all_asked (texts_of records)) old
+  pub asked : AreAsked (texts_of records) old new
 
--- The history is one that the reducer of the mode can have, and that can be read back; it is a beginning of what one thread does over its records; each text is that of a listed state that is kept; the first is the start's; and after its no nothing was asked.
-pub record AreOfMode {T : Type 0} (mode : RoundMode T) (Kept : T → Type 0) (history : History) : Type 0 where
+-- The history is one that the reducer of the mode can have, and that can be read back; each text is that of a listed state that is kept; the first is the start's, and after its no nothing was asked. With one worker the history is a beginning of what one thread does over its records.
+pub record AreOfMode {T : Type 0} (workers : ℕ) (mode : RoundMode T) (Kept : T → Type 0) (history : History) : Type 0 where
   pub legal : IsLegal (plan_first mode) history
   pub readable : IsHistory history
-  pub sequential : IsBeginning history (own_history (plan_first mode) history)
   pub candidates : All (λ r. IsTextOf mode Kept r.text) (records_of history)
   pub first : BeginsAt (mode.text mode.start) (records_of history)
   pub ends_at_no : FirstIsNo (records_of history) → OnlyNo (records_of history)
+  pub sequential : workers ≡ 1 → IsBeginning history (own_history (plan_first mode) history)

@@ -4,7 +4,7 @@ use Rattle.faults.specs.Count.{Rose}
 use Rattle.edge_io.specs.Sink.{Put}
 use Rattle.script_gate_trait.specs.declared.gate.Verdict.TheVariants.{Yes, No}
 use Rattle.verdict_table.specs.declared.record.Record.{Record}
-use Rattle.reduce_step.specs.Plan.{StepResult}
+use Rattle.reduce_step.specs.Plan.{HasEnded, StepResult}
 use Rattle.verdict_table.specs.TableState.{verdict_in}
 use Rattle.reduce_journal.specs.History.{History, records_of}
 use Rattle.reduce_journal.specs.declared.counts.Counts.{Counts}
@@ -13,11 +13,13 @@ use Rattle.reduce_rounds.specs.Mode.{IsLawful, RoundMode}
 use Rattle.reduce_rounds.specs.Reduction.{Reduction, reduction}
 use Rattle.reduce_rounds.specs.Laws.{EndsWell, HasVerdicts, result_of, says_yes}
 use Rattle.reduce_rounds.specs.RoundsPlan.{plan_first}
+use Rattle.ordered_commit_moves.specs.Replay.{replay}
 use Rattle.run_worker.specs.RunHistory.{own_history}
-use Rattle.run_worker.specs.RunEnds.{HasNothing, HasPart, HasWritten}
+use Rattle.run_worker.specs.RunEnds.{HasNothing, HasWritten}
 use Rattle.ordered_commit.specs.declared.fault.PoolFault.{PoolFault}
 use Rattle.run_gated.specs.Faults.{fault_kept}
 use Rattle.run_gated.specs.Records.{FirstIs, FirstIsNo, OnlyNo}
+use Rattle.run_gated.specs.Workers.{HasPartBy, RoseAt}
 use Rattle.run_gated.specs.declared.fault.RunFault.{RunFault}
 use Rattle.run_gated.specs.declared.fault.RunFault.TheVariants.{NotInteresting, Script, Journal, Memory}
 use Rattle.run_gated.specs.declared.ran.Reduced.{Reduced}
@@ -42,35 +44,40 @@ counts_of units bytes result records = record {
   records = records;
 }
 
--- The history is all that one thread does over its records. They have all verdicts that the reduction asks, of which the first is the start's yes; this is its result, with its counts; and where the mode is lawful and the start listed, it ends at a yes that is kept, from which nothing that a round tries is interesting.
-pub record ReducesIn {T : Type 0} (mode : RoundMode T) (Kept : T → Type 0) (history : History) (result : StepResult) : Type 0 where
-  pub whole : history ≡ own_history (plan_first mode) history
+-- The records have all verdicts that the reduction asks, of which the first is the start's yes; this is its result, with its counts; and where the mode is lawful and the start listed, it ends at a yes that is kept, from which nothing that a round tries is interesting. The commits lead the reducer to its end; with one worker the history is all that one thread does over its records.
+pub record ReducesIn {T : Type 0} (workers : ℕ) (mode : RoundMode T) (Kept : T → Type 0) (history : History) (result : StepResult) : Type 0 where
+  pub whole : workers ≡ 1 → history ≡ own_history (plan_first mode) history
+  pub committed : HasEnded (replay (plan_first mode) history)
   pub first : FirstIs (mode.text mode.start) Yes (records_of history)
   pub defined : IsDefinedOver mode (records_of history)
   pub interesting : (reduction_over mode (records_of history)).refused ≡ false
   pub is_result : result ≡ result_of mode (reduction_over mode (records_of history))
   pub ends_well : IsLawful mode Kept → mode.is_listed mode.start ≡ true → EndsWell mode Kept (λ state other. IsTriedAtNo (mode.round state) other) (verdict_in (records_of history)) (reduction_over mode (records_of history)).state
 
--- no call failed, of the gate and of the journal, of which these are the counts before and after
-abbrev pub NoneFailed : ℕ → ℕ → ℕ → ℕ → Type 0
-NoneFailed gate gate' journal journal' = (gate' ≡ gate) × (journal' ≡ journal)
+-- no call failed, of the gates and of the journal, of which these are the counts before and after
+abbrev pub NoneFailed : List ℕ → List ℕ → ℕ → ℕ → Type 0
+NoneFailed gates gates' journal journal' = (gates' ≡ gates) × (journal' ≡ journal)
 
--- Why a run ended without a result: the gate said no to the start and wasn't asked again; or a call of the gate failed, the gate hadn't said no to the start, and the reduction asks for a text that has no record; at both the history is all that one thread does over its records; or a call of the journal failed; or out of memory. No other call failed.
-abbrev pub RunFailsIn : {T : Type 0} → RoundMode T → History → ℕ → ℕ → ℕ → ℕ → RunFault → Type 0
-RunFailsIn mode history gate gate' journal journal' NotInteresting =
-    OnlyNo (records_of history) × FirstIs (mode.text mode.start) No (records_of history) × (history ≡ own_history (plan_first mode) history) × NoneFailed gate gate' journal journal'
-RunFailsIn mode history gate gate' journal journal' Script =
-    Rose gate gate' × (¬ FirstIsNo (records_of history)) × (¬ IsDefinedOver mode (records_of history)) × (history ≡ own_history (plan_first mode) history) × (journal' ≡ journal)
-RunFailsIn mode history gate gate' journal journal' Journal = (gate' ≡ gate) × Rose journal journal'
-RunFailsIn mode history gate gate' journal journal' Memory = NoneFailed gate gate' journal journal'
+-- The reduction asks for a text that has no record, the gate hadn't said no to the start, and the history is all that one thread does over its records.
+abbrev pub IsUnfinishedIn : {T : Type 0} → RoundMode T → History → Type 0
+IsUnfinishedIn mode history = (¬ FirstIsNo (records_of history)) × (¬ IsDefinedOver mode (records_of history)) × (history ≡ own_history (plan_first mode) history)
+
+-- Why a run ended without a result: the verdict on the start is no; or a call failed of the gate of the worker that is named; or a call of the journal failed; or out of memory. After the start's no nothing was asked, and its commit is there. With one worker no other call failed, and where its gate failed, the reduction wasn't finished.
+abbrev pub RunFailsIn : {T : Type 0} → ℕ → RoundMode T → History → List ℕ → List ℕ → ℕ → ℕ → RunFault → Type 0
+RunFailsIn workers mode history gates gates' journal journal' NotInteresting =
+    FirstIs (mode.text mode.start) No (records_of history) × OnlyNo (records_of history) × NoneFailed gates gates' journal journal' × (workers ≡ 1 → history ≡ own_history (plan_first mode) history) × HasEnded (replay (plan_first mode) history)
+RunFailsIn workers mode history gates gates' journal journal' (Script worker) =
+    RoseAt worker gates gates' × (journal' ≡ journal) × (workers ≡ 1 → IsUnfinishedIn mode history)
+RunFailsIn workers mode history gates gates' journal journal' Journal = Rose journal journal' × (workers ≡ 1 → gates' ≡ gates)
+RunFailsIn workers mode history gates gates' journal journal' Memory = (journal' ≡ journal) × (workers ≡ 1 → gates' ≡ gates)
 
 -- how it ended, by what it answered: with the text that the reduction ends with, and what the report says of it, or why not
-abbrev pub RunEndsIn : {T : Type 0} → RoundMode T → (T → Type 0) → History → ℕ → ℕ → ℕ → ℕ → Result Reduced RunFault → Type 0
-RunEndsIn mode Kept history gate gate' journal journal' (Ok reduced) =
+abbrev pub RunEndsIn : {T : Type 0} → ℕ → RoundMode T → (T → Type 0) → History → List ℕ → List ℕ → ℕ → ℕ → Result Reduced RunFault → Type 0
+RunEndsIn workers mode Kept history gates gates' journal journal' (Ok reduced) =
     ((result : StepResult) × (reduced.text.items ≡ result.text)
-    × (reduced.counts ≡ counts_of (mode.size mode.start) (length (mode.text mode.start)) result (length (records_of history))) × ReducesIn mode Kept history result)
-    × NoneFailed gate gate' journal journal'
-RunEndsIn mode Kept history gate gate' journal journal' (Err fault) = RunFailsIn mode history gate gate' journal journal' fault
+    × (reduced.counts ≡ counts_of (mode.size mode.start) (length (mode.text mode.start)) result (length (records_of history))) × ReducesIn workers mode Kept history result)
+    × NoneFailed gates gates' journal journal'
+RunEndsIn workers mode Kept history gates gates' journal journal' (Err fault) = RunFailsIn workers mode history gates gates' journal journal' fault
 
 -- what is answered for a reducer that has come to this result, of a start of so many units and bytes, after so many records and this fault, if there was one; without a fault memory may run out
 abbrev pub AnswersFor : Option PoolFault → StepResult → ℕ → ℕ → ℕ → Result Reduced RunFault → Type 0
@@ -78,13 +85,13 @@ AnswersFor (Some fault) result units bytes records answer = answer ≡ Err (faul
 AnswersFor None result units bytes records (Ok reduced) = (result.refused ≡ false) × (reduced.text.items ≡ result.text) × (reduced.counts ≡ counts_of units bytes result records)
 AnswersFor None result units bytes records (Err NotInteresting) = result.refused ≡ true
 AnswersFor None result units bytes records (Err Memory) = Unit {0}
-AnswersFor None result units bytes records (Err Script) = ⊥
+AnswersFor None result units bytes records (Err (Script worker)) = ⊥
 AnswersFor None result units bytes records (Err Journal) = ⊥
 
 -- What the journal has, which was empty, by what the run answered: all of the history; where memory ran out that, or nothing, if there is no history; where a call of it failed a part. The counts are those of its calls that failed, before and after.
-abbrev pub JournalHas : {A : Type 0} → History → Option Put → Option Put → ℕ → ℕ → Result A RunFault → Type 0
-JournalHas history old new count count' (Ok result) = HasWritten history old new × (count' ≡ count)
-JournalHas history old new count count' (Err NotInteresting) = HasWritten history old new × (count' ≡ count)
-JournalHas history old new count count' (Err Script) = HasWritten history old new × (count' ≡ count)
-JournalHas history old new count count' (Err Journal) = HasPart history old new × Rose count count'
-JournalHas history old new count count' (Err Memory) = (HasWritten history old new ⊎ HasNothing history old new) × (count' ≡ count)
+abbrev pub JournalHas : {A : Type 0} → ℕ → History → Option Put → Option Put → ℕ → ℕ → Result A RunFault → Type 0
+JournalHas workers history old new count count' (Ok result) = HasWritten history old new × (count' ≡ count)
+JournalHas workers history old new count count' (Err NotInteresting) = HasWritten history old new × (count' ≡ count)
+JournalHas workers history old new count count' (Err (Script worker)) = HasWritten history old new × (count' ≡ count)
+JournalHas workers history old new count count' (Err Journal) = HasPartBy workers history old new × Rose count count'
+JournalHas workers history old new count count' (Err Memory) = (HasWritten history old new ⊎ HasNothing history old new) × (count' ≡ count)

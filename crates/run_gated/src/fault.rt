@@ -1,5 +1,8 @@
 //! Why a run ends without a result.
 
+ghost use Rattle.std.specs.Prelude.{◌≡◌};
+ghost use Rattle.run_gated.specs.Faults.{fault_of};
+
 use edge_io::OpenFault;
 use ordered_commit::PoolFault;
 use script_gate_trait::GateFault;
@@ -10,8 +13,8 @@ use std::alloc::AllocError;
 pub enum RunFault {
     /// The verdict on the start is no.
     NotInteresting,
-    /// A call of the gate failed.
-    Script,
+    /// A call failed of the gate of the worker of this number, from 1.
+    Script { worker: u32 },
     /// A call of the journal failed.
     Journal,
     /// Memory ran out.
@@ -26,22 +29,20 @@ impl From<PoolFault> for RunFault {
 
     fn from(fault: PoolFault) -> RunFault {
         match fault {
-            PoolFault::Script { .. } => RunFault::Script,
+            PoolFault::Script { worker } => RunFault::Script { worker },
             PoolFault::Journal => RunFault::Journal,
             PoolFault::Memory => RunFault::Memory,
         }
     }
 }
 
-impl From<GateFault> for RunFault {
-    ghost use Rattle.std.specs.Prelude.{◌≡◌};
-    ghost use Rattle.run_gated.specs.Faults.{fault_of};
-
-    ghost from_gives = { λ fault run_fault. run_fault ≡ fault_of fault };
-
-    fn from(fault: GateFault) -> RunFault {
+impl RunFault {
+    /// Why the gate of the worker of this number wasn't opened.
+    pub fn of_gate(worker: u32, fault: GateFault) -> RunFault
+        ensures { result ≡ fault_of worker fault }
+    {
         match fault {
-            GateFault::Failed => RunFault::Script,
+            GateFault::Failed => RunFault::Script { worker },
             GateFault::Memory => RunFault::Memory,
         }
     }

@@ -1,15 +1,17 @@
 //! The run.
 
-ghost use Rattle.std.specs.Prelude.{◌≡◌, [], true, IfSome, None, length};
+ghost use Rattle.std.specs.Prelude.{◌≡◌, [], ◌∷◌, true, IfSome, None, length};
 ghost use Rattle.reduce_journal.specs.History.{records_of};
 ghost use Rattle.reduce_rounds.specs.Mode.{Keeps};
 ghost use Rattle.reduce_rounds.specs.RoundsPlan.{IsStart, plan_first};
 ghost use Rattle.run_gated.specs.Records.{AreAnswers, AreOfMode};
 ghost use Rattle.reduce_step.specs.Plan.{End, HasEnded};
+ghost use Rattle.run_gated.specs.Workers.{AreIdle, worker_faults, worker_logs};
 ghost use Rattle.run_gated.specs.RunEnds.{AnswersFor, JournalHas, RunEndsIn};
 
 use crate::fault::RunFault;
 use crate::ran::{Ran, Reduced};
+use crate::workers::run_all;
 use edge_io::Sink;
 use ordered_commit::{Outcome, PoolFault};
 use reduce_journal::{Counts, Event};
@@ -17,9 +19,11 @@ use reduce_rounds::{
     ReducerStep, Round, Rounds, asks_candidates, ends_minimal, follows_reduction, refuses_at_no,
 };
 use reduce_step::Step;
-use run_worker::run;
 use script_gate_trait::Gate;
 use std::alloc::Global;
+use std::sync::Wait;
+use std::thread::Threads;
+use worker_pool::Worker;
 
 /// How many records a history has.
 fn record_count(events: &[Event]) -> u64
@@ -72,27 +76,31 @@ fn result_of<R: Round + Drop>(
     Ok(Reduced { text, counts })
 }
 
-/// Asks the gate for what the reducer asks, once for each text, until it asks nothing more, writes the
-/// history into the journal, and gives the text that the reducer has come to. A start whose verdict is no
-/// ends the run at once.
+/// Asks the gates of the workers for what the reducer asks, several at a time where there are several
+/// workers, until it asks nothing more; writes the history into the journal, and gives the text that the
+/// reducer has come to. No text is recorded twice, and the gates are asked as often as there are records.
+/// A start whose verdict is no ends the run.
 ///
 /// What is said of a mode holds for each input at which the reducer's first plan, and its result so far,
-/// are those of the mode. Beside the answers of the reducer and of the gate an answer costs a search of the
-/// records and a copy of the text.
-pub fn run_to_text<R: Round + Drop, G: Gate, J: Sink + Drop>(
-    alloc: Global,
-    reducer: Rounds<R>,
-    gate: &mut G,
-    journal: J,
-) -> Ran<J>
+/// are those of the mode. Beside the answers of the reducer and of the gates an answer costs a search of
+/// the records and a copy of the text; each text that is asked ahead costs as much.
+pub fn run_to_text<
+    R: Round + Drop + Send,
+    G: Gate + Send,
+    J: Sink + Drop + Send,
+    W: Threads + Wait + Sync,
+>(rt: &W, alloc: Global, reducer: Rounds<R>, workers: &mut [Worker<G>], journal: J) -> Ran<J>
     requires new { ⟦<Rounds<R> as Step>⟧.first reducer ≡ ⟦<Rounds<R> as Step>⟧.plan reducer }
     requires empty { IfSome (J.put_so_far journal) (λ put. put.bytes ≡ []) }
-    ensures answers { AreAnswers G.may_say (G.log gate.old) (G.log gate.new) (records_of result.events.items) }
+    requires idle { AreIdle workers.old }
+    ensures idle { AreIdle workers.new }
+    ensures as_many { length workers.new ≡ length workers.old }
+    ensures answers { AreAnswers G.may_say (worker_logs G.log workers.old) (worker_logs G.log workers.new) (records_of result.events.items) }
     ensures of_mode { (input : R.Input) → ⟦<Rounds<R> as Step>⟧.first reducer ≡ plan_first (R.mode input) → Keeps (R.mode input) (R.Kept input) → (R.mode input).is_listed (R.mode input).start ≡ true
-        → AreOfMode (R.mode input) (R.Kept input) result.events.items }
+        → AreOfMode (length workers.old) (R.mode input) (R.Kept input) result.events.items }
     ensures ends { (input : R.Input) → ⟦<Rounds<R> as Step>⟧.first reducer ≡ plan_first (R.mode input) → IsStart (R.mode input) (⟦<Rounds<R> as ReducerStep>⟧.so_far reducer)
-        → RunEndsIn (R.mode input) (R.Kept input) result.events.items (G.faults gate.old) (G.faults gate.new) (J.faults journal) (J.faults result.journal) result.outcome }
-    ensures journal { JournalHas result.events.items (J.put_so_far journal) (J.put_so_far result.journal) (J.faults journal) (J.faults result.journal) result.outcome }
+        → RunEndsIn (length workers.old) (R.mode input) (R.Kept input) result.events.items (worker_faults G.faults workers.old) (worker_faults G.faults workers.new) (J.faults journal) (J.faults result.journal) result.outcome }
+    ensures journal { JournalHas (length workers.old) result.events.items (J.put_so_far journal) (J.put_so_far result.journal) (J.faults journal) (J.faults result.journal) result.outcome }
 {
     follows_reduction::<R>();
     refuses_at_no::<R>();
@@ -107,7 +115,7 @@ pub fn run_to_text<R: Round + Drop, G: Gate, J: Sink + Drop>(
         journal,
         events,
         fault,
-    } = run(alloc, reducer, gate, journal);
+    } = run_all(rt, alloc, reducer, workers, journal);
     let outcome = result_of(alloc, &front, start, record_count(&events), fault);
     Ran {
         journal,

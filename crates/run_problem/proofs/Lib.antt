@@ -1,1 +1,2 @@
+pub mod AlikeLemmas
 pub mod ModeLemmas

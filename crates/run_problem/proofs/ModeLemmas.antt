@@ -19,8 +19,8 @@ use Rattle.run_gated.specs.declared.ran.Reduced.{Reduced}
 use Rattle.reduce_journal.specs.History.{History, records_of}
 use Rattle.reduce_journal.specs.declared.counts.Counts.{Counts}
 use Rattle.run_worker.specs.RunHistory.{own_history}
-use Rattle.run_worker.proofs.EndLemmas.{none_asked}
 use Rattle.run_gated.specs.Records.{AreAnswers, AreOfMode, BeginsAt, FirstIs}
+use Rattle.run_gated.proofs.AllLemmas.{nothing_asked}
 use Rattle.run_gated.specs.RunEnds as ends
 use Rattle.run_gated.specs.RunEnds.{ReducesIn, RunEndsIn, RunFailsIn, reduction_over}
 use Rattle.reduce_core.specs.declared.lines.Line.{Line}
@@ -41,13 +41,13 @@ use Rattle.run_problem.specs.Problem.{IsEditBy, Problem, questions_of, reducer_o
 use Rattle.run_problem.specs.Walks.{IsTreeMode}
 use Rattle.run_problem.specs.Ends.{AreOf, IsUnfinished, ProblemEnds, ReducesFrom, RunFails}
 
--- no record was made, and the gate was not asked
-pub none_answers : (may_say : List ℕ → Verdict → Type 0) (records : List Record) (log : Option Log) → records ≡ [] → AreAnswers may_say log log records
+-- no record was made, and no gate was asked
+pub none_answers : (may_say : List ℕ → Verdict → Type 0) (records : List Record) (logs : List (Option Log)) → records ≡ [] → AreAnswers may_say logs logs records
 unfolding IsDistinct
-none_answers may_say records log none = subst (AreAnswers may_say log log) (sym none) (record {
+none_answers may_say records logs none = subst (AreAnswers may_say logs logs) (sym none) (record {
   distinct = tt;
   said = All-nil _;
-  asked = none_asked log;
+  asked = nothing_asked logs;
 })
 
 module _ (keeps : List (List ℕ)) where
@@ -60,8 +60,8 @@ module _ (keeps : List (List ℕ)) where
   admits_start start kept = ap (holds_all keeps) (text-numbered_lines start) ∙ kept
 
   -- the history is one of lines
-  pub are_of : (start : List ℕ) (history : History) → AreOfMode (line_mode (lines_of start)) (AreOfStart (lines_of start)) history → AreOf keeps (Problem.of_lines start) history
-  are_of start history of =
+  pub are_of : (workers : ℕ) (start : List ℕ) (history : History) → AreOfMode workers (line_mode (lines_of start)) (AreOfStart (lines_of start)) history → AreOf workers keeps (Problem.of_lines start) history
+  are_of workers start history of =
       let records : List Record = records_of history in
       record {
         legal = of.legal;
@@ -78,7 +78,7 @@ module _ (keeps : List (List ℕ)) where
   unfolding line_reduction
   start_known V start has = has.0
 
-  module _ (by_rounds : IsByRounds) (start : List ℕ) (history : History) where
+  module _ (workers : ℕ) (by_rounds : IsByRounds) (start : List ℕ) (history : History) where
     abbrev records : List Record
     records = records_of history
 
@@ -93,7 +93,7 @@ module _ (keeps : List (List ℕ)) where
 
     -- the start is reduced to the text of the result
     reduces : EndsMinimal → holds_all keeps start ≡ true → (result : StepResult) (counts : Counts) → counts ≡ ends.counts_of (length (numbered_lines start)) (length (text_of (numbered_lines start))) result (length records)
-        → ReducesIn (line_mode (lines_of start)) (AreOfStart (lines_of start)) history result → ReducesFrom keeps (Problem.of_lines start) history result.text counts
+        → ReducesIn workers (line_mode (lines_of start)) (AreOfStart (lines_of start)) history result → ReducesFrom workers keeps (Problem.of_lines start) history result.text counts
     reduces minimal kept result counts are_counts it =
         let V = verdict_in records in
         let defined : HasVerdicts V R.questions = subst (λ (r : Reduction (List Line)). HasVerdicts V r.questions) same_reduction it.defined in
@@ -119,34 +119,40 @@ module _ (keeps : List (List ℕ)) where
               (it.is_result ∙ ap (result_of (line_mode (lines_of start))) same_reduction)
               ∙ ap (λ (text : List ℕ). ends.counts_of (length (numbered_lines start)) (length text) (result_of (line_mode (lines_of start)) (in_rounds R)) (length records)) (text-numbered_lines start);
           whole = it.whole;
+          committed = it.committed;
         }
 
     -- why the start has no reduction
-    fails : (gate gate' journal journal' : ℕ) (fault : RunFault) → RunFailsIn (line_mode (lines_of start)) history gate gate' journal journal' fault → RunFails keeps (Problem.of_lines start) history gate gate' journal journal' fault
-    fails gate gate' journal journal' run.NotInteresting why = (record { only = why.0; first = first_text No why.1; whole = why.2 }, why.3)
-    fails gate gate' journal journal' run.Script why =
-        (why.0, why.1, record { waits = λ has. why.2 (subst (λ (r : Reduction (List Line)). HasVerdicts (verdict_in records) r.questions) (sym same_reduction) has); whole = why.3 }, why.4)
-    fails gate gate' journal journal' run.Journal why = why
-    fails gate gate' journal journal' run.Memory why = why
+    fails : (gates gates' : List ℕ) (journal journal' : ℕ) (fault : RunFault) → RunFailsIn workers (line_mode (lines_of start)) history gates gates' journal journal' fault → RunFails workers keeps (Problem.of_lines start) history gates gates' journal journal' fault
+    fails gates gates' journal journal' run.NotInteresting why = (record { first = first_text No why.0; only = why.1; whole = why.3; committed = why.4 }, why.2)
+    fails gates gates' journal journal' (run.Script worker) why = (
+      why.0,
+      why.1,
+      λ alone.
+          let waits = why.2 alone in
+          record { waits = λ has. waits.1 (subst (λ (r : Reduction (List Line)). HasVerdicts (verdict_in records) r.questions) (sym same_reduction) has); not_no = waits.0; whole = waits.2 },
+    )
+    fails gates gates' journal journal' run.Journal why = why
+    fails gates gates' journal journal' run.Memory why = why
 
     -- how the run of the start's lines ends
-    pub lines_end : EndsMinimal → holds_all keeps start ≡ true → (gate gate' journal journal' : ℕ) (result : Result Reduced RunFault) → RunEndsIn (line_mode (lines_of start)) (AreOfStart (lines_of start)) history gate gate' journal journal' result
-        → ProblemEnds keeps (Problem.of_lines start) history gate gate' journal journal' result
-    lines_end minimal kept gate gate' journal journal' (Ok reduced) came =
-        (subst (λ (text : List ℕ). ReducesFrom keeps (Problem.of_lines start) history text reduced.counts) (sym came.0.1) (reduces minimal kept came.0.0 reduced.counts came.0.2 came.0.3), came.1)
-    lines_end minimal kept gate gate' journal journal' (Err fault) came = fails gate gate' journal journal' fault came
+    pub lines_end : EndsMinimal → holds_all keeps start ≡ true → (gates gates' : List ℕ) (journal journal' : ℕ) (result : Result Reduced RunFault) → RunEndsIn workers (line_mode (lines_of start)) (AreOfStart (lines_of start)) history gates gates' journal journal' result
+        → ProblemEnds workers keeps (Problem.of_lines start) history gates gates' journal journal' result
+    lines_end minimal kept gates gates' journal journal' (Ok reduced) came =
+        (subst (λ (text : List ℕ). ReducesFrom workers keeps (Problem.of_lines start) history text reduced.counts) (sym came.0.1) (reduces minimal kept came.0.0 reduced.counts came.0.2 came.0.3), came.1)
+    lines_end minimal kept gates gates' journal journal' (Err fault) came = fails gates gates' journal journal' fault came
 
 -- nothing was asked of a problem
 none_own : (keeps : List (List ℕ)) (problem : Problem) → own_history (reducer_of keeps problem) [] ≡ []
 none_own keeps (Problem.of_lines start) = refl
 none_own keeps (Problem.of_tree mode input) = refl
 
-pub none_of : (keeps : List (List ℕ)) (problem : Problem) (history : History) → history ≡ [] → AreOf keeps problem history
+pub none_of : (workers : ℕ) (keeps : List (List ℕ)) (problem : Problem) (history : History) → history ≡ [] → AreOf workers keeps problem history
 unfolding IsDistinct
-none_of keeps problem history none = subst (AreOf keeps problem) (sym none) (record {
+none_of workers keeps problem history none = subst (AreOf workers keeps problem) (sym none) (record {
   legal = record { distinct = tt; commits = tt };
   readable = tt;
-  sequential = ([], none_own keeps problem);
+  sequential = λ _. ([], none_own keeps problem);
   candidates = All-nil _;
   first = tt;
   ends_at_no = λ first_no. first_no;
@@ -162,10 +168,10 @@ none_waits keeps (Problem.of_lines start) has = false≢true (start_known keeps 
 none_waits keeps (Problem.of_tree mode input) has = false≢true (tree_known (verdict_in []) (walk_mode (round_of mode) input) has)
 
 pub unfinished_without : (keeps : List (List ℕ)) (problem : Problem) → IsUnfinished keeps problem []
-unfinished_without keeps problem = record { waits = none_waits keeps problem; whole = sym (none_own keeps problem) }
+unfinished_without keeps problem = record { waits = none_waits keeps problem; not_no = λ first_no. first_no; whole = sym (none_own keeps problem) }
 
 -- What a run of a reducer of trees says, in the words of the reduction of trees.
-module _ (mode : TreeMode) (laws : IsTreeMode (round_of mode) (IsEditBy mode)) (input : TreeInput) (is : IsInput input) (admitted : AdmitsStart input) (history : History) where
+module _ (workers : ℕ) (mode : TreeMode) (laws : IsTreeMode (round_of mode) (IsEditBy mode)) (input : TreeInput) (is : IsInput input) (admitted : AdmitsStart input) (history : History) where
   abbrev tree_records : List Record
   tree_records = records_of history
 
@@ -179,7 +185,7 @@ module _ (mode : TreeMode) (laws : IsTreeMode (round_of mode) (IsEditBy mode)) (
   begins = laws.begins input is admitted
 
   -- the history is one of trees
-  pub are_of_tree : (keeps : List (List ℕ)) → AreOfMode trees (IsKept input) history → AreOf keeps (Problem.of_tree mode input) history
+  pub are_of_tree : (keeps : List (List ℕ)) → AreOfMode workers trees (IsKept input) history → AreOf workers keeps (Problem.of_tree mode input) history
   are_of_tree keeps of =
       record {
         legal = of.legal;
@@ -192,7 +198,7 @@ module _ (mode : TreeMode) (laws : IsTreeMode (round_of mode) (IsEditBy mode)) (
 
   -- the tree is reduced to the text of the result
   tree_reduces : (keeps : List (List ℕ)) → input.admits ≡ keeps_admit keeps → (result : StepResult) (counts : Counts) → counts ≡ ends.counts_of (trees.size trees.start) (length (trees.text trees.start)) result (length tree_records)
-      → ReducesIn trees (IsKept input) history result → ReducesFrom keeps (Problem.of_tree mode input) history result.text counts
+      → ReducesIn workers trees (IsKept input) history result → ReducesFrom workers keeps (Problem.of_tree mode input) history result.text counts
   tree_reduces keeps admits result counts are_counts it =
       let V = verdict_in tree_records in
       let well = it.ends_well (laws.lawful input is) begins.listed in
@@ -215,18 +221,21 @@ module _ (mode : TreeMode) (laws : IsTreeMode (round_of mode) (IsEditBy mode)) (
             ∙ ap (λ (r : StepResult). ends.counts_of (trees.size trees.start) (length (trees.text trees.start)) r (length tree_records)) it.is_result
             ∙ ap (λ (text : List ℕ). ends.counts_of (trees.size trees.start) (length text) (result_of trees T) (length tree_records)) begins.text;
         whole = it.whole;
+        committed = it.committed;
       }
 
   -- why the tree has no reduction
-  tree_fails : (keeps : List (List ℕ)) (gate gate' journal journal' : ℕ) (fault : RunFault) → RunFailsIn trees history gate gate' journal journal' fault → RunFails keeps (Problem.of_tree mode input) history gate gate' journal journal' fault
-  tree_fails keeps gate gate' journal journal' run.NotInteresting why = (record { only = why.0; first = subst (λ (start : List ℕ). FirstIs start No tree_records) begins.text why.1; whole = why.2 }, why.3)
-  tree_fails keeps gate gate' journal journal' run.Script why = (why.0, why.1, record { waits = why.2; whole = why.3 }, why.4)
-  tree_fails keeps gate gate' journal journal' run.Journal why = why
-  tree_fails keeps gate gate' journal journal' run.Memory why = why
+  tree_fails : (keeps : List (List ℕ)) (gates gates' : List ℕ) (journal journal' : ℕ) (fault : RunFault) → RunFailsIn workers trees history gates gates' journal journal' fault → RunFails workers keeps (Problem.of_tree mode input) history gates gates' journal journal' fault
+  tree_fails keeps gates gates' journal journal' run.NotInteresting why =
+      (record { first = subst (λ (start : List ℕ). FirstIs start No tree_records) begins.text why.0; only = why.1; whole = why.3; committed = why.4 }, why.2)
+  tree_fails keeps gates gates' journal journal' (run.Script worker) why =
+      (why.0, why.1, λ alone. let waits = why.2 alone in record { waits = waits.1; not_no = waits.0; whole = waits.2 })
+  tree_fails keeps gates gates' journal journal' run.Journal why = why
+  tree_fails keeps gates gates' journal journal' run.Memory why = why
 
   -- how the run of the tree ends
-  pub tree_ends : (keeps : List (List ℕ)) → input.admits ≡ keeps_admit keeps → (gate gate' journal journal' : ℕ) (result : Result Reduced RunFault) → RunEndsIn trees (IsKept input) history gate gate' journal journal' result
-      → ProblemEnds keeps (Problem.of_tree mode input) history gate gate' journal journal' result
-  tree_ends keeps admits gate gate' journal journal' (Ok reduced) came =
-      (subst (λ (text : List ℕ). ReducesFrom keeps (Problem.of_tree mode input) history text reduced.counts) (sym came.0.1) (tree_reduces keeps admits came.0.0 reduced.counts came.0.2 came.0.3), came.1)
-  tree_ends keeps admits gate gate' journal journal' (Err fault) came = tree_fails keeps gate gate' journal journal' fault came
+  pub tree_ends : (keeps : List (List ℕ)) → input.admits ≡ keeps_admit keeps → (gates gates' : List ℕ) (journal journal' : ℕ) (result : Result Reduced RunFault) → RunEndsIn workers trees (IsKept input) history gates gates' journal journal' result
+      → ProblemEnds workers keeps (Problem.of_tree mode input) history gates gates' journal journal' result
+  tree_ends keeps admits gates gates' journal journal' (Ok reduced) came =
+      (subst (λ (text : List ℕ). ReducesFrom workers keeps (Problem.of_tree mode input) history text reduced.counts) (sym came.0.1) (tree_reduces keeps admits came.0.0 reduced.counts came.0.2 came.0.3), came.1)
+  tree_ends keeps admits gates gates' journal journal' (Err fault) came = tree_fails keeps gates gates' journal journal' fault came

@@ -7,3 +7,4 @@ pub mod Problem
 pub mod Walks
 pub mod Read
 pub mod Ends
+pub mod Laws

@@ -1,13 +1,15 @@
 //! The run of what was read: the lines of some bytes, or the tree of a text by a grammar, answered by
-//! one gate on one thread, with its journal.
+//! the gates of 1 to 16 workers, with its journal.
 //!
 //! Enter by [`run_problem`]. Read `specs/Problem.antt` first, what is reduced and what its reduction is
 //! in any mode, and then `specs/Ends.antt`, what the history of a run is and how it ends.
 #![tactic(auto)]
 
+mod laws;
 mod problem;
 mod run;
 
+pub use laws::{runs_reduce_alike, verdicts_agree};
 pub use problem::ReadProblem;
 pub use reduce_step::TreeMode;
 pub use run::run_problem;

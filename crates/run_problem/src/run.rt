@@ -11,6 +11,7 @@ ghost use Rattle.reduce_rounds.specs.RoundsPlan.{IsStart, plan_first};
 ghost use Rattle.reduce_trees.specs.WalkMode.{walk_mode};
 ghost use Rattle.reduce_trees_mode.specs.Listed.{IsKept};
 ghost use Rattle.run_gated.specs.Records.{AreAnswers, AreOfMode};
+ghost use Rattle.run_gated.specs.Workers.{AreIdle, worker_faults, worker_logs};
 ghost use Rattle.run_gated.specs.RunEnds.{JournalHas, RunEndsIn};
 ghost use Rattle.run_problem.specs.Problem.{Problem};
 ghost use Rattle.run_problem.specs.Read.{IsFoundIn, IsReadAs, IsReady, start_read};
@@ -36,27 +37,34 @@ use reduce_walk::TreeWalk;
 use run_gated::{Ran, RunFault, run_to_text};
 use script_gate_trait::Gate;
 use std::alloc::Global;
+use std::sync::Wait;
+use std::thread::Threads;
+use worker_pool::Worker;
 
 /// The text that the lines of a start reduce to.
-fn lines_result<G: Gate, J: Sink + Drop>(
+fn lines_result<G: Gate + Send, J: Sink + Drop + Send, T: Threads + Wait + Sync>(
+    rt: &T,
     alloc: Global,
     start: &[u8],
     guard: &Guard<KeepTexts<'_>>,
-    gate: &mut G,
+    workers: &mut [Worker<G>],
     journal: J,
 ) -> Ran<J>
     requires few { length start.now ≤ text_limit }
     requires kept { holds_all guard.now start.now ≡ true }
+    requires idle { AreIdle workers.old }
     requires empty { IfSome (J.put_so_far journal) (λ put. put.bytes ≡ []) }
-    ensures answers { AreAnswers G.may_say (G.log gate.old) (G.log gate.new) (records_of result.events.items) }
-    ensures of_problem { AreOf guard.now (Problem.of_lines start.now) result.events.items }
-    ensures ends { ProblemEnds guard.now (Problem.of_lines start.now) result.events.items (G.faults gate.old) (G.faults gate.new) (J.faults journal) (J.faults result.journal) result.outcome }
-    ensures journal { JournalHas result.events.items (J.put_so_far journal) (J.put_so_far result.journal) (J.faults journal) (J.faults result.journal) result.outcome }
+    ensures idle { AreIdle workers.new }
+    ensures as_many { length workers.new ≡ length workers.old }
+    ensures answers { AreAnswers G.may_say (worker_logs G.log workers.old) (worker_logs G.log workers.new) (records_of result.events.items) }
+    ensures of_problem { AreOf (length workers.old) guard.now (Problem.of_lines start.now) result.events.items }
+    ensures ends { ProblemEnds (length workers.old) guard.now (Problem.of_lines start.now) result.events.items (worker_faults G.faults workers.old) (worker_faults G.faults workers.new) (J.faults journal) (J.faults result.journal) result.outcome }
+    ensures journal { JournalHas (length workers.old) result.events.items (J.put_so_far journal) (J.put_so_far result.journal) (J.faults journal) (J.faults result.journal) result.outcome }
 {
     is_by_rounds();
     ends_minimal();
     match line_reducer(alloc, start, guard) {
-        Ok(reducer) => run_to_text(alloc, reducer, gate, journal),
+        Ok(reducer) => run_to_text(rt, alloc, reducer, workers, journal),
         Err(_) => Ran::refused(alloc, journal, RunFault::Memory),
     }
 }
@@ -94,92 +102,112 @@ fn walk_laws<W: TreeWalk>()
 }
 
 /// The text that a tree reduces to, by a reducer of it in the mode of a walk.
-fn walk_result<'p, 'a, W: TreeWalk + Drop, G: Gate, J: Sink + Drop>(
+fn walk_result<
+    'p,
+    'a,
+    W: TreeWalk + Drop + Send,
+    G: Gate + Send,
+    J: Sink + Drop + Send,
+    T: Threads + Wait + Sync,
+>(
+    rt: &T,
     alloc: Global,
     parts: &'p TreeParts<KeepTexts<'a>>,
     reducer: TreeReducer<'p, KeepTexts<'a>, W>,
-    gate: &mut G,
+    workers: &mut [Worker<G>],
     journal: J,
 ) -> Ran<J>
     requires kept { AdmitsStart (⟦<TreeParts<KeepTexts<'a>> as HasInput>⟧.input parts.now) }
     requires plan { ⟦<Rounds<TreeRound<'p, KeepTexts<'a>, W>> as Step>⟧.plan reducer ≡ plan_first (walk_mode W.round (⟦<TreeParts<KeepTexts<'a>> as HasInput>⟧.input parts.now)) }
     requires first { ⟦<Rounds<TreeRound<'p, KeepTexts<'a>, W>> as Step>⟧.first reducer ≡ plan_first (walk_mode W.round (⟦<TreeParts<KeepTexts<'a>> as HasInput>⟧.input parts.now)) }
     requires start { IsStart (walk_mode W.round (⟦<TreeParts<KeepTexts<'a>> as HasInput>⟧.input parts.now)) (⟦<Rounds<TreeRound<'p, KeepTexts<'a>, W>> as ReducerStep>⟧.so_far reducer) }
+    requires idle { AreIdle workers.old }
     requires empty { IfSome (J.put_so_far journal) (λ put. put.bytes ≡ []) }
-    ensures answers { AreAnswers G.may_say (G.log gate.old) (G.log gate.new) (records_of result.events.items) }
-    ensures of_mode { AreOfMode (walk_mode W.round (⟦<TreeParts<KeepTexts<'a>> as HasInput>⟧.input parts.now)) (IsKept (⟦<TreeParts<KeepTexts<'a>> as HasInput>⟧.input parts.now)) result.events.items }
-    ensures ends { RunEndsIn (walk_mode W.round (⟦<TreeParts<KeepTexts<'a>> as HasInput>⟧.input parts.now)) (IsKept (⟦<TreeParts<KeepTexts<'a>> as HasInput>⟧.input parts.now)) result.events.items (G.faults gate.old) (G.faults gate.new) (J.faults journal) (J.faults result.journal) result.outcome }
-    ensures journal { JournalHas result.events.items (J.put_so_far journal) (J.put_so_far result.journal) (J.faults journal) (J.faults result.journal) result.outcome }
+    ensures idle { AreIdle workers.new }
+    ensures as_many { length workers.new ≡ length workers.old }
+    ensures answers { AreAnswers G.may_say (worker_logs G.log workers.old) (worker_logs G.log workers.new) (records_of result.events.items) }
+    ensures of_mode { AreOfMode (length workers.old) (walk_mode W.round (⟦<TreeParts<KeepTexts<'a>> as HasInput>⟧.input parts.now)) (IsKept (⟦<TreeParts<KeepTexts<'a>> as HasInput>⟧.input parts.now)) result.events.items }
+    ensures ends { RunEndsIn (length workers.old) (walk_mode W.round (⟦<TreeParts<KeepTexts<'a>> as HasInput>⟧.input parts.now)) (IsKept (⟦<TreeParts<KeepTexts<'a>> as HasInput>⟧.input parts.now)) result.events.items (worker_faults G.faults workers.old) (worker_faults G.faults workers.new) (J.faults journal) (J.faults result.journal) result.outcome }
+    ensures journal { JournalHas (length workers.old) result.events.items (J.put_so_far journal) (J.put_so_far result.journal) (J.faults journal) (J.faults result.journal) result.outcome }
 {
     walk_laws::<W>();
     parts.is_input();
-    run_to_text(alloc, reducer, gate, journal)
+    run_to_text(rt, alloc, reducer, workers, journal)
 }
 
 /// The text that the tree of an input reduces to, in this mode.
-fn tree_result<'a, G: Gate, J: Sink + Drop>(
+fn tree_result<'a, G: Gate + Send, J: Sink + Drop + Send, T: Threads + Wait + Sync>(
+    rt: &T,
     alloc: Global,
     mode: TreeMode,
     parts: &TreeParts<KeepTexts<'a>>,
-    gate: &mut G,
+    workers: &mut [Worker<G>],
     journal: J,
 ) -> Ran<J>
     requires kept { AdmitsStart (⟦<TreeParts<KeepTexts<'a>> as HasInput>⟧.input parts.now) }
+    requires idle { AreIdle workers.old }
     requires empty { IfSome (J.put_so_far journal) (λ put. put.bytes ≡ []) }
-    ensures answers { AreAnswers G.may_say (G.log gate.old) (G.log gate.new) (records_of result.events.items) }
-    ensures of_problem { (keeps : List (List ℕ)) → AreOf keeps (Problem.of_tree mode (⟦<TreeParts<KeepTexts<'a>> as HasInput>⟧.input parts.now)) result.events.items }
+    ensures idle { AreIdle workers.new }
+    ensures as_many { length workers.new ≡ length workers.old }
+    ensures answers { AreAnswers G.may_say (worker_logs G.log workers.old) (worker_logs G.log workers.new) (records_of result.events.items) }
+    ensures of_problem { (keeps : List (List ℕ)) → AreOf (length workers.old) keeps (Problem.of_tree mode (⟦<TreeParts<KeepTexts<'a>> as HasInput>⟧.input parts.now)) result.events.items }
     ensures ends { (keeps : List (List ℕ)) → (⟦<TreeParts<KeepTexts<'a>> as HasInput>⟧.input parts.now).admits ≡ keeps_admit keeps
-        → ProblemEnds keeps (Problem.of_tree mode (⟦<TreeParts<KeepTexts<'a>> as HasInput>⟧.input parts.now)) result.events.items (G.faults gate.old) (G.faults gate.new) (J.faults journal) (J.faults result.journal) result.outcome }
-    ensures journal { JournalHas result.events.items (J.put_so_far journal) (J.put_so_far result.journal) (J.faults journal) (J.faults result.journal) result.outcome }
+        → ProblemEnds (length workers.old) keeps (Problem.of_tree mode (⟦<TreeParts<KeepTexts<'a>> as HasInput>⟧.input parts.now)) result.events.items (worker_faults G.faults workers.old) (worker_faults G.faults workers.new) (J.faults journal) (J.faults result.journal) result.outcome }
+    ensures journal { JournalHas (length workers.old) result.events.items (J.put_so_far journal) (J.put_so_far result.journal) (J.faults journal) (J.faults result.journal) result.outcome }
 {
     parts.is_input();
     match mode {
         TreeMode::Perses => {
             walk_laws::<TreeVisits>();
             match perses_reducer(alloc, parts) {
-                Ok(reducer) => walk_result(alloc, parts, reducer, gate, journal),
+                Ok(reducer) => walk_result(rt, alloc, parts, reducer, workers, journal),
                 Err(_) => Ran::refused(alloc, journal, RunFault::Memory),
             }
         }
         TreeMode::Hdd => {
             walk_laws::<TreeLevels>();
             match hdd_reducer(alloc, parts) {
-                Ok(reducer) => walk_result(alloc, parts, reducer, gate, journal),
+                Ok(reducer) => walk_result(rt, alloc, parts, reducer, workers, journal),
                 Err(_) => Ran::refused(alloc, journal, RunFault::Memory),
             }
         }
     }
 }
 
-/// Reduces what was read, each keep text of which occurs in its text: the gate is asked once for each
-/// text, the history is written into the journal, and the text that it reduces to is given, with what the
-/// report says. A start whose verdict is no ends the run at once.
+/// Reduces what was read, each keep text of which occurs in its text: the gates of the workers are asked,
+/// the history is written into the journal, and the text that it reduces to is given, with what the report
+/// says. No text is recorded twice, and the gates are asked as often as there are records. A start whose
+/// verdict is no ends the run.
 ///
-/// Beside what the gate takes, an answer costs what the reducer of the mode says.
-pub fn run_problem<G: Gate, J: Sink + Drop>(
+/// Beside what a gate takes, an answer costs what the reducer of the mode says.
+pub fn run_problem<G: Gate + Send, J: Sink + Drop + Send, T: Threads + Wait + Sync>(
+    rt: &T,
     alloc: Global,
     problem: ReadProblem,
     guard: Guard<KeepTexts<'_>>,
-    gate: &mut G,
+    workers: &mut [Worker<G>],
     journal: J,
 ) -> Ran<J>
     requires ready { IsReady problem }
     requires kept { holds_all guard (start_read problem) ≡ true }
+    requires idle { AreIdle workers.old }
     requires empty { IfSome (J.put_so_far journal) (λ put. put.bytes ≡ []) }
-    ensures answers { AreAnswers G.may_say (G.log gate.old) (G.log gate.new) (records_of result.events.items) }
-    ensures of_problem { (one : Problem) → IsReadAs guard.entry problem one → AreOf guard.entry one result.events.items }
-    ensures ends { (one : Problem) → IsReadAs guard.entry problem one → ProblemEnds guard.entry one result.events.items (G.faults gate.old) (G.faults gate.new) (J.faults journal) (J.faults result.journal) result.outcome }
-    ensures journal { JournalHas result.events.items (J.put_so_far journal) (J.put_so_far result.journal) (J.faults journal) (J.faults result.journal) result.outcome }
+    ensures idle { AreIdle workers.new }
+    ensures as_many { length workers.new ≡ length workers.old }
+    ensures answers { AreAnswers G.may_say (worker_logs G.log workers.old) (worker_logs G.log workers.new) (records_of result.events.items) }
+    ensures of_problem { (one : Problem) → IsReadAs guard.entry problem one → AreOf (length workers.old) guard.entry one result.events.items }
+    ensures ends { (one : Problem) → IsReadAs guard.entry problem one → ProblemEnds (length workers.old) guard.entry one result.events.items (worker_faults G.faults workers.old) (worker_faults G.faults workers.new) (J.faults journal) (J.faults result.journal) result.outcome }
+    ensures journal { JournalHas (length workers.old) result.events.items (J.put_so_far journal) (J.put_so_far result.journal) (J.faults journal) (J.faults result.journal) result.outcome }
 {
     match problem {
-        ReadProblem::Lines(start) => lines_result(alloc, &start, &guard, gate, journal),
+        ReadProblem::Lines(start) => lines_result(rt, alloc, &start, &guard, workers, journal),
         ReadProblem::Tree {
             found,
             mode,
             squeeze,
         } => {
             match tree_parts(alloc, found, guard, squeeze) {
-                Ok(parts) => tree_result(alloc, mode, &parts, gate, journal),
+                Ok(parts) => tree_result(rt, alloc, mode, &parts, workers, journal),
                 Err(_) => Ran::refused(alloc, journal, RunFault::Memory),
             }
         }

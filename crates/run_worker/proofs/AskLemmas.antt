@@ -56,7 +56,7 @@ module _ {S J : Type 0} (plan : S → Plan) where
       let at : (n : ℕ) × (r : Record) × (record_at n (records_of state.history) ≡ Some r) × (r.text ≡ text) = numbered (records_of state.history) text v known in
       absurd (settled at.0 (none, (at.1, at.2, is ∙ ap (λ (t : List ℕ). Some t) (sym at.3))))
 
-  unrecorded : (state : BoardState S J) (text : List ℕ) → state.fault ≡ None → asked (plan state.front) ≡ Some text → IsSettled plan state → verdict_in (records_of state.history) text ≡ None
+  pub unrecorded : (state : BoardState S J) (text : List ℕ) → state.fault ≡ None → asked (plan state.front) ≡ Some text → IsSettled plan state → verdict_in (records_of state.history) text ≡ None
   unrecorded state text none is settled = unrecorded_by state text none is settled (verdict_in (records_of state.history) text) refl
 
   -- a text that no record has is free where no claim is open

@@ -6,7 +6,7 @@
 //! reducer runs:
 //!
 //! ```
-//! let outcome = run(alloc, reducer, &mut gate, journal);
+//! let outcome = run(rt, alloc, reducer, &mut gate, journal);
 //! match outcome.fault {
 //!     None => println!(rt; "{}", outcome.events.len())?,
 //!     Some(fault) => return Err(fault.into()),
@@ -17,4 +17,4 @@
 mod turns;
 mod worker;
 
-pub use worker::run;
+pub use worker::{run, run_alone};

@@ -2,16 +2,18 @@
 
 ghost use Rattle.std.specs.Prelude.{◌≡◌, ◌⊎◌, ◌<◌, ℕ, None, Option, IsFalse, IsTrue};
 ghost use Rattle.script_gate_trait.specs.declared.log.Log.{Log};
+ghost use Rattle.boxcar.specs.Table.{Shows};
 ghost use Rattle.reduce_step.specs.Plan.{HasEnded};
 ghost use Rattle.ordered_commit.specs.declared.seat.Seat.{Seat as WorkerSeat};
 ghost use Rattle.ordered_commit.specs.BoardState.{IsSettled};
 ghost use Rattle.run_worker.specs.UnderWay.{CanGoOn, IsAsking, IsFree, IsUnderWay, Moment, moment, turns_left};
 
 use edge_io::Sink;
-use gate_permits::{Permit, ask_once};
+use gate_permits::{Permit, Texts, ask_once};
 use ordered_commit::{Board, Seat, Take};
 use reduce_step::Step;
 use script_gate_trait::Gate;
+use std::sync::Wait;
 
 /// Answers the front as long as what it asks has a record. An error ends it as well: the board keeps the
 /// fault.
@@ -31,17 +33,19 @@ fn commit_all<S: Step + Drop, G: Gate, J: Sink + Drop>(board: &mut Board<S, G, J
 fn ask_and_record<S: Step + Drop, G: Gate, J: Sink + Drop>(
     board: &mut Board<S, G, J>,
     seat: &mut Seat,
+    texts: &Texts,
     gate: &mut G,
     permit: Permit,
 )
     requires asking { IsAsking S.plan permit seat.old board.old }
+    requires shows { Shows texts.now permit.token }
     ensures way { (start : Moment)
         → IsUnderWay start (moment S.first S.plan J.put_so_far J.faults board.old (G.log gate.old) (G.faults gate.old)) seat.old
         → IsUnderWay start (moment S.first S.plan J.put_so_far J.faults board.new (G.log gate.new) (G.faults gate.new)) seat.new }
     ensures free { IsFree seat.new board.new }
     ensures next { board.new.fault ≡ None → CanGoOn S.plan board.old board.new }
 {
-    match ask_once(gate, permit) {
+    match ask_once(gate, texts, permit) {
         Ok(answer) => {
             let _ = board.record(seat, answer);
         }
@@ -51,7 +55,9 @@ fn ask_and_record<S: Step + Drop, G: Gate, J: Sink + Drop>(
 
 /// Asks once, where there is something to ask, and answers the front with what is recorded then. Whether
 /// there was something.
-pub(crate) fn turn<S: Step + Drop, G: Gate, J: Sink + Drop>(
+pub(crate) fn turn<S: Step + Drop, G: Gate, J: Sink + Drop, W: Wait>(
+    rt: &W,
+    texts: &Texts,
     board: &mut Board<S, G, J>,
     seat: &mut Seat,
     gate: &mut G,
@@ -66,9 +72,9 @@ pub(crate) fn turn<S: Step + Drop, G: Gate, J: Sink + Drop>(
     ensures fewer { IsTrue result → turns_left board.new.fault (S.plan board.new.front) < turns_left board.old.fault (S.plan board.old.front) }
     ensures over { IsFalse result → board.new.fault ≡ None → HasEnded (S.plan board.new.front) }
 {
-    match board.take(seat) {
+    match board.take(rt, texts, seat) {
         Ok(Take::Work(permit)) => {
-            ask_and_record(board, seat, gate, permit);
+            ask_and_record(board, seat, texts, gate, permit);
             commit_all(board);
             true
         }

@@ -1,10 +1,12 @@
 //! The run.
 
-ghost use Rattle.std.specs.Prelude.{◌≡◌, [], IfSome, Some, option_map};
+ghost use Rattle.std.specs.Prelude.{◌≡◌, [], IfSome, None, Some, option_map};
 ghost use Rattle.verdict_table.specs.TableState.{texts_of};
 ghost use Rattle.reduce_journal.specs.History.{records_of};
 ghost use Rattle.reduce_journal.specs.Journal.{journal_text};
+ghost use Rattle.ordered_commit_moves.specs.Replay.{replay};
 ghost use Rattle.ordered_commit.specs.Faults.{board_fault};
+ghost use Rattle.ordered_commit.specs.Kept.{IsJournal};
 ghost use Rattle.ordered_commit.specs.Made.{new_board};
 ghost use Rattle.ordered_commit.specs.Seats.{new_seats};
 ghost use Rattle.ordered_commit.specs.Writes.{HasSameName};
@@ -14,10 +16,12 @@ ghost use Rattle.run_worker.specs.UnderWay.{AreJournalBytes};
 
 use crate::turns::turn;
 use edge_io::Sink;
-use ordered_commit::{Board, Outcome, Refused, Seat};
+use gate_permits::Texts;
+use ordered_commit::{Board, BoardFault, Outcome, Refused, Seat};
 use reduce_step::Step;
 use script_gate_trait::Gate;
 use std::alloc::Global;
+use std::sync::Wait;
 
 /// What there is where there was no board.
 fn without_board<S, J>(alloc: Global, refused: Refused<S, J>) -> Outcome<S, J>
@@ -39,8 +43,10 @@ fn without_board<S, J>(alloc: Global, refused: Refused<S, J>) -> Outcome<S, J>
     }
 }
 
-/// Works on a new board until nothing is left to do.
-fn work<S: Step + Drop, G: Gate, J: Sink + Drop>(
+/// Works on a new board of one worker, with its seat, until nothing is left to do, as [`run`] does.
+pub fn run_alone<S: Step + Drop, G: Gate, J: Sink + Drop, W: Wait>(
+    rt: &W,
+    texts: &Texts,
     board: Board<S, G, J>,
     seats: Vec<Seat>,
     gate: &mut G,
@@ -56,14 +62,16 @@ fn work<S: Step + Drop, G: Gate, J: Sink + Drop>(
     ensures asked { G.log gate.new ≡ option_map (with_all_asked (texts_of (records_of result.events.items))) (G.log gate.old) }
     ensures first { S.first result.front ≡ S.first board.front }
     ensures ended { ReducerEnds result.fault (S.first board.front) (S.plan result.front) (records_of result.events.items) }
+    ensures replayed { result.fault ≡ None → S.plan result.front ≡ replay (S.first board.front) result.events.items }
     ensures caused { IsCaused result.fault (G.faults gate.old) (G.faults gate.new) (J.faults board.journal) (J.faults result.journal) }
     ensures journal { IfSome (J.put_so_far result.journal) (λ put. AreJournalBytes result.fault result.events.items put.bytes) }
+    ensures kept { IfSome (J.put_so_far result.journal) (λ put. IsJournal result.fault result.events.items put.bytes) }
     ensures name { HasSameName J.put_so_far board.journal result.journal }
 {
     let mut board = board;
     let mut seats = seats;
     let mut seat = seats[0];
-    while turn(&mut board, &mut seat, gate) {}
+    while turn(rt, texts, &mut board, &mut seat, gate) {}
     seats[0] = seat;
     board.end(seats)
 }
@@ -74,7 +82,8 @@ fn work<S: Step + Drop, G: Gate, J: Sink + Drop>(
 ///
 /// Beside the answers of the reducer and of the gate, an answer costs a look into the table, which is a
 /// search of its records and a copy of the text.
-pub fn run<S: Step + Drop, G: Gate, J: Sink + Drop>(
+pub fn run<S: Step + Drop, G: Gate, J: Sink + Drop, W: Wait>(
+    rt: &W,
     alloc: Global,
     front: S,
     gate: &mut G,
@@ -96,8 +105,19 @@ pub fn run<S: Step + Drop, G: Gate, J: Sink + Drop>(
     ensures caused { IsCaused result.fault (G.faults gate.old) (G.faults gate.new) (J.faults journal) (J.faults result.journal) }
     ensures journal { JournalEnds result.fault result.events.items (J.put_so_far journal) (J.put_so_far result.journal) }
 {
+    let Ok(texts) = Texts::new(alloc) else {
+        let fault = BoardFault::Memory;
+        return without_board(
+            alloc,
+            Refused {
+                front,
+                journal,
+                fault,
+            },
+        );
+    };
     match Board::<S, G, J>::new(alloc, front, journal, 1) {
         Err(refused) => without_board(alloc, refused),
-        Ok((board, seats)) => work(board, seats, gate),
+        Ok((board, seats)) => run_alone(rt, &texts, board, seats, gate),
     }
 }

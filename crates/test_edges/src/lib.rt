@@ -1,6 +1,6 @@
-//! Tests of files, sinks and gates: in memory, over the machine and over real scripts, and over a machine
-//! that takes one byte at a time (`src/tests/machine.rt`), where what writes a part and is content with it
-//! shows.
+//! Tests of files and sinks, in memory and over the machine; of these and of the files of candidates also
+//! over a machine that takes one byte at a time (`src/tests/machine.rt`), where what writes a part and is
+//! content with it shows.
 //!
 //! A test is a table of calls with the answers that are wanted; one of real files or scripts runs in a
 //! folder of its own name, which it removes at its end.

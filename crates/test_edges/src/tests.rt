@@ -1,7 +1,7 @@
 //! Tables of calls, and what they need of the machine.
 
+mod candidates;
 mod files;
-mod gates;
 mod held;
 mod machine;
 mod sinks;

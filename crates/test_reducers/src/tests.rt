@@ -2,10 +2,12 @@
 
 mod ahead;
 mod answering;
+mod byte_round;
 mod inputs;
+mod keeps;
+mod laws;
 mod lines;
 mod looking;
-mod plain_answers;
-mod plain_lines;
 mod rounds;
 mod trees;
+mod waiting;

@@ -1,9 +1,9 @@
 //! What is ahead before the start is answered, after its yes, after further answers and at the end.
 
 use super::answering::answer_all;
+use super::byte_round::byte_reducer;
 use super::looking::{Ahead, looks_ahead, looks_ahead_so};
 use super::trees::parts_of;
-use crate::byte_round::byte_reducer;
 use keep_guard::{Guard, KeepTexts};
 use reduce_core::line_reducer;
 use reduce_trees::{hdd_reducer, perses_reducer};

@@ -1,7 +1,6 @@
 //! Runs of the reducer of lines that were worked out by hand.
 
 use super::answering::{answers, has_ended_with};
-use crate::guards::{KeepsLine, guard_of};
 use faults::Memory;
 use keep_guard::{Guard, Relation};
 use reduce_core::{LineReducer, line_reducer};
@@ -9,6 +8,7 @@ use reduce_step::TEXT_LIMIT;
 use script_gate_trait::Verdict;
 use std::alloc::Global;
 use std::test::Fail;
+use test_lists::{KeepsLine, guard_of};
 
 /// A reducer of a start of few bytes; none where it has many.
 fn reducer_of<'a, F: Relation>(

@@ -1,7 +1,7 @@
 //! Runs of the mode of bytes that were worked out by hand.
 
 use super::answering::{answers, has_ended_with};
-use crate::byte_round::byte_reducer;
+use super::byte_round::byte_reducer;
 use faults::Memory;
 use reduce_rounds::{ReducerStep, Round, Rounds};
 use reduce_step::Step;

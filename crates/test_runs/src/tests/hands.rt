@@ -1,39 +1,49 @@
 //! Workers by hand: each looks before it calls, as a worker does that has just got the board.
 
 ghost use Rattle.std.specs.Prelude.{IsTrue};
+ghost use Rattle.boxcar.specs.Table.{Shows};
 ghost use Rattle.ordered_commit.specs.BoardState.{IsSettled};
 ghost use Rattle.ordered_commit.specs.Seats.{AreFreeSeats};
 
 use crate::small_step::SmallStep;
 use edge_io::{MemSink, Sink};
 use faults::Memory;
-use gate_permits::{Answer, ask_once};
+use gate_permits::{Answer, Texts, ask_once};
 use ordered_commit::{Board, Seat, Take};
 use reduce_step::Step;
 use script_gate_trait::Gate;
 use std::alloc::Global;
+use std::sync::Wait;
+
+/// An answer, with the texts among which its text is.
+#[derive(Drop)]
+struct Asked<'a, G: Gate> {
+    texts: &'a Texts,
+    answer: Answer<G>,
+    ghost shown: { Shows texts.now answer.token },
+}
 
 /// A worker: its seat, its gate, and the answer that it has to record.
 #[derive(Drop)]
-pub(crate) struct Hand<G: Gate> {
+pub(crate) struct Hand<'a, G: Gate> {
     pub(crate) seat: Seat,
     gate: G,
-    answer: Option<Answer<G>>,
+    asked: Option<Asked<'a, G>>,
 }
 
-impl<G: Gate> Hand<G> {
-    pub(crate) fn new(seat: Seat, gate: G) -> Hand<G> {
+impl<'a, G: Gate> Hand<'a, G> {
+    pub(crate) fn new(seat: Seat, gate: G) -> Hand<'a, G> {
         Hand {
             seat,
             gate,
-            answer: None,
+            asked: None,
         }
     }
 
     /// Whether it has an answer about this text.
     pub(crate) fn asked_about(&self, text: &[u8]) -> bool {
-        match &self.answer {
-            Some(answer) => answer.text().as_slice() == text,
+        match &self.asked {
+            Some(asked) => asked.texts.value(asked.answer.token()).as_slice() == text,
             None => false,
         }
     }
@@ -67,21 +77,23 @@ fn is_settled<S: Step + Drop, G: Gate, J: Sink + Drop>(board: &mut Board<S, G, J
 }
 
 /// Takes for a worker, and asks its gate.
-pub(crate) fn take_for<G: Gate>(
+pub(crate) fn take_for<'a, G: Gate, W: Wait>(
+    rt: &W,
+    texts: &'a Texts,
     board: &mut Board<SmallStep, G, MemSink>,
-    hand: &mut Hand<G>,
+    hand: &mut Hand<'a, G>,
 ) -> Got {
     if !is_settled(board) || hand.seat.claim.is_some() || !board.agrees(&hand.seat) {
         return Got::Refused;
     }
-    match board.take(&mut hand.seat) {
+    match board.take(rt, texts, &mut hand.seat) {
         Err(_) => Got::Refused,
         Ok(Take::NotYet) => Got::NotYet,
         Ok(Take::Done) => Got::Done,
         Ok(Take::Stopped) => Got::Stopped,
-        Ok(Take::Work(permit)) => match ask_once(&mut hand.gate, permit) {
+        Ok(Take::Work(permit)) => match ask_once(&mut hand.gate, texts, permit) {
             Ok(answer) => {
-                hand.answer = Some(answer);
+                hand.asked = Some(Asked { texts, answer });
                 Got::Work
             }
             Err(unasked) => {
@@ -95,13 +107,13 @@ pub(crate) fn take_for<G: Gate>(
 /// Records the answer that the worker has, if it may. The record's number.
 pub(crate) fn record_for<G: Gate>(
     board: &mut Board<SmallStep, G, MemSink>,
-    hand: &mut Hand<G>,
+    hand: &mut Hand<'_, G>,
 ) -> Option<u64> {
-    let answer = hand.answer.take()?;
+    let Asked { texts, answer } = hand.asked.take()?;
     let claim = hand.seat.claim?;
     if claim != answer.claim()
         || !board.agrees(&hand.seat)
-        || !board.holds(claim, answer.text().as_slice())
+        || !board.holds(claim, texts.value(answer.token()).as_slice())
     {
         return None;
     }
@@ -141,7 +153,10 @@ pub(crate) fn are_free<G: Gate>(board: &Board<SmallStep, G, MemSink>, seats: &Ve
 }
 
 /// The workers' seats.
-pub(crate) fn seats_of<G: Gate>(alloc: Global, hands: &Vec<Hand<G>>) -> Result<Vec<Seat>, Memory> {
+pub(crate) fn seats_of<G: Gate>(
+    alloc: Global,
+    hands: &Vec<Hand<'_, G>>,
+) -> Result<Vec<Seat>, Memory> {
     let mut seats = Vec::new(alloc);
     for index in 0..hands.len() {
         seats.push(hands[index].seat)?;

@@ -12,11 +12,13 @@ use reduce_step::Step;
 use run_worker::run;
 use script_gate_trait::{Gate, ListGate, RuleGate, Said};
 use std::alloc::Global;
+use std::sync::Wait;
 use std::test::Fail;
 
 /// The run over this gate, with a journal that takes so many bytes, and whose puts of these numbers fail;
 /// from 1.
-fn run_over<G: Gate>(
+fn run_over<G: Gate, W: Wait>(
+    rt: &W,
     alloc: Global,
     gate: &mut G,
     size: u64,
@@ -24,41 +26,70 @@ fn run_over<G: Gate>(
 ) -> Result<Outcome<SmallStep, MemSink>, Memory> {
     let fail = Vec::from_slice(alloc, fail)?;
     let journal = MemSink::new(alloc, size, fail)?;
-    Ok(run(alloc, SmallStep::new(alloc), gate, journal))
+    Ok(run(rt, alloc, SmallStep::new(alloc), gate, journal))
+}
+
+/// What a run is to come to: its fault, how many events it has, its journal, and whether the reducer asks
+/// something then.
+#[derive(Drop)]
+struct Wanted {
+    fault: Option<PoolFault>,
+    events: usize,
+    journal: &'static [u8],
+    asks: bool,
+}
+
+/// Whether the run over this gate comes to this, with a journal that takes so many bytes.
+fn comes_to<G: Gate, W: Wait>(
+    rt: &W,
+    alloc: Global,
+    gate: &mut G,
+    size: u64,
+    wanted: &Wanted,
+) -> Result<bool, Memory> {
+    let outcome = run_over(rt, alloc, gate, size, &[])?;
+    let has_come = has_come_to(&outcome, wanted.fault, wanted.events, wanted.journal);
+    Ok(has_come && outcome.front.asks().is_some() == wanted.asks)
 }
 
 #[test]
 fn writes_each_verdict_before_it_is_used(rt: HostRuntime) -> Result<(), Fail> {
     let mut gate = RuleGate::<98>::new(rt.alloc(), true);
-    let outcome = run_over(rt.alloc(), &mut gate, 1000, &[])?;
-    assert!(rt; has_come_to(&outcome, None, 11, JOURNAL));
-    assert_eq!(rt; outcome.front.asks(), None);
-    let Some(log) = gate.log() else {
-        return Err("the gate keeps its log")?;
+    let wanted = Wanted {
+        fault: None,
+        events: 11,
+        journal: JOURNAL,
+        asks: false,
     };
-    assert_eq!(rt; log.asked.len(), 5);
+    assert!(rt; comes_to(&rt, rt.alloc(), &mut gate, 1000, &wanted)?);
+    assert_eq!(rt; gate.log().map(|log| log.asked.len()), Some(5));
     Ok(())
 }
 
 #[test]
 fn keeps_what_was_written_when_the_gate_fails(rt: HostRuntime) -> Result<(), Fail> {
     let alloc = rt.alloc();
-    let mut answers = Vec::new(alloc);
-    answers.push(Said::Yes)?;
-    answers.push(Said::No)?;
+    let answers = Vec::from_slice(alloc, &[Said::Yes, Said::No])?;
     let mut gate = ListGate::new(alloc, answers, Said::Fail);
-    let outcome = run_over(alloc, &mut gate, 1000, &[])?;
-    let journal = b"perses-journal 1\nR y 12\na=1;b=2;c=3;\nC 1\nR n 0\n\nC 2\n".as_slice();
-    assert_eq!(rt; outcome.fault, Some(PoolFault::Script { worker: 1 }));
-    assert_eq!(rt; outcome.journal.bytes(), journal);
+    let wanted = Wanted {
+        fault: Some(PoolFault::Script { worker: 1 }),
+        events: 4,
+        journal: b"perses-journal 1\nR y 12\na=1;b=2;c=3;\nC 1\nR n 0\n\nC 2\n",
+        asks: true,
+    };
+    assert!(rt; comes_to(&rt, alloc, &mut gate, 1000, &wanted)?);
     assert_eq!(rt; gate.log().asked.len(), 2);
     Ok(())
 }
 
 /// The bytes that the journal has, and the fault, where the put of this number fails; from 1.
-fn broken_at(alloc: Global, put: u64) -> Result<(MemSink, Option<PoolFault>), Memory> {
+fn broken_at<W: Wait>(
+    rt: &W,
+    alloc: Global,
+    put: u64,
+) -> Result<(MemSink, Option<PoolFault>), Memory> {
     let mut gate = RuleGate::<98>::new(alloc, false);
-    let outcome = run_over(alloc, &mut gate, 1000, &[put])?;
+    let outcome = run_over(rt, alloc, &mut gate, 1000, &[put])?;
     Ok((outcome.journal, outcome.fault))
 }
 
@@ -67,19 +98,19 @@ const PUTS: u64 = 22;
 
 #[test]
 fn stops_where_the_journal_breaks_off(rt: HostRuntime) -> Result<(), Fail> {
-    let (journal, fault) = broken_at(rt.alloc(), 5)?;
+    let (journal, fault) = broken_at(&rt, rt.alloc(), 5)?;
     assert_eq!(rt; fault, Some(PoolFault::Journal));
     assert_eq!(rt;
         journal.bytes(),
         b"perses-journal 1\nR y 12\na=1;b=2;c=3;\n".as_slice()
     );
     for put in 1..PUTS + 1 {
-        let (journal, fault) = broken_at(rt.alloc(), put)?;
+        let (journal, fault) = broken_at(&rt, rt.alloc(), put)?;
         assert_eq!(rt; fault, Some(PoolFault::Journal));
         assert_eq!(rt; JOURNAL.starts_with(journal.bytes()), true);
         assert_eq!(rt; read_journal(rt.alloc(), journal.bytes()).is_ok(), put > 1);
     }
-    let (journal, fault) = broken_at(rt.alloc(), PUTS + 1)?;
+    let (journal, fault) = broken_at(&rt, rt.alloc(), PUTS + 1)?;
     assert_eq!(rt; fault, None);
     assert_eq!(rt; journal.bytes(), JOURNAL);
     Ok(())
@@ -88,9 +119,12 @@ fn stops_where_the_journal_breaks_off(rt: HostRuntime) -> Result<(), Fail> {
 #[test]
 fn hands_all_back_where_the_first_line_does_not_fit(rt: HostRuntime) -> Result<(), Fail> {
     let mut gate = RuleGate::<98>::new(rt.alloc(), true);
-    let outcome = run_over(rt.alloc(), &mut gate, 10, &[])?;
-    assert_eq!(rt; outcome.fault, Some(PoolFault::Journal));
-    assert_eq!(rt; outcome.events.len(), 0);
-    assert_eq!(rt; outcome.front.asks().is_some(), true);
+    let wanted = Wanted {
+        fault: Some(PoolFault::Journal),
+        events: 0,
+        journal: b"",
+        asks: true,
+    };
+    assert!(rt; comes_to(&rt, rt.alloc(), &mut gate, 10, &wanted)?);
     Ok(())
 }

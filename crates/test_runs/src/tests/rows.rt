@@ -4,9 +4,11 @@ use super::hands::{Got, Hand, are_free, commits, record_for, seats_of, take_for}
 use crate::small_step::SmallStep;
 use edge_io::MemSink;
 use faults::Memory;
+use gate_permits::Texts;
 use ordered_commit::{Board, Outcome, Seat};
 use script_gate_trait::{Gate, RuleGate};
 use std::alloc::Global;
+use std::sync::Wait;
 
 /// What is done, with what is wanted. Workers count from 0.
 #[derive(Clone, Copy)]
@@ -48,14 +50,18 @@ impl From<Memory> for Other {
 }
 
 /// Whether it goes as the row wants, for the worker of a row about one.
-fn goes_for<G: Gate>(
+fn goes_for<'a, G: Gate, W: Wait>(
+    rt: &W,
+    texts: &'a Texts,
     board: &mut Board<SmallStep, G, MemSink>,
-    hand: &mut Hand<G>,
+    hand: &mut Hand<'a, G>,
     row: Row,
 ) -> bool {
     match row {
-        Row::Works(_, text) => take_for(board, hand) == Got::Work && hand.asked_about(text),
-        Row::Gets(_, got) => take_for(board, hand) == got,
+        Row::Works(_, text) => {
+            take_for(rt, texts, board, hand) == Got::Work && hand.asked_about(text)
+        }
+        Row::Gets(_, got) => take_for(rt, texts, board, hand) == got,
         Row::Records(_, number) => record_for(board, hand) == Some(number),
         Row::Unwritten(_, records) => {
             record_for(board, hand).is_none() && hand.seat.records == records
@@ -65,9 +71,11 @@ fn goes_for<G: Gate>(
 }
 
 /// Whether it goes as the row wants.
-fn goes<G: Gate>(
+fn goes<'a, G: Gate, W: Wait>(
+    rt: &W,
+    texts: &'a Texts,
     board: &mut Board<SmallStep, G, MemSink>,
-    hands: &mut Vec<Hand<G>>,
+    hands: &mut Vec<Hand<'a, G>>,
     row: Row,
 ) -> bool {
     let worker = match row {
@@ -78,19 +86,21 @@ fn goes<G: Gate>(
         | Row::Unwritten(worker, _) => worker,
     };
     match hands.get_mut(worker) {
-        Some(hand) => goes_for(board, hand, row),
+        Some(hand) => goes_for(rt, texts, board, hand, row),
         None => false,
     }
 }
 
 /// The number, from 0, of the first row that goes otherwise.
-fn first_other<G: Gate>(
+fn first_other<'a, G: Gate, W: Wait>(
+    rt: &W,
+    texts: &'a Texts,
     board: &mut Board<SmallStep, G, MemSink>,
-    hands: &mut Vec<Hand<G>>,
+    hands: &mut Vec<Hand<'a, G>>,
     rows: &[Row],
 ) -> Option<usize> {
     for index in 0..rows.len() {
-        if !goes(board, hands, rows[index]) {
+        if !goes(rt, texts, board, hands, rows[index]) {
             return Some(index);
         }
     }
@@ -98,12 +108,12 @@ fn first_other<G: Gate>(
 }
 
 /// The two workers, with these gates.
-fn hands_of<G: Gate + Drop>(
+fn hands_of<'a, G: Gate + Drop>(
     alloc: Global,
     seats: &[Seat],
     first: G,
     second: G,
-) -> Result<Vec<Hand<G>>, Other> {
+) -> Result<Vec<Hand<'a, G>>, Other> {
     let (Some(one), Some(two)) = (seats.first(), seats.get(1)) else {
         return Err(Other::NoBoard);
     };
@@ -133,7 +143,7 @@ fn new_board<G: Gate>(
 fn outcome_of<G: Gate>(
     alloc: Global,
     board: Board<SmallStep, G, MemSink>,
-    hands: &Vec<Hand<G>>,
+    hands: &Vec<Hand<'_, G>>,
 ) -> Result<Outcome<SmallStep, MemSink>, Other> {
     let seats = seats_of(alloc, hands)?;
     if !are_free(&board, &seats) {
@@ -144,28 +154,33 @@ fn outcome_of<G: Gate>(
 
 /// What a board of two workers with these gates comes to by the rows, of which each is to go as it says.
 /// The puts of these numbers into its journal fail, from 1.
-pub(crate) fn outcome_by<G: Gate + Drop>(
+pub(crate) fn outcome_by<G: Gate + Drop, W: Wait>(
+    rt: &W,
     alloc: Global,
     fail: Vec<u64>,
     first: G,
     second: G,
     rows: &[Row],
 ) -> Result<Outcome<SmallStep, MemSink>, Other> {
+    let Ok(texts) = Texts::new(alloc) else {
+        return Err(Other::Memory);
+    };
     let (mut board, seats) = new_board(alloc, fail)?;
     let mut hands = hands_of(alloc, &seats, first, second)?;
-    match first_other(&mut board, &mut hands, rows) {
+    match first_other(rt, &texts, &mut board, &mut hands, rows) {
         Some(index) => Err(Other::Row(index)),
         None => outcome_of(alloc, board, &hands),
     }
 }
 
 /// The same, where each gate says yes to what has a `b`.
-pub(crate) fn outcome_with_b(
+pub(crate) fn outcome_with_b<W: Wait>(
+    rt: &W,
     alloc: Global,
     fail: Vec<u64>,
     rows: &[Row],
 ) -> Result<Outcome<SmallStep, MemSink>, Other> {
     let first = RuleGate::<98>::new(alloc, false);
     let second = RuleGate::<98>::new(alloc, false);
-    outcome_by(alloc, fail, first, second, rows)
+    outcome_by(rt, alloc, fail, first, second, rows)
 }

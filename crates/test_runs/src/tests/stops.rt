@@ -5,8 +5,10 @@ use super::outcomes::has_come_to;
 use super::rows::{Row, outcome_by, outcome_with_b};
 use crate::small_step::SmallStep;
 use edge_io::MemSink;
+use faults::Memory;
 use ordered_commit::{Board, BoardFault, PoolFault};
 use script_gate_trait::{ListGate, RuleGate, Said};
+use std::alloc::Global;
 use std::test::Fail;
 
 /// While the second worker has a claim the script of the first one fails: the second one's record is
@@ -30,7 +32,7 @@ fn keeps_the_fault_of_a_script(rt: HostRuntime) -> Result<(), Fail> {
     answers.push(Said::Yes)?;
     let first = ListGate::new(alloc, answers, Said::Fail);
     let second = ListGate::new(alloc, Vec::new(alloc), Said::No);
-    let outcome = outcome_by(alloc, Vec::new(alloc), first, second, &FAILS)?;
+    let outcome = outcome_by(&rt, alloc, Vec::new(alloc), first, second, &FAILS)?;
     let journal = b"perses-journal 1\nR y 12\na=1;b=2;c=3;\nC 1\nR n 0\n\n".as_slice();
     let fault = PoolFault::Script { worker: 1 };
     assert!(rt; has_come_to(&outcome, Some(fault), 3, journal));
@@ -47,26 +49,31 @@ fn makes_a_record_that_cannot_be_written(rt: HostRuntime) -> Result<(), Fail> {
         Row::Gets(1, Got::Stopped),
     ];
     let fail = Vec::from_slice(rt.alloc(), &[3])?;
-    let outcome = outcome_with_b(rt.alloc(), fail, &rows)?;
+    let outcome = outcome_with_b(&rt, rt.alloc(), fail, &rows)?;
     let journal = b"perses-journal 1\nR y 12\n".as_slice();
     assert!(rt; has_come_to(&outcome, Some(PoolFault::Journal), 1, journal));
     Ok(())
 }
 
-#[test]
-fn hands_the_journal_back_where_its_head_cannot_be_put(rt: HostRuntime) -> Result<(), Fail> {
-    let alloc = rt.alloc();
-    let journal = MemSink::new(alloc, 10, Vec::new(alloc))?;
+/// Why there is no board over a journal that takes so many bytes, and how many it has then; nothing where
+/// there is one.
+fn refused_at(alloc: Global, size: u64) -> Result<Option<(BoardFault, usize)>, Memory> {
+    let journal = MemSink::new(alloc, size, Vec::new(alloc))?;
     let made = Board::<SmallStep, RuleGate<98>, MemSink>::new(
         alloc,
         SmallStep::new(alloc),
         journal,
         2,
     );
-    let Err(refused) = made else {
-        return Err("there is no board")?;
-    };
-    assert_eq!(rt; refused.fault, BoardFault::Journal);
-    assert_eq!(rt; refused.journal.bytes().len(), 0);
+    match made {
+        Ok(_) => Ok(None),
+        Err(refused) => Ok(Some((refused.fault, refused.journal.bytes().len()))),
+    }
+}
+
+#[test]
+fn hands_the_journal_back_where_its_head_cannot_be_put(rt: HostRuntime) -> Result<(), Fail> {
+    let refused = refused_at(rt.alloc(), 10)?;
+    assert_eq!(rt; refused, Some((BoardFault::Journal, 0)));
     Ok(())
 }

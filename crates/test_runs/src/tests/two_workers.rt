@@ -32,7 +32,7 @@ const ROWS: [Row; 17] = [
 
 #[test]
 fn commits_in_the_order_of_the_front(rt: HostRuntime) -> Result<(), Fail> {
-    let outcome = outcome_with_b(rt.alloc(), Vec::new(rt.alloc()), &ROWS)?;
+    let outcome = outcome_with_b(&rt, rt.alloc(), Vec::new(rt.alloc()), &ROWS)?;
     assert!(rt; has_come_to(&outcome, None, 11, JOURNAL));
     Ok(())
 }

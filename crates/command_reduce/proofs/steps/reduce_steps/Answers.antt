@@ -1,23 +1,45 @@
-use Rattle.std.proofs.Common.{refl}
+use Rattle.std.proofs.Common.{◌++◌, drop, length, refl, sym, take}
 use Rattle.command_reduce.specs.Reduce.{Inside}
 use Rattle.command_words.specs.Lines.{reduce_read}
-use Rattle.command_ends.specs.World.{seen}
+use Rattle.command_ends.specs.World.{seen, seen_gates}
+use Rattle.run_gated.specs.Workers.{worker_faults, worker_logs}
 use Rattle.command_reduce.proofs.CommandLemmas.{steps_end, stops_accept}
+use Rattle.command_reduce.proofs.LentLemmas.{back_idle, back_many, lent_first, lent_idle, lent_many}
 use Rattle.command_reduce.proofs.steps.reduce_steps.Goals as goal
 
-pub returns-in-Err : goal.returns-in-Err
-returns-in-Err g c =
+pub returns-in-Err-clause-steps : goal.returns-in-Err-clause-steps
+returns-in-Err-clause-steps g c =
     let old : Inside =
-    record { files = seen g.F.Files.content g.F.Files.faults c.args.files.now; gate = seen g.G.Gate.log g.G.Gate.faults c.args.gate.now; journal = seen g.J.Sink.put_so_far g.J.Sink.faults c.args.journal } in
+    record { files = seen g.F.Files.content g.F.Files.faults c.args.files.now; gates = seen_gates g.G.Gate.log g.G.Gate.faults c.args.workers.now; journal = seen g.J.Sink.put_so_far g.J.Sink.faults c.args.journal } in
     let new : Inside = record old { files = seen g.F.Files.content g.F.Files.faults c.accept.new.files } in
     stops_accept (reduce_read c.args.line.now) g.G.Gate.may_say c.new.result.items old new c.new.ensures.items refl refl c.accept.ensures.same c.in-Err.refusal c.in-Err.ensures.refused
 
-pub returns-in-Ok : goal.returns-in-Ok
-returns-in-Ok g c =
-    let old : Inside =
-    record { files = seen g.F.Files.content g.F.Files.faults c.args.files.now; gate = seen g.G.Gate.log g.G.Gate.faults c.args.gate.now; journal = seen g.J.Sink.put_so_far g.J.Sink.faults c.args.journal } in
+pub reduce_start-journal-requires-clause-idle : goal.reduce_start-journal-requires-clause-idle
+reduce_start-journal-requires-clause-idle g c κs within = lent_idle c.args.workers.now c.args.line.now.jobs c.requires.idle c.requires.enough c.requires.least
+
+pub reduce_start-journal-requires-clause-jobs : goal.reduce_start-journal-requires-clause-jobs
+reduce_start-journal-requires-clause-jobs g c κs within = lent_many c.args.workers.now c.args.line.now.jobs c.requires.idle c.requires.enough
+
+pub returns-in-Ok-clause-idle : goal.returns-in-Ok-clause-idle
+returns-in-Ok-clause-idle g c = back_idle c.args.workers.now c.args.line.now.jobs c.requires.idle c.requires.enough c.reduce_start-journal.new.workers c.reduce_start-journal.ensures.as_many c.reduce_start-journal.ensures.idle
+
+pub returns-in-Ok-clause-as_many : goal.returns-in-Ok-clause-as_many
+returns-in-Ok-clause-as_many g c = back_many c.args.workers.now c.args.line.now.jobs c.requires.idle c.requires.enough c.reduce_start-journal.new.workers c.reduce_start-journal.ensures.as_many
+
+pub returns-in-Ok-clause-steps : goal.returns-in-Ok-clause-steps
+returns-in-Ok-clause-steps g c =
+    let jobs = c.args.line.now.jobs in
+    let workers = c.args.workers.now in
     let ran = c.reduce_start-journal in
-    let new : Inside =
-    record { files = seen g.F.Files.content g.F.Files.faults c.write_result-outcome.new.files; gate = seen g.G.Gate.log g.G.Gate.faults ran.new.gate; journal = seen g.J.Sink.put_so_far g.J.Sink.faults ran.result.journal } in
-    steps_end (reduce_read c.args.line.now) g.G.Gate.may_say ran.result.events.items old new (seen g.F.Files.content g.F.Files.faults c.accept.new.files) c.in-Ok.problem c.in-Ok.guard ran.result.outcome c.write_result-outcome.result
-    c.in-Ok.ensures.problem c.in-Ok.ensures.guard c.in-Ok.ensures.kept c.accept.ensures.same c.in-Ok.ensures.quiet ran.ensures.sound ran.ensures.of_problem ran.ensures.ends ran.ensures.journal c.write_result-outcome.ensures
+    let old : Inside =
+    record { files = seen g.F.Files.content g.F.Files.faults c.args.files.now; gates = seen_gates g.G.Gate.log g.G.Gate.faults workers; journal = seen g.J.Sink.put_so_far g.J.Sink.faults c.args.journal } in
+    let new : Inside = record {
+      files = seen g.F.Files.content g.F.Files.faults c.write_result-outcome.new.files;
+      gates = seen_gates g.G.Gate.log g.G.Gate.faults (ran.new.workers ++ drop jobs workers);
+      journal = seen g.J.Sink.put_so_far g.J.Sink.faults ran.result.journal;
+    } in
+    steps_end (reduce_read c.args.line.now) g.G.Gate.may_say ran.result.events.items old new (worker_logs g.G.Gate.log (take jobs workers)) (worker_logs g.G.Gate.log ran.new.workers) (worker_faults g.G.Gate.faults (take jobs workers)) (worker_faults g.G.Gate.faults ran.new.workers)
+    (seen g.F.Files.content g.F.Files.faults c.accept.new.files) c.in-Ok.problem c.in-Ok.guard (length (take jobs workers)) ran.result.outcome c.write_result-outcome.result
+    (lent_first workers jobs c.requires.idle c.requires.enough ran.new.workers ran.ensures.as_many (reduce_read c.args.line.now) refl g.G.Gate.log g.G.Gate.faults)
+    (sym (lent_many workers jobs c.requires.idle c.requires.enough)) c.in-Ok.ensures.problem c.in-Ok.ensures.guard c.in-Ok.ensures.kept c.accept.ensures.same c.in-Ok.ensures.quiet ran.ensures.sound ran.ensures.of_problem ran.ensures.ends ran.ensures.journal
+    c.write_result-outcome.ensures

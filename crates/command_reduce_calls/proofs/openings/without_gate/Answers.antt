@@ -5,4 +5,4 @@ pub returns-clause-journal : goal.returns-clause-journal
 returns-clause-journal g c = c.refused.ensures.journal
 
 pub returns-clause-outcome : goal.returns-clause-outcome
-returns-clause-outcome g c = c.refused.ensures.outcome ∙ ap (λ f. Err f) c.into.ensures
+returns-clause-outcome g c = c.refused.ensures.outcome ∙ ap (λ f. Err f) c.of_gate.ensures

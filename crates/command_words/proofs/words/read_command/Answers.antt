@@ -4,11 +4,11 @@ use Rattle.command_words.proofs.Assembled.{normal_asked, nothing_asked, reduce_a
 use Rattle.command_words.proofs.words.read_command.Goals as goal
 
 pub returns-in-None-clause-line : goal.returns-in-None-clause-line
-returns-in-None-clause-line c = reduce_asked c.args.name.now (map string_bytes c.args.words.now) None (sym c.if-eq.ensures) (rw c.in-None.is at c.in_ok-read_reduce.ensures)
+returns-in-None-clause-line c = reduce_asked c.args.name.now (map string_bytes c.args.words.now) None (sym c.if-eq.ensures) (rw c.in-None.is at c.in_ok-read_reduce.ensures.line)
 
 pub returns-in-Some-clause-line : goal.returns-in-Some-clause-line
 returns-in-Some-clause-line c =
-    reduce_asked c.args.name.now (map string_bytes c.args.words.now) (Some (reduce_read c.in-Some.line)) (sym c.if-eq.ensures) (rw c.in-Some.is at c.in_ok-read_reduce.ensures)
+    reduce_asked c.args.name.now (map string_bytes c.args.words.now) (Some (reduce_read c.in-Some.line)) (sym c.if-eq.ensures) (rw c.in-Some.is at c.in_ok-read_reduce.ensures.line)
 
 pub returns-in-None-2-clause-line : goal.returns-in-None-2-clause-line
 returns-in-None-2-clause-line c =

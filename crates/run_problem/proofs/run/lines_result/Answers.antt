@@ -1,4 +1,4 @@
-use Rattle.std.proofs.Common.{ap}
+use Rattle.std.proofs.Common.{length, ap}
 use Rattle.reduce_journal.specs.History.{records_of}
 use Rattle.reduce_core.proofs.LineLaws.{line_lawful}
 use Rattle.run_problem.specs.Problem.{Problem}
@@ -9,15 +9,15 @@ pub returns-in-Err-clause-answers : goal.returns-in-Err-clause-answers
 returns-in-Err-clause-answers g c = none_answers g.G.Gate.may_say (records_of c.refused.result.events.items) _ (ap records_of c.refused.ensures.events)
 
 pub returns-in-Err-clause-of_problem : goal.returns-in-Err-clause-of_problem
-returns-in-Err-clause-of_problem g c = none_of c.args.guard.now (Problem.of_lines c.args.start.now) c.refused.result.events.items c.refused.ensures.events
+returns-in-Err-clause-of_problem g c = none_of (length c.args.workers.now) c.args.guard.now (Problem.of_lines c.args.start.now) c.refused.result.events.items c.refused.ensures.events
 
 pub returns-in-Ok-clause-of_problem : goal.returns-in-Ok-clause-of_problem
 returns-in-Ok-clause-of_problem g c =
     let input = lines_of c.args.guard.now c.args.start.now in
-    are_of c.args.guard.now c.args.start.now c.run_to_text.result.events.items
+    are_of c.args.guard.now (length c.args.workers.now) c.args.start.now c.run_to_text.result.events.items
     (c.run_to_text.ensures.of_mode input c.in-Ok.ensures.first (line_lawful input).keeps (admits_start c.args.guard.now c.args.start.now c.requires.kept))
 
 pub returns-in-Ok-clause-ends : goal.returns-in-Ok-clause-ends
 returns-in-Ok-clause-ends g c =
-    lines_end c.args.guard.now c.is_by_rounds.ensures c.args.start.now c.run_to_text.result.events.items c.ends_minimal.ensures c.requires.kept _ _ _ _ c.run_to_text.result.outcome
+    lines_end c.args.guard.now (length c.args.workers.now) c.is_by_rounds.ensures c.args.start.now c.run_to_text.result.events.items c.ends_minimal.ensures c.requires.kept _ _ _ _ c.run_to_text.result.outcome
     (c.run_to_text.ensures.ends (lines_of c.args.guard.now c.args.start.now) c.in-Ok.ensures.first c.in-Ok.ensures.start)

@@ -2,10 +2,10 @@ use Rattle.run_worker.proofs.AskLemmas.{claim_way, is_asking}
 use Rattle.run_worker.proofs.LeftLemmas.{fewer_by_turn}
 use Rattle.run_worker.proofs.turns.turn.Goals as goal
 
-pub ask_and_record-requires : goal.ask_and_record-requires
-ask_and_record-requires g c =
+pub ask_and_record-requires-clause-asking : goal.ask_and_record-requires-clause-asking
+ask_and_record-requires-clause-asking g c =
     let claimed = rw c.in-Ok-Work.field-0-is at c.in-Ok-Work.ensures.ends in
-    record { asking = is_asking g.S.Step.plan c.in-Ok-Work.permit c.args.seat.now c.take.new.seat c.args.board.now c.take.new.self c.requires.free c.requires.settled claimed }
+    is_asking g.S.Step.plan c.in-Ok-Work.permit c.args.seat.now c.take.new.seat c.args.board.now c.take.new.self c.requires.free c.requires.settled claimed
 
 pub returns-in-Ok-Work-clause-way : goal.returns-in-Ok-Work-clause-way
 returns-in-Ok-Work-clause-way g c = λ start before.

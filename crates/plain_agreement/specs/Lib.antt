@@ -1,3 +1,0 @@
-pub use Rattle.plain_reducer.specs.Results
-pub use Rattle.plain_reducer.specs.Verdicts
-pub mod RoundsOf

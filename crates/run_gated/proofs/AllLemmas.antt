@@ -1,0 +1,188 @@
+-- What a run of all workers is to its caller: of one worker, or of several.
+use Rattle.std.proofs.Common.{arith, ◌≡◌, ◌≢◌, ◌≤◌, ◌<◌, ◌++◌, inl, inr, ℕ, suc, List, [], ◌∷◌, Option, Some, None, IfSome, length, map, option_map, slice_index_or, sum, refl, sym, ap, ◌∙◌, subst}
+use Rattle.std.specs.List.{range_with_len}
+use Rattle.faults.specs.Count.{Rose}
+use Rattle.edge_io.specs.Sink.{Put}
+use Rattle.script_gate_trait.specs.declared.gate.Verdict.{Verdict}
+use Rattle.script_gate_trait.specs.declared.log.Log.{Log}
+use Rattle.reduce_step.specs.Plan.{Plan}
+use Rattle.reduce_journal.specs.History.{History}
+use Rattle.reduce_journal.specs.Journal.{journal_text}
+use Rattle.ordered_commit.specs.declared.fault.PoolFault.{PoolFault}
+use Rattle.ordered_commit.specs.declared.fault.PoolFault.TheVariants.{Script, Journal, Memory}
+use Rattle.ordered_commit.specs.declared.fault.BoardFault.{BoardFault}
+use Rattle.ordered_commit.specs.declared.fault.BoardFault.TheVariants as board
+use Rattle.ordered_commit.specs.declared.outcome.Outcome.{Outcome}
+use Rattle.ordered_commit.specs.BoardState.{BoardState}
+use Rattle.ordered_commit.specs.Faults.{board_fault}
+use Rattle.ordered_commit.specs.Kept.{BrokeOff, IsJournal}
+use Rattle.run_worker.specs.RunHistory.{with_all_asked}
+use Rattle.run_worker.specs.RunEnds.{HasSameName, HasWritten, JournalEnds}
+use Rattle.run_worker.specs.UnderWay.{AreJournalBytes}
+use Rattle.run_worker.proofs.EndLemmas.{none_asked, none_history, none_sequential}
+use Rattle.worker_pool.specs.declared.worker.Worker.{Worker}
+use Rattle.worker_pool.specs.Ends.{AreDone, IsOfOne, IsOutcome}
+use Rattle.worker_pool.specs.Runs.{members}
+use Rattle.run_gated.specs.Records.{AreAsked, all_asked}
+use Rattle.run_gated.specs.Workers.{AreIdle, BrokeBy, IsCausedBy, IsQuietBut, IsRunBy, JournalLeft, RoseAt, WaitsAt, worker_faults, worker_logs}
+use Rattle.run_gated.proofs.ShareLemmas.{all_quiet}
+use Rattle.run_gated.proofs.PoolLemmas.{named_failed, none_failed, several_asked}
+use Rattle.run_gated.proofs.RunLemmas.{caused_by, one_left, one_ran, run_from}
+
+-- where nothing is asked
+abbrev pub no_asks : List (Option Log) → List (List (List ℕ))
+no_asks [] = []
+no_asks (log ∷ logs) = [] ∷ no_asks logs
+
+one_each : (logs : List (Option Log)) → length (no_asks logs) ≡ length logs
+one_each [] = refl
+one_each (log ∷ logs) = ap (λ (n : ℕ). suc n) (one_each logs)
+
+none_in_all : (logs : List (Option Log)) → sum (map (λ (share : List (List ℕ)). length share) (no_asks logs)) ≡ 0
+none_in_all [] = refl
+none_in_all (log ∷ logs) = none_in_all logs
+
+none_alone : (logs : List (Option Log)) → length logs ≡ 1 → no_asks logs ≡ [] ∷ []
+none_alone [] one = absurd (omega (arith, one))
+none_alone (log ∷ []) one = refl
+none_alone (log ∷ log' ∷ logs) one = absurd (omega (arith, one))
+
+all_as_before : (logs : List (Option Log)) → logs ≡ all_asked (no_asks logs) logs
+all_as_before [] = refl
+all_as_before (log ∷ logs) = ap (λ (l : Option Log). l ∷ logs) (none_asked log) ∙ ap (λ (ls : List (Option Log)). option_map (with_all_asked []) log ∷ ls) (all_as_before logs)
+
+pub nothing_asked : (logs : List (Option Log)) → AreAsked [] logs logs
+nothing_asked logs = record {
+  shares = no_asks logs;
+  one_each = one_each logs;
+  total = none_in_all logs;
+  alone = none_alone logs;
+  asked = all_as_before logs;
+}
+
+waits_at : (fault : BoardFault) (first : Plan) → WaitsAt (Some (board_fault fault)) first []
+waits_at board.Journal first = tt
+waits_at board.Memory first = tt
+
+quiet_but : (fault : BoardFault) (gates : List ℕ) → IsQuietBut (Some (board_fault fault)) gates gates
+quiet_but board.Journal gates = refl
+quiet_but board.Memory gates = refl
+
+nothing_ran : (workers : ℕ) (may_say : List ℕ → Verdict → Type 0) (first last : Plan) (fault : BoardFault) (logs : List (Option Log)) (gates : List ℕ) → IsRunBy workers may_say first last (Some (board_fault fault)) [] logs logs gates gates
+nothing_ran workers may_say first last fault logs gates = record {
+  history_of = none_history may_say first [] refl;
+  start = λ _. (tt, tt);
+  asked = nothing_asked logs;
+  ended = λ none. absurd (cc none);
+  alone = λ _. record { sequential = none_sequential fault first (Some (board_fault fault)) [] refl refl; waits = waits_at fault first; quiet = quiet_but fault gates };
+}
+
+-- a run without a board
+pub refused_ran : (workers : ℕ) (may_say : List ℕ → Verdict → Type 0) (first last : Plan) (refused : BoardFault) (fault : Option PoolFault) (history : History) (logs : List (Option Log)) (gates : List ℕ) → fault ≡ Some (board_fault refused) → history ≡ []
+    → IsRunBy workers may_say first last fault history logs logs gates gates
+refused_ran workers may_say first last refused fault history logs gates is none =
+    subst (λ (f : Option PoolFault). IsRunBy workers may_say first last f history logs logs gates gates) (sym is)
+    (subst (λ (h : History). IsRunBy workers may_say first last (Some (board_fault refused)) h logs logs gates gates) (sym none) (nothing_ran workers may_say first last refused logs gates))
+
+-- the journal, which was empty, has the whole history
+written : (history : History) (old new : Option Put) → HasSameName old new → IfSome old (λ put. put.bytes ≡ []) → IfSome new (λ put. put.bytes ≡ journal_text history) → HasWritten history old new
+written history None None same empty bytes = refl
+written history None (Some put) same empty bytes = absurd (cc same)
+written history (Some put) None same empty bytes = absurd (cc same)
+written history (Some old) (Some new) same empty bytes =
+    let names : Some new.name ≡ Some old.name = same in
+    let name : new.name ≡ old.name = cc names in
+    let put_of : List ℕ → List ℕ → Put = λ bytes name. record { bytes = bytes; name = name } in
+    ap (λ (b : List ℕ). Some (put_of b new.name)) (bytes ∙ ap (λ (b : List ℕ). b ++ journal_text history) (sym empty)) ∙ ap (λ (n : List ℕ). Some (put_of (old.bytes ++ journal_text history) n)) name
+
+one_ends : (fault : Option PoolFault) (history : History) (old new : Option Put) → HasSameName old new → IfSome old (λ put. put.bytes ≡ []) → IfSome new (λ put. AreJournalBytes fault history put.bytes) → JournalEnds fault history old new
+one_ends None history old new same empty bytes = written history old new same empty bytes
+one_ends (Some (Script worker)) history old new same empty bytes = written history old new same empty bytes
+one_ends (Some Journal) history old new same empty bytes = (same, inr bytes)
+one_ends (Some Memory) history old new same empty bytes = inl (written history old new same empty bytes)
+
+broke_by : (workers : ℕ) (history : History) (new : Option Put) → workers ≢ 1 → IfSome new (λ put. BrokeOff history put.bytes) → IfSome new (λ put. BrokeBy workers history put.bytes)
+broke_by workers history None several broke = tt
+broke_by workers history (Some put) several broke = (λ one. absurd (several one), λ _. broke)
+
+several_left : (workers : ℕ) (fault : Option PoolFault) (history : History) (old new : Option Put) → workers ≢ 1 → HasSameName old new → IfSome old (λ put. put.bytes ≡ []) → IfSome new (λ put. IsJournal fault history put.bytes) → JournalLeft workers fault history old new
+several_left workers None history old new several same empty bytes = written history old new same empty bytes
+several_left workers (Some (Script worker)) history old new several same empty bytes = written history old new same empty bytes
+several_left workers (Some Journal) history old new several same empty bytes = (same, inr (broke_by workers history new several bytes))
+several_left workers (Some Memory) history old new several same empty bytes = inl (written history old new same empty bytes)
+
+-- why several ended
+several_caused : (fault : Option PoolFault) (gates gates' : List ℕ) (journal journal' : ℕ) → (fault ≡ None → gates' ≡ gates) → ((worker : ℕ) → fault ≡ Some (Script worker) → RoseAt worker gates gates')
+    → (fault ≡ Some Journal → Rose journal journal') → (fault ≢ Some Journal → journal' ≡ journal) → IsCausedBy fault gates gates' journal journal'
+several_caused None gates gates' journal journal' none named rose quiet = (none refl, quiet (λ is. cc is))
+several_caused (Some (Script worker)) gates gates' journal journal' none named rose quiet = (named worker refl, quiet (λ is. cc is))
+several_caused (Some Journal) gates gates' journal journal' none named rose quiet = rose refl
+several_caused (Some Memory) gates gates' journal journal' none named rose quiet = quiet (λ is. cc is)
+
+module _ {S J G : Type 0} (plan first : S → Plan) (may_say : List ℕ → Verdict → Type 0) (put_so_far : J → Option Put) (journal_faults : J → ℕ) (log : G → Option Log) (faults : G → ℕ) (made : BoardState S J) (outcome : Outcome S J) where
+  -- what one worker comes to, where there is one
+  abbrev pub OfOne : List (Worker G) → List (Worker G) → Type 0
+  OfOne old new = length old ≡ 1 → (d : Worker G) → IsOfOne plan log faults put_so_far journal_faults (members first put_so_far journal_faults 1 made) outcome (slice_index_or old 0 d) (slice_index_or new 0 d)
+
+  abbrev pub OfAll : List (Worker G) → Type 0
+  OfAll old = IsOutcome plan first may_say put_so_far journal_faults (members first put_so_far journal_faults (length old) made) outcome
+
+  abbrev pub ByEach : List (Worker G) → List (Worker G) → Type 0
+  ByEach old new = AreDone log faults outcome.fault outcome.events.items old new
+
+  all_ran : (old new : List (Worker G)) → 1 ≤ length old → OfAll old → ByEach old new → OfOne old new
+      → IsRunBy (length old) may_say (first made.front) (plan outcome.front) outcome.fault outcome.events.items (worker_logs log old) (worker_logs log new) (worker_faults faults old) (worker_faults faults new)
+  all_ran [] new some is done one = absurd (omega (arith, some))
+  all_ran (x ∷ []) [] some is done one = let lengths = done.lengths in absurd (omega (arith, lengths))
+  all_ran (x ∷ []) (y ∷ y' ∷ new) some is done one = let lengths = done.lengths in absurd (omega (arith, lengths))
+  all_ran (x ∷ []) (y ∷ []) some is done one =
+      let alone = one refl x in
+      one_ran may_say (first made.front) (plan outcome.front) outcome.fault outcome.events.items (log x.gate) (log y.gate) (faults x.gate) (faults y.gate) (journal_faults made.journal) (journal_faults outcome.journal) is.history alone.sequential alone.begun alone.one alone.asked alone.ended is.replayed alone.caused
+  all_ran (x ∷ x' ∷ old) new some is done one = record {
+    history_of = is.history;
+    start = is.start;
+    asked = several_asked log faults outcome.fault outcome.events.items (x ∷ x' ∷ old) new done (λ e. omega (arith, e));
+    ended = λ none. let ended = is.ended none in (ended.0, ended.1, is.replayed none);
+    alone = λ e. absurd (omega (arith, e));
+  }
+
+  all_caused : (old new : List (Worker G)) → 1 ≤ length old → OfAll old → ByEach old new → OfOne old new
+      → IsCausedBy outcome.fault (worker_faults faults old) (worker_faults faults new) (journal_faults made.journal) (journal_faults outcome.journal)
+  all_caused [] new some is done one = absurd (omega (arith, some))
+  all_caused (x ∷ []) [] some is done one = let lengths = done.lengths in absurd (omega (arith, lengths))
+  all_caused (x ∷ []) (y ∷ y' ∷ new) some is done one = let lengths = done.lengths in absurd (omega (arith, lengths))
+  all_caused (x ∷ []) (y ∷ []) some is done one = let alone = one refl x in caused_by outcome.fault (faults x.gate) (faults y.gate) (journal_faults made.journal) (journal_faults outcome.journal) alone.caused
+  all_caused (x ∷ x' ∷ old) new some is done one =
+      several_caused outcome.fault (worker_faults faults (x ∷ x' ∷ old)) (worker_faults faults new) (journal_faults made.journal) (journal_faults outcome.journal)
+      (none_failed log faults outcome.fault outcome.events.items (x ∷ x' ∷ old) new done) (λ worker by. named_failed log faults outcome.fault outcome.events.items (x ∷ x' ∷ old) new done worker by x) is.rose is.quiet
+
+  all_left : (old new : List (Worker G)) → 1 ≤ length old → OfAll old → ByEach old new → OfOne old new → (put : Option Put) → HasSameName put (put_so_far made.journal) → IfSome put (λ p. p.bytes ≡ []) → JournalLeft (length old) outcome.fault outcome.events.items put (put_so_far outcome.journal)
+  all_left [] new some is done one put named empty = absurd (omega (arith, some))
+  all_left (x ∷ []) new some is done one put named empty =
+      let alone = one refl x in one_left outcome.fault outcome.events.items put (put_so_far outcome.journal) (one_ends outcome.fault outcome.events.items put (put_so_far outcome.journal) (is.same_name ∙ named) empty alone.journal)
+  all_left (x ∷ x' ∷ old) new some is done one put named empty =
+      several_left (length (x ∷ x' ∷ old)) outcome.fault outcome.events.items put (put_so_far outcome.journal) (λ e. omega (arith, e)) (is.same_name ∙ named) empty is.journal
+
+  -- the workers are as they were, but for their gates
+  pub idle_again : (old new : List (Worker G)) → AreIdle old → ByEach old new → AreIdle new
+  idle_again old new idle done =
+      let as_many = done.lengths in
+      let some = idle.some in
+      let few = idle.few in
+      record {
+        some = omega (arith, as_many, some);
+        few = omega (arith, as_many, few);
+        numbered = all_quiet (λ (w : Worker G). w.number) old new done.lengths (λ i d within. (done.each i d within).number) ∙ idle.numbered ∙ ap (λ (n : ℕ). range_with_len 1 n) (sym done.lengths);
+        unseated = λ i d within. (done.each i d (subst (λ (n : ℕ). i < n) done.lengths within)).unseated;
+      }
+
+  -- of a reducer that the board was made over, and a journal that it began
+  module _ (front : S) (same : made.front ≡ front) (old new : List (Worker G)) (idle : AreIdle old) (is : OfAll old) (done : ByEach old new) (one : OfOne old new) where
+    pub ran : IsRunBy (length old) may_say (first front) (plan outcome.front) outcome.fault outcome.events.items (worker_logs log old) (worker_logs log new) (worker_faults faults old) (worker_faults faults new)
+    ran = run_from (length old) may_say (first made.front) (first front) (plan outcome.front) outcome.fault outcome.events.items (worker_logs log old) (worker_logs log new) (worker_faults faults old) (worker_faults faults new) (ap first same) (all_ran old new idle.some is done one)
+
+    pub caused : (journal : ℕ) → journal_faults made.journal ≡ journal → IsCausedBy outcome.fault (worker_faults faults old) (worker_faults faults new) journal (journal_faults outcome.journal)
+    caused journal quiet = subst (λ (n : ℕ). IsCausedBy outcome.fault (worker_faults faults old) (worker_faults faults new) n (journal_faults outcome.journal)) quiet (all_caused old new idle.some is done one)
+
+    pub left : (put : Option Put) → HasSameName put (put_so_far made.journal) → IfSome put (λ p. p.bytes ≡ []) → JournalLeft (length old) outcome.fault outcome.events.items put (put_so_far outcome.journal)
+    left put named empty = all_left old new idle.some is done one put named empty

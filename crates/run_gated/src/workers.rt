@@ -1,0 +1,57 @@
+//! The run of a reducer by several workers, from its board to its end.
+
+ghost use Rattle.std.specs.Prelude.{◌≡◌, [], IfSome, Some, length};
+ghost use Rattle.ordered_commit.specs.Faults.{board_fault};
+ghost use Rattle.run_gated.specs.Workers.{AreIdle, IsCausedBy, IsRunBy, JournalLeft, worker_faults, worker_logs};
+
+use edge_io::Sink;
+use ordered_commit::{Board, Outcome, Refused};
+use reduce_step::Step;
+use script_gate_trait::Gate;
+use std::alloc::Global;
+use std::sync::Wait;
+use std::thread::Threads;
+use worker_pool::{Worker, run_workers};
+
+/// What there is where there was no board.
+fn without_board<S, J>(alloc: Global, refused: Refused<S, J>) -> Outcome<S, J>
+    ensures front { result.front ≡ refused.front }
+    ensures journal { result.journal ≡ refused.journal }
+    ensures events { result.events.items ≡ [] }
+    ensures fault { result.fault ≡ Some (board_fault refused.fault) }
+{
+    let Refused {
+        front,
+        journal,
+        fault,
+    } = refused;
+    Outcome {
+        front,
+        journal,
+        events: Vec::new(alloc),
+        fault: Some(fault.into()),
+    }
+}
+
+/// Runs the reducer by these workers until it asks nothing more, or a fault ends the run.
+pub(crate) fn run_all<
+    S: Step + Drop + Send,
+    G: Gate + Send,
+    J: Sink + Drop + Send,
+    W: Threads + Wait + Sync,
+>(rt: &W, alloc: Global, front: S, workers: &mut [Worker<G>], journal: J) -> Outcome<S, J>
+    requires new { S.first front ≡ S.plan front }
+    requires empty { IfSome (J.put_so_far journal) (λ put. put.bytes ≡ []) }
+    requires idle { AreIdle workers.old }
+    ensures idle { AreIdle workers.new }
+    ensures as_many { length workers.new ≡ length workers.old }
+    ensures first { S.first result.front ≡ S.first front }
+    ensures ran { IsRunBy (length workers.old) G.may_say (S.first front) (S.plan result.front) result.fault result.events.items (worker_logs G.log workers.old) (worker_logs G.log workers.new) (worker_faults G.faults workers.old) (worker_faults G.faults workers.new) }
+    ensures caused { IsCausedBy result.fault (worker_faults G.faults workers.old) (worker_faults G.faults workers.new) (J.faults journal) (J.faults result.journal) }
+    ensures journal { JournalLeft (length workers.old) result.fault result.events.items (J.put_so_far journal) (J.put_so_far result.journal) }
+{
+    match Board::<S, G, J>::new(alloc, front, journal, workers.len() as u32) {
+        Err(refused) => without_board(alloc, refused),
+        Ok((board, seats)) => run_workers(rt, board, seats, workers),
+    }
+}

@@ -1,0 +1,22 @@
+-- What holds of two runs of a problem, by whatever workers each.
+use Rattle.std.specs.Prelude.{◌≡◌, ℕ, List, All, length}
+use Rattle.script_gate_trait.specs.declared.gate.Verdict.{Verdict}
+use Rattle.verdict_table.specs.declared.record.Record.{Record}
+use Rattle.verdict_table.specs.TableState.{verdict_in}
+use Rattle.reduce_journal.specs.declared.counts.Counts.{Counts}
+use Rattle.reduce_journal.specs.History.{History, records_of}
+use Rattle.reduce_rounds.specs.Laws.{Agree}
+use Rattle.run_problem.specs.Problem.{Problem}
+use Rattle.run_problem.specs.Ends.{ReducesFrom}
+
+-- Two runs whose verdicts agree come to one text, and to one report but for the number of records, however many workers each had and however they interleaved.
+abbrev pub RunsReduceAlike : Type 0
+RunsReduceAlike = (workers workers' : ℕ) (keeps : List (List ℕ)) (problem : Problem) (history history' : History) (text text' : List ℕ) (counts counts' : Counts)
+    → ReducesFrom workers keeps problem history text counts → ReducesFrom workers' keeps problem history' text' counts'
+    → Agree (verdict_in (records_of history)) (verdict_in (records_of history'))
+    → (text ≡ text') × (counts ≡ record counts' { records = length (records_of history) })
+
+-- Of a gate that may say one verdict of each text, any records agree.
+abbrev pub VerdictsAgree : (List ℕ → Verdict → Type 0) → Type 0
+VerdictsAgree may_say = ((text : List ℕ) (one other : Verdict) → may_say text one → may_say text other → one ≡ other) → (records records' : List Record)
+    → All (λ r. may_say r.text r.verdict) records → All (λ r. may_say r.text r.verdict) records' → Agree (verdict_in records) (verdict_in records')

@@ -1,0 +1,87 @@
+use Rattle.std.proofs.Common.{IfSome, ap, option_map, subst, sym, ◌∙◌}
+use Rattle.reduce_journal.specs.History.{records_of}
+use Rattle.verdict_table.specs.TableState.{texts_of}
+use Rattle.ordered_commit_moves.specs.Replay.{replay}
+use Rattle.ordered_commit.specs.Kept.{IsJournal}
+use Rattle.run_worker.specs.RunHistory.{IsHistoryOf, IsSequential, with_all_asked}
+use Rattle.run_worker.specs.RunEnds.{IsCaused, ReducerEnds}
+use Rattle.run_worker.specs.UnderWay.{AreJournalBytes}
+use Rattle.run_worker.proofs.BeginLemmas.{begins_with, ends_at_first}
+use Rattle.run_worker.proofs.EndLemmas.{came, kept_history}
+use Rattle.run_worker.proofs.worker.run_alone.Goals as goal
+
+pub loop-preserved : goal.loop-preserved
+loop-preserved g c = record {
+  way = c.turn.ensures.way _ c.loop.invariant.way;
+  free = c.turn.ensures.free;
+  settled = c.turn.ensures.settled;
+  seats = c.loop.invariant.seats;
+}
+
+pub returns-clause-history : goal.returns-clause-history
+returns-clause-history g c =
+    let way = c.turn.ensures.way _ c.loop.invariant.way in
+    subst (IsHistoryOf g.G.Gate.may_say (g.S.Step.first c.args.board.front)) (sym c.end.ensures.events)
+    (kept_history g.S.Step.plan g.S.Step.first g.G.Gate.may_say g.J.Sink.put_so_far g.J.Sink.faults c.turn.new.board (g.S.Step.first c.args.board.front) c.end.ensures.kept way.same_first)
+
+pub returns-clause-sequential : goal.returns-clause-sequential
+returns-clause-sequential g c =
+    let way = c.turn.ensures.way _ c.loop.invariant.way in
+    let first = g.S.Step.first c.args.board.front in
+    subst (λ fault. IsSequential fault first c.end.result.events.items) (sym c.end.ensures.fault)
+    (subst (λ history. IsSequential c.turn.new.board.fault first history) (sym c.end.ensures.events) (came _ _ _ way (c.turn.ensures.over c.loop-test.false)).0)
+
+pub returns-clause-begun : goal.returns-clause-begun
+returns-clause-begun g c = begins_with c.end.result.fault (g.S.Step.first c.args.board.front) c.end.result.events.items (returns-clause-sequential g c)
+
+pub returns-clause-one : goal.returns-clause-one
+returns-clause-one g c = ends_at_first c.end.result.fault (g.S.Step.first c.args.board.front) c.end.result.events.items (returns-clause-sequential g c)
+
+pub returns-clause-asked : goal.returns-clause-asked
+returns-clause-asked g c =
+    let way = c.turn.ensures.way _ c.loop.invariant.way in
+    way.asked ∙ ap (λ history. option_map (with_all_asked (texts_of (records_of history))) (g.G.Gate.log c.args.gate.now)) (sym c.end.ensures.events)
+
+pub returns-clause-first : goal.returns-clause-first
+returns-clause-first g c =
+    let way = c.turn.ensures.way _ c.loop.invariant.way in
+    ap (λ front. g.S.Step.first front) c.end.ensures.front ∙ way.same_first
+
+pub returns-clause-ended : goal.returns-clause-ended
+returns-clause-ended g c =
+    let way = c.turn.ensures.way _ c.loop.invariant.way in
+    let first = g.S.Step.first c.args.board.front in
+    subst (λ fault. ReducerEnds fault first (g.S.Step.plan c.end.result.front) (records_of c.end.result.events.items)) (sym c.end.ensures.fault)
+    (subst (λ front. ReducerEnds c.turn.new.board.fault first (g.S.Step.plan front) (records_of c.end.result.events.items)) (sym c.end.ensures.front)
+    (subst (λ history. ReducerEnds c.turn.new.board.fault first (g.S.Step.plan c.turn.new.board.front) (records_of history)) (sym c.end.ensures.events) (came _ _ _ way (c.turn.ensures.over c.loop-test.false)).1))
+
+pub returns-clause-replayed : goal.returns-clause-replayed
+returns-clause-replayed g c = λ none.
+    let way = c.turn.ensures.way _ c.loop.invariant.way in
+    ap g.S.Step.plan c.end.ensures.front ∙ c.end.ensures.kept.replayed (sym c.end.ensures.fault ∙ none)
+    ∙ ap (λ first. replay first c.turn.new.board.history) way.same_first
+    ∙ ap (replay (g.S.Step.first c.args.board.front)) (sym c.end.ensures.events)
+
+pub returns-clause-caused : goal.returns-clause-caused
+returns-clause-caused g c =
+    let way = c.turn.ensures.way _ c.loop.invariant.way in
+    subst (λ fault. IsCaused fault (g.G.Gate.faults c.args.gate.now) (g.G.Gate.faults c.turn.new.gate) (g.J.Sink.faults c.args.board.journal) (g.J.Sink.faults c.end.result.journal)) (sym c.end.ensures.fault)
+    (subst (λ journal. IsCaused c.turn.new.board.fault (g.G.Gate.faults c.args.gate.now) (g.G.Gate.faults c.turn.new.gate) (g.J.Sink.faults c.args.board.journal) (g.J.Sink.faults journal)) (sym c.end.ensures.journal) way.caused)
+
+pub returns-clause-name : goal.returns-clause-name
+returns-clause-name g c =
+    let way = c.turn.ensures.way _ c.loop.invariant.way in
+    ap (λ journal. option_map (λ put. put.name) (g.J.Sink.put_so_far journal)) c.end.ensures.journal ∙ way.same_name
+
+pub returns-clause-journal : goal.returns-clause-journal
+returns-clause-journal g c =
+    let way = c.turn.ensures.way _ c.loop.invariant.way in
+    subst (λ journal. IfSome (g.J.Sink.put_so_far journal) (λ put. AreJournalBytes c.end.result.fault c.end.result.events.items put.bytes)) (sym c.end.ensures.journal)
+    (subst (λ fault. IfSome (g.J.Sink.put_so_far c.turn.new.board.journal) (λ put. AreJournalBytes fault c.end.result.events.items put.bytes)) (sym c.end.ensures.fault)
+    (subst (λ history. IfSome (g.J.Sink.put_so_far c.turn.new.board.journal) (λ put. AreJournalBytes c.turn.new.board.fault history put.bytes)) (sym c.end.ensures.events) way.written))
+
+pub returns-clause-kept : goal.returns-clause-kept
+returns-clause-kept g c =
+    subst (λ journal. IfSome (g.J.Sink.put_so_far journal) (λ put. IsJournal c.end.result.fault c.end.result.events.items put.bytes)) (sym c.end.ensures.journal)
+    (subst (λ fault. IfSome (g.J.Sink.put_so_far c.turn.new.board.journal) (λ put. IsJournal fault c.end.result.events.items put.bytes)) (sym c.end.ensures.fault)
+    (subst (λ history. IfSome (g.J.Sink.put_so_far c.turn.new.board.journal) (λ put. IsJournal c.turn.new.board.fault history put.bytes)) (sym c.end.ensures.events) c.end.ensures.kept.journal))

@@ -1,0 +1,5 @@
+//! Tables of words and of programs, each with what is wanted.
+
+mod programs;
+mod reductions;
+mod words;

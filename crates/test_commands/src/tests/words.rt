@@ -1,0 +1,219 @@
+//! What words ask for, as one text.
+
+use command_words::{CommandLine, ModeLine, ReduceLine, journal_name, read_words};
+use reduce_step::TreeMode;
+use std::alloc::Global;
+use std::test::Fail;
+
+/// The words of a line, which are apart by one space each: two spaces have an empty word between them.
+fn words_of(alloc: Global, line: &str) -> Result<Vec<String>, Fail> {
+    let mut words = Vec::new(alloc);
+    for word in line.split(' ') {
+        words.push(String::from_str(alloc, word)?)?;
+    }
+    Ok(words)
+}
+
+fn mode_name(mode: TreeMode) -> &'static str {
+    match mode {
+        TreeMode::Perses => "perses",
+        TreeMode::Hdd => "hdd",
+    }
+}
+
+fn mode_text(alloc: Global, mode: ModeLine<'_>) -> Result<String, Fail> {
+    match mode {
+        ModeLine::Lines => Ok(String::from_str(alloc, "lines")?),
+        ModeLine::ByGrammar(line) => {
+            let start = line.grammar.start.unwrap_or("-");
+            let mode = mode_name(line.mode);
+            let squeeze = if line.squeeze { " squeezed" } else { "" };
+            Ok(format!(in alloc; "{mode} by {} from {start}{squeeze}", line.grammar.path)?)
+        }
+    }
+}
+
+fn reduce_text(alloc: Global, line: &ReduceLine<'_>) -> Result<String, Fail> {
+    let mode = mode_text(alloc, line.mode)?;
+    let journal = journal_name(alloc, line)?;
+    let mut text = format!(in alloc;
+        "{mode}: {} to {} asking {}, {journal}, {}, {}",
+        line.input, line.output, line.script, line.work, line.jobs
+    )?;
+    for keep in &line.keeps {
+        text.push_str(", keep ")?;
+        text.push_str(keep)?;
+    }
+    Ok(text)
+}
+
+/// What a line asks for, as one text; `usage` where it is no command line.
+fn asked(alloc: Global, line: &str) -> Result<String, Fail> {
+    let words = words_of(alloc, line)?;
+    match read_words(alloc, words.as_slice())? {
+        None => Ok(String::from_str(alloc, "usage")?),
+        Some(CommandLine::Reduce(line)) => reduce_text(alloc, &line),
+        Some(CommandLine::Normal(grammar)) => {
+            let start = grammar.start.unwrap_or("-");
+            Ok(format!(in alloc; "normal {} from {start}", grammar.path)?)
+        }
+        Some(CommandLine::Selftest(line)) => {
+            let mode = mode_name(line.mode);
+            Ok(format!(in alloc; "selftest {} {} {mode}", line.number, line.size)?)
+        }
+    }
+}
+
+const LINES: &str = "lines: i to o asking s, o.journal, perses-work, 1";
+
+const TREES: &str = "perses by g from -: i to o asking s, o.journal, perses-work, 1";
+
+/// Command lines, each with what it asks for.
+const ACCEPTED: [(&str, &str); 18] = [
+    (
+        "perses reduce --mode lines --input i --output o --script s",
+        LINES,
+    ),
+    (
+        "perses reduce --mode=lines --input=i --output=o --script=s",
+        LINES,
+    ),
+    (
+        "p reduce --script s --output=o --mode lines --input i",
+        LINES,
+    ),
+    (
+        "p reduce --grammar g --input i --output o --script s",
+        TREES,
+    ),
+    (
+        "p reduce --mode perses --jobs 1 --work perses-work --journal o.journal --grammar g --input i --output o --script s",
+        TREES,
+    ),
+    (
+        "p reduce --squeeze --mode hdd --start r --grammar g --input i --output o --script s",
+        "hdd by g from r squeezed: i to o asking s, o.journal, perses-work, 1",
+    ),
+    (
+        "p reduce --keep a --input d/i --keep=b --output o --journal j --script ./s --mode lines --work w --keep a",
+        "lines: d/i to o asking ./s, j, w, 1, keep a, keep b, keep a",
+    ),
+    (
+        "p reduce --mode lines --input i=j --output=o=p --script s",
+        "lines: i=j to o=p asking s, o=p.journal, perses-work, 1",
+    ),
+    (
+        "p reduce --mode lines --input i --output o --script s --keep 1 --keep 2 --keep 3 --keep 4 --keep 5 --keep 6 --keep 7 --keep 8",
+        "lines: i to o asking s, o.journal, perses-work, 1, keep 1, keep 2, keep 3, keep 4, keep 5, keep 6, keep 7, keep 8",
+    ),
+    ("p normal --grammar g", "normal g from -"),
+    ("p normal --start r --grammar=g", "normal g from r"),
+    ("p selftest --number 0 --size 300", "selftest 0 300 perses"),
+    (
+        "p selftest --size=1500 --number=4294967295",
+        "selftest 4294967295 1500 perses",
+    ),
+    (
+        "p selftest --mode hdd --number 0 --size 1",
+        "selftest 0 1 hdd",
+    ),
+    (
+        "p selftest --mode perses --number 10 --size 20",
+        "selftest 10 20 perses",
+    ),
+    (" normal --grammar g", "normal g from -"),
+    ("--help normal --grammar g", "normal g from -"),
+    ("p normal --grammar input", "normal input from -"),
+];
+
+#[test]
+fn reads_command_lines_in_any_order(rt: HostRuntime) -> Result<(), Fail> {
+    for (line, wanted) in ACCEPTED {
+        let text = asked(rt.alloc(), line)?;
+        assert_eq!(rt; text.as_str(), wanted);
+    }
+    Ok(())
+}
+
+/// What is no command line where it comes after the words of mode `lines`.
+const REFUSED_AFTER_LINES: [&str; 24] = [
+    "--squeeze",
+    "--grammar g",
+    "--start r",
+    "--keep 1 --keep 2 --keep 3 --keep 4 --keep 5 --keep 6 --keep 7 --keep 8 --keep 9",
+    "--mode lines",
+    "--input i",
+    "--keep",
+    "--keep ",
+    "--keep=",
+    "--keep -a",
+    "--keep=-a",
+    "--keep -",
+    "--keep --keep",
+    "--keep -- a",
+    "--jobs 0",
+    "--jobs 17",
+    "--jobs 01",
+    "--jobs +1",
+    "--jobs=",
+    "--number 1",
+    "--",
+    "-",
+    "-k a",
+    "a",
+];
+
+/// Lines that are no command line.
+const REFUSED: [&str; 36] = [
+    "",
+    "perses",
+    "perses shrink",
+    "perses --help",
+    "perses -h",
+    "perses help",
+    "perses reduce",
+    "perses reduce --help",
+    "perses reduce --version",
+    "perses reduce --input i --output o --script s",
+    "perses reduce --grammar g --output o --script s",
+    "perses reduce --grammar g --input i --script s",
+    "perses reduce --grammar g --input i --output o",
+    "perses reduce --grammar g --input i --output o --script s --squeeze --squeeze",
+    "perses reduce --grammar g --input i --output o --script s --squeeze=true",
+    "perses reduce --grammar g --input i --output o --script s --squeeze=",
+    "perses reduce --grammar g --input i --output o --script s --squeeze true",
+    "perses reduce --grammar g --input i --output o --script s --mode tree",
+    "perses reduce --grammar g --input i --output o --script s --mode Perses",
+    "perses reduce --grammar g --input i --output o --script s --mode perses --mode perses",
+    "perses reduce --gram g --input i --output o --script s",
+    "perses reduce --Grammar g --input i --output o --script s",
+    "perses reduce -grammar g --input i --output o --script s",
+    "perses reduce --=g --grammar g --input i --output o --script s",
+    "perses reduce --grammar g -- --input i --output o --script s",
+    "perses normal",
+    "perses normal --grammar g --input i",
+    "perses normal --grammar g g",
+    "perses selftest --number 0",
+    "perses selftest --size 300",
+    "perses selftest --number 0 --size 0",
+    "perses selftest --number 0 --size 1501",
+    "perses selftest --number 4294967296 --size 1",
+    "perses selftest --number -1 --size 1",
+    "perses selftest --mode lines --number 0 --size 1",
+    "perses selftest --jobs 1 --number 0 --size 300",
+];
+
+#[test]
+fn refuses_other_words(rt: HostRuntime) -> Result<(), Fail> {
+    for line in REFUSED {
+        let text = asked(rt.alloc(), line)?;
+        assert_eq!(rt; text.as_str(), "usage", "{line}");
+    }
+    let lines = "perses reduce --mode lines --input i --output o --script s";
+    for more in REFUSED_AFTER_LINES {
+        let line = format!(in rt.alloc(); "{lines} {more}")?;
+        let text = asked(rt.alloc(), line.as_str())?;
+        assert_eq!(rt; text.as_str(), "usage", "{line}");
+    }
+    Ok(())
+}

@@ -1,0 +1,5 @@
+//! Rules that answer, and what comes of them.
+
+mod answers;
+mod elements;
+mod lines;

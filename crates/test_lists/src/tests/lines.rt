@@ -1,0 +1,206 @@
+//! The reducer of lines beside the plain recursion, and what the plain recursion keeps.
+
+use super::answers::{Always, HasBoth, Remainder, TwoLines};
+use crate::guards::{KeepsLine, guard_of};
+use faults::Memory;
+use keep_guard::{Guard, Relation};
+use reduce_core::{
+    Candidate, LineReducer, Lines, ReducerStep, Test, line_reducer, plain_reduction,
+};
+use reduce_step::{Step, TEXT_LIMIT};
+use script_gate_trait::Verdict;
+use std::alloc::Global;
+use std::test::Fail;
+
+/// The text of all lines.
+fn text_of(alloc: Global, lines: &Lines) -> Result<Vec<u8>, Memory> {
+    let all = vec![in alloc; true; lines.len()]?;
+    let mut candidate = Candidate::new(alloc);
+    lines.write_kept(&all, &mut candidate)?;
+    Ok(candidate.text)
+}
+
+/// The texts that a reducer asks, where the test answers each.
+fn questions_of<T: Test, F: Relation>(
+    alloc: Global,
+    test: &T,
+    reducer: &mut LineReducer<'_, F>,
+) -> Result<Vec<Vec<u8>>, Memory> {
+    let mut questions = Vec::new(alloc);
+    for _ in 0..u64::MAX {
+        let Some(text) = reducer.asks() else {
+            break;
+        };
+        let verdict = if test.test(text) {
+            Verdict::Yes
+        } else {
+            Verdict::No
+        };
+        questions.push(Vec::from_slice(alloc, text)?)?;
+        reducer.answer(verdict)?;
+    }
+    Ok(questions)
+}
+
+/// Whether the texts are the same, in the same order.
+fn are_same(texts: &[Vec<u8>], others: &[Vec<u8>]) -> bool {
+    if texts.len() != others.len() {
+        return false;
+    }
+    for (text, other) in texts.iter().zip(others) {
+        if text.as_slice() != other.as_slice() {
+            return false;
+        }
+    }
+    true
+}
+
+/// Whether the reducer asks what the plain recursion asked, and ends with the same.
+fn agrees<T: Test, F: Relation>(
+    alloc: Global,
+    test: &T,
+    start: &[u8],
+    guard: &Guard<F>,
+) -> Result<bool, Memory> {
+    if start.len() > TEXT_LIMIT {
+        return Ok(false);
+    }
+    let mut reducer = line_reducer(alloc, start, guard)?;
+    let questions = questions_of(alloc, test, &mut reducer)?;
+    let plain = plain_reduction(alloc, test, guard, start)?;
+    let text = text_of(alloc, &plain.lines)?;
+    Ok(
+        are_same(&questions, &plain.questions)
+            && reducer.result() == text.as_slice()
+            && reducer.units() == plain.lines.len() as u64
+            && reducer.used() == plain.questions.len() as u64
+            && reducer.rounds() == plain.rounds
+            && reducer.refused() == plain.refused,
+    )
+}
+
+/// The same, with a guard over keep texts.
+fn agrees_with<T: Test>(
+    alloc: Global,
+    test: &T,
+    start: &[u8],
+    keeps: &[&[u8]],
+) -> Result<bool, Memory> {
+    let guard = guard_of(alloc, keeps)?;
+    agrees(alloc, test, start, &guard)
+}
+
+/// Whether they agree on the start for each rule without a guard.
+fn agrees_on_rules(alloc: Global, start: &[u8]) -> Result<bool, Memory> {
+    for (a, b) in [(b'a', b'a'), (b'b', b'b'), (b'b', b'd'), (0, 255)] {
+        if !agrees_with(alloc, &HasBoth(a, b), start, &[])? {
+            return Ok(false);
+        }
+    }
+    for remainder in 0..3usize {
+        if !agrees_with(alloc, &Remainder(remainder), start, &[])? {
+            return Ok(false);
+        }
+    }
+    Ok(
+        agrees_with(alloc, &Always(true), start, &[])?
+            && agrees_with(alloc, &Always(false), start, &[])?
+            && agrees_with(alloc, &TwoLines, start, &[])?,
+    )
+}
+
+/// Whether they agree on the start for guards over keep texts, and over the numbers of lines.
+fn agrees_on_guards(alloc: Global, start: &[u8]) -> Result<bool, Memory> {
+    for keep in [
+        b"b".as_slice(),
+        b"\nb".as_slice(),
+        b"\n\n".as_slice(),
+        b"\xff".as_slice(),
+    ] {
+        if !agrees_with(alloc, &Remainder(0), start, &[keep])?
+            || !agrees_with(alloc, &Always(true), start, &[b"d".as_slice(), keep])?
+        {
+            return Ok(false);
+        }
+    }
+    for line in 0..4u32 {
+        if !agrees(alloc, &TwoLines, start, &Guard::new(KeepsLine(line)))? {
+            return Ok(false);
+        }
+    }
+    Ok(true)
+}
+
+/// The number of the first start, from 0, on which they don't agree.
+fn first_disagreement(alloc: Global, starts: &[&[u8]]) -> Result<Option<usize>, Memory> {
+    for (number, start) in starts.iter().enumerate() {
+        if !agrees_on_rules(alloc, *start)? || !agrees_on_guards(alloc, *start)? {
+            return Ok(Some(number));
+        }
+    }
+    Ok(None)
+}
+
+#[test]
+fn asks_what_the_plain_recursion_asks(rt: HostRuntime) -> Result<(), Fail> {
+    let starts = [
+        b"".as_slice(),
+        b"\n".as_slice(),
+        b"a".as_slice(),
+        b"a\n".as_slice(),
+        b"a\nb\nc\n".as_slice(),
+        b"a\nb\nc\nd\ne".as_slice(),
+        b"b\nb\nd\nb\nd\n".as_slice(),
+        b"\n\nbd\n\n".as_slice(),
+        b"\x00\n\xff\xff\nb\x00\nd".as_slice(),
+    ];
+    assert_eq!(rt; first_disagreement(rt.alloc(), &starts)?, None);
+    Ok(())
+}
+
+/// Whether the plain recursion asks these texts, keeps the line that is needed, and so ends.
+fn plain_keeps_b(alloc: Global) -> Result<bool, Memory> {
+    let guard = guard_of(alloc, &[])?;
+    let plain = plain_reduction(alloc, &HasBoth(b'b', b'b'), &guard, b"a\nb\nc\n")?;
+    let asked = match plain.questions.get(3) {
+        Some(question) => question.as_slice() == b"b\nc\n".as_slice(),
+        None => false,
+    };
+    let text = text_of(alloc, &plain.lines)?;
+    Ok(
+        asked
+            && plain.questions.len() == 6
+            && text.as_slice() == b"b\n".as_slice()
+            && plain.rounds == 2
+            && !plain.refused,
+    )
+}
+
+/// Whether a text has three lines, of which the first and the last are kept as a text, as numbers and
+/// as lines.
+fn keeps_outer_lines(alloc: Global) -> Result<bool, Memory> {
+    let lines = Lines::split(alloc, b"a\n\nb")?;
+    let keep = [true, false, true];
+    if lines.len() != 3 {
+        return Ok(false);
+    }
+    let remaining = lines.kept(alloc, &keep)?;
+    let text = text_of(alloc, &remaining)?;
+    let mut candidate = Candidate::new(alloc);
+    candidate.text.push(b'x')?;
+    candidate.numbers.push(7)?;
+    lines.write_kept(&keep, &mut candidate)?;
+    Ok(
+        remaining.len() == 2
+            && text.as_slice() == b"a\nb".as_slice()
+            && candidate.text.as_slice() == b"a\nb".as_slice()
+            && candidate.numbers.as_slice() == [0, 2].as_slice(),
+    )
+}
+
+#[test]
+fn keeps_what_is_needed_and_marked(rt: HostRuntime) -> Result<(), Fail> {
+    assert!(rt; plain_keeps_b(rt.alloc())?, "the plain recursion");
+    assert!(rt; keeps_outer_lines(rt.alloc())?, "the marked lines");
+    Ok(())
+}

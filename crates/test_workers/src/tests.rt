@@ -1,0 +1,263 @@
+//! Runs over the reduction of eight lines to the one that has a `b`.
+
+ghost use Rattle.std.specs.Prelude.{◌≡◌, All, IsTrue, None};
+
+use edge_io::MemSink;
+use keep_guard::{Guard, KeepTexts};
+use ordered_commit::{Board, PoolFault};
+use reduce_core::line_reducer;
+use reduce_journal::{Event, read_journal};
+use reduce_rounds::ReducerStep;
+use reduce_step::TEXT_LIMIT;
+use script_gate_trait::{Gate, GateFault, ListGate, RuleGate, Said, Verdict};
+use std::alloc::Global;
+use std::sync::{Arc, Wait};
+use std::test::Fail;
+use std::thread::Threads;
+use test_gates::{HoldCount, HoldGate};
+use worker_pool::{Worker, run_workers};
+
+/// What is reduced.
+const START: &[u8] = b"a\nb\nc\nd\ne\nf\ng\nh\n";
+
+/// What remains of it.
+const RESULT: &[u8] = b"b\n";
+
+/// What a run has come to.
+#[derive(Drop)]
+struct Came {
+    fault: Option<PoolFault>,
+    text: Vec<u8>,
+    journal: Vec<u8>,
+    events: Vec<Event>,
+}
+
+/// Whether no worker has a seat.
+fn are_free<G: Gate>(workers: &[Worker<G>]) -> bool
+    ensures { IsTrue result → All (λ w. w.seat ≡ None) workers.now }
+{
+    workers.iter().all(|worker| worker.seat.is_none())
+}
+
+/// What these workers come to. The puts of these numbers into the journal fail, from 1.
+fn run_of<G: Gate + Send, W: Threads + Wait + Sync>(
+    rt: &W,
+    alloc: Global,
+    workers: &mut Vec<Worker<G>>,
+    fail: &[u64],
+) -> Result<Came, Fail> {
+    let count = workers.len();
+    if START.len() > TEXT_LIMIT || count == 0 || count > 16 {
+        return Err("1 to 16 workers and a start of few bytes")?;
+    }
+    if !are_free(workers) {
+        return Err("no worker has a seat")?;
+    }
+    let guard = Guard::new(KeepTexts::new(alloc));
+    let reducer = line_reducer(alloc, START, &guard)?;
+    let journal = MemSink::new(alloc, 10000, Vec::from_slice(alloc, fail)?)?;
+    let Ok((board, seats)) = Board::new(alloc, reducer, journal, count as u32) else {
+        return Err("a board")?;
+    };
+    let outcome = run_workers(rt, board, seats, workers);
+    Ok(Came {
+        fault: outcome.fault,
+        text: Vec::from_slice(alloc, outcome.front.result())?,
+        journal: Vec::from_slice(alloc, outcome.journal.bytes())?,
+        events: outcome.events,
+    })
+}
+
+/// The record of this number, from 1.
+fn record_of(events: &[Event], number: u64) -> Option<(&[u8], Verdict)> {
+    let mut count: u64 = 0;
+    for event in events {
+        if let Event::Recorded { text, verdict } = event {
+            count = count.saturating_add(1);
+            if count == number {
+                return Some((text.as_slice(), *verdict));
+            }
+        }
+    }
+    None
+}
+
+/// How many records there are of this text, or of all texts.
+fn record_count(events: &[Event], wanted: Option<&[u8]>) -> u64 {
+    let mut count: u64 = 0;
+    for event in events {
+        if let Event::Recorded { text, .. } = event {
+            if wanted.is_none() || wanted == Some(text.as_slice()) {
+                count = count.saturating_add(1);
+            }
+        }
+    }
+    count
+}
+
+/// Whether the first record is of the start, and no text has two.
+fn are_records(events: &[Event]) -> bool {
+    for event in events {
+        if let Event::Recorded { text, .. } = event {
+            if record_count(events, Some(text.as_slice())) != 1 {
+                return false;
+            }
+        }
+    }
+    match record_of(events, 1) {
+        Some((text, _)) => text == START,
+        None => false,
+    }
+}
+
+/// What the reducer was answered, in order: of each commit the verdict and the text, and a byte that no
+/// text has.
+fn answers_of(alloc: Global, events: &[Event]) -> Result<Vec<u8>, Fail> {
+    let mut answers = Vec::new(alloc);
+    for event in events {
+        if let Event::Committed { number } = event {
+            let Some((text, verdict)) = record_of(events, *number) else {
+                return Err("a commit names a record")?;
+            };
+            answers.push(if verdict == Verdict::Yes { b'y' } else { b'n' })?;
+            answers.extend_from_slice(text)?;
+            answers.push(255)?;
+        }
+    }
+    Ok(answers)
+}
+
+/// How many events the journal has; none where it can't be read, or its last event isn't whole.
+fn events_in(alloc: Global, journal: &[u8]) -> Option<usize> {
+    match read_journal(alloc, journal) {
+        Ok(read) if read.torn == 0 => Some(read.events.len()),
+        _ => None,
+    }
+}
+
+/// So many workers, whose gates say yes where there is a `b`.
+fn by_rule(alloc: Global, count: u32) -> Result<Vec<Worker<RuleGate<98>>>, Fail> {
+    let mut workers = Vec::new(alloc);
+    for earlier in 0..count {
+        workers.push(Worker::new(RuleGate::new(alloc, true), earlier + 1))?;
+    }
+    Ok(workers)
+}
+
+#[test]
+fn comes_to_the_same_with_any_number_of_workers(rt: HostRuntime) -> Result<(), Fail> {
+    let alone = run_of(&rt, rt.alloc(), &mut by_rule(rt.alloc(), 1)?, &[])?;
+    let answers = answers_of(rt.alloc(), &alone.events)?;
+    for count in [1, 2, 4, 16] {
+        let mut workers = by_rule(rt.alloc(), count)?;
+        let came = run_of(&rt, rt.alloc(), &mut workers, &[])?;
+        assert_eq!(rt; came.fault, None);
+        assert_eq!(rt; came.text.as_slice(), RESULT);
+        assert_eq!(rt;
+            answers_of(rt.alloc(), &came.events)?.as_slice(),
+            answers.as_slice()
+        );
+        assert!(rt; are_records(&came.events));
+        assert_eq!(rt;
+            events_in(rt.alloc(), &came.journal),
+            Some(came.events.len())
+        );
+        let mut asked: u64 = 0;
+        for worker in &workers {
+            if let Some(log) = worker.gate.log() {
+                asked = asked.saturating_add(log.asked.len() as u64);
+            }
+        }
+        assert_eq!(rt; record_count(&came.events, None), asked);
+    }
+    Ok(())
+}
+
+/// What so many workers come to with gates that hold their asks until more than so many have begun.
+fn held<W: Threads + Wait + Sync>(rt: &W, alloc: Global, width: u32) -> Result<Came, Fail> {
+    let shared = Arc::new(alloc, HoldCount::new(width))?;
+    let mut workers = Vec::new(alloc);
+    for earlier in 0..width {
+        let gate = HoldGate::<98>::new(alloc, Arc::try_clone(&shared)?);
+        workers.push(Worker::new(gate, earlier + 1))?;
+    }
+    run_of(rt, alloc, &mut workers, &[])
+}
+
+#[test]
+fn runs_two_and_four_scripts_at_once(rt: HostRuntime) -> Result<(), Fail> {
+    for width in [2, 4] {
+        let came = held(&rt, rt.alloc(), width)?;
+        assert_eq!(rt; came.fault, None);
+        assert_eq!(rt; came.text.as_slice(), RESULT);
+    }
+    Ok(())
+}
+
+/// What four workers come to if each ask of the third one's gate has this fault. Their asks are held, so
+/// that the run can't end before that gate is asked.
+fn faulty<W: Threads + Wait + Sync>(rt: &W, alloc: Global, fault: GateFault) -> Result<Came, Fail> {
+    let shared = Arc::new(alloc, HoldCount::new(4))?;
+    let mut workers = Vec::new(alloc);
+    for number in 1..5 {
+        let count = Arc::try_clone(&shared)?;
+        let gate = if number == 3 {
+            HoldGate::<98>::faulty(alloc, count, fault)
+        } else {
+            HoldGate::<98>::new(alloc, count)
+        };
+        workers.push(Worker::new(gate, number))?;
+    }
+    run_of(rt, alloc, &mut workers, &[])
+}
+
+#[test]
+fn keeps_the_fault_of_one_worker(rt: HostRuntime) -> Result<(), Fail> {
+    let faults = [
+        (GateFault::Failed, PoolFault::Script { worker: 3 }),
+        (GateFault::Memory, PoolFault::Memory),
+    ];
+    for (fault, kept) in faults {
+        let came = faulty(&rt, rt.alloc(), fault)?;
+        assert_eq!(rt; came.fault, Some(kept));
+        assert_eq!(rt;
+            events_in(rt.alloc(), &came.journal),
+            Some(came.events.len())
+        );
+    }
+    Ok(())
+}
+
+/// The third worker's script fails at its second ask, if it has one: the others go on with what they ask.
+#[test]
+fn stops_where_a_script_fails_now_and_then(rt: HostRuntime) -> Result<(), Fail> {
+    let alloc = rt.alloc();
+    let mut workers = Vec::new(alloc);
+    for number in 1..5 {
+        let later = if number == 3 { Said::Fail } else { Said::No };
+        let answers = Vec::from_slice(alloc, &[Said::Yes])?;
+        workers.push(Worker::new(ListGate::new(alloc, answers, later), number))?;
+    }
+    let came = run_of(&rt, alloc, &mut workers, &[])?;
+    let failed = Some(PoolFault::Script { worker: 3 });
+    assert!(rt; came.fault == None || came.fault == failed);
+    assert!(rt; are_records(&came.events));
+    assert_eq!(rt; events_in(alloc, &came.journal), Some(came.events.len()));
+    let mut asked: u64 = 0;
+    for worker in &workers {
+        asked = asked.saturating_add(worker.gate.log().asked.len() as u64);
+    }
+    assert_eq!(rt; record_count(&came.events, None), asked);
+    Ok(())
+}
+
+#[test]
+fn stops_where_the_journal_breaks_off(rt: HostRuntime) -> Result<(), Fail> {
+    for count in [1, 2, 4, 16] {
+        let mut workers = by_rule(rt.alloc(), count)?;
+        let came = run_of(&rt, rt.alloc(), &mut workers, &[7])?;
+        assert_eq!(rt; came.fault, Some(PoolFault::Journal));
+        assert_eq!(rt; read_journal(rt.alloc(), &came.journal).is_ok(), true);
+    }
+    Ok(())
+}
