@@ -1,5 +1,6 @@
 """Proves and builds the programs that the benches run, where they aren't built yet or something was
-changed. The first time this takes a quarter of an hour or more."""
+changed. The first time this takes a quarter of an hour or more. `PERSES` is the launcher, `PROGRAM`
+what it starts."""
 import os
 import subprocess
 import sys
@@ -7,6 +8,7 @@ import tempfile
 
 TOP = os.path.dirname(os.path.dirname(os.path.realpath(__file__)))
 PERSES = os.path.join(TOP, "perses")
+PROGRAM = os.path.join(TOP, "crates", "perses_main", "out", "perses_main")
 BENCH_TEXTS = os.path.join(TOP, "crates", "bench_texts", "out", "bench_texts")
 
 
