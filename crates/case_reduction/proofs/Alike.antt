@@ -8,18 +8,18 @@ use Rattle.script_gate_trait.specs.declared.gate.Verdict.TheVariants.{Yes, No}
 use Rattle.script_gate_trait.specs.Rule.{rule_verdict}
 use Rattle.verdict_table.specs.declared.record.Record.{Record}
 use Rattle.verdict_table.specs.TableState.{verdict_in}
-use Rattle.reduce_rounds.specs.Laws.{Agree, AgreeingMapsReduceAlike, HasVerdicts}
+use Rattle.reduce_rounds.specs.Laws.{AgreeingMapsReduceAlike}
+use Rattle.reduce_rounds.specs.Verdicts.{Agree, HasVerdicts}
 use Rattle.reduce_rounds.specs.Reduction as rounds
-use Rattle.reduce_rounds.specs.RoundsPlan.{capped_count}
+use Rattle.reduce_rounds.specs.Reduction.{capped_count}
 use Rattle.reduce_journal.specs.declared.counts.Counts.{Counts}
 use Rattle.reduce_trees_mode.specs.Input.{TreeInput, TreeState}
 use Rattle.syntax_tree.specs.Trees.{weight}
 use Rattle.reduce_trees_mode.specs.Candidates.{IsCandidate}
-use Rattle.reduce_trees_mode.specs.Lawful.{IsEditIn}
+use Rattle.reduce_trees_mode.specs.InStyles.{IsEditIn}
 use Rattle.reduce_trees_mode.specs.Listed.{text_of_state}
-use Rattle.reduce_trees.specs.WalkMode.{walk_mode}
 use Rattle.reduce_step.specs.declared.mode.TreeMode.{TreeMode}
-use Rattle.run_problem.specs.Problem.{IsEditBy, IsReductionOf, Problem, counts_of, questions_of, reduced_text, round_of, tree_reduction}
+use Rattle.run_problem.specs.Problem.{IsEditBy, IsReductionOf, Problem, counts_of, questions_of, recursion_of, reduced_text, reduction_of}
 use Rattle.reduce_journal.specs.Report.{first_lines, four_lines}
 use Rattle.case_reduction.specs.Summary.{rule_map, summary_text}
 
@@ -64,9 +64,9 @@ module _ (mode : TreeMode) (input : TreeInput) where
       four_lines (weight input.whole) (weight r.state.tree) (length input.start) (length (text_of_state input r.state)) (capped_count r.rounds) (capped_count (length r.questions))
       ++ text_of_state input r.state
 
-  module _ (alike : AgreeingMapsReduceAlike (walk_mode (round_of mode) input)) where
+  module _ (alike : AgreeingMapsReduceAlike (recursion_of [] problem)) where
     -- the reduction over a map that agrees with the rule is that over the rule
-    same_reduction : (V : List ℕ → Option Verdict) → Agree V rule_map → HasVerdicts V (questions_of [] problem V) → tree_reduction mode input V ≡ tree_reduction mode input rule_map
+    same_reduction : (V : List ℕ → Option Verdict) → Agree V rule_map → HasVerdicts V (questions_of [] problem V) → reduction_of [] problem V ≡ reduction_of [] problem rule_map
     same_reduction V agrees defined = alike V rule_map agrees defined (rule_says (questions_of [] problem rule_map))
 
     same_summary : (V : List ℕ → Option Verdict) → Agree V rule_map → HasVerdicts V (questions_of [] problem V) → summary_text problem V ≡ summary_text problem rule_map
@@ -79,6 +79,7 @@ module _ (mode : TreeMode) (input : TreeInput) where
           let one = same_reduction (verdict_in records) (agree records by) is.defined in
           let ends : text ≡ reduced_text [] problem rule_map = is.is_text ∙ ap (λ (r : rounds.Reduction TreeState). text_of_state input r.state) one in
           record {
+            is_problem = is.is_problem;
             defined = rule_says (questions_of [] problem rule_map);
             interesting = sym (ap (λ (r : rounds.Reduction TreeState). r.refused) one) ∙ is.interesting;
             is_text = refl;

@@ -9,21 +9,16 @@ use Rattle.script_gate_trait.specs.declared.gate.Verdict.TheVariants.{Yes, No}
 use Rattle.script_gate_trait.specs.Rule.{rule_verdict}
 use Rattle.verdict_table.specs.declared.record.Record.{Record}
 use Rattle.verdict_table.specs.TableState.{verdict_in}
-use Rattle.reduce_rounds.specs.Laws.{AgreeingMapsReduceAlike}
 use Rattle.reduce_journal.specs.History.{History, records_of}
 use Rattle.reduce_journal.specs.declared.counts.Counts.{Counts}
-use Rattle.reduce_trees_mode.specs.Input.{TreeInput}
-use Rattle.reduce_trees.specs.WalkMode.{walk_mode}
-use Rattle.reduce_perses.specs.VisitRounds.{visit_round}
-use Rattle.reduce_hdd.specs.LevelRounds.{level_round}
 use Rattle.run_gated.specs.Records.{FirstIs}
 use Rattle.run_gated.specs.Workers.{RoseAtIndex}
 use Rattle.run_gated.specs.declared.fault.RunFault.{RunFault}
 use Rattle.run_gated.specs.declared.ran.Reduced.{Reduced}
 use Rattle.run_gated.specs.declared.fault.RunFault.TheVariants as run
 use Rattle.reduce_step.specs.declared.mode.TreeMode.{TreeMode}
-use Rattle.reduce_step.specs.declared.mode.TreeMode.TheVariants.{Hdd, Perses}
-use Rattle.run_problem.specs.Problem.{IsReductionOf, Problem, counts_of, round_of, start_of}
+use Rattle.run_problem.specs.Problem.{IsReductionOf, Problem, counts_of, start_of}
+use Rattle.run_problem.specs.Laws.{ProblemsReduceAlike}
 use Rattle.run_problem.specs.Ends.{ProblemEnds, ReducesFrom, RunFails}
 use Rattle.run_problem.specs.Read.{IsReadAs}
 use Rattle.run_problem.specs.declared.problem.ReadProblem.{ReadProblem}
@@ -55,12 +50,6 @@ not_refused (r ∷ records) by start is first =
     let no : No ≡ Yes = sym first.1 ∙ by.0 ∙ ap (rule_verdict 23121) first.0 ∙ is in
     cc
 
--- both modes: reductions over maps that agree are equal
-pub alike_in : (mode : TreeMode) → ((input : TreeInput) → AgreeingMapsReduceAlike (walk_mode visit_round input)) → ((input : TreeInput) → AgreeingMapsReduceAlike (walk_mode level_round input))
-    → (input : TreeInput) → AgreeingMapsReduceAlike (walk_mode (round_of mode) input)
-alike_in Perses visits levels input = visits input
-alike_in Hdd visits levels input = levels input
-
 module _ (mode : TreeMode) (number size : ℕ) (problem : Problem) (of : IsCaseProblem mode number size problem) {X : Type 0} (count : ℕ) (gates : List ℕ) (workers : List X) (history : History) (by : BySaid (records_of history)) where
   -- it fails only where memory runs out
   pub only_memory : CasesGetYes → 1 ≤ size → (fault : RunFault) → RunFails count [] problem history gates (no_faults workers) 0 0 fault → fault ≡ run.Memory
@@ -71,7 +60,7 @@ module _ (mode : TreeMode) (number size : ℕ) (problem : Problem) (of : IsCaseP
   only_memory get_yes some run.Memory why = refl
 
   -- the report's first lines and the text are the summary
-  pub is_summary : ((input : TreeInput) → AgreeingMapsReduceAlike (walk_mode (round_of mode) input)) → (text : List ℕ) (counts : Counts) → ReducesFrom count [] problem history text counts → IsSummary mode number size (first_lines counts ++ text)
+  pub is_summary : ProblemsReduceAlike → (text : List ℕ) (counts : Counts) → ReducesFrom count [] problem history text counts → IsSummary mode number size (first_lines counts ++ text)
   is_summary alike text counts came =
       let records : List Record = records_of history in
       let reduced : IsReductionOf [] (verdict_in records) (Problem.of_tree mode of.input) text = subst (λ (p : Problem). IsReductionOf [] (verdict_in records) p text) of.is_problem came.reduced in
@@ -79,8 +68,8 @@ module _ (mode : TreeMode) (number size : ℕ) (problem : Problem) (of : IsCaseP
       record {
         problem = Problem.of_tree mode of.input;
         of_case = subst (IsCaseProblem mode number size) of.is_problem of;
-        reduces = by_rule mode of.input (alike of.input) records by text reduced;
-        is_summary = over_each mode of.input (alike of.input) records by text counts reduced is_counts;
+        reduces = by_rule mode of.input (alike [] (Problem.of_tree mode of.input) of.of_case.is_input) records by text reduced;
+        is_summary = over_each mode of.input (alike [] (Problem.of_tree mode of.input) of.of_case.is_input) records by text counts reduced is_counts;
       }
 
 -- A run of what was read of the program, without keep texts.
@@ -89,7 +78,7 @@ module _ (mode : TreeMode) (number size : ℕ) (read : ReadProblem) (of : (probl
   its_end : ProblemEnds count [] of.0 history gates (no_faults workers) 0 0 outcome
   its_end = subst (λ (k : List (List ℕ)). ProblemEnds count k of.0 history gates (no_faults workers) 0 0 outcome) none (ends of.0 (subst (λ (k : List (List ℕ)). IsReadAs k read of.0) (sym none) of.1))
 
-  pub ends_with_summary : ((input : TreeInput) → AgreeingMapsReduceAlike (walk_mode (round_of mode) input)) → (reduced : Reduced) → outcome ≡ Ok reduced → IsSummary mode number size (first_lines reduced.counts ++ reduced.text.items)
+  pub ends_with_summary : ProblemsReduceAlike → (reduced : Reduced) → outcome ≡ Ok reduced → IsSummary mode number size (first_lines reduced.counts ++ reduced.text.items)
   ends_with_summary alike reduced is =
       let end = subst (ProblemEnds count [] of.0 history gates (no_faults workers) 0 0) is its_end in
       is_summary mode number size of.0 of.2 count gates workers history by alike reduced.text.items reduced.counts end.0

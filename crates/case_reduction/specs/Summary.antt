@@ -10,8 +10,8 @@ use Rattle.case_maker.specs.Mini.{mini_text}
 use Rattle.reduce_trees_mode.specs.Input.{TreeInput}
 use Rattle.reduce_trees_input.specs.Parsed.{IsInputOf}
 use Rattle.reduce_journal.specs.Report.{four_lines}
-use Rattle.reduce_rounds.specs.Laws.{Agree, HasVerdicts}
-use Rattle.reduce_rounds.specs.RoundsPlan.{capped_count}
+use Rattle.reduce_rounds.specs.Verdicts.{Agree, HasVerdicts}
+use Rattle.reduce_rounds.specs.Reduction.{capped_count}
 use Rattle.reduce_step.specs.declared.mode.TreeMode.{TreeMode}
 use Rattle.run_problem.specs.Problem.{IsReductionOf, Problem, questions_of, reduced_text, reduced_units, rounds_of, start_of, units_of}
 

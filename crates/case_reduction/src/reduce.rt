@@ -3,9 +3,6 @@
 ghost use Rattle.std.specs.Prelude.{◌≡◌, ◌≤◌, [], None, IfOk};
 ghost use Rattle.grammar_load.specs.Answer.{Spells};
 ghost use Rattle.case_maker.specs.Mini.{mini_text};
-ghost use Rattle.reduce_trees_mode.specs.Input.{TreeInput};
-ghost use Rattle.reduce_trees.specs.WalkMode.{walk_mode};
-ghost use Rattle.reduce_rounds.specs.Laws.{AgreeingMapsReduceAlike};
 ghost use Rattle.run_gated.specs.declared.fault.RunFault.TheVariants.{Memory as OutOfMemory};
 ghost use Rattle.run_problem.specs.Problem.{Problem};
 ghost use Rattle.run_problem.specs.Read.{IsReadAs, IsReady};
@@ -19,14 +16,9 @@ use faults::Memory;
 use grammar_load::{GrammarFault, checked_grammar};
 use grammar_tree::Checked;
 use keep_guard::{Guard, KeepTexts};
-use reduce_hdd::TreeLevels;
-use reduce_perses::TreeVisits;
-use reduce_rounds::agreeing_maps;
-use reduce_trees::TreeRound;
 use reduce_trees_input::{InputFault, parsed_input};
-use reduce_walk::TreeWalk;
 use run_gated::{Ran, RunFault};
-use run_problem::{ReadProblem, TreeMode, run_problem};
+use run_problem::{ReadProblem, TreeMode, problems_reduce_alike, run_problem};
 use script_gate_trait::RuleGate;
 use std::alloc::Global;
 use std::sync::Wait;
@@ -77,14 +69,6 @@ fn case_problem(
     }
 }
 
-/// Reductions over two maps of verdicts that agree are equal. It does nothing: a caller calls it so that
-/// its proof knows.
-fn reductions_agree<W: TreeWalk + Drop>()
-    ensures { (input : TreeInput) → AgreeingMapsReduceAlike (walk_mode W.round input) }
-{
-    agreeing_maps::<TreeRound<'_, KeepTexts<'_>, W>>();
-}
-
 /// Why a run of a program over the rule has no result: the rule says yes to each program, and neither
 /// it nor the sink ever fails.
 fn memory_of(fault: RunFault) -> Memory
@@ -111,8 +95,7 @@ pub fn case_summary<W: Threads + Wait + Sync>(
     ensures { IfOk result (λ text. IsSummary mode number size text.items) }
 {
     cases_get_yes();
-    reductions_agree::<TreeVisits>();
-    reductions_agree::<TreeLevels>();
+    problems_reduce_alike();
     let problem = case_problem(alloc, number, size, mode)?;
     let guard = Guard::new(KeepTexts::new(alloc));
     let mut workers = [Worker::new(RuleGate::<RULE>::new(alloc, false), 1)];

@@ -1,8 +1,22 @@
--- What is kept from one index on.
-use Rattle.std.proofs.Common.{◌≡◌, ◌+◌, ◌<◌, ◌++◌, ◌∙◌, sym, append_assoc, ℕ, suc, zero, Bool, true, false, List, [], ◌∷◌, refl, ap, drop, get_or, length, arith}
+-- What is kept of a list.
+use Rattle.std.proofs.Common.{◌≡◌, ◌+◌, ◌<◌, ◌≤◌, ◌++◌, ◌∙◌, sym, append_assoc, ℕ, suc, zero, Bool, true, false, List, [], ◌∷◌, refl, ap, drop, get_or, length, replicate, arith}
 use Rattle.list_ddmin.specs.ListStep.{kept_of}
 use Rattle.reduce_core.specs.declared.lines.Line.{Line}
 use Rattle.reduce_core.specs.Lines.{numbers_of, text_of}
+
+pub length-kept_of : {X : Type 0} (keep : List Bool) (xs : List X) → length (kept_of keep xs) ≤ length xs
+length-kept_of [] xs = omega arith
+length-kept_of (true ∷ keep) [] = omega arith
+length-kept_of (false ∷ keep) [] = omega arith
+length-kept_of (true ∷ keep) (x ∷ xs) = let rest = length-kept_of keep xs in omega arith
+length-kept_of (false ∷ keep) (x ∷ xs) = let rest = length-kept_of keep xs in omega arith
+
+-- what keeps all keeps each
+pub kept_of-all : {X : Type 0} (xs : List X) → kept_of (replicate (length xs) true) xs ≡ xs
+kept_of-all [] = refl
+kept_of-all (x ∷ xs) = ap (λ rest. x ∷ rest) (kept_of-all xs)
+
+-- From one index on.
 
 -- a kept element comes first, and what is kept after it follows
 pub kept_of-kept : {X : Type 0} (keep : List Bool) (xs : List X) (k : ℕ) (d : Bool) (x : X) → k < length keep → length keep ≡ length xs → get_or keep k d ≡ true

@@ -1,8 +1,7 @@
-pub mod Rounds
 pub mod LinesLemmas
 pub mod Subsequences
 pub mod LineLaws
-pub mod ByRounds
+pub mod LineRounds
 pub mod LawLemmas
 pub mod Keeping
 pub mod Limits

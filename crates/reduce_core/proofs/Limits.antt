@@ -9,7 +9,7 @@ use Rattle.reduce_core.specs.declared.lines.Line.{Line}
 use Rattle.reduce_core.specs.Lines.{at_front_of, lines_of, numbered_lines, text_of}
 use Rattle.reduce_core.specs.Fields.{IsInLimit}
 use Rattle.reduce_core.proofs.LinesLemmas.{kept_of-rises, length-numbered, numbered_lines-rise, text-numbered_lines}
-use Rattle.reduce_core.proofs.Rounds.{length-kept_of}
+use Rattle.reduce_core.proofs.Keeping.{length-kept_of}
 
 pub length-text-kept_of : (keep : List Bool) (lines : List Line) → length (text_of (kept_of keep lines)) ≤ length (text_of lines)
 length-text-kept_of [] lines = omega arith

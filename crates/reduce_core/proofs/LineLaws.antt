@@ -12,8 +12,9 @@ use Rattle.reduce_list_trials.proofs.AtNo.{tries_deletions}
 use Rattle.reduce_rounds.specs.Trials.{Done}
 use Rattle.reduce_core.specs.declared.lines.Line.{Line}
 use Rattle.reduce_core.specs.Lines.{numbered_lines}
-use Rattle.reduce_core.specs.LineMode.{AreOfStart, IsLineEdit, LineInput, line_mode, line_trials}
-use Rattle.reduce_core.proofs.Rounds.{kept_of-all}
+use Rattle.reduce_core.specs.Candidates.{IsLineEdit}
+use Rattle.reduce_core.specs.LineMode.{AreOfStart, LineInput, line_mode, line_trials}
+use Rattle.reduce_core.proofs.Keeping.{kept_of-all}
 use Rattle.reduce_core.proofs.Subsequences.{all-subsequence, kept-subsequence}
 
 flags-same : (question keep : List Bool) → KeepsOnlyOf question keep → length question ≡ length keep
@@ -45,7 +46,7 @@ line_keeps input = record {
       (λ keep selection. kept-subsequence keep lines (numbered_lines input.start) of_start) (λ keep remainder. tt);
 }
 
-smaller-round : (lines : List Line) → EachIsSmaller (λ (l : List Line). length l) (length lines) (line_trials lines (list_start (length lines) true))
+pub smaller-round : (lines : List Line) → EachIsSmaller (λ (l : List Line). length l) (length lines) (line_trials lines (list_start (length lines) true))
 smaller-round lines =
     subst (λ (l : List Line). EachIsSmaller (λ (m : List Line). length m) (length l) (line_trials lines (list_start (length lines) true))) (kept_of-all lines)
     (becomes_smaller (λ (l : List Line). length l) (λ keep. kept_of keep lines) (λ keep. Done) (length lines) true (fewer-lines lines) (λ keep remainder. tt))

@@ -3,16 +3,18 @@ use Rattle.std.proofs.Common.{◌≡◌, ◌≢◌, ◌+◌, ◌<◌, ◌≤◌,
 use Rattle.std.specs.Prelude.{unwrap_or}
 use Rattle.std.specs.Cmp.Lexicographic.{pointwise}
 use Rattle.std.specs.List.{AllByRecursion}
+use Rattle.std.proofs.lemmas.List.{append-nil}
 use Rattle.list_ddmin.specs.ListStep.{Outcome, kept_of, list_step}
 use Rattle.list_ddmin.specs.Machine.{AgreeingMaps, QuestionsFit}
 use Rattle.reduce_core.specs.declared.lines.Line.{Line}
-use Rattle.reduce_core.specs.Lines.{numbered_lines}
-use Rattle.reduce_core.specs.Reduction.{Admits, LineReduction, after_line_round, asks_lines_first, candidate, ends_at_lines, is_listed_at, next_round, line_reduction, line_round_of, line_rounds, line_rounds_within, texts_asked}
-use Rattle.reduce_core.proofs.Rounds.{line_rounds-step}
-use Rattle.std.proofs.lemmas.Bool.{cond_both, eqb-true, eqb-false}
-use Rattle.std.specs.Prelude.{◌==◌}
+use Rattle.reduce_rounds.specs.Reduction.{Recursion, Reduction, RoundEnd, after_opening, asks_first, end_at, ends_with, next_rounds, reduction, rounds_of, rounds_within}
+use Rattle.reduce_core.specs.Lines.{numbered_lines, text_of}
+use Rattle.reduce_core.specs.Reduction.{Admits, is_listed, line_recursion, line_round, line_step}
+use Rattle.reduce_core.proofs.LineRounds.{fewer-after-yes, rounds-step, same-without-yes}
+use Rattle.reduce_core.proofs.LinesLemmas.{text-numbered_lines}
+use Rattle.std.proofs.lemmas.Bool.{cond_both}
 use Rattle.std.specs.Bool.{beq}
-use Rattle.reduce_core.specs.Plain.{is_among, first_other, with_yes}
+use Rattle.reduce_core.specs.Plain.{is_among, first_other, texts_asked, with_yes}
 
 either : (b : Bool) → (b ≡ true) ⊎ (b ≡ false)
 either true = inl refl
@@ -207,64 +209,88 @@ pub answered-none : (verdict : List Bool → Bool) → IsAnswered verdict [] []
 answered-none verdict keep = refl
 
 -- each round adds one to the count, and there are at most so many
-rounds-within-few : (admits : Admits) (verdict : List ℕ → Bool) (n : ℕ) (lines : List Line) → (line_rounds_within n admits verdict lines).rounds ≤ n
-unfolding line_rounds_within
-rounds-within-few admits verdict zero lines = omega arith
-rounds-within-few admits verdict (suc n) lines =
-    let left : List Line = kept_of (line_round_of admits verdict lines).result lines in
-    let few : (next_round (λ l. line_rounds_within n admits verdict l) lines left).rounds ≤ n =
-    cond_both (length left == length lines) (ends_at_lines lines false) (line_rounds_within n admits verdict left) (λ r. r.rounds ≤ n)
-    (λ _. omega arith) (λ _. rounds-within-few admits verdict n left) in
+rounds-within-few : {T : Type 0} (recursion : Recursion T) (verdict : List ℕ → Bool) (n : ℕ) (state : T) → (rounds_within n recursion verdict state).rounds ≤ n
+unfolding rounds_within
+rounds-within-few recursion verdict zero state = omega arith
+rounds-within-few {T = T} recursion verdict (suc n) state =
+    let last : RoundEnd T = recursion.round verdict state in
+    let few : (next_rounds (λ remaining. rounds_within n recursion verdict remaining) last).rounds ≤ n =
+    cond_both last.changed (rounds_within n recursion verdict last.state) (ends_with last.state false) (λ (r : Reduction T). r.rounds ≤ n)
+    (λ _. rounds-within-few recursion verdict n last.state) (λ _. omega arith) in
     omega arith
 
-pub rounds-few : (admits : Admits) (verdict : List ℕ → Bool) (lines : List Line) → (line_rounds admits verdict lines).rounds ≤ suc (length lines)
-unfolding line_rounds
-rounds-few admits verdict lines = rounds-within-few admits verdict (suc (length lines)) lines
+pub rounds-few : (admits : Admits) (verdict : List ℕ → Bool) (start : List ℕ) (lines : List Line) → (rounds_of (line_recursion admits start) verdict lines).rounds ≤ suc (length lines)
+unfolding rounds_of
+rounds-few admits verdict start lines = rounds-within-few (line_recursion admits start) verdict (suc (length lines)) lines
 
-eqb-same : (m n : ℕ) → m ≡ n → (m == n) ≡ true
-eqb-same m n same = ⊎_elim (λ is. is) (λ differs. absurd (eqb-false m n differs same)) (either (m == n))
+module _ (admits : Admits) (verdict : List ℕ → Bool) (start : List ℕ) (lines : List Line) (o : Outcome) (texts : List (List ℕ)) (left : List Line)
+    (round_is : o ≡ line_step admits verdict lines) (texts_are : texts ≡ texts_asked admits lines o.questions) (left_is : left ≡ kept_of o.result lines) where
+  abbrev go : List Line → Reduction (List Line)
+  go l = rounds_of (line_recursion admits start) verdict l
 
-differ : (m n : ℕ) → m ≢ n → (m == n) ≡ false
-differ m n other = ⊎_elim (λ same. absurd (other (eqb-true m n same))) (λ is. is) (either (m == n))
+  abbrev end : RoundEnd (List Line)
+  end = line_round admits verdict lines
 
-module _ (admits : Admits) (verdict : List ℕ → Bool) (lines : List Line) (o : Outcome) (texts : List (List ℕ)) (left : List Line)
-    (round_is : o ≡ line_round_of admits verdict lines) (texts_are : texts ≡ texts_asked admits lines o.questions) (left_is : left ≡ kept_of o.result lines) where
-  by-parts : (later : LineReduction) → later ≡ next_round (λ l. line_rounds admits verdict l) lines left → after_line_round texts later ≡ line_rounds admits verdict lines
+  asked : texts ≡ end.questions
+  asked =
+      texts_are
+      ∙ ap (λ (p : Outcome). texts_asked admits lines p.questions) round_is
+      ∙ sym (append-nil (texts_asked admits lines (line_step admits verdict lines).questions))
+
+  remains : left ≡ end.state
+  remains = left_is ∙ ap (λ (p : Outcome). kept_of p.result lines) round_is
+
+  by-parts : (later : Reduction (List Line)) → later ≡ next_rounds go end → record later { questions = texts ++ later.questions; rounds = later.rounds + 1 } ≡ go lines
   by-parts later later_is =
-      (λ i. after_line_round (texts_are i) (later_is i))
-      ∙ ap (λ l. after_line_round (texts_asked admits lines o.questions) (next_round (λ l'. line_rounds admits verdict l') lines l)) left_is
-      ∙ ap (λ (p : Outcome). after_line_round (texts_asked admits lines p.questions) (next_round (λ l. line_rounds admits verdict l) lines (kept_of p.result lines))) round_is
-      ∙ sym (line_rounds-step admits verdict lines)
+      (λ i. record (later_is i) { questions = asked i ++ (later_is i).questions; rounds = (later_is i).rounds + 1 }) ∙ sym (rounds-step admits start verdict lines)
 
-  -- a round that changed nothing is the last one
-  pub last-round : length left ≡ length lines → after_line_round texts (ends_at_lines lines false) ≡ line_rounds admits verdict lines
-  last-round same = by-parts (ends_at_lines lines false) (sym (ap (λ b. cond b (ends_at_lines lines false) (line_rounds admits verdict left)) (eqb-same (length left) (length lines) same)))
+  -- a round that left as many was the last one
+  pub last-round : length left ≡ length lines → record (ends_with lines false) { questions = texts ++ []; rounds = 0 + 1 } ≡ go lines
+  last-round same = ⊎_elim
+      (λ is. absurd (let less : length end.state < length lines = fewer-after-yes admits start verdict lines is in let as_left : length left ≡ length end.state = ap (λ (l : List Line). length l) remains in omega (arith, less, as_left, same)))
+      (λ is. by-parts (ends_with lines false)
+      (ap (λ (l : List Line). ends_with l false) (sym (same-without-yes admits start verdict lines is)) ∙ sym (ap (λ b. cond b (go end.state) (ends_with end.state false)) is)))
+      (either end.changed)
 
   -- after any other the rounds go on with what is left
-  pub next-rounds : length left ≢ length lines → after_line_round texts (line_rounds admits verdict left) ≡ line_rounds admits verdict lines
-  next-rounds other = by-parts (line_rounds admits verdict left) (sym (ap (λ b. cond b (ends_at_lines lines false) (line_rounds admits verdict left)) (differ (length left) (length lines) other)))
+  pub next-rounds : length left ≢ length lines → record (go left) { questions = texts ++ (go left).questions; rounds = (go left).rounds + 1 } ≡ go lines
+  next-rounds other = ⊎_elim
+      (λ is. by-parts (go left) (ap go remains ∙ sym (ap (λ b. cond b (go end.state) (ends_with end.state false)) is)))
+      (λ is. absurd (other (ap (λ (l : List Line). length l) (remains ∙ same-without-yes admits start verdict lines is))))
+      (either end.changed)
 
-pub line_reduction-no : (admits : Admits) (verdict : List ℕ → Bool) (start : List ℕ) → verdict start ≡ false → asks_lines_first start (ends_at_lines (numbered_lines start) true) ≡ line_reduction admits verdict start
-unfolding line_reduction
-line_reduction-no admits verdict start is = ap (λ b. asks_lines_first start (cond b (line_rounds admits verdict (numbered_lines start)) (ends_at_lines (numbered_lines start) true))) (sym is)
+module _ (admits : Admits) (verdict : List ℕ → Bool) (start : List ℕ) where
+  abbrev first : List Line
+  first = numbered_lines start
 
-pub line_reduction-yes : (admits : Admits) (verdict : List ℕ → Bool) (start : List ℕ) → verdict start ≡ true → asks_lines_first start (line_rounds admits verdict (numbered_lines start)) ≡ line_reduction admits verdict start
-unfolding line_reduction
-line_reduction-yes admits verdict start is = ap (λ b. asks_lines_first start (cond b (line_rounds admits verdict (numbered_lines start)) (ends_at_lines (numbered_lines start) true))) (sym is)
+  abbrev rounds_first : Reduction (List Line)
+  rounds_first = rounds_of (line_recursion admits start) verdict first
+
+  -- the reduction asks the lines' text, which is the start
+  asks-start : asks_first start (cond (verdict start) (after_opening (end_at first) rounds_first) (ends_with first true)) ≡ reduction (line_recursion admits start) verdict
+  unfolding reduction
+  asks-start = λ i.
+      asks_first (sym (text-numbered_lines start) i) (cond (verdict (sym (text-numbered_lines start) i)) (after_opening (end_at first) rounds_first) (ends_with first true))
+
+  pub reduction-no : verdict start ≡ false → asks_first start (ends_with first true) ≡ reduction (line_recursion admits start) verdict
+  reduction-no is = ap (λ b. asks_first start (cond b (after_opening (end_at first) rounds_first) (ends_with first true))) (sym is) ∙ asks-start
+
+  pub reduction-yes : verdict start ≡ true → asks_first start rounds_first ≡ reduction (line_recursion admits start) verdict
+  reduction-yes is = ap (λ b. asks_first start (cond b (after_opening (end_at first) rounds_first) (ends_with first true))) (sym is) ∙ asks-start
 
 -- one keep list more before those that follow
 pub asked-more : (admits : Admits) (lines : List Line) (texts texts' : List (List ℕ)) (keep : List Bool) (keeps : List (List Bool)) (whole : List (List ℕ))
-    → is_listed_at admits lines keep ≡ true → texts' ≡ texts ++ candidate lines keep ∷ [] → texts ++ texts_asked admits lines (keep ∷ keeps) ≡ whole → texts' ++ texts_asked admits lines keeps ≡ whole
+    → is_listed admits (kept_of keep lines) ≡ true → texts' ≡ texts ++ text_of (kept_of keep lines) ∷ [] → texts ++ texts_asked admits lines (keep ∷ keeps) ≡ whole → texts' ++ texts_asked admits lines keeps ≡ whole
 asked-more admits lines texts texts' keep keeps whole listed more before =
     ap (λ ts. ts ++ texts_asked admits lines keeps) more
-    ∙ append_assoc texts (candidate lines keep ∷ []) (texts_asked admits lines keeps)
-    ∙ ap (λ b. texts ++ cond b (candidate lines keep ∷ texts_asked admits lines keeps) (texts_asked admits lines keeps)) (sym listed)
+    ∙ append_assoc texts (text_of (kept_of keep lines) ∷ []) (texts_asked admits lines keeps)
+    ∙ ap (λ b. texts ++ cond b (text_of (kept_of keep lines) ∷ texts_asked admits lines keeps) (texts_asked admits lines keeps)) (sym listed)
     ∙ before
 
 pub asked-same : (admits : Admits) (lines : List Line) (texts : List (List ℕ)) (keep : List Bool) (keeps : List (List Bool)) (whole : List (List ℕ))
-    → is_listed_at admits lines keep ≡ false → texts ++ texts_asked admits lines (keep ∷ keeps) ≡ whole → texts ++ texts_asked admits lines keeps ≡ whole
+    → is_listed admits (kept_of keep lines) ≡ false → texts ++ texts_asked admits lines (keep ∷ keeps) ≡ whole → texts ++ texts_asked admits lines keeps ≡ whole
 asked-same admits lines texts keep keeps whole unlisted before =
-    ap (λ b. texts ++ cond b (candidate lines keep ∷ texts_asked admits lines keeps) (texts_asked admits lines keeps)) (sym unlisted) ∙ before
+    ap (λ b. texts ++ cond b (text_of (kept_of keep lines) ∷ texts_asked admits lines keeps) (texts_asked admits lines keeps)) (sym unlisted) ∙ before
 
 -- what holds of all holds of the one at an index
 pub all-at : {X Y : Type 0} (P : X → Type 0) (f : Y → X) (ys : List Y) (k : ℕ) (y : Y) → AllByRecursion P (map f ys) → k < length ys → P (f (get_or ys k y))

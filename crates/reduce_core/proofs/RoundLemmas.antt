@@ -19,7 +19,7 @@ use Rattle.reduce_core.specs.LineMode.{LineInput, line_mode, line_trials}
 use Rattle.reduce_core.specs.Fields.{Agrees, AreCopies, IsAbout, IsAsked, IsInLimit, IsOf, IsReady, rest_of}
 use Rattle.reduce_core.proofs.Limits.{length-text-kept_of}
 use Rattle.reduce_core.proofs.LinesLemmas.{length-numbers_of}
-use Rattle.reduce_core.proofs.Rounds.{kept_of-all}
+use Rattle.reduce_core.proofs.Keeping.{kept_of-all}
 
 question-of : (admits : Admits) (o : Option (List Bool)) (lines : List Line) (question : Question) → IsAbout admits o lines question
     → (keep : List Bool) × (o ≡ Some keep) × IsOf admits lines keep question

@@ -2,7 +2,7 @@
 use Rattle.std.proofs.Common.{Bool, true, false, List, [], ◌∷◌}
 use Rattle.list_ddmin.specs.ListStep.{kept_of}
 use Rattle.reduce_core.specs.declared.lines.Line.{Line}
-use Rattle.reduce_core.specs.Minimal.{IsSubsequence, nothing, keeps, leaves}
+use Rattle.reduce_core.specs.Candidates.{IsSubsequence, nothing, keeps, leaves}
 
 pub all-subsequence : (xs : List Line) → IsSubsequence xs xs
 all-subsequence [] = nothing

@@ -1,48 +1,44 @@
 -- What holds of the reducer of lines, whatever it is answered.
-use Rattle.std.specs.Prelude.{◌≡◌, ℕ, List, All, Bool, true, false, length, Option, Some}
+use Rattle.std.specs.Prelude.{◌≡◌, ℕ, List, All, Bool, true, false, Option}
 use Rattle.script_gate_trait.specs.declared.gate.Verdict.{Verdict}
-use Rattle.script_gate_trait.specs.declared.gate.Verdict.TheVariants.{Yes, No}
-use Rattle.reduce_step.specs.Plan.{StepResult, End, HasEnded, MayAsk, follow}
+use Rattle.reduce_step.specs.Plan.{MayAsk}
 use Rattle.reduce_step.specs.Ahead.{after_all, ahead}
-use Rattle.reduce_rounds.specs.RoundsPlan.{capped_count}
 use Rattle.reduce_rounds.specs.Reduction.{reduction}
-use Rattle.reduce_rounds.specs.Laws.{HasVerdicts, says_yes}
-use Rattle.reduce_core.specs.Minimal.{IsLineCandidate, IsMinimal}
-use Rattle.list_ddmin.specs.ListStep.{kept_of}
-use Rattle.reduce_core.specs.declared.lines.Line.{Line}
+use Rattle.reduce_rounds.specs.ByTrials.{reduction_of}
+use Rattle.reduce_rounds.specs.Laws.{EndsWell, GoesByItsRounds, IsTheReduction, RefusesAtNo}
+use Rattle.reduce_rounds.specs.Verdicts.{HasVerdicts, says_yes}
+use Rattle.reduce_core.specs.Candidates.{IsLineCandidate, IsLineEdit}
 use Rattle.reduce_core.specs.Lines.{numbered_lines, text_of}
-use Rattle.reduce_core.specs.Reduction.{Admits, LineReduction, after_line_round, is_listed, next_round, line_reduction, line_round_of, line_rounds, texts_asked}
-use Rattle.reduce_core.specs.LineMode.{in_rounds, line_mode, line_plan}
+use Rattle.reduce_core.specs.Reduction.{Admits, is_listed, line_recursion}
+use Rattle.reduce_core.specs.LineMode.{AreOfStart, line_mode, line_plan}
 
--- what a reduction ends with; a count stays at its greatest value
-abbrev pub result_of : LineReduction → StepResult
-result_of r =
-    record { text = text_of r.lines; units = length r.lines; used = capped_count (length r.questions); rounds = capped_count r.rounds; refused = r.refused }
+-- The lines of a text, one after another, are the text.
+abbrev pub LinesAreTheText : Type 0
+LinesAreTheText = (start : List ℕ) → text_of (numbered_lines start) ≡ start
 
--- Followed over a map of verdicts, the machine ends exactly where the map has a verdict for each text that the reduction asks, and then with the reduction's result.
-pub record IsTheReduction (admits : Admits) (V : List ℕ → Option Verdict) (start : List ℕ) : Type 0 where
-  pub ends : HasVerdicts V (line_reduction admits (says_yes V) start).questions
-      → follow V (line_plan admits start) ≡ End (result_of (line_reduction admits (says_yes V) start))
-  pub defined : HasEnded (follow V (line_plan admits start)) → HasVerdicts V (line_reduction admits (says_yes V) start).questions
+-- The reductions in mode `lines`, by what it tries, are those of its recursion.
+abbrev pub LinesAreRecursions : Type 0
+LinesAreRecursions = (admits : Admits) (verdict : List ℕ → Bool) (start : List ℕ)
+    → reduction (line_recursion admits start) verdict ≡ reduction_of (line_mode (record { admits = admits; start = start })) verdict
 
-abbrev pub FollowsReduction : Type 0
-FollowsReduction = (admits : Admits) (V : List ℕ → Option Verdict) (start : List ℕ) → IsTheReduction admits V start
+-- The reducer does what the recursion says.
+abbrev pub FollowsLines : Type 0
+FollowsLines = (admits : Admits) (V : List ℕ → Option Verdict) (start : List ℕ) → IsTheReduction (line_plan admits start) (line_recursion admits start) V
 
 -- The start is refused exactly where its verdict is no.
-abbrev pub RefusesAtNo : Type 0
-RefusesAtNo = (admits : Admits) (V : List ℕ → Option Verdict) (start : List ℕ) →
-    (V start ≡ Some Yes → (line_reduction admits (says_yes V) start).refused ≡ false)
-    × (V start ≡ Some No → HasEnded (follow V (line_plan admits start)) × ((line_reduction admits (says_yes V) start).refused ≡ true))
+abbrev pub RefusesLinesAtNo : Type 0
+RefusesLinesAtNo = (admits : Admits) (start : List ℕ) → RefusesAtNo (line_plan admits start) (line_recursion admits start)
 
--- A reduction of an admitted start that was not refused ends at a yes, which is admitted, and each of the candidates with one line fewer that is listed has a no.
-pub record EndsWell (admits : Admits) (V : List ℕ → Option Verdict) (r : LineReduction) : Type 0 where
-  pub yes_at_end : V (text_of r.lines) ≡ Some Yes
-  pub listed : is_listed admits r.lines ≡ true
-  pub minimal : IsMinimal admits V r.lines
+-- The rounds from any lines are one round and what follows.
+abbrev pub LinesGoByRounds : Type 0
+LinesGoByRounds = (admits : Admits) (start : List ℕ) → GoesByItsRounds (line_recursion admits start) (λ lines. Unit {0})
 
-abbrev pub EndsMinimal : Type 0
-EndsMinimal = (admits : Admits) (V : List ℕ → Option Verdict) (start : List ℕ) → is_listed admits (numbered_lines start) ≡ true →
-    (line_reduction admits (says_yes V) start).refused ≡ false → HasVerdicts V (line_reduction admits (says_yes V) start).questions → EndsWell admits V (line_reduction admits (says_yes V) start)
+-- A reduction of an admitted start that was not refused ends well: at some of its lines that are admitted and have a yes, and without any one of them those that are left aren't admitted or have a no.
+abbrev pub LinesEndMinimal : Type 0
+LinesEndMinimal = (admits : Admits) (V : List ℕ → Option Verdict) (start : List ℕ) → is_listed admits (numbered_lines start) ≡ true
+    → (reduction (line_recursion admits start) (says_yes V)).refused ≡ false
+    → HasVerdicts V (reduction (line_recursion admits start) (says_yes V)).questions
+    → EndsWell (line_mode (record { admits = admits; start = start })) (AreOfStart (record { admits = admits; start = start })) IsLineEdit V (reduction (line_recursion admits start) (says_yes V)).state
 
 -- All that may be asked is some of an admitted start's lines, and admitted.
 abbrev pub AsksCandidates : Type 0
@@ -52,14 +48,3 @@ AsksCandidates = (admits : Admits) (start text : List ℕ) → is_listed admits 
 abbrev pub AheadAreCandidates : Type 0
 AheadAreCandidates = (admits : Admits) (start : List ℕ) → is_listed admits (numbered_lines start) ≡ true → (answers : List Verdict) (most : ℕ)
     → All (λ text. IsLineCandidate admits start text) (ahead most (after_all answers (line_plan admits start)))
-
--- The rounds of a reduction are one round and what follows: the bound in their definition is never met.
-abbrev pub GoesByItsRounds : Type 0
-GoesByItsRounds = (admits : Admits) (verdict : List ℕ → Bool) (lines : List Line) → line_rounds admits verdict lines
-    ≡ after_line_round (texts_asked admits lines (line_round_of admits verdict lines).questions)
-    (next_round (λ remaining. line_rounds admits verdict remaining) lines (kept_of (line_round_of admits verdict lines).result lines))
-
--- The reduction of lines is the reduction by rounds in mode `lines`.
-abbrev pub IsByRounds : Type 0
-IsByRounds = (admits : Admits) (verdict : List ℕ → Bool) (start : List ℕ)
-    → reduction (line_mode (record { admits = admits; start = start })) verdict ≡ in_rounds (line_reduction admits verdict start)

@@ -5,7 +5,7 @@ pub use Rattle.reduce_list_trials.specs.ListTrials
 pub mod Lines
 pub mod Reduction
 pub mod Plain
-pub mod Minimal
+pub mod Candidates
 pub mod LineMode
 pub mod Fields
 pub mod FieldProps

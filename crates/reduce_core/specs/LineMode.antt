@@ -1,17 +1,16 @@
--- Mode `lines` of reductions by rounds: a state is some of the start's lines, and a round is one list step over them.
-use Rattle.std.specs.Prelude.{◌≡◌, ◌<◌, ℕ, true, List, length, remove}
+-- Mode `lines` of reductions by rounds, as what it tries: a state is some of the start's lines, and a round is one list step over them.
+use Rattle.std.specs.Prelude.{ℕ, true, List, length}
 use Rattle.reduce_step.specs.Plan.{Plan}
 use Rattle.list_ddmin.specs.ListStep.{kept_of}
 use Rattle.list_ddmin.specs.Machine.{State, start as list_start}
 use Rattle.reduce_rounds.specs.Trials.{Trials, Done}
 use Rattle.reduce_rounds.specs.Mode.{RoundMode}
-use Rattle.reduce_rounds.specs.Reduction.{Reduction}
 use Rattle.reduce_rounds.specs.RoundsPlan.{plan_first}
 use Rattle.reduce_list_trials.specs.ListTrials.{list_trials}
 use Rattle.reduce_core.specs.declared.lines.Line.{Line}
 use Rattle.reduce_core.specs.Lines.{numbered_lines, text_of}
-use Rattle.reduce_core.specs.Reduction.{Admits, LineReduction, is_listed}
-use Rattle.reduce_core.specs.Minimal.{IsSubsequence}
+use Rattle.reduce_core.specs.Reduction.{Admits, is_listed}
+use Rattle.reduce_core.specs.Candidates.{IsSubsequence}
 
 -- what never changes: which candidates are admitted, and the start
 pub record LineInput : Type 0 where
@@ -36,14 +35,6 @@ line_mode input = record {
 abbrev pub AreOfStart : LineInput → List Line → Type 0
 AreOfStart input lines = IsSubsequence lines (numbered_lines input.start)
 
--- one line is deleted
-abbrev pub IsLineEdit : List Line → List Line → Type 0
-IsLineEdit lines other = (k : ℕ) × (k < length lines) × (other ≡ remove lines k)
-
 -- what a reducer of lines does
 abbrev pub line_plan : Admits → List ℕ → Plan
 line_plan admits start = plan_first (line_mode (record { admits = admits; start = start }))
-
--- a reduction of lines in the words of reductions by rounds
-abbrev pub in_rounds : LineReduction → Reduction (List Line)
-in_rounds r = record { questions = r.questions; state = r.lines; rounds = r.rounds; refused = r.refused }

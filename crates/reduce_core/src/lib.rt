@@ -1,11 +1,12 @@
 //! The reducers, which are asked for texts and answered with verdicts until they ask nothing more.
 //!
 //! Enter by [`line_reducer`], the reducer of mode `lines` with the guard of its candidates, and then
-//! `asks` and `answer` of `Step`; read `specs/Reduction.antt` first. What a reducer does is defined there as a recursion over a map
-//! of verdicts; as code it is a mode of `reduce_rounds` (`specs/LineMode.antt`), whose machine is
-//! asked and answered from outside. The laws tie the two together: each is a function that does
-//! nothing, which a caller calls so that its proof has the law. [`plain_reduction`] is the recursion
-//! itself as a plain program, with which a test compares the machine.
+//! `asks` and `answer` of `Step`; read `specs/Reduction.antt` first. What a reducer does is defined
+//! there as a recursion over a verdict on every text; as code it is a mode of `reduce_rounds`
+//! (`specs/LineMode.antt`), whose machine is asked and answered from outside. The laws tie the two
+//! together: each is a function that does nothing, which a caller calls so that its proof has the law.
+//! [`plain_reduction`] is the recursion itself as a plain program, with which a test compares the
+//! machine.
 #![tactic(auto)]
 
 mod laws;
@@ -16,8 +17,8 @@ mod reducer;
 
 pub use faults::Memory;
 pub use laws::{
-    ahead_are_candidates, asks_candidates, ends_minimal, follows_reduction, goes_by_its_rounds,
-    is_by_rounds, refuses_at_no,
+    ahead_are_candidates, asks_candidates, follows_lines, lines_are_recursions, lines_are_the_text,
+    lines_end_minimal, lines_go_by_rounds, refuses_lines_at_no,
 };
 pub use line_round::LineRound;
 pub use lines::{Candidate, Line, Lines};

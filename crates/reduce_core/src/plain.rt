@@ -5,11 +5,11 @@ ghost use Rattle.std.specs.List.{AllByRecursion};
 ghost use Rattle.std.specs.Option.{option_copied};
 ghost use Rattle.list_ddmin.specs.Machine.{HasLength};
 ghost use Rattle.reduce_step.specs.Limits.{text_limit};
-ghost use Rattle.reduce_core.specs.Plain.{first_other, is_among, with_yes};
+ghost use Rattle.reduce_core.specs.Plain.{first_other, is_among, texts_asked, verdict_on, with_yes};
 ghost use Rattle.keep_guard.specs.Relation.{Rises};
 ghost use Rattle.reduce_core.specs.Lines.{numbers_of};
-ghost use Rattle.reduce_core.specs.Reduction.{after_line_round, ends_at_lines, line_reduction, line_round_of, line_rounds, texts_asked, verdict_on};
-ghost use Rattle.list_ddmin.specs.ListStep.{kept_of};
+ghost use Rattle.reduce_core.specs.Reduction.{line_recursion, line_step};
+ghost use Rattle.reduce_rounds.specs.Reduction.{ends_with, reduction, rounds_of};
 
 use crate::lines::{Candidate, Lines};
 use faults::Memory;
@@ -44,12 +44,13 @@ pub struct Reduction {
 }
 
 impl Model for Reduction {
-    ghost use Rattle.std.specs.Prelude.{map};
-    ghost use Rattle.reduce_core.specs.Reduction as definition;
+    ghost use Rattle.std.specs.Prelude.{List, map};
+    ghost use Rattle.reduce_core.specs.declared.lines.Line.{Line};
+    ghost use Rattle.reduce_rounds.specs.Reduction as definition;
 
-    ghost Value = { definition.LineReduction };
+    ghost Value = { definition.Reduction (List Line) };
 
-    ghost view = { λ r. record { questions = map (λ v. v.items) r.questions.items; lines = r.lines; rounds = r.rounds; refused = r.refused } };
+    ghost view = { λ r. record { questions = map (λ v. v.items) r.questions.items; state = r.lines; rounds = r.rounds; refused = r.refused } };
 }
 
 /// The reduction of a start of at most 1,048,576 bytes, answered by `test`, in which the guard says
@@ -64,7 +65,7 @@ pub fn plain_reduction<T: Test, F: Relation>(
     start: &[u8],
 ) -> Result<Reduction, Memory>
     requires { length start.now ≤ text_limit }
-    ensures { IfOk result (λ found. found ≡ line_reduction (F.admits guard.now) (T.verdict test.now) start.now) }
+    ensures { IfOk result (λ found. found ≡ reduction (line_recursion (F.admits guard.now) start.now) (T.verdict test.now)) }
 {
     let mut questions = Vec::new(alloc);
     questions.push(Vec::from_slice(alloc, start)?)?;
@@ -109,7 +110,7 @@ fn plain_rounds<T: Test, F: Relation>(
 ) -> Result<Reduction, Memory>
     requires few { length lines ≤ text_limit }
     requires rising { Rises (numbers_of lines) }
-    ensures { IfOk result (λ found. found ≡ line_rounds (F.admits guard.now) (T.verdict test.now) lines) }
+    ensures { IfOk result (λ found. (start : List ℕ) → found ≡ rounds_of (line_recursion (F.admits guard.now) start) (T.verdict test.now) lines) }
 {
     let round = plain_round(alloc, test, guard, &lines)?;
     let texts = texts(alloc, guard, &lines, &round.questions)?;
@@ -124,7 +125,7 @@ fn plain_rounds<T: Test, F: Relation>(
 /// The reduction that makes a round first, which asks these texts.
 fn after_round(texts: Vec<Vec<u8>>, mut later: Reduction) -> Result<Reduction, Memory>
     requires { later.rounds ≤ 1048577 }
-    ensures { IfOk result (λ found. found ≡ after_line_round (map (λ v. v.items) texts.items) later) }
+    ensures { IfOk result (λ found. found ≡ record later { questions = map (λ v. v.items) texts.items ++ later.questions; rounds = later.rounds + 1 }) }
 {
     later.rounds += 1;
     after(texts, later)
@@ -132,7 +133,7 @@ fn after_round(texts: Vec<Vec<u8>>, mut later: Reduction) -> Result<Reduction, M
 
 /// No round is made any more.
 fn nothing_more(alloc: Global, lines: Lines) -> Reduction
-    ensures { result ≡ ends_at_lines lines false }
+    ensures { result ≡ ends_with lines false }
 {
     Reduction {
         questions: Vec::new(alloc),
@@ -192,7 +193,7 @@ fn plain_round<T: Test, F: Relation>(
 ) -> Result<Outcome, Memory>
     requires few { length lines.now ≤ text_limit }
     requires rising { Rises (numbers_of lines.now) }
-    ensures round { IfOk result (λ outcome. outcome ≡ line_round_of (F.admits guard.now) (T.verdict test.now) lines.now) }
+    ensures round { IfOk result (λ outcome. outcome ≡ line_step (F.admits guard.now) (T.verdict test.now) lines.now) }
     ensures fits { IfOk result (λ outcome. HasLength (length lines.now) outcome) }
 {
     agreeing_maps();
@@ -223,7 +224,7 @@ fn add_answer<T: Test, F: Relation>(
     requires rising { Rises (numbers_of lines.now) }
     ensures asked { OnOk result (map (λ v. v.items) answers.new.asked.items ≡ map (λ v. v.items) answers.old.asked.items ++ keep.now ∷ []) }
     ensures yes { OnOk result (map (λ v. v.items) answers.new.yes.items ≡
-        with_yes (verdict_on (F.admits guard.now) (T.verdict test.now) (kept_of keep.now lines.now)) (map (λ v. v.items) answers.old.yes.items) keep.now) }
+        with_yes (verdict_on (F.admits guard.now) (T.verdict test.now) lines.now keep.now) (map (λ v. v.items) answers.old.yes.items) keep.now) }
 {
     let mut candidate = Candidate::new(alloc);
     lines.write_kept(keep, &mut candidate)?;

@@ -6,13 +6,15 @@ use Rattle.list_ddmin.specs.Machine.{State, IsSound, asks, after, kept, start}
 use Rattle.list_ddmin.proofs.Follows.{IsSound-start}
 use Rattle.list_ddmin.proofs.AskedLemmas.{keeps_all_at_first}
 use Rattle.reduce_rounds.specs.Trials.{Trials, Done, Try, AllTried, EachIsSmaller, IsTriedAtNo}
-use Rattle.reduce_rounds.specs.Mode.{RoundMode}
-use Rattle.reduce_rounds.specs.Reduction.{after_question, after_yes, trials_end}
+use Rattle.reduce_rounds.specs.StateTexts.{StateTexts}
+use Rattle.reduce_rounds.specs.Reduction.{after_question, after_yes}
+use Rattle.reduce_rounds.specs.ByTrials.{trials_end}
 use Rattle.reduce_list_trials.specs.ListTrials.{list_trials}
 use Rattle.reduce_list_trials.specs.Selections.{IsRemainder, IsRemainderAt, IsSelection, IsSelectionAt}
 use Rattle.reduce_list_trials.proofs.GoesOn.{at_end, at_question}
 use Rattle.reduce_list_trials.proofs.Steps.{by_steps, kept_at_no, kept_at_yes, remainder-after, remainder-start, selection-after, selection-asked, selection-start}
-use Rattle.reduce_hdd_trials.specs.Allowed.{allowed_trials, with_allowed}
+use Rattle.reduce_hdd_trials.specs.Allowed.{allowed_trials}
+use Rattle.reduce_hdd_trials.specs.Followed.{with_allowed}
 
 module _ {T : Type 0} (test : T → Bool) where
   -- Each yes still makes the state smaller.
@@ -43,25 +45,25 @@ module _ {T : Type 0} (test : T → Bool) where
       by_test false at_no = at_no
 
   -- Over a verdict the trials come to the same as those of all states, where a state that may not be tried isn't listed.
-  pub allowed_end : (mode : RoundMode T) (verdict : List ℕ → Bool) (state : T) (trials : Trials T) →
-      trials_end mode verdict state (allowed_trials test trials) ≡ trials_end (with_allowed test mode) verdict state trials
-  allowed_end mode verdict state Done = refl
-  allowed_end mode verdict state (Try other y z) =
-      let at_yes : trials_end mode verdict other (allowed_trials test y) ≡ trials_end (with_allowed test mode) verdict other y = allowed_end mode verdict other y in
-      let at_no : trials_end mode verdict state (allowed_trials test z) ≡ trials_end (with_allowed test mode) verdict state z = allowed_end mode verdict state z in
+  pub allowed_end : (texts : StateTexts T) (verdict : List ℕ → Bool) (state : T) (trials : Trials T) →
+      trials_end texts verdict state (allowed_trials test trials) ≡ trials_end (with_allowed test texts) verdict state trials
+  allowed_end texts verdict state Done = refl
+  allowed_end texts verdict state (Try other y z) =
+      let at_yes : trials_end texts verdict other (allowed_trials test y) ≡ trials_end (with_allowed test texts) verdict other y = allowed_end texts verdict other y in
+      let at_no : trials_end texts verdict state (allowed_trials test z) ≡ trials_end (with_allowed test texts) verdict state z = allowed_end texts verdict state z in
       by_listed (test other)
-      (λ i. cond (mode.is_listed other) (after_question (mode.text other) (cond (verdict (mode.text other)) (after_yes (at_yes i)) (at_no i))) (at_no i)) at_no
+      (λ i. cond (texts.is_listed other) (after_question (texts.text other) (cond (verdict (texts.text other)) (after_yes (at_yes i)) (at_no i))) (at_no i)) at_no
     where
       by_listed : (b : Bool) →
-          trials_end mode verdict state (Try other (allowed_trials test y) (allowed_trials test z))
-          ≡ cond (mode.is_listed other)
-          (after_question (mode.text other) (cond (verdict (mode.text other)) (after_yes (trials_end (with_allowed test mode) verdict other y)) (trials_end (with_allowed test mode) verdict state z)))
-          (trials_end (with_allowed test mode) verdict state z) →
-          trials_end mode verdict state (allowed_trials test z) ≡ trials_end (with_allowed test mode) verdict state z →
-          trials_end mode verdict state (cond b (Try other (allowed_trials test y) (allowed_trials test z)) (allowed_trials test z))
-          ≡ cond (b && mode.is_listed other)
-          (after_question (mode.text other) (cond (verdict (mode.text other)) (after_yes (trials_end (with_allowed test mode) verdict other y)) (trials_end (with_allowed test mode) verdict state z)))
-          (trials_end (with_allowed test mode) verdict state z)
+          trials_end texts verdict state (Try other (allowed_trials test y) (allowed_trials test z))
+          ≡ cond (texts.is_listed other)
+          (after_question (texts.text other) (cond (verdict (texts.text other)) (after_yes (trials_end (with_allowed test texts) verdict other y)) (trials_end (with_allowed test texts) verdict state z)))
+          (trials_end (with_allowed test texts) verdict state z) →
+          trials_end texts verdict state (allowed_trials test z) ≡ trials_end (with_allowed test texts) verdict state z →
+          trials_end texts verdict state (cond b (Try other (allowed_trials test y) (allowed_trials test z)) (allowed_trials test z))
+          ≡ cond (b && texts.is_listed other)
+          (after_question (texts.text other) (cond (verdict (texts.text other)) (after_yes (trials_end (with_allowed test texts) verdict other y)) (trials_end (with_allowed test texts) verdict state z)))
+          (trials_end (with_allowed test texts) verdict state z)
       by_listed true first second = first
       by_listed false first second = second
 

@@ -5,8 +5,9 @@ use Rattle.normal_form.specs.declared.normal.Sym.{Sym}
 use Rattle.normal_form.specs.Form.{NormalForm}
 use Rattle.list_ddmin.specs.ListStep.{Outcome, list_step}
 use Rattle.reduce_rounds.specs.Trials.{Trials, Done, AllTried, EachIsSmaller, IsTriedAtNo}
-use Rattle.reduce_rounds.specs.Mode.{RoundMode}
-use Rattle.reduce_rounds.specs.Reduction.{end_at, trials_end}
+use Rattle.reduce_rounds.specs.StateTexts.{StateTexts}
+use Rattle.reduce_rounds.specs.Reduction.{end_at}
+use Rattle.reduce_rounds.specs.ByTrials.{trials_end}
 use Rattle.reduce_list_trials.specs.ListEnd.{after_texts, keep_verdict}
 use Rattle.reduce_list_trials.proofs.Tried.{becomes_smaller}
 use Rattle.reduce_list_trials.proofs.AtNo as lists
@@ -19,9 +20,9 @@ use Rattle.syntax_tree.specs.LeftLaws.{LeftIsPart, LeftIsTransitive}
 use Rattle.syntax_tree.specs.Levels.{depth}
 use Rattle.hdd_levels.specs.Levels.{fills_pluses, is_so_deep, kept_tree, level}
 use Rattle.hdd_levels.specs.Laws.{KeepingAllKeepsTree, KeptTreesAreLeft, KeptTreesAreTrees, SingleDeletionsAreOfLevels, ValidTreesFillPluses, all_but}
-use Rattle.reduce_hdd_trials.specs.Allowed.{allowed_trials, with_allowed}
+use Rattle.reduce_hdd_trials.specs.Allowed.{allowed_trials}
 use Rattle.reduce_hdd_trials.specs.Round.{level_tried, levels_within}
-use Rattle.reduce_hdd_trials.specs.Followed.{level_followed, levels_followed}
+use Rattle.reduce_hdd_trials.specs.Followed.{level_followed, levels_followed, with_allowed}
 use Rattle.reduce_hdd_trials.specs.Laws.{EndsByLevels, FewerNodesAreLighter, LosesLeaves, TriesKeptTrees, TriesSingleDeletions}
 use Rattle.reduce_hdd_trials.proofs.AllowedTrials.{allowed_end, allowed_selections, allowed_smaller, allowed_tried}
 
@@ -108,31 +109,31 @@ tries_single all single N s t u tree rise deletion =
     allowed_tried (fills_pluses N) _ u it.5 (within_tried all N t u it.0 it.1 deep it.3 it.4 (suc (depth t) - 0) 0 (omega arith) (omega (arith, deep)))
 
 -- A round comes to what its levels come to.
-module _ (all : KeepingAllKeepsTree) (N : NormalForm) (mode : RoundMode PlainTree) (verdict : List ℕ → Bool) where
-  within_end : (times d : ℕ) (t : PlainTree) → trials_end mode verdict t (levels_within N times d t) ≡ levels_followed mode verdict N times d t
+module _ (all : KeepingAllKeepsTree) (N : NormalForm) (texts : StateTexts PlainTree) (verdict : List ℕ → Bool) where
+  within_end : (times d : ℕ) (t : PlainTree) → trials_end texts verdict t (levels_within N times d t) ≡ levels_followed texts verdict N times d t
   unfolding levels_within levels_followed
   within_end zero d t = refl
   within_end (suc times) d t =
       let nodes : List ℕ = level N d t in
       let state_of : List Bool → PlainTree = λ keep. kept_tree nodes keep t in
-      let outcome : Outcome = list_step (λ keep. keep_verdict mode verdict state_of keep) (length nodes) true in
+      let outcome : Outcome = list_step (λ keep. keep_verdict texts verdict state_of keep) (length nodes) true in
       by_deep (is_so_deep d t)
-      (subst (λ (u : PlainTree). trials_end mode verdict u (level_tried (λ w. levels_within N times (suc d) w) N d t) ≡ level_followed mode verdict (λ w. levels_followed mode verdict N times (suc d) w) N d t) (all nodes t)
-      (ends_as_list_step mode verdict (λ keep. kept_tree nodes keep t) (λ keep. levels_within N times (suc d) (kept_tree nodes keep t)) (length nodes) true
+      (subst (λ (u : PlainTree). trials_end texts verdict u (level_tried (λ w. levels_within N times (suc d) w) N d t) ≡ level_followed texts verdict (λ w. levels_followed texts verdict N times (suc d) w) N d t) (all nodes t)
+      (ends_as_list_step texts verdict (λ keep. kept_tree nodes keep t) (λ keep. levels_within N times (suc d) (kept_tree nodes keep t)) (length nodes) true
       ∙ ap (after_texts _ _) (within_end times (suc d) (kept_tree nodes outcome.result t))))
     where
       by_deep : (b : Bool) →
-          trials_end mode verdict t (level_tried (λ w. levels_within N times (suc d) w) N d t) ≡ level_followed mode verdict (λ w. levels_followed mode verdict N times (suc d) w) N d t →
-          trials_end mode verdict t (cond b (level_tried (λ w. levels_within N times (suc d) w) N d t) Done)
-          ≡ cond b (level_followed mode verdict (λ w. levels_followed mode verdict N times (suc d) w) N d t) (end_at t)
+          trials_end texts verdict t (level_tried (λ w. levels_within N times (suc d) w) N d t) ≡ level_followed texts verdict (λ w. levels_followed texts verdict N times (suc d) w) N d t →
+          trials_end texts verdict t (cond b (level_tried (λ w. levels_within N times (suc d) w) N d t) Done)
+          ≡ cond b (level_followed texts verdict (λ w. levels_followed texts verdict N times (suc d) w) N d t) (end_at t)
       by_deep true same = same
       by_deep false same = refl
 
 pub ends_by_levels : KeepingAllKeepsTree → EndsByLevels
-ends_by_levels all N mode verdict t =
-    allowed_end (fills_pluses N) mode verdict t (levels_within N (suc (depth t) - 0) 0 t)
-    ∙ within_end all N (with_allowed (fills_pluses N) mode) verdict (suc (depth t) - 0) 0 t
-    ∙ ap (λ times. levels_followed (with_allowed (fills_pluses N) mode) verdict N times 0 t) (as_many (suc (depth t)))
+ends_by_levels all N texts verdict t =
+    allowed_end (fills_pluses N) texts verdict t (levels_within N (suc (depth t) - 0) 0 t)
+    ∙ within_end all N (with_allowed (fills_pluses N) texts) verdict (suc (depth t) - 0) 0 t
+    ∙ ap (λ times. levels_followed (with_allowed (fills_pluses N) texts) verdict N times 0 t) (as_many (suc (depth t)))
   where
     as_many : (n : ℕ) → n - 0 ≡ n
     as_many n = omega arith

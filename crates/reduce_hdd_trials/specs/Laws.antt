@@ -4,8 +4,8 @@ use Rattle.normal_form.specs.declared.normal.Sym.{Sym}
 use Rattle.normal_form.specs.Form.{NormalForm}
 use Rattle.list_ddmin.specs.Asked.{KeepsFewer}
 use Rattle.reduce_rounds.specs.Trials.{Done, AllTried, EachIsSmaller, IsTriedAtNo}
-use Rattle.reduce_rounds.specs.Mode.{RoundMode}
-use Rattle.reduce_rounds.specs.Reduction.{trials_end}
+use Rattle.reduce_rounds.specs.StateTexts.{StateTexts}
+use Rattle.reduce_rounds.specs.ByTrials.{trials_end}
 use Rattle.syntax_tree.specs.Trees.{PlainTree, weight}
 use Rattle.syntax_tree.specs.Numbered.{NumbersRise}
 use Rattle.syntax_tree.specs.Valid.{IsTreeFor}
@@ -37,6 +37,6 @@ LosesLeaves = (N : NormalForm) (t : PlainTree) → NumbersRise t → EachIsSmall
 abbrev pub TriesSingleDeletions : Type 0
 TriesSingleDeletions = (N : NormalForm) (s : Sym) (t u : PlainTree) → IsTreeFor N s t → NumbersRise t → IsSingleDeletion N t u → IsTriedAtNo (levels N t) u
 
--- Over a mode and a verdict, a round comes to what its levels come to one after another.
+-- Over the trees' texts and a verdict, a round comes to what its levels come to one after another.
 abbrev pub EndsByLevels : Type 0
-EndsByLevels = (N : NormalForm) (mode : RoundMode PlainTree) (verdict : List ℕ → Bool) (t : PlainTree) → trials_end mode verdict t (levels N t) ≡ levels_end N mode verdict t
+EndsByLevels = (N : NormalForm) (texts : StateTexts PlainTree) (verdict : List ℕ → Bool) (t : PlainTree) → trials_end texts verdict t (levels N t) ≡ levels_end N texts verdict t

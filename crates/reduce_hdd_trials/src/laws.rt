@@ -54,7 +54,7 @@ pub fn tries_single_deletions()
     single_deletions_are_of_levels();
 }
 
-/// Over a mode and a verdict, a round comes to what its levels come to one after another.
+/// Over the trees' texts and a verdict, a round comes to what its levels come to one after another.
 pub fn ends_by_levels()
     ensures { EndsByLevels }
 {

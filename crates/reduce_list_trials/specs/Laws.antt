@@ -1,14 +1,15 @@
 -- The laws of list steps as trials.
 use Rattle.std.specs.Prelude.{◌≡◌, ◌<◌, ◌≤◌, ℕ, Bool, true, false, List, Some, None, length, replicate, slice_set}
-use Rattle.list_ddmin.specs.ListStep.{list_step}
+use Rattle.list_ddmin.specs.ListStep.{Outcome, list_step}
 use Rattle.list_ddmin.specs.Machine.{State, IsSound, asks, after, kept, start, rest_of}
 use Rattle.list_ddmin.specs.Asked.{KeepsFewer}
 use Rattle.reduce_rounds.specs.Trials.{Trials, Try, AllTried, EachIsSmaller, IsTriedAtNo}
-use Rattle.reduce_rounds.specs.Mode.{RoundMode}
-use Rattle.reduce_rounds.specs.Reduction.{trials_end}
+use Rattle.reduce_rounds.specs.StateTexts.{StateTexts}
+use Rattle.reduce_rounds.specs.Reduction.{RoundEnd}
+use Rattle.reduce_rounds.specs.ByTrials.{trials_end}
 use Rattle.reduce_list_trials.specs.ListTrials.{list_trials}
 use Rattle.reduce_list_trials.specs.Selections.{IsSelection, IsRemainder, IsSelectionAt, IsRemainderAt}
-use Rattle.reduce_list_trials.specs.ListEnd.{keep_verdict, end_after}
+use Rattle.reduce_list_trials.specs.ListEnd.{after_step, keep_verdict}
 
 -- At a question its state is tried, and each answer goes on from the machine's next state. Where nothing is asked, it goes on from the elements that remain.
 abbrev pub GoesByQuestions : {T : Type 0} → (List Bool → T) → (List Bool → Trials T) → Type 0
@@ -38,11 +39,15 @@ TriesDeletions {T} state_of next = (len : ℕ) (may_be_empty : Bool)
     → IsTriedAtNo (list_trials state_of next (start len may_be_empty)) (state_of (slice_set (replicate len true) k false)))
     × ((state : T) → IsTriedAtNo (next (replicate len true)) state → IsTriedAtNo (list_trials state_of next (start len may_be_empty)) state)
 
+-- an outcome of a list step, and then what the trials come to that go on from the elements that remain
+abbrev pub end_after : {T : Type 0} → StateTexts T → (List ℕ → Bool) → (List Bool → T) → (List Bool → Trials T) → Outcome → RoundEnd T
+end_after texts verdict state_of next outcome = after_step texts verdict state_of (λ keep. trials_end texts verdict (state_of keep) (next keep)) outcome
+
 -- From the state of all elements on, the trials come to what the list step does, with the verdicts on its keep lists, and then to what goes on from its result.
-abbrev pub EndsAsListStep : {T : Type 0} → RoundMode T → (List ℕ → Bool) → (List Bool → T) → (List Bool → Trials T) → Type 0
-EndsAsListStep mode verdict state_of next = (len : ℕ) (may_be_empty : Bool)
-    → trials_end mode verdict (state_of (replicate len true)) (list_trials state_of next (start len may_be_empty))
-    ≡ end_after mode verdict state_of next (list_step (keep_verdict mode verdict state_of) len may_be_empty)
+abbrev pub EndsAsListStep : {T : Type 0} → StateTexts T → (List ℕ → Bool) → (List Bool → T) → (List Bool → Trials T) → Type 0
+EndsAsListStep texts verdict state_of next = (len : ℕ) (may_be_empty : Bool)
+    → trials_end texts verdict (state_of (replicate len true)) (list_trials state_of next (start len may_be_empty))
+    ≡ end_after texts verdict state_of next (list_step (keep_verdict texts verdict state_of) len may_be_empty)
 
 -- Trials that have the same states for selections, and go on in the same way from remainders, are the same.
 abbrev pub SameByKeepLists : {T : Type 0} → (List Bool → T) → (List Bool → T) → (List Bool → Trials T) → (List Bool → Trials T) → Type 0
@@ -65,10 +70,10 @@ BecomesSmallerAt size state_of next = (step : State) → IsSound step
     → ((keep : List Bool) → IsRemainderAt step keep → EachIsSmaller size (size (state_of keep)) (next keep))
     → EachIsSmaller size (size (state_of (kept step))) (list_trials state_of next step)
 
-abbrev pub EndsAsRest : {T : Type 0} → RoundMode T → (List ℕ → Bool) → (List Bool → T) → (List Bool → Trials T) → Type 0
-EndsAsRest mode verdict state_of next = (step : State) → IsSound step
-    → trials_end mode verdict (state_of (kept step)) (list_trials state_of next step)
-    ≡ end_after mode verdict state_of next (rest_of (keep_verdict mode verdict state_of) step)
+abbrev pub EndsAsRest : {T : Type 0} → StateTexts T → (List ℕ → Bool) → (List Bool → T) → (List Bool → Trials T) → Type 0
+EndsAsRest texts verdict state_of next = (step : State) → IsSound step
+    → trials_end texts verdict (state_of (kept step)) (list_trials state_of next step)
+    ≡ end_after texts verdict state_of next (rest_of (keep_verdict texts verdict state_of) step)
 
 abbrev pub SameByKeepListsAt : {T : Type 0} → (List Bool → T) → (List Bool → T) → (List Bool → Trials T) → (List Bool → Trials T) → Type 0
 SameByKeepListsAt state_of state_of' next next' = (step : State) → IsSound step

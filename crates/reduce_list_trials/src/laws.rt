@@ -4,7 +4,7 @@
 
 ghost use Rattle.std.specs.Prelude.{◌≡◌, true, Bool, List, ℕ};
 ghost use Rattle.reduce_rounds.specs.Trials.{Trials};
-ghost use Rattle.reduce_rounds.specs.Mode.{RoundMode};
+ghost use Rattle.reduce_rounds.specs.StateTexts.{StateTexts};
 ghost use Rattle.reduce_list_trials.specs.Laws.{BecomesSmaller, EndsAsListStep, GoesByQuestions, SameByKeepLists, TriesDeletions, TriesSelections};
 ghost use Rattle.reduce_list_trials.specs.Worked.{WorkedTrials};
 
@@ -33,10 +33,10 @@ pub fn tries_deletions<R: Round>()
     ensures { (state_of : List Bool → R.State) (next : List Bool → Trials R.State) → TriesDeletions state_of next }
 {}
 
-/// Over a mode and a verdict, the trials end as the list step does, and as what goes on from its
-/// result.
+/// Over the states' texts and a verdict, the trials end as the list step does, and as what goes on from
+/// its result.
 pub fn ends_as_list_step<R: Round>()
-    ensures { (mode : RoundMode R.State) (verdict : List ℕ → Bool) (state_of : List Bool → R.State) (next : List Bool → Trials R.State) → EndsAsListStep mode verdict state_of next }
+    ensures { (texts : StateTexts R.State) (verdict : List ℕ → Bool) (state_of : List Bool → R.State) (next : List Bool → Trials R.State) → EndsAsListStep texts verdict state_of next }
 {}
 
 /// Trials are the same where selections have the same states, and remainders go on in the same way.

@@ -48,10 +48,10 @@ rounds_go_by_visits N fits s decides = record {
 }
 
 pub rounds_end_by_visits : RoundsEndByVisits
-rounds_end_by_visits mode verdict N fits s decides = record {
-  round = λ t tree rise. ending.visits_within_end mode verdict N fits decides s (nodes_in t (with_trees (PlainTrees.next t PlainTrees.none) [])) t (with_trees (PlainTrees.next t PlainTrees.none) []) (round_begins N s t tree rise);
-  ends = ending.ends_with_none mode verdict N fits decides s;
-  visits = ending.ends_by_visits mode verdict N fits decides s;
+rounds_end_by_visits texts verdict N fits s decides = record {
+  round = λ t tree rise. ending.visits_within_end texts verdict N fits decides s (nodes_in t (with_trees (PlainTrees.next t PlainTrees.none) [])) t (with_trees (PlainTrees.next t PlainTrees.none) []) (round_begins N s t tree rise);
+  ends = ending.ends_with_none texts verdict N fits decides s;
+  visits = ending.ends_by_visits texts verdict N fits decides s;
 }
 
 optional_goes : (N : NormalForm) (s : Sym) (t : PlainTree) (later : List Waiting) (n r a : ℕ) (ts : PlainTrees) (slot : Sym) → IsVisited N s t n slot (PlainTree.node n r a ts) later → 0 < weight_all ts →

@@ -5,8 +5,9 @@ use Rattle.normal_form.specs.declared.normal.Sym.{Sym}
 use Rattle.normal_form.specs.Form.{RuleForm, NormalForm}
 use Rattle.normal_form.specs.NormalOf.{IsNormal}
 use Rattle.node_queue.specs.Waiting.{Waiting}
-use Rattle.reduce_rounds.specs.Mode.{RoundMode}
-use Rattle.reduce_rounds.specs.Reduction.{end_at, trials_end}
+use Rattle.reduce_rounds.specs.StateTexts.{StateTexts}
+use Rattle.reduce_rounds.specs.Reduction.{end_at}
+use Rattle.reduce_rounds.specs.ByTrials.{trials_end}
 use Rattle.reduce_rounds.specs.Trials.{AllTried, Done, EachIsSmaller, IsTriedAtNo, Trials, Try}
 use Rattle.reduce_list_trials.specs.Selections.{IsRemainder}
 use Rattle.syntax_tree.specs.Trees.{PlainTree, PlainTrees, count, weight, weight_all}
@@ -33,15 +34,15 @@ pub record GoesByVisits (N : NormalForm) (fits : Sym → Sym → Bool) (s : Sym)
 abbrev pub RoundsGoByVisits : Type 0
 RoundsGoByVisits = (N : NormalForm) (fits : Sym → Sym → Bool) (s : Sym) → DecidesFits N fits → GoesByVisits N fits s
 
--- Over a mode and a verdict a round's trials come to what its recursion does, which visits node after node until none waits.
-pub record EndsByVisits (mode : RoundMode PlainTree) (verdict : List ℕ → Bool) (N : NormalForm) (fits : Sym → Sym → Bool) (s : Sym) : Type 0 where
-  pub round : (t : PlainTree) → IsTreeFor N s t → NumbersRise t → trials_end mode verdict t (visit N fits s t) ≡ visit_end mode verdict N fits s t
-  pub ends : (t : PlainTree) → end_from mode verdict N fits s t [] ≡ end_at t
+-- Over the trees' texts and a verdict a round's trials come to what its recursion does, which visits node after node until none waits.
+pub record EndsByVisits (texts : StateTexts PlainTree) (verdict : List ℕ → Bool) (N : NormalForm) (fits : Sym → Sym → Bool) (s : Sym) : Type 0 where
+  pub round : (t : PlainTree) → IsTreeFor N s t → NumbersRise t → trials_end texts verdict t (visit N fits s t) ≡ visit_end texts verdict N fits s t
+  pub ends : (t : PlainTree) → end_from texts verdict N fits s t [] ≡ end_at t
   pub visits : (t : PlainTree) (next : Waiting) (later : List Waiting) → IsInRound N s t (next ∷ later) →
-      end_from mode verdict N fits s t (next ∷ later) ≡ node_end mode verdict (λ u queue. end_from mode verdict N fits s u queue) t later N fits s (subtree next.node t)
+      end_from texts verdict N fits s t (next ∷ later) ≡ node_end texts verdict (λ u queue. end_from texts verdict N fits s u queue) t later N fits s (subtree next.node t)
 
 abbrev pub RoundsEndByVisits : Type 0
-RoundsEndByVisits = (mode : RoundMode PlainTree) (verdict : List ℕ → Bool) (N : NormalForm) (fits : Sym → Sym → Bool) (s : Sym) → DecidesFits N fits → EndsByVisits mode verdict N fits s
+RoundsEndByVisits = (texts : StateTexts PlainTree) (verdict : List ℕ → Bool) (N : NormalForm) (fits : Sym → Sym → Bool) (s : Sym) → DecidesFits N fits → EndsByVisits texts verdict N fits s
 
 -- The round goes on from this tree, which is left of the one before, and this queue.
 pub record GoesOn (N : NormalForm) (s : Sym) (t u : PlainTree) (queue : List Waiting) : Type 0 where

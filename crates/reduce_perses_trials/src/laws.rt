@@ -16,7 +16,7 @@ pub fn rounds_go_by_visits()
     ensures { RoundsGoByVisits }
 {}
 
-/// Over a mode and a verdict on every text a round comes to what its recursion does: node after node is
+/// Over the trees' texts and a verdict on every text a round comes to what its recursion does: node after node is
 /// visited until none waits.
 pub fn rounds_end_by_visits()
     ensures { RoundsEndByVisits }

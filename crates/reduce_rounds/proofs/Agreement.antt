@@ -5,8 +5,10 @@ use Rattle.script_gate_trait.specs.declared.gate.Verdict.{Verdict}
 use Rattle.script_gate_trait.specs.declared.gate.Verdict.TheVariants.{Yes, No}
 use Rattle.reduce_rounds.specs.Trials.{Trials, Done, Try}
 use Rattle.reduce_rounds.specs.Mode.{RoundMode}
-use Rattle.reduce_rounds.specs.Reduction.{Reduction, asks_first, reduction}
-use Rattle.reduce_rounds.specs.Laws.{Agree, AgreeingMapsReduceAlike, HasVerdicts, says_yes}
+use Rattle.reduce_rounds.specs.Reduction.{Reduction, asks_first}
+use Rattle.reduce_rounds.specs.ByTrials.{recursion_of, reduction_of}
+use Rattle.reduce_rounds.specs.Laws.{AgreeingMapsReduceAlike}
+use Rattle.reduce_rounds.specs.Verdicts.{Agree, HasVerdicts, says_yes}
 use Rattle.reduce_rounds.proofs.Continued.{all_rounds, by_test, next_round, one_round_more, reduction-in, reduction_in, rounds_in, tried_in}
 
 module _ {T : Type 0} (mode : RoundMode T) (V W : List ℕ → Option Verdict) (agree : Agree V W) where
@@ -57,12 +59,12 @@ module _ {T : Type 0} (mode : RoundMode T) (V W : List ℕ → Option Verdict) (
       (alike-in (λ state changed. all_rounds mode (says_yes V) state) (λ state changed. all_rounds mode (says_yes W) state) (λ state changed. alike-rounds (suc (mode.size state)) state) mode.start mode.opening false)
       (λ has has'. refl)
 
-  alike : HasVerdicts V (reduction mode (says_yes V)).questions → HasVerdicts W (reduction mode (says_yes W)).questions → reduction mode (says_yes V) ≡ reduction mode (says_yes W)
+  alike : HasVerdicts V (reduction_of mode (says_yes V)).questions → HasVerdicts W (reduction_of mode (says_yes W)).questions → reduction_of mode (says_yes V) ≡ reduction_of mode (says_yes W)
   unfolding Alike
   alike has has' =
       let is = reduction-in mode (says_yes V) in
       let is' = reduction-in mode (says_yes W) in
       is ∙ whole (subst (λ (r : Reduction T). HasVerdicts V r.questions) is has) (subst (λ (r : Reduction T). HasVerdicts W r.questions) is' has') ∙ sym is'
 
-pub agreeing_maps : {T : Type 0} (mode : RoundMode T) → AgreeingMapsReduceAlike mode
+pub agreeing_maps : {T : Type 0} (mode : RoundMode T) → AgreeingMapsReduceAlike (recursion_of mode)
 agreeing_maps mode V W agree has has' = alike mode V W agree has has'

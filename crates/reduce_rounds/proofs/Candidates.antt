@@ -3,7 +3,8 @@ use Rattle.std.proofs.Common.{◌≡◌, ⊎_elim, ℕ, suc, zero, ◌+◌, Bool
 use Rattle.reduce_step.specs.Plan.{Plan, End, MayAsk}
 use Rattle.reduce_rounds.specs.Trials.{Trials, Done, Try, AllTried}
 use Rattle.reduce_rounds.specs.Mode.{RoundMode, Keeps}
-use Rattle.reduce_rounds.specs.RoundsPlan.{ask_if, capped_count, plan_first, plan_in, plan_next, plan_opening, plan_rounds, plan_within, step_result}
+use Rattle.reduce_rounds.specs.RoundsPlan.{ask_if, plan_first, plan_in, plan_next, plan_opening, plan_rounds, plan_within, step_result}
+use Rattle.reduce_rounds.specs.Reduction.{capped_count}
 use Rattle.reduce_rounds.specs.Laws.{AsksCandidates, IsTextOf}
 
 module _ {T : Type 0} (mode : RoundMode T) (Kept : T → Type 0) (keeps : Keeps mode Kept) where

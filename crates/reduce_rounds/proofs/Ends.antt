@@ -5,8 +5,10 @@ use Rattle.script_gate_trait.specs.declared.gate.Verdict.{Verdict}
 use Rattle.script_gate_trait.specs.declared.gate.Verdict.TheVariants.{Yes, No}
 use Rattle.reduce_rounds.specs.Trials.{Trials, Done, Try, AllTried, EachIsSmaller, IsTriedAtNo}
 use Rattle.reduce_rounds.specs.Mode.{RoundMode, IsLawful, TriesEdits}
-use Rattle.reduce_rounds.specs.Reduction.{Reduction, reduction}
-use Rattle.reduce_rounds.specs.Laws.{EndsMinimal, EndsWell, HasVerdicts, says_yes}
+use Rattle.reduce_rounds.specs.Reduction.{Reduction}
+use Rattle.reduce_rounds.specs.ByTrials.{reduction_of}
+use Rattle.reduce_rounds.specs.Laws.{EndsMinimal, EndsWell}
+use Rattle.reduce_rounds.specs.Verdicts.{HasVerdicts, says_yes}
 use Rattle.reduce_rounds.proofs.Continued.{all_rounds, by_test, next_round, reduction-in, reduction_in, rounds_in, tried_in}
 
 module _ {T : Type 0} (mode : RoundMode T) (Kept : T → Type 0) (V : List ℕ → Option Verdict) where
@@ -92,19 +94,19 @@ module _ {T : Type 0} (mode : RoundMode T) (Kept : T → Type 0) (V : List ℕ �
       (λ says_no known. record { good = λ stays. absurd (false≢true (sym stays)) })
       (λ r later. record { good = λ stays. let g = later.good stays in record { yes_at_end = g.yes_at_end; quiet = g.quiet } })
 
-  pub ends_well : (IsEdit : T → T → Type 0) → IsLawful mode Kept → TriesEdits mode Kept IsEdit → mode.is_listed mode.start ≡ true → (reduction mode (says_yes V)).refused ≡ false
-      → HasVerdicts V (reduction mode (says_yes V)).questions → EndsWell mode Kept IsEdit V (reduction mode (says_yes V)).state
+  pub ends_well : (IsEdit : T → T → Type 0) → IsLawful mode Kept → TriesEdits mode Kept IsEdit → mode.is_listed mode.start ≡ true → (reduction_of mode (says_yes V)).refused ≡ false
+      → HasVerdicts V (reduction_of mode (says_yes V)).questions → EndsWell mode Kept IsEdit V (reduction_of mode (says_yes V)).state
   unfolding IsQuiet
   ends_well IsEdit law tries first stays has =
       let is = reduction-in mode (says_yes V) in
-      let good : GoodUnlessRefused (reduction mode (says_yes V)) =
+      let good : GoodUnlessRefused (reduction_of mode (says_yes V)) =
       subst GoodUnlessRefused (sym is) (whole law first (subst (λ (r : Reduction T). HasVerdicts V r.questions) is has)) in
       let g = good.good stays in
       record {
         yes_at_end = g.yes_at_end.says;
         listed = g.yes_at_end.listed;
         kept = g.yes_at_end.kept;
-        minimal = λ other edit listed. g.quiet other (tries (reduction mode (says_yes V)).state other g.yes_at_end.kept edit) listed;
+        minimal = λ other edit listed. g.quiet other (tries (reduction_of mode (says_yes V)).state other g.yes_at_end.kept edit) listed;
       }
 
 pub ends_minimal : {T : Type 0} (mode : RoundMode T) (Kept : T → Type 0) (IsEdit : T → T → Type 0) → EndsMinimal mode Kept IsEdit

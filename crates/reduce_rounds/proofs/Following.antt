@@ -6,9 +6,11 @@ use Rattle.script_gate_trait.specs.declared.gate.Verdict.TheVariants.{Yes, No}
 use Rattle.reduce_step.specs.Plan.{Plan, End, Ask, StepResult, HasEnded, follow}
 use Rattle.reduce_rounds.specs.Trials.{Trials, Done, Try}
 use Rattle.reduce_rounds.specs.Mode.{RoundMode}
-use Rattle.reduce_rounds.specs.Reduction.{Reduction, asks_first, ends_with, reduction}
-use Rattle.reduce_rounds.specs.RoundsPlan.{ask_if, capped_count, plan_first, plan_in, plan_next, plan_opening, plan_rounds, plan_within, step_result}
-use Rattle.reduce_rounds.specs.Laws.{HasVerdicts, IsTheReduction, RefusesAtNo, says_yes}
+use Rattle.reduce_rounds.specs.Reduction.{Reduction, asks_first, capped_count, ends_with, reduction}
+use Rattle.reduce_rounds.specs.ByTrials.{recursion_of, reduction_of}
+use Rattle.reduce_rounds.specs.RoundsPlan.{ask_if, plan_first, plan_in, plan_next, plan_opening, plan_rounds, plan_within, step_result}
+use Rattle.reduce_rounds.specs.Laws.{IsTheReduction, RefusesAtNo}
+use Rattle.reduce_rounds.specs.Verdicts.{HasVerdicts, says_yes}
 use Rattle.reduce_rounds.proofs.Continued.{all_rounds, by_test, next_round, one_round_more, reduction-in, reduction_in, rounds_in, tried_in}
 
 module _ {T : Type 0} (mode : RoundMode T) (V : List ℕ → Option Verdict) where
@@ -99,10 +101,10 @@ module _ {T : Type 0} (mode : RoundMode T) (V : List ℕ → Option Verdict) whe
       (in_trials 0 (λ remaining changed used'. plan_rounds mode 0 used' remaining) (λ state changed. all_rounds mode (says_yes V) state) (λ remaining changed used' low. in_all_rounds used' remaining low) mode.start mode.opening false 1 (omega arith)))
       (subst (λ u. Follows u 0 (End (step_result mode mode.start 1 0 true)) (ends_with mode.start true)) one_test (at_end 1 0 mode.start true (omega arith) (omega arith)))
 
-  pub follows_reduction : IsTheReduction mode V
+  pub follows_reduction : IsTheReduction (plan_first mode) (recursion_of mode) V
   follows_reduction =
-      let r : Reduction T = reduction mode (says_yes V) in
-      let both : Follows 0 0 (plan_first mode) (reduction mode (says_yes V)) = subst (Follows 0 0 (plan_first mode)) (sym (reduction-in mode (says_yes V))) whole in
+      let r : Reduction T = reduction_of mode (says_yes V) in
+      let both : Follows 0 0 (plan_first mode) (reduction_of mode (says_yes V)) = subst (Follows 0 0 (plan_first mode)) (sym (reduction-in mode (says_yes V))) whole in
       record {
         ends = λ has. both.ends has ∙ ap End (same_result r.state _ _ _ _ r.refused (omega arith) (omega arith));
         defined = both.defined;
@@ -136,7 +138,7 @@ module _ {T : Type 0} (mode : RoundMode T) (verdict : List ℕ → Bool) where
   pub kept-opening : IsKept (tried_in mode verdict (λ state changed. all_rounds mode verdict state) mode.start mode.opening false)
   kept-opening = kept-in (λ state changed. all_rounds mode verdict state) (λ state changed. kept-rounds (suc (mode.size state)) state) mode.start mode.opening false
 
-pub refuses_at_no : {T : Type 0} (mode : RoundMode T) → RefusesAtNo mode
+pub refuses_at_no : {T : Type 0} (mode : RoundMode T) → RefusesAtNo (plan_first mode) (recursion_of mode)
 unfolding reduction
 refuses_at_no mode V = (
   λ is. ap (λ r. r.refused) (reduction-in mode (says_yes V)) ∙ rw is (kept-opening mode (says_yes V)),

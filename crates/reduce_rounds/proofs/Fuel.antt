@@ -4,8 +4,9 @@ use Rattle.std.proofs.lemmas.Bool.{false≢true}
 use Rattle.reduce_step.specs.Plan.{Plan, Ask}
 use Rattle.reduce_rounds.specs.Trials.{Trials, Done, Try, AllTried, EachIsSmaller}
 use Rattle.reduce_rounds.specs.Mode.{RoundMode, IsLawful}
-use Rattle.reduce_rounds.specs.Reduction.{Reduction, TrialsEnd, after_question, after_round, after_yes, ends_with, next_rounds, round_of, rounds_of, rounds_within, trials_end}
-use Rattle.reduce_rounds.specs.RoundsPlan.{ask_if, capped_count, plan_in, plan_next, plan_round, plan_rounds, plan_within}
+use Rattle.reduce_rounds.specs.Reduction.{Reduction, RoundEnd, after_question, after_round, after_yes, capped_count, ends_with, next_rounds, rounds_of, rounds_within}
+use Rattle.reduce_rounds.specs.ByTrials.{recursion_of, round_of, texts_of, trials_end}
+use Rattle.reduce_rounds.specs.RoundsPlan.{ask_if, plan_in, plan_next, plan_round, plan_rounds, plan_within}
 use Rattle.reduce_rounds.specs.Laws.{GoesByItsRounds}
 
 pub ask_if-same : (listed : Bool) (text : List ℕ) (y y' n n' p p' : Plan) → y ≡ y' → n ≡ n' → p ≡ p' → ask_if listed text y n p ≡ ask_if listed text y' n' p'
@@ -51,10 +52,10 @@ module _ {T : Type 0} (mode : RoundMode T) (Kept : T → Type 0) where
 -- The same of the recursion.
 
 module _ {T : Type 0} (mode : RoundMode T) (verdict : List ℕ → Bool) where
-  SmallerAtYes : ℕ → TrialsEnd T → Type 0
+  SmallerAtYes : ℕ → RoundEnd T → Type 0
   SmallerAtYes n last = last.changed ≡ true → mode.size last.state < n
 
-  smaller_by : (listed answer : Bool) (text : List ℕ) (n : ℕ) (ey en : TrialsEnd T) → mode.size ey.state < n → SmallerAtYes n en
+  smaller_by : (listed answer : Bool) (text : List ℕ) (n : ℕ) (ey en : RoundEnd T) → mode.size ey.state < n → SmallerAtYes n en
       → SmallerAtYes n (cond listed (after_question text (cond answer (after_yes ey) en)) en)
   unfolding SmallerAtYes
   smaller_by false answer text n ey en at_yes at_no = at_no
@@ -62,30 +63,30 @@ module _ {T : Type 0} (mode : RoundMode T) (verdict : List ℕ → Bool) where
   smaller_by true false text n ey en at_yes at_no = at_no
 
   -- the state that remains isn't greater, and after a yes it is smaller
-  no_greater : (n : ℕ) (state : T) (trials : Trials T) → mode.size state ≤ n → EachIsSmaller mode.size n trials → mode.size (trials_end mode verdict state trials).state ≤ n
+  no_greater : (n : ℕ) (state : T) (trials : Trials T) → mode.size state ≤ n → EachIsSmaller mode.size n trials → mode.size (trials_end (texts_of mode) verdict state trials).state ≤ n
   no_greater n state Done low smaller = low
   no_greater n state (Try other at_yes at_no) low smaller =
       let less = smaller.0 in
-      chosen (mode.is_listed other) (verdict (mode.text other)) (trials_end mode verdict other at_yes) (trials_end mode verdict state at_no)
+      chosen (mode.is_listed other) (verdict (mode.text other)) (trials_end (texts_of mode) verdict other at_yes) (trials_end (texts_of mode) verdict state at_no)
       (let at_other = no_greater (mode.size other) other at_yes (omega arith) smaller.1.0 in omega (arith, less, at_other))
       (no_greater n state at_no low smaller.1.1)
     where
-      chosen : (listed answer : Bool) (ey en : TrialsEnd T) → mode.size ey.state ≤ n → mode.size en.state ≤ n
+      chosen : (listed answer : Bool) (ey en : RoundEnd T) → mode.size ey.state ≤ n → mode.size en.state ≤ n
           → mode.size (cond listed (after_question (mode.text other) (cond answer (after_yes ey) en)) en).state ≤ n
       chosen false answer ey en a b = b
       chosen true true ey en a b = a
       chosen true false ey en a b = b
 
-  smaller_at_yes : (n : ℕ) (state : T) (trials : Trials T) → EachIsSmaller mode.size n trials → SmallerAtYes n (trials_end mode verdict state trials)
+  smaller_at_yes : (n : ℕ) (state : T) (trials : Trials T) → EachIsSmaller mode.size n trials → SmallerAtYes n (trials_end (texts_of mode) verdict state trials)
   unfolding SmallerAtYes
   smaller_at_yes n state Done smaller = λ is. absurd (false≢true is)
   smaller_at_yes n state (Try other at_yes at_no) smaller =
       let less = smaller.0 in
-      smaller_by (mode.is_listed other) (verdict (mode.text other)) (mode.text other) n (trials_end mode verdict other at_yes) (trials_end mode verdict state at_no)
+      smaller_by (mode.is_listed other) (verdict (mode.text other)) (mode.text other) n (trials_end (texts_of mode) verdict other at_yes) (trials_end (texts_of mode) verdict state at_no)
       (let at_other = no_greater (mode.size other) other at_yes (omega arith) smaller.1.0 in omega (arith, less, at_other))
       (smaller_at_yes n state at_no smaller.1.1)
 
-  same_next : (go go' : T → Reduction T) (last : TrialsEnd T) → (last.changed ≡ true → go last.state ≡ go' last.state) → next_rounds go last ≡ next_rounds go' last
+  same_next : (go go' : T → Reduction T) (last : RoundEnd T) → (last.changed ≡ true → go last.state ≡ go' last.state) → next_rounds go last ≡ next_rounds go' last
   same_next go go' last same = by_change last.changed same
     where
       by_change : (changed : Bool) → (changed ≡ true → go last.state ≡ go' last.state) → cond changed (go last.state) (ends_with last.state false) ≡ cond changed (go' last.state) (ends_with last.state false)
@@ -93,24 +94,24 @@ module _ {T : Type 0} (mode : RoundMode T) (verdict : List ℕ → Bool) where
       by_change false same = refl
 
   -- the state that remains is kept
-  pub remaining-kept : (Kept : T → Type 0) (state : T) (trials : Trials T) → Kept state → AllTried Kept trials → Kept (trials_end mode verdict state trials).state
+  pub remaining-kept : (Kept : T → Type 0) (state : T) (trials : Trials T) → Kept state → AllTried Kept trials → Kept (trials_end (texts_of mode) verdict state trials).state
   remaining-kept Kept state Done kept all = kept
   remaining-kept Kept state (Try other at_yes at_no) kept all =
-      chosen (mode.is_listed other) (verdict (mode.text other)) (trials_end mode verdict other at_yes) (trials_end mode verdict state at_no)
+      chosen (mode.is_listed other) (verdict (mode.text other)) (trials_end (texts_of mode) verdict other at_yes) (trials_end (texts_of mode) verdict state at_no)
       (remaining-kept Kept other at_yes all.0 all.1.0) (remaining-kept Kept state at_no kept all.1.1)
     where
-      chosen : (listed answer : Bool) (ey en : TrialsEnd T) → Kept ey.state → Kept en.state → Kept (cond listed (after_question (mode.text other) (cond answer (after_yes ey) en)) en).state
+      chosen : (listed answer : Bool) (ey en : RoundEnd T) → Kept ey.state → Kept en.state → Kept (cond listed (after_question (mode.text other) (cond answer (after_yes ey) en)) en).state
       chosen false answer ey en a b = b
       chosen true true ey en a b = a
       chosen true false ey en a b = b
 
   -- a round without a yes leaves its state
-  pub same_without_yes : (state : T) (trials : Trials T) → (trials_end mode verdict state trials).changed ≡ false → (trials_end mode verdict state trials).state ≡ state
+  pub same_without_yes : (state : T) (trials : Trials T) → (trials_end (texts_of mode) verdict state trials).changed ≡ false → (trials_end (texts_of mode) verdict state trials).state ≡ state
   same_without_yes state Done is = refl
   same_without_yes state (Try other at_yes at_no) is =
-      chosen (mode.is_listed other) (verdict (mode.text other)) (trials_end mode verdict other at_yes) (trials_end mode verdict state at_no) (same_without_yes state at_no) is
+      chosen (mode.is_listed other) (verdict (mode.text other)) (trials_end (texts_of mode) verdict other at_yes) (trials_end (texts_of mode) verdict state at_no) (same_without_yes state at_no) is
     where
-      chosen : (listed answer : Bool) (ey en : TrialsEnd T) → (en.changed ≡ false → en.state ≡ state)
+      chosen : (listed answer : Bool) (ey en : RoundEnd T) → (en.changed ≡ false → en.state ≡ state)
           → (cond listed (after_question (mode.text other) (cond answer (after_yes ey) en)) en).changed ≡ false → (cond listed (after_question (mode.text other) (cond answer (after_yes ey) en)) en).state ≡ state
       chosen false answer ey en later unchanged = later unchanged
       chosen true true ey en later unchanged = absurd (false≢true (sym unchanged))
@@ -121,24 +122,24 @@ module _ {T : Type 0} (mode : RoundMode T) (verdict : List ℕ → Bool) where
   unfolding SmallerAtYes
   smaller_after_yes Kept law state kept is = smaller_at_yes (mode.size state) state (mode.round state) (law.smaller state kept) is
 
-  rounds_within-more : (Kept : T → Type 0) → IsLawful mode Kept → (n m : ℕ) (state : T) → Kept state → mode.size state < n → mode.size state < m → rounds_within n mode verdict state ≡ rounds_within m mode verdict state
+  rounds_within-more : (Kept : T → Type 0) → IsLawful mode Kept → (n m : ℕ) (state : T) → Kept state → mode.size state < n → mode.size state < m → rounds_within n (recursion_of mode) verdict state ≡ rounds_within m (recursion_of mode) verdict state
   unfolding rounds_within SmallerAtYes
   rounds_within-more Kept law zero m state kept enough enough' = absurd (omega arith)
   rounds_within-more Kept law (suc n) zero state kept enough enough' = absurd (omega arith)
   rounds_within-more Kept law (suc n) (suc m) state kept enough enough' =
-      let last : TrialsEnd T = round_of mode verdict state in
-      ap (after_round last) (same_next (λ remaining. rounds_within n mode verdict remaining) (λ remaining. rounds_within m mode verdict remaining) last
+      let last : RoundEnd T = round_of mode verdict state in
+      ap (after_round last) (same_next (λ remaining. rounds_within n (recursion_of mode) verdict remaining) (λ remaining. rounds_within m (recursion_of mode) verdict remaining) last
       (λ is. let less = smaller_at_yes (mode.size state) state (mode.round state) (law.smaller state kept) is in
       rounds_within-more Kept law n m last.state (remaining-kept Kept state (mode.round state) kept (law.keeps.round state kept)) (omega (arith, less)) (omega (arith, less))))
 
   pub rounds_of-step : (Kept : T → Type 0) → IsLawful mode Kept → (state : T) → Kept state
-      → rounds_of mode verdict state ≡ after_round (round_of mode verdict state) (next_rounds (λ remaining. rounds_of mode verdict remaining) (round_of mode verdict state))
+      → rounds_of (recursion_of mode) verdict state ≡ after_round (round_of mode verdict state) (next_rounds (λ remaining. rounds_of (recursion_of mode) verdict remaining) (round_of mode verdict state))
   unfolding rounds_of rounds_within SmallerAtYes
   rounds_of-step Kept law state kept =
-      let last : TrialsEnd T = round_of mode verdict state in
-      ap (after_round last) (same_next (λ remaining. rounds_within (mode.size state) mode verdict remaining) (λ remaining. rounds_within (suc (mode.size remaining)) mode verdict remaining) last
+      let last : RoundEnd T = round_of mode verdict state in
+      ap (after_round last) (same_next (λ remaining. rounds_within (mode.size state) (recursion_of mode) verdict remaining) (λ remaining. rounds_within (suc (mode.size remaining)) (recursion_of mode) verdict remaining) last
       (λ is. let less = smaller_at_yes (mode.size state) state (mode.round state) (law.smaller state kept) is in
       rounds_within-more Kept law (mode.size state) (suc (mode.size last.state)) last.state (remaining-kept Kept state (mode.round state) kept (law.keeps.round state kept)) less (omega arith)))
 
-pub goes_by_its_rounds : {T : Type 0} (mode : RoundMode T) (Kept : T → Type 0) → GoesByItsRounds mode Kept
+pub goes_by_its_rounds : {T : Type 0} (mode : RoundMode T) (Kept : T → Type 0) → IsLawful mode Kept → GoesByItsRounds (recursion_of mode) Kept
 goes_by_its_rounds mode Kept law verdict state kept = rounds_of-step mode verdict Kept law state kept

@@ -1,5 +1,6 @@
 pub mod Continued
 pub mod Fuel
+pub mod Recursions
 pub mod Following
 pub mod Ends
 pub mod Candidates

@@ -7,7 +7,8 @@ use Rattle.reduce_rounds.specs.declared.stage.Stage.TheVariants.{Start, Opening,
 use Rattle.reduce_rounds.specs.declared.stage.Progress.{Progress}
 use Rattle.reduce_rounds.specs.Trials.{Trials, Done, Try, AllTried}
 use Rattle.reduce_rounds.specs.Mode.{RoundMode, Keeps}
-use Rattle.reduce_rounds.specs.RoundsPlan.{capped_count, plan_opening, plan_round}
+use Rattle.reduce_rounds.specs.RoundsPlan.{plan_opening, plan_round}
+use Rattle.reduce_rounds.specs.Reduction.{capped_count}
 
 -- a text, where its state is listed
 abbrev pub text_if : Bool → List ℕ → Option (List ℕ)

@@ -3,7 +3,11 @@ pub use Rattle.reduce_step.specs.Ahead
 pub use Rattle.reduce_step.specs.Limits
 pub mod Trials
 pub mod Mode
+pub mod StateTexts
 pub mod Reduction
+pub mod Minimal
+pub mod Verdicts
+pub mod ByTrials
 pub mod RoundsPlan
 pub mod Laws
 pub mod Fields

@@ -1,42 +1,42 @@
--- The reduction of a start, in any mode: the start is asked, then the opening is tried, and then rounds are made until one has no yes. It is a function of a verdict on every text.
-use Rattle.std.specs.Prelude.{◌+◌, ℕ, zero, suc, Bool, true, false, List, [], ◌∷◌, ◌++◌, if◌then◌else◌}
-use Rattle.reduce_rounds.specs.Trials.{Trials, Done, Try}
-use Rattle.reduce_rounds.specs.Mode.{RoundMode}
+-- The reduction of a start, as a recursion over a verdict on every text: the start is asked, then what comes before the rounds, and then rounds are made until one has no yes.
+use Rattle.std.specs.Prelude.{◌+◌, ◌-◌, ◌^◌, min, ℕ, zero, suc, Bool, true, false, List, [], ◌∷◌, ◌++◌, if◌then◌else◌}
+use Rattle.reduce_rounds.specs.StateTexts.{StateTexts}
 
--- what trials come to: the texts that are asked, in order and repeated texts each time, the state that remains, and whether there was a yes
-pub record TrialsEnd (T : Type 0) : Type 0 where
+-- what a round comes to: the texts that are asked, in order and repeated texts each time, the state that remains, and whether there was a yes
+pub record RoundEnd (T : Type 0) : Type 0 where
   pub questions : List (List ℕ)
   pub state : T
   pub changed : Bool
 
--- nothing is tried
-abbrev pub end_at : {T : Type 0} → T → TrialsEnd T
+-- nothing is asked
+abbrev pub end_at : {T : Type 0} → T → RoundEnd T
 end_at state = record { questions = []; state = state; changed = false }
 
 -- this text is asked before
-abbrev pub after_question : {T : Type 0} → List ℕ → TrialsEnd T → TrialsEnd T
+abbrev pub after_question : {T : Type 0} → List ℕ → RoundEnd T → RoundEnd T
 after_question text later = record later { questions = text ∷ later.questions }
 
 -- there was a yes before
-abbrev pub after_yes : {T : Type 0} → TrialsEnd T → TrialsEnd T
+abbrev pub after_yes : {T : Type 0} → RoundEnd T → RoundEnd T
 after_yes later = record later { changed = true }
 
--- What trials from a state on come to. A state that isn't listed counts as no, and isn't asked.
-abbrev pub trials_end : {T : Type 0} → RoundMode T → (List ℕ → Bool) → T → Trials T → TrialsEnd T
-trials_end mode verdict state Done = end_at state
-trials_end mode verdict state (Try other at_yes at_no) =
-    if mode.is_listed other
-    then after_question (mode.text other)
-    (if verdict (mode.text other) then after_yes (trials_end mode verdict other at_yes) else trials_end mode verdict state at_no)
-    else trials_end mode verdict state at_no
+-- A state is tested: where it is listed its text is asked, and one that isn't counts as no. Then it goes on by the answer.
+abbrev pub tested : {T : Type 0} → StateTexts T → (List ℕ → Bool) → T → RoundEnd T → RoundEnd T → RoundEnd T
+tested texts verdict state at_yes at_no =
+    if texts.is_listed state then after_question (texts.text state) (if verdict (texts.text state) then after_yes at_yes else at_no) else at_no
 
--- one round
-abbrev pub round_of : {T : Type 0} → RoundMode T → (List ℕ → Bool) → T → TrialsEnd T
-round_of mode verdict state = trials_end mode verdict state (mode.round state)
-
--- what is tried once, before the rounds
-abbrev pub opening_of : {T : Type 0} → RoundMode T → (List ℕ → Bool) → TrialsEnd T
-opening_of mode verdict = trials_end mode verdict mode.start mode.opening
+-- What a reduction of one start is made of. A verdict on every text is given.
+pub record Recursion (T : Type 0) : Type 0 where
+  -- what is reduced
+  pub start : T
+  -- the text of a state
+  pub text : T → List ℕ
+  -- how many units (lines or tokens) a state has
+  pub size : T → ℕ
+  -- what comes once, before the rounds
+  pub opening : (List ℕ → Bool) → RoundEnd T
+  -- one round from a state
+  pub round : (List ℕ → Bool) → T → RoundEnd T
 
 -- what a reduction asks, in order and repeated texts each time, the state that it ends with, its rounds, and whether the start was refused
 pub record Reduction (T : Type 0) : Type 0 where
@@ -53,32 +53,36 @@ ends_with state refused = record { questions = []; state = state; rounds = 0; re
 abbrev pub asks_first : {T : Type 0} → List ℕ → Reduction T → Reduction T
 asks_first text later = record later { questions = text ∷ later.questions }
 
--- the opening is tried first
-abbrev pub after_opening : {T : Type 0} → TrialsEnd T → Reduction T → Reduction T
+-- the opening comes first
+abbrev pub after_opening : {T : Type 0} → RoundEnd T → Reduction T → Reduction T
 after_opening opening later = record later { questions = opening.questions ++ later.questions }
 
 -- a round is made first
-abbrev pub after_round : {T : Type 0} → TrialsEnd T → Reduction T → Reduction T
+abbrev pub after_round : {T : Type 0} → RoundEnd T → Reduction T → Reduction T
 after_round round later = record later { questions = round.questions ++ later.questions; rounds = later.rounds + 1 }
 
 -- what follows a round: a round without a yes was the last one, and any other is followed by rounds from the state that remains
-abbrev pub next_rounds : {T : Type 0} → (T → Reduction T) → TrialsEnd T → Reduction T
+abbrev pub next_rounds : {T : Type 0} → (T → Reduction T) → RoundEnd T → Reduction T
 next_rounds go round = if round.changed then go round.state else ends_with round.state false
 
 -- rounds until one has no yes, but at most so many
-unfoldable pub rounds_within : {T : Type 0} → ℕ → RoundMode T → (List ℕ → Bool) → T → Reduction T
-rounds_within zero mode verdict state = ends_with state false
-rounds_within (suc rounds) mode verdict state =
-    after_round (round_of mode verdict state) (next_rounds (λ remaining. rounds_within rounds mode verdict remaining) (round_of mode verdict state))
+unfoldable pub rounds_within : {T : Type 0} → ℕ → Recursion T → (List ℕ → Bool) → T → Reduction T
+rounds_within zero recursion verdict state = ends_with state false
+rounds_within (suc rounds) recursion verdict state =
+    after_round (recursion.round verdict state) (next_rounds (λ remaining. rounds_within rounds recursion verdict remaining) (recursion.round verdict state))
 
 -- Each round but the last leaves a smaller state, so there is at most one round more than the state has units.
-unfoldable pub rounds_of : {T : Type 0} → RoundMode T → (List ℕ → Bool) → T → Reduction T
-rounds_of mode verdict state = rounds_within (suc (mode.size state)) mode verdict state
+unfoldable pub rounds_of : {T : Type 0} → Recursion T → (List ℕ → Bool) → T → Reduction T
+rounds_of recursion verdict state = rounds_within (suc (recursion.size state)) recursion verdict state
 
 -- the start is asked first; at no it is refused
-unfoldable pub reduction : {T : Type 0} → RoundMode T → (List ℕ → Bool) → Reduction T
-reduction mode verdict =
-    asks_first (mode.text mode.start)
-    (if verdict (mode.text mode.start)
-    then after_opening (opening_of mode verdict) (rounds_of mode verdict (opening_of mode verdict).state)
-    else ends_with mode.start true)
+unfoldable pub reduction : {T : Type 0} → Recursion T → (List ℕ → Bool) → Reduction T
+reduction recursion verdict =
+    asks_first (recursion.text recursion.start)
+    (if verdict (recursion.text recursion.start)
+    then after_opening (recursion.opening verdict) (rounds_of recursion verdict (recursion.opening verdict).state)
+    else ends_with recursion.start true)
+
+-- a count of 64 bits, which stays at its greatest value
+abbrev pub capped_count : ℕ → ℕ
+capped_count n = min n (2 ^ 64 - 1)

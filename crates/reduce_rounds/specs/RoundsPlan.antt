@@ -1,12 +1,9 @@
 -- The reduction as a plan: what a machine asks, and how it goes on at each answer. Counts of 64 bits stay at their greatest value.
-use Rattle.std.specs.Prelude.{◌≡◌, ◌+◌, ◌-◌, ◌^◌, min, ℕ, zero, suc, Bool, true, false, List, if◌then◌else◌}
+use Rattle.std.specs.Prelude.{◌≡◌, ◌+◌, ℕ, zero, suc, Bool, true, false, List, if◌then◌else◌}
 use Rattle.reduce_step.specs.Plan.{Plan, StepResult, End, Ask}
 use Rattle.reduce_rounds.specs.Trials.{Trials, Done, Try}
 use Rattle.reduce_rounds.specs.Mode.{RoundMode}
-
--- a count of 64 bits, which stays at its greatest value
-abbrev pub capped_count : ℕ → ℕ
-capped_count n = min n (2 ^ 64 - 1)
+use Rattle.reduce_rounds.specs.Reduction.{capped_count}
 
 -- what a reduction ends with: this state, after so many tests and rounds
 abbrev pub step_result : {T : Type 0} → RoundMode T → T → ℕ → ℕ → Bool → StepResult

@@ -4,19 +4,22 @@
 ghost use Rattle.std.specs.Prelude.{List, ℕ, Option};
 ghost use Rattle.script_gate_trait.specs.declared.gate.Verdict.{Verdict};
 ghost use Rattle.reduce_rounds.specs.Trials.{IsTriedAtNo};
-ghost use Rattle.reduce_rounds.specs.Laws.{AgreeingMapsReduceAlike, AheadAreCandidates, AheadIsStartAlone, AsksCandidates, EndsMinimal, GoesByItsRounds, IsTheReduction, RefusesAtNo};
+ghost use Rattle.reduce_rounds.specs.Laws.{AgreeingMapsReduceAlike, AheadAreCandidates, AheadIsStartAlone, AsksCandidates, EndsMinimal, GoesByItsRounds, IsTheReduction, RecursionsReduceAlike, RefusesAtNo};
+ghost use Rattle.reduce_rounds.specs.ByTrials.{recursion_of};
+ghost use Rattle.reduce_rounds.specs.Mode.{IsLawful};
+ghost use Rattle.reduce_rounds.specs.RoundsPlan.{plan_first};
 
 use crate::round::Round;
 
 /// Followed over a map of verdicts, the machine ends exactly where the map has a verdict for each
 /// text that the recursive reduction asks, and then with the reduction's result and counts.
 pub fn follows_reduction<R: Round>()
-    ensures { (input : R.Input) (V : List ℕ → Option Verdict) → IsTheReduction (R.mode input) V }
+    ensures { (input : R.Input) (V : List ℕ → Option Verdict) → IsTheReduction (plan_first (R.mode input)) (recursion_of (R.mode input)) V }
 {}
 
 /// The start is refused exactly where its verdict is no.
 pub fn refuses_at_no<R: Round>()
-    ensures { (input : R.Input) → RefusesAtNo (R.mode input) }
+    ensures { (input : R.Input) → RefusesAtNo (plan_first (R.mode input)) (recursion_of (R.mode input)) }
 {}
 
 /// A reduction of a listed start that was not refused ends at a yes that is listed and kept, and each
@@ -43,11 +46,17 @@ pub fn ahead_is_start_alone<R: Round>()
 
 /// The rounds of a reduction are one round and what follows it, until one has no yes.
 pub fn goes_by_its_rounds<R: Round>()
-    ensures { (input : R.Input) → GoesByItsRounds (R.mode input) (R.Kept input) }
+    ensures { (input : R.Input) → IsLawful (R.mode input) (R.Kept input) → GoesByItsRounds (recursion_of (R.mode input)) (R.Kept input) }
 {}
 
 /// Reductions over two maps of verdicts that agree are equal, where each map has a verdict for each
 /// text that its own reduction asks.
 pub fn agreeing_maps<R: Round>()
-    ensures { (input : R.Input) → AgreeingMapsReduceAlike (R.mode input) }
+    ensures { (input : R.Input) → AgreeingMapsReduceAlike (recursion_of (R.mode input)) }
+{}
+
+/// A recursion whose opening, and whose rounds from kept states, come to what the mode's trials come to
+/// gives the same reductions.
+pub fn recursions_reduce_alike<R: Round>()
+    ensures { (input : R.Input) → RecursionsReduceAlike (R.mode input) (R.Kept input) }
 {}

@@ -4,7 +4,9 @@
 //! Read `specs/Reduction.antt` first: the reduction as a recursion over a verdict on every text. What a
 //! mode brings is a type that implements [`Round`]: its states, their texts, which of them may be
 //! asked, what a round tries from a state, as a finite tree (`specs/Trials.antt`, `specs/Mode.antt`),
-//! and what holds of each state that it reaches. As code a reduction is a machine that is asked and
+//! and what holds of each state that it reaches. What it tries comes to a recursion
+//! (`specs/ByTrials.antt`), and a mode that is defined as one shows that it is the same
+//! ([`recursions_reduce_alike`]). As code a reduction is a machine that is asked and
 //! answered from outside: it is a [`Step`](reduce_step::Step), with the plan of
 //! `specs/RoundsPlan.antt`. The laws tie the two together: each is a function that does nothing, which
 //! a caller calls so that its proof has the law. Begin with the laws [`follows_reduction`], that the
@@ -21,7 +23,7 @@ mod stage;
 pub use faults::Memory;
 pub use laws::{
     agreeing_maps, ahead_are_candidates, ahead_is_start_alone, asks_candidates, ends_minimal,
-    follows_reduction, goes_by_its_rounds, refuses_at_no,
+    follows_reduction, goes_by_its_rounds, recursions_reduce_alike, refuses_at_no,
 };
 pub use reducer::ReducerStep;
 pub use round::Round;

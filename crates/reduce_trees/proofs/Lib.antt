@@ -6,4 +6,5 @@ pub mod CandidateLemmas
 pub mod TrialLemmas
 pub mod RoundLemmas
 pub mod HddRounds
+pub mod Recursions
 pub mod Crossing

@@ -1,22 +1,19 @@
 -- What a reduction of trees asks, and what it ends with, in the words of trees.
 use Rattle.std.specs.Prelude.{◌≡◌, ℕ, true, List, Option, Some, IsTrue}
 use Rattle.script_gate_trait.specs.declared.gate.Verdict.{Verdict}
-use Rattle.script_gate_trait.specs.declared.gate.Verdict.TheVariants.{Yes, No}
+use Rattle.script_gate_trait.specs.declared.gate.Verdict.TheVariants.{Yes}
 use Rattle.normal_form.specs.declared.normal.Sym.{Sym}
 use Rattle.normal_form.specs.Form.{NormalForm}
 use Rattle.reduce_rounds.specs.Mode.{RoundMode}
 use Rattle.reduce_rounds.specs.Trials.{IsTriedAtNo, Trials}
+use Rattle.reduce_rounds.specs.Minimal.{IsMinimal}
 use Rattle.reduce_rounds.specs.Laws.{EndsWell, IsTextOf}
 use Rattle.syntax_tree.specs.Trees.{PlainTree, leaves}
 use Rattle.reduce_trees_mode.specs.Input.{IsInput, TreeInput, TreeState}
 use Rattle.reduce_trees_mode.specs.Candidates.{IsCandidate}
 use Rattle.reduce_trees_mode.specs.Listed.{IsKept, IsListed, text_of_state}
-use Rattle.reduce_trees_mode.specs.Lawful.{IsEditIn}
+use Rattle.reduce_trees_mode.specs.InStyles.{IsEditIn}
 use Rattle.reduce_trees.specs.WalkMode.{walk_mode}
-
--- Each of these edits of the state's tree, in the state's style, that may be asked has a no.
-abbrev pub IsMinimalBy : (NormalForm → Sym → PlainTree → PlainTree → Type 0) → TreeInput → (List ℕ → Option Verdict) → TreeState → Type 0
-IsMinimalBy IsEdit input V state = (other : TreeState) → IsEditIn (IsEdit input.form input.symbol) state other → IsListed input other → V (text_of_state input other) ≡ Some No
 
 -- The start is admitted with all its tokens.
 abbrev pub AdmitsStart : TreeInput → Type 0
@@ -32,7 +29,7 @@ pub record IsEndBy (IsEdit : NormalForm → Sym → PlainTree → PlainTree → 
   pub yes_at_end : V (text_of_state input state) ≡ Some Yes
   pub listed : IsListed input state
   pub kept : IsKept input state
-  pub minimal : IsMinimalBy IsEdit input V state
+  pub minimal : IsMinimal (IsEditIn (IsEdit input.form input.symbol)) (IsListed input) (text_of_state input) V state
 
 module _ (round : NormalForm → Sym → PlainTree → Trials PlainTree) where
   -- A reduction with these rounds begins with its start, where that is admitted.

@@ -6,7 +6,8 @@ use Rattle.syntax_tree.specs.Nodes.{SyntaxTree, whole}
 use Rattle.token_print.specs.declared.style.Style.{Style}
 use Rattle.reduce_trees_mode.specs.Input.{TreeInput, TreeState}
 use Rattle.reduce_trees_mode.specs.Listed.{MayKeepStyle}
-use Rattle.reduce_trees_mode.specs.InStyles.{in_style, trials_in}
+use Rattle.reduce_trees_mode.specs.InStyles.{in_style}
+use Rattle.reduce_trees_mode.specs.TreeTrials.{trials_in}
 use Rattle.reduce_trees.specs.Candidates.{IsCandidateIn}
 use Rattle.reduce_trees.specs.declared.candidate.Candidate.{Candidate}
 use Rattle.reduce_trees.specs.declared.trial.Trial.{Trial}

@@ -3,18 +3,20 @@ use Rattle.std.specs.Prelude.{◌≡◌, ℕ, Bool, List}
 use Rattle.normal_form.specs.declared.normal.Sym.{Sym}
 use Rattle.normal_form.specs.Form.{NormalForm}
 use Rattle.reduce_rounds.specs.Mode.{IsLawful, TriesEdits}
-use Rattle.reduce_rounds.specs.Reduction.{round_of}
+use Rattle.reduce_rounds.specs.Reduction.{reduction}
+use Rattle.reduce_rounds.specs.ByTrials.{reduction_of, round_of}
 use Rattle.reduce_rounds.specs.Trials.{Trials}
 use Rattle.syntax_tree.specs.Trees.{PlainTree}
 use Rattle.reduce_trees_mode.specs.Input.{IsInput, TreeInput, TreeState}
 use Rattle.reduce_trees_mode.specs.Listed.{IsKept}
-use Rattle.reduce_trees_mode.specs.Lawful.{IsEditIn}
-use Rattle.reduce_trees_mode.specs.InStyles.{end_in, trees_in}
+use Rattle.reduce_step.specs.declared.mode.TreeMode.{TreeMode}
+use Rattle.reduce_trees_mode.specs.InStyles.{IsEditIn, end_in, tree_recursion, trees_in}
 use Rattle.reduce_hdd_trials.specs.Followed.{levels_end}
 use Rattle.reduce_perses_trials.specs.VisitEnd.{visit_end}
 use Rattle.reduce_perses.specs.FitsIn.{fits_in}
 use Rattle.reduce_trees.specs.HddMode.{hdd_mode}
 use Rattle.reduce_trees.specs.PersesMode.{perses_mode}
+use Rattle.reduce_trees.specs.TreeRounds.{tree_round}
 use Rattle.reduce_trees.specs.WalkMode.{walk_mode}
 
 module _ (round : NormalForm → Sym → PlainTree → Trials PlainTree) where
@@ -35,3 +37,8 @@ PersesRoundsAreVisits = (input : TreeInput) (verdict : List ℕ → Bool) (state
 abbrev pub HddRoundsAreLevels : Type 0
 HddRoundsAreLevels = (input : TreeInput) (verdict : List ℕ → Bool) (state : TreeState)
     → round_of (hdd_mode input) verdict state ≡ end_in state.style (levels_end input.form (trees_in input state.style) verdict state.tree)
+
+-- The reductions of an input by rounds that try this are those of the mode's recursion.
+abbrev pub WalksAreRecursions : TreeMode → (NormalForm → Sym → PlainTree → Trials PlainTree) → Type 0
+WalksAreRecursions mode round = (input : TreeInput) (verdict : List ℕ → Bool) → IsInput input
+    → reduction (tree_recursion (tree_round mode input) input) verdict ≡ reduction_of (walk_mode round input) verdict

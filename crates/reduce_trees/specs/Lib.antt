@@ -5,6 +5,7 @@ pub use Rattle.reduce_walk.specs.Rounds as WalkRounds
 pub use Rattle.reduce_perses.specs.VisitRounds
 pub use Rattle.reduce_hdd.specs.LevelRounds
 pub use Rattle.reduce_hdd_trials.specs.Followed as LevelsEnd
+pub mod TreeRounds
 pub mod WalkMode
 pub mod PersesMode
 pub mod HddMode

@@ -5,7 +5,7 @@ use Rattle.reduce_rounds.specs.Mode.{RoundMode}
 use Rattle.reduce_rounds.specs.Trials.{Trials}
 use Rattle.syntax_tree.specs.Trees.{PlainTree}
 use Rattle.reduce_trees_mode.specs.Input.{TreeInput, TreeState}
-use Rattle.reduce_trees_mode.specs.InStyles.{tree_mode}
+use Rattle.reduce_trees_mode.specs.TreeTrials.{tree_mode}
 
 -- the mode whose rounds try this of a tree for a symbol of a normal form
 abbrev pub walk_mode : (NormalForm → Sym → PlainTree → Trials PlainTree) → TreeInput → RoundMode TreeState

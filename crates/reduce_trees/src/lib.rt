@@ -6,9 +6,10 @@
 //! in `reduce_trees_mode/specs/Listed.antt`. Enter by [`TreeParts::new`] and [`tree_reducer`], or
 //! [`perses_reducer`] and [`hdd_reducer`] in their modes. What never changes is in [`TreeParts`], which
 //! is lent; [`TreeRound`] has the walk, and what is tried now (`specs/Fields.antt`). What a reduction
-//! asks and what it ends with are in `specs/Ends.antt`, for any walk. Over a verdict on every text a
-//! round is the recursion that a reader believes: `visit_end` in mode `perses`
-//! ([`perses_rounds_are_visits`]), `levels_end` in mode `hdd` ([`hdd_rounds_are_levels`]).
+//! asks and what it ends with are in `specs/Ends.antt`, for any walk. What a reader believes is
+//! `specs/TreeRounds.antt`: over a verdict on every text a round is the recursion `visit_end` in mode
+//! `perses`, and `levels_end` in mode `hdd`. The reductions are those of these recursions
+//! ([`perses_is_its_recursion`], [`hdd_is_its_recursion`]).
 #![tactic(auto)]
 
 mod candidate;
@@ -23,7 +24,10 @@ mod trial;
 pub use ends::{walks_ask_candidates, walks_begin, walks_end_minimal};
 pub use faults::Memory;
 pub use laws::{walks_are_lawful, walks_try_edits};
-pub use modes::{hdd_reducer, hdd_rounds_are_levels, perses_reducer, perses_rounds_are_visits};
+pub use modes::{
+    hdd_is_its_recursion, hdd_reducer, hdd_rounds_are_levels, perses_is_its_recursion,
+    perses_reducer, perses_rounds_are_visits,
+};
 pub use parts::{HasInput, TreeParts};
 pub use reducer::{TreeReducer, tree_reducer};
 pub use tree_round::TreeRound;

@@ -3,9 +3,13 @@
 ghost use Rattle.std.specs.Prelude.{◌≡◌, IfOk};
 ghost use Rattle.reduce_rounds.specs.RoundsPlan.{IsStart, plan_first};
 ghost use Rattle.reduce_trees.specs.HddMode.{hdd_mode};
-ghost use Rattle.reduce_trees.specs.Laws.{HddRoundsAreLevels, PersesRoundsAreVisits};
+ghost use Rattle.reduce_step.specs.declared.mode.TreeMode.TheVariants as mode;
+ghost use Rattle.reduce_perses.specs.VisitRounds.{visit_round};
+ghost use Rattle.reduce_hdd.specs.LevelRounds.{level_round};
+ghost use Rattle.reduce_trees.specs.Laws.{HddRoundsAreLevels, PersesRoundsAreVisits, WalksAreRecursions};
 ghost use Rattle.reduce_trees.specs.PersesMode.{perses_mode};
 
+use crate::laws::walks_are_lawful;
 use crate::parts::{HasInput, TreeParts};
 use crate::reducer::tree_reducer;
 use crate::tree_round::TreeRound;
@@ -17,7 +21,7 @@ use reduce_perses::TreeVisits;
 use reduce_perses_trials::rounds_end_by_visits;
 use reduce_rounds::{ReducerStep, Rounds};
 use reduce_step::Step;
-use reduce_trees_mode::rounds_keep_style;
+use reduce_trees_mode::{opening_is_one_test, rounds_keep_style};
 use std::alloc::Global;
 use syntax_tree::{left_is_part, whole_trees_rise};
 
@@ -46,6 +50,15 @@ pub fn perses_rounds_are_visits()
     rounds_end_by_visits();
 }
 
+/// The reductions of mode `perses` are those of the recursion whose rounds visit node after node.
+pub fn perses_is_its_recursion()
+    ensures { WalksAreRecursions mode.Perses visit_round }
+{
+    perses_rounds_are_visits();
+    walks_are_lawful::<TreeVisits>();
+    opening_is_one_test();
+}
+
 /// The reducer of mode `hdd`: the reduction of what its parts are of, as [`tree_reducer`] says.
 pub fn hdd_reducer<'a, F: Relation>(
     alloc: Global,
@@ -67,4 +80,13 @@ pub fn hdd_rounds_are_levels()
 {
     rounds_keep_style();
     ends_by_levels();
+}
+
+/// The reductions of mode `hdd` are those of the recursion whose rounds go level after level.
+pub fn hdd_is_its_recursion()
+    ensures { WalksAreRecursions mode.Hdd level_round }
+{
+    hdd_rounds_are_levels();
+    walks_are_lawful::<TreeLevels>();
+    opening_is_one_test();
 }

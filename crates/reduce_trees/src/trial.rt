@@ -2,7 +2,7 @@
 
 ghost use Rattle.std.specs.Prelude.{◌≡◌, IfOk, option_copied};
 ghost use Rattle.reduce_trees_mode.specs.Listed.{MayKeepStyle};
-ghost use Rattle.reduce_trees_mode.specs.InStyles.{opening_of, trials_in};
+ghost use Rattle.reduce_trees_mode.specs.TreeTrials.{opening_trials, trials_in};
 ghost use Rattle.reduce_trees.specs.Fields.{AreCopies, IsTreeOf, IsTried, candidate_in, rest_of};
 ghost use Rattle.token_print.specs.declared.style.Style.{Style as TextStyle};
 ghost use Rattle.reduce_rounds.specs.Trials.{Done};
@@ -68,7 +68,7 @@ pub(crate) fn opening_trial<F: Relation>(
     parts: &TreeParts<F>,
 ) -> Result<Trial, Memory>
     ensures tried { IfOk result (IsTried (⟦<TreeParts<F> as HasInput>⟧.input parts.now) TextStyle.AsWas (⟦<TreeParts<F> as HasInput>⟧.input parts.now).whole Done) }
-    ensures opening { IfOk result (λ trial. rest_of (⟦<TreeParts<F> as HasInput>⟧.input parts.now) TextStyle.AsWas Done trial ≡ opening_of (⟦<TreeParts<F> as HasInput>⟧.input parts.now)) }
+    ensures opening { IfOk result (λ trial. rest_of (⟦<TreeParts<F> as HasInput>⟧.input parts.now) TextStyle.AsWas Done trial ≡ opening_trials (⟦<TreeParts<F> as HasInput>⟧.input parts.now)) }
 {
     if !parts.squeezes {
         return Ok(Trial::Over);

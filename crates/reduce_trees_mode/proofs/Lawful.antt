@@ -2,7 +2,8 @@
 use Rattle.std.proofs.Common.{subst}
 use Rattle.reduce_rounds.specs.Trials.{IsTriedAtNo}
 use Rattle.token_print.specs.declared.style.Style.{Style}
-use Rattle.reduce_trees_mode.specs.InStyles.{in_style, trials_in}
+use Rattle.reduce_trees_mode.specs.InStyles.{in_style}
+use Rattle.reduce_trees_mode.specs.TreeTrials.{trials_in}
 use Rattle.reduce_trees_mode.specs.Laws.{OpeningIsKept, StylesStay, WholeIsStart}
 use Rattle.reduce_trees_mode.specs.Lawful.{TreeModeIsLawful, TreeModeTriesTrees}
 

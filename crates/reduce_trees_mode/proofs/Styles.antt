@@ -1,15 +1,18 @@
 -- Trials of states in one style.
-use Rattle.std.proofs.Common.{◌≡◌, inl, inr, ℕ, Bool, true, false, cond, List, refl, ap}
-use Rattle.syntax_tree.specs.Trees.{PlainTree, weight}
+use Rattle.std.proofs.Common.{◌≡◌, inl, inr, ℕ, Bool, true, false, cond, List, length, refl, ap}
+use Rattle.std.specs.Prelude.{◌&&◌, nat_lt}
+use Rattle.syntax_tree.specs.Trees.{PlainTree, leaves, weight}
 use Rattle.syntax_tree.specs.Valid.{IsTreeFor}
 use Rattle.syntax_tree.specs.Left.{IsRemainderOf}
-use Rattle.reduce_rounds.specs.Reduction.{TrialsEnd, after_question, after_yes, trials_end}
+use Rattle.reduce_rounds.specs.Reduction.{RoundEnd, after_question, after_yes, end_at, tested}
+use Rattle.reduce_rounds.specs.ByTrials.{texts_of, trials_end}
 use Rattle.reduce_rounds.specs.Trials.{Trials, Done, Try, AllTried, EachIsSmaller, IsTriedAtNo}
 use Rattle.token_print.specs.declared.style.Style.{Style}
 use Rattle.reduce_trees_mode.specs.Input.{TreeInput, TreeState}
-use Rattle.reduce_trees_mode.specs.Listed.{IsKept, MayKeepStyle, is_listed, text_of_state}
-use Rattle.reduce_trees_mode.specs.InStyles.{end_in, in_style, tree_mode, trees_in, trials_in}
-use Rattle.reduce_trees_mode.specs.Laws.{RoundsKeepStyle, StylesStay}
+use Rattle.reduce_trees_mode.specs.Listed.{IsKept, MayKeepStyle, is_listed, text_in, text_of_state}
+use Rattle.reduce_trees_mode.specs.InStyles.{end_in, in_style, states_of, trees_in}
+use Rattle.reduce_trees_mode.specs.TreeTrials.{tree_mode, trials_in}
+use Rattle.reduce_trees_mode.specs.Laws.{OpeningIsOneTest, RoundsKeepStyle, StylesStay}
 
 kept_in : (input : TreeInput) (style : Style) → MayKeepStyle input style → (trials : Trials PlainTree) → AllTried (λ tree. IsTreeFor input.form input.symbol tree × IsRemainderOf input.whole tree) trials → AllTried (IsKept input) (trials_in style trials)
 kept_in input style may_keep Done all = tt
@@ -35,20 +38,29 @@ stay input state trials =
 
 module _ (style : Style) where
   -- the same by cases: whether the tree is listed, and its answer
-  end_first : (listed answer : Bool) (text : List ℕ) (tree_yes tree_no : TrialsEnd PlainTree) (at_yes at_no : TrialsEnd TreeState) → at_yes ≡ end_in style tree_yes → at_no ≡ end_in style tree_no
+  end_first : (listed answer : Bool) (text : List ℕ) (tree_yes tree_no : RoundEnd PlainTree) (at_yes at_no : RoundEnd TreeState) → at_yes ≡ end_in style tree_yes → at_no ≡ end_in style tree_no
       → cond listed (after_question text (cond answer (after_yes at_yes) at_no)) at_no ≡ end_in style (cond listed (after_question text (cond answer (after_yes tree_yes) tree_no)) tree_no)
   end_first false answer text tree_yes tree_no at_yes at_no yes_is no_is = no_is
   end_first true true text tree_yes tree_no at_yes at_no yes_is no_is = ap (λ e. after_question text (after_yes e)) yes_is
   end_first true false text tree_yes tree_no at_yes at_no yes_is no_is = ap (after_question text) no_is
 
   module _ (input : TreeInput) (round : PlainTree → Trials PlainTree) (verdict : List ℕ → Bool) where
-    ends_in : (tree : PlainTree) (trials : Trials PlainTree) → trials_end (tree_mode round input) verdict (in_style style tree) (trials_in style trials) ≡ end_in style (trials_end (trees_in input style) verdict tree trials)
+    ends_in : (tree : PlainTree) (trials : Trials PlainTree) → trials_end (texts_of (tree_mode round input)) verdict (in_style style tree) (trials_in style trials) ≡ end_in style (trials_end (trees_in input style) verdict tree trials)
     ends_in tree Done = refl
     ends_in tree (Try other at_yes at_no) =
         end_first (is_listed input (in_style style other)) (verdict (text_of_state input (in_style style other))) (text_of_state input (in_style style other))
         (trials_end (trees_in input style) verdict other at_yes) (trials_end (trees_in input style) verdict tree at_no)
-        (trials_end (tree_mode round input) verdict (in_style style other) (trials_in style at_yes)) (trials_end (tree_mode round input) verdict (in_style style tree) (trials_in style at_no))
+        (trials_end (texts_of (tree_mode round input)) verdict (in_style style other) (trials_in style at_yes)) (trials_end (texts_of (tree_mode round input)) verdict (in_style style tree) (trials_in style at_no))
         (ends_in other at_yes) (ends_in tree at_no)
 
 pub rounds_keep : RoundsKeepStyle
 rounds_keep input round verdict state = ends_in state.style input round verdict state.tree (round state.tree)
+
+pub one_test : OpeningIsOneTest
+one_test input round verdict = by_length (input.squeezes && nat_lt (length (text_in input (leaves input.whole) Style.Squeezed)) (length input.start))
+  where
+    by_length : (b : Bool) →
+        trials_end (texts_of (tree_mode round input)) verdict (in_style Style.AsWas input.whole) (cond b (Try (in_style Style.Squeezed input.whole) Done Done) Done)
+        ≡ cond b (tested (states_of input) verdict (in_style Style.Squeezed input.whole) (end_at (in_style Style.Squeezed input.whole)) (end_at (in_style Style.AsWas input.whole))) (end_at (in_style Style.AsWas input.whole))
+    by_length true = refl
+    by_length false = refl

@@ -1,9 +1,8 @@
--- A reduction of trees as a mode: what it tries.
-use Rattle.std.specs.Prelude.{◌&&◌, nat_lt, length, cond}
+-- The reduction of trees, as a recursion over a verdict on every text.
+use Rattle.std.specs.Prelude.{◌≡◌, ◌&&◌, nat_lt, ℕ, Bool, List, length, if◌then◌else◌}
 use Rattle.syntax_tree.specs.Trees.{PlainTree, leaves, weight}
-use Rattle.reduce_rounds.specs.Trials.{Trials, Done, Try}
-use Rattle.reduce_rounds.specs.Mode.{RoundMode}
-use Rattle.reduce_rounds.specs.Reduction.{TrialsEnd}
+use Rattle.reduce_rounds.specs.StateTexts.{StateTexts}
+use Rattle.reduce_rounds.specs.Reduction.{Recursion, RoundEnd, end_at, tested}
 use Rattle.token_print.specs.declared.style.Style.{Style}
 use Rattle.reduce_trees_mode.specs.Input.{TreeInput, TreeState}
 use Rattle.reduce_trees_mode.specs.Listed.{is_listed, text_in, text_of_state}
@@ -12,42 +11,37 @@ use Rattle.reduce_trees_mode.specs.Listed.{is_listed, text_in, text_of_state}
 abbrev pub in_style : Style → PlainTree → TreeState
 in_style style tree = record { tree = tree; style = style }
 
--- the same trials, of states in one style
-abbrev pub trials_in : Style → Trials PlainTree → Trials TreeState
-trials_in style Done = Done
-trials_in style (Try tree at_yes at_no) = Try (in_style style tree) (trials_in style at_yes) (trials_in style at_no)
+-- One state is an edit of another: its tree is, and the style is the same.
+pub record IsEditIn (IsEdit : PlainTree → PlainTree → Type 0) (state other : TreeState) : Type 0 where
+  pub tree : IsEdit state.tree other.tree
+  pub style : state.style ≡ other.style
 
--- Where it is asked for, the squeezed text of the whole is tried once, if it has fewer bytes than the start.
-abbrev pub opening_of : TreeInput → Trials TreeState
-opening_of input =
-    cond (input.squeezes && nat_lt (length (text_in input (leaves input.whole) Style.Squeezed)) (length input.start))
-    (Try (in_style Style.Squeezed input.whole) Done Done)
-    Done
+-- the states of an input: their texts, and which of them may be asked
+abbrev pub states_of : TreeInput → StateTexts TreeState
+states_of input = record { text = text_of_state input; is_listed = is_listed input }
 
--- The reduction of an input's trees, where a round tries these trees from each tree. A tree has as many units as leaves, and keeps its style in a round.
-abbrev pub tree_mode : (PlainTree → Trials PlainTree) → TreeInput → RoundMode TreeState
-tree_mode round input =
+-- its trees in one style
+abbrev pub trees_in : TreeInput → Style → StateTexts PlainTree
+trees_in input style = record { text = λ tree. text_of_state input (in_style style tree); is_listed = λ tree. is_listed input (in_style style tree) }
+
+-- what a round of trees comes to, as states in one style
+abbrev pub end_in : Style → RoundEnd PlainTree → RoundEnd TreeState
+end_in style end = record { questions = end.questions; state = in_style style end.state; changed = end.changed }
+
+-- Where it is asked for, the squeezed text of the whole is tested once, if it has fewer bytes than the start. At yes texts are squeezed from then on.
+abbrev pub squeezed_first : TreeInput → (List ℕ → Bool) → RoundEnd TreeState
+squeezed_first input verdict =
+    if input.squeezes && nat_lt (length (text_in input (leaves input.whole) Style.Squeezed)) (length input.start)
+    then tested (states_of input) verdict (in_style Style.Squeezed input.whole) (end_at (in_style Style.Squeezed input.whole)) (end_at (in_style Style.AsWas input.whole))
+    else end_at (in_style Style.AsWas input.whole)
+
+-- The reduction of an input's trees, where a round of trees in one style comes to this. A tree has as many units as leaves, and keeps its style in a round.
+abbrev pub tree_recursion : (StateTexts PlainTree → (List ℕ → Bool) → PlainTree → RoundEnd PlainTree) → TreeInput → Recursion TreeState
+tree_recursion round input =
     record {
       start = in_style Style.AsWas input.whole;
       text = text_of_state input;
-      is_listed = is_listed input;
       size = λ state. weight state.tree;
-      opening = opening_of input;
-      round = λ state. trials_in state.style (round state.tree);
+      opening = squeezed_first input;
+      round = λ verdict state. end_in state.style (round (trees_in input state.style) verdict state.tree);
     }
-
--- The trees of an input in one style, with their texts and which of them may be asked. Nothing is tried by itself.
-abbrev pub trees_in : TreeInput → Style → RoundMode PlainTree
-trees_in input style =
-    record {
-      start = input.whole;
-      text = λ tree. text_of_state input (in_style style tree);
-      is_listed = λ tree. is_listed input (in_style style tree);
-      size = weight;
-      opening = Done;
-      round = λ tree. Done;
-    }
-
--- what trials of trees come to, as states in one style
-abbrev pub end_in : Style → TrialsEnd PlainTree → TrialsEnd TreeState
-end_in style end = record { questions = end.questions; state = in_style style end.state; changed = end.changed }

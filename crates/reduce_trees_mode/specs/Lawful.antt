@@ -7,7 +7,7 @@ use Rattle.reduce_rounds.specs.Trials.{Trials, AllTried, EachIsSmaller, IsTriedA
 use Rattle.reduce_rounds.specs.Mode.{IsLawful}
 use Rattle.reduce_trees_mode.specs.Input.{IsInput, TreeInput, TreeState}
 use Rattle.reduce_trees_mode.specs.Listed.{IsKept}
-use Rattle.reduce_trees_mode.specs.InStyles.{tree_mode}
+use Rattle.reduce_trees_mode.specs.TreeTrials.{tree_mode}
 
 -- The tree is valid for the start rule, and is left of the tree of all tokens.
 abbrev pub IsKeptTree : TreeInput → PlainTree → Type 0
@@ -21,11 +21,6 @@ pub record IsLawfulRound (input : TreeInput) (round : PlainTree → Trials Plain
 -- The mode is then lawful.
 abbrev pub TreeModeIsLawful : Type 0
 TreeModeIsLawful = (input : TreeInput) (round : PlainTree → Trials PlainTree) → IsInput input → IsLawfulRound input round → IsLawful (tree_mode round input) (IsKept input)
-
--- One state is an edit of another: its tree is, and the style is the same.
-pub record IsEditIn (IsEdit : PlainTree → PlainTree → Type 0) (state other : TreeState) : Type 0 where
-  pub tree : IsEdit state.tree other.tree
-  pub style : state.style ≡ other.style
 
 -- If all its answers are no, a round of the mode tries the trees that the round from its tree tries, in the same style.
 abbrev pub TreeModeTriesTrees : Type 0

@@ -5,14 +5,15 @@ use Rattle.grammar_tree.specs.Faults.{IsWellFormed}
 use Rattle.syntax_tree.specs.Trees.{PlainTree, leaves, weight}
 use Rattle.syntax_tree.specs.Valid.{IsTreeFor}
 use Rattle.syntax_tree.specs.Left.{IsRemainderOf}
-use Rattle.reduce_rounds.specs.Reduction.{round_of, trials_end}
+use Rattle.reduce_rounds.specs.ByTrials.{opening_of, round_of, trials_end}
 use Rattle.reduce_rounds.specs.Trials.{Trials, AllTried, EachIsSmaller, IsTriedAtNo}
 use Rattle.token_print.specs.Laws.{all_kept}
 use Rattle.token_print.specs.declared.style.Style.{Style}
 use Rattle.reduce_trees_mode.specs.Input.{IsInput, TreeInput, TreeState}
 use Rattle.reduce_trees_mode.specs.Candidates.{IsCandidate}
 use Rattle.reduce_trees_mode.specs.Listed.{IsKept, IsListed, is_listed, text_of_state}
-use Rattle.reduce_trees_mode.specs.InStyles.{end_in, in_style, opening_of, tree_mode, trees_in, trials_in}
+use Rattle.reduce_trees_mode.specs.InStyles.{end_in, in_style, squeezed_first, trees_in}
+use Rattle.reduce_trees_mode.specs.TreeTrials.{opening_trials, tree_mode, trials_in}
 
 -- There is at most one proof that a grammar is well-formed.
 abbrev pub WellFormedOnce : Type 0
@@ -43,7 +44,7 @@ TextsAreNoLonger = (input : TreeInput) (state : TreeState) → IsInput input →
 
 -- What the opening tries is kept.
 abbrev pub OpeningIsKept : Type 0
-OpeningIsKept = (input : TreeInput) → IsInput input → AllTried (IsKept input) (opening_of input)
+OpeningIsKept = (input : TreeInput) → IsInput input → AllTried (IsKept input) (opening_trials input)
 
 -- Trials of states in one style are those of their trees.
 pub record AreTrialsIn (input : TreeInput) (state : TreeState) (trials : Trials PlainTree) : Type 0 where
@@ -54,6 +55,10 @@ pub record AreTrialsIn (input : TreeInput) (state : TreeState) (trials : Trials 
 
 abbrev pub StylesStay : Type 0
 StylesStay = (input : TreeInput) (state : TreeState) (trials : Trials PlainTree) → AreTrialsIn input state trials
+
+-- Over a verdict the opening comes to the one test of the squeezed text, or to nothing.
+abbrev pub OpeningIsOneTest : Type 0
+OpeningIsOneTest = (input : TreeInput) (round : PlainTree → Trials PlainTree) (verdict : List ℕ → Bool) → opening_of (tree_mode round input) verdict ≡ squeezed_first input verdict
 
 -- Over a verdict a round of the mode comes to what the round from its tree comes to over the trees in its style.
 abbrev pub RoundsKeepStyle : Type 0

@@ -8,5 +8,6 @@ pub mod InputParts
 pub mod Candidates
 pub mod Listed
 pub mod InStyles
+pub mod TreeTrials
 pub mod Laws
 pub mod Lawful

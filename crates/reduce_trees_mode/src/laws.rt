@@ -2,7 +2,7 @@
 
 ghost use Rattle.reduce_trees_mode.specs.InputParts.{PartsJoin};
 ghost use Rattle.reduce_trees_mode.specs.Lawful.{TreeModeIsLawful, TreeModeTriesTrees};
-ghost use Rattle.reduce_trees_mode.specs.Laws.{ListedAreCandidates, ListedIsDecided, OpeningIsKept, RoundsKeepStyle, StylesStay, TextsAreNoLonger, WellFormedOnce, WholeIsStart};
+ghost use Rattle.reduce_trees_mode.specs.Laws.{ListedAreCandidates, ListedIsDecided, OpeningIsKept, OpeningIsOneTest, RoundsKeepStyle, StylesStay, TextsAreNoLonger, WellFormedOnce, WholeIsStart};
 
 use normal_form::equal_languages;
 use syntax_tree::{leaves_keep_kinds, left_is_part, left_is_reflexive, valid_trees_are_derived};
@@ -81,6 +81,12 @@ pub fn styles_stay()
 /// the trees in its style.
 pub fn rounds_keep_style()
     ensures { RoundsKeepStyle }
+{}
+
+/// Over a verdict on every text the opening comes to the one test of the squeezed text, where it is asked
+/// for and shorter, and else to nothing.
+pub fn opening_is_one_test()
+    ensures { OpeningIsOneTest }
 {}
 
 /// The mode is lawful where a round of it tries kept trees alone and each yes makes the tree smaller.

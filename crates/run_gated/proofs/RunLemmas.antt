@@ -12,8 +12,10 @@ use Rattle.verdict_table.specs.TableState.{verdict_in}
 use Rattle.reduce_rounds.specs.Trials.{IsTriedAtNo}
 use Rattle.reduce_rounds.specs.Mode.{Keeps, RoundMode}
 use Rattle.reduce_rounds.specs.Reduction.{reduction}
+use Rattle.reduce_rounds.specs.ByTrials.{recursion_of, reduction_of}
 use Rattle.reduce_rounds.specs.RoundsPlan.{plan_first}
-use Rattle.reduce_rounds.specs.Laws.{AsksCandidates, EndsMinimal, HasVerdicts, IsTextOf, IsTheReduction, RefusesAtNo, result_of, says_yes}
+use Rattle.reduce_rounds.specs.Laws.{AsksCandidates, EndsMinimal, IsTextOf, IsTheReduction, RefusesAtNo, result_of}
+use Rattle.reduce_rounds.specs.Verdicts.{HasVerdicts, says_yes}
 use Rattle.reduce_journal.specs.History.{History, records_of}
 use Rattle.ordered_commit_moves.specs.Replay.{replay}
 use Rattle.ordered_commit.specs.declared.fault.PoolFault.{PoolFault}
@@ -72,7 +74,7 @@ module _ {T : Type 0} (mode : RoundMode T) where
   only_no (r ∷ records) one no_first = (no_first, one (subst (λ verdict. HasEnded (after (plan_first mode) verdict)) (sym no_first) refused_ends))
 
   -- the start is asked first
-  start_known : (V : List ℕ → Option Verdict) → HasVerdicts V (reduction mode (says_yes V)).questions → IsSome (V (mode.text mode.start))
+  start_known : (V : List ℕ → Option Verdict) → HasVerdicts V (reduction_of mode (says_yes V)).questions → IsSome (V (mode.text mode.start))
   unfolding reduction
   start_known V has = has.0
 
@@ -98,7 +100,7 @@ module _ {T : Type 0} (mode : RoundMode T) where
           sequential = λ alone. has_beginning fault (plan_first mode) history (ran.alone alone).sequential;
         }
 
-    module _ (follows : (V : List ℕ → Option Verdict) → IsTheReduction mode V) (refuses : RefusesAtNo mode) where
+    module _ (follows : (V : List ℕ → Option Verdict) → IsTheReduction (plan_first mode) (recursion_of mode) V) (refuses : RefusesAtNo (plan_first mode) (recursion_of mode)) where
       module _ (result : StepResult) (ended : HasEnded last) (followed : last ≡ follow (verdict_in records) (plan_first mode)) (replayed : last ≡ replay (plan_first mode) history) (found : last ≡ End result) (whole : workers ≡ 1 → history ≡ own_history (plan_first mode) history) where
         has : IsDefinedOver mode records
         has = (follows (verdict_in records)).defined (subst HasEnded followed ended)
@@ -106,9 +108,9 @@ module _ {T : Type 0} (mode : RoundMode T) where
         committed : HasEnded (replay (plan_first mode) history)
         committed = subst HasEnded replayed ended
 
-        found_is : result ≡ result_of mode (reduction_over mode records)
+        found_is : result ≡ result_of (recursion_of mode) (reduction_over mode records)
         found_is =
-            let same : End result ≡ End (result_of mode (reduction_over mode records)) = sym found ∙ followed ∙ (follows (verdict_in records)).ends has in
+            let same : End result ≡ End (result_of (recursion_of mode) (reduction_over mode records)) = sym found ∙ followed ∙ (follows (verdict_in records)).ends has in
             (cc)
 
         refused_is : result.refused ≡ (reduction_over mode records).refused
@@ -162,7 +164,7 @@ module _ {T : Type 0} (mode : RoundMode T) where
       unfinished waits whole = let both = unanswered waits in (both.0, both.1, whole)
 
 -- how a run ends with a fault
-with_fault : {T : Type 0} (mode : RoundMode T) → ((V : List ℕ → Option Verdict) → IsTheReduction mode V) → RefusesAtNo mode → (Kept : T → Type 0) (workers : ℕ) (may_say : List ℕ → Verdict → Type 0) (last : Plan) (fault : PoolFault) (history : History) (logs logs' : List (Option Log)) (gates gates' : List ℕ) (journal journal' : ℕ)
+with_fault : {T : Type 0} (mode : RoundMode T) → ((V : List ℕ → Option Verdict) → IsTheReduction (plan_first mode) (recursion_of mode) V) → RefusesAtNo (plan_first mode) (recursion_of mode) → (Kept : T → Type 0) (workers : ℕ) (may_say : List ℕ → Verdict → Type 0) (last : Plan) (fault : PoolFault) (history : History) (logs logs' : List (Option Log)) (gates gates' : List ℕ) (journal journal' : ℕ)
     → IsRunBy workers may_say (plan_first mode) last (Some fault) history logs logs' gates gates' → IsCausedBy (Some fault) gates gates' journal journal' → RunEndsIn workers mode Kept history gates gates' journal journal' (Err (fault_kept fault))
 with_fault mode follows refuses Kept workers may_say last (pool.Script worker) history logs logs' gates gates' journal journal' ran caused =
     (caused.0, caused.1, λ alone. unfinished mode workers may_say last (Some (pool.Script worker)) history logs logs' gates gates' ran follows refuses (ran.alone alone).waits (ran.alone alone).sequential)
@@ -170,7 +172,7 @@ with_fault mode follows refuses Kept workers may_say last pool.Journal history l
 with_fault mode follows refuses Kept workers may_say last pool.Memory history logs logs' gates gates' journal journal' ran caused = (caused, λ alone. (ran.alone alone).quiet)
 
 -- how a run ends
-pub run_ends : {T : Type 0} (mode : RoundMode T) → ((V : List ℕ → Option Verdict) → IsTheReduction mode V) → RefusesAtNo mode → (Kept : T → Type 0) → EndsMinimal mode Kept (λ state other. IsTriedAtNo (mode.round state) other)
+pub run_ends : {T : Type 0} (mode : RoundMode T) → ((V : List ℕ → Option Verdict) → IsTheReduction (plan_first mode) (recursion_of mode) V) → RefusesAtNo (plan_first mode) (recursion_of mode) → (Kept : T → Type 0) → EndsMinimal mode Kept (λ state other. IsTriedAtNo (mode.round state) other)
     → (workers : ℕ) (may_say : List ℕ → Verdict → Type 0) (last : Plan) (fault : Option PoolFault) (history : History) (logs logs' : List (Option Log)) (gates gates' : List ℕ) (journal journal' : ℕ) (result : StepResult) (answer : Result Reduced RunFault)
     → IsRunBy workers may_say (plan_first mode) last fault history logs logs' gates gates' → (fault ≡ None → HasEnded last → last ≡ End result) → IsCausedBy fault gates gates' journal journal'
     → AnswersFor fault result (mode.size mode.start) (length (mode.text mode.start)) (length (records_of history)) answer → RunEndsIn workers mode Kept history gates gates' journal journal' answer

@@ -10,8 +10,10 @@ use Rattle.reduce_journal.specs.History.{History, records_of}
 use Rattle.reduce_journal.specs.declared.counts.Counts.{Counts}
 use Rattle.reduce_rounds.specs.Trials.{IsTriedAtNo}
 use Rattle.reduce_rounds.specs.Mode.{IsLawful, RoundMode}
-use Rattle.reduce_rounds.specs.Reduction.{Reduction, reduction}
-use Rattle.reduce_rounds.specs.Laws.{EndsWell, HasVerdicts, result_of, says_yes}
+use Rattle.reduce_rounds.specs.Reduction.{Reduction}
+use Rattle.reduce_rounds.specs.ByTrials.{recursion_of, reduction_of}
+use Rattle.reduce_rounds.specs.Laws.{EndsWell, result_of}
+use Rattle.reduce_rounds.specs.Verdicts.{HasVerdicts, says_yes}
 use Rattle.reduce_rounds.specs.RoundsPlan.{plan_first}
 use Rattle.ordered_commit_moves.specs.Replay.{replay}
 use Rattle.run_worker.specs.RunHistory.{own_history}
@@ -26,7 +28,7 @@ use Rattle.run_gated.specs.declared.ran.Reduced.{Reduced}
 
 -- the reduction over the verdicts of the records
 abbrev pub reduction_over : {T : Type 0} → RoundMode T → List Record → Reduction T
-reduction_over mode records = reduction mode (says_yes (verdict_in records))
+reduction_over mode records = reduction_of mode (says_yes (verdict_in records))
 
 -- the records have a verdict for each text that it asks
 abbrev pub IsDefinedOver : {T : Type 0} → RoundMode T → List Record → Type 0
@@ -51,7 +53,7 @@ pub record ReducesIn {T : Type 0} (workers : ℕ) (mode : RoundMode T) (Kept : T
   pub first : FirstIs (mode.text mode.start) Yes (records_of history)
   pub defined : IsDefinedOver mode (records_of history)
   pub interesting : (reduction_over mode (records_of history)).refused ≡ false
-  pub is_result : result ≡ result_of mode (reduction_over mode (records_of history))
+  pub is_result : result ≡ result_of (recursion_of mode) (reduction_over mode (records_of history))
   pub ends_well : IsLawful mode Kept → mode.is_listed mode.start ≡ true → EndsWell mode Kept (λ state other. IsTriedAtNo (mode.round state) other) (verdict_in (records_of history)) (reduction_over mode (records_of history)).state
 
 -- no call failed, of the gates and of the journal, of which these are the counts before and after

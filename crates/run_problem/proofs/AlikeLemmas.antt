@@ -9,35 +9,43 @@ use Rattle.verdict_table.specs.declared.record.Record.{Record}
 use Rattle.verdict_table.specs.TableState.{verdict_in}
 use Rattle.reduce_journal.specs.declared.counts.Counts.{Counts}
 use Rattle.reduce_journal.specs.History.{records_of}
-use Rattle.reduce_rounds.specs.Laws.{Agree, HasVerdicts, says_yes}
-use Rattle.reduce_rounds.specs.Reduction.{Reduction}
-use Rattle.reduce_rounds.specs.RoundsPlan.{capped_count}
+use Rattle.reduce_rounds.specs.ByTrials as trials
+use Rattle.reduce_rounds.specs.Laws.{AgreeingMapsReduceAlike}
+use Rattle.reduce_rounds.specs.Verdicts.{Agree, HasVerdicts, says_yes}
+use Rattle.reduce_rounds.specs.Reduction.{Recursion, Reduction, capped_count, reduction}
 use Rattle.reduce_rounds.proofs.Agreement.{agreeing_maps}
-use Rattle.reduce_core.specs.LineMode.{in_rounds, line_mode}
-use Rattle.reduce_core.specs.declared.lines.Line.{Line}
-use Rattle.reduce_core.specs.Lines.{text_of}
-use Rattle.reduce_core.specs.Reduction.{line_reduction}
-use Rattle.reduce_core.proofs.ByRounds.{by_rounds}
-use Rattle.syntax_tree.specs.Trees.{weight}
+use Rattle.reduce_core.specs.Laws.{LinesAreRecursions}
+use Rattle.reduce_core.specs.LineMode.{line_mode}
+use Rattle.reduce_core.specs.Reduction.{line_recursion}
+use Rattle.reduce_perses.specs.VisitRounds.{visit_round}
+use Rattle.reduce_hdd.specs.LevelRounds.{level_round}
+use Rattle.reduce_step.specs.declared.mode.TreeMode.TheVariants.{Hdd, Perses}
+use Rattle.reduce_trees.specs.Laws.{WalksAreRecursions}
+use Rattle.reduce_trees.specs.TreeRounds.{tree_round}
 use Rattle.reduce_trees.specs.WalkMode.{walk_mode}
-use Rattle.reduce_trees_mode.specs.Input.{TreeState}
-use Rattle.reduce_trees_mode.specs.Listed.{text_of_state}
-use Rattle.run_problem.specs.Problem.{Problem, counts_of, questions_of, reduced_text, reduced_units, round_of, rounds_of, start_of, units_of}
-use Rattle.run_problem.specs.Laws.{RunsReduceAlike, VerdictsAgree}
+use Rattle.reduce_trees_mode.specs.InStyles.{tree_recursion}
+use Rattle.run_problem.specs.Problem.{IsProblem, Problem, StateOf, counts_of, questions_of, recursion_of, reduced_text, reduced_units, reduction_of, rounds_of, start_of, units_of}
+use Rattle.run_problem.specs.Laws.{ProblemsReduceAlike, RunsReduceAlike, VerdictsAgree}
 
 -- ---- the reductions over two maps
 
-module _ (keeps : List (List ℕ)) (V W : List ℕ → Option Verdict) (agree : Agree V W) where
-  lines_alike : (start : List ℕ) → HasVerdicts V (questions_of keeps (Problem.of_lines start) V) → HasVerdicts W (questions_of keeps (Problem.of_lines start) W)
-      → in_rounds (line_reduction (keeps_admit keeps) (says_yes V) start) ≡ in_rounds (line_reduction (keeps_admit keeps) (says_yes W) start)
-  lines_alike start has has' =
-      let at_V = by_rounds (keeps_admit keeps) (says_yes V) start in
-      let at_W = by_rounds (keeps_admit keeps) (says_yes W) start in
-      sym at_V
-      ∙ agreeing_maps (line_mode (record { admits = keeps_admit keeps; start = start })) V W agree
-      (subst (λ (r : Reduction (List Line)). HasVerdicts V r.questions) (sym at_V) has) (subst (λ (r : Reduction (List Line)). HasVerdicts W r.questions) (sym at_W) has')
-      ∙ at_W
+-- what holds of one recursion holds of each whose reductions are the same
+moved : {T : Type 0} (one other : Recursion T) → ((verdict : List ℕ → Bool) → reduction one verdict ≡ reduction other verdict) → AgreeingMapsReduceAlike other → AgreeingMapsReduceAlike one
+moved {T = T} one other same alike V W agree has has' =
+    same (says_yes V)
+    ∙ alike V W agree (subst (λ (r : Reduction T). HasVerdicts V r.questions) (same (says_yes V)) has) (subst (λ (r : Reduction T). HasVerdicts W r.questions) (same (says_yes W)) has')
+    ∙ sym (same (says_yes W))
 
+pub problems_reduce_alike : LinesAreRecursions → WalksAreRecursions Perses visit_round → WalksAreRecursions Hdd level_round → ProblemsReduceAlike
+problems_reduce_alike lines visits levels keeps (Problem.of_lines start) is =
+    moved (line_recursion (keeps_admit keeps) start) (trials.recursion_of (line_mode (record { admits = keeps_admit keeps; start = start })))
+    (λ verdict. lines (keeps_admit keeps) verdict start) (agreeing_maps (line_mode (record { admits = keeps_admit keeps; start = start })))
+problems_reduce_alike lines visits levels keeps (Problem.of_tree Perses input) is =
+    moved (tree_recursion (tree_round Perses input) input) (trials.recursion_of (walk_mode visit_round input)) (λ verdict. visits input verdict is) (agreeing_maps (walk_mode visit_round input))
+problems_reduce_alike lines visits levels keeps (Problem.of_tree Hdd input) is =
+    moved (tree_recursion (tree_round Hdd input) input) (trials.recursion_of (walk_mode level_round input)) (λ verdict. levels input verdict is) (agreeing_maps (walk_mode level_round input))
+
+module _ (keeps : List (List ℕ)) (V W : List ℕ → Option Verdict) (agree : Agree V W) where
   -- what is told of a reduction is the same of both
   record AreSame (problem : Problem) : Type 0 where
     questions : questions_of keeps problem V ≡ questions_of keeps problem W
@@ -45,22 +53,14 @@ module _ (keeps : List (List ℕ)) (V W : List ℕ → Option Verdict) (agree : 
     units : reduced_units keeps problem V ≡ reduced_units keeps problem W
     rounds : rounds_of keeps problem V ≡ rounds_of keeps problem W
 
-  are_same : (problem : Problem) → HasVerdicts V (questions_of keeps problem V) → HasVerdicts W (questions_of keeps problem W) → AreSame problem
-  are_same (Problem.of_lines start) has has' =
-      let alike = lines_alike start has has' in
+  are_same : ProblemsReduceAlike → (problem : Problem) → IsProblem problem → HasVerdicts V (questions_of keeps problem V) → HasVerdicts W (questions_of keeps problem W) → AreSame problem
+  are_same alike problem is has has' =
+      let same : reduction_of keeps problem V ≡ reduction_of keeps problem W = alike keeps problem is V W agree has has' in
       record {
-        questions = ap (λ (r : Reduction (List Line)). r.questions) alike;
-        text = ap (λ (r : Reduction (List Line)). text_of r.state) alike;
-        units = ap (λ (r : Reduction (List Line)). length r.state) alike;
-        rounds = ap (λ (r : Reduction (List Line)). r.rounds) alike;
-      }
-  are_same (Problem.of_tree mode input) has has' =
-      let alike = agreeing_maps (walk_mode (round_of mode) input) V W agree has has' in
-      record {
-        questions = ap (λ (r : Reduction TreeState). r.questions) alike;
-        text = ap (λ (r : Reduction TreeState). text_of_state input r.state) alike;
-        units = ap (λ (r : Reduction TreeState). weight r.state.tree) alike;
-        rounds = ap (λ (r : Reduction TreeState). r.rounds) alike;
+        questions = ap (λ (r : Reduction (StateOf problem)). r.questions) same;
+        text = ap (λ (r : Reduction (StateOf problem)). (recursion_of keeps problem).text r.state) same;
+        units = ap (λ (r : Reduction (StateOf problem)). (recursion_of keeps problem).size r.state) same;
+        rounds = ap (λ (r : Reduction (StateOf problem)). r.rounds) same;
       }
 
 -- ---- two runs
@@ -77,11 +77,11 @@ counts_alike keeps problem rs rs' agree same = λ i. record {
   records = length rs;
 }
 
-pub runs_reduce_alike : RunsReduceAlike
-runs_reduce_alike workers workers' keeps problem history history' text text' counts counts' ran ran' agree =
+pub runs_reduce_alike : ProblemsReduceAlike → RunsReduceAlike
+runs_reduce_alike alike workers workers' keeps problem history history' text text' counts counts' ran ran' agree =
     let V = verdict_in (records_of history) in
     let W = verdict_in (records_of history') in
-    let same = are_same keeps V W agree problem ran.reduced.defined ran'.reduced.defined in (
+    let same = are_same keeps V W agree alike problem ran.reduced.is_problem ran.reduced.defined ran'.reduced.defined in (
       ran.reduced.is_text ∙ same.text ∙ sym ran'.reduced.is_text,
       ran.is_counts ∙ counts_alike keeps problem (records_of history) (records_of history') agree same
           ∙ ap (λ (c : Counts). record c { records = length (records_of history) }) (sym ran'.is_counts),

@@ -10,8 +10,11 @@ use Rattle.verdict_table.specs.declared.record.Record.{Record}
 use Rattle.reduce_step.specs.Plan.{StepResult}
 use Rattle.verdict_table.specs.TableState.{verdict_in}
 use Rattle.keep_guard.specs.Keep.{holds_all, keeps_admit}
-use Rattle.reduce_rounds.specs.Reduction.{Reduction, reduction}
-use Rattle.reduce_rounds.specs.Laws.{HasVerdicts, IsTextOf, result_of, says_yes}
+use Rattle.reduce_rounds.specs.ByTrials as trials
+use Rattle.reduce_rounds.specs.Reduction.{Recursion, Reduction, reduction}
+use Rattle.reduce_rounds.specs.Trials.{IsTriedAtNo}
+use Rattle.reduce_rounds.specs.Laws.{EndsWell, IsTextOf, result_of}
+use Rattle.reduce_rounds.specs.Verdicts.{HasVerdicts, says_yes}
 use Rattle.reduce_rounds.specs.Mode.{RoundMode}
 use Rattle.run_gated.specs.declared.fault.RunFault.{RunFault}
 use Rattle.run_gated.specs.declared.fault.RunFault.TheVariants as run
@@ -24,20 +27,21 @@ use Rattle.run_gated.proofs.AllLemmas.{nothing_asked}
 use Rattle.run_gated.specs.RunEnds as ends
 use Rattle.run_gated.specs.RunEnds.{ReducesIn, RunEndsIn, RunFailsIn, reduction_over}
 use Rattle.reduce_core.specs.declared.lines.Line.{Line}
-use Rattle.reduce_core.specs.Laws.{EndsMinimal, IsByRounds}
-use Rattle.reduce_core.specs.LineMode.{AreOfStart, LineInput, in_rounds, line_mode}
-use Rattle.reduce_core.specs.Minimal.{IsLineCandidate}
+use Rattle.reduce_core.specs.Laws.{LinesAreRecursions, LinesEndMinimal}
+use Rattle.reduce_core.specs.LineMode.{AreOfStart, LineInput, line_mode}
+use Rattle.reduce_core.specs.Candidates.{IsLineCandidate}
 use Rattle.reduce_core.specs.Lines.{numbered_lines, text_of}
-use Rattle.reduce_core.specs.Reduction.{LineReduction, is_listed, line_reduction}
-use Rattle.reduce_core.proofs.LineLaws.{line_lawful}
+use Rattle.reduce_core.specs.Reduction.{is_listed, line_recursion}
 use Rattle.reduce_core.proofs.LinesLemmas.{text-numbered_lines}
 use Rattle.reduce_trees_mode.specs.Input.{IsInput, TreeInput, TreeState}
 use Rattle.reduce_trees_mode.specs.Candidates.{IsCandidate}
 use Rattle.reduce_trees_mode.specs.Listed.{IsKept, text_of_state}
 use Rattle.reduce_trees.specs.Ends.{AdmitsStart, BeginsWith, IsEndBy}
+use Rattle.reduce_trees.specs.Laws.{WalksAreRecursions}
 use Rattle.reduce_trees.specs.WalkMode.{walk_mode}
 use Rattle.reduce_step.specs.declared.mode.TreeMode.{TreeMode}
-use Rattle.run_problem.specs.Problem.{IsEditBy, Problem, questions_of, reducer_of, round_of}
+use Rattle.run_problem.specs.Problem.{IsEditBy, Problem, questions_of, recursion_of, reduction_of}
+use Rattle.run_problem.specs.Reducer.{reducer_of, round_of}
 use Rattle.run_problem.specs.Walks.{IsTreeMode}
 use Rattle.run_problem.specs.Ends.{AreOf, IsUnfinished, ProblemEnds, ReducesFrom, RunFails}
 
@@ -73,51 +77,45 @@ module _ (keeps : List (List ℕ)) where
         ends_at_no = of.ends_at_no;
       }
 
-  -- the start is asked first, so without a record the reduction waits for its verdict
-  start_known : (V : List ℕ → Option Verdict) (start : List ℕ) → HasVerdicts V (line_reduction (keeps_admit keeps) (says_yes V) start).questions → IsSome (V start)
-  unfolding line_reduction
-  start_known V start has = has.0
-
-  module _ (workers : ℕ) (by_rounds : IsByRounds) (start : List ℕ) (history : History) where
+  module _ (workers : ℕ) (recursions : LinesAreRecursions) (start : List ℕ) (history : History) where
     abbrev records : List Record
     records = records_of history
 
-    abbrev R : LineReduction
-    R = line_reduction (keeps_admit keeps) (says_yes (verdict_in records)) start
+    abbrev R : Reduction (List Line)
+    R = reduction (line_recursion (keeps_admit keeps) start) (says_yes (verdict_in records))
 
-    same_reduction : reduction_over (line_mode (lines_of start)) records ≡ in_rounds R
-    same_reduction = by_rounds (keeps_admit keeps) (says_yes (verdict_in records)) start
+    same_reduction : reduction_over (line_mode (lines_of start)) records ≡ R
+    same_reduction = sym (recursions (keeps_admit keeps) (says_yes (verdict_in records)) start)
 
     first_text : (verdict : Verdict) → FirstIs (text_of (numbered_lines start)) verdict records → FirstIs start verdict records
     first_text verdict first = subst (λ (text : List ℕ). FirstIs text verdict records) (text-numbered_lines start) first
 
     -- the start is reduced to the text of the result
-    reduces : EndsMinimal → holds_all keeps start ≡ true → (result : StepResult) (counts : Counts) → counts ≡ ends.counts_of (length (numbered_lines start)) (length (text_of (numbered_lines start))) result (length records)
+    reduces : LinesEndMinimal → holds_all keeps start ≡ true → (result : StepResult) (counts : Counts) → counts ≡ ends.counts_of (length (numbered_lines start)) (length (text_of (numbered_lines start))) result (length records)
         → ReducesIn workers (line_mode (lines_of start)) (AreOfStart (lines_of start)) history result → ReducesFrom workers keeps (Problem.of_lines start) history result.text counts
     reduces minimal kept result counts are_counts it =
         let V = verdict_in records in
         let defined : HasVerdicts V R.questions = subst (λ (r : Reduction (List Line)). HasVerdicts V r.questions) same_reduction it.defined in
         let interesting : R.refused ≡ false = sym (ap (λ (r : Reduction (List Line)). r.refused) same_reduction) ∙ it.interesting in
-        let text : result.text ≡ text_of R.lines = ap (λ (r : StepResult). r.text) it.is_result ∙ ap (λ (r : Reduction (List Line)). text_of r.state) same_reduction in
+        let text : result.text ≡ text_of R.state = ap (λ (r : StepResult). r.text) it.is_result ∙ ap (λ (r : Reduction (List Line)). text_of r.state) same_reduction in
         let well = minimal (keeps_admit keeps) V start (admits_start start kept) interesting defined in
-        let of_start : AreOfStart (lines_of start) R.lines =
-        subst (λ (r : Reduction (List Line)). AreOfStart (lines_of start) r.state) same_reduction (it.ends_well (line_lawful (lines_of start)) (admits_start start kept)).kept in
         record {
           first = first_text Yes it.first;
           reduced =
               record {
+                is_problem = tt;
                 defined = defined;
                 interesting = interesting;
                 is_text = text;
                 yes_at_end = ap V text ∙ well.yes_at_end;
                 keeps_stay = ap (holds_all keeps) text ∙ well.listed;
-                candidate = record { lines = R.lines; some = of_start; listed = well.listed; joined = text };
+                candidate = record { lines = R.state; some = well.kept; listed = well.listed; joined = text };
                 minimal = well.minimal;
               };
           is_counts = are_counts
               ∙ ap (λ (r : StepResult). ends.counts_of (length (numbered_lines start)) (length (text_of (numbered_lines start))) r (length records))
-              (it.is_result ∙ ap (result_of (line_mode (lines_of start))) same_reduction)
-              ∙ ap (λ (text : List ℕ). ends.counts_of (length (numbered_lines start)) (length text) (result_of (line_mode (lines_of start)) (in_rounds R)) (length records)) (text-numbered_lines start);
+              (it.is_result ∙ ap (result_of (trials.recursion_of (line_mode (lines_of start)))) same_reduction)
+              ∙ ap (λ (text : List ℕ). ends.counts_of (length (numbered_lines start)) (length text) (result_of (trials.recursion_of (line_mode (lines_of start))) R) (length records)) (text-numbered_lines start);
           whole = it.whole;
           committed = it.committed;
         }
@@ -136,7 +134,7 @@ module _ (keeps : List (List ℕ)) where
     fails gates gates' journal journal' run.Memory why = why
 
     -- how the run of the start's lines ends
-    pub lines_end : EndsMinimal → holds_all keeps start ≡ true → (gates gates' : List ℕ) (journal journal' : ℕ) (result : Result Reduced RunFault) → RunEndsIn workers (line_mode (lines_of start)) (AreOfStart (lines_of start)) history gates gates' journal journal' result
+    pub lines_end : LinesEndMinimal → holds_all keeps start ≡ true → (gates gates' : List ℕ) (journal journal' : ℕ) (result : Result Reduced RunFault) → RunEndsIn workers (line_mode (lines_of start)) (AreOfStart (lines_of start)) history gates gates' journal journal' result
         → ProblemEnds workers keeps (Problem.of_lines start) history gates gates' journal journal' result
     lines_end minimal kept gates gates' journal journal' (Ok reduced) came =
         (subst (λ (text : List ℕ). ReducesFrom workers keeps (Problem.of_lines start) history text reduced.counts) (sym came.0.1) (reduces minimal kept came.0.0 reduced.counts came.0.2 came.0.3), came.1)
@@ -158,28 +156,31 @@ none_of workers keeps problem history none = subst (AreOf workers keeps problem)
   ends_at_no = λ first_no. first_no;
 })
 
--- the start of a tree is asked first, so without a record the reduction waits for its verdict
-tree_known : (V : List ℕ → Option Verdict) (mode : RoundMode TreeState) → HasVerdicts V (reduction mode (says_yes V)).questions → IsSome (V (mode.text mode.start))
+-- the start is asked first, so without a record the reduction waits for its verdict
+start_known : {T : Type 0} (V : List ℕ → Option Verdict) (recursion : Recursion T) → HasVerdicts V (reduction recursion (says_yes V)).questions → IsSome (V (recursion.text recursion.start))
 unfolding reduction
-tree_known V mode has = has.0
+start_known V recursion has = has.0
 
 none_waits : (keeps : List (List ℕ)) (problem : Problem) → HasVerdicts (verdict_in []) (questions_of keeps problem (verdict_in [])) → ⊥
-none_waits keeps (Problem.of_lines start) has = false≢true (start_known keeps (verdict_in []) start has)
-none_waits keeps (Problem.of_tree mode input) has = false≢true (tree_known (verdict_in []) (walk_mode (round_of mode) input) has)
+none_waits keeps problem has = false≢true (start_known (verdict_in []) (recursion_of keeps problem) has)
 
 pub unfinished_without : (keeps : List (List ℕ)) (problem : Problem) → IsUnfinished keeps problem []
 unfinished_without keeps problem = record { waits = none_waits keeps problem; not_no = λ first_no. first_no; whole = sym (none_own keeps problem) }
 
 -- What a run of a reducer of trees says, in the words of the reduction of trees.
-module _ (workers : ℕ) (mode : TreeMode) (laws : IsTreeMode (round_of mode) (IsEditBy mode)) (input : TreeInput) (is : IsInput input) (admitted : AdmitsStart input) (history : History) where
+module _ (workers : ℕ) (mode : TreeMode) (laws : IsTreeMode (round_of mode) (IsEditBy mode)) (recursions : WalksAreRecursions mode (round_of mode)) (input : TreeInput) (is : IsInput input) (admitted : AdmitsStart input) (history : History) where
   abbrev tree_records : List Record
   tree_records = records_of history
 
   abbrev trees : RoundMode TreeState
   trees = walk_mode (round_of mode) input
 
-  abbrev T : Reduction TreeState
-  T = reduction_over trees tree_records
+  -- the reduction over the records, whatever the keep texts are
+  abbrev over_records : List (List ℕ) → Reduction TreeState
+  over_records keeps = reduction_of keeps (Problem.of_tree mode input) (verdict_in tree_records)
+
+  same_trees : (keeps : List (List ℕ)) → reduction_over trees tree_records ≡ over_records keeps
+  same_trees keeps = sym (recursions input (says_yes (verdict_in tree_records)) is)
 
   begins : BeginsWith trees input.start
   begins = laws.begins input is admitted
@@ -201,16 +202,19 @@ module _ (workers : ℕ) (mode : TreeMode) (laws : IsTreeMode (round_of mode) (I
       → ReducesIn workers trees (IsKept input) history result → ReducesFrom workers keeps (Problem.of_tree mode input) history result.text counts
   tree_reduces keeps admits result counts are_counts it =
       let V = verdict_in tree_records in
-      let well = it.ends_well (laws.lawful input is) begins.listed in
-      let end : IsEndBy (IsEditBy mode) input V T.state = laws.minimal input V T.state is well in
-      let text : result.text ≡ text_of_state input T.state = ap (λ (r : StepResult). r.text) it.is_result in
-      let candidate : IsCandidate input result.text = laws.asks input result.text is (record { state = T.state; kept = well.kept; listed = well.listed; same = text }) in
+      let R = over_records keeps in
+      let same = same_trees keeps in
+      let well = subst (λ (r : Reduction TreeState). EndsWell trees (IsKept input) (λ one other. IsTriedAtNo (trees.round one) other) V r.state) same (it.ends_well (laws.lawful input is) begins.listed) in
+      let end : IsEndBy (IsEditBy mode) input V R.state = laws.minimal input V R.state is well in
+      let text : result.text ≡ text_of_state input R.state = ap (λ (r : StepResult). r.text) it.is_result ∙ ap (λ (r : Reduction TreeState). text_of_state input r.state) same in
+      let candidate : IsCandidate input result.text = laws.asks input result.text is (record { state = R.state; kept = well.kept; listed = well.listed; same = text }) in
       record {
         first = subst (λ (start : List ℕ). FirstIs start Yes tree_records) begins.text it.first;
         reduced =
             record {
-              defined = it.defined;
-              interesting = it.interesting;
+              is_problem = is;
+              defined = subst (λ (r : Reduction TreeState). HasVerdicts V r.questions) same it.defined;
+              interesting = sym (ap (λ (r : Reduction TreeState). r.refused) same) ∙ it.interesting;
               is_text = text;
               yes_at_end = ap V text ∙ well.yes_at_end;
               keeps_stay = sym (ap (λ (a : List ℕ → List ℕ → Bool). a candidate.kept result.text) admits) ∙ candidate.admitted;
@@ -218,8 +222,9 @@ module _ (workers : ℕ) (mode : TreeMode) (laws : IsTreeMode (round_of mode) (I
               minimal = end.minimal;
             };
         is_counts = are_counts
-            ∙ ap (λ (r : StepResult). ends.counts_of (trees.size trees.start) (length (trees.text trees.start)) r (length tree_records)) it.is_result
-            ∙ ap (λ (text : List ℕ). ends.counts_of (trees.size trees.start) (length text) (result_of trees T) (length tree_records)) begins.text;
+            ∙ ap (λ (r : StepResult). ends.counts_of (trees.size trees.start) (length (trees.text trees.start)) r (length tree_records))
+            (it.is_result ∙ ap (result_of (trials.recursion_of trees)) same)
+            ∙ ap (λ (text : List ℕ). ends.counts_of (trees.size trees.start) (length text) (result_of (trials.recursion_of trees) R) (length tree_records)) begins.text;
         whole = it.whole;
         committed = it.committed;
       }
@@ -228,8 +233,13 @@ module _ (workers : ℕ) (mode : TreeMode) (laws : IsTreeMode (round_of mode) (I
   tree_fails : (keeps : List (List ℕ)) (gates gates' : List ℕ) (journal journal' : ℕ) (fault : RunFault) → RunFailsIn workers trees history gates gates' journal journal' fault → RunFails workers keeps (Problem.of_tree mode input) history gates gates' journal journal' fault
   tree_fails keeps gates gates' journal journal' run.NotInteresting why =
       (record { first = subst (λ (start : List ℕ). FirstIs start No tree_records) begins.text why.0; only = why.1; whole = why.3; committed = why.4 }, why.2)
-  tree_fails keeps gates gates' journal journal' (run.Script worker) why =
-      (why.0, why.1, λ alone. let waits = why.2 alone in record { waits = waits.1; not_no = waits.0; whole = waits.2 })
+  tree_fails keeps gates gates' journal journal' (run.Script worker) why = (
+    why.0,
+    why.1,
+    λ alone.
+        let waits = why.2 alone in
+        record { waits = λ has. waits.1 (subst (λ (r : Reduction TreeState). HasVerdicts (verdict_in tree_records) r.questions) (sym (same_trees keeps)) has); not_no = waits.0; whole = waits.2 },
+  )
   tree_fails keeps gates gates' journal journal' run.Journal why = why
   tree_fails keeps gates gates' journal journal' run.Memory why = why
 

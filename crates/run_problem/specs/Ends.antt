@@ -7,7 +7,7 @@ use Rattle.verdict_table.specs.TableState.{verdict_in}
 use Rattle.reduce_journal.specs.History.{History, IsHistory, records_of}
 use Rattle.reduce_journal.specs.declared.counts.Counts.{Counts}
 use Rattle.ordered_commit_moves.specs.Replay.{IsLegal, replay}
-use Rattle.reduce_rounds.specs.Laws.{HasVerdicts}
+use Rattle.reduce_rounds.specs.Verdicts.{HasVerdicts}
 use Rattle.run_worker.specs.RunHistory.{IsBeginning, own_history}
 use Rattle.run_gated.specs.Records.{BeginsAt, FirstIs, FirstIsNo, OnlyNo}
 use Rattle.run_gated.specs.RunEnds.{NoneFailed}
@@ -15,7 +15,8 @@ use Rattle.run_gated.specs.Workers.{RoseAt}
 use Rattle.run_gated.specs.declared.fault.RunFault.{RunFault}
 use Rattle.run_gated.specs.declared.fault.RunFault.TheVariants.{NotInteresting, Script, Journal, Memory}
 use Rattle.run_gated.specs.declared.ran.Reduced.{Reduced}
-use Rattle.run_problem.specs.Problem.{IsCandidateOf, IsReductionOf, Problem, counts_of, questions_of, reducer_of, start_of}
+use Rattle.run_problem.specs.Problem.{IsCandidateOf, IsReductionOf, Problem, counts_of, questions_of, start_of}
+use Rattle.run_problem.specs.Reducer.{reducer_of}
 
 -- The history is one that the problem's reducer can have; each record's text may be asked, the first is the start, and after its no nothing was asked. With one worker it is a beginning of what one thread does over its records.
 pub record AreOf (workers : ℕ) (keeps : List (List ℕ)) (problem : Problem) (history : History) : Type 0 where

@@ -1,13 +1,18 @@
--- What holds of two runs of a problem, by whatever workers each.
+-- What holds of two reductions of a problem, and of two runs, by whatever workers each.
 use Rattle.std.specs.Prelude.{◌≡◌, ℕ, List, All, length}
 use Rattle.script_gate_trait.specs.declared.gate.Verdict.{Verdict}
 use Rattle.verdict_table.specs.declared.record.Record.{Record}
 use Rattle.verdict_table.specs.TableState.{verdict_in}
 use Rattle.reduce_journal.specs.declared.counts.Counts.{Counts}
 use Rattle.reduce_journal.specs.History.{History, records_of}
-use Rattle.reduce_rounds.specs.Laws.{Agree}
-use Rattle.run_problem.specs.Problem.{Problem}
+use Rattle.reduce_rounds.specs.Laws.{AgreeingMapsReduceAlike}
+use Rattle.reduce_rounds.specs.Verdicts.{Agree}
+use Rattle.run_problem.specs.Problem.{IsProblem, Problem, recursion_of}
 use Rattle.run_problem.specs.Ends.{ReducesFrom}
+
+-- Reductions of a problem over two maps of verdicts that agree are equal, where each map has a verdict for each text that its own reduction asks.
+abbrev pub ProblemsReduceAlike : Type 0
+ProblemsReduceAlike = (keeps : List (List ℕ)) (problem : Problem) → IsProblem problem → AgreeingMapsReduceAlike (recursion_of keeps problem)
 
 -- Two runs whose verdicts agree come to one text, and to one report but for the number of records, however many workers each had and however they interleaved.
 abbrev pub RunsReduceAlike : Type 0

@@ -4,6 +4,7 @@ pub use Rattle.reduce_core.specs as ReduceCore
 pub use Rattle.reduce_trees_input.specs.Parsed
 pub use Rattle.reduce_trees.specs as ReduceTrees
 pub mod Problem
+pub mod Reducer
 pub mod Walks
 pub mod Read
 pub mod Ends

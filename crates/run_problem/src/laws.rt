@@ -1,14 +1,27 @@
 //! What holds of two runs, by whatever workers each, for those who compare runs.
 
-ghost use Rattle.run_problem.specs.Laws.{RunsReduceAlike, VerdictsAgree};
+ghost use Rattle.run_problem.specs.Laws.{ProblemsReduceAlike, RunsReduceAlike, VerdictsAgree};
 
+use reduce_core::lines_are_recursions;
+use reduce_trees::{hdd_is_its_recursion, perses_is_its_recursion};
 use script_gate_trait::Gate;
+
+/// Reductions of a problem over two maps of verdicts that agree are equal.
+pub fn problems_reduce_alike()
+    ensures { ProblemsReduceAlike }
+{
+    lines_are_recursions();
+    perses_is_its_recursion();
+    hdd_is_its_recursion();
+}
 
 /// Two runs of a problem whose verdicts agree come to one text, and to one report but for the number
 /// of records.
 pub fn runs_reduce_alike()
     ensures { RunsReduceAlike }
-{}
+{
+    problems_reduce_alike();
+}
 
 /// The records of runs agree where a gate may say one verdict of each text.
 pub fn verdicts_agree<G: Gate>()

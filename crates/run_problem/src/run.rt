@@ -23,14 +23,15 @@ use compat_table::compat;
 use edge_io::Sink;
 use faults::Memory;
 use keep_guard::{Guard, KeepTexts};
-use reduce_core::{ends_minimal, is_by_rounds, line_reducer};
+use reduce_core::{line_reducer, lines_are_recursions, lines_end_minimal};
 use reduce_hdd::TreeLevels;
 use reduce_perses::TreeVisits;
 use reduce_rounds::{ReducerStep, Rounds};
 use reduce_step::{Step, TreeMode};
 use reduce_trees::{
-    HasInput, TreeParts, TreeReducer, TreeRound, hdd_reducer, perses_reducer, walks_are_lawful,
-    walks_ask_candidates, walks_begin, walks_end_minimal,
+    HasInput, TreeParts, TreeReducer, TreeRound, hdd_is_its_recursion, hdd_reducer,
+    perses_is_its_recursion, perses_reducer, walks_are_lawful, walks_ask_candidates, walks_begin,
+    walks_end_minimal,
 };
 use reduce_trees_input::ParsedInput;
 use reduce_walk::TreeWalk;
@@ -61,8 +62,8 @@ fn lines_result<G: Gate + Send, J: Sink + Drop + Send, T: Threads + Wait + Sync>
     ensures ends { ProblemEnds (length workers.old) guard.now (Problem.of_lines start.now) result.events.items (worker_faults G.faults workers.old) (worker_faults G.faults workers.new) (J.faults journal) (J.faults result.journal) result.outcome }
     ensures journal { JournalHas (length workers.old) result.events.items (J.put_so_far journal) (J.put_so_far result.journal) (J.faults journal) (J.faults result.journal) result.outcome }
 {
-    is_by_rounds();
-    ends_minimal();
+    lines_are_recursions();
+    lines_end_minimal();
     match line_reducer(alloc, start, guard) {
         Ok(reducer) => run_to_text(rt, alloc, reducer, workers, journal),
         Err(_) => Ran::refused(alloc, journal, RunFault::Memory),
@@ -159,6 +160,7 @@ fn tree_result<'a, G: Gate + Send, J: Sink + Drop + Send, T: Threads + Wait + Sy
     match mode {
         TreeMode::Perses => {
             walk_laws::<TreeVisits>();
+            perses_is_its_recursion();
             match perses_reducer(alloc, parts) {
                 Ok(reducer) => walk_result(rt, alloc, parts, reducer, workers, journal),
                 Err(_) => Ran::refused(alloc, journal, RunFault::Memory),
@@ -166,6 +168,7 @@ fn tree_result<'a, G: Gate + Send, J: Sink + Drop + Send, T: Threads + Wait + Sy
         }
         TreeMode::Hdd => {
             walk_laws::<TreeLevels>();
+            hdd_is_its_recursion();
             match hdd_reducer(alloc, parts) {
                 Ok(reducer) => walk_result(rt, alloc, parts, reducer, workers, journal),
                 Err(_) => Ran::refused(alloc, journal, RunFault::Memory),

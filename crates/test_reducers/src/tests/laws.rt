@@ -2,12 +2,14 @@
 
 ghost use Rattle.std.specs.Prelude.{List, ℕ, Option};
 ghost use Rattle.script_gate_trait.specs.declared.gate.Verdict.{Verdict};
+ghost use Rattle.reduce_rounds.specs.ByTrials.{recursion_of};
+ghost use Rattle.reduce_rounds.specs.RoundsPlan.{plan_first};
 ghost use Rattle.reduce_rounds.specs.Laws.{AsksCandidates, EndsMinimal, IsTheReduction};
 ghost use Rattle.test_reducers.specs.ByteMode.{IsByteEdit, IsNoLonger, byte_mode};
 
 /// Followed over a map of verdicts, the reducer is the recursion of its mode.
 pub fn follows_reduction()
-    ensures { (start : List ℕ) (V : List ℕ → Option Verdict) → IsTheReduction (byte_mode start) V }
+    ensures { (start : List ℕ) (V : List ℕ → Option Verdict) → IsTheReduction (plan_first (byte_mode start)) (recursion_of (byte_mode start)) V }
 {}
 
 /// All that is asked of a listed start is a listed text that has at most as many bytes after the mark.

@@ -1,7 +1,7 @@
 use Rattle.std.proofs.Common.{◌∙◌, ◌++◌}
 use Rattle.reduce_journal.specs.Report.{first_lines}
 use Rattle.case_reduction.specs.Summary.{IsSummary}
-use Rattle.case_reduction.proofs.RuleRuns.{alike_in, answered, ends_in_memory, ends_with_summary}
+use Rattle.case_reduction.proofs.RuleRuns.{answered, ends_in_memory, ends_with_summary}
 use Rattle.case_reduction.proofs.reduce.case_summary.Goals as goal
 
 pub returns-in-Ok : goal.returns-in-Ok
@@ -10,7 +10,7 @@ returns-in-Ok g c =
     let reduced = c.in-Ok.reduced in
     answered c.summary.result (λ v. v.items) (first_lines reduced.counts ++ reduced.text.items) (IsSummary c.args.mode c.args.number c.args.size) c.summary.ensures
     (ends_with_summary c.args.mode c.args.number c.args.size c.in_ok-problem.problem c.in_ok-problem.ensures.case _ (c.new-guard.ensures ∙ c.new.ensures) _ _ ran.new.workers ran.result.events.items ran.ensures.answers.said ran.result.outcome ran.ensures.ends
-    (alike_in c.args.mode c.reductions_agree.ensures c.reductions_agree-2.ensures) reduced c.in-Ok.is)
+    c.problems_reduce_alike.ensures reduced c.in-Ok.is)
 
 pub memory_of-requires : goal.memory_of-requires
 memory_of-requires g c =

@@ -1,13 +1,14 @@
-use Rattle.std.proofs.Common.{◌≡◌, ◌≤◌, ◌<◌, ◌∙◌, ap, sym, subst, rules, arith, List, length, map}
-use Rattle.std.specs.Prelude.{IfOk}
+use Rattle.std.proofs.Common.{◌≡◌, ◌≤◌, ◌<◌, ◌+◌, ◌++◌, ◌∙◌, ap, sym, subst, rules, arith, List, [], length, map}
+use Rattle.std.proofs.lemmas.Result.{IfOk-weaker}
 use Rattle.std.specs.List.{AllByRecursion}
 use Rattle.list_ddmin.specs.ListStep.{Outcome, kept_of}
-use Rattle.reduce_core.specs.Reduction.{LineReduction, after_line_round, texts_asked}
+use Rattle.reduce_rounds.specs.Reduction.{Reduction}
+use Rattle.reduce_core.specs.Plain.{texts_asked}
 use Rattle.keep_guard.specs.Relation.{Rises}
 use Rattle.reduce_core.specs.declared.lines.Line.{Line}
 use Rattle.reduce_core.specs.Lines.{numbers_of}
 use Rattle.reduce_core.proofs.LinesLemmas.{kept_of-rises}
-use Rattle.reduce_core.proofs.Rounds.{length-kept_of}
+use Rattle.reduce_core.proofs.Keeping.{length-kept_of}
 use Rattle.reduce_core.proofs.PlainLemmas.{last-round, next-rounds, rounds-few}
 use Rattle.reduce_core.proofs.plain.+plain_rounds.Goals as goal
 
@@ -26,9 +27,11 @@ returns-then-len g t c =
     let questions = ap (λ vs. map (λ v. v.items) vs) c.deref.ensures.value ∙ ap (λ (o : Outcome). o.questions) c.round.view_is in
     let texts_are = c.in_ok-texts.ensures ∙ ap (λ keeps. texts_asked (g.F.Relation.admits c.args.guard.now) c.args.lines keeps) questions in
     let left_is = c.in_ok-remaining.ensures ∙ ap (λ keep. kept_of keep c.args.lines) (c.deref-2.ensures.value ∙ ap (λ (o : Outcome). o.result) c.round.view_is) in
-    let is = ap (λ later. after_line_round texts later) c.nothing_more.ensures
-    ∙ last-round (g.F.Relation.admits c.args.guard.now) verdict c.args.lines c.in_ok-round.round texts c.in_ok-remaining.remaining c.in_ok-round.ensures.round texts_are left_is (omega arith) in
-    subst (λ (r : LineReduction). IfOk c.after_round.result (λ found. found ≡ r)) is c.after_round.ensures
+    let one = ap (λ (later : Reduction (List Line)). record later { questions = texts ++ later.questions; rounds = later.rounds + 1 }) c.nothing_more.ensures in
+    IfOk-weaker c.after_round.result _ _
+    (λ found is start. is ∙ one
+    ∙ last-round (g.F.Relation.admits c.args.guard.now) verdict start c.args.lines c.in_ok-round.round texts c.in_ok-remaining.remaining c.in_ok-round.ensures.round texts_are left_is (omega arith))
+    c.after_round.ensures
 
 pub plain_rounds-requires : goal.plain_rounds-requires
 plain_rounds-requires g t c κs within =
@@ -42,8 +45,8 @@ pub after_round-requires-2 : goal.after_round-requires-2
 after_round-requires-2 g t c =
     let fewer : length (kept_of c.deref-2.result.now c.args.lines) ≤ length c.args.lines = length-kept_of c.deref-2.result.now c.args.lines in
     let remaining = ap length c.in_ok-remaining.ensures in
-    let few = rounds-few (g.F.Relation.admits c.args.guard.now) (g.T.Test.verdict c.args.test.now) c.in_ok-remaining.remaining in
-    let rounds = ap (λ (r : LineReduction). r.rounds) c.in_ok-later.ensures in
+    let few = rounds-few (g.F.Relation.admits c.args.guard.now) (g.T.Test.verdict c.args.test.now) [] c.in_ok-remaining.remaining in
+    let rounds = ap (λ (r : Reduction (List Line)). r.rounds) (c.in_ok-later.ensures []) in
     omega arith
 
 pub returns : goal.returns
@@ -53,6 +56,8 @@ returns g t c =
     let questions = ap (λ vs. map (λ v. v.items) vs) c.deref.ensures.value ∙ ap (λ (o : Outcome). o.questions) c.round.view_is in
     let texts_are = c.in_ok-texts.ensures ∙ ap (λ keeps. texts_asked (g.F.Relation.admits c.args.guard.now) c.args.lines keeps) questions in
     let left_is = c.in_ok-remaining.ensures ∙ ap (λ keep. kept_of keep c.args.lines) (c.deref-2.ensures.value ∙ ap (λ (o : Outcome). o.result) c.round.view_is) in
-    let is = ap (λ later. after_line_round texts later) c.in_ok-later.ensures
-    ∙ next-rounds (g.F.Relation.admits c.args.guard.now) verdict c.args.lines c.in_ok-round.round texts c.in_ok-remaining.remaining c.in_ok-round.ensures.round texts_are left_is (omega arith) in
-    subst (λ (r : LineReduction). IfOk c.after_round-2.result (λ found. found ≡ r)) is c.after_round-2.ensures
+    IfOk-weaker c.after_round-2.result _ _
+    (λ found is start. is
+    ∙ ap (λ (later : Reduction (List Line)). record later { questions = texts ++ later.questions; rounds = later.rounds + 1 }) (c.in_ok-later.ensures start)
+    ∙ next-rounds (g.F.Relation.admits c.args.guard.now) verdict start c.args.lines c.in_ok-round.round texts c.in_ok-remaining.remaining c.in_ok-round.ensures.round texts_are left_is (omega arith))
+    c.after_round-2.ensures

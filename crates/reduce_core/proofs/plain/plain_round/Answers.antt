@@ -1,9 +1,8 @@
 use Rattle.std.proofs.Common.{◌<◌, ◌∙◌, ap, sym, subst, true, Bool, List, length, map}
 use Rattle.std.specs.Option.{option_copied}
-use Rattle.list_ddmin.specs.ListStep.{Outcome, kept_of, list_step}
+use Rattle.list_ddmin.specs.ListStep.{Outcome, list_step}
 use Rattle.list_ddmin.specs.Machine.{HasLength}
-use Rattle.reduce_core.specs.Plain.{first_other, is_among}
-use Rattle.reduce_core.specs.Reduction.{verdict_on}
+use Rattle.reduce_core.specs.Plain.{first_other, is_among, verdict_on}
 use Rattle.reduce_core.proofs.PlainLemmas.{answered-next, found-other, missing, missing-asked, whole-step}
 use Rattle.reduce_core.proofs.plain.plain_round.Goals as goal
 
@@ -34,7 +33,7 @@ loop-keep-preserved g c =
     let asked = map (λ v. v.items) c.loop-keep.answers.asked.items in
     let passed = map (λ v. v.items) c.loop-keep.answers.yes.items in
     let lines = c.args.lines.now in
-    let verdict : List Bool → Bool = λ keep. verdict_on (g.F.Relation.admits c.args.guard.now) (g.T.Test.verdict c.args.test.now) (kept_of keep lines) in
+    let verdict : List Bool → Bool = verdict_on (g.F.Relation.admits c.args.guard.now) (g.T.Test.verdict c.args.test.now) lines in
     record {
       answered = answered-next verdict asked passed
           (map (λ v. v.items) c.add_answer.new.answers.asked.items) (map (λ v. v.items) c.add_answer.new.answers.yes.items) c.in-Some.keep.now
@@ -52,7 +51,7 @@ returns-clause-round g c =
     ∙ (λ i. first_other (map (λ v. v.items) (c.deref.ensures.value i)) (map (λ v. v.items) (c.deref-in-loop-keep.ensures.value i)))
     ∙ ap (λ (o : Outcome). first_other asked o.questions) (c.outcome.view_is ∙ c.loop-keep.invariant.step) in
     c.loop-keep.invariant.step
-    ∙ whole-step c.agreeing_maps.ensures (λ keep. verdict_on (g.F.Relation.admits c.args.guard.now) (g.T.Test.verdict c.args.test.now) (kept_of keep lines)) (length lines) asked passed c.loop-keep.invariant.answered
+    ∙ whole-step c.agreeing_maps.ensures (verdict_on (g.F.Relation.admits c.args.guard.now) (g.T.Test.verdict c.args.test.now) lines) (length lines) asked passed c.loop-keep.invariant.answered
     (sym shown ∙ ap option_copied c.in_default.is)
 
 pub returns-clause-fits : goal.returns-clause-fits

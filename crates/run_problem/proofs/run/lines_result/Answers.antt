@@ -19,5 +19,5 @@ returns-in-Ok-clause-of_problem g c =
 
 pub returns-in-Ok-clause-ends : goal.returns-in-Ok-clause-ends
 returns-in-Ok-clause-ends g c =
-    lines_end c.args.guard.now (length c.args.workers.now) c.is_by_rounds.ensures c.args.start.now c.run_to_text.result.events.items c.ends_minimal.ensures c.requires.kept _ _ _ _ c.run_to_text.result.outcome
+    lines_end c.args.guard.now (length c.args.workers.now) c.lines_are_recursions.ensures c.args.start.now c.run_to_text.result.events.items c.lines_end_minimal.ensures c.requires.kept _ _ _ _ c.run_to_text.result.outcome
     (c.run_to_text.ensures.ends (lines_of c.args.guard.now c.args.start.now) c.in-Ok.ensures.first c.in-Ok.ensures.start)

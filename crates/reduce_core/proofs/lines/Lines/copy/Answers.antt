@@ -2,7 +2,7 @@ use Rattle.std.proofs.Common.{◌≡◌, ◌∙◌, ap, rules, replicate, subst,
 use Rattle.std.specs.Prelude.{IfOk}
 use Rattle.list_ddmin.specs.ListStep.{kept_of}
 use Rattle.reduce_core.specs.declared.lines.Line.{Line}
-use Rattle.reduce_core.proofs.Rounds.{kept_of-all}
+use Rattle.reduce_core.proofs.Keeping.{kept_of-all}
 use Rattle.reduce_core.proofs.lines.Lines.copy.Goals as goal
 
 pub returns : goal.returns

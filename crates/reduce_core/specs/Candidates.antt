@@ -1,14 +1,12 @@
--- Which texts of lines may be asked, and which lines are minimal.
-use Rattle.std.specs.Prelude.{◌≡◌, ◌<◌, ℕ, true, List, [], ◌∷◌, length, remove, Option, Some}
-use Rattle.script_gate_trait.specs.declared.gate.Verdict.{Verdict}
-use Rattle.script_gate_trait.specs.declared.gate.Verdict.TheVariants.{No}
+-- Which texts of lines may be asked, and what a single edit of lines is.
+use Rattle.std.specs.Prelude.{◌≡◌, ◌<◌, ℕ, true, List, [], ◌∷◌, length, remove}
 use Rattle.reduce_core.specs.declared.lines.Line.{Line}
 use Rattle.reduce_core.specs.Lines.{numbered_lines, text_of}
 use Rattle.reduce_core.specs.Reduction.{Admits, is_listed}
 
--- without any one of the lines, those that are left aren't listed or the verdict is no
-abbrev pub IsMinimal : Admits → (List ℕ → Option Verdict) → List Line → Type 0
-IsMinimal admits V lines = (k : ℕ) → k < length lines → is_listed admits (remove lines k) ≡ true → V (text_of (remove lines k)) ≡ Some No
+-- one line is deleted
+abbrev pub IsLineEdit : List Line → List Line → Type 0
+IsLineEdit lines other = (k : ℕ) × (k < length lines) × (other ≡ remove lines k)
 
 -- the first list has some of the elements of the second, in their order
 pub data IsSubsequence : List Line → List Line → Type 0 where

@@ -1,5 +1,0 @@
-use Rattle.reduce_core.proofs.LawLemmas as lemmas
-use Rattle.reduce_core.proofs.laws.refuses_at_no.Goals as goal
-
-pub returns : goal.returns
-returns c = lemmas.refuses_at_no
