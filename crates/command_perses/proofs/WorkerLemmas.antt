@@ -1,5 +1,5 @@
 -- Workers that are made one after another.
-use Rattle.std.proofs.Common.{◌≡◌, ◌+◌, ◌++◌, ◌∙◌, arith, ℕ, zero, suc, List, [], ◌∷◌, None, length, map, refl, sym, ap}
+use Rattle.std.proofs.Common.{◌≡◌, ◌+◌, ◌++◌, ◌∙◌, arith, ℕ, zero, suc, List, [], ◌∷◌, None, length, refl, sym, ap}
 use Rattle.std.proofs.lemmas.List.{length-append, map-append}
 use Rattle.std.proofs.lemmas.List.Elements.{All-nil, All-push}
 use Rattle.std.specs.List.{range_with_len}

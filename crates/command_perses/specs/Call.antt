@@ -1,13 +1,27 @@
 -- What the top call does, by what the words ask for.
 use Rattle.std.specs.Prelude.{◌≡◌, ℕ, List, [], Option, Some, None, codes}
+use Rattle.edge_io.specs.Files.{FileContent}
+use Rattle.edge_io.specs.Sink.{Put}
 use Rattle.script_gate_trait.specs.declared.gate.Verdict.{Verdict}
+use Rattle.script_gate_trait.specs.declared.log.Log.{Log}
+use Rattle.worker_pool.specs.declared.worker.Worker.{Worker}
 use Rattle.command_normal.specs.Normal.{PrintsNormal}
 use Rattle.command_reduce.specs.Reduce.{Reduces}
 use Rattle.command_words.specs.Commands.{Command, GrammarSource, ReduceOptions, SelftestOptions}
 use Rattle.command_selftest.specs.Selftest.{RunsSelftest}
 use Rattle.command_ends.specs.declared.status.Refusal.{Refusal}
 use Rattle.command_ends.specs.declared.status.Refusal.TheVariants.{Memory, Usage}
-use Rattle.command_ends.specs.World.{NotReached, PutsMessage, World}
+use Rattle.command_ends.specs.World.{NotReached, PutsMessage, World, seen, seen_gates}
+
+-- what is visible of these files, of the gates of these workers, of this journal and this `out`, by their members
+abbrev pub world : {F G J O : Type 0} → (F → List ℕ → Option FileContent) → (F → ℕ) → (G → Option Log) → (G → ℕ) → (J → Option Put) → (J → ℕ)
+    → (O → Option Put) → (O → ℕ) → F → List (Worker G) → J → O → World
+world content file_faults log gate_faults put journal_faults put_out out_faults files workers journal out = record {
+  files = seen content file_faults files;
+  gates = seen_gates log gate_faults workers;
+  journal = seen put journal_faults journal;
+  out = seen put_out out_faults out;
+}
 
 -- the words are no command line: the status is 2, and nothing but its line is put
 pub record EndsUsage (old new : World) (status : ℕ) : Type 0 where
@@ -23,7 +37,8 @@ pub record EndsOutOfMemory (old new : World) (status : ℕ) : Type 0 where
   pub untouched : NotReached [] old new
   pub line : PutsMessage (codes "out of memory") old.out new.out
 
--- What is done, by what the words ask for: one case for each command. Where memory ran out before the words were read, the command ends as it does where memory runs out.
+-- What is done, by what the words ask for: one case for each command.
+-- Where memory ran out before the words were read, the command ends as it does where memory runs out.
 pub data RunsCommand (may_say : List ℕ → Verdict → Type 0) (old new : World) (status : ℕ) : Option Command → Type 0 where
   usage : EndsUsage old new status → RunsCommand may_say old new status None
   out_of_memory : EndsOutOfMemory old new status → RunsCommand may_say old new status None

@@ -2,4 +2,5 @@ pub use Rattle.command_normal.specs as CommandNormal
 pub use Rattle.command_selftest.specs.Selftest
 pub use Rattle.command_reduce.specs as CommandReduce
 pub mod Call
+pub mod Headline
 pub mod Workers

@@ -1,10 +1,10 @@
 //! The top call.
 
 ghost use Rattle.std.specs.Prelude.{◌≡◌, ◌⊎◌, None, Some, IfErr, IfOk, length, map, string_bytes};
-ghost use Rattle.command_perses.specs.Call.{RunsCommand, WordsFail};
-ghost use Rattle.command_words.specs.Commands.{command_line_of};
+ghost use Rattle.command_perses.specs.Call.{RunsCommand, WordsFail, world};
+ghost use Rattle.command_perses.specs.Headline.{Headline};
+ghost use Rattle.command_words.specs.Commands.{Command, ReduceOptions, command_line_of};
 ghost use Rattle.command_words.specs.Lines.{IsSized, command_read};
-ghost use Rattle.command_ends.specs.World.{seen, seen_gates};
 ghost use Rattle.run_gated.specs.Workers.{AreIdle};
 
 use command_ends::{Ended, Refusal, end_refused};
@@ -13,6 +13,8 @@ use command_reduce::reduce;
 use command_selftest::selftest;
 use command_words::{CommandLine, read_words};
 use edge_io::{Files, Sink};
+use reduce_journal::equal_bytes_have_one_history;
+use run_problem::answers_are_bounded;
 use script_gate_trait::Gate;
 use std::alloc::Global;
 use std::sync::Wait;
@@ -32,7 +34,8 @@ fn read_line<'a>(alloc: Global, words: &'a [String]) -> Result<CommandLine<'a>, 
     }
 }
 
-/// Does what the words ask for. What it promises at each status is stated with the command:
+/// Does what the words ask for. Of `reduce` read `Headline` first: the result, the verdicts on which it
+/// rests, the journal, and when a run succeeds. What is promised at each status is stated with the command:
 /// `ReduceEnds` for `reduce`, `NormalEnds` for `normal`, `SelftestEnds` for `selftest`. Words that are
 /// no command line have status 2, and no others, but where memory ran out before they were read, which
 /// is status 1. `reduce` opens the journal; no other command touches it. The workers are numbered from 1
@@ -50,13 +53,20 @@ pub fn perses<F: Files, G: Gate + Send, J: Sink + Drop + Send, O: Sink, W: Threa
     requires sixteen { length workers.old ≡ 16 }
     ensures idle { AreIdle workers.new }
     ensures as_many { length workers.new ≡ length workers.old }
+    ensures headline { (options : ReduceOptions) → command_line_of (map string_bytes words.now) ≡ Some (Command.reduce options)
+        → Headline G.may_say options
+        (world F.content F.faults G.log G.faults J.put_so_far J.faults O.put_so_far O.faults files.old workers.old journal out.old)
+        (world F.content F.faults G.log G.faults J.put_so_far J.faults O.put_so_far O.faults files.new workers.new result.journal out.new)
+        result.status }
     ensures runs { RunsCommand G.may_say
-        (record { files = seen F.content F.faults files.old; gates = seen_gates G.log G.faults workers.old; journal = seen J.put_so_far J.faults journal; out = seen O.put_so_far O.faults out.old })
-        (record { files = seen F.content F.faults files.new; gates = seen_gates G.log G.faults workers.new; journal = seen J.put_so_far J.faults result.journal; out = seen O.put_so_far O.faults out.new })
+        (world F.content F.faults G.log G.faults J.put_so_far J.faults O.put_so_far O.faults files.old workers.old journal out.old)
+        (world F.content F.faults G.log G.faults J.put_so_far J.faults O.put_so_far O.faults files.new workers.new result.journal out.new)
         result.status (command_line_of (map string_bytes words.now)) }
     ensures usage { result.status ≡ 2 → command_line_of (map string_bytes words.now) ≡ None }
     ensures no_other { command_line_of (map string_bytes words.now) ≡ None → (result.status ≡ 2) ⊎ (result.status ≡ 1) }
 {
+    equal_bytes_have_one_history();
+    answers_are_bounded();
     match read_line(alloc, words) {
         Err(refusal) => Ended {
             status: end_refused(out, &refusal),

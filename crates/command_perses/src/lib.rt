@@ -1,10 +1,10 @@
 //! The top call: what the program does, over any files, gates, journal and output.
 //!
 //! Enter by [`perses`], whose contract is the program's, and which only dispatches; [`add_worker`] makes
-//! the workers that it takes. Each command is a
-//! crate of its own; read first how `reduce` ends, by its status: `ReduceEnds` in
-//! `command_reduce/specs/Reduce.antt`. The line of each status is in `command_ends`. So a program runs
-//! over the machine's files and processes:
+//! the workers that it takes. Read first what `reduce` promises, sentence by sentence: `Headline` in
+//! `specs/Headline.antt`. Each command is a crate of its own; how `reduce` ends, by its status, is
+//! `ReduceEnds` in `command_reduce/specs/Reduce.antt`. The line of each status is in `command_ends`. So a
+//! program runs over the machine's files and processes:
 //!
 //! ```
 //! let mut files = DiskFiles::new(rt.clone()?, rt.alloc());

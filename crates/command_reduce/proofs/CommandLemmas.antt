@@ -104,6 +104,10 @@ module _ (options : ReduceOptions) (may_say : List ℕ → Verdict → Type 0) (
   abbrev EndsBy : ℕ × List ℕ → Type 0
   EndsBy ending = (out out' : SeenOut) → PutsLine ending.1 out out' → ReduceEnds options history (beside old out) (beside new out') ending.0
 
+  -- the history is one of the problem, which reduces to this
+  abbrev Comes : Reduced → Problem → Type 0
+  Comes reduced problem = AreOf options.jobs options.keeps problem history × ReducesFrom options.jobs options.keeps problem history reduced.text.items reduced.counts
+
   abbrev Waits : Problem → Type 0
   Waits problem = options.jobs ≡ 1 → IsUnfinished options.keeps problem history
 
@@ -133,10 +137,14 @@ module _ (options : ReduceOptions) (may_say : List ℕ → Verdict → Type 0) (
 
   -- with one, whose result was written or wasn't
   module _ (read : SeenFiles) (reduced : Reduced) (same : SameFiles old.files.shown read.shown) (quiet : IsQuiet old.files read) (gates_quiet : AreQuiet old.gates new.gates) (whole : JournalWhole options.journal history old.journal new.journal)
-      (reduces : ProblemAccepted options old.files (λ problem. ReducesFrom options.jobs options.keeps problem history reduced.text.items reduced.counts)) where
+      (reduces : ProblemAccepted options old.files (Comes reduced)) where
     reduces_to : (report : List ℕ) → report ≡ report_text reduced.counts → ReducesTo options old.files history reduced.text.items report
-    reduces_to report is = but (λ problem. ReducesFrom options.jobs options.keeps problem history reduced.text.items reduced.counts) (λ problem. (counts : Counts) × ReducesFrom options.jobs options.keeps problem history reduced.text.items counts × (report ≡ report_text counts))
-        (λ problem from. (reduced.counts, from, is)) reduces
+    reduces_to report is =
+        but (Comes reduced)
+        (λ problem.
+        (counts : Counts) × ReducesFrom options.jobs options.keeps problem history reduced.text.items counts × (report ≡ report_text counts)
+        × AreOf options.jobs options.keeps problem history)
+        (λ problem from. (reduced.counts, from.1, is, from.0)) reduces
 
     write_at : (outcome : Result (Vec ℕ) Refusal) → WriteEnds options.output read new.files (Ok reduced) outcome
         → MatchResult outcome (λ report. ReduceReports options history old new report.items) (λ refusal. ReduceFails options history old new refusal)
@@ -157,14 +165,18 @@ module _ (options : ReduceOptions) (may_say : List ℕ → Verdict → Type 0) (
 
   -- whatever the run came to
   pub stops_ran : (read : SeenFiles) → SameFiles old.files.shown read.shown → IsQuiet old.files read → (ran : Result Reduced RunFault)
-      → ProblemAccepted options old.files (λ problem. ProblemEnds options.jobs options.keeps problem history counts counts' old.journal.faults new.journal.faults ran)
+      → ProblemAccepted options old.files
+      (λ problem. AreOf options.jobs options.keeps problem history × ProblemEnds options.jobs options.keeps problem history counts counts' old.journal.faults new.journal.faults ran)
       → JournalAfter options.jobs options.journal history old.journal new.journal ran → (outcome : Result (Vec ℕ) Refusal) → WriteEnds options.output read new.files ran outcome → ReduceSteps options may_say history old new outcome
   stops_ran read same quiet (Ok reduced) ends whole outcome writes =
-      let P : Problem → Type 0 = λ problem. ReducesFrom options.jobs options.keeps problem history reduced.text.items reduced.counts × NoneFailed counts counts' old.journal.faults new.journal.faults in
-      stops_write read reduced same quiet (all_quiet first (some P ends).1.1.1.0) whole (but P (λ problem. ReducesFrom options.jobs options.keeps problem history reduced.text.items reduced.counts) (λ problem is. is.0) ends) outcome writes
+      let P : Problem → Type 0 =
+      λ problem. AreOf options.jobs options.keeps problem history
+      × (ReducesFrom options.jobs options.keeps problem history reduced.text.items reduced.counts × NoneFailed counts counts' old.journal.faults new.journal.faults) in
+      stops_write read reduced same quiet (all_quiet first (some P ends).1.1.1.1.0) whole (but P (Comes reduced) (λ problem is. (is.0, is.1.0)) ends) outcome writes
   stops_ran read same quiet (Err fault) ends after outcome writes =
       subst (λ (o : Result (Vec ℕ) Refusal). ReduceSteps options may_say history old new o) (sym writes.0.1)
-      (stops_run fault writes.0.0 writes.0.2 (subst (FilesKept old.files) (sym writes.1) (record { same = same; quiet = quiet })) ends after)
+      (stops_run fault writes.0.0 writes.0.2 (subst (FilesKept old.files) (sym writes.1) (record { same = same; quiet = quiet }))
+      (but (λ problem. AreOf options.jobs options.keeps problem history × Fails fault problem) (Fails fault) (λ problem is. is.1) ends) after)
 
   -- a gate wasn't opened
   pub stops_unopened : (read : SeenFiles) → SameFiles old.files.shown read.shown → IsQuiet old.files read → (ran : Result Reduced RunFault)
@@ -205,7 +217,8 @@ steps_end options may_say history old new logs logs' counts counts' read problem
     let left : StartLeaves options.jobs options history logs logs' old.journal new.journal ran = subst (λ (n : ℕ). StartLeaves n options history logs logs' old.journal new.journal ran) (sym jobs) written in
     let accepted : ProblemAccepted options old.files Of = accepted_as options old.files problem Of all all_are was in
     let ended : ProblemAccepted options old.files Ends = accepted_as options old.files problem Ends all all_end was in
-    ⊎_elim (λ after. stops_ran options may_say history old new logs logs' counts counts' first sound accepted read same quiet ran ended after outcome writes)
+    let both : ProblemAccepted options old.files (λ one. Of one × Ends one) = accepted_as options old.files problem (λ one. Of one × Ends one) all (λ one is. (all_are one is, all_end one is)) was in
+    ⊎_elim (λ after. stops_ran options may_say history old new logs logs' counts counts' first sound accepted read same quiet ran both after outcome writes)
     (λ un. stops_unopened options may_say history old new logs logs' counts counts' first sound accepted read same quiet ran ended un outcome writes) left
 
 -- the end of the command

@@ -1,5 +1,5 @@
 -- A run uses the first of all workers, and the gates of the others are as before.
-use Rattle.std.proofs.Common.{◌≡◌, ◌≤◌, ◌<◌, ◌+◌, ◌++◌, ◌∙◌, arith, inl, inr, ⊎_elim, ℕ, zero, suc, List, [], ◌∷◌, None, Option, All, drop, length, map, option_map, take, refl, sym, ap, subst}
+use Rattle.std.proofs.Common.{◌≡◌, ◌≤◌, ◌<◌, ◌+◌, ◌++◌, ◌∙◌, arith, inl, inr, ⊎_elim, ℕ, zero, suc, List, [], ◌∷◌, None, Option, drop, length, map, option_map, take, refl, sym, ap, subst}
 use Rattle.std.proofs.lemmas.List.{drop-map, length-append, length-map, length-take-le, map-append, take-append-drop, take-map}
 use Rattle.std.proofs.lemmas.List.Elements.{All-append, All-drop, All-take}
 use Rattle.std.specs.List.{range_with_len}

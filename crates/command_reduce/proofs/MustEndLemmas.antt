@@ -13,7 +13,7 @@ use Rattle.reduce_trees_input.specs.declared.fault.InputFault.TheVariants as inp
 use Rattle.command_ends.specs.declared.status.NamedFile.TheVariants as named
 use Rattle.command_grammar.specs.Grammar.{IsFaultIn}
 use Rattle.run_problem.specs.Problem.{Problem, start_of}
-use Rattle.run_problem.specs.Ends.{IsUnfinished, ReducesFrom}
+use Rattle.run_problem.specs.Ends.{AreOf, IsUnfinished, ReducesFrom}
 use Rattle.reduce_journal.specs.History.{History, records_of}
 use Rattle.reduce_journal.specs.Report.{report_text}
 use Rattle.reduce_journal.specs.declared.counts.Counts.{Counts}
@@ -63,7 +63,8 @@ module _ (faults : InputFaultOnce) (languages : InputsAreInLanguage) (options : 
 
   yes_first : (text report : List ℕ) → ReducesTo options old.files history text report → FirstIsNo records → ⊥
   yes_first text report reduces first_no =
-      let P : Problem → Type 0 = λ problem. (counts : Counts) × ReducesFrom options.jobs options.keeps problem history text counts × (report ≡ report_text counts) in
+      let P : Problem → Type 0 =
+      λ problem. (counts : Counts) × ReducesFrom options.jobs options.keeps problem history text counts × (report ≡ report_text counts) × AreOf options.jobs options.keeps problem history in
       let it : (problem : Problem) × ((holds_all options.keeps (start_of problem) ≡ true) × P problem) =
       any_problem options old.files (λ problem. (holds_all options.keeps (start_of problem) ≡ true) × P problem) reduces in
       yes_no (start_of it.0) records it.1.1.1.first first_no

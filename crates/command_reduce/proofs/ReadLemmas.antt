@@ -6,6 +6,7 @@ use Rattle.grammar_tree.specs.Written.{CheckedGrammar}
 use Rattle.keep_guard.specs.Keep.{first_missing, keeps_admit}
 use Rattle.reduce_step.specs.Limits.{text_limit}
 use Rattle.reduce_trees_input.specs.Faults.{IsInputFault}
+use Rattle.reduce_trees_input.specs.Laws.{InputsAreOne}
 use Rattle.reduce_trees_input.specs.Parsed.{IsParsed, MakesInputOf, tree_input}
 use Rattle.reduce_trees_input.specs.declared.fault.InputFault.{InputFault}
 use Rattle.reduce_trees_input.specs.declared.parsed.ParsedInput.{ParsedInput}
@@ -56,8 +57,9 @@ module _ (grammar : GrammarSource) (input : List ℕ) (files files' : SeenFiles)
 
 module _ (options : ReduceOptions) (files : SeenFiles) (trees : GrammarOptions) (mode : options.mode ≡ ModeOptions.by_grammar trees) where
   -- the tree of the input
-  pub tree_read : (found : ParsedInput) → GivesTree trees.grammar (files.shown trees.grammar.path) (files.shown options.input) found → ProblemRead options files (IsReadAs options.keeps (read.Tree found trees.mode trees.squeeze))
-  tree_read found gives =
+  pub tree_read : InputsAreOne → (found : ParsedInput) → GivesTree trees.grammar (files.shown trees.grammar.path) (files.shown options.input) found
+      → ProblemRead options files (IsReadAs options.keeps (read.Tree found trees.mode trees.squeeze))
+  tree_read one found gives =
       let formed = gives.ready.checked.well_formed in
       let admits = keeps_admit options.keeps in
       subst (λ (m : ModeOptions). ReadIn m options files (IsReadAs options.keeps (read.Tree found trees.mode trees.squeeze))) (sym mode) (
@@ -67,7 +69,17 @@ module _ (options : ReduceOptions) (files : SeenFiles) (trees : GrammarOptions) 
           bytes = gives.read.bytes;
           read = gives.read.read;
           within = gives.read.within;
-          holds = (tree_input found formed admits trees.squeeze, record { of_text = gives.read.holds formed admits trees.squeeze; admits = refl; squeezes = refl }, (formed, refl));
+          holds = (
+            tree_input found formed admits trees.squeeze,
+            record {
+              of_text = gives.read.holds formed admits trees.squeeze;
+              admits = refl;
+              squeezes = refl;
+              only = λ other of admits_so squeezes_so.
+                  one gives.checked gives.read.bytes (tree_input found formed admits trees.squeeze) other (gives.read.holds formed admits trees.squeeze) of (sym admits_so) (sym squeezes_so);
+            },
+            (formed, refl),
+          );
         },
       )
 

@@ -34,13 +34,16 @@ InputIsFaulty named grammar input fault = (c : CheckedGrammar) × GrammarRead na
 -- why nothing is found: a file wasn't read, the grammar is faulty, or the input isn't in its language
 abbrev pub TreeFails : GrammarSource → List ℕ → SeenFiles → SeenFiles → Refusal → Type 0
 TreeFails grammar input files files' Memory = IsQuiet files files'
-TreeFails grammar input files files' (CannotRead named.Input) = ((c : CheckedGrammar) × GrammarRead grammar (files.shown grammar.path) c) × CallFailed files files'
+TreeFails grammar input files files' (CannotRead named.Input) =
+    ((c : CheckedGrammar) × GrammarRead grammar (files.shown grammar.path) c) × CallFailed files files'
 TreeFails grammar input files files' (CannotRead named.Grammar) = CallFailed files files'
-TreeFails grammar input files files' (TooLong named.Input) = ((c : CheckedGrammar) × GrammarRead grammar (files.shown grammar.path) c) × IsLonger input_limit (files.shown input) × IsQuiet files files'
+TreeFails grammar input files files' (TooLong named.Input) =
+    ((c : CheckedGrammar) × GrammarRead grammar (files.shown grammar.path) c) × IsLonger input_limit (files.shown input) × IsQuiet files files'
 TreeFails grammar input files files' (TooLong named.Grammar) = GrammarFails grammar files files' (TooLong named.Grammar)
 TreeFails grammar input files files' (Grammar line) = GrammarFails grammar files files' (Grammar line)
 TreeFails grammar input files files' (Uncut line) =
-    (fault : InputFault) × IsUncut fault × InputIsFaulty grammar (files.shown grammar.path) (files.shown input) fault × (string_bytes line ≡ line_of_text (input_fault_text fault)) × IsQuiet files files'
+    (fault : InputFault) × IsUncut fault × InputIsFaulty grammar (files.shown grammar.path) (files.shown input) fault
+    × (string_bytes line ≡ line_of_text (input_fault_text fault)) × IsQuiet files files'
 TreeFails grammar input files files' NoParse = InputIsFaulty grammar (files.shown grammar.path) (files.shown input) input_fault.NoParse × IsQuiet files files'
 TreeFails grammar input files files' _ = ⊥
 
@@ -48,7 +51,8 @@ TreeFails grammar input files files' _ = ⊥
 abbrev pub KeepRefused : ReduceOptions → SeenFiles → Refusal → Type 0
 KeepRefused options files Memory = Unit {0}
 KeepRefused options files (KeepMissing line) =
-    (index : ℕ) × ProblemRead options files (λ problem. first_missing options.keeps (start_of problem) ≡ Some index) × IsKeepRefusal (index + 1) (KeepMissing line)
+    (index : ℕ) × ProblemRead options files (λ problem. first_missing options.keeps (start_of problem) ≡ Some index)
+    × IsKeepRefusal (index + 1) (KeepMissing line)
 KeepRefused options files _ = ⊥
 
 -- why there is no problem that is accepted: none was read, or that

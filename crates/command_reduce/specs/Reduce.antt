@@ -37,18 +37,22 @@ use Rattle.command_reduce_calls.specs.Openings.{opened_from, opened_log}
 use Rattle.command_grammar.specs.Grammar.{start_name}
 use Rattle.command_ends.specs.World.{AnyGateFailed, AreQuiet, CallFailed, GateFailed, logs_of, FilesKept, IsOver, IsQuiet, IsShownWithin, NotReached, Puts, PutsLine, PutsMessage, PutsPrefix, SeenFiles, SeenGate, SeenJournal, SeenOut, WasRead, World, grammar_limit, input_limit, line_of_text}
 
--- The input is made of this text by this grammar, what is admitted is what has each keep text, and the squeezed text of the whole is tried or not.
+-- The input is made of this text by this grammar, what is admitted is what has each keep text, and the squeezed text of the whole is tried or not; there is
+-- no other such input.
 pub record IsTreeProblem (keeps : List (List ℕ)) (grammar : CheckedGrammar) (squeeze : Bool) (text : List ℕ) (input : TreeInput) : Type 0 where
   pub of_text : IsInputOf grammar text input
   pub admits : input.admits ≡ keeps_admit keeps
   pub squeezes : input.squeezes ≡ squeeze
+  pub only : (other : TreeInput) → IsInputOf grammar text other → other.admits ≡ keeps_admit keeps → other.squeezes ≡ squeeze → input ≡ other
 
--- The files were read whole, each within its limit, and the fact holds of what they have to be reduced: the lines of the input; or, where the grammar's bytes spell a grammar that has the input in its language, its tree.
+-- The files were read whole, each within its limit, and the fact holds of what they have to be reduced: the lines of the input; or, where the grammar's bytes
+-- spell a grammar that has the input in its language, its tree.
 abbrev pub ReadIn : ModeOptions → ReduceOptions → SeenFiles → (Problem → Type 0) → Type 0
 ReadIn ModeOptions.lines options files P = WasRead input_limit (files.shown options.input) (λ start. P (Problem.of_lines start))
 ReadIn (ModeOptions.by_grammar trees) options files P =
     (c : CheckedGrammar) × GrammarRead trees.grammar (files.shown trees.grammar.path) c
-    × WasRead input_limit (files.shown options.input) (λ text. (input : TreeInput) × IsTreeProblem options.keeps c trees.squeeze text input × P (Problem.of_tree trees.mode input))
+    × WasRead input_limit (files.shown options.input)
+    (λ text. (input : TreeInput) × IsTreeProblem options.keeps c trees.squeeze text input × P (Problem.of_tree trees.mode input))
 
 abbrev pub ProblemRead : ReduceOptions → SeenFiles → (Problem → Type 0) → Type 0
 ProblemRead options files P = ReadIn options.mode options files P
@@ -57,10 +61,11 @@ ProblemRead options files P = ReadIn options.mode options files P
 abbrev pub ProblemAccepted : ReduceOptions → SeenFiles → (Problem → Type 0) → Type 0
 ProblemAccepted options files P = ProblemRead options files (λ problem. (holds_all options.keeps (start_of problem) ≡ true) × P problem)
 
--- the problem reduces to the text, and this is its report
+-- the problem, whose history this is, reduces to the text, and this is its report
 abbrev pub ReducesTo : ReduceOptions → SeenFiles → History → List ℕ → List ℕ → Type 0
-ReducesTo options files history text report =
-    ProblemAccepted options files (λ problem. (counts : Counts) × ReducesFrom options.jobs options.keeps problem history text counts × (report ≡ report_text counts))
+ReducesTo options files history text report = ProblemAccepted options files (λ problem.
+    (counts : Counts) × ReducesFrom options.jobs options.keeps problem history text counts × (report ≡ report_text counts)
+    × AreOf options.jobs options.keeps problem history)
 
 -- the output file holds what the input reduces to, of which this is the report
 pub record IsReduced (options : ReduceOptions) (files files' : SeenFiles) (history : History) (report : List ℕ) : Type 0 where
@@ -131,7 +136,8 @@ name_of options named.Grammar = grammar_in options.mode
 
 -- the grammar's file spells a grammar, the input was read within its limit, and the fact holds of the two
 abbrev pub InputHas : GrammarSource → (CheckedGrammar → List ℕ → Type 0) → ReduceOptions → SeenFiles → Type 0
-InputHas grammar P options files = (c : CheckedGrammar) × GrammarRead grammar (files.shown grammar.path) c × WasRead input_limit (files.shown options.input) (λ bytes. P c bytes)
+InputHas grammar P options files =
+    (c : CheckedGrammar) × GrammarRead grammar (files.shown grammar.path) c × WasRead input_limit (files.shown options.input) (λ bytes. P c bytes)
 
 -- The gate of this worker wasn't opened; those of the workers before it were, and the other gates and the journal are as before.
 pub record GateUnopened (options : ReduceOptions) (history : History) (worker : ℕ) (logs logs' : List (Option Log)) (old new : SeenJournal) : Type 0 where
@@ -143,7 +149,8 @@ pub record GateUnopened (options : ReduceOptions) (history : History) (worker : 
 -- where a call of the gate of this worker failed: the journal has the whole history; or the gate wasn't opened, and nothing was recorded
 abbrev pub ScriptLeaves : ReduceOptions → History → ℕ → World → World → Type 0
 ScriptLeaves options history worker old new =
-    JournalWhole options.journal history old.journal new.journal ⊎ GateUnopened options history worker (logs_of old.gates) (logs_of new.gates) old.journal new.journal
+    JournalWhole options.journal history old.journal new.journal
+    ⊎ GateUnopened options history worker (logs_of old.gates) (logs_of new.gates) old.journal new.journal
 
 -- How `reduce` ends, by its status.
 pub data ReduceEnds (options : ReduceOptions) (history : History) (old new : World) : ℕ → Type 0 where
@@ -227,7 +234,8 @@ pub data ReduceEnds (options : ReduceOptions) (history : History) (old new : Wor
       → (untouched : NotReached history old new)
       → (line : PutsMessage (word_for file ++ codes " is too long") old.out new.out)
       → ReduceEnds options history old new 10
-  -- the input was read, a call failed of the gate of the worker that the line names, and the journal has the whole history, unless that gate wasn't opened; with one worker the gate hadn't said no to the input, its reduction wasn't finished, and the history is all that one thread does over its records
+  -- the input was read, a call failed of the gate of the worker that the line names, and the journal has the whole history, unless that gate wasn't opened;
+  -- with one worker the gate hadn't said no to the input, its reduction wasn't finished, and the history is all that one thread does over its records
   script : (worker : ℕ) (one_of : worker ≤ options.jobs) (failed : GateFailed worker old.gates new.gates)
       → (read : ProblemAccepted options old.files (λ problem. options.jobs ≡ 1 → IsUnfinished options.keeps problem history))
       → (files : FilesKept old.files new.files)
@@ -243,7 +251,8 @@ pub data ReduceEnds (options : ReduceOptions) (history : History) (old new : Wor
       → (line : PutsMessage (codes "journal fault") old.out new.out)
       → ReduceEnds options history old new 12
 
--- what is visible of the files has this fact of what is reduced: the input is within its limit; and by a grammar that is too, and spells a grammar that has the input in its language
+-- what is visible of the files has this fact of what is reduced: the input is within its limit; and by a grammar that is too, and spells a grammar that has
+-- the input in its language
 abbrev pub ShownIn : ModeOptions → ReduceOptions → SeenFiles → (List ℕ → Type 0) → Type 0
 ShownIn ModeOptions.lines options files P = IsShownWithin input_limit (files.shown options.input) P
 ShownIn (ModeOptions.by_grammar trees) options files P =
@@ -267,11 +276,14 @@ IsShownGrammar (ModeOptions.by_grammar trees) files = IsShownWithin grammar_limi
 -- Which status it has to be. This follows from how `reduce` ends.
 pub record ReduceMustEnd (options : ReduceOptions) (records : List Record) (old new : World) (status : ℕ) : Type 0 where
   -- a grammar over its limit is refused
-  pub grammar_over : (trees : GrammarOptions) → options.mode ≡ ModeOptions.by_grammar trees → IsOver grammar_limit (old.files.shown trees.grammar.path) → IsOneOf (10 ∷ 3 ∷ 1 ∷ []) status
+  pub grammar_over : (trees : GrammarOptions) → options.mode ≡ ModeOptions.by_grammar trees → IsOver grammar_limit (old.files.shown trees.grammar.path)
+      → IsOneOf (10 ∷ 3 ∷ 1 ∷ []) status
   -- a grammar that isn't there can't be read
-  pub grammar_missing : (trees : GrammarOptions) → options.mode ≡ ModeOptions.by_grammar trees → old.files.shown trees.grammar.path ≡ Some None → IsOneOf (3 ∷ 1 ∷ []) status
+  pub grammar_missing : (trees : GrammarOptions) → options.mode ≡ ModeOptions.by_grammar trees → old.files.shown trees.grammar.path ≡ Some None
+      → IsOneOf (3 ∷ 1 ∷ []) status
   -- a faulty grammar within its limit is refused
-  pub faulty : (trees : GrammarOptions) → options.mode ≡ ModeOptions.by_grammar trees → IsShownWithin grammar_limit (old.files.shown trees.grammar.path) (λ bytes. ¬ IsGrammarText trees.grammar bytes) → IsOneOf (5 ∷ 3 ∷ 1 ∷ []) status
+  pub faulty : (trees : GrammarOptions) → options.mode ≡ ModeOptions.by_grammar trees
+      → IsShownWithin grammar_limit (old.files.shown trees.grammar.path) (λ bytes. ¬ IsGrammarText trees.grammar bytes) → IsOneOf (5 ∷ 3 ∷ 1 ∷ []) status
   -- an input over its limit is refused as such, where the mode has no grammar or a well-formed one
   pub input_over : IsShownGrammar options.mode old.files → IsOver input_limit (old.files.shown options.input) → IsOneOf (10 ∷ 3 ∷ 1 ∷ []) status
   -- an input that isn't there can't be read, where the mode has no grammar or a well-formed one
@@ -281,13 +293,16 @@ pub record ReduceMustEnd (options : ReduceOptions) (records : List Record) (old 
   -- whatever the grammar is, an input that isn't there can't be read, unless the grammar was refused before
   pub missing : old.files.shown options.input ≡ Some None → IsOneOf (3 ∷ 5 ∷ 10 ∷ 1 ∷ []) status
   -- an input within its limit whose bytes aren't cut into tokens is refused, where the grammar is well-formed
-  pub no_token : (trees : GrammarOptions) → options.mode ≡ ModeOptions.by_grammar trees → IsShownFault trees.grammar options old.files (λ fault. IsUncut fault) → IsOneOf (6 ∷ 3 ∷ 1 ∷ []) status
+  pub no_token : (trees : GrammarOptions) → options.mode ≡ ModeOptions.by_grammar trees → IsShownFault trees.grammar options old.files (λ fault. IsUncut fault)
+      → IsOneOf (6 ∷ 3 ∷ 1 ∷ []) status
   -- one whose tokens the start rule doesn't derive is refused, where the grammar is well-formed
-  pub unparsed : (trees : GrammarOptions) → options.mode ≡ ModeOptions.by_grammar trees → IsShownFault trees.grammar options old.files (λ fault. fault ≡ input_fault.NoParse) → IsOneOf (7 ∷ 3 ∷ 1 ∷ []) status
+  pub unparsed : (trees : GrammarOptions) → options.mode ≡ ModeOptions.by_grammar trees
+      → IsShownFault trees.grammar options old.files (λ fault. fault ≡ input_fault.NoParse) → IsOneOf (7 ∷ 3 ∷ 1 ∷ []) status
   -- an input in which a keep text doesn't occur is refused, where it is a problem of its mode
   pub keep_missing : IsShownProblem options old.files (λ start. holds_all options.keeps start ≡ false) → IsOneOf (9 ∷ 3 ∷ 1 ∷ []) status
   -- a problem in which each keep text occurs is reduced, or isn't interesting, where no call failed
-  pub complete : IsShownProblem options old.files (λ start. holds_all options.keeps start ≡ true) → ¬ CallFailed old.files new.files → ¬ AnyGateFailed options.jobs old.gates new.gates → ¬ CallFailed old.journal new.journal → ¬ CallFailed old.out new.out
+  pub complete : IsShownProblem options old.files (λ start. holds_all options.keeps start ≡ true) → ¬ CallFailed old.files new.files
+      → ¬ AnyGateFailed options.jobs old.gates new.gates → ¬ CallFailed old.journal new.journal → ¬ CallFailed old.out new.out
       → IsOneOf (0 ∷ 8 ∷ 1 ∷ []) status
   -- a first no ends the run, unless it can't be written; or another worker's gate fails
   pub first_no : FirstIsNo records → IsOneOf (8 ∷ 11 ∷ 12 ∷ 1 ∷ []) status
@@ -303,13 +318,16 @@ pub record ReduceMustEnd (options : ReduceOptions) (records : List Record) (old 
   pub out_failed : ¬ IsQuiet old.out new.out → status ≢ 0
 
 -- What holds of the records at every status, as the gates show them: no text is there twice, each verdict is a gate's,
--- and the gates of the workers were opened for this input and script and asked as often as there are records, unless one wasn't opened, and then the journal wasn't either.
-pub record RecordsAreSound (options : ReduceOptions) (may_say : List ℕ → Verdict → Type 0) (records : List Record) (old new : List (Option Log)) (before after : SeenJournal) : Type 0 where
+-- and the gates of the workers were opened for this input and script and asked as often as there are records, unless one wasn't opened, and then the journal
+-- wasn't either.
+pub record RecordsAreSound (options : ReduceOptions) (may_say : List ℕ → Verdict → Type 0) (records : List Record) (old new : List (Option Log))
+    (before after : SeenJournal) : Type 0 where
   pub distinct : IsDistinct bytes_eq (texts_of records)
   pub said : All (λ r. may_say r.text r.verdict) records
   pub used : GatesWereUsed options (texts_of records) old new before after
 
--- A run of `reduce` with these options. Some history has come of it: that of the journal's bytes, where it shows them and is whole. The gates beyond those of the workers are as before.
+-- A run of `reduce` with these options. Some history has come of it: that of the journal's bytes, where it shows them and is whole. The gates beyond those of
+-- the workers are as before.
 pub record Reduces (options : ReduceOptions) (may_say : List ℕ → Verdict → Type 0) (old new : World) (status : ℕ) : Type 0 where
   pub history : History
   pub ends : ReduceEnds options history old new status
@@ -322,14 +340,17 @@ pub record Reduces (options : ReduceOptions) (may_say : List ℕ → Verdict →
 abbrev pub ProblemFails : ReduceOptions → SeenFiles → SeenFiles → Refusal → Type 0
 ProblemFails options files files' Memory = IsQuiet files files'
 ProblemFails options files files' (CannotRead file) = IsReached options.mode file files × CallFailed files files'
-ProblemFails options files files' (TooLong file) = IsReached options.mode file files × IsLonger (limit_of file) (files.shown (name_of options file)) × IsQuiet files files'
+ProblemFails options files files' (TooLong file) =
+    IsReached options.mode file files × IsLonger (limit_of file) (files.shown (name_of options file)) × IsQuiet files files'
 ProblemFails options files files' (Grammar line) =
     (trees : GrammarOptions) × (options.mode ≡ ModeOptions.by_grammar trees) × GrammarFails trees.grammar files files' (Grammar line)
 ProblemFails options files files' (Uncut line) =
-    (trees : GrammarOptions) × (fault : InputFault) × (options.mode ≡ ModeOptions.by_grammar trees) × IsUncut fault × InputHas trees.grammar (λ c bytes. IsInputFault c bytes fault) options files
+    (trees : GrammarOptions) × (fault : InputFault) × (options.mode ≡ ModeOptions.by_grammar trees) × IsUncut fault
+    × InputHas trees.grammar (λ c bytes. IsInputFault c bytes fault) options files
     × (string_bytes line ≡ line_of_text (input_fault_text fault)) × IsQuiet files files'
 ProblemFails options files files' NoParse =
-    (trees : GrammarOptions) × (options.mode ≡ ModeOptions.by_grammar trees) × InputHas trees.grammar (λ c bytes. IsInputFault c bytes input_fault.NoParse) options files × IsQuiet files files'
+    (trees : GrammarOptions) × (options.mode ≡ ModeOptions.by_grammar trees)
+    × InputHas trees.grammar (λ c bytes. IsInputFault c bytes input_fault.NoParse) options files × IsQuiet files files'
 ProblemFails options files files' _ = ⊥
 
 -- What `reduce` reaches, without `out`.
@@ -352,7 +373,8 @@ abbrev pub ReduceReports : ReduceOptions → History → Inside → Inside → L
 ReduceReports options history old new report = (out out' : SeenOut) → WritesReduced options history report (beside old out) (beside new out')
 
 -- the steps of `reduce`, but for what is put on `out`
-pub record ReduceSteps (options : ReduceOptions) (may_say : List ℕ → Verdict → Type 0) (history : History) (old new : Inside) (outcome : Result (Vec ℕ) Refusal) : Type 0 where
+pub record ReduceSteps (options : ReduceOptions) (may_say : List ℕ → Verdict → Type 0) (history : History) (old new : Inside)
+    (outcome : Result (Vec ℕ) Refusal) : Type 0 where
   pub sound : RecordsAreSound options may_say (records_of history) (logs_of old.gates) (logs_of new.gates) old.journal new.journal
   pub of_input : IsHistoryOfInput options old.files history
   pub others : drop options.jobs new.gates ≡ drop options.jobs old.gates

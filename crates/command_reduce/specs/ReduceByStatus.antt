@@ -27,15 +27,27 @@ pub record ReduceMeans (options : ReduceOptions) (history : History) (old new : 
   pub of_lines : options.mode ≡ ModeOptions.lines → IsOneOf (0 ∷ 1 ∷ 3 ∷ 4 ∷ 8 ∷ 9 ∷ 10 ∷ 11 ∷ 12 ∷ []) status
   pub done : status ≡ 0 → (report : List ℕ) × IsReduced options old.files new.files history report × Puts report old.out new.out
   pub unread : status ≡ 3 → CallFailed old.files new.files
-  pub write : status ≡ 4 → (CallFailed old.files new.files × PutsItsLine options.mode old.files old.out new.out status) ⊎ ((report : List ℕ) × IsReduced options old.files new.files history report × PutsPrefix report old.out new.out)
+  pub write : status ≡ 4
+      → (CallFailed old.files new.files × PutsItsLine options.mode old.files old.out new.out status)
+      ⊎ ((report : List ℕ) × IsReduced options old.files new.files history report × PutsPrefix report old.out new.out)
   pub tried : status ≡ 4 → (text : List ℕ) × (report : List ℕ) × ReducesTo options old.files history text report
-  pub fault : status ≡ 5 → (trees : GrammarOptions) × (text : List ℕ) × (options.mode ≡ ModeOptions.by_grammar trees) × WasRead grammar_limit (old.files.shown trees.grammar.path) (λ bytes. IsFaultIn trees.grammar bytes text) × PutsLine (fault_line text) old.out new.out
-  pub no_token : status ≡ 6 → (trees : GrammarOptions) × (fault : InputFault) × (options.mode ≡ ModeOptions.by_grammar trees) × IsUncut fault × InputHas trees.grammar (λ c bytes. IsInputFault c bytes fault) options old.files × PutsMessage (input_fault_text fault) old.out new.out
-  pub unparsed : status ≡ 7 → (trees : GrammarOptions) × (options.mode ≡ ModeOptions.by_grammar trees) × InputHas trees.grammar (λ c bytes. IsInputFault c bytes input_fault.NoParse) options old.files
+  pub fault : status ≡ 5
+      → (trees : GrammarOptions) × (text : List ℕ) × (options.mode ≡ ModeOptions.by_grammar trees)
+      × WasRead grammar_limit (old.files.shown trees.grammar.path) (λ bytes. IsFaultIn trees.grammar bytes text) × PutsLine (fault_line text) old.out new.out
+  pub no_token : status ≡ 6
+      → (trees : GrammarOptions) × (fault : InputFault) × (options.mode ≡ ModeOptions.by_grammar trees) × IsUncut fault
+      × InputHas trees.grammar (λ c bytes. IsInputFault c bytes fault) options old.files × PutsMessage (input_fault_text fault) old.out new.out
+  pub unparsed : status ≡ 7
+      → (trees : GrammarOptions) × (options.mode ≡ ModeOptions.by_grammar trees)
+      × InputHas trees.grammar (λ c bytes. IsInputFault c bytes input_fault.NoParse) options old.files
   pub not_interesting : status ≡ 8 → OnlyNo (records_of history)
-  pub keep_missing : status ≡ 9 → (index : ℕ) × ProblemRead options old.files (λ problem. first_missing options.keeps (start_of problem) ≡ Some index) × PutsMessage (keep_text (index + 1)) old.out new.out
+  pub keep_missing : status ≡ 9
+      → (index : ℕ) × ProblemRead options old.files (λ problem. first_missing options.keeps (start_of problem) ≡ Some index)
+      × PutsMessage (keep_text (index + 1)) old.out new.out
   pub too_long : status ≡ 10 → (file : NamedFile) × IsReached options.mode file old.files × IsLonger (limit_of file) (old.files.shown (name_of options file))
-  pub script : status ≡ 11 → (worker : ℕ) × (worker ≤ options.jobs) × GateFailed worker old.gates new.gates × ScriptLeaves options history worker old new × PutsMessage (script_text worker) old.out new.out
+  pub script : status ≡ 11
+      → (worker : ℕ) × (worker ≤ options.jobs) × GateFailed worker old.gates new.gates × ScriptLeaves options history worker old new
+      × PutsMessage (script_text worker) old.out new.out
   pub journal : status ≡ 12 → CallFailed old.journal new.journal × JournalBroken options.jobs options.journal history old.journal new.journal
   pub whole : IsOneOf (0 ∷ 4 ∷ 8 ∷ []) status → JournalWhole options.journal history old.journal new.journal
   pub so_far : status ≡ 1 → JournalSoFar options.journal history old.journal new.journal
@@ -45,4 +57,6 @@ pub record ReduceMeans (options : ReduceOptions) (history : History) (old new : 
   pub line : IsOneOf (1 ∷ 3 ∷ 7 ∷ 8 ∷ 10 ∷ 12 ∷ []) status → PutsItsLine options.mode old.files old.out new.out status
 
 abbrev pub ReduceByStatus : Type 0
-ReduceByStatus = (options : ReduceOptions) (history : History) (old new : World) (status : ℕ) → ReduceEnds options history old new status → ReduceMeans options history old new status
+ReduceByStatus =
+    (options : ReduceOptions) (history : History) (old new : World) (status : ℕ) → ReduceEnds options history old new status
+    → ReduceMeans options history old new status

@@ -20,12 +20,15 @@ JournalAfter workers name history old new (Err run.Journal) = JournalBroken work
 JournalAfter workers name history old new (Err run.Memory) = JournalSoFar name history old new
 
 -- A gate wasn't opened, which is the answer.
-pub record Unopened {A : Type 0} (options : ReduceOptions) (history : History) (logs logs' : List (Option Log)) (old new : SeenJournal) (outcome : Result A RunFault) : Type 0 where
+pub record Unopened {A : Type 0} (options : ReduceOptions) (history : History) (logs logs' : List (Option Log)) (old new : SeenJournal)
+    (outcome : Result A RunFault) : Type 0 where
   pub worker : ℕ
   pub fault : GateFault
   pub answer : outcome ≡ Err (fault_of worker fault)
   pub left : GateUnopened options history worker logs logs' old new
 
 -- what became of the journal and the gates, by so many workers
-abbrev pub StartLeaves : {A : Type 0} → ℕ → ReduceOptions → History → List (Option Log) → List (Option Log) → SeenJournal → SeenJournal → Result A RunFault → Type 0
-StartLeaves workers options history logs logs' old new outcome = JournalAfter workers options.journal history old new outcome ⊎ Unopened options history logs logs' old new outcome
+abbrev pub StartLeaves : {A : Type 0} → ℕ → ReduceOptions → History → List (Option Log) → List (Option Log) → SeenJournal → SeenJournal → Result A RunFault
+    → Type 0
+StartLeaves workers options history logs logs' old new outcome =
+    JournalAfter workers options.journal history old new outcome ⊎ Unopened options history logs logs' old new outcome

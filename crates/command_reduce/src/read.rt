@@ -14,7 +14,7 @@ use command_grammar::grammar_of_file;
 use command_words::{ModeLine, NamedGrammar, ReduceLine};
 use edge_io::Files;
 use reduce_step::TreeMode;
-use reduce_trees_input::{ParsedInput, parsed_input};
+use reduce_trees_input::{ParsedInput, inputs_are_one, parsed_input};
 use run_problem::ReadProblem;
 use std::alloc::Global;
 
@@ -28,7 +28,8 @@ fn read_tree<F: Files>(
     ensures found { IfOk result (GivesTree (grammar_read grammar.entry) (F.content files.old grammar.entry.path.now) (F.content files.old input.now)) }
     ensures quiet { OnOk result (IsQuiet (seen F.content F.faults files.old) (seen F.content F.faults files.new)) }
     ensures same { SameFiles (F.content files.old) (F.content files.new) }
-    ensures refused { IfErr result (λ refusal. TreeFails (grammar_read grammar.entry) input.now (seen F.content F.faults files.old) (seen F.content F.faults files.new) refusal) }
+    ensures refused { IfErr result (λ refusal. TreeFails (grammar_read grammar.entry) input.now (seen F.content F.faults files.old)
+        (seen F.content F.faults files.new) refusal) }
 {
     let checked = grammar_of_file(alloc, grammar, files)?;
     checked.is_checked();
@@ -56,11 +57,13 @@ pub fn read_problem<F: Files>(
     line: &ReduceLine<'_>,
     files: &mut F,
 ) -> Result<ReadProblem, Refusal>
-    ensures problem { IfOk result (λ problem. ProblemRead (reduce_read line.now) (seen F.content F.faults files.old) (IsReadAs (reduce_read line.now).keeps problem)) }
+    ensures problem { IfOk result (λ problem. ProblemRead (reduce_read line.now) (seen F.content F.faults files.old)
+        (IsReadAs (reduce_read line.now).keeps problem)) }
     ensures ready { IfOk result IsReady }
     ensures quiet { OnOk result (IsQuiet (seen F.content F.faults files.old) (seen F.content F.faults files.new)) }
     ensures same { SameFiles (F.content files.old) (F.content files.new) }
-    ensures refused { IfErr result (λ refusal. ProblemFails (reduce_read line.now) (seen F.content F.faults files.old) (seen F.content F.faults files.new) refusal) }
+    ensures refused { IfErr result (λ refusal. ProblemFails (reduce_read line.now) (seen F.content F.faults files.old)
+        (seen F.content F.faults files.new) refusal) }
 {
     match line.mode {
         ModeLine::Lines => {
@@ -68,6 +71,7 @@ pub fn read_problem<F: Files>(
             Ok(ReadProblem::Lines(start))
         }
         ModeLine::ByGrammar(trees) => {
+            inputs_are_one();
             let found = read_tree(alloc, trees.grammar, line.input, files)?;
             Ok(tree_problem(found, trees.mode, trees.squeeze))
         }

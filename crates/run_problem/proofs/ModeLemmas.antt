@@ -1,6 +1,7 @@
 -- What a run of a reducer says, in the words of the reduction of lines and of that of trees.
-use Rattle.std.proofs.Common.{◌≡◌, ℕ, Bool, List, [], length, Option, IsSome, true, false, refl, sym, ap, ◌∙◌, subst, Result, Ok, Err}
+use Rattle.std.proofs.Common.{◌≡◌, ◌≤◌, arith, ℕ, Bool, List, [], ◌∷◌, length, Option, IsSome, true, false, refl, sym, ap, ◌∙◌, subst, Result, Ok, Err}
 use Rattle.std.proofs.lemmas.Bool.{false≢true}
+use Rattle.std.proofs.lemmas.List.{length-append}
 use Rattle.std.specs.List.{IsDistinct}
 use Rattle.std.proofs.lemmas.List.Elements.{All-nil, All-weaker}
 use Rattle.script_gate_trait.specs.declared.gate.Verdict.{Verdict}
@@ -29,7 +30,8 @@ use Rattle.run_gated.specs.RunEnds.{ReducesIn, RunEndsIn, RunFailsIn, reduction_
 use Rattle.reduce_core.specs.declared.lines.Line.{Line}
 use Rattle.reduce_core.specs.Laws.{LinesAreRecursions, LinesEndMinimal}
 use Rattle.reduce_core.specs.LineMode.{AreOfStart, LineInput, line_mode}
-use Rattle.reduce_core.specs.Candidates.{IsLineCandidate}
+use Rattle.reduce_core.specs.Candidates.{IsLineCandidate, IsSubsequence}
+use Rattle.reduce_core.specs.Candidates.IsSubsequence.{nothing, keeps as keeps_line, leaves as leaves_line}
 use Rattle.reduce_core.specs.Lines.{numbered_lines, text_of}
 use Rattle.reduce_core.specs.Reduction.{is_listed, line_recursion}
 use Rattle.reduce_core.proofs.LinesLemmas.{text-numbered_lines}
@@ -63,6 +65,26 @@ module _ (keeps : List (List ℕ)) where
   pub admits_start : (start : List ℕ) → holds_all keeps start ≡ true → is_listed (keeps_admit keeps) (numbered_lines start) ≡ true
   admits_start start kept = ap (holds_all keeps) (text-numbered_lines start) ∙ kept
 
+  -- some lines of a start have no more bytes than all of them
+  part_no_longer : (lines all : List Line) → IsSubsequence lines all → length (text_of lines) ≤ length (text_of all)
+  part_no_longer lines all (leaves_line line _ others some) =
+      let rest = part_no_longer lines others some in
+      let other = length-append line.bytes (text_of others) in
+      omega (arith, rest, other)
+  part_no_longer [] [] nothing = omega arith
+  part_no_longer (line ∷ lines) (same ∷ all) (keeps_line _ _ _ some) =
+      let rest = part_no_longer lines all some in
+      let one = length-append line.bytes (text_of lines) in
+      let other = length-append line.bytes (text_of all) in
+      omega (arith, rest, one, other)
+
+  no_longer : (start text : List ℕ) (lines : List Line) → IsSubsequence lines (numbered_lines start) → text ≡ text_of lines → length text ≤ length start
+  no_longer start text lines some is =
+      let within = part_no_longer lines (numbered_lines start) some in
+      let of_text = ap (λ (t : List ℕ). length t) is in
+      let of_start = ap (λ (t : List ℕ). length t) (text-numbered_lines start) in
+      omega (arith, within, of_text, of_start)
+
   -- the history is one of lines
   pub are_of : (workers : ℕ) (start : List ℕ) (history : History) → AreOfMode workers (line_mode (lines_of start)) (AreOfStart (lines_of start)) history → AreOf workers keeps (Problem.of_lines start) history
   are_of workers start history of =
@@ -73,6 +95,8 @@ module _ (keeps : List (List ℕ)) where
         sequential = of.sequential;
         candidates = All-weaker (λ (r : Record). IsTextOf (line_mode (lines_of start)) (AreOfStart (lines_of start)) r.text) (λ (r : Record). IsLineCandidate (keeps_admit keeps) start r.text)
             (λ r one. record { lines = one.state; some = one.kept; listed = one.listed; joined = one.same }) records of.candidates;
+        short = All-weaker (λ (r : Record). IsTextOf (line_mode (lines_of start)) (AreOfStart (lines_of start)) r.text) (λ (r : Record). length r.text ≤ length start)
+            (λ r one. no_longer start r.text one.state one.kept one.same) records of.candidates;
         first = subst (λ (text : List ℕ). BeginsAt text records) (text-numbered_lines start) of.first;
         ends_at_no = of.ends_at_no;
       }
@@ -152,6 +176,7 @@ none_of workers keeps problem history none = subst (AreOf workers keeps problem)
   readable = tt;
   sequential = λ _. ([], none_own keeps problem);
   candidates = All-nil _;
+  short = All-nil _;
   first = tt;
   ends_at_no = λ first_no. first_no;
 })
@@ -193,6 +218,8 @@ module _ (workers : ℕ) (mode : TreeMode) (laws : IsTreeMode (round_of mode) (I
         readable = of.readable;
         sequential = of.sequential;
         candidates = All-weaker (λ (r : Record). IsTextOf trees (IsKept input) r.text) (λ (r : Record). IsCandidate input r.text) (λ r one. laws.asks input r.text is one) tree_records of.candidates;
+        short = All-weaker (λ (r : Record). IsTextOf trees (IsKept input) r.text) (λ (r : Record). length r.text ≤ length input.start)
+            (λ r one. subst (λ (text : List ℕ). length text ≤ length input.start) (sym one.same) (laws.no_longer input one.state is one.kept)) tree_records of.candidates;
         first = subst (λ (text : List ℕ). BeginsAt text tree_records) begins.text of.first;
         ends_at_no = of.ends_at_no;
       }

@@ -1,5 +1,5 @@
 -- How the run of a problem ends, and what its history is.
-use Rattle.std.specs.Prelude.{◌≡◌, ℕ, List, All, Result, Ok, Err}
+use Rattle.std.specs.Prelude.{◌≡◌, ◌≤◌, ℕ, List, All, length, Result, Ok, Err}
 use Rattle.faults.specs.Count.{Rose}
 use Rattle.script_gate_trait.specs.declared.gate.Verdict.TheVariants.{Yes, No}
 use Rattle.reduce_step.specs.Plan.{HasEnded}
@@ -18,11 +18,13 @@ use Rattle.run_gated.specs.declared.ran.Reduced.{Reduced}
 use Rattle.run_problem.specs.Problem.{IsCandidateOf, IsReductionOf, Problem, counts_of, questions_of, start_of}
 use Rattle.run_problem.specs.Reducer.{reducer_of}
 
--- The history is one that the problem's reducer can have; each record's text may be asked, the first is the start, and after its no nothing was asked. With one worker it is a beginning of what one thread does over its records.
+-- The history is one that the problem's reducer can have; each record's text may be asked, and isn't longer than the start; the first is the start, and after
+-- its no nothing was asked. With one worker it is a beginning of what one thread does over its records.
 pub record AreOf (workers : ℕ) (keeps : List (List ℕ)) (problem : Problem) (history : History) : Type 0 where
   pub legal : IsLegal (reducer_of keeps problem) history
   pub readable : IsHistory history
   pub candidates : All (λ r. IsCandidateOf keeps problem r.text) (records_of history)
+  pub short : All (λ r. length r.text ≤ length (start_of problem)) (records_of history)
   pub first : BeginsAt (start_of problem) (records_of history)
   pub ends_at_no : FirstIsNo (records_of history) → OnlyNo (records_of history)
   pub sequential : workers ≡ 1 → IsBeginning history (own_history (reducer_of keeps problem) history)

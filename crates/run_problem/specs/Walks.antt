@@ -3,12 +3,15 @@ use Rattle.normal_form.specs.declared.normal.Sym.{Sym}
 use Rattle.normal_form.specs.Form.{NormalForm}
 use Rattle.reduce_rounds.specs.Trials.{Trials}
 use Rattle.syntax_tree.specs.Trees.{PlainTree}
+use Rattle.reduce_trees_mode.specs.Laws.{TextsAreNoLonger}
 use Rattle.reduce_trees.specs.Ends.{WalksAskCandidates, WalksBegin, WalksEndMinimal}
 use Rattle.reduce_trees.specs.Laws.{WalksAreLawful}
 
--- Reductions of trees by such rounds begin with their start, ask candidates alone, are lawful, and end at a tree that is minimal by these edits.
+-- Reductions of trees by such rounds begin with their start, ask candidates alone, which aren't longer, are lawful, and end at a tree that is minimal by
+-- these edits.
 pub record IsTreeMode (round : NormalForm → Sym → PlainTree → Trials PlainTree) (IsEdit : NormalForm → Sym → PlainTree → PlainTree → Type 0) : Type 0 where
   pub begins : WalksBegin round
   pub asks : WalksAskCandidates round
+  pub no_longer : TextsAreNoLonger
   pub lawful : WalksAreLawful round
   pub minimal : WalksEndMinimal round IsEdit

@@ -1,6 +1,7 @@
-//! What holds of two runs, by whatever workers each, for those who compare runs.
+//! What holds of two runs, by whatever workers each, for those who compare runs, and how often a reducer
+//! is answered.
 
-ghost use Rattle.run_problem.specs.Laws.{ProblemsReduceAlike, RunsReduceAlike, VerdictsAgree};
+ghost use Rattle.run_problem.specs.Laws.{AnswersAreBounded, ProblemsReduceAlike, RunsReduceAlike, VerdictsAgree};
 
 use reduce_core::lines_are_recursions;
 use reduce_trees::{hdd_is_its_recursion, perses_is_its_recursion};
@@ -26,4 +27,9 @@ pub fn runs_reduce_alike()
 /// The records of runs agree where a gate may say one verdict of each text.
 pub fn verdicts_agree<G: Gate>()
     ensures { VerdictsAgree G.may_say }
+{}
+
+/// A reducer is answered at most as often as its height says, whatever the answers are.
+pub fn answers_are_bounded()
+    ensures { AnswersAreBounded }
 {}

@@ -9,7 +9,7 @@ mod laws;
 mod problem;
 mod run;
 
-pub use laws::{problems_reduce_alike, runs_reduce_alike, verdicts_agree};
+pub use laws::{answers_are_bounded, problems_reduce_alike, runs_reduce_alike, verdicts_agree};
 pub use problem::ReadProblem;
 pub use reduce_step::TreeMode;
 pub use run::run_problem;

@@ -34,6 +34,7 @@ use reduce_trees::{
     walks_end_minimal,
 };
 use reduce_trees_input::ParsedInput;
+use reduce_trees_mode::texts_are_no_longer;
 use reduce_walk::TreeWalk;
 use run_gated::{Ran, RunFault, run_to_text};
 use script_gate_trait::Gate;
@@ -98,6 +99,7 @@ fn walk_laws<W: TreeWalk>()
 {
     walks_begin::<W>();
     walks_ask_candidates::<W>();
+    texts_are_no_longer();
     walks_are_lawful::<W>();
     walks_end_minimal::<W>();
 }

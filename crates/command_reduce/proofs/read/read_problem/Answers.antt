@@ -13,7 +13,7 @@ pub returns-in_ok-found-in-ByGrammar-clause-problem : goal.returns-in_ok-found-i
 returns-in_ok-found-in-ByGrammar-clause-problem g c =
     let files = seen g.F.Files.content g.F.Files.faults c.args.files.now in
     let trees : GrammarOptions = record { grammar = grammar_read c.in-ByGrammar.trees.grammar; mode = c.in-ByGrammar.trees.mode; squeeze = c.in-ByGrammar.trees.squeeze } in
-    subst (λ (problem : ReadProblem). ProblemRead (reduce_read c.args.line.now) files (IsReadAs (reduce_read c.args.line.now).keeps problem)) (sym c.tree_problem.ensures) (tree_read (reduce_read c.args.line.now) files trees (ap mode_of c.in-ByGrammar.is) c.in_ok-found-in-ByGrammar.found c.in_ok-found-in-ByGrammar.ensures.found)
+    subst (λ (problem : ReadProblem). ProblemRead (reduce_read c.args.line.now) files (IsReadAs (reduce_read c.args.line.now).keeps problem)) (sym c.tree_problem.ensures) (tree_read (reduce_read c.args.line.now) files trees (ap mode_of c.in-ByGrammar.is) c.inputs_are_one.ensures c.in_ok-found-in-ByGrammar.found c.in_ok-found-in-ByGrammar.ensures.found)
 
 pub returns-in_err-found-in-ByGrammar-clause-refused : goal.returns-in_err-found-in-ByGrammar-clause-refused
 returns-in_err-found-in-ByGrammar-clause-refused g c =

@@ -1,0 +1,125 @@
+-- The headline of `reduce`, a field for each of its sentences.
+use Rattle.std.specs.Prelude.{◌≡◌, ◌≢◌, ◌≤◌, ◌⊎◌, ℕ, All, List, [], ◌∷◌, Option, Some, IsSome, true, drop, length}
+use Rattle.std.specs.List.{IsDistinct}
+use Rattle.std.specs.Str.{bytes_eq}
+use Rattle.edge_io.specs.Files.{Holds, SameFiles, SameOthers}
+use Rattle.script_gate_trait.specs.declared.gate.Verdict.{Verdict}
+use Rattle.script_gate_trait.specs.declared.gate.Verdict.TheVariants.{Yes}
+use Rattle.keep_guard.specs.Keep.{holds_all}
+use Rattle.reduce_step.specs.Plan.{HasEnded, height}
+use Rattle.verdict_table.specs.TableState.{texts_of, verdict_in}
+use Rattle.reduce_journal.specs.History.{History, IsHistory, records_of}
+use Rattle.reduce_journal.specs.Journal.{journal_text}
+use Rattle.reduce_journal.specs.Report.{report_text}
+use Rattle.ordered_commit_moves.specs.Replay.{IsLegal, replay}
+use Rattle.reduce_rounds.specs.Verdicts.{HasVerdicts}
+use Rattle.run_worker.specs.RunHistory.{IsBeginning, own_history}
+use Rattle.run_gated.specs.Records.{BeginsAt, FirstIs, FirstIsNo, OnlyNo}
+use Rattle.run_problem.specs.Ends.{IsWhole}
+use Rattle.run_problem.specs.Laws.{answer_count}
+use Rattle.run_problem.specs.Problem.{EndsMinimally, IsCandidateOf, Problem, counts_of, questions_of, reduced_text, start_of}
+use Rattle.run_problem.specs.Reducer.{reducer_of}
+use Rattle.command_words.specs.Commands.{ModeOptions, ReduceOptions}
+use Rattle.command_ends.specs.Status.{IsOneOf}
+use Rattle.command_ends.specs.World.{AnyGateFailed, CallFailed, NotReached, Puts, SeenFiles, World, logs_of}
+use Rattle.command_reduce_calls.specs.Journal.{JournalBroken, JournalSoFar, JournalWhole}
+use Rattle.command_reduce.specs.Reduce.{GatesWereUsed, IsShownProblem, ProblemRead}
+
+-- the content is visible of the files that are read
+abbrev pub AreVisible : ModeOptions → ReduceOptions → SeenFiles → Type 0
+AreVisible ModeOptions.lines options files = IsSome (files.shown options.input)
+AreVisible (ModeOptions.by_grammar trees) options files = IsSome (files.shown trees.grammar.path) × IsSome (files.shown options.input)
+
+-- The problem is that of the files: the lines of the input; or its tree, by the grammar that its file spells.
+-- Each keep text occurs in its start. Where the files are visible, they have no other.
+pub record IsProblemOf (options : ReduceOptions) (files : SeenFiles) (problem : Problem) : Type 0 where
+  pub read : ProblemRead options files (λ one. one ≡ problem)
+  pub kept : holds_all options.keeps (start_of problem) ≡ true
+  pub only : AreVisible options.mode options files → (other : Problem) → ProblemRead options files (λ one. one ≡ other) → other ≡ problem
+
+-- the recorded verdicts; and the text that the recursive reduction ends with over them
+abbrev pub verdicts_of : History → List ℕ → Option Verdict
+verdicts_of history = verdict_in (records_of history)
+
+abbrev pub result_text : ReduceOptions → Problem → History → List ℕ
+result_text options problem history = reduced_text options.keeps problem (verdicts_of history)
+
+-- the reduction came to its result: status 0; or 4, where a call failed of the files, or of `out`
+abbrev pub HasResult : ℕ → Type 0
+HasResult status = IsOneOf (0 ∷ 4 ∷ []) status
+
+-- which was written whole: at 4 where no call of the files failed
+abbrev pub WasWritten : SeenFiles → SeenFiles → ℕ → Type 0
+WasWritten old new status = (status ≡ 0) ⊎ ((status ≡ 4) × (¬ CallFailed old new))
+
+-- No call failed of the files, of the gates of so many workers, of the journal and of `out`.
+pub record NoCallFailed (jobs : ℕ) (old new : World) : Type 0 where
+  pub files : ¬ CallFailed old.files new.files
+  pub gates : ¬ AnyGateFailed jobs old.gates new.gates
+  pub journal : ¬ CallFailed old.journal new.journal
+  pub out : ¬ CallFailed old.out new.out
+
+-- What a run of `reduce` with these options has done, with this status, by however many workers and however these interleaved.
+-- What is said of a content holds where the object shows it.
+pub record Headline (may_say : List ℕ → Verdict → Type 0) (options : ReduceOptions) (old new : World) (status : ℕ) : Type 0 where
+  -- the texts that were asked with their verdicts, and which of these the reduction used, in their order
+  pub history : History
+  -- what was reduced: where there is a history, the files' own problem as they were, by the grammar as it is written in its file
+  pub problem : Problem
+  pub of_files : history ≢ [] → IsProblemOf options old.files problem
+  -- ---- the result
+  -- the output file holds what the recursive reduction gives over the verdicts
+  pub written : WasWritten old.files new.files status → Holds (result_text options problem history) (new.files.shown options.output)
+  -- every other file is as before; and where there is no result, this one too
+  pub other_files : SameOthers old.files.shown new.files.shown options.output
+  pub files_kept : status ≢ 0 → status ≢ 4 → SameFiles old.files.shown new.files.shown
+  -- the start's verdict is yes, and each text that the reduction asks has one
+  pub start_yes : HasResult status → FirstIs (start_of problem) Yes (records_of history)
+  pub defined : HasResult status → HasVerdicts (verdicts_of history) (questions_of options.keeps problem (verdicts_of history))
+  -- the result's verdict is yes; it is a candidate too, with each keep text
+  pub yes_at_end : HasResult status → verdicts_of history (result_text options problem history) ≡ Some Yes
+  pub candidate : HasResult status → IsCandidateOf options.keeps problem (result_text options problem history)
+  pub keeps : HasResult status → holds_all options.keeps (result_text options problem history) ≡ true
+  -- no single edit of it has a yes: each that may be asked has its recorded no
+  pub minimal : HasResult status → EndsMinimally options.keeps problem (verdicts_of history)
+  -- ---- the verdicts
+  -- each is one that a gate may say of its text, and only `ask` gives it
+  pub said : All (λ r. may_say r.text r.verdict) (records_of history)
+  -- no text has two
+  pub distinct : IsDistinct bytes_eq (texts_of (records_of history))
+  -- the workers' gates were opened for the script and the input, and asked as often as there are records; the others are as handed in
+  pub asked : GatesWereUsed options (texts_of (records_of history)) (logs_of old.gates) (logs_of new.gates) old.journal new.journal
+  pub other_gates : drop options.jobs new.gates ≡ drop options.jobs old.gates
+  -- each text is of some of the start's lines or tokens, in the language of the grammar as it is written, and has each keep text
+  pub candidates : All (λ r. IsCandidateOf options.keeps problem r.text) (records_of history)
+  -- none is longer than the start
+  pub short : All (λ r. length r.text ≤ length (start_of problem)) (records_of history)
+  -- the first is the start, and after its no nothing was asked
+  pub first : BeginsAt (start_of problem) (records_of history)
+  pub ends_at_no : FirstIsNo (records_of history) → OnlyNo (records_of history)
+  -- ---- the journal
+  -- at 0, 4 and 8 it was opened under its name, and then got the bytes of the history, all of them and nothing else
+  pub journal : IsOneOf (0 ∷ 4 ∷ 8 ∷ []) status → JournalWhole options.journal history old.journal new.journal
+  -- at 1 and 11 too; or it is as handed in or was only opened, and there is no history
+  pub journal_so_far : IsOneOf (1 ∷ 11 ∷ []) status → JournalSoFar options.journal history old.journal new.journal
+  -- at 12 it wasn't opened, or broke off: by one worker in the last record, or in a commit after all of the history
+  pub journal_broken : status ≡ 12 → JournalBroken options.jobs options.journal history old.journal new.journal
+  -- at the others it and the gates are as handed in, and there is no history
+  pub not_reached : IsOneOf (3 ∷ 5 ∷ 6 ∷ 7 ∷ 9 ∷ 10 ∷ []) status → NotReached history old new
+  -- the history can be read back of its bytes, and no other history has them
+  pub readable : IsHistory history
+  pub only : (other : History) → IsHistory other → journal_text other ≡ journal_text history → other ≡ history
+  -- each commit answers what the reduction asks then, by an earlier record; there are at most as many as it takes answers
+  pub legal : IsLegal (reducer_of options.keeps problem) history
+  pub bounded : answer_count history ≤ height (reducer_of options.keeps problem)
+  -- where there is a result, they lead the reduction to its end
+  pub ended : HasResult status → HasEnded (replay (reducer_of options.keeps problem) history)
+  -- by one worker the history is a beginning of what one thread does over these verdicts; where there is a result, all of it
+  pub alone : options.jobs ≡ 1 → IsBeginning history (own_history (reducer_of options.keeps problem) history)
+  pub whole : HasResult status → options.jobs ≡ 1 → IsWhole options.keeps problem history
+  -- at 0 the report was put on `out`, and nothing else
+  pub report : status ≡ 0 → Puts (report_text (counts_of options.keeps problem (records_of history))) old.out new.out
+  -- ---- the run succeeds
+  -- where the input is one of its mode, with each keep text, and no call failed; unless its only verdict is no (8), or memory ran out (1)
+  pub succeeds : IsShownProblem options old.files (λ start. holds_all options.keeps start ≡ true) → NoCallFailed options.jobs old new
+      → (status ≡ 0) ⊎ ((status ≡ 8) × OnlyNo (records_of history)) ⊎ (status ≡ 1)
