@@ -5,45 +5,29 @@ ghost use Rattle.verdict_table.specs.TableState.{texts_of};
 ghost use Rattle.reduce_journal.specs.History.{records_of};
 ghost use Rattle.reduce_journal.specs.Journal.{journal_text};
 ghost use Rattle.ordered_commit_moves.specs.Replay.{replay};
-ghost use Rattle.ordered_commit.specs.Faults.{board_fault};
-ghost use Rattle.ordered_commit.specs.Kept.{IsJournal};
+ghost use Rattle.ordered_commit.specs.declared.fault.PoolFault.TheVariants.{Journal};
+ghost use Rattle.ordered_commit.specs.Kept.{BrokeWhereDue, IsJournal};
 ghost use Rattle.ordered_commit.specs.Made.{new_board};
 ghost use Rattle.ordered_commit.specs.Seats.{new_seats};
 ghost use Rattle.ordered_commit.specs.Writes.{HasSameName};
 ghost use Rattle.run_worker.specs.RunHistory.{BeginsWith, EndsAtFirst, IsHistoryOf, IsSequential, with_all_asked};
-ghost use Rattle.run_worker.specs.RunEnds.{IsCaused, JournalEnds, ReducerEnds};
+ghost use Rattle.run_worker.specs.RunEnds.{IsCaused, ReducerEnds};
 ghost use Rattle.run_worker.specs.UnderWay.{AreJournalBytes};
 
 use crate::turns::turn;
 use edge_io::Sink;
 use gate_permits::Texts;
-use ordered_commit::{Board, BoardFault, Outcome, Refused, Seat};
+use ordered_commit::{Board, Outcome, Seat};
 use reduce_step::Step;
 use script_gate_trait::Gate;
-use std::alloc::Global;
 use std::sync::Wait;
 
-/// What there is where there was no board.
-fn without_board<S, J>(alloc: Global, refused: Refused<S, J>) -> Outcome<S, J>
-    ensures front { result.front ≡ refused.front }
-    ensures journal { result.journal ≡ refused.journal }
-    ensures events { result.events.items ≡ [] }
-    ensures fault { result.fault ≡ Some (board_fault refused.fault) }
-{
-    let Refused {
-        front,
-        journal,
-        fault,
-    } = refused;
-    Outcome {
-        front,
-        journal,
-        events: Vec::new(alloc),
-        fault: Some(fault.into()),
-    }
-}
-
-/// Works on a new board of one worker, with its seat, until nothing is left to do, as [`run`] does.
+/// Asks the gate for what the reducer asks, once for each text, until it asks nothing more. It writes the
+/// history into the journal as it comes: a verdict when it comes, and an answer before the reducer is given
+/// it. A fault ends the run at once, and is in the outcome.
+///
+/// The board is a new one of one worker, with its seat. Beside the answers of the reducer and of the gate,
+/// an answer costs a look into the table, which is a search of its records and a copy of the text.
 pub fn run_alone<S: Step + Drop, G: Gate, J: Sink + Drop, W: Wait>(
     rt: &W,
     texts: &Texts,
@@ -55,17 +39,22 @@ pub fn run_alone<S: Step + Drop, G: Gate, J: Sink + Drop, W: Wait>(
     requires seats { seats.items ≡ new_seats 1 }
     requires first { S.first board.front ≡ S.plan board.front }
     requires head { IfSome (J.put_so_far board.journal) (λ put. put.bytes ≡ journal_text []) }
+
+    // The history and its records, whatever ended the run.
     ensures history { IsHistoryOf G.may_say (S.first board.front) result.events.items }
     ensures sequential { IsSequential result.fault (S.first board.front) result.events.items }
     ensures begun { BeginsWith (S.first board.front) (records_of result.events.items) }
     ensures one { EndsAtFirst (S.first board.front) (records_of result.events.items) }
     ensures asked { G.log gate.new ≡ option_map (with_all_asked (texts_of (records_of result.events.items))) (G.log gate.old) }
+
+    // The end, by the fault.
     ensures first { S.first result.front ≡ S.first board.front }
     ensures ended { ReducerEnds result.fault (S.first board.front) (S.plan result.front) (records_of result.events.items) }
     ensures replayed { result.fault ≡ None → S.plan result.front ≡ replay (S.first board.front) result.events.items }
     ensures caused { IsCaused result.fault (G.faults gate.old) (G.faults gate.new) (J.faults board.journal) (J.faults result.journal) }
     ensures journal { IfSome (J.put_so_far result.journal) (λ put. AreJournalBytes result.fault result.events.items put.bytes) }
     ensures kept { IfSome (J.put_so_far result.journal) (λ put. IsJournal result.fault result.events.items put.bytes) }
+    ensures due { result.fault ≡ Some Journal → IfSome (J.put_so_far result.journal) (λ put. BrokeWhereDue (S.first board.front) result.events.items put.bytes) }
     ensures name { HasSameName J.put_so_far board.journal result.journal }
 {
     let mut board = board;
@@ -74,50 +63,4 @@ pub fn run_alone<S: Step + Drop, G: Gate, J: Sink + Drop, W: Wait>(
     while turn(rt, texts, &mut board, &mut seat, gate) {}
     seats[0] = seat;
     board.end(seats)
-}
-
-/// Asks the gate for what the reducer asks, once for each text, until it asks nothing more, and writes the
-/// history into the journal as it comes: a verdict when it comes, and an answer before the reducer is given
-/// it. A fault ends the run at once, and is in the outcome.
-///
-/// Beside the answers of the reducer and of the gate, an answer costs a look into the table, which is a
-/// search of its records and a copy of the text.
-pub fn run<S: Step + Drop, G: Gate, J: Sink + Drop, W: Wait>(
-    rt: &W,
-    alloc: Global,
-    front: S,
-    gate: &mut G,
-    journal: J,
-) -> Outcome<S, J>
-    requires new { S.first front ≡ S.plan front }
-    requires empty { IfSome (J.put_so_far journal) (λ put. put.bytes ≡ []) }
-
-    // The history and its records, whatever ended the run.
-    ensures history { IsHistoryOf G.may_say (S.first front) result.events.items }
-    ensures sequential { IsSequential result.fault (S.first front) result.events.items }
-    ensures begun { BeginsWith (S.first front) (records_of result.events.items) }
-    ensures one { EndsAtFirst (S.first front) (records_of result.events.items) }
-    ensures asked { G.log gate.new ≡ option_map (with_all_asked (texts_of (records_of result.events.items))) (G.log gate.old) }
-
-    // The end, by the fault.
-    ensures first { S.first result.front ≡ S.first front }
-    ensures ended { ReducerEnds result.fault (S.first front) (S.plan result.front) (records_of result.events.items) }
-    ensures caused { IsCaused result.fault (G.faults gate.old) (G.faults gate.new) (J.faults journal) (J.faults result.journal) }
-    ensures journal { JournalEnds result.fault result.events.items (J.put_so_far journal) (J.put_so_far result.journal) }
-{
-    let Ok(texts) = Texts::new(alloc) else {
-        let fault = BoardFault::Memory;
-        return without_board(
-            alloc,
-            Refused {
-                front,
-                journal,
-                fault,
-            },
-        );
-    };
-    match Board::<S, G, J>::new(alloc, front, journal, 1) {
-        Err(refused) => without_board(alloc, refused),
-        Ok((board, seats)) => run_alone(rt, &texts, board, seats, gate),
-    }
 }

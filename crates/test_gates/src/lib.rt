@@ -2,7 +2,7 @@
 //!
 //! Enter by [`HoldCount::new`], which all gates of one test share, and [`HoldGate::new`]; read
 //! `specs/Held.antt` first. A run over gates of the width `w` comes to its end only if `w` asks are
-//! really under way at once: a body that asks one script at a time, or that holds a lock while it
+//! really under way at once. A body that asks one script at a time, or that holds a lock while it
 //! asks, has an ask that fails. No contract says that an ask is held; tests show it.
 #![tactic(auto)]
 

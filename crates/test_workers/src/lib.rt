@@ -1,8 +1,9 @@
 //! Tests of runs of 1, 2, 4 and 16 workers.
 //!
 //! The reduction is that of eight lines of which one has a `b` (`src/tests.rt`). However the workers
-//! interleave, it comes to that line, each gate's asks are counted, and a journal is read back. That two
-//! and four scripts really run at once is seen with gates that hold their asks.
+//! interleave, it comes to that line by the same answers, each gate's asks are counted, and the journal is
+//! read back, event by event. That two and four scripts really run at once is seen with gates that hold
+//! their asks.
 #![tactic(auto)]
 
 #[cfg(test)]

@@ -15,13 +15,68 @@ use Rattle.ordered_commit.specs.declared.fault.PoolFault.{PoolFault}
 use Rattle.ordered_commit.specs.declared.fault.PoolFault.TheVariants.{Journal, Script}
 use Rattle.ordered_commit.specs.declared.outcome.Outcome.{Outcome}
 use Rattle.ordered_commit.specs.declared.seat.Seat.{Seat}
-use Rattle.ordered_commit.specs.Kept.{BeginsWithin, IsJournal}
+use Rattle.ordered_commit.specs.Kept.{BeginsWithin, BrokeWhereDue, IsJournal}
 use Rattle.run_worker.specs.RunHistory.{BeginsWith, EndsAtFirst, IsHistoryOf, IsSequential, with_all_asked}
 use Rattle.run_worker.specs.RunEnds.{IsCaused, ReducerEnds}
 use Rattle.run_worker.specs.UnderWay.{AreJournalBytes}
 use Rattle.worker_pool.specs.declared.worker.Worker.{Worker}
 use Rattle.worker_pool.specs.Runs.{RunMembers}
 use Rattle.worker_pool.specs.Work.{HasWorked}
+
+-- a gate answered so often, where its asks are visible; its opening is as it was
+pub record HasAnswered (count : ℕ) (old new : Option Log) : Type 0 where
+  pub texts : List (List ℕ)
+  pub counted : length texts ≡ count
+  pub answered : new ≡ option_map (with_all_asked texts) old
+
+-- The worker of this number, from 1, whose gate answered so often: it failed where the fault is that of its script, and did not where there is no fault.
+pub record IsDone {G : Type 0} (log : G → Option Log) (faults : G → ℕ) (fault : Option PoolFault) (worker count : ℕ) (old new : Worker G) : Type 0 where
+  pub number : new.number ≡ old.number
+  pub unseated : new.seat ≡ None
+  pub answered : HasAnswered count (log old.gate) (log new.gate)
+  pub failed : fault ≡ Some (Script worker) → Rose (faults old.gate) (faults new.gate)
+  pub quiet : fault ≡ None → faults new.gate ≡ faults old.gate
+
+-- What each worker did, by how often each gate answered: as often, in all, as there are records.
+pub record AreDone {G : Type 0} (log : G → Option Log) (faults : G → ℕ) (fault : Option PoolFault) (history : History) (old new : List (Worker G)) : Type 0 where
+  pub counts : List ℕ
+  pub one_each : length counts ≡ length old
+  pub lengths : length new ≡ length old
+  pub each : (i : ℕ) (d : Worker G) → i < length old → IsDone log faults fault (suc i) (slice_index_or counts i 0) (slice_index_or old i d) (slice_index_or new i d)
+  pub total : sum counts ≡ length (records_of history)
+  -- a script's fault names one of the workers
+  pub named : (worker : ℕ) → fault ≡ Some (Script worker) → (1 ≤ worker) × (worker ≤ length old)
+
+-- What the outcome is, whatever ended the run, and however the workers interleaved.
+pub record IsOutcome {S J : Type 0} (plan first : S → Plan) (may_say : List ℕ → Verdict → Type 0) (put_so_far : J → Option Put) (faults : J → ℕ) (run : RunMembers) (outcome : Outcome S J) : Type 0 where
+  -- the history is one that the reducer can have; the first record is of a text that was ahead of it at the start
+  pub history : IsHistoryOf may_say run.first outcome.events.items
+  pub begins : BeginsWithin (ahead (2 * run.workers) run.first) (records_of outcome.events.items) []
+  pub same_first : first outcome.front ≡ run.first
+  -- where the no of the text that is asked first ends the reducer, the first record is of that text, and the only one if it ends the reducer
+  pub start : HasEnded (after run.first No) → BeginsWith run.first (records_of outcome.events.items) × EndsAtFirst run.first (records_of outcome.events.items)
+  -- where no fault is kept the front has ended, as what one thread comes to over the records
+  pub ended : outcome.fault ≡ None → HasEnded (plan outcome.front) × (plan outcome.front ≡ follow (verdict_in (records_of outcome.events.items)) run.first)
+  -- and its answers are the commits of the history, in their order
+  pub replayed : outcome.fault ≡ None → plan outcome.front ≡ replay run.first outcome.events.items
+  -- the journal has the history, or broke off, in a commit only where that was due, under the name that it had; its count rose exactly where a fault of it is kept
+  pub journal : IfSome (put_so_far outcome.journal) (λ put. IsJournal outcome.fault outcome.events.items put.bytes)
+  pub due : outcome.fault ≡ Some Journal → IfSome (put_so_far outcome.journal) (λ put. BrokeWhereDue run.first outcome.events.items put.bytes)
+  pub same_name : option_map (λ put. put.name) (put_so_far outcome.journal) ≡ run.name
+  pub rose : outcome.fault ≡ Some Journal → Rose run.faults (faults outcome.journal)
+  pub quiet : outcome.fault ≢ Some Journal → faults outcome.journal ≡ run.faults
+
+-- What one worker comes to: the history is what one thread does over its records, and the only gate was asked for their texts, in their order.
+pub record IsOfOne {S J G : Type 0} (plan : S → Plan) (log : G → Option Log) (gate_faults : G → ℕ) (put_so_far : J → Option Put) (faults : J → ℕ) (run : RunMembers) (outcome : Outcome S J) (old new : Worker G) : Type 0 where
+  pub sequential : IsSequential outcome.fault run.first outcome.events.items
+  pub begun : BeginsWith run.first (records_of outcome.events.items)
+  pub one : EndsAtFirst run.first (records_of outcome.events.items)
+  pub asked : log new.gate ≡ option_map (with_all_asked (texts_of (records_of outcome.events.items))) (log old.gate)
+  pub ended : ReducerEnds outcome.fault run.first (plan outcome.front) (records_of outcome.events.items)
+  pub caused : IsCaused outcome.fault (gate_faults old.gate) (gate_faults new.gate) run.faults (faults outcome.journal)
+  pub journal : IfSome (put_so_far outcome.journal) (λ put. AreJournalBytes outcome.fault outcome.events.items put.bytes)
+
+-- ---- between the workers' end and the run's
 
 -- the worker worked from this seat on, and has its last seat, without a claim
 pub record HasWorkedFrom {G : Type 0} (log : G → Option Log) (faults : G → ℕ) (seat : Seat) (old new : Worker G) : Type 0 where
@@ -56,12 +111,6 @@ pub record IsTaken {G : Type 0} (log : G → Option Log) (faults : G → ℕ) (s
   pub had : old.seat ≡ Some last
   pub worked : HasWorked last seat' (log old.gate) (log new.gate) (faults old.gate) (faults new.gate)
 
--- a gate answered so often, where its asks are visible; its opening is as it was
-pub record HasAnswered (count : ℕ) (old new : Option Log) : Type 0 where
-  pub texts : List (List ℕ)
-  pub counted : length texts ≡ count
-  pub answered : new ≡ option_map (with_all_asked texts) old
-
 -- the worker ended with this seat, which was taken back, and has the number that it had
 pub record HasDone {G : Type 0} (log : G → Option Log) (faults : G → ℕ) (worker : ℕ) (seat : Seat) (old new : Worker G) : Type 0 where
   pub same_worker : seat.worker ≡ worker
@@ -70,49 +119,3 @@ pub record HasDone {G : Type 0} (log : G → Option Log) (faults : G → ℕ) (w
   pub answered : HasAnswered seat.records (log old.gate) (log new.gate)
   pub failed : seat.failed ≡ true → Rose (faults old.gate) (faults new.gate)
   pub quiet : seat.failed ≡ false → faults new.gate ≡ faults old.gate
-
--- The worker of this number, from 1, in a run that this fault ended, if one did: it has no seat, and the number that it had; its gate answered so often; where the fault is that of its script, its gate failed; and without a fault it did not.
-pub record IsDone {G : Type 0} (log : G → Option Log) (faults : G → ℕ) (fault : Option PoolFault) (worker count : ℕ) (old new : Worker G) : Type 0 where
-  pub number : new.number ≡ old.number
-  pub unseated : new.seat ≡ None
-  pub answered : HasAnswered count (log old.gate) (log new.gate)
-  pub failed : fault ≡ Some (Script worker) → Rose (faults old.gate) (faults new.gate)
-  pub quiet : fault ≡ None → faults new.gate ≡ faults old.gate
-
--- What each worker did, by how often each gate answered: as often, in all, as there are records.
-pub record AreDone {G : Type 0} (log : G → Option Log) (faults : G → ℕ) (fault : Option PoolFault) (history : History) (old new : List (Worker G)) : Type 0 where
-  pub counts : List ℕ
-  pub one_each : length counts ≡ length old
-  pub lengths : length new ≡ length old
-  pub each : (i : ℕ) (d : Worker G) → i < length old → IsDone log faults fault (suc i) (slice_index_or counts i 0) (slice_index_or old i d) (slice_index_or new i d)
-  pub total : sum counts ≡ length (records_of history)
-  -- a script's fault names one of the workers
-  pub named : (worker : ℕ) → fault ≡ Some (Script worker) → (1 ≤ worker) × (worker ≤ length old)
-
--- What the outcome is, whatever ended the run, and however the workers interleaved.
-pub record IsOutcome {S J : Type 0} (plan first : S → Plan) (may_say : List ℕ → Verdict → Type 0) (put_so_far : J → Option Put) (faults : J → ℕ) (run : RunMembers) (outcome : Outcome S J) : Type 0 where
-  -- the history is one that the reducer can have; the first record is of a text that was ahead of it at the start
-  pub history : IsHistoryOf may_say run.first outcome.events.items
-  pub begins : BeginsWithin (ahead (2 * run.workers) run.first) (records_of outcome.events.items) []
-  pub same_first : first outcome.front ≡ run.first
-  -- where the no of the text that is asked first ends the reducer, the first record is of that text, and the only one if it ends the reducer
-  pub start : HasEnded (after run.first No) → BeginsWith run.first (records_of outcome.events.items) × EndsAtFirst run.first (records_of outcome.events.items)
-  -- where no fault is kept the front has ended, as what one thread comes to over the records
-  pub ended : outcome.fault ≡ None → HasEnded (plan outcome.front) × (plan outcome.front ≡ follow (verdict_in (records_of outcome.events.items)) run.first)
-  -- and its answers are the commits of the history, in their order
-  pub replayed : outcome.fault ≡ None → plan outcome.front ≡ replay run.first outcome.events.items
-  -- the journal has the history, under the name that it had; its count rose exactly where a fault of it is kept
-  pub journal : IfSome (put_so_far outcome.journal) (λ put. IsJournal outcome.fault outcome.events.items put.bytes)
-  pub same_name : option_map (λ put. put.name) (put_so_far outcome.journal) ≡ run.name
-  pub rose : outcome.fault ≡ Some Journal → Rose run.faults (faults outcome.journal)
-  pub quiet : outcome.fault ≢ Some Journal → faults outcome.journal ≡ run.faults
-
--- What one worker comes to: the history is what one thread does over its records, and the only gate was asked for their texts, in their order.
-pub record IsOfOne {S J G : Type 0} (plan : S → Plan) (log : G → Option Log) (gate_faults : G → ℕ) (put_so_far : J → Option Put) (faults : J → ℕ) (run : RunMembers) (outcome : Outcome S J) (old new : Worker G) : Type 0 where
-  pub sequential : IsSequential outcome.fault run.first outcome.events.items
-  pub begun : BeginsWith run.first (records_of outcome.events.items)
-  pub one : EndsAtFirst run.first (records_of outcome.events.items)
-  pub asked : log new.gate ≡ option_map (with_all_asked (texts_of (records_of outcome.events.items))) (log old.gate)
-  pub ended : ReducerEnds outcome.fault run.first (plan outcome.front) (records_of outcome.events.items)
-  pub caused : IsCaused outcome.fault (gate_faults old.gate) (gate_faults new.gate) run.faults (faults outcome.journal)
-  pub journal : IfSome (put_so_far outcome.journal) (λ put. AreJournalBytes outcome.fault outcome.events.items put.bytes)

@@ -6,14 +6,18 @@ use super::outcomes::has_come_to;
 use crate::small_step::SmallStep;
 use edge_io::MemSink;
 use faults::Memory;
-use ordered_commit::{Outcome, PoolFault};
+use gate_permits::Texts;
+use ordered_commit::{Board, BoardFault, Outcome, PoolFault, Refused};
 use reduce_journal::read_journal;
 use reduce_step::Step;
-use run_worker::run;
+use run_worker::run_alone;
 use script_gate_trait::{Gate, ListGate, RuleGate, Said};
 use std::alloc::Global;
 use std::sync::Wait;
 use std::test::Fail;
+
+/// What a run comes to, or what is handed back where there is no board.
+type Came = Result<Outcome<SmallStep, MemSink>, Refused<SmallStep, MemSink>>;
 
 /// The run over this gate, with a journal that takes so many bytes, and whose puts of these numbers fail;
 /// from 1.
@@ -23,10 +27,16 @@ fn run_over<G: Gate, W: Wait>(
     gate: &mut G,
     size: u64,
     fail: &[u64],
-) -> Result<Outcome<SmallStep, MemSink>, Memory> {
+) -> Result<Came, Memory> {
     let fail = Vec::from_slice(alloc, fail)?;
     let journal = MemSink::new(alloc, size, fail)?;
-    Ok(run(rt, alloc, SmallStep::new(alloc), gate, journal))
+    let Ok(texts) = Texts::new(alloc) else {
+        return Err(Memory);
+    };
+    match Board::<SmallStep, G, MemSink>::new(alloc, SmallStep::new(alloc), journal, 1) {
+        Err(refused) => Ok(Err(refused)),
+        Ok((board, seats)) => Ok(Ok(run_alone(rt, &texts, board, seats, gate))),
+    }
 }
 
 /// What a run is to come to: its fault, how many events it has, its journal, and whether the reducer asks
@@ -47,7 +57,9 @@ fn comes_to<G: Gate, W: Wait>(
     size: u64,
     wanted: &Wanted,
 ) -> Result<bool, Memory> {
-    let outcome = run_over(rt, alloc, gate, size, &[])?;
+    let Ok(outcome) = run_over(rt, alloc, gate, size, &[])? else {
+        return Ok(false);
+    };
     let has_come = has_come_to(&outcome, wanted.fault, wanted.events, wanted.journal);
     Ok(has_come && outcome.front.asks().is_some() == wanted.asks)
 }
@@ -89,8 +101,10 @@ fn broken_at<W: Wait>(
     put: u64,
 ) -> Result<(MemSink, Option<PoolFault>), Memory> {
     let mut gate = RuleGate::<98>::new(alloc, false);
-    let outcome = run_over(rt, alloc, &mut gate, 1000, &[put])?;
-    Ok((outcome.journal, outcome.fault))
+    match run_over(rt, alloc, &mut gate, 1000, &[put])? {
+        Ok(outcome) => Ok((outcome.journal, outcome.fault)),
+        Err(refused) => Ok((refused.journal, Some(refused.fault.into()))),
+    }
 }
 
 /// How many puts the journal takes: its first line, three for each of five records, one for each of six commits.
@@ -119,12 +133,12 @@ fn stops_where_the_journal_breaks_off(rt: HostRuntime) -> Result<(), Fail> {
 #[test]
 fn hands_all_back_where_the_first_line_does_not_fit(rt: HostRuntime) -> Result<(), Fail> {
     let mut gate = RuleGate::<98>::new(rt.alloc(), true);
-    let wanted = Wanted {
-        fault: Some(PoolFault::Journal),
-        events: 0,
-        journal: b"",
-        asks: true,
+    let Err(refused) = run_over(&rt, rt.alloc(), &mut gate, 10, &[])? else {
+        return Err("no board")?;
     };
-    assert!(rt; comes_to(&rt, rt.alloc(), &mut gate, 10, &wanted)?);
+    assert_eq!(rt; refused.fault, BoardFault::Journal);
+    assert_eq!(rt; refused.journal.bytes().len(), 0);
+    assert_eq!(rt; refused.front.asks().is_some(), true);
+    assert_eq!(rt; gate.log().map(|log| log.asked.len()), Some(0));
     Ok(())
 }

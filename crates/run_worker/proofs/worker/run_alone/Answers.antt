@@ -2,7 +2,7 @@ use Rattle.std.proofs.Common.{IfSome, ap, option_map, subst, sym, ◌∙◌}
 use Rattle.reduce_journal.specs.History.{records_of}
 use Rattle.verdict_table.specs.TableState.{texts_of}
 use Rattle.ordered_commit_moves.specs.Replay.{replay}
-use Rattle.ordered_commit.specs.Kept.{IsJournal}
+use Rattle.ordered_commit.specs.Kept.{BrokeWhereDue, IsJournal}
 use Rattle.run_worker.specs.RunHistory.{IsHistoryOf, IsSequential, with_all_asked}
 use Rattle.run_worker.specs.RunEnds.{IsCaused, ReducerEnds}
 use Rattle.run_worker.specs.UnderWay.{AreJournalBytes}
@@ -67,6 +67,16 @@ returns-clause-caused g c =
     let way = c.turn.ensures.way _ c.loop.invariant.way in
     subst (λ fault. IsCaused fault (g.G.Gate.faults c.args.gate.now) (g.G.Gate.faults c.turn.new.gate) (g.J.Sink.faults c.args.board.journal) (g.J.Sink.faults c.end.result.journal)) (sym c.end.ensures.fault)
     (subst (λ journal. IsCaused c.turn.new.board.fault (g.G.Gate.faults c.args.gate.now) (g.G.Gate.faults c.turn.new.gate) (g.J.Sink.faults c.args.board.journal) (g.J.Sink.faults journal)) (sym c.end.ensures.journal) way.caused)
+
+pub returns-clause-due : goal.returns-clause-due
+returns-clause-due g c = λ broken.
+    let way = c.turn.ensures.way _ c.loop.invariant.way in
+    let put = g.J.Sink.put_so_far in
+    let first = g.S.Step.first c.args.board.front in
+    subst (λ journal. IfSome (put journal) (λ p. BrokeWhereDue first c.end.result.events.items p.bytes)) (sym c.end.ensures.journal)
+    (subst (λ history. IfSome (put c.turn.new.board.journal) (λ p. BrokeWhereDue first history p.bytes)) (sym c.end.ensures.events)
+    (subst (λ start. IfSome (put c.turn.new.board.journal) (λ p. BrokeWhereDue start c.turn.new.board.history p.bytes)) way.same_first
+    (c.end.ensures.kept.due (sym c.end.ensures.fault ∙ broken))))
 
 pub returns-clause-name : goal.returns-clause-name
 returns-clause-name g c =

@@ -7,7 +7,7 @@ use Rattle.verdict_table.specs.TableState.{verdict_in}
 use Rattle.reduce_journal.specs.History.{History, records_of}
 use Rattle.ordered_commit_moves.specs.Replay.{replay}
 use Rattle.ordered_commit.specs.declared.fault.PoolFault.{PoolFault}
-use Rattle.ordered_commit.specs.Kept.{BeginsWithin, IsJournal, IsOfWorker}
+use Rattle.ordered_commit.specs.Kept.{BeginsWithin, BrokeWhereDue, IsJournal, IsOfWorker}
 use Rattle.ordered_commit.specs.Seats.{new_seat}
 use Rattle.std.specs.List.{sum}
 use Rattle.ordered_commit.specs.declared.seat.Seat.{Seat}
@@ -66,6 +66,10 @@ returns-clause-outcome g c =
       journal = subst (λ journal. IfSome (put journal) (λ p. IsJournal out.fault out.events.items p.bytes)) (sym end.journal)
           (subst (λ fault. IfSome (put state.journal) (λ p. IsJournal fault out.events.items p.bytes)) (sym end.fault)
           (subst (λ history. IfSome (put state.journal) (λ p. IsJournal state.fault history p.bytes)) (sym end.events) end.kept.journal));
+      due = λ broken.
+          subst (λ journal. IfSome (put journal) (λ p. BrokeWhereDue first out.events.items p.bytes)) (sym end.journal)
+          (subst (λ history. IfSome (put state.journal) (λ p. BrokeWhereDue first history p.bytes)) (sym end.events)
+          (subst (λ (start : Plan). IfSome (put state.journal) (λ p. BrokeWhereDue start state.history p.bytes)) run.same_first (end.kept.due (sym end.fault ∙ broken))));
       same_name = ap (λ journal. option_map (λ p. p.name) (put journal)) end.journal ∙ run.same_name;
       rose = λ is. subst (λ journal. Rose (faults c.args.board.journal) (faults journal)) (sym end.journal) (run.rose (sym end.fault ∙ is));
       quiet = λ no. ap faults end.journal ∙ run.quiet (λ is. no (end.fault ∙ is));

@@ -26,6 +26,7 @@ returns-clause-outcome g c =
       ended = ended_by out.fault first (g.S.Step.plan out.front) (records_of out.events.items) alone.ended;
       replayed = alone.replayed;
       journal = alone.kept;
+      due = alone.due;
       same_name = alone.name;
       rose = rose_by out.fault _ _ _ _ alone.caused;
       quiet = quiet_by out.fault _ _ _ _ alone.caused;

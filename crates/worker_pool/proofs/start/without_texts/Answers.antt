@@ -41,6 +41,7 @@ returns-clause-outcome g c =
       replayed = λ is. absurd (cc is);
       journal = subst (λ journal. IfSome (put journal) (λ p. IsJournal (Some Memory) out.events.items p.bytes)) (sym end.journal)
           (subst (λ (h : History). IfSome (put c.args.board.journal) (λ p. IsJournal (Some Memory) h p.bytes)) (sym none) head);
+      due = λ is. absurd (cc is);
       same_name = ap (λ journal. option_map (λ p. p.name) (put journal)) end.journal;
       rose = λ is. absurd (cc is);
       quiet = λ _. ap faults end.journal;
