@@ -1,7 +1,7 @@
 //! Lexes and parses a text so many times, and prints how many tokens it has, and, where it is parsed, how
-//! many nodes its tree has: `bench_texts TEXT LEXED PARSED` by the grammar Mini, and
-//! `bench_texts TEXT LEXED PARSED GRAMMAR` by the grammar in a file. `bench/lexer`, `bench/parser` and
-//! `bench/grammars` run it and take the times.
+//! many nodes its tree has, or without a tree how many tokens begin a text that has one:
+//! `bench_texts TEXT LEXED PARSED` by the grammar Mini, and `bench_texts TEXT LEXED PARSED GRAMMAR` by
+//! the grammar in a file. `bench/lexer`, `bench/parser` and `bench/grammars` run it and take the times.
 #![tactic(auto)]
 
 mod lexing;

@@ -1,7 +1,8 @@
 //! Comparison of the parser with the plain one.
 
-use crate::lists::{advance, first_list};
+use crate::lists::lists_up_to;
 use crate::plain::{Forest, Plain, PlainNode, preferred};
+use crate::prefixes::Derived;
 use anyhow::{Result, bail};
 use cases_answers::start_tree;
 use grammar_tree::Checked;
@@ -21,11 +22,11 @@ struct Language {
     normal: Normal,
 }
 
-/// How many lists were compared, and how many of them have a tree.
+/// Up to which lengths lists are compared: by their trees, and by their longest beginnings.
 #[derive(Clone, Copy)]
-struct Counts {
-    lists: u64,
-    derived: u64,
+pub(crate) struct Lengths {
+    pub(crate) trees: u32,
+    pub(crate) beginnings: u32,
 }
 
 /// The language of the grammar that the text spells.
@@ -104,38 +105,35 @@ fn compare_list(alloc: Global, language: &Language, kinds: &[u32]) -> Result<boo
     Ok(answer.is_some())
 }
 
-/// Compares the answers for all lists of so many kinds.
-fn compare_length(
-    alloc: Global,
-    language: &Language,
-    length: u32,
-    counts: Counts,
-) -> Result<Counts> {
-    let kinds = language.checked.kinds().len();
-    let mut counts = counts;
-    let mut list = first_list(alloc, length)?;
-    for _ in 0..u64::MAX {
-        counts.lists = counts.lists.saturating_add(1);
-        if compare_list(alloc, language, &list)? {
-            counts.derived = counts.derived.saturating_add(1);
-        }
-        if !advance(&mut list, kinds) {
-            return Ok(counts);
+/// Compares the answers for the lists, and gives those that have a tree.
+fn derived_lists(alloc: Global, language: &Language, lists: &[Vec<u32>]) -> Result<Vec<Vec<u32>>> {
+    let mut derived = Vec::new(alloc);
+    for list in lists {
+        if compare_list(alloc, language, list)? {
+            derived.push(list.clone()?)?;
         }
     }
-    bail!("there are too many lists")
+    Ok(derived)
 }
 
-/// Compares the answers for all lists of up to so many kinds, and says how many there are.
-pub(crate) fn compared(alloc: Global, grammar: &str, longest: u32) -> Result<String> {
+/// Compares the answers for all lists up to the lengths, and says how many there are.
+pub(crate) fn compared(alloc: Global, grammar: &str, lengths: Lengths) -> Result<String> {
     let language = language_of(alloc, grammar)?;
-    let mut counts = Counts {
-        lists: 0,
-        derived: 0,
+    let kinds = language.checked.kinds().len();
+    let lists = lists_up_to(alloc, kinds, lengths.trees)?;
+    let derived = derived_lists(alloc, &language, &lists)?;
+    let short = lists_up_to(alloc, kinds, lengths.beginnings)?;
+    let plain = Derived {
+        alloc,
+        normal: &language.normal,
+        kinds,
+        lists: &derived,
     };
-    for length in 0..=longest {
-        counts = compare_length(alloc, &language, length, counts)?;
-    }
-    let Counts { lists, derived } = counts;
-    Ok(format!(in alloc; "{derived} of {lists} lists have a tree, and all answers are the same")?)
+    let viable = plain.viable_count(&short)?;
+    Ok(format!(in alloc;
+        "{} of {} lists have a tree, {viable} of {} begin one that has, and all answers are the same",
+        derived.len(),
+        lists.len(),
+        short.len()
+    )?)
 }

@@ -1,27 +1,40 @@
-//! Compares the parser with a plain one on all short lists of kinds, for the gate.
+//! Compares the parser and the longest viable beginnings with plain ones on all short lists of kinds, for
+//! the gate.
 //!
-//! A line of the input is a length and a grammar, with a blank between. For each list of at most so
-//! many of the grammar's kinds the parser's answer has to be the preferred one of all trees, or none
-//! where there are none. The program prints how many lists there are and how many of them have a tree,
-//! and ends with the first list for which something differs. The numbers in `stdout` are counted from
-//! the grammars by hand.
+//! A line of the input is two lengths and a grammar, with blanks between. For each list of at most so
+//! many of the grammar's kinds as the first length says, the parser's answer has to be the preferred
+//! one of all trees, or none where there are none. For each list of at most so many as the second
+//! length says, its longest beginning, and what can follow it, have to be those that the lists with a
+//! tree show. For that the first length has to be enough: each beginning of a list with a tree, of at
+//! most one kind more than the second length, has to begin one of these lists. The program prints how
+//! many lists there are, and how many of them have a tree or begin one that has, and ends with the
+//! first list for which something differs. The numbers in `stdout` are counted from the grammars by
+//! hand.
 #![tactic(auto)]
 
 mod compare;
 mod lists;
 mod plain;
+mod prefixes;
 
-use crate::compare::compared;
+use crate::compare::{Lengths, compared};
 use anyhow::{Result, bail};
 
 fn main(rt: HostRuntime) -> Result<()> {
     let alloc = rt.alloc();
     for line in rt.lines(alloc) {
         let line = line?;
-        let Some((longest, grammar)) = line.as_str().split_once(' ') else {
-            bail!("give a length and a grammar");
+        let Some((trees, rest)) = line.as_str().split_once(' ') else {
+            bail!("give two lengths and a grammar");
         };
-        let answer = compared(alloc, grammar, longest.parse::<u32>()?)?;
+        let Some((beginnings, grammar)) = rest.split_once(' ') else {
+            bail!("give two lengths and a grammar");
+        };
+        let lengths = Lengths {
+            trees: trees.parse::<u32>()?,
+            beginnings: beginnings.parse::<u32>()?,
+        };
+        let answer = compared(alloc, grammar, lengths)?;
         println!(rt; "{line}\n    {answer}")?;
     }
     Ok(())

@@ -1,0 +1,24 @@
+use Rattle.std.proofs.Common.{ap, get_or, sym, ◌&&◌, ◌∙◌}
+use Rattle.chart_parser_prefix.specs.Productive.{passes}
+use Rattle.normal_form.specs.declared.normal.Sym.TheVariants.{Kind}
+use Rattle.std.proofs.lemmas.List.{take_all}
+use Rattle.std.proofs.lemmas.List.Folds.{list_all_at, list_all_more}
+use Rattle.std.specs.List.{list_all}
+use Rattle.chart_parser_prefix.proofs.productive.all_pass.Goals as goal
+
+pub returns-then-not-symbol_passes : goal.returns-then-not-symbol_passes
+returns-then-not-symbol_passes c =
+    let p = passes c.args.normal.now c.args.flags.now in
+    sym (list_all_at p c.args.symbols.now c.loop-symbol.symbol-index (Kind 0) c.loop-symbol-test.true (sym c.symbol_passes.ensures ∙ c.if-not-symbol_passes.true))
+
+pub loop-symbol-preserved : goal.loop-symbol-preserved
+loop-symbol-preserved c =
+    let p = passes c.args.normal.now c.args.flags.now in
+    let i = c.loop-symbol.symbol-index in
+    let symbols = c.args.symbols.now in
+    list_all_more p symbols i (Kind 0) c.loop-symbol-test.true ∙ ap (λ b. b && p (get_or symbols i (Kind 0))) c.loop-symbol.invariant ∙ sym c.symbol_passes.ensures ∙ c.if-not-symbol_passes.false
+
+pub returns : goal.returns
+returns c =
+    let p = passes c.args.normal.now c.args.flags.now in
+    sym (ap (list_all p) (sym (take_all c.loop-symbol.symbol-index c.args.symbols.now c.loop-symbol-test.false)) ∙ c.loop-symbol.invariant)
