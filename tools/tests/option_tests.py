@@ -40,6 +40,20 @@ def options_of_zsh(command):
     return re.findall(r"'\*?--(\w+)=?\[", part.group(1))
 
 
+def options_of_usage(command):
+    """Those of the usage: a line each for `reduce`, and in its own line for another command."""
+    text = read("crates/notice_words/src/usage.rt")
+    if command == "reduce":
+        return re.findall(r"^  --(\w+)", text, re.M)
+    return re.findall(r"--(\w+)", re.search(rf"perses {command} (.*)", text).group(1))
+
+
+def options_of_faults(command):
+    """The names by which the fault of a command line is named."""
+    names = re.search(rf"\nstatic {command.upper()}: .*? = \[(.*?)\];", read("crates/notice_words/src/rows.rt"), re.S)
+    return re.findall(r'"(\w+)"', names.group(1))
+
+
 class Options(unittest.TestCase):
     def are_those_of_the_table(self, named):
         for command in COMMANDS:
@@ -48,6 +62,12 @@ class Options(unittest.TestCase):
 
     def test_table_is_found(self):
         self.assertEqual([len(options_of_table(command)) for command in COMMANDS], [11, 2, 3])
+
+    def test_usage_names_each_option(self):
+        self.are_those_of_the_table(options_of_usage)
+
+    def test_faults_name_each_option(self):
+        self.are_those_of_the_table(options_of_faults)
 
     def test_manual_names_each_option(self):
         self.are_those_of_the_table(options_of_manual)

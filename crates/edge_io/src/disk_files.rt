@@ -2,11 +2,18 @@ ghost use Rattle.std.specs.Prelude.{◌≡◌, ◌≤◌, IfOk, IsErrOf, vec_len
 ghost use Rattle.edge_io.specs.Calls.{CountsFault};
 
 use crate::files::{FileFault, Files, WriteFault};
-use crate::machine::{count_failure, write_whole};
-use std::alloc::Global;
+use crate::machine::{keep_failure, write_whole};
+use std::alloc::{AllocError, Global};
 use std::io::Read;
 use std::marker::Model;
 use std::{fs, io};
+
+/// A file that was read: its name, and its bytes.
+#[derive(Drop)]
+struct FirstRead {
+    name: String,
+    bytes: Vec<u8>,
+}
 
 /// The files of the machine. Their content isn't visible to contracts, which see the count of their faults alone.
 #[derive(Drop)]
@@ -14,6 +21,8 @@ pub struct DiskFiles<R: std::rt::Files> {
     rt: R,
     alloc: Global,
     faults: u64,
+    reason: Option<io::Error>,
+    reads: Vec<FirstRead>,
 }
 
 impl<R: std::rt::Files> Model for DiskFiles<R> {
@@ -33,7 +42,20 @@ impl<R: std::rt::Files> DiskFiles<R> {
             rt,
             alloc,
             faults: 0,
+            reason: None,
+            reads: Vec::new(alloc),
         }
+    }
+
+    /// Why the last call failed that counted as a fault; none before the first.
+    pub fn reason(&self) -> Option<io::Error> {
+        self.reason
+    }
+
+    /// What was read of this name first. None where nothing was, or memory ran out for a copy of it.
+    pub fn first_read(&self, name: &str) -> Option<&[u8]> {
+        let read = self.reads.iter().find(|read| read.name.as_str() == name)?;
+        Some(read.bytes.as_slice())
     }
 }
 
@@ -47,6 +69,21 @@ fn read_start<R: std::rt::Files>(
     let mut bytes = Vec::new(alloc);
     fs::open(rt, name)?.take(most).read_to_end(&mut bytes)?;
     Ok(bytes)
+}
+
+// Keeps a copy of what was read, where there is memory for it.
+fn keep_read(
+    reads: &mut Vec<FirstRead>,
+    alloc: Global,
+    name: &str,
+    bytes: &[u8],
+) -> Result<(), AllocError> {
+    let copy = FirstRead {
+        name: String::from_str(alloc, name)?,
+        bytes: Vec::from_slice(alloc, bytes)?,
+    };
+    let _ = reads.push(copy);
+    Ok(())
 }
 
 impl<R: std::rt::Files> Files for DiskFiles<R> {
@@ -64,8 +101,13 @@ impl<R: std::rt::Files> Files for DiskFiles<R> {
         // A file that is too long has one byte more than the limit.
         match read_start(&self.rt, self.alloc, name, limit.saturating_add(1)) {
             Ok(bytes) if bytes.len() as u64 > limit => Err(FileFault::TooLong),
-            Ok(bytes) => Ok(bytes),
-            Err(error) if count_failure(&mut self.faults, &error) => Err(FileFault::Failed),
+            Ok(bytes) => {
+                let _ = keep_read(&mut self.reads, self.alloc, name, bytes.as_slice());
+                Ok(bytes)
+            }
+            Err(error) if keep_failure(&mut self.faults, &mut self.reason, error) => {
+                Err(FileFault::Failed)
+            }
             Err(_) => Err(FileFault::Memory),
         }
     }
@@ -77,11 +119,14 @@ impl<R: std::rt::Files> Files for DiskFiles<R> {
     {
         let mut file = match fs::create(&self.rt, name) {
             Ok(file) => file,
-            Err(error) if count_failure(&mut self.faults, &error) => return Err(WriteFault::Failed),
+            Err(error) if keep_failure(&mut self.faults, &mut self.reason, error) => {
+                return Err(WriteFault::Failed);
+            }
             Err(_) => return Err(WriteFault::Memory),
         };
-        if write_whole(&mut file, bytes).is_err() {
+        if let Err(error) = write_whole(&mut file, bytes) {
             self.faults = self.faults.saturating_add(1);
+            self.reason = Some(error);
             return Err(WriteFault::Failed);
         }
         Ok(())

@@ -4,8 +4,9 @@
 //! are generic over; read `specs/Files.antt` and `specs/Sink.antt` first. A count of faults rises
 //! exactly where a call answers that it failed. [`MemFiles`], [`MemSink`] and [`NullSink`] are in
 //! memory; [`DiskFiles`] and [`StreamSink`] reach the machine, and contracts see nothing of them but
-//! their counts. A read changes no file; a write changes no other file than its own. So a program reads
-//! its input:
+//! their counts. Both keep the reason of the last failure that they counted, and the files what they
+//! read, for who says on standard error what went wrong. A read changes no file; a write changes no
+//! other file than its own. So a program reads its input:
 //!
 //! ```
 //! let mut files = DiskFiles::new(rt.clone()?, rt.alloc());

@@ -30,3 +30,21 @@ pub fn count_failure(faults: &mut u64, error: &io::Error) -> bool
     *faults = faults.saturating_add(1);
     true
 }
+
+/// Counts the error of a call that failed, keeps it, and answers true. Where the program itself had no
+/// memory it does neither, and answers false.
+pub(crate) fn keep_failure(
+    faults: &mut u64,
+    reason: &mut Option<io::Error>,
+    error: io::Error,
+) -> bool
+    ensures memory { (result ≡ false) ↔ IsOutOfMemory error }
+    ensures faults { CountsFault (IsTrue result) faults.old faults.new }
+    ensures count { faults.old ≤ faults.new }
+{
+    let failed = count_failure(faults, &error);
+    if failed {
+        *reason = Some(error);
+    }
+    failed
+}

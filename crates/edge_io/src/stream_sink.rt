@@ -1,7 +1,7 @@
 ghost use Rattle.std.specs.Prelude.{◌≡◌, ◌≤◌, IsErr, IsErrOf};
 ghost use Rattle.edge_io.specs.Calls.{CountsFault};
 
-use crate::machine::{count_failure, write_whole};
+use crate::machine::{keep_failure, write_whole};
 use crate::sink::{OpenFault, Sink, SinkFault};
 use std::io::ErrorKind;
 use std::marker::Model;
@@ -21,6 +21,7 @@ pub struct StreamSink<R: std::rt::Files + Print> {
     rt: R,
     target: Target<R::File>,
     faults: u64,
+    reason: Option<io::Error>,
 }
 
 impl<R: std::rt::Files + Print> Model for StreamSink<R> {
@@ -40,6 +41,7 @@ impl<R: std::rt::Files + Print> StreamSink<R> {
             rt,
             target: Target::Output,
             faults: 0,
+            reason: None,
         }
     }
 
@@ -51,7 +53,13 @@ impl<R: std::rt::Files + Print> StreamSink<R> {
             rt,
             target: Target::Nothing,
             faults: 0,
+            reason: None,
         }
+    }
+
+    /// Why the last call failed that counted as a fault; none before the first.
+    pub fn reason(&self) -> Option<io::Error> {
+        self.reason
     }
 }
 
@@ -83,7 +91,9 @@ impl<R: std::rt::Files + Print> Sink for StreamSink<R> {
                 self.target = Target::File(file);
                 Ok(())
             }
-            Err(error) if count_failure(&mut self.faults, &error) => Err(OpenFault::Failed),
+            Err(error) if keep_failure(&mut self.faults, &mut self.reason, error) => {
+                Err(OpenFault::Failed)
+            }
             Err(_) => Err(OpenFault::Memory),
         }
     }
@@ -92,8 +102,9 @@ impl<R: std::rt::Files + Print> Sink for StreamSink<R> {
         ensures count { self.old ≤ self.new }
         ensures faults { CountsFault (IsErr result) self.old self.new }
     {
-        if put_all(&self.rt, &mut self.target, piece).is_err() {
+        if let Err(error) = put_all(&self.rt, &mut self.target, piece) {
             self.faults = self.faults.saturating_add(1);
+            self.reason = Some(error);
             return Err(SinkFault::Failed);
         }
         Ok(())

@@ -199,3 +199,33 @@ ends 0 "$(summary 10 26 '"Z" ')" selftest --number 0 --size 300
 ends 0 "$(summary 19 38 'f0(a, (b + "Z"))')" selftest --mode=hdd --size=300 --number=0
 puts_nothing selftest --number 0 --size 1
 ls | cmp - before
+
+# says TEXT WORD..: run with these words, the program has this line on standard error. PERSES_QUIET silences
+# it, and changes nothing else.
+says() {
+    wanted=$1
+    shift
+    "$program" "$@" > put 2> said || true
+    grep -qxF -e "$wanted" said
+    PERSES_QUIET=1 "$program" "$@" > quiet 2>&1 || true
+    cmp put quiet
+}
+says 'perses: normal has no option '\''--gramar'\' normal --gramar g
+says 'perses: missing: No such file or directory (os error 2)' normal --grammar missing
+printf "grammar G;\na : b ;\n" > faulty
+says 'perses: faulty:2:5: no rule b' normal --grammar faulty
+trees='reduce --grammar grammar --output o --script always --input'
+printf 'a=1;\nb = $;\n' > uncut
+says 'perses: uncut:2:5: no token at byte 9' $trees uncut
+printf 'a=;\n' > unparsed
+says "perses: unparsed:1:3: ';' can't be here; what can: '(', ID, INT" $trees unparsed
+byline='reduce --mode lines --input lines --script'
+says 'perses: full: No space left on device (os error 28)' $byline has-a --output full
+says 'perses: unwritable.journal: No space left on device (os error 28)' $byline has-a --output unwritable
+says 'perses: on the whole input the script ended with signal: 9 (SIGKILL)' $byline killed --output o
+says 'perses: ./no-run-bit: Permission denied (os error 13)' $byline no-run-bit --output o
+says 'perses: warning: the script no-run-bit isn'\''t executable: chmod +x no-run-bit' $byline no-run-bit --output o
+# Where standard error is closed, nothing is said in another file.
+"$program" $byline has-a --output o > put 2>&-
+test "$(cat o)" = a
+journal_is o 'R y 4\na\nb\n\nC 1\nR n 0\n\nC 2\nR y 2\na\n\nC 3\nC 2\n'

@@ -10,42 +10,49 @@
 #![tactic(auto)]
 
 mod args;
+mod notices;
 
 ghost use Rattle.std.specs.Prelude.{◌≡◌, IfOk, length};
 ghost use Rattle.command_perses.specs.Workers.{AreNumbered};
 
 use args::words_of;
 use command_perses::{add_worker, no_workers, perses};
-use edge_io::{DiskFiles, StreamSink};
-use script_gate::ProcessGate;
+use edge_io::DiskFiles;
+use notices::{Notices, ScriptGate};
 use std::io;
 use std::process::ExitCode;
 use std::sync::Wait;
 use std::thread::Threads;
+use std::time::Clock;
 use worker_pool::Worker;
 
 /// The most workers.
 const MOST_WORKERS: u32 = 16;
 
 /// As many workers as there can be, each with a gate of its own.
-fn all_workers(rt: &HostRuntime) -> io::Result<Vec<Worker<ProcessGate<HostRuntime>>>>
+fn all_workers(rt: &HostRuntime, notices: &Notices) -> io::Result<Vec<Worker<ScriptGate>>>
     ensures numbered { IfOk result (λ workers. AreNumbered workers.items) }
     ensures all { IfOk result (λ workers. length workers.items ≡ 16) }
 {
     let mut workers = no_workers(rt.alloc());
     for _ in 0..MOST_WORKERS {
-        add_worker(&mut workers, ProcessGate::new(rt.clone()?, rt.alloc()))?;
+        add_worker(&mut workers, notices.gate(rt)?)?;
     }
     Ok(workers)
 }
 
 /// Runs the program over the machine's threads, files, processes and standard output.
-fn run_program<W: Threads + Wait + Sync>(threads: &W, rt: &HostRuntime) -> io::Result<u8> {
+fn run_program<W: Threads + Wait + Clock + Copy + Send + Sync + 'static>(
+    threads: &W,
+    rt: &HostRuntime,
+) -> io::Result<u8> {
+    let notices = Notices::new(rt)?;
     let words = words_of(rt)?;
     let mut files = DiskFiles::new(rt.clone()?, rt.alloc());
-    let mut workers = all_workers(rt)?;
-    let journal = StreamSink::file(rt.clone()?);
-    let mut out = StreamSink::output(rt.clone()?);
+    let mut workers = all_workers(rt, &notices)?;
+    let journal = notices.journal(rt)?;
+    let mut out = notices.output(rt)?;
+    let drawing = notices.begin(threads, rt, &words);
     let ended = perses(
         threads,
         rt.alloc(),
@@ -55,6 +62,10 @@ fn run_program<W: Threads + Wait + Sync>(threads: &W, rt: &HostRuntime) -> io::R
         journal,
         &mut out,
     );
+    notices.end(rt, &words, &files, &workers, &ended, &out);
+    if let Some(drawing) = drawing {
+        drawing.join(threads);
+    }
     Ok(ended.status)
 }
 

@@ -1,7 +1,8 @@
 //! The gate that runs a script: a text is written into a file, and the script's exit status 0 is a yes.
 //!
 //! [`ProcessGate`] is the [`Gate`](script_gate_trait::Gate) over the machine's files and processes, and
-//! part of the trusted edge; read `specs/Script.antt`. So a text is judged by a script:
+//! part of the trusted edge; read `specs/Script.antt`. It keeps how the script ended last, and why a call
+//! failed. So a text is judged by a script:
 //!
 //! ```
 //! let mut gate = ProcessGate::new(rt.clone()?, rt.alloc());
@@ -13,4 +14,4 @@
 mod process_gate;
 
 pub use faults::Memory;
-pub use process_gate::ProcessGate;
+pub use process_gate::{ProcessGate, ScriptCall, ScriptFault};

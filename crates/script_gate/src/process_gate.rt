@@ -14,6 +14,26 @@ use std::process::{Command, ExitStatus, Processes, Stdio};
 use std::rt::Files;
 use std::{fs, io};
 
+/// What a gate was doing when a call of the machine failed.
+#[derive(Clone, Copy, Debug, PartialEq, Eq)]
+pub enum ScriptCall {
+    /// Making the worker's folder.
+    MakeFolder,
+    /// Writing a candidate into its file.
+    WriteCandidate,
+    /// Starting the script, and waiting for its end.
+    RunScript,
+}
+
+/// Why a gate failed.
+#[derive(Clone, Copy)]
+pub struct ScriptFault {
+    /// What it was doing.
+    pub call: ScriptCall,
+    /// The machine's error.
+    pub error: io::Error,
+}
+
 /// A gate that writes each text to a file and starts a script with the file's path as its only argument.
 /// The verdict is yes where the script ends with status 0, and no where it ends with another status or by a signal.
 ///
@@ -26,6 +46,8 @@ pub struct ProcessGate<R: Files + Processes> {
     script: String,
     file: String,
     faults: u64,
+    last_fault: Option<ScriptFault>,
+    last_end: Option<ExitStatus>,
 }
 
 impl<R: Files + Processes> Model for ProcessGate<R> {
@@ -52,7 +74,33 @@ impl<R: Files + Processes> ProcessGate<R> {
             script: String::new(alloc),
             file: String::new(alloc),
             faults: 0,
+            last_fault: None,
+            last_end: None,
         }
+    }
+
+    /// The script's path, as it is started.
+    pub fn script(&self) -> &str
+        ensures { result.now ≡ self.now.script }
+    {
+        self.script.as_str()
+    }
+
+    /// The path of the file that candidates are written to.
+    pub fn file(&self) -> &str
+        ensures { result.now ≡ self.now.file }
+    {
+        self.file.as_str()
+    }
+
+    /// The last failure that counted as a fault; none before the first.
+    pub fn last_fault(&self) -> Option<ScriptFault> {
+        self.last_fault
+    }
+
+    /// How the script ended when it was asked last; none before the first ask.
+    pub fn last_end(&self) -> Option<ExitStatus> {
+        self.last_end
     }
 }
 
@@ -104,27 +152,42 @@ fn verdict_of(status: ExitStatus) -> Verdict
     }
 }
 
-// Writes the text to the file, and runs the command to its end. The file of the last text is removed first:
-// truncating a file that was just written waits for the disk on some file systems, a new file does not.
+// Writes the text to the file. The file of the last text is removed first: truncating a file that was just
+// written waits for the disk on some file systems, a new file does not.
+fn write_candidate<R: Files>(rt: &R, file: &str, text: &[u8]) -> io::Result<()> {
+    // (a file that isn't there, or can't be removed, is written over)
+    let _ = fs::remove_file(rt, file);
+    write_whole(&mut fs::create(rt, file)?, text)
+}
+
+// Writes the text to the file, and runs the command to its end.
 fn judge<R: Files + Processes>(
     rt: &R,
     command: &mut Command,
     file: &str,
     text: &[u8],
-) -> io::Result<Verdict> {
-    // (a file that isn't there, or can't be removed, is written over)
-    let _ = fs::remove_file(rt, file);
-    write_whole(&mut fs::create(rt, file)?, text)?;
-    Ok(verdict_of(command.status(rt)?))
+) -> Result<ExitStatus, ScriptFault> {
+    if let Err(error) = write_candidate(rt, file, text) {
+        let call = ScriptCall::WriteCandidate;
+        return Err(ScriptFault { call, error });
+    }
+    match command.status(rt) {
+        Ok(status) => Ok(status),
+        Err(error) => {
+            let call = ScriptCall::RunScript;
+            Err(ScriptFault { call, error })
+        }
+    }
 }
 
-// The fault of an error, counted unless the program itself had no memory.
-fn fault_of(faults: &mut u64, error: &io::Error) -> GateFault
-    ensures memory { (result ≡ GateFault.Memory) ↔ IsOutOfMemory error.now }
+// The fault of a call that failed, counted and kept unless the program itself had no memory.
+fn fault_of(faults: &mut u64, last: &mut Option<ScriptFault>, fault: ScriptFault) -> GateFault
+    ensures memory { (result ≡ GateFault.Memory) ↔ IsOutOfMemory fault.error }
     ensures faults { CountsFault (result ≡ GateFault.Failed) faults.old faults.new }
     ensures count { faults.old ≤ faults.new }
 {
-    if count_failure(faults, error) {
+    if count_failure(faults, &fault.error) {
+        *last = Some(fault);
         GateFault::Failed
     } else {
         GateFault::Memory
@@ -152,7 +215,9 @@ impl<R: Files + Processes> Gate for ProcessGate<R> {
         let file = file_in(self.alloc, folder.as_str(), name)?;
         let script = script_at(self.alloc, script)?;
         if let Err(error) = fs::create_dir_all(&self.rt, folder.as_str()) {
-            return Err(fault_of(&mut self.faults, &error));
+            let call = ScriptCall::MakeFolder;
+            let fault = ScriptFault { call, error };
+            return Err(fault_of(&mut self.faults, &mut self.last_fault, fault));
         }
         self.script = script;
         self.file = file;
@@ -166,8 +231,11 @@ impl<R: Files + Processes> Gate for ProcessGate<R> {
     {
         let mut command = command_of(self.alloc, self.script.as_str(), self.file.as_str())?;
         match judge(&self.rt, &mut command, self.file.as_str(), text) {
-            Ok(verdict) => Ok(verdict),
-            Err(error) => Err(fault_of(&mut self.faults, &error)),
+            Ok(status) => {
+                self.last_end = Some(status);
+                Ok(verdict_of(status))
+            }
+            Err(fault) => Err(fault_of(&mut self.faults, &mut self.last_fault, fault)),
         }
     }
 }

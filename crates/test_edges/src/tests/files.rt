@@ -161,3 +161,43 @@ fn the_machine_reads_and_writes_whole_files(rt: HostRuntime) -> Result<(), Fail>
     assert!(rt; held);
     Ok(())
 }
+
+/// Calls of a machine's files, and the machine's number of the last failure after each.
+const REASONS: [(Call, Option<i32>); 6] = [
+    (Call::Write("reasons/file", "first", Ok(())), None),
+    (Call::Read("reasons/file", 6, Ok("first")), None),
+    (
+        Call::Read("reasons/missing", 6, Err(FileFault::Failed)),
+        Some(2),
+    ),
+    (Call::Write("reasons/file", "second", Ok(())), Some(2)),
+    (
+        Call::Write("/dev/full", "x", Err(WriteFault::Failed)),
+        Some(28),
+    ),
+    (Call::Read("reasons/file", 6, Ok("second")), Some(28)),
+];
+
+/// The number, from 0, of the first call that isn't answered so, or leaves another reason.
+fn first_other_reason(files: &mut DiskFiles<HostRuntime>) -> Option<usize> {
+    for (number, (call, wanted)) in REASONS.iter().enumerate() {
+        let is_answered = is_answered(files, *call);
+        let found = files.reason().and_then(|error| error.raw_os_error());
+        if !is_answered || found != *wanted {
+            return Some(number);
+        }
+    }
+    None
+}
+
+#[test]
+fn the_machine_keeps_the_last_reason_and_what_was_read_first(rt: HostRuntime) -> Result<(), Fail> {
+    fs::create_dir_all(&rt, "reasons")?;
+    let mut files = DiskFiles::new(rt.clone()?, rt.alloc());
+    let other = first_other_reason(&mut files);
+    fs::remove_dir_all(&rt, "reasons")?;
+    assert_eq!(rt; other, None);
+    assert!(rt; files.first_read("reasons/file") == Some(b"first"));
+    assert!(rt; files.first_read("reasons/missing").is_none());
+    Ok(())
+}

@@ -160,3 +160,16 @@ fn a_stream_puts_into_what_was_opened_last(rt: HostRuntime) -> Result<(), Fail> 
     assert!(rt; held);
     Ok(())
 }
+
+#[test]
+fn a_stream_keeps_the_last_reason(rt: HostRuntime) -> Result<(), Fail> {
+    let mut sink = StreamSink::file(rt.clone()?);
+    assert!(rt; sink.reason().is_none());
+    assert!(rt; sink.open("/dev/null/below").is_err());
+    let opened = sink.reason().and_then(|error| error.raw_os_error());
+    assert!(rt; sink.open("/dev/full").is_ok());
+    assert!(rt; sink.put(b"x").is_err());
+    let put = sink.reason().and_then(|error| error.raw_os_error());
+    assert_eq!(rt; (opened, put), (Some(20), Some(28)));
+    Ok(())
+}

@@ -1,0 +1,3 @@
+pub use Rattle.faults.specs.Count
+pub use Rattle.edge_io.specs.Sink
+pub use Rattle.script_gate_trait.specs.Log

@@ -1,0 +1,211 @@
+//! What is said at the end, by status.
+
+use crate::files::{add_failure, add_too_long};
+use crate::grammar::add_grammar;
+use crate::input::{add_no_parse, add_no_tokens};
+use crate::quote::Quoted;
+use crate::script::{LastAsk, add_fault, add_no};
+use crate::text_file::TextFile;
+use command_words::{CommandLine, ModeLine, NamedGrammar, ReduceLine};
+use memchr::memmem;
+use notice_counts::{Snapshot, TimeText, milliseconds_in};
+use std::alloc::{AllocError, Global};
+use std::io;
+use std::time::Duration;
+
+/// Why calls of the machine failed, where they did.
+#[derive(Clone, Copy)]
+pub struct Reasons {
+    /// The last failure of a file.
+    pub files: Option<io::Error>,
+    /// The last failure of the journal.
+    pub journal: Option<io::Error>,
+    /// The last failure of standard output.
+    pub out: Option<io::Error>,
+}
+
+/// A run that ended.
+#[derive(Clone, Copy)]
+pub struct Ending<'a> {
+    /// The words that it was asked by.
+    pub line: &'a CommandLine<'a>,
+    /// The status that it ended with.
+    pub status: u8,
+    /// The path of its journal.
+    pub journal: &'a str,
+    /// How long it took.
+    pub took: Duration,
+    /// What was counted.
+    pub counted: Snapshot,
+    /// Why calls failed.
+    pub reasons: Reasons,
+    /// The bytes of the grammar, where they were read.
+    pub grammar: Option<&'a [u8]>,
+    /// The bytes of the input, where they were read.
+    pub input: Option<&'a [u8]>,
+    /// The last ask of a worker whose script failed, or else that was asked.
+    pub ask: Option<LastAsk<'a>>,
+    /// The columns of the terminal.
+    pub width: usize,
+}
+
+/// The grammar that a command line names.
+fn grammar_of<'a>(line: &CommandLine<'a>) -> Option<NamedGrammar<'a>> {
+    match line {
+        CommandLine::Normal(grammar) => Some(*grammar),
+        CommandLine::Reduce(line) => match line.mode {
+            ModeLine::ByGrammar(by) => Some(by.grammar),
+            ModeLine::Lines => None,
+        },
+        CommandLine::Selftest(_) => None,
+    }
+}
+
+/// The file that couldn't be read: the grammar is read first.
+fn unread<'a>(ending: &Ending<'a>) -> &'a str {
+    match (grammar_of(ending.line), ending.line) {
+        (Some(grammar), _) if ending.grammar.is_none() => grammar.path,
+        (_, CommandLine::Reduce(line)) => line.input,
+        _ => "the grammar",
+    }
+}
+
+/// What couldn't be written: the output, or else standard output.
+fn add_unwritten(text: &mut String, ending: &Ending<'_>) -> Result<(), AllocError> {
+    match (ending.line, ending.reasons.files) {
+        (CommandLine::Reduce(line), Some(reason)) => add_failure(text, line.output, Some(reason)),
+        _ => add_failure(text, "standard output", ending.reasons.out),
+    }
+}
+
+/// The first keep text that isn't in the input.
+fn add_keep(text: &mut String, line: &ReduceLine<'_>, input: &[u8]) -> Result<(), AllocError> {
+    for keep in &line.keeps {
+        if memmem::find(input, keep.as_bytes()).is_none() {
+            let name = line.input;
+            let keep = Quoted(*keep);
+            return write!(text, "perses: {name} doesn't hold {keep}\n");
+        }
+    }
+    Ok(())
+}
+
+/// The grammar as it was read, and the name of its start rule where it has one.
+fn grammar_file<'a>(ending: &Ending<'a>) -> Option<(TextFile<'a>, Option<&'a str>)> {
+    let grammar = grammar_of(ending.line)?;
+    let file = TextFile {
+        path: grammar.path,
+        bytes: ending.grammar?,
+        width: ending.width,
+    };
+    Some((file, grammar.start))
+}
+
+/// The input as it was read.
+fn input_file<'a>(ending: &Ending<'a>) -> Option<TextFile<'a>> {
+    let CommandLine::Reduce(line) = ending.line else {
+        return None;
+    };
+    Some(TextFile {
+        path: line.input,
+        bytes: ending.input?,
+        width: ending.width,
+    })
+}
+
+/// What the status says of the grammar, or of an input by it.
+fn add_language(text: &mut String, alloc: Global, ending: &Ending<'_>) -> Result<(), AllocError> {
+    let Some((grammar, start)) = grammar_file(ending) else {
+        return Ok(());
+    };
+    match (ending.status, input_file(ending)) {
+        (5, _) => add_grammar(text, alloc, grammar, start),
+        (6, Some(input)) => add_no_tokens(text, alloc, grammar, start, input),
+        (7, Some(input)) => add_no_parse(text, alloc, grammar, start, input),
+        _ => Ok(()),
+    }
+}
+
+/// What the status says of the script.
+fn add_script(text: &mut String, ending: &Ending<'_>) -> Result<(), AllocError> {
+    let Some(ask) = ending.ask else {
+        return Ok(());
+    };
+    match ask.fault {
+        Some(fault) => add_fault(text, &ask, &fault),
+        None => add_no(text, &ask),
+    }
+}
+
+/// Why the run ended without its result.
+fn add_cause(text: &mut String, alloc: Global, ending: &Ending<'_>) -> Result<(), AllocError> {
+    match ending.status {
+        3 => add_failure(text, unread(ending), ending.reasons.files),
+        4 => add_unwritten(text, ending),
+        5 | 6 | 7 => add_language(text, alloc, ending),
+        8 | 11 => add_script(text, ending),
+        9 => match (ending.line, ending.input) {
+            (CommandLine::Reduce(line), Some(input)) => add_keep(text, line, input),
+            _ => Ok(()),
+        },
+        10 => add_too_long(text, unread(ending)),
+        12 => add_failure(text, ending.journal, ending.reasons.journal),
+        _ => Ok(()),
+    }
+}
+
+/// The part of the workers' time in which their scripts ran, in percent.
+fn share_of_scripts(ending: &Ending<'_>, jobs: u32) -> u64 {
+    let asking = milliseconds_in(ending.counted.asking);
+    let all = milliseconds_in(ending.took).saturating_mul(jobs as u64);
+    match asking.saturating_mul(100).checked_div(all) {
+        Some(share) => share.min(100),
+        None => 0,
+    }
+}
+
+/// How long the run took, and where its result is, or what there is of it.
+fn add_summary(
+    text: &mut String,
+    ending: &Ending<'_>,
+    line: &ReduceLine<'_>,
+) -> Result<(), AllocError> {
+    let (took, share) = (TimeText(ending.took), share_of_scripts(ending, line.jobs));
+    let (output, journal) = (line.output, ending.journal);
+    let Snapshot {
+        records,
+        best_bytes,
+        ..
+    } = ending.counted;
+    if ending.status == 0 {
+        return write!(
+            text,
+            "perses: done after {took}, {share}% of it in the script: {output}, journal {journal}\n"
+        );
+    }
+    if records == 0 || ending.status == 8 {
+        return Ok(());
+    }
+    write!(
+        text,
+        "perses: ended after {took}, {share}% of it in the script; {journal} holds {records} answers\n"
+    )?;
+    if best_bytes == 0 {
+        return Ok(());
+    }
+    let journal = Quoted(journal);
+    write!(
+        text,
+        "perses: the best text so far has {best_bytes} bytes: tools/journal {journal} --last-yes >FILE\n"
+    )
+}
+
+/// What is said of a run that ended.
+pub fn ending_text(alloc: Global, ending: &Ending<'_>) -> Result<String, AllocError> {
+    let mut text = String::new(alloc);
+    add_cause(&mut text, alloc, ending)?;
+    if let CommandLine::Reduce(line) = ending.line {
+        add_summary(&mut text, ending, line)?;
+    }
+    Ok(text)
+}

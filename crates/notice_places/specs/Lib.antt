@@ -1,0 +1,2 @@
+pub use Rattle.faults.specs.Count
+pub mod Place

@@ -1,0 +1,134 @@
+//! The options of the commands.
+
+use crate::fault::WordFault;
+
+/// Which values an option takes.
+#[derive(Clone, Copy, Debug, PartialEq, Eq)]
+pub(crate) enum Takes {
+    /// None at all.
+    Nothing,
+    /// Any text.
+    Text,
+    /// A way to reduce.
+    Mode,
+    /// A way to reduce by a grammar.
+    TreeMode,
+    /// A number from the first to the second.
+    Number(u64, u64),
+}
+
+/// An option of a command.
+#[derive(Clone, Copy, Debug)]
+pub(crate) struct Row {
+    /// Its name, without the hyphens.
+    pub(crate) name: &'static str,
+    /// Its values.
+    pub(crate) takes: Takes,
+    /// How often it may be there.
+    pub(crate) most: usize,
+    /// Whether it must be there. `--grammar` of `reduce` must be unless the mode is `lines`.
+    pub(crate) required: bool,
+}
+
+static REDUCE: [&str; 11] = [
+    "input", "output", "script", "grammar", "mode", "start", "jobs", "journal", "work", "keep",
+    "squeeze",
+];
+
+static NORMAL: [&str; 2] = ["grammar", "start"];
+
+static SELFTEST: [&str; 3] = ["number", "size", "mode"];
+
+/// The names of the command's options.
+pub(crate) fn options_of(command: &str) -> Option<&'static [&'static str]> {
+    match command {
+        "reduce" => Some(REDUCE.as_slice()),
+        "normal" => Some(NORMAL.as_slice()),
+        "selftest" => Some(SELFTEST.as_slice()),
+        _ => None,
+    }
+}
+
+fn takes_of(command: &str, option: &str) -> Takes {
+    match option {
+        "squeeze" => Takes::Nothing,
+        "jobs" => Takes::Number(1, 16),
+        "number" => Takes::Number(0, 4_294_967_295),
+        "size" => Takes::Number(1, 1500),
+        "mode" if command == "reduce" => Takes::Mode,
+        "mode" => Takes::TreeMode,
+        _ => Takes::Text,
+    }
+}
+
+fn is_required(command: &str, option: &str) -> bool {
+    match option {
+        "input" | "output" | "script" | "number" | "size" => true,
+        "grammar" => command == "normal",
+        _ => false,
+    }
+}
+
+/// The option of the command that has this name.
+pub(crate) fn row_of(command: &str, name: &'static str) -> Row {
+    Row {
+        name,
+        takes: takes_of(command, name),
+        most: if name == "keep" { 8 } else { 1 },
+        required: is_required(command, name),
+    }
+}
+
+/// The option of the command that a word names.
+pub(crate) fn row_named(command: &str, word: &str) -> Option<Row> {
+    let name = options_of(command)?.iter().find(|name| **name == word)?;
+    Some(row_of(command, *name))
+}
+
+/// Whether the text is a number from `least` to `most`, in digits without a leading zero.
+fn is_number(text: &str, least: u64, most: u64) -> bool {
+    let digits = text.as_bytes();
+    let plain = digits.iter().all(|digit| digit.is_ascii_digit())
+        && (digits.len() == 1 || digits.first() != Some(&b'0'));
+    match text.parse::<u64>() {
+        Ok(number) => plain && least <= number && number <= most,
+        Err(_) => false,
+    }
+}
+
+impl Takes {
+    /// Whether the option takes this value.
+    fn accepts(self, value: &str) -> bool {
+        match self {
+            Takes::Nothing | Takes::Text => true,
+            Takes::Mode => value == "perses" || value == "hdd" || value == "lines",
+            Takes::TreeMode => value == "perses" || value == "hdd",
+            Takes::Number(least, most) => is_number(value, least, most),
+        }
+    }
+}
+
+impl Row {
+    /// What is wrong with this value of the option, if anything.
+    pub(crate) fn check<'a>(&self, value: &'a str) -> Result<(), WordFault<'a>> {
+        let option = self.name;
+        if value.is_empty() {
+            return Err(WordFault::EmptyValue { option });
+        }
+        if value.starts_with('-') {
+            return Err(WordFault::HyphenValue { option, value });
+        }
+        if self.takes.accepts(value) {
+            return Ok(());
+        }
+        match self.takes {
+            Takes::Number(least, most) => Err(WordFault::NoNumber {
+                option,
+                value,
+                least,
+                most,
+            }),
+            _ => Err(WordFault::NoMode { value }),
+        }
+    }
+}

@@ -1,0 +1,75 @@
+//! What is said of words.
+
+use crate::{USAGE, word_fault};
+use std::alloc::AllocError;
+
+#[test]
+fn names_the_word_or_the_option(rt: HostRuntime) -> Result<(), AllocError> {
+    let files = "perses reduce --input i --output o --script s";
+    let rows = [
+        ("perses", "a command and its options are wanted"),
+        ("perses reduce -h", "a command and its options are wanted"),
+        (
+            "perses shrink",
+            "no command 'shrink': it is reduce, normal or selftest",
+        ),
+        ("perses normal g", "normal has no option 'g'"),
+        (
+            "perses normal --gramar g",
+            "normal has no option '--gramar'",
+        ),
+        ("perses normal --", "normal has no option '--'"),
+        ("perses normal --grammar", "--grammar lacks its value"),
+        (
+            "perses normal --grammar=",
+            "the value of --grammar is empty",
+        ),
+        (
+            "perses normal --grammar g --start=r --start q",
+            "--start is there twice",
+        ),
+        ("perses normal", "normal lacks --grammar"),
+        (
+            "perses selftest --number 01 --size 3",
+            "--number wants a number from 0 to 4294967295, without a leading zero: '01'",
+        ),
+        (
+            "perses selftest --number 0 --size 1501",
+            "--size wants a number from 1 to 1500, without a leading zero: '1501'",
+        ),
+        (
+            "perses selftest --number 0 --size 1 --mode lines",
+            "no mode 'lines'",
+        ),
+        ("{files}", "reduce lacks --grammar"),
+        (
+            "{files} --mode lines --squeeze",
+            "--squeeze doesn't go with --mode lines",
+        ),
+        (
+            "{files} --grammar g --squeeze=1",
+            "--squeeze takes no value",
+        ),
+        ("{files} --mode lines", "nothing"),
+        ("{files} --grammar g --jobs 16", "nothing"),
+    ];
+    for (line, wanted) in rows {
+        let line = line.replace(rt.alloc(), "{files}", files)?;
+        let mut words = Vec::new(rt.alloc());
+        for word in line.split(' ') {
+            words.push(String::from_str(rt.alloc(), word)?)?;
+        }
+        let said = match word_fault(&words) {
+            Some(fault) => format!(in rt.alloc(); "{fault}")?,
+            None => String::from_str(rt.alloc(), "nothing")?,
+        };
+        assert_eq!(rt; said.as_str(), wanted);
+    }
+    Ok(())
+}
+
+#[test]
+fn usage_fits_a_screen(rt: HostRuntime) {
+    assert!(rt; USAGE.lines().count() <= 25);
+    assert!(rt; USAGE.lines().all(|line| line.chars().count() <= 80));
+}

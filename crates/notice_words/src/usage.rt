@@ -1,0 +1,24 @@
+/// How the program is used, in lines of at most 80 characters.
+pub const USAGE: &str = "\
+usage: perses reduce --input F --output F --script F --grammar F [option ..]
+       perses reduce --mode lines --input F --output F --script F [option ..]
+       perses normal --grammar F [--start R]
+       perses selftest --number N --size K [--mode M]
+Of an input that makes something fail, reduce writes what matters: the script
+gets the name of a file as its argument, and ends with 0 if that still fails.
+  --input F    the file to be reduced
+  --output F   where the result is written
+  --script F   the script
+  --grammar F  the grammar of the input, in the notation of ANTLR 4
+  --mode M     perses (the default), hdd (deletes alone) or lines (no grammar)
+  --start R    the rule that the input is of; else the first one
+  --jobs N     so many scripts run at once, from 1 to 16; else 1
+  --journal F  where each answer is kept; else the output's name and .journal
+  --work D     the folder for candidates; else perses-work
+  --keep T     a text that must stay, up to 8 times
+  --squeeze    tries the input without comments and long gaps first
+normal prints the normal form of a grammar. selftest reduces a generated case.
+On standard error PERSES_QUIET=1 in the environment silences all, and
+PERSES_PROGRESS=1 asks for a line every ten seconds where it is no terminal.
+All options: man ./docs/perses.1. What each status means: docs/GUIDE.md.
+";
