@@ -1,0 +1,5 @@
+#version 450
+ uniform Sun {
+vec3 colour;
+} ;
+vec4 faded = colour ;
