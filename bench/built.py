@@ -6,6 +6,9 @@ import subprocess
 import sys
 import tempfile
 
+# What the programs say on standard error is for people at a terminal.
+os.environ.setdefault("PERSES_QUIET", "1")
+
 TOP = os.path.dirname(os.path.dirname(os.path.realpath(__file__)))
 PERSES = os.path.join(TOP, "perses")
 PROGRAM = os.path.join(TOP, "crates", "perses_main", "out", "perses_main")
