@@ -6,9 +6,9 @@ from .comments import first_sentence, head_comment
 BEGIN = "<!-- The index: tools/definitions writes what is between these two comments. -->"
 END = "<!-- The end of the index. -->"
 
-# Crates whose names begin so aren't in the program, and the file of a crate's declarations has no definitions.
+# Crates whose names begin so aren't in the program, and the files of a crate's declarations have no definitions.
 OUTSIDE = ("test_", "cases_", "plain_", "bench_")
-DECLARATIONS = "Lib.antt"
+DECLARATIONS = ("Lib.antt", "inner.antt")
 
 
 class Group(NamedTuple):
@@ -33,7 +33,7 @@ def specs_of(top, crate):
     """The files of definitions of a crate, by their names; none of a crate that isn't in the program."""
     if crate.startswith(OUTSIDE):
         return []
-    return sorted(path for path in (top / "crates" / crate / "specs").glob("*.antt") if path.name != DECLARATIONS)
+    return sorted(path for path in (top / "crates" / crate / "specs").glob("*.antt") if path.name not in DECLARATIONS)
 
 
 def line_of(path, crate):

@@ -20,6 +20,8 @@ FILES = {
     "crates/tree/specs/Lib.antt": "pub use B\n",
     "crates/tree/specs/Tree.antt": "-- A tree\n",
     "crates/tree/specs/Edits.antt": "-- Edits, as of `HDD: Hierarchical Delta Debugging`. More.\n",
+    "crates/tree/specs/inner.antt": "pub mod Code\n",
+    "crates/tree/specs/inner/Code.antt": "use A\n",
     "crates/tree/src/tree.rt": "",
     "crates/marks/src/lib.rt": "",
     "crates/test_trees/specs/Small.antt": "-- A small tree.\n",

@@ -1,44 +1,42 @@
--- Each symbol fits each slot or doesn't. Rules are let in one after another, as in Warshall's algorithm.
-use Rattle.std.proofs.Common.{◌≡◌, ◌⊎◌, inl, inr, ℕ, zero, suc, ◌<◌, List, [], ◌∷◌, Option, Some, None, length, false, true, slice_get, refl, sym, ap, ◌∙◌, subst, arith}
-use Rattle.std.specs.Prelude.{◌↔◌, IsTrue}
+-- The plain function says of each symbol whether it fits a slot. Rules are let in one after another, as in Warshall's algorithm.
+use Rattle.std.proofs.Common.{◌≡◌, ◌⊎◌, inl, inr, ℕ, zero, suc, ◌<◌, Bool, true, false, ◌&&◌, ◌||◌, List, [], ◌∷◌, Option, Some, None, length, slice_get, refl, sym, ap, ◌∙◌, subst, arith, true≢false, eq-eqb}
+use Rattle.std.specs.Prelude.{nat_eq}
+use Rattle.std.specs.Bool.{Decides}
 use Rattle.std.specs.List.{Contains}
-use Rattle.std.proofs.lemmas.Bool.{cases_eq}
+use Rattle.std.specs.Option.{option_map_or}
+use Rattle.std.proofs.lemmas.Bool.{cases_eq, eqb-true}
+use Rattle.std.proofs.lemmas.Bool.Decides.{Decides-and, Decides-like, Decides-or}
 use Rattle.std.proofs.lemmas.Option.{none-some, slice_get_within}
 use Rattle.grammar_tree.proofs.Elements.{contains_cases, contains_first, contains_later, contains_none}
 use Rattle.normal_form.specs.declared.normal.Sym.{Sym}
 use Rattle.normal_form.specs.declared.normal.Sym.TheVariants.{Kind, Set, Rule}
 use Rattle.normal_form.specs.Form.{RuleForm, NormalForm}
 use Rattle.compat_table.specs.Fits.{Fits, itself, in_set, by_alternative}
-use Rattle.descend_replace.specs.Compatible.{FitsByDecides, FitsIsDecided, FitsOrNot, does_fit}
+use Rattle.descend_replace.specs.Compatible.{FitsIsDecided, FitsOrNot}
+use Rattle.descend_replace.specs.FitsIn.{FitsInDecides, fits_by, fits_in, has_kind, is_in_set, is_same, passes_alone, passes_in_rule}
 
--- It is so, or it isn't.
-abbrev OrNot : Type 0 → Type 0
-OrNot P = P ⊎ (P → ⊥)
+never : {A : Type 0} → (¬ A) → Decides false A
+never none = (λ e. absurd (true≢false (sym e)), λ x. absurd (none x))
 
-or_same : (P Q : Type 0) → (P → Q) → (Q → P) → OrNot P → OrNot Q
-or_same P Q to from (inl is) = inl (to is)
-or_same P Q to from (inr not) = inr (λ q. not (from q))
+same_decides : (s t : Sym) → Decides (is_same s t) (s ≡ t)
+same_decides (Kind a) (Kind b) = (λ e. ap Kind (eqb-true a b e), λ (e : Kind a ≡ Kind b). let f : a ≡ b = cc in eq-eqb a b f)
+same_decides (Set a) (Set b) = (λ e. ap Set (eqb-true a b e), λ (e : Set a ≡ Set b). let f : a ≡ b = cc in eq-eqb a b f)
+same_decides (Rule a) (Rule b) = (λ e. ap Rule (eqb-true a b e), λ (e : Rule a ≡ Rule b). let f : a ≡ b = cc in eq-eqb a b f)
+same_decides (Kind a) (Set b) = never (λ (e : Kind a ≡ Set b). cc)
+same_decides (Kind a) (Rule b) = never (λ (e : Kind a ≡ Rule b). cc)
+same_decides (Set a) (Kind b) = never (λ (e : Set a ≡ Kind b). cc)
+same_decides (Set a) (Rule b) = never (λ (e : Set a ≡ Rule b). cc)
+same_decides (Rule a) (Kind b) = never (λ (e : Rule a ≡ Kind b). cc)
+same_decides (Rule a) (Set b) = never (λ (e : Rule a ≡ Set b). cc)
 
-same_symbol : (s t : Sym) → OrNot (s ≡ t)
-same_symbol (Kind a) (Kind b) = elim (cases_eq a b) [ inl e ↦ inl (ap Kind e) | inr other ↦ inr (λ (e : Kind a ≡ Kind b). other (let f : a ≡ b = cc in f)) ]
-same_symbol (Set a) (Set b) = elim (cases_eq a b) [ inl e ↦ inl (ap Set e) | inr other ↦ inr (λ (e : Set a ≡ Set b). other (let f : a ≡ b = cc in f)) ]
-same_symbol (Rule a) (Rule b) = elim (cases_eq a b) [ inl e ↦ inl (ap Rule e) | inr other ↦ inr (λ (e : Rule a ≡ Rule b). other (let f : a ≡ b = cc in f)) ]
-same_symbol (Kind a) (Set b) = inr (λ (e : Kind a ≡ Set b). cc)
-same_symbol (Kind a) (Rule b) = inr (λ (e : Kind a ≡ Rule b). cc)
-same_symbol (Set a) (Kind b) = inr (λ (e : Set a ≡ Kind b). cc)
-same_symbol (Set a) (Rule b) = inr (λ (e : Set a ≡ Rule b). cc)
-same_symbol (Rule a) (Kind b) = inr (λ (e : Rule a ≡ Kind b). cc)
-same_symbol (Rule a) (Set b) = inr (λ (e : Rule a ≡ Set b). cc)
-
-has_or_not : (xs : List ℕ) (x : ℕ) → OrNot (Contains xs x)
-has_or_not [] x = inr (contains_none x)
-has_or_not (y ∷ xs) x = elim (cases_eq y x) [
-  | inl same ↦ inl (contains_first y xs x same)
-  | inr other ↦ elim (has_or_not xs x) [
-    | inl later ↦ inl (contains_later y xs x later)
-    | inr not ↦ inr (λ c. elim (contains_cases y xs x c) [ inl same ↦ other same | inr later ↦ not later ])
-  ]
-]
+kind_decides : (k : ℕ) (xs : List ℕ) → Decides (has_kind k xs) (Contains xs k)
+kind_decides k [] = never (contains_none k)
+kind_decides k (x ∷ xs) =
+    Decides-like (has_kind k (x ∷ xs)) there (contains_cases x xs k) (Decides-or (nat_eq x k) (has_kind k xs) (eqb-true x k, eq-eqb x k) (kind_decides k xs))
+  where
+    there : (x ≡ k) ⊎ Contains xs k → Contains (x ∷ xs) k
+    there (inl same) = contains_first x xs k same
+    there (inr later) = contains_later x xs k later
 
 -- The symbol fits the slot by rules whose numbers are below the bound.
 data FitsBelow (N : NormalForm) (bound : ℕ) : Sym → Sym → Type 0 where
@@ -114,13 +112,13 @@ module _ (N : NormalForm) where
   plainly s t (in_set_below k i ks at has) = inr (k, i, ks, refl, refl, at, has)
   plainly s t (by_rule s' u r alts lt at has f) = absurd (omega (arith, lt))
 
-  in_set_or_not : (k i : ℕ) (o : Option (List ℕ)) → slice_get N.sets i ≡ o → OrNot (FitsBelow N zero (Kind k) (Set i))
-  in_set_or_not k i None e = inr (λ f. not_in (plainly (Kind k) (Set i) f))
+  in_set_at : (k i : ℕ) (o : Option (List ℕ)) → slice_get N.sets i ≡ o → Decides (option_map_or (has_kind k) o false) (FitsBelow N zero (Kind k) (Set i))
+  in_set_at k i None e = never (λ f. not_in (plainly (Kind k) (Set i) f))
     where
       not_in : Plainly (Kind k) (Set i) → ⊥
       not_in (inl same) = cc
       not_in (inr (k', i', ks, is, at_i, at, has)) = let same : i ≡ i' = cc in none-some ks (sym e ∙ ap (slice_get N.sets) same ∙ at)
-  in_set_or_not k i (Some ks) e = or_same (Contains ks k) (FitsBelow N zero (Kind k) (Set i)) (λ has. in_set_below k i ks e has) (λ f. is_in (plainly (Kind k) (Set i) f)) (has_or_not ks k)
+  in_set_at k i (Some ks) e = Decides-like (has_kind k ks) (λ has. in_set_below k i ks e has) (λ f. is_in (plainly (Kind k) (Set i) f)) (kind_decides k ks)
     where
       is_in : Plainly (Kind k) (Set i) → Contains ks k
       is_in (inl same) = absurd (cc)
@@ -131,76 +129,83 @@ module _ (N : NormalForm) where
           let list : ks' ≡ ks = cc in
           subst (λ (x : ℕ). Contains ks x) kind (subst (λ (l : List ℕ). Contains l k') list has)
 
-  other_or_not : (s t : Sym) → (s ≡ t → ⊥) → OrNot (FitsBelow N zero s t)
-  other_or_not (Kind k) (Set i) other = in_set_or_not k i (slice_get N.sets i) refl
-  other_or_not (Kind k) (Kind j) other = inr (λ f. other (is_kind zero (Kind k) j f))
-  other_or_not (Set i) (Kind j) other = inr (λ f. other (is_kind zero (Set i) j f))
-  other_or_not (Rule r) (Kind j) other = inr (λ f. other (is_kind zero (Rule r) j f))
-  other_or_not (Set j) (Set i) other = inr (λ f. elim (plainly (Set j) (Set i) f) [ inl same ↦ other same | inr (k, i', ks, is, at_i, at, has) ↦ cc ])
-  other_or_not (Rule j) (Set i) other = inr (λ f. elim (plainly (Rule j) (Set i) f) [ inl same ↦ other same | inr (k, i', ks, is, at_i, at, has) ↦ cc ])
-  other_or_not s (Rule r) other = inr (λ f. elim (plainly s (Rule r) f) [ inl same ↦ other same | inr (k, i', ks, is, at_i, at, has) ↦ cc ])
+  -- where only the symbol itself fits
+  by_itself : (s t : Sym) → (FitsBelow N zero s t → s ≡ t) → Decides (is_same s t || false) (FitsBelow N zero s t)
+  by_itself s t only = Decides-like (is_same s t || false) there (λ f. inl (only f)) (Decides-or (is_same s t) false (same_decides s t) (never (λ (x : ⊥). x)))
+    where
+      there : (s ≡ t) ⊎ ⊥ → FitsBelow N zero s t
+      there (inl same) = subst (λ (x : Sym). FitsBelow N zero s x) same (itself_below s)
+      there (inr x) = absurd x
+
+  plain_decides : (s t : Sym) → Decides (is_same s t || is_in_set N s t) (FitsBelow N zero s t)
+  plain_decides (Kind k) (Set i) = in_set_at k i (slice_get N.sets i) refl
+  plain_decides (Kind k) (Kind j) = by_itself (Kind k) (Kind j) (is_kind zero (Kind k) j)
+  plain_decides (Set i) (Kind j) = by_itself (Set i) (Kind j) (is_kind zero (Set i) j)
+  plain_decides (Rule r) (Kind j) = by_itself (Rule r) (Kind j) (is_kind zero (Rule r) j)
+  plain_decides (Set j) (Set i) = by_itself (Set j) (Set i) (λ f. elim (plainly (Set j) (Set i) f) [ inl same ↦ same | inr (k, i', ks, is, at_i, at, has) ↦ absurd (cc) ])
+  plain_decides (Rule j) (Set i) = by_itself (Rule j) (Set i) (λ f. elim (plainly (Rule j) (Set i) f) [ inl same ↦ same | inr (k, i', ks, is, at_i, at, has) ↦ absurd (cc) ])
+  plain_decides (Kind k) (Rule r) = by_itself (Kind k) (Rule r) (λ f. elim (plainly (Kind k) (Rule r) f) [ inl same ↦ same | inr (k', i', ks, is, at_i, at, has) ↦ absurd (cc) ])
+  plain_decides (Set j) (Rule r) = by_itself (Set j) (Rule r) (λ f. elim (plainly (Set j) (Rule r) f) [ inl same ↦ same | inr (k', i', ks, is, at_i, at, has) ↦ absurd (cc) ])
+  plain_decides (Rule j) (Rule r) = by_itself (Rule j) (Rule r) (λ f. elim (plainly (Rule j) (Rule r) f) [ inl same ↦ same | inr (k', i', ks, is, at_i, at, has) ↦ absurd (cc) ])
 
   -- The symbol fits one that is an alternative alone, of these.
   abbrev FitsOne : ℕ → Sym → List (List Sym) → Type 0
   FitsOne bound s alts = (t : Sym) × Contains alts (t ∷ []) × FitsBelow N bound s t
 
-  module _ (bound : ℕ) (s : Sym) (known : (t : Sym) → OrNot (FitsBelow N bound s t)) where
+  module _ (bound : ℕ) (s : Sym) (test : Sym → Bool) (known : (t : Sym) → Decides (test t) (FitsBelow N bound s t)) where
     later_one : (alt : List Sym) (alts : List (List Sym)) → FitsOne bound s alts → FitsOne bound s (alt ∷ alts)
     later_one alt alts (t, has, f) = (t, contains_later alt alts (t ∷ []) has, f)
 
-    passed : (alt : List Sym) (alts : List (List Sym)) → ((t : Sym) → alt ≡ t ∷ [] → FitsBelow N bound s t → ⊥) → OrNot (FitsOne bound s alts) → OrNot (FitsOne bound s (alt ∷ alts))
-    passed alt alts first (inl one) = inl (later_one alt alts one)
-    passed alt alts first (inr not) = inr (λ one. elim (contains_cases alt alts (one.0 ∷ []) one.1) [ inl is ↦ first one.0 is one.2 | inr later ↦ not (one.0, later, one.2) ])
+    passed : (alt : List Sym) (alts : List (List Sym)) → ((t : Sym) → alt ≡ t ∷ [] → FitsBelow N bound s t → ⊥) → Decides (passes_alone test alts) (FitsOne bound s alts) → Decides (passes_alone test alts) (FitsOne bound s (alt ∷ alts))
+    passed alt alts first d =
+        Decides-like (passes_alone test alts) (later_one alt alts)
+        (λ one. elim (contains_cases alt alts (one.0 ∷ []) one.1) [ inl is ↦ absurd (first one.0 is one.2) | inr later ↦ (one.0, later, one.2) ]) d
 
-    one_or_not : (alts : List (List Sym)) → OrNot (FitsOne bound s alts)
-    one_or_not [] = inr (λ one. contains_none (one.0 ∷ []) one.1)
-    one_or_not ([] ∷ alts) = passed [] alts (λ t (e : [] ≡ t ∷ []) f. cc) (one_or_not alts)
-    one_or_not ((t ∷ []) ∷ alts) = elim (known t) [
-      | inl f ↦ inl (t, contains_first (t ∷ []) alts (t ∷ []) refl, f)
-      | inr not ↦ passed (t ∷ []) alts (λ u (e : t ∷ [] ≡ u ∷ []) f. let same : u ≡ t = cc in not (subst (λ (x : Sym). FitsBelow N bound s x) same f)) (one_or_not alts)
-    ]
-    one_or_not ((t ∷ u ∷ ts) ∷ alts) = passed (t ∷ u ∷ ts) alts (λ v (e : t ∷ u ∷ ts ≡ v ∷ []) f. cc) (one_or_not alts)
+    one_decides : (alts : List (List Sym)) → Decides (passes_alone test alts) (FitsOne bound s alts)
+    one_decides [] = never (λ one. contains_none (one.0 ∷ []) one.1)
+    one_decides ([] ∷ alts) = passed [] alts (λ t (e : [] ≡ t ∷ []) f. cc) (one_decides alts)
+    one_decides ((t ∷ []) ∷ alts) = Decides-like (test t || passes_alone test alts) there back (Decides-or (test t) (passes_alone test alts) (known t) (one_decides alts))
+      where
+        there : FitsBelow N bound s t ⊎ FitsOne bound s alts → FitsOne bound s ((t ∷ []) ∷ alts)
+        there (inl f) = (t, contains_first (t ∷ []) alts (t ∷ []) refl, f)
+        there (inr one) = later_one (t ∷ []) alts one
 
-    by_form_or_not : (r : ℕ) (o : Option RuleForm) → slice_get N.rules r ≡ o → OrNot (ByRule bound r s)
-    by_form_or_not r None e = inr (λ by. none-some (RuleForm.regular by.1) (sym e ∙ by.2))
-    by_form_or_not r (Some (RuleForm.regular alts)) e =
-        or_same (FitsOne bound s alts) (ByRule bound r s) (λ one. (one.0, alts, e, one.1, one.2))
+        is_first : (u : Sym) → t ∷ [] ≡ u ∷ [] → FitsBelow N bound s u → FitsBelow N bound s t
+        is_first u e f = let same : u ≡ t = cc in subst (λ (x : Sym). FitsBelow N bound s x) same f
+
+        back : FitsOne bound s ((t ∷ []) ∷ alts) → FitsBelow N bound s t ⊎ FitsOne bound s alts
+        back (u, has, f) = elim (contains_cases (t ∷ []) alts (u ∷ []) has) [ inl is ↦ inl (is_first u is f) | inr later ↦ inr (u, later, f) ]
+    one_decides ((t ∷ u ∷ ts) ∷ alts) = passed (t ∷ u ∷ ts) alts (λ v (e : t ∷ u ∷ ts ≡ v ∷ []) f. cc) (one_decides alts)
+
+    by_form : (r : ℕ) (o : Option RuleForm) → slice_get N.rules r ≡ o → Decides (passes_in_rule test o) (ByRule bound r s)
+    by_form r None e = never (λ by. none-some (RuleForm.regular by.1) (sym e ∙ by.2))
+    by_form r (Some (RuleForm.regular alts)) e =
+        Decides-like (passes_alone test alts) (λ one. (one.0, alts, e, one.1, one.2))
         (λ by.
         let both : Some (RuleForm.regular alts) ≡ Some (RuleForm.regular by.1) = sym e ∙ by.2 in
         let same : by.1 ≡ alts = cc in
         (by.0, subst (λ (l : List (List Sym)). Contains l (by.0 ∷ [])) same by.3, by.4))
-        (one_or_not alts)
-    by_form_or_not r (Some (RuleForm.star x)) e = inr (λ by. let both : Some (RuleForm.star x) ≡ Some (RuleForm.regular by.1) = sym e ∙ by.2 in cc)
-    by_form_or_not r (Some (RuleForm.plus x)) e = inr (λ by. let both : Some (RuleForm.plus x) ≡ Some (RuleForm.regular by.1) = sym e ∙ by.2 in cc)
-    by_form_or_not r (Some (RuleForm.opt x)) e = inr (λ by. let both : Some (RuleForm.opt x) ≡ Some (RuleForm.regular by.1) = sym e ∙ by.2 in cc)
+        (one_decides alts)
+    by_form r (Some (RuleForm.star x)) e = never (λ by. let both : Some (RuleForm.star x) ≡ Some (RuleForm.regular by.1) = sym e ∙ by.2 in cc)
+    by_form r (Some (RuleForm.plus x)) e = never (λ by. let both : Some (RuleForm.plus x) ≡ Some (RuleForm.regular by.1) = sym e ∙ by.2 in cc)
+    by_form r (Some (RuleForm.opt x)) e = never (λ by. let both : Some (RuleForm.opt x) ≡ Some (RuleForm.regular by.1) = sym e ∙ by.2 in cc)
 
-  and_or_not : (P Q : Type 0) → OrNot P → OrNot Q → OrNot (P × Q)
-  and_or_not P Q (inl p) (inl q) = inl (p, q)
-  and_or_not P Q (inl p) (inr not) = inr (λ both. not both.1)
-  and_or_not P Q (inr not) q = inr (λ both. not both.0)
+  below_decides : (bound : ℕ) (s t : Sym) → Decides (fits_by bound N s t) (FitsBelow N bound s t)
+  below_decides zero s t = plain_decides s t
+  below_decides (suc bound) s t =
+      let rule : Bool = passes_in_rule (fits_by bound N s) (slice_get N.rules bound) in
+      Decides-like (fits_by (suc bound) N s t) (join bound s t) (split bound s t)
+      (Decides-or (fits_by bound N s t) (fits_by bound N (Rule bound) t && rule) (below_decides bound s t)
+      (Decides-and (fits_by bound N (Rule bound) t) rule (below_decides bound (Rule bound) t)
+      (by_form bound s (fits_by bound N s) (below_decides bound s) bound (slice_get N.rules bound) refl)))
 
-  either_or_not : (P Q : Type 0) → OrNot P → OrNot Q → OrNot (P ⊎ Q)
-  either_or_not P Q (inl p) q = inl (inl p)
-  either_or_not P Q (inr not) (inl q) = inl (inr q)
-  either_or_not P Q (inr not) (inr nor) = inr (λ either. elim either [ inl p ↦ not p | inr q ↦ nor q ])
-
-  below_or_not : (bound : ℕ) (s t : Sym) → OrNot (FitsBelow N bound s t)
-  below_or_not zero s t = elim (same_symbol s t) [
-    | inl same ↦ inl (subst (λ (x : Sym). FitsBelow N zero s x) same (itself_below s))
-    | inr other ↦ other_or_not s t other
-  ]
-  below_or_not (suc bound) s t =
-      or_same (Split bound s t) (FitsBelow N (suc bound) s t) (join bound s t) (split bound s t)
-      (either_or_not (FitsBelow N bound s t) (FitsBelow N bound (Rule bound) t × ByRule bound bound s) (below_or_not bound s t)
-      (and_or_not (FitsBelow N bound (Rule bound) t) (ByRule bound bound s) (below_or_not bound (Rule bound) t)
-      (by_form_or_not bound s (below_or_not bound s) bound (slice_get N.rules bound) refl)))
+pub decides : FitsInDecides
+unfolding fits_in
+decides N s t = Decides-like (fits_by (length N.rules) N s t) (from_below N (length N.rules) s t) (to_below N s t) (below_decides N (length N.rules) s t)
 
 pub decided : FitsIsDecided
-decided N s t = or_same (FitsBelow N (length N.rules) s t) (Fits N s t) (from_below N (length N.rules) s t) (to_below N s t) (below_or_not N (length N.rules) s t)
-
-fits_true : (N : NormalForm) (s t : Sym) (o : FitsOrNot N s t) → IsTrue (does_fit o) ↔ Fits N s t
-fits_true N s t (inl f) = (λ is. f, λ f. refl)
-fits_true N s t (inr not) = (λ (is : false ≡ true). absurd (cc), λ f. absurd (not f))
-
-pub decides : FitsByDecides
-decides decided N s t = fits_true N s t (decided N s t)
+decided N s t = step (fits_in N s t) (decides N s t)
+  where
+    step : (b : Bool) → Decides b (Fits N s t) → FitsOrNot N s t
+    step true d = inl (d.0 refl)
+    step false d = inr (λ f. true≢false (sym (d.1 f)))

@@ -1,6 +1,5 @@
 -- Which of the trees below a node can take its position.
-use Rattle.std.specs.Prelude.{◌↔◌, ◌⊎◌, ◌&&◌, Bool, true, false, IsTrue, List, nat_lt}
-use Rattle.std.proofs.Common.{inl, inr}
+use Rattle.std.specs.Prelude.{◌↔◌, ◌⊎◌, ◌&&◌, Bool, IsTrue, List, nat_lt}
 use Rattle.std.specs.List.{filter}
 use Rattle.normal_form.specs.declared.normal.Sym.{Sym}
 use Rattle.normal_form.specs.Form.{NormalForm}
@@ -27,16 +26,3 @@ FitsOrNot N s t = Fits N s t ⊎ (Fits N s t → ⊥)
 -- In each form, each symbol fits each slot or doesn't.
 abbrev pub FitsIsDecided : Type 0
 FitsIsDecided = (N : NormalForm) (s t : Sym) → FitsOrNot N s t
-
--- whether it does
-abbrev pub does_fit : {N : NormalForm} {s t : Sym} → FitsOrNot N s t → Bool
-does_fit (inl fits) = true
-does_fit (inr not) = false
-
--- whether the symbol fits the slot, where that is known of all symbols and slots
-abbrev pub fits_by : FitsIsDecided → NormalForm → Sym → Sym → Bool
-fits_by decided N s t = does_fit (decided N s t)
-
--- Such a function says it of each symbol.
-abbrev pub FitsByDecides : Type 0
-FitsByDecides = (decided : FitsIsDecided) (N : NormalForm) → DecidesFits N (fits_by decided N)

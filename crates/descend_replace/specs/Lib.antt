@@ -3,4 +3,5 @@ pub use Rattle.compat_table.specs.Fits
 pub use Rattle.syntax_tree.specs as SyntaxTree
 pub use Rattle.syntax_tree_cut.specs.Cuts
 pub mod Compatible
+pub mod FitsIn
 pub mod LevelLaws

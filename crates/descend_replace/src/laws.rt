@@ -1,7 +1,8 @@
 //! What follows from the definitions. Each law is a function that does nothing: a caller calls it so
 //! that its proof has the law.
 
-ghost use Rattle.descend_replace.specs.Compatible.{FitsByDecides, FitsIsDecided};
+ghost use Rattle.descend_replace.specs.Compatible.{FitsIsDecided};
+ghost use Rattle.descend_replace.specs.FitsIn.{FitsInDecides};
 ghost use Rattle.descend_replace.specs.LevelLaws.{LevelsAreChildren};
 
 /// Each symbol fits each slot or doesn't, in every form: there is a procedure that says which.
@@ -9,9 +10,9 @@ pub fn fits_is_decided()
     ensures { FitsIsDecided }
 {}
 
-/// `fits_by` is true exactly where the symbol fits the slot.
-pub fn fits_by_decides()
-    ensures { FitsByDecides }
+/// `fits_in` is true exactly where the symbol fits the slot.
+pub fn fits_in_decides()
+    ensures { FitsInDecides }
 {}
 
 /// Each level below a tree has the children of the level above it, in their order.

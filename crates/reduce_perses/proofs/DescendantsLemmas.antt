@@ -21,7 +21,7 @@ use Rattle.syntax_tree.proofs.OtherNodes.{other_nodes}
 use Rattle.syntax_tree.proofs.SingleEdits.{local_edits}
 use Rattle.syntax_tree_cut.specs.Cuts.{CanReplace}
 use Rattle.descend_replace.specs.Compatible.{compatible}
-use Rattle.descend_replace.proofs.Deciding.{decided, decides}
+use Rattle.descend_replace.proofs.Deciding.{decides}
 use Rattle.descend_replace.proofs.Found.{below_found}
 use Rattle.reduce_perses_trials.specs.Queued.{IsInRound, nodes_in, with_trees}
 use Rattle.reduce_perses_trials.specs.Visit.{each_tried, form_visited, node_visited}
@@ -29,7 +29,7 @@ use Rattle.reduce_perses_trials.specs.Laws.{GoesOn}
 use Rattle.reduce_perses_trials.proofs.Descending.{IsCompatible, all_compatible}
 use Rattle.reduce_perses_trials.proofs.NodeFacts.{is_some, node_rises}
 use Rattle.reduce_perses.specs.declared.visit.Visit.{Visit}
-use Rattle.reduce_perses.specs.FitsIn.{fits_in}
+use Rattle.descend_replace.specs.FitsIn.{fits_in}
 use Rattle.reduce_perses.specs.VisitTrials.{descendants_tried, goes_on}
 use Rattle.reduce_perses.specs.Visiting.{AreFound, GoesOnWith, HasFewer, IsRegular, IsTaken, descendants_at, node_trials}
 use Rattle.reduce_perses.proofs.WaitingLemmas.{children_fewer}
@@ -98,7 +98,7 @@ module _ (N : NormalForm) (s : Sym) (t : PlainTree) (later : List Waiting) (n : 
         ∙ ap (λ at_no. Try (with_subtree n (tree_at at) t) (goes_on N s (with_subtree n (tree_at at) t) (with_trees (PlainTrees.next (tree_at at) PlainTrees.none) later)) at_no) (sym (are_tried (at + 1)))
 
     compatible_at : IsCompatible N are.slot node (tree_at at)
-    compatible_at = all_at (IsCompatible N are.slot node) trees at node (all_compatible N (fits_in N) (decides decided N) are.slot node) (within_trees at lt)
+    compatible_at = all_at (IsCompatible N are.slot node) trees at node (all_compatible N (fits_in N) (decides N) are.slot node) (within_trees at lt)
 
     number_at : (by d : ℕ) → by ≡ get_or found at d → by ≡ number_of (tree_at at)
     number_at by d is = is ∙ ap (λ l. get_or l at d) are.found_are ∙ get_or-map number_of trees at node d (within_trees at lt)

@@ -40,7 +40,7 @@ use Rattle.reduce_perses_trials.proofs.Selecting.{selected_all}
 use Rattle.reduce_perses_trials.proofs.Visits.{same_with}
 use Rattle.reduce_perses.specs.declared.visit.Visit.{Visit}
 use Rattle.reduce_perses.specs.declared.visit.Visit.TheVariants.{Elements}
-use Rattle.reduce_perses.specs.FitsIn.{fits_in}
+use Rattle.descend_replace.specs.FitsIn.{fits_in}
 use Rattle.reduce_perses.specs.VisitTrials.{elements_tried, goes_on, with_kept}
 use Rattle.reduce_perses.specs.Visiting.{GoesOnWith, HasFewer, IsElements, IsList, IsTaken, list_rule, node_trials}
 use Rattle.reduce_perses.proofs.WaitingLemmas.{children_fewer}

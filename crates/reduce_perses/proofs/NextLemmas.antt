@@ -20,14 +20,14 @@ use Rattle.reduce_perses_trials.proofs.Forms.{optional_form}
 use Rattle.reduce_perses_trials.proofs.Rounds.{round_begins, rounds_go_by_visits, visits_go_on}
 use Rattle.reduce_perses.specs.declared.visit.Visit.{Visit}
 use Rattle.reduce_perses.specs.declared.visit.Visit.TheVariants.{Content}
-use Rattle.reduce_perses.specs.FitsIn.{fits_in}
+use Rattle.descend_replace.specs.FitsIn.{fits_in}
 use Rattle.reduce_perses.specs.VisitTrials.{content_tried, goes_on, trials_from, trials_within}
 use Rattle.reduce_perses.specs.Visiting.{GoesOnWith, HasFewer, IsContent, IsGoing, IsTaken, node_trials, size_at}
 use Rattle.descend_replace.specs.Compatible.{DecidesFits}
-use Rattle.descend_replace.proofs.Deciding.{decided, decides}
+use Rattle.descend_replace.proofs.Deciding.{decides}
 
 fits_decides : (N : NormalForm) → DecidesFits N (fits_in N)
-fits_decides N = decides decided N
+fits_decides N = decides N
 
 optional_rule : (o : Option RuleForm) → option_map shape_of_form o ≡ Some Optional → (x : Sym) × (o ≡ Some (RuleForm.opt x))
 optional_rule None e = absurd (none-some Optional e)

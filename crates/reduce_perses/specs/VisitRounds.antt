@@ -4,7 +4,7 @@ use Rattle.normal_form.specs.Form.{NormalForm}
 use Rattle.reduce_rounds.specs.Trials.{Trials}
 use Rattle.syntax_tree.specs.Trees.{PlainTree}
 use Rattle.reduce_perses_trials.specs.Visit.{visit}
-use Rattle.reduce_perses.specs.FitsIn.{fits_in}
+use Rattle.descend_replace.specs.FitsIn.{fits_in}
 
 -- it visits the nodes of the tree, and a descendant can replace one whose slot it fits
 abbrev pub visit_round : NormalForm → Sym → PlainTree → Trials PlainTree

@@ -15,7 +15,7 @@ use Rattle.reduce_perses_trials.specs.Queued.{with_trees}
 use Rattle.reduce_perses_trials.specs.Visit.{each_tried, optional_visited, visit_from}
 use Rattle.reduce_perses.specs.declared.visit.Visit.{Visit}
 use Rattle.reduce_perses.specs.declared.visit.Visit.TheVariants.{Elements, Content, Descendants}
-use Rattle.reduce_perses.specs.FitsIn.{fits_in}
+use Rattle.descend_replace.specs.FitsIn.{fits_in}
 
 -- the tree t, in which the node v, a star or plus, has those of its elements that the list step keeps
 abbrev pub with_kept : PlainTree → State → Option PlainTree → PlainTree

@@ -19,7 +19,7 @@ use Rattle.reduce_perses_trials.specs.Laws.{IsNextVisit}
 use Rattle.reduce_walk.specs.WalkState.{WalkState}
 use Rattle.reduce_perses.specs.declared.visit.Visit.{Visit}
 use Rattle.reduce_perses.specs.declared.visit.Visit.TheVariants.{Elements, Content, Descendants}
-use Rattle.reduce_perses.specs.FitsIn.{fits_in}
+use Rattle.descend_replace.specs.FitsIn.{fits_in}
 use Rattle.reduce_perses.specs.VisitTrials.{descendants_tried, goes_on, trials_from, trials_within, tree_left}
 
 -- the rule of a list: a star, where it may be empty, or else a plus

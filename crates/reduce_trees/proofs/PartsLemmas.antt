@@ -12,18 +12,17 @@ use Rattle.normal_form.specs.Form.{NormalForm}
 use Rattle.normal_form.specs.NormalOf.{normal_of}
 use Rattle.syntax_tree.specs.Trees.{kinds_of}
 use Rattle.syntax_tree.specs.Nodes.{SyntaxTree, whole}
-use Rattle.token_laws.specs.Readings.{TokensByReading}
-use Rattle.token_laws.proofs.Reading.{each_is_read}
+use Rattle.token_laws.specs.Readings.{TokensAreFound}
 use Rattle.reduce_step.specs.Limits.{text_limit}
 use Rattle.reduce_trees_mode.specs.FormedProp.{well_formed_prop}
 use Rattle.reduce_trees_mode.specs.InputOf.{input_of}
 use Rattle.reduce_trees.specs.Parts.{BelongTogether}
 
 module _ (grammar : CheckedGrammar) (tree : SyntaxTree) (start : List ℕ) (tokens : List Token) (admits : List ℕ → List ℕ → Bool) (squeezes : Bool) where
-  pub belong : (formed : IsWellFormed grammar.grammar grammar.start) (compat : NormalForm) → TokensByReading → IsChecked grammar → length start ≤ text_limit → HasTokens grammar.grammar (chars start) (map token_of tokens) →
+  pub belong : (formed : IsWellFormed grammar.grammar grammar.start) (compat : NormalForm) → TokensAreFound → IsChecked grammar → length start ≤ text_limit → HasTokens grammar.grammar (chars start) (map token_of tokens) →
       tree.form ≡ normal_of grammar → tree.start ≡ Rule tree.form.start → kinds_of (whole tree) ≡ map (λ (t : PlacedToken). t.kind) (map token_of tokens) → compat ≡ tree.form →
       BelongTogether (input_of grammar formed tree start tokens admits squeezes) compat
-  belong formed compat by_reading checked short has form symbol kinds same =
+  belong formed compat found checked short has form symbol kinds same =
       record {
         kinds = ap (λ kinds. record { grammar = grammar.grammar; kinds = kinds; start = grammar.start }) checked.numbered;
         small = checked.small;
@@ -31,7 +30,7 @@ module _ (grammar : CheckedGrammar) (tree : SyntaxTree) (start : List ℕ) (toke
             record {
               form_is = form;
               symbol_is = symbol;
-              tokens_are = (by_reading each_is_read grammar.grammar grammar.start formed (chars start) (map token_of tokens)).1 has;
+              tokens_are = (found grammar.grammar grammar.start formed (chars start) (map token_of tokens)).1 has;
               kinds_are = kinds;
             };
         compat_is = same;

@@ -1,8 +1,7 @@
 -- Candidates by the numbers of the tokens that they keep.
 use Rattle.std.specs.Prelude.{◌≡◌, ◌&&◌, ◌≤◌, ℕ, Bool, List, length}
-use Rattle.token_laws.specs.Readings.{spells_by}
+use Rattle.token_laws.specs.Readings.{spells}
 use Rattle.token_laws.specs.Spelling.{kinds_and_spellings}
-use Rattle.token_laws.proofs.Reading.{each_is_read}
 use Rattle.token_print.specs.declared.style.Style.{Style}
 use Rattle.reduce_step.specs.Limits.{text_limit}
 use Rattle.reduce_trees_mode.specs.Input.{TreeInput}
@@ -12,7 +11,7 @@ use Rattle.reduce_trees.specs.declared.candidate.Candidate.{Candidate}
 -- whether the text of these tokens is cut into them again, and is admitted
 abbrev pub is_listed_in : TreeInput → List ℕ → Style → Bool
 is_listed_in input kept style =
-    spells_by each_is_read input.grammar.grammar input.grammar.start input.formed (text_in input kept style) (kinds_and_spellings input.start input.tokens kept)
+    spells input.grammar.grammar (text_in input kept style) (kinds_and_spellings input.start input.tokens kept)
     && input.admits kept (text_in input kept style)
 
 -- The candidate is that of these tokens.

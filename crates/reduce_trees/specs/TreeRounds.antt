@@ -7,7 +7,7 @@ use Rattle.reduce_rounds.specs.Reduction.{RoundEnd}
 use Rattle.syntax_tree.specs.Trees.{PlainTree}
 use Rattle.reduce_trees_mode.specs.Input.{TreeInput}
 use Rattle.reduce_perses_trials.specs.VisitEnd.{visit_end}
-use Rattle.reduce_perses.specs.FitsIn.{fits_in}
+use Rattle.descend_replace.specs.FitsIn.{fits_in}
 use Rattle.reduce_hdd_trials.specs.Followed.{levels_end}
 
 -- it visits node after node, the heaviest first, or it goes level after level, from the root down

@@ -11,8 +11,8 @@ use crate::parts::{HasInput, TreeParts};
 use faults::Memory;
 use keep_guard::Relation;
 use std::alloc::Global;
-use token_laws::spelled_by_reading;
-use token_print::{Style, keeps_tokens, print, printed_by_reading};
+use token_laws::spelled_are_found;
+use token_print::{Style, keeps_tokens, print, printed_with_skips};
 
 /// The text of a tree, how many tokens it has, and whether it may be asked.
 #[derive(Drop)]
@@ -48,7 +48,7 @@ pub(crate) fn text_of<F: Relation>(
     ensures { IfOk result (λ text. text.items ≡ text_in (⟦<TreeParts<F> as HasInput>⟧.input parts.now) kept.now style) }
 {
     parts.is_input();
-    printed_by_reading();
+    printed_with_skips();
     let start = parts.start.as_str();
     let text = print(alloc, start, &parts.tokens, &parts.lexer, kept, style)?;
     Ok(text)
@@ -61,7 +61,7 @@ fn is_listed<F: Relation>(parts: &TreeParts<F>, kept: &[u32], text: &[u8]) -> Re
     ensures { IfOk result (λ listed. (style : TextStyle) → text.now ≡ text_in (⟦<TreeParts<F> as HasInput>⟧.input parts.now) kept.now style → listed ≡ is_listed_in (⟦<TreeParts<F> as HasInput>⟧.input parts.now) kept.now style) }
 {
     parts.is_input();
-    spelled_by_reading();
+    spelled_are_found();
     let start = parts.start.as_str();
     let keeps = keeps_tokens(start, &parts.tokens, &parts.lexer, kept, text)?;
     if !keeps {

@@ -21,7 +21,7 @@ use keep_guard::{Guard, Relation};
 use lexer::{Lexer, Tokens};
 use reduce_trees_mode::parts_join;
 use syntax_tree::Tree;
-use token_laws::tokens_by_reading;
+use token_laws::tokens_are_found;
 
 /// What never changes in a reduction of trees: the start's text, its tokens and their tree, the lexer
 /// of its grammar, which symbols fit which slots, which candidates are admitted, and whether the
@@ -71,7 +71,7 @@ impl<F: Relation> TreeParts<F> {
         requires compat { compat ≡ tree.form }
         ensures { (formed : IsWellFormed lexer.grammar lexer.start) → ⟦<TreeParts<F> as HasInput>⟧.input result ≡ input_of lexer formed tree (string_bytes start) tokens.items.items (F.admits guard) squeezes }
     {
-        tokens_by_reading();
+        tokens_are_found();
         TreeParts {
             start,
             tokens,

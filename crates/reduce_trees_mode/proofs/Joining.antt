@@ -1,12 +1,11 @@
 -- The parts of an input.
-use Rattle.token_laws.specs.Readings.{TokensByReading}
-use Rattle.token_laws.proofs.Reading.{each_is_read}
+use Rattle.token_laws.specs.Readings.{TokensAreFound}
 use Rattle.std.specs.Str.{chars}
 use Rattle.reduce_trees_mode.specs.InputParts.{PartsJoin}
 
-pub parts_join : TokensByReading → PartsJoin
-parts_join by_reading input =
-    let law = by_reading each_is_read input.grammar.grammar input.grammar.start input.formed (chars input.start) input.tokens in
+pub parts_join : TokensAreFound → PartsJoin
+parts_join found input =
+    let law = found input.grammar.grammar input.grammar.start input.formed (chars input.start) input.tokens in
     record {
       is = λ checked utf8 is_whole joined.
           record {

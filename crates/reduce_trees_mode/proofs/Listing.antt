@@ -10,14 +10,13 @@ use Rattle.normal_form.specs.Form.{NormalForm}
 use Rattle.normal_form.specs.Laws.{EqualLanguages}
 use Rattle.normal_form.specs.NormalDerives.{NormalDerives}
 use Rattle.normal_form.specs.NormalOf.{normal_of}
-use Rattle.token_laws.specs.Readings.{SpelledByReading, spells_by}
+use Rattle.token_laws.specs.Readings.{SpelledAreFound, spells}
 use Rattle.token_laws.specs.Spelling.{kinds_and_spellings}
-use Rattle.token_laws.proofs.Reading.{each_is_read}
 use Rattle.syntax_tree.specs.Trees.{kinds_of, leaves, weight}
 use Rattle.syntax_tree.specs.Laws.{ValidTreesAreDerived}
 use Rattle.syntax_tree.specs.LeftLaws.{LeavesKeepKinds, LeftIsPart}
 use Rattle.token_print.specs.Kept.{AreKept}
-use Rattle.token_print.specs.Laws.{KeptKinds, PrintedByReading, all_kept}
+use Rattle.token_print.specs.Laws.{KeptKinds, PrintedWithSkips, all_kept}
 use Rattle.reduce_trees_mode.specs.Input.{IsInput, TreeInput, TreeState}
 use Rattle.reduce_trees_mode.specs.Candidates.{InLanguage}
 use Rattle.reduce_trees_mode.specs.Listed.{IsKept, IsListed, text_of_state}
@@ -33,11 +32,11 @@ both_true a b one two = ap (λ (x : Bool). x && b) one ∙ two
 
 -- whether the state's text keeps its tokens
 abbrev keeps_them : TreeInput → TreeState → Bool
-keeps_them input state = spells_by each_is_read input.grammar.grammar input.grammar.start input.formed (text_of_state input state) (kinds_and_spellings input.start input.tokens (leaves state.tree))
+keeps_them input state = spells input.grammar.grammar (text_of_state input state) (kinds_and_spellings input.start input.tokens (leaves state.tree))
 
-pub listed_is_decided : SpelledByReading → ListedIsDecided
+pub listed_is_decided : SpelledAreFound → ListedIsDecided
 listed_is_decided spelled input state =
-    let law = spelled each_is_read input.grammar.grammar input.grammar.start input.formed (text_of_state input state) (kinds_and_spellings input.start input.tokens (leaves state.tree)) in (
+    let law = spelled input.grammar.grammar input.grammar.start input.formed (text_of_state input state) (kinds_and_spellings input.start input.tokens (leaves state.tree)) in (
       λ is.
           let both = and_true (keeps_them input state) (input.admits (leaves state.tree) (text_of_state input state)) is in
           record { keeps = law.0 both.0; admitted = both.1 },
@@ -84,13 +83,13 @@ module _ (input : TreeInput) (of : IsInput input) where
               (subst (λ (w : List ℕ). NormalDerives (normal_of input.grammar) (Rule (normal_of input.grammar).start) w) (kinds_left keep ∙ sym found.2) (derived valid));
         }
 
-pub listed_are_candidates : PrintedByReading → LeftIsPart → ValidTreesAreDerived → LeavesKeepKinds → KeptKinds → EqualLanguages → ListedAreCandidates
+pub listed_are_candidates : PrintedWithSkips → LeftIsPart → ValidTreesAreDerived → LeavesKeepKinds → KeptKinds → EqualLanguages → ListedAreCandidates
 listed_are_candidates printed part valid keep kinds equal input state of kept listed =
     record {
       kept = leaves state.tree;
       style = state.style;
       are_kept = are_kept input of state kept part;
-      printed_so = (printed each_is_read input.grammar.grammar input.grammar.start input.formed input.start input.tokens (leaves state.tree) state.style (text_of_state input state)).1 refl;
+      printed_so = (printed input.grammar.grammar input.grammar.start input.formed input.start input.tokens (leaves state.tree) state.style (text_of_state input state)).1 refl;
       keeps = listed.keeps;
       admitted = listed.admitted;
       in_language = in_language input of state kept part valid keep kinds equal listed;

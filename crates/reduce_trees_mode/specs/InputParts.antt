@@ -5,8 +5,7 @@ use Rattle.std.specs.Coded.{Coded-set, code_by, coded×, coded_list, coded_optio
 use Rattle.std.specs.Str.{chars, IsUtf8}
 use Rattle.grammar_tree.specs.Checked.{IsChecked}
 use Rattle.grammar_tree.specs.Lexes.{PlacedToken}
-use Rattle.token_laws.specs.Readings.{tokens_by}
-use Rattle.token_laws.proofs.Reading.{each_is_read}
+use Rattle.token_laws.specs.Reading.{tokens_in}
 use Rattle.normal_form.specs.declared.normal.Sym.{Sym}
 use Rattle.normal_form.specs.declared.normal.Sym.TheVariants.{Rule}
 use Rattle.normal_form.specs.Code.{normal_coded, symbol_coded}
@@ -20,7 +19,7 @@ use Rattle.reduce_trees_mode.specs.Input.{IsInput, TreeInput}
 pub record AreJoined (input : TreeInput) : Type 0 where
   pub form_is : input.form ≡ normal_of input.grammar
   pub symbol_is : input.symbol ≡ Rule input.form.start
-  pub tokens_are : tokens_by each_is_read input.grammar.grammar input.grammar.start input.formed (chars input.start) ≡ Some input.tokens
+  pub tokens_are : tokens_in input.grammar.grammar (chars input.start) ≡ Some input.tokens
   pub kinds_are : kinds_of input.whole ≡ map (λ (t : PlacedToken). t.kind) input.tokens
 
 pub form_set : IsSet NormalForm

@@ -1,21 +1,20 @@
 -- The texts of states, and which states may be asked.
 use Rattle.std.specs.Prelude.{ℕ, ◌<◌, ◌&&◌, ⊤, Bool, List, IsTrue, length}
-use Rattle.token_laws.specs.Readings.{spells_by}
+use Rattle.token_laws.specs.Readings.{spells}
 use Rattle.token_laws.specs.Spelling.{kinds_and_spellings}
-use Rattle.token_laws.proofs.Reading.{each_is_read}
 use Rattle.syntax_tree.specs.Trees.{leaves}
 use Rattle.syntax_tree.specs.Valid.{IsTreeFor}
 use Rattle.syntax_tree.specs.Left.{IsRemainderOf}
 use Rattle.token_print.specs.declared.style.Skips.{Skips}
 use Rattle.token_print.specs.declared.style.Style.{Style}
 use Rattle.token_print.specs.Kept.{KeepsTokens}
-use Rattle.token_print.specs.Laws.{skips_by}
+use Rattle.token_print.specs.Laws.{skips_in}
 use Rattle.token_print.specs.Printed.{printed}
 use Rattle.reduce_trees_mode.specs.Input.{TreeInput, TreeState}
 
 -- which of the characters that separate tokens the grammar skips
 abbrev pub skips_of : TreeInput → Skips
-skips_of input = skips_by each_is_read input.grammar.grammar input.grammar.start input.formed
+skips_of input = skips_in input.grammar.grammar
 
 -- the text of some of the start's tokens
 abbrev pub text_in : TreeInput → List ℕ → Style → List ℕ
@@ -33,7 +32,7 @@ pub record IsListed (input : TreeInput) (state : TreeState) : Type 0 where
 -- whether it may: each text is read to its end or to where it stops, so it is known which tokens it spells
 abbrev pub is_listed : TreeInput → TreeState → Bool
 is_listed input state =
-    spells_by each_is_read input.grammar.grammar input.grammar.start input.formed (text_of_state input state) (kinds_and_spellings input.start input.tokens (leaves state.tree))
+    spells input.grammar.grammar (text_of_state input state) (kinds_and_spellings input.start input.tokens (leaves state.tree))
     && input.admits (leaves state.tree) (text_of_state input state)
 
 -- The style is one that a reduction may reach: squeezed texts are kept only where they are asked for, and where that of the whole has fewer bytes than the start.

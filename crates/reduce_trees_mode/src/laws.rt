@@ -6,9 +6,9 @@ ghost use Rattle.reduce_trees_mode.specs.Laws.{ListedAreCandidates, ListedIsDeci
 
 use normal_form::equal_languages;
 use syntax_tree::{leaves_keep_kinds, left_is_part, left_is_reflexive, valid_trees_are_derived};
-use token_laws::{spelled_by_reading, tokens_by_reading};
+use token_laws::{spelled_are_found, tokens_are_found};
 use token_print::{
-    all_kept_is_start, kept_kinds, no_longer_than_all, no_longer_than_start, printed_by_reading,
+    all_kept_is_start, kept_kinds, no_longer_than_all, no_longer_than_start, printed_with_skips,
     start_keeps_tokens,
 };
 
@@ -23,14 +23,14 @@ pub fn well_formed_once()
 pub fn parts_join()
     ensures { PartsJoin }
 {
-    tokens_by_reading();
+    tokens_are_found();
 }
 
 /// `is_listed` is true exactly of the states that may be asked.
 pub fn listed_is_decided()
     ensures { ListedIsDecided }
 {
-    spelled_by_reading();
+    spelled_are_found();
 }
 
 /// The text of a state that is kept and may be asked is a candidate: above all, it is in the language
@@ -38,7 +38,7 @@ pub fn listed_is_decided()
 pub fn listed_are_candidates()
     ensures { ListedAreCandidates }
 {
-    printed_by_reading();
+    printed_with_skips();
     left_is_part();
     valid_trees_are_derived();
     leaves_keep_kinds();

@@ -1,5 +1,5 @@
--- What is read of a text is what it has.
-use Rattle.std.proofs.Common.{◌≡◌, ◌⊎◌, inl, inr, ◌↔◌, ℕ, ◌+◌, Bool, true, false, ◌&&◌, cond, List, [], ◌∷◌, ◌++◌, map, length, Option, Some, None, refl, sym, ap, ap₂, ◌∙◌, subst, true≢false, eq-eqb}
+-- What the plain function reads of a text is what it has.
+use Rattle.std.proofs.Common.{◌≡◌, ◌↔◌, ℕ, ◌+◌, Bool, true, false, ◌&&◌, cond, List, [], ◌∷◌, ◌++◌, map, length, Option, Some, None, refl, sym, ap, ap₂, ◌∙◌, subst, true≢false, eq-eqb}
 use Rattle.std.specs.Prelude.{encode_utf8_all}
 use Rattle.std.specs.Str.{chars, is_utf8}
 use Rattle.std.proofs.lemmas.Bool.{and_parts, and_from, eqb-true}
@@ -7,19 +7,21 @@ use Rattle.std.proofs.lemmas.Option.{none-some, same_Some}
 use Rattle.std.proofs.lemmas.Slice.Eq.{bytes_eq-Decides}
 use Rattle.std.proofs.lemmas.Str.{IsUtf8-from_is_utf8, is_utf8-from_IsUtf8}
 use Rattle.grammar_tree.specs.Written.{WrittenGrammar}
-use Rattle.grammar_tree.specs.Lexes.{LexesTo, Piece, PlacedToken, StopsAt, is_gap_kind, placed_tokens}
+use Rattle.grammar_tree.specs.Lexes.{LexesTo, Piece, PlacedToken, is_gap_kind, placed_tokens}
 use Rattle.lexer.specs.Tokens.{HasTokens, IsGapText}
 use Rattle.token_laws.specs.Spelling.{kind_and_spelling}
 use Rattle.token_laws.specs.Spells.{SpellsTokens}
-use Rattle.token_laws.specs.Readings.{GapsByReading, SpelledByReading, TokensByReading, are_none, are_spelled, same_pieces, tokens_by, tokens_read}
+use Rattle.token_laws.specs.Reading.{tokens_in}
+use Rattle.token_laws.specs.Readings.{GapsAreFound, SpelledAreFound, TokensAreFound, are_none, are_spelled, same_pieces}
 use Rattle.token_laws.proofs.Once.{no_stop, unique}
+use Rattle.token_laws.proofs.Reading.{AreTokens, are_tokens}
 
-pub tokens_are : TokensByReading
-tokens_are read G start formed characters tokens = of (read G start characters formed)
+pub tokens_are : TokensAreFound
+tokens_are G start formed characters tokens = of (tokens_in G characters) (are_tokens G start formed characters)
   where
-    of : (r : ((found : List PlacedToken) × HasTokens G characters found) ⊎ ((offset : ℕ) × StopsAt G characters offset)) → (tokens_read r ≡ Some tokens) ↔ HasTokens G characters tokens
-    of (inl (found, has)) = (λ e. subst (HasTokens G characters) (same_Some found tokens e) has, λ also. ap Some (unique G characters found tokens has also))
-    of (inr (offset, stop)) = (λ e. absurd (none-some tokens e), λ has. absurd (no_stop G characters tokens offset has stop))
+    of : (o : Option (List PlacedToken)) → AreTokens G characters o → (o ≡ Some tokens) ↔ HasTokens G characters tokens
+    of (Some found) has = (λ e. subst (HasTokens G characters) (same_Some found tokens e) has, λ also. ap Some (unique G characters found tokens has also))
+    of None (offset, stop) = (λ e. absurd (none-some tokens e), λ has. absurd (no_stop G characters tokens offset has stop))
 
 module _ (G : WrittenGrammar) where
   -- a text of one character is read as one piece
@@ -59,16 +61,16 @@ none_there None e = absurd (true≢false (sym e))
 none_there (Some []) e = refl
 none_there (Some (t ∷ tokens)) e = absurd (true≢false (sym e))
 
-pub gaps_are : GapsByReading
-gaps_are read G start formed c = (there, back)
+pub gaps_are : GapsAreFound
+gaps_are G start formed c = (there, back)
   where
-    there : are_none (tokens_by read G start formed (c ∷ [])) ≡ true → IsGapText G c
+    there : are_none (tokens_in G (c ∷ [])) ≡ true → IsGapText G c
     there e =
-        let (pieces, lexed, are) = (tokens_are read G start formed (c ∷ []) []).0 (none_there (tokens_by read G start formed (c ∷ [])) e) in
+        let (pieces, lexed, are) = (tokens_are G start formed (c ∷ []) []).0 (none_there (tokens_in G (c ∷ [])) e) in
         gap_from G lexed c refl refl (sym are)
 
-    back : IsGapText G c → are_none (tokens_by read G start formed (c ∷ [])) ≡ true
-    back gap = ap are_none ((tokens_are read G start formed (c ∷ []) []).1 (gap_none G c gap))
+    back : IsGapText G c → are_none (tokens_in G (c ∷ [])) ≡ true
+    back gap = ap are_none ((tokens_are G start formed (c ∷ []) []).1 (gap_none G c gap))
 
 same_there : (pieces others : List Piece) → same_pieces pieces others ≡ true → pieces ≡ others
 same_there [] [] e = refl
@@ -89,19 +91,19 @@ spelled_there : (text : List ℕ) (spelled : List Piece) (o : Option (List Place
 spelled_there text spelled None e = absurd (true≢false (sym e))
 spelled_there text spelled (Some tokens) e = (tokens, refl, same_there (map (kind_and_spelling text) tokens) spelled e)
 
-pub spelled_are : SpelledByReading
-spelled_are read G start formed text spelled = (λ e. there (and_parts _ _ e), back)
+pub spelled_are : SpelledAreFound
+spelled_are G start formed text spelled = (λ e. there (and_parts _ _ e), back)
   where
     found : Option (List PlacedToken)
-    found = tokens_by read G start formed (chars text)
+    found = tokens_in G (chars text)
 
     there : (is_utf8 text ≡ true) × (are_spelled text spelled found ≡ true) → SpellsTokens G text spelled
     there (utf8, spells) =
         let (tokens, is, same) = spelled_there text spelled found spells in
-        record { utf8 = IsUtf8-from_is_utf8 text utf8; tokens = tokens; has = (tokens_are read G start formed (chars text) tokens).0 is; same = same }
+        record { utf8 = IsUtf8-from_is_utf8 text utf8; tokens = tokens; has = (tokens_are G start formed (chars text) tokens).0 is; same = same }
 
     back : SpellsTokens G text spelled → (is_utf8 text && are_spelled text spelled found) ≡ true
     back s =
-        let is = (tokens_are read G start formed (chars text) s.tokens).1 s.has in
+        let is = (tokens_are G start formed (chars text) s.tokens).1 s.has in
         let P : List Piece → Type 0 = λ ps. same_pieces (map (kind_and_spelling text) s.tokens) ps ≡ true in
         and_from _ _ (is_utf8-from_IsUtf8 text s.utf8) (ap (are_spelled text spelled) is ∙ subst P s.same (same_self (map (kind_and_spelling text) s.tokens)))

@@ -1,37 +1,26 @@
--- What is decided: each question has the answer yes, with a proof, or the answer no.
-use Rattle.std.proofs.Common.{◌≡◌, ◌⊎◌, inl, inr, ◌↔◌, ℕ, zero, suc, ◌<◌, ◌≤◌, true, false, List, [], ◌∷◌, ◌++◌, length, refl, sym, ap, ◌∙◌, subst, arith, true≢false, length-append}
-use Rattle.std.proofs.lemmas.Bool.{cases_Bool, cases_lt}
-use Rattle.std.proofs.lemmas.Slice.Eq.{bytes_eq-Decides}
-use Rattle.std.specs.Str.{bytes_eq}
+-- What plain tests of texts decide: each is true exactly where something holds.
+use Rattle.std.proofs.Common.{◌≡◌, ◌⊎◌, inl, inr, ◌↔◌, ℕ, zero, suc, ◌<◌, ◌≤◌, Bool, true, false, ◌&&◌, Option, Some, None, List, [], ◌∷◌, ◌++◌, length, refl, sym, ap, subst, arith, true≢false, length-append}
+use Rattle.std.specs.Bool.{Decides}
+use Rattle.std.proofs.lemmas.Bool.{and_from, and_parts, cases_lt}
+use Rattle.std.proofs.lemmas.Bool.Decides.{Decides-and, Decides-or}
 use Rattle.grammar_tree.specs.Laws.{CutsInto}
+use Rattle.token_laws.specs.Reading.{Front, empty_front, is_cut, least_below, longest_front, or_empty, or_this}
 
-abbrev pub Decided : Type 0 → Type 0
-Decided A = A ⊎ (¬ A)
+pub decides_by : {b : Bool} {A B : Type 0} → A ↔ B → Decides b A → Decides b B
+decides_by same d = (λ e. same.0 (d.0 e), λ x. d.1 (same.1 x))
 
-pub decided_by : {A B : Type 0} → A ↔ B → Decided A → Decided B
-decided_by same (inl a) = inl (same.0 a)
-decided_by same (inr never) = inr (λ b. never (same.1 b))
+pub always : {A : Type 0} → A → Decides true A
+always a = (λ e. a, λ x. refl)
 
-pub both : {A B : Type 0} → Decided A → Decided B → Decided (A × B)
-both (inl a) (inl b) = inl (a, b)
-both (inl a) (inr never) = inr (λ (x, y). never y)
-both (inr never) b = inr (λ (x, y). never x)
+pub never : {A : Type 0} → (¬ A) → Decides false A
+never none = (λ e. absurd (true≢false (sym e)), λ x. absurd (none x))
 
-pub either : {A B : Type 0} → Decided A → Decided B → Decided (A ⊎ B)
-either (inl a) b = inl (inl a)
-either (inr never) (inl b) = inl (inr b)
-either {A} {B} (inr never) (inr none) = inr neither
+-- both, where the second need be decided only if the first holds
+pub both_where : {a b : Bool} {A B : Type 0} → Decides a A → (A → Decides b B) → Decides (a && b) (A × B)
+both_where {a} {b} {A} {B} d e = (λ is. there (and_parts a b is), λ (x, y). and_from a b (d.1 x) ((e x).1 y))
   where
-    neither : A ⊎ B → ⊥
-    neither (inl a) = never a
-    neither (inr b) = none b
-
-pub equal_texts : (u v : List ℕ) → Decided (u ≡ v)
-equal_texts u v = step (cases_Bool (bytes_eq u v))
-  where
-    step : (bytes_eq u v ≡ true) ⊎ (bytes_eq u v ≡ false) → Decided (u ≡ v)
-    step (inl e) = inl ((bytes_eq-Decides u v).0 e)
-    step (inr e) = inr (λ same. true≢false (sym ((bytes_eq-Decides u v).1 same) ∙ e))
+    there : (a ≡ true) × (b ≡ true) → A × B
+    there (p, q) = let x = d.0 p in (x, (e x).0 q)
 
 -- how a text that begins with a character is cut
 cut_more : (P Q : List ℕ → Type 0) (c : ℕ) (w : List ℕ) → ((P [] × Q (c ∷ w)) ⊎ CutsInto (λ u. P (c ∷ u)) Q w) ↔ CutsInto P Q (c ∷ w)
@@ -56,18 +45,22 @@ cut_none P Q = (λ (p, q). ([], [], refl, p, q), λ (u, v, e, p, q). back u v e 
     back (d ∷ u) v e p q = absurd cc
 
 -- whether a text is cut in two, where each part is decided
-pub cut : (P Q : List ℕ → Type 0) (w : List ℕ) → ((u v : List ℕ) → w ≡ u ++ v → Decided (P u)) → ((u v : List ℕ) → w ≡ u ++ v → Decided (Q v)) → Decided (CutsInto P Q w)
-cut P Q [] p q = decided_by (cut_none P Q) (both (p [] [] refl) (q [] [] refl))
-cut P Q (c ∷ w) p q =
-    decided_by (cut_more P Q c w)
-    (either
-    (both (p [] (c ∷ w) refl) (q [] (c ∷ w) refl))
-    (cut (λ u. P (c ∷ u)) Q w (λ u v e. p (c ∷ u) v (ap (λ l. c ∷ l) e)) (λ u v e. q (c ∷ u) v (ap (λ l. c ∷ l) e))))
+pub cut : (P Q : List ℕ → Type 0) (p q : List ℕ → Bool) (w : List ℕ) → ((u v : List ℕ) → w ≡ u ++ v → Decides (p u) (P u)) → ((u v : List ℕ) → w ≡ u ++ v → Decides (q v) (Q v)) → Decides (is_cut p q w) (CutsInto P Q w)
+cut P Q p q [] d e = decides_by (cut_none P Q) (Decides-and (p []) (q []) (d [] [] refl) (e [] [] refl))
+cut P Q p q (c ∷ w) d e =
+    decides_by (cut_more P Q c w)
+    (Decides-or (p [] && q (c ∷ w)) (is_cut (λ u. p (c ∷ u)) q w)
+    (Decides-and (p []) (q (c ∷ w)) (d [] (c ∷ w) refl) (e [] (c ∷ w) refl))
+    (cut (λ u. P (c ∷ u)) Q (λ u. p (c ∷ u)) q w (λ u v f. d (c ∷ u) v (ap (λ l. c ∷ l) f)) (λ u v f. e (c ∷ u) v (ap (λ l. c ∷ l) f))))
 
--- the least number below a bound that passes, or that none does
-pub least : (P : ℕ → Type 0) → ((k : ℕ) → Decided (P k)) → (n : ℕ) → ((k : ℕ) × P k × ((j : ℕ) → P j → k ≤ j)) ⊎ ((k : ℕ) → k < n → ¬ P k)
-least P decide zero = inr (λ k h p. omega (arith, h))
-least P decide (suc n) = step (least P decide n) (decide n)
+-- It is the least number that passes; or none below the bound does.
+abbrev pub IsLeast : (ℕ → Type 0) → ℕ → Option ℕ → Type 0
+IsLeast P n (Some k) = P k × ((j : ℕ) → P j → k ≤ j)
+IsLeast P n None = (k : ℕ) → k < n → ¬ P k
+
+pub least : (P : ℕ → Type 0) (p : ℕ → Bool) → ((k : ℕ) → Decides (p k) (P k)) → (n : ℕ) → IsLeast P n (least_below p n)
+least P p decides zero = λ k h x. omega (arith, h)
+least P p decides (suc n) = step (least_below p n) (p n) (least P p decides n) (decides n)
   where
     below : ((k : ℕ) → k < n → ¬ P k) → (j : ℕ) → P j → (j < n) ⊎ (n ≤ j) → n ≤ j
     below none j p (inl h) = absurd (none j h p)
@@ -77,49 +70,58 @@ least P decide (suc n) = step (least P decide n) (decide n)
     last none never k h p (inl lt) = none k lt p
     last none never k h p (inr ge) = never (subst P (omega (arith, h, ge)) p)
 
-    step : ((k : ℕ) × P k × ((j : ℕ) → P j → k ≤ j)) ⊎ ((k : ℕ) → k < n → ¬ P k) → Decided (P n) → ((k : ℕ) × P k × ((j : ℕ) → P j → k ≤ j)) ⊎ ((k : ℕ) → k < suc n → ¬ P k)
-    step (inl found) here = inl found
-    step (inr none) (inl p) = inl (n, p, λ j q. below none j q (cases_lt j n))
-    step (inr none) (inr never) = inr (λ k h p. last none never k h p (cases_lt k n))
+    step : (o : Option ℕ) (b : Bool) → IsLeast P n o → Decides b (P n) → IsLeast P (suc n) (or_this o n b)
+    step (Some k) b found d = found
+    step None true none d = (d.0 refl, λ j x. below none j x (cases_lt j n))
+    step None false none d = λ k h x. last none (λ y. true≢false (sym (d.1 y))) k h x (cases_lt k n)
 
--- the beginning of the text belongs to the language, and no longer one does
-pub record IsLongestFront (M : List ℕ → Type 0) (text front back : List ℕ) : Type 0 where
+-- The text's value is right for it; or no value is.
+abbrev pub IsValue : (List ℕ → ℕ → Type 0) → List ℕ → Option ℕ → Type 0
+IsValue V w (Some k) = V w k
+IsValue V w None = (k : ℕ) → ¬ V w k
+
+-- The beginning of the text is the longest one that has a value.
+pub record IsLongestFront (V : List ℕ → ℕ → Type 0) (text front back : List ℕ) : Type 0 where
   pub cut : text ≡ front ++ back
-  pub belongs : M front
-  pub longest : (other rest : List ℕ) → text ≡ other ++ rest → M other → length other ≤ length front
+  pub longest : (other rest : List ℕ) (k : ℕ) → text ≡ other ++ rest → V other k → length other ≤ length front
 
--- The longest beginning that belongs to the language, or that none does.
-pub longest : (M : List ℕ → Type 0) → ((w : List ℕ) → Decided (M w)) → (text : List ℕ) → ((front : List ℕ) × (back : List ℕ) × IsLongestFront M text front back) ⊎ ((front back : List ℕ) → text ≡ front ++ back → ¬ M front)
-longest M decide [] = step (decide [])
+-- It is that, with its value; or no beginning has one.
+abbrev pub IsFront : (List ℕ → ℕ → Type 0) → List ℕ → Option Front → Type 0
+IsFront V text (Some front) = V front.piece front.kind × IsLongestFront V text front.piece front.rest
+IsFront V text None = (front back : List ℕ) (k : ℕ) → text ≡ front ++ back → ¬ V front k
+
+-- A beginning of a text that begins with c is empty, or goes on from there.
+abbrev GoesOn : (List ℕ → ℕ → Type 0) → ℕ → (text f b : List ℕ) → ℕ → Type 0
+GoesOn V c text f b k = (f ≡ []) ⊎ ((g : List ℕ) × (f ≡ c ∷ g) × (text ≡ g ++ b) × V (c ∷ g) k)
+
+pub longest : (V : List ℕ → ℕ → Type 0) (value : List ℕ → Option ℕ) → ((w : List ℕ) → IsValue V w (value w)) → (text : List ℕ) → IsFront V text (longest_front value text)
+longest V value is [] = step (value []) (is [])
   where
     empty : (f b : List ℕ) → [] ≡ f ++ b → f ≡ []
     empty [] b e = refl
     empty (c ∷ f) b e = absurd cc
 
-    step : Decided (M []) → ((front : List ℕ) × (back : List ℕ) × IsLongestFront M [] front back) ⊎ ((front back : List ℕ) → [] ≡ front ++ back → ¬ M front)
-    step (inl m) = inl ([], [], record { cut = refl; belongs = m; longest = λ f b e n. omega (arith, ap length e, length-append f b) })
-    step (inr never) = inr (λ f b e m. never (subst M (empty f b e) m))
-longest M decide (c ∷ text) = step (longest (λ u. M (c ∷ u)) (λ u. decide (c ∷ u)) text) (decide [])
+    step : (o : Option ℕ) → IsValue V [] o → IsFront V [] (empty_front o [])
+    step (Some k) v = (v, record { cut = refl; longest = λ f b j e n. omega (arith, ap length e, length-append f b) })
+    step None none = λ f b k e v. let P : List ℕ → Type 0 = λ w. V w k in none k (subst P (empty f b e) v)
+longest V value is (c ∷ text) = step (longest_front (λ u. value (c ∷ u)) text) (value []) (longest (λ u. V (c ∷ u)) (λ u. value (c ∷ u)) (λ u. is (c ∷ u)) text) (is [])
   where
-    -- a beginning of at least one character goes on from the first one
-    later : (f b : List ℕ) → c ∷ text ≡ f ++ b → M f → (f ≡ []) ⊎ ((g : List ℕ) × (f ≡ c ∷ g) × (text ≡ g ++ b) × M (c ∷ g))
-    later [] b e m = inl refl
-    later (d ∷ f) b e m =
+    later : (f b : List ℕ) (k : ℕ) → c ∷ text ≡ f ++ b → V f k → GoesOn V c text f b k
+    later [] b k e v = inl refl
+    later (d ∷ f) b k e v =
         let first : d ≡ c = cc in
         let rest : text ≡ f ++ b = cc in
-        let R : ℕ → Type 0 = λ x. M (x ∷ f) in inr (f, ap (λ x. x ∷ f) first, rest, subst R first m)
+        let R : ℕ → Type 0 = λ x. V (x ∷ f) k in inr (f, ap (λ x. x ∷ f) first, rest, subst R first v)
 
-    no_longer : (front back f b : List ℕ) → IsLongestFront (λ u. M (c ∷ u)) text front back → (f ≡ []) ⊎ ((g : List ℕ) × (f ≡ c ∷ g) × (text ≡ g ++ b) × M (c ∷ g)) → length f ≤ length (c ∷ front)
-    no_longer front back f b best (inl e) = omega (arith, ap length e)
-    no_longer front back f b best (inr (g, e, rest, m)) = omega (arith, ap length e, best.longest g b rest m)
+    no_longer : (front back f b : List ℕ) (k : ℕ) → IsLongestFront (λ u. V (c ∷ u)) text front back → GoesOn V c text f b k → length f ≤ length (c ∷ front)
+    no_longer front back f b k best (inl e) = omega (arith, ap length e)
+    no_longer front back f b k best (inr (g, e, rest, v)) = omega (arith, ap length e, best.longest g b k rest v)
 
-    only_empty : (f b : List ℕ) → ((g b : List ℕ) → text ≡ g ++ b → ¬ M (c ∷ g)) → (f ≡ []) ⊎ ((g : List ℕ) × (f ≡ c ∷ g) × (text ≡ g ++ b) × M (c ∷ g)) → f ≡ []
-    only_empty f b none (inl e) = e
-    only_empty f b none (inr (g, e, rest, m)) = absurd (none g b rest m)
+    only_empty : (f b : List ℕ) (k : ℕ) → ((g b : List ℕ) (k : ℕ) → text ≡ g ++ b → ¬ V (c ∷ g) k) → GoesOn V c text f b k → f ≡ []
+    only_empty f b k none (inl e) = e
+    only_empty f b k none (inr (g, e, rest, v)) = absurd (none g b k rest v)
 
-    step : ((front : List ℕ) × (back : List ℕ) × IsLongestFront (λ u. M (c ∷ u)) text front back) ⊎ ((front back : List ℕ) → text ≡ front ++ back → ¬ M (c ∷ front)) → Decided (M []) →
-        ((front : List ℕ) × (back : List ℕ) × IsLongestFront M (c ∷ text) front back) ⊎ ((front back : List ℕ) → c ∷ text ≡ front ++ back → ¬ M front)
-    step (inl (front, back, best)) here =
-        inl (c ∷ front, back, record { cut = ap (λ l. c ∷ l) best.cut; belongs = best.belongs; longest = λ f b e m. no_longer front back f b best (later f b e m) })
-    step (inr none) (inl m) = inl ([], c ∷ text, record { cut = refl; belongs = m; longest = λ f b e n. omega (arith, ap length (only_empty f b none (later f b e n))) })
-    step (inr none) (inr never) = inr (λ f b e m. never (subst M (only_empty f b none (later f b e m)) m))
+    step : (o : Option Front) (s : Option ℕ) → IsFront (λ u. V (c ∷ u)) text o → IsValue V [] s → IsFront V (c ∷ text) (or_empty c text o s)
+    step (Some front) s (v, best) start = (v, record { cut = ap (λ l. c ∷ l) best.cut; longest = λ f b k e n. no_longer front.piece front.rest f b k best (later f b k e n) })
+    step None (Some j) none v = (v, record { cut = refl; longest = λ f b k e n. omega (arith, ap length (only_empty f b k none (later f b k e n))) })
+    step None None none start = λ f b k e v. let P : List ℕ → Type 0 = λ w. V w k in start k (subst P (only_empty f b k none (later f b k e v)) v)

@@ -1,40 +1,41 @@
--- In a well-formed grammar it is decided which texts a lexer rule matches: no rule uses itself, so that there is an end to writing out the names of rules.
-use Rattle.std.proofs.Common.{◌≡◌, ◌≢◌, ◌⊎◌, inl, inr, ◌↔◌, ℕ, zero, suc, ◌+◌, ◌<◌, ◌≤◌, Bool, true, false, ◌||◌, cond, List, [], ◌∷◌, ◌++◌, Some, slice_get, length, refl, sym, ap, ◌∙◌, subst, arith, true≢false, length-append}
+-- In a well-formed grammar the plain tests say which texts a lexer rule matches: no rule uses itself, so that there is an end to writing out the names of rules.
+use Rattle.std.proofs.Common.{◌≡◌, ◌≢◌, ◌⊎◌, inl, inr, ◌↔◌, ℕ, zero, suc, ◌+◌, ◌<◌, ◌≤◌, Bool, true, false, ◌&&◌, ◌||◌, cond, not, List, [], ◌∷◌, ◌++◌, length, refl, sym, ap, ◌∙◌, subst, arith, true≢false, length-append}
+use Rattle.std.specs.Bool.{Decides}
 use Rattle.std.specs.List.{Contains}
+use Rattle.std.specs.Str.{bytes_eq}
 use Rattle.std.proofs.lemmas.Bool.{cases_Bool}
+use Rattle.std.proofs.lemmas.Bool.Decides.{Decides-and, Decides-not, Decides-or}
 use Rattle.std.proofs.lemmas.List.Elements.{Contains-append_left, Contains-append_right}
 use Rattle.std.proofs.lemmas.Slice.Eq.{bytes_eq-Decides}
 use Rattle.grammar_tree.specs.Chars.{has}
-use Rattle.grammar_tree.specs.Written.{LexerTerm, LexerSeq, LexerAlts, LexerRule, WrittenRule, WrittenGrammar}
+use Rattle.grammar_tree.specs.Written.{LexerTerm, LexerSeq, LexerAlts, LexerRule, WrittenGrammar}
 use Rattle.grammar_tree.specs.Kinds.{lexer_rules, same_text}
 use Rattle.grammar_tree.specs.Faults.{IsWellFormed, LexerHasEmptyLoop, LexerHasEmptyLoopSeq, LexerHasEmptyLoopAlts, Uses, UsesThrough, term_names, seq_names, used_names}
 use Rattle.grammar_tree.specs.Laws.{CutsInto}
 use Rattle.grammar_tree.specs.Matches.{Matches, MatchesAlternative, MatchesAlts, MatchesRule, MatchesSeq, is_short}
 use Rattle.grammar_tree.specs.Places.{NamesAreKnown}
+use Rattle.grammar_tree.proofs.Elements.{contains_cases, contains_first, contains_later, contains_none}
 use Rattle.grammar_tree.proofs.MatchForms.{by_form, rule_by_form}
 use Rattle.grammar_tree.proofs.Places.{lexer_places}
 use Rattle.grammar_tree.proofs.Resolved.{well_formed_names}
+use Rattle.token_laws.specs.Reading.{all_match, alternative_matches, has_rule, is_cut, is_cut_up, is_cut_within, is_filled, is_one_of, name_matches, rule_matches, some_match, term_matches}
 use Rattle.token_laws.proofs.Decided as decided
-use Rattle.token_laws.proofs.Decided.{Decided, decided_by}
+use Rattle.token_laws.proofs.Decided.{always, both_where, decides_by, never}
 
 swap : {A B : Type 0} → A ↔ B → B ↔ A
 swap same = (same.1, same.0)
 
 module _ (R : List LexerRule) where
-  one_of : (set : List (ℕ × ℕ)) (w : List ℕ) → Decided (Matches R (LexerTerm.set set) w)
-  one_of set [] = inr (λ m. let (c, e, h) = ((by_form R).set set []).0 m in cc)
-  one_of set (c ∷ []) = step (cases_Bool (has set c))
+  one_of : (set : List (ℕ × ℕ)) (w : List ℕ) → Decides (is_one_of set w) (Matches R (LexerTerm.set set) w)
+  one_of set [] = never (λ m. let (c, e, h) = ((by_form R).set set []).0 m in cc)
+  one_of set (c ∷ []) = (λ is. ((by_form R).set set (c ∷ [])).1 (c, refl, is), λ m. let (d, e, h) = ((by_form R).set set (c ∷ [])).0 m in same d e h)
     where
-      other : has set c ≡ false → (d : ℕ) → c ∷ [] ≡ d ∷ [] → has set d ≡ true → ⊥
-      other never d e h = let same : c ≡ d = cc in true≢false (sym h ∙ ap (has set) (sym same) ∙ never)
-
-      step : (has set c ≡ true) ⊎ (has set c ≡ false) → Decided (Matches R (LexerTerm.set set) (c ∷ []))
-      step (inl is) = inl (((by_form R).set set (c ∷ [])).1 (c, refl, is))
-      step (inr never) = inr (λ m. let (d, e, h) = ((by_form R).set set (c ∷ [])).0 m in other never d e h)
-  one_of set (c ∷ d ∷ w) = inr (λ m. let (x, e, h) = ((by_form R).set set (c ∷ d ∷ w)).0 m in cc)
+      same : (d : ℕ) → c ∷ [] ≡ d ∷ [] → has set d ≡ true → has set c ≡ true
+      same d e h = let one : c ≡ d = cc in ap (has set) one ∙ h
+  one_of set (c ∷ (d ∷ w)) = never (λ m. let (x, e, h) = ((by_form R).set set (c ∷ (d ∷ w))).0 m in cc)
 
   -- a star over a term that doesn't match the empty text
-  module _ (t : LexerTerm) (filled : ¬ Matches R t []) (each : (w : List ℕ) → Decided (Matches R t w)) where
+  module _ (t : LexerTerm) (filled : ¬ Matches R t []) (test : List ℕ → Bool) (each : (w : List ℕ) → Decides (test w) (Matches R t w)) where
     star_more : (c : ℕ) (w : List ℕ) → CutsInto (λ u. Matches R t (c ∷ u)) (Matches R (LexerTerm.star t)) w ↔ Matches R (LexerTerm.star t) (c ∷ w)
     star_more c w = (there, λ m. back (((by_form R).star t (c ∷ w)).0 m))
       where
@@ -52,24 +53,28 @@ module _ (R : List LexerRule) where
         back (inl e) = absurd cc
         back (inr (u, v, e, m, more)) = cut_off u v e m more
 
-    star_within : (n : ℕ) (w : List ℕ) → length w ≤ n → Decided (Matches R (LexerTerm.star t) w)
-    star_within n [] h = inl (((by_form R).star t []).1 (inl refl))
+    star_within : (n : ℕ) (w : List ℕ) → length w ≤ n → Decides (is_cut_within n test w) (Matches R (LexerTerm.star t) w)
+    star_within n [] h = always (((by_form R).star t []).1 (inl refl))
     star_within zero (c ∷ w) h = absurd (omega (arith, h))
     star_within (suc n) (c ∷ w) h =
-        decided_by (star_more c w)
-        (decided.cut (λ u. Matches R t (c ∷ u)) (Matches R (LexerTerm.star t)) w (λ u v e. each (c ∷ u)) (λ u v e. star_within n v (omega (arith, h, ap length e, length-append u v))))
+        decides_by (star_more c w)
+        (decided.cut (λ u. Matches R t (c ∷ u)) (Matches R (LexerTerm.star t)) (λ u. test (c ∷ u)) (is_cut_within n test) w (λ u v e. each (c ∷ u)) (λ u v e. star_within n v (omega (arith, h, ap length e, length-append u v))))
 
-    star_of : (w : List ℕ) → Decided (Matches R (LexerTerm.star t) w)
+    star_of : (w : List ℕ) → Decides (is_cut_up test w) (Matches R (LexerTerm.star t) w)
     star_of w = star_within (length w) w (omega arith)
 
-    plus_of : (w : List ℕ) → Decided (Matches R (LexerTerm.plus t) w)
-    plus_of w = decided_by (swap ((by_form R).plus t w)) (decided.cut (Matches R t) (Matches R (LexerTerm.star t)) w (λ u v e. each u) (λ u v e. star_of v))
+    plus_of : (w : List ℕ) → Decides (is_cut test (is_cut_up test) w) (Matches R (LexerTerm.plus t) w)
+    plus_of w = decides_by (swap ((by_form R).plus t w)) (decided.cut (Matches R t) (Matches R (LexerTerm.star t)) test (is_cut_up test) w (λ u v e. each u) (λ u v e. star_of v))
 
   set_filled : (set : List (ℕ × ℕ)) → ¬ Matches R (LexerTerm.set set) []
   set_filled set m = let (c, e, h) = ((by_form R).set set []).0 m in cc
 
+  -- the sequence matches a proper prefix of the text
+  abbrev MatchesPrefix : LexerSeq → List ℕ → Type 0
+  MatchesPrefix s w = CutsInto (MatchesSeq R s) (λ v. v ≢ []) w
+
   -- where the names of some kind are decided, so are the terms that use only these
-  module _ (Known : List ℕ → Type 0) (named : (n : List ℕ) → Known n → (w : List ℕ) → Decided (Matches R (LexerTerm.name n) w)) where
+  module _ (Known : List ℕ → Type 0) (test : List ℕ → List ℕ → Bool) (named : (n : List ℕ) → Known n → (w : List ℕ) → Decides (test n w) (Matches R (LexerTerm.name n) w)) where
     abbrev OnlyKnown : List (List ℕ) → Type 0
     OnlyKnown names = (n : List ℕ) → Contains names n → Known n
 
@@ -80,63 +85,85 @@ module _ (R : List LexerRule) where
     right_known xs ys k n c = k n (Contains-append_right xs ys n c)
 
     mutual
-      term : (t : LexerTerm) → OnlyKnown (term_names t) → (¬ LexerHasEmptyLoop R t) → (w : List ℕ) → Decided (Matches R t w)
-      term (LexerTerm.literal text) k none w = decided_by (swap ((by_form R).literal text w)) (decided.equal_texts w text)
+      term : (t : LexerTerm) → OnlyKnown (term_names t) → (¬ LexerHasEmptyLoop R t) → (w : List ℕ) → Decides (term_matches test t w) (Matches R t w)
+      term (LexerTerm.literal text) k none w = decides_by (swap ((by_form R).literal text w)) (bytes_eq-Decides w text)
       term (LexerTerm.set set) k none w = one_of set w
       term (LexerTerm.name n) k none w = named n (k n (0, omega arith, refl)) w
-      term (LexerTerm.block a) k none w = decided_by (swap ((by_form R).block a w)) (alternatives a k none w)
-      term (LexerTerm.opt t) k none w = decided_by (swap ((by_form R).opt t w)) (decided.either (decided.equal_texts w []) (term t k none w))
-      term (LexerTerm.star t) k none w = star_of t (λ m. none (inl m)) (term t k (λ h. none (inr h))) w
-      term (LexerTerm.plus t) k none w = plus_of t (λ m. none (inl m)) (term t k (λ h. none (inr h))) w
-      term (LexerTerm.short set) k none w = decided_by (swap ((by_form R).short set w)) (star_of (LexerTerm.set set) (set_filled set) (one_of set) w)
+      term (LexerTerm.block a) k none w = decides_by (swap ((by_form R).block a w)) (alternatives a k none w)
+      term (LexerTerm.opt t) k none w = decides_by (swap ((by_form R).opt t w)) (Decides-or (bytes_eq w []) (term_matches test t w) (bytes_eq-Decides w []) (term t k none w))
+      term (LexerTerm.star t) k none w = star_of t (λ m. none (inl m)) (term_matches test t) (term t k (λ h. none (inr h))) w
+      term (LexerTerm.plus t) k none w = plus_of t (λ m. none (inl m)) (term_matches test t) (term t k (λ h. none (inr h))) w
+      term (LexerTerm.short set) k none w = decides_by (swap ((by_form R).short set w)) (star_of (LexerTerm.set set) (set_filled set) (is_one_of set) (one_of set) w)
 
-      sequence : (s : LexerSeq) → OnlyKnown (seq_names s) → (¬ LexerHasEmptyLoopSeq R s) → (w : List ℕ) → Decided (MatchesSeq R s w)
-      sequence LexerSeq.done k none w = decided_by (swap ((by_form R).done w)) (decided.equal_texts w [])
+      sequence : (s : LexerSeq) → OnlyKnown (seq_names s) → (¬ LexerHasEmptyLoopSeq R s) → (w : List ℕ) → Decides (all_match test s w) (MatchesSeq R s w)
+      sequence LexerSeq.done k none w = decides_by (swap ((by_form R).done w)) (bytes_eq-Decides w [])
       sequence (LexerSeq.next t s) k none w =
-          decided_by (swap ((by_form R).next t s w))
-          (decided.cut (Matches R t) (MatchesSeq R s) w
+          decides_by (swap ((by_form R).next t s w))
+          (decided.cut (Matches R t) (MatchesSeq R s) (term_matches test t) (all_match test s) w
           (λ u v e. term t (left_known (term_names t) (seq_names s) k) (λ h. none (inl h)) u)
           (λ u v e. sequence s (right_known (term_names t) (seq_names s) k) (λ h. none (inr h)) v))
 
-      alternatives : (a : LexerAlts) → OnlyKnown (used_names a) → (¬ LexerHasEmptyLoopAlts R a) → (w : List ℕ) → Decided (MatchesAlts R a w)
-      alternatives LexerAlts.none k none w = inr ((by_form R).none w)
+      alternatives : (a : LexerAlts) → OnlyKnown (used_names a) → (¬ LexerHasEmptyLoopAlts R a) → (w : List ℕ) → Decides (some_match test a w) (MatchesAlts R a w)
+      alternatives LexerAlts.none k none w = never ((by_form R).none w)
       alternatives (LexerAlts.or s a) k none w =
-          decided_by (swap ((by_form R).or s a w))
-          (decided.either
+          decides_by (swap ((by_form R).or s a w))
+          (Decides-or (all_match test s w) (some_match test a w)
           (sequence s (left_known (seq_names s) (used_names a) k) (λ h. none (inl h)) w)
           (alternatives a (right_known (seq_names s) (used_names a) k) (λ h. none (inr h)) w))
 
     -- an alternative, non-greedy or not
-    alternative : (s : LexerSeq) → OnlyKnown (seq_names s) → (¬ LexerHasEmptyLoopSeq R s) → (w : List ℕ) → Decided (MatchesAlternative R s w)
-    alternative s k none w = step (is_short s) refl (sequence s k none w)
+    alternative : (s : LexerSeq) → OnlyKnown (seq_names s) → (¬ LexerHasEmptyLoopSeq R s) → (w : List ℕ) → Decides (alternative_matches test s w) (MatchesAlternative R s w)
+    alternative s k none w =
+        decides_by (there, back)
+        (Decides-and (all_match test s w) (not (is_short s && is_cut (all_match test s) is_filled w))
+        (sequence s k none w)
+        (Decides-not (is_short s && is_cut (all_match test s) is_filled w) (Decides-and (is_short s) (is_cut (all_match test s) is_filled w) (λ is. is, λ is. is) shorter)))
       where
-        shorter : Decided (CutsInto (MatchesSeq R s) (λ v. v ≢ []) w)
-        shorter = decided.cut (MatchesSeq R s) (λ v. v ≢ []) w (λ u v e. sequence s k none u) (λ u v e. differs v)
-          where
-            differs : (v : List ℕ) → Decided (v ≢ [])
-            differs [] = inr (λ h. h refl)
-            differs (c ∷ v) = inl (λ e. cc)
+        filled : (v : List ℕ) → Decides (is_filled v) (v ≢ [])
+        filled [] = never (λ h. h refl)
+        filled (c ∷ v) = always (λ (e : c ∷ v ≡ []). cc)
 
-        ends : (¬ CutsInto (MatchesSeq R s) (λ v. v ≢ []) w) → (u v : List ℕ) → w ≡ u ++ v → MatchesSeq R s u → v ≡ []
-        ends never u [] e m = refl
-        ends never u (c ∷ v) e m = absurd (never (u, c ∷ v, e, m, λ f. cc))
+        shorter : Decides (is_cut (all_match test s) is_filled w) (MatchesPrefix s w)
+        shorter = decided.cut (MatchesSeq R s) (λ v. v ≢ []) (all_match test s) is_filled w (λ u v e. sequence s k none u) (λ u v e. filled v)
 
-        shortest : is_short s ≡ true → MatchesSeq R s w → Decided (CutsInto (MatchesSeq R s) (λ v. v ≢ []) w) → Decided (MatchesAlternative R s w)
-        shortest is m (inl (u, v, e, n, more)) = inr (λ it. more (it.shortest is u v e n))
-        shortest is m (inr never) = inl (record { greedily = m; shortest = λ is' u v e n. ends never u v e n })
+        ends : (¬ MatchesPrefix s w) → (u v : List ℕ) → w ≡ u ++ v → MatchesSeq R s u → v ≡ []
+        ends never_so u [] e m = refl
+        ends never_so u (c ∷ v) e m = absurd (never_so (u, c ∷ v, e, m, λ f. cc))
 
-        step : (short : Bool) → is_short s ≡ short → Decided (MatchesSeq R s w) → Decided (MatchesAlternative R s w)
-        step short is (inr never) = inr (λ it. never it.greedily)
-        step true is (inl m) = shortest is m shorter
-        step false is (inl m) = inl (record { greedily = m; shortest = λ is' u v e n. absurd (true≢false (sym is' ∙ is)) })
+        there : MatchesSeq R s w × (¬ ((is_short s ≡ true) × MatchesPrefix s w)) → MatchesAlternative R s w
+        there (m, never_so) = record { greedily = m; shortest = λ is u v e n. ends (λ it. never_so (is, it)) u v e n }
 
-    pub rule_of : (a : LexerAlts) → OnlyKnown (used_names a) → (¬ LexerHasEmptyLoopAlts R a) → (w : List ℕ) → Decided (MatchesRule R a w)
-    rule_of LexerAlts.none k none w = inr ((rule_by_form R).none w)
+        no_more : MatchesAlternative R s w → is_short s ≡ true → MatchesPrefix s w → ⊥
+        no_more it is (u, v, e, n, more) = more (it.shortest is u v e n)
+
+        back : MatchesAlternative R s w → MatchesSeq R s w × (¬ ((is_short s ≡ true) × MatchesPrefix s w))
+        back it = (it.greedily, λ both. no_more it both.0 both.1)
+
+    pub rule_of : (a : LexerAlts) → OnlyKnown (used_names a) → (¬ LexerHasEmptyLoopAlts R a) → (w : List ℕ) → Decides (rule_matches test a w) (MatchesRule R a w)
+    rule_of LexerAlts.none k none w = never ((rule_by_form R).none w)
     rule_of (LexerAlts.or s a) k none w =
-        decided_by (swap ((rule_by_form R).or s a w))
-        (decided.either
+        decides_by (swap ((rule_by_form R).or s a w))
+        (Decides-or (alternative_matches test s w) (rule_matches test a w)
         (alternative s (left_known (seq_names s) (used_names a) k) (λ h. none (inl h)) w)
         (rule_of a (right_known (seq_names s) (used_names a) k) (λ h. none (inr h)) w))
+
+  -- where the rules of a name are decided, so is whether one of these rules has it and matches
+  in_rules : (test : LexerAlts → Bool) (rules : List LexerRule) (n w : List ℕ) → ((r : LexerRule) → Contains rules r → r.name ≡ n → Decides (test r.alts) (MatchesAlts R r.alts w)) →
+      Decides (has_rule test rules n) ((r : LexerRule) × Contains rules r × (r.name ≡ n) × MatchesAlts R r.alts w)
+  in_rules test [] n w each = never (λ (r, c, e, m). contains_none r c)
+  in_rules test (r ∷ rules) n w each =
+      decides_by (there, λ (s, c, e, m). back s e m (contains_cases r rules s c))
+      (Decides-or (same_text r.name n && test r.alts) (has_rule test rules n)
+      (both_where (bytes_eq-Decides r.name n) (λ e. each r (contains_first r rules r refl) e))
+      (in_rules test rules n w (λ s c e. each s (contains_later r rules s c) e)))
+    where
+      there : ((r.name ≡ n) × MatchesAlts R r.alts w) ⊎ ((s : LexerRule) × Contains rules s × (s.name ≡ n) × MatchesAlts R s.alts w) → (s : LexerRule) × Contains (r ∷ rules) s × (s.name ≡ n) × MatchesAlts R s.alts w
+      there (inl (e, m)) = (r, contains_first r rules r refl, e, m)
+      there (inr (s, c, e, m)) = (s, contains_later r rules s c, e, m)
+
+      back : (s : LexerRule) → s.name ≡ n → MatchesAlts R s.alts w → (r ≡ s) ⊎ Contains rules s → ((r.name ≡ n) × MatchesAlts R r.alts w) ⊎ ((s : LexerRule) × Contains rules s × (s.name ≡ n) × MatchesAlts R s.alts w)
+      back s e m (inl same) = let P : LexerRule → Type 0 = λ x. (x.name ≡ n) × MatchesAlts R x.alts w in inl (subst P (sym same) (e, m))
+      back s e m (inr later) = inr (s, later, e, m)
 
 -- the name is one of the path
 abbrev among : List ℕ → List (List ℕ) → Bool
@@ -157,6 +184,11 @@ outside_less (r ∷ rules) name path = pick (same_text r.name name) (among r.nam
     pick true false h = omega (arith, h)
     pick false true h = omega (arith, h)
     pick false false h = omega (arith, h)
+
+-- all rules are outside the empty path
+outside_all : (rules : List LexerRule) → outside rules [] ≤ length rules
+outside_all [] = omega arith
+outside_all (r ∷ rules) = omega (arith, outside_all rules)
 
 -- a rule that isn't in the path is one fewer outside once it is
 outside_drop : (rules : List LexerRule) (rule : LexerRule) (path : List (List ℕ)) → Contains rules rule → among rule.name path ≡ false → outside rules (rule.name ∷ path) < outside rules path
@@ -180,14 +212,6 @@ module _ (G : WrittenGrammar) (start : ℕ) (W : IsWellFormed G start) where
 
   known : NamesAreKnown G
   known = well_formed_names G start W
-
-  -- two rules of one name are one
-  same_rule : (a b : LexerRule) → Contains rules a → Contains rules b → a.name ≡ b.name → a ≡ b
-  same_rule a b c d e =
-      let (i, here) = lexer_places G a c in
-      let (j, there) = lexer_places G b d in
-      let index : i ≡ j = known.one_rule i j (WrittenRule.lexer_rule a) (WrittenRule.lexer_rule b) here there e in
-      let same : Some (WrittenRule.lexer_rule a) ≡ Some (WrittenRule.lexer_rule b) = sym here ∙ ap (slice_get G.rules) index ∙ there in cc
 
   further : {a b c : List ℕ} → UsesThrough G a b → Uses G b c → UsesThrough G a c
   further (UsesThrough.directly a b u) v = UsesThrough.through a b _ u (UsesThrough.directly b _ v)
@@ -224,25 +248,24 @@ module _ (G : WrittenGrammar) (start : ℕ) (W : IsWellFormed G start) where
   no_loop : (rule : LexerRule) → Contains rules rule → ¬ LexerHasEmptyLoopAlts rules rule.alts
   no_loop rule c h = let (i, at) = lexer_places G rule c in W.no_empty_loop i (inr (rule, at, h))
 
-  name_is : (n : List ℕ) (r : LexerRule) (w : List ℕ) → Contains rules r → r.name ≡ n → MatchesAlts rules r.alts w ↔ Matches rules (LexerTerm.name n) w
-  name_is n r w c e = (λ m. ((by_form rules).name n w).1 (r, c, e, m), λ m. back (((by_form rules).name n w).0 m))
-    where
-      back : (other : LexerRule) × Contains rules other × (other.name ≡ n) × MatchesAlts rules other.alts w → MatchesAlts rules r.alts w
-      back (other, d, f, m) = let P : LexerRule → Type 0 = λ x. MatchesAlts rules x.alts w in subst P (same_rule other r d c (f ∙ sym e)) m
-
   -- a name, with so many rules outside the path
-  named : (count : ℕ) (path : List (List ℕ)) (n : List ℕ) → outside rules path ≤ count → IsUsed path n → (w : List ℕ) → Decided (Matches rules (LexerTerm.name n) w)
+  named : (count : ℕ) (path : List (List ℕ)) (n : List ℕ) → outside rules path ≤ count → IsUsed path n → (w : List ℕ) → Decides (name_matches count rules n w) (Matches rules (LexerTerm.name n) w)
   named zero path n h u w =
       let (r, c, e) = known.lexer_name u.user n u.uses in
       let new : among r.name path ≡ false = ap (λ x. among x path) e ∙ is_new path n r u c e in
       absurd (omega (arith, h, outside_drop rules r path c new))
-  named (suc count) path n h u w =
-      let (r, c, e) = known.lexer_name u.user n u.uses in
-      let new : among r.name path ≡ false = ap (λ x. among x path) e ∙ is_new path n r u c e in
-      let P : List ℕ → Type 0 = λ x. outside rules (x ∷ path) < outside rules path in
-      let fewer = subst P e (outside_drop rules r path c new) in
-      decided_by (name_is n r w c e) (alternatives rules (IsUsed (n ∷ path)) (λ m k v. named count (n ∷ path) m (omega (arith, h, fewer)) k v) r.alts (used_on path n r u c e) (no_loop r c) w)
+  named (suc count) path n h u w = decides_by (swap ((by_form rules).name n w)) (in_rules rules (λ a. some_match (name_matches count rules) a w) rules n w (each (λ less m k v. named count (n ∷ path) m less k v)))
+    where
+      each : (outside rules (n ∷ path) ≤ count → (m : List ℕ) → IsUsed (n ∷ path) m → (v : List ℕ) → Decides (name_matches count rules m v) (Matches rules (LexerTerm.name m) v)) →
+          (r : LexerRule) → Contains rules r → r.name ≡ n → Decides (some_match (name_matches count rules) r.alts w) (MatchesAlts rules r.alts w)
+      each more r c e =
+          let new : among r.name path ≡ false = ap (λ x. among x path) e ∙ is_new path n r u c e in
+          let P : List ℕ → Type 0 = λ x. outside rules (x ∷ path) < outside rules path in
+          let fewer = subst P e (outside_drop rules r path c new) in
+          alternatives rules (IsUsed (n ∷ path)) (name_matches count rules) (more (omega (arith, h, fewer))) r.alts (used_on path n r u c e) (no_loop r c) w
 
   -- a lexer rule
-  pub matching : (r : LexerRule) → Contains rules r → (w : List ℕ) → Decided (MatchesRule rules r.alts w)
-  matching r c w = rule_of rules (IsUsed []) (λ n k v. named (outside rules []) [] n (omega arith) k v) r.alts (λ n k. record { user = r.name; uses = record { rule = r; of_grammar = c; named = refl; uses = k }; through = λ from is. absurd (true≢false (sym is)) }) (no_loop r c) w
+  pub matching : (r : LexerRule) → Contains rules r → (w : List ℕ) → Decides (rule_matches (name_matches (length rules) rules) r.alts w) (MatchesRule rules r.alts w)
+  matching r c w =
+      rule_of rules (IsUsed []) (name_matches (length rules) rules) (λ n k v. named (length rules) [] n (outside_all rules) k v) r.alts
+      (λ n k. record { user = r.name; uses = record { rule = r; of_grammar = c; named = refl; uses = k }; through = λ from is. absurd (true≢false (sym is)) }) (no_loop r c) w

@@ -1,4 +1,5 @@
 pub mod Spelling
 pub mod Laws
 pub mod Spells
+pub mod Reading
 pub mod Readings

@@ -1,28 +1,18 @@
--- The tokens of a text as a function, where a reading of each text is given: such a reading is what the law that each text is read has.
-use Rattle.std.specs.Prelude.{◌≡◌, ◌⊎◌, ◌↔◌, ℕ, nat_eq, Bool, true, false, ◌&&◌, List, [], ◌∷◌, map, Option, Some, None}
-use Rattle.std.proofs.Common.{inl, inr}
+-- What a grammar skips and which texts spell given tokens, as functions.
+use Rattle.std.specs.Prelude.{◌≡◌, ◌↔◌, ℕ, nat_eq, Bool, true, false, ◌&&◌, List, [], ◌∷◌, map, Option, Some, None}
 use Rattle.std.specs.Str.{bytes_eq, chars, is_utf8}
 use Rattle.grammar_tree.specs.Written.{WrittenGrammar}
 use Rattle.grammar_tree.specs.Faults.{IsWellFormed}
-use Rattle.grammar_tree.specs.Lexes.{Piece, PlacedToken, StopsAt}
+use Rattle.grammar_tree.specs.Lexes.{Piece, PlacedToken}
 use Rattle.lexer.specs.Tokens.{HasTokens, IsGapText}
 use Rattle.token_laws.specs.Spelling.{kind_and_spelling}
-use Rattle.token_laws.specs.Laws.{EachTextIsRead}
+use Rattle.token_laws.specs.Reading.{tokens_in}
 use Rattle.token_laws.specs.Spells.{SpellsTokens}
 
--- the tokens, where a text was read to its end
-abbrev pub tokens_read : {G : WrittenGrammar} {characters : List ℕ} → ((tokens : List PlacedToken) × HasTokens G characters tokens) ⊎ ((offset : ℕ) × StopsAt G characters offset) → Option (List PlacedToken)
-tokens_read (inl (tokens, has)) = Some tokens
-tokens_read (inr stop) = None
-
--- the tokens of the text; none where its reading stops
-abbrev pub tokens_by : EachTextIsRead → (G : WrittenGrammar) (start : ℕ) → IsWellFormed G start → List ℕ → Option (List PlacedToken)
-tokens_by read G start formed characters = tokens_read (read G start characters formed)
-
--- They are the tokens that the text has, whichever reading is taken.
-abbrev pub TokensByReading : Type 0
-TokensByReading = (read : EachTextIsRead) (G : WrittenGrammar) (start : ℕ) (formed : IsWellFormed G start) (characters : List ℕ) (tokens : List PlacedToken) →
-    (tokens_by read G start formed characters ≡ Some tokens) ↔ HasTokens G characters tokens
+-- In a well-formed grammar they are the tokens that the text has.
+abbrev pub TokensAreFound : Type 0
+TokensAreFound = (G : WrittenGrammar) (start : ℕ) → IsWellFormed G start → (characters : List ℕ) (tokens : List PlacedToken) →
+    (tokens_in G characters ≡ Some tokens) ↔ HasTokens G characters tokens
 
 -- there are tokens, and their list is empty
 abbrev pub are_none : Option (List PlacedToken) → Bool
@@ -31,12 +21,12 @@ are_none (Some []) = true
 are_none (Some (t ∷ tokens)) = false
 
 -- whether the text of this one character is one piece of a gap kind
-abbrev pub is_gap_by : EachTextIsRead → (G : WrittenGrammar) (start : ℕ) → IsWellFormed G start → ℕ → Bool
-is_gap_by read G start formed c = are_none (tokens_by read G start formed (c ∷ []))
+abbrev pub is_gap : WrittenGrammar → ℕ → Bool
+is_gap G c = are_none (tokens_in G (c ∷ []))
 
 -- It is so exactly where this says so.
-abbrev pub GapsByReading : Type 0
-GapsByReading = (read : EachTextIsRead) (G : WrittenGrammar) (start : ℕ) (formed : IsWellFormed G start) (c : ℕ) → (is_gap_by read G start formed c ≡ true) ↔ IsGapText G c
+abbrev pub GapsAreFound : Type 0
+GapsAreFound = (G : WrittenGrammar) (start : ℕ) → IsWellFormed G start → (c : ℕ) → (is_gap G c ≡ true) ↔ IsGapText G c
 
 -- the pieces are the same, one after another
 abbrev pub same_pieces : List Piece → List Piece → Bool
@@ -51,9 +41,10 @@ are_spelled text spelled None = false
 are_spelled text spelled (Some tokens) = same_pieces (map (kind_and_spelling text) tokens) spelled
 
 -- whether the text spells these tokens
-abbrev pub spells_by : EachTextIsRead → (G : WrittenGrammar) (start : ℕ) → IsWellFormed G start → List ℕ → List Piece → Bool
-spells_by read G start formed text spelled = is_utf8 text && are_spelled text spelled (tokens_by read G start formed (chars text))
+abbrev pub spells : WrittenGrammar → List ℕ → List Piece → Bool
+spells G text spelled = is_utf8 text && are_spelled text spelled (tokens_in G (chars text))
 
 -- It does exactly where this says so.
-abbrev pub SpelledByReading : Type 0
-SpelledByReading = (read : EachTextIsRead) (G : WrittenGrammar) (start : ℕ) (formed : IsWellFormed G start) (text : List ℕ) (spelled : List Piece) → (spells_by read G start formed text spelled ≡ true) ↔ SpellsTokens G text spelled
+abbrev pub SpelledAreFound : Type 0
+SpelledAreFound = (G : WrittenGrammar) (start : ℕ) → IsWellFormed G start → (text : List ℕ) (spelled : List Piece) →
+    (spells G text spelled ≡ true) ↔ SpellsTokens G text spelled

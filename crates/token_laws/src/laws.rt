@@ -1,7 +1,7 @@
 //! The laws.
 
 ghost use Rattle.token_laws.specs.Laws.{EachTextIsRead, GapsAndSpellingsAreText, GapsAreGapPieces, GapsAreSlices, RunsAreText, TokensAreInOrder, TokensArePieces, TokensAreUnique, TokensAreLongestMatches, TokensHaveKinds, TokensHaveNoStop};
-ghost use Rattle.token_laws.specs.Readings.{GapsByReading, SpelledByReading, TokensByReading};
+ghost use Rattle.token_laws.specs.Readings.{GapsAreFound, SpelledAreFound, TokensAreFound};
 ghost use Rattle.token_laws.specs.Spells.{EqualCharactersEqualBytes, SpelledKinds, SpelledOneWay};
 
 /// A text has one list of tokens at most.
@@ -79,17 +79,17 @@ pub fn equal_characters_equal_bytes()
     ensures { EqualCharactersEqualBytes }
 {}
 
-/// `tokens_by` gives the tokens that a text has, and none where its reading stops.
-pub fn tokens_by_reading()
-    ensures { TokensByReading }
+/// `tokens_in` gives the tokens that a text has, and none where its reading stops.
+pub fn tokens_are_found()
+    ensures { TokensAreFound }
 {}
 
-/// `is_gap_by` is true exactly where the text of the character is one piece of a gap kind.
-pub fn gaps_by_reading()
-    ensures { GapsByReading }
+/// `is_gap` is true exactly where the text of the character is one piece of a gap kind.
+pub fn gaps_are_found()
+    ensures { GapsAreFound }
 {}
 
-/// `spells_by` is true exactly where the text spells the tokens.
-pub fn spelled_by_reading()
-    ensures { SpelledByReading }
+/// `spells` is true exactly where the text spells the tokens.
+pub fn spelled_are_found()
+    ensures { SpelledAreFound }
 {}

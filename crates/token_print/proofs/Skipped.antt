@@ -2,10 +2,9 @@
 use Rattle.std.proofs.Common.{◌≡◌, ◌↔◌, Bool, true, false, ℕ, refl, sym, ap, ap₂, ◌∙◌}
 use Rattle.grammar_tree.specs.Written.{WrittenGrammar}
 use Rattle.grammar_tree.specs.Faults.{IsWellFormed}
-use Rattle.token_laws.specs.Laws.{EachTextIsRead}
 use Rattle.token_laws.proofs.ByReading.{gaps_are}
 use Rattle.token_print.specs.declared.style.Skips.{Skips}
-use Rattle.token_print.specs.Laws.{PrintedByReading, PrintedOneWay, skips_by}
+use Rattle.token_print.specs.Laws.{PrintedOneWay, PrintedWithSkips, skips_in}
 use Rattle.token_print.specs.Printed.{AreSkipped, printed}
 
 -- two answers to one question are the same
@@ -22,11 +21,11 @@ same_skips G skips others a b =
 pub one_way : PrintedOneWay
 one_way G start tokens kept style text other a b = a.same ∙ ap (λ s. printed s start tokens kept style) (same_skips G a.skips b.skips a.agree b.agree) ∙ sym b.same
 
-skipped : (read : EachTextIsRead) (G : WrittenGrammar) (rule : ℕ) (formed : IsWellFormed G rule) → AreSkipped G (skips_by read G rule formed)
-skipped read G rule formed = record { newline = gaps_are read G rule formed 10; space = gaps_are read G rule formed 32 }
+skipped : (G : WrittenGrammar) (rule : ℕ) → IsWellFormed G rule → AreSkipped G (skips_in G)
+skipped G rule formed = record { newline = gaps_are G rule formed 10; space = gaps_are G rule formed 32 }
 
-pub by_reading : PrintedByReading
-by_reading read G rule formed start tokens kept style text = (
-  λ a. a.same ∙ ap (λ s. printed s start tokens kept style) (same_skips G a.skips (skips_by read G rule formed) a.agree (skipped read G rule formed)),
-  λ e. record { skips = skips_by read G rule formed; agree = skipped read G rule formed; same = e },
+pub with_skips : PrintedWithSkips
+with_skips G rule formed start tokens kept style text = (
+  λ a. a.same ∙ ap (λ s. printed s start tokens kept style) (same_skips G a.skips (skips_in G) a.agree (skipped G rule formed)),
+  λ e. record { skips = skips_in G; agree = skipped G rule formed; same = e },
 )

@@ -6,8 +6,7 @@ use Rattle.grammar_tree.specs.Written.{WrittenGrammar}
 use Rattle.grammar_tree.specs.Faults.{IsWellFormed}
 use Rattle.grammar_tree.specs.Lexes.{PlacedToken}
 use Rattle.lexer.specs.Tokens.{HasTokens}
-use Rattle.token_laws.specs.Laws.{EachTextIsRead}
-use Rattle.token_laws.specs.Readings.{is_gap_by}
+use Rattle.token_laws.specs.Readings.{is_gap}
 use Rattle.token_print.specs.declared.style.Skips.{Skips}
 use Rattle.token_print.specs.declared.style.Style.{Style}
 use Rattle.token_print.specs.Kept.{AreKept, KeepsTokens}
@@ -22,14 +21,14 @@ abbrev pub PrintedOneWay : Type 0
 PrintedOneWay = (G : WrittenGrammar) (start : List ℕ) (tokens : List PlacedToken) (kept : List ℕ) (style : Style) (text other : List ℕ) →
     IsPrinted G start tokens kept style text → IsPrinted G start tokens kept style other → text ≡ other
 
--- what a grammar skips, by a reading of each text
-abbrev pub skips_by : EachTextIsRead → (G : WrittenGrammar) (rule : ℕ) → IsWellFormed G rule → Skips
-skips_by read G rule formed = record { newline = is_gap_by read G rule formed 10; space = is_gap_by read G rule formed 32 }
+-- what a grammar skips
+abbrev pub skips_in : WrittenGrammar → Skips
+skips_in G = record { newline = is_gap G 10; space = is_gap G 32 }
 
--- What is printed, by a reading of each text.
-abbrev pub PrintedByReading : Type 0
-PrintedByReading = (read : EachTextIsRead) (G : WrittenGrammar) (rule : ℕ) (formed : IsWellFormed G rule) (start : List ℕ) (tokens : List PlacedToken) (kept : List ℕ) (style : Style) (text : List ℕ) →
-    IsPrinted G start tokens kept style text ↔ (text ≡ printed (skips_by read G rule formed) start tokens kept style)
+-- In a well-formed grammar the texts that are printed are so.
+abbrev pub PrintedWithSkips : Type 0
+PrintedWithSkips = (G : WrittenGrammar) (rule : ℕ) → IsWellFormed G rule → (start : List ℕ) (tokens : List PlacedToken) (kept : List ℕ) (style : Style) (text : List ℕ) →
+    IsPrinted G start tokens kept style text ↔ (text ≡ printed (skips_in G) start tokens kept style)
 
 -- Where all tokens are kept, the text as it was is the start.
 abbrev pub AllKeptIsStart : Type 0

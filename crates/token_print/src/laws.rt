@@ -1,6 +1,6 @@
 //! The laws of printed texts, for the proofs of other crates: each is a function that does nothing.
 
-ghost use Rattle.token_print.specs.Laws.{AllKeptIsStart, KeptKinds, NoLongerThanAll, NoLongerThanStart, PrintedByReading, PrintedOneWay, StartKeepsTokens};
+ghost use Rattle.token_print.specs.Laws.{AllKeptIsStart, KeptKinds, NoLongerThanAll, NoLongerThanStart, PrintedWithSkips, PrintedOneWay, StartKeepsTokens};
 ghost use Rattle.token_print.specs.Worked.{WorkedTexts};
 
 /// Kept tokens have one text in a style.
@@ -8,9 +8,9 @@ pub fn printed_one_way()
     ensures { PrintedOneWay }
 {}
 
-/// What is printed is `printed` with `skips_by`, where a reading of each text is given.
-pub fn printed_by_reading()
-    ensures { PrintedByReading }
+/// What is printed is `printed` with `skips_in`, in a well-formed grammar.
+pub fn printed_with_skips()
+    ensures { PrintedWithSkips }
 {}
 
 /// Where all tokens are kept, the text as it was is the start.

@@ -18,8 +18,8 @@ pub use faults::Memory;
 pub use keeps::keeps_tokens;
 pub use kept_numbers::are_kept;
 pub use laws::{
-    all_kept_is_start, kept_kinds, no_longer_than_all, no_longer_than_start, printed_by_reading,
-    printed_one_way, start_keeps_tokens, worked_texts,
+    all_kept_is_start, kept_kinds, no_longer_than_all, no_longer_than_start, printed_one_way,
+    printed_with_skips, start_keeps_tokens, worked_texts,
 };
 pub use print_kept::print;
 pub use style::{Skips, Style};

@@ -9,7 +9,7 @@ invariant_of-result g c =
       formed = formed;
       together =
           belong c.args.lexer c.args.tree (string_bytes c.args.start) c.args.tokens.items.items (g.F.Relation.admits c.args.guard) c.args.squeezes formed c.args.compat
-          c.tokens_by_reading.ensures c.requires.checked c.requires.short c.requires.tokens c.requires.form c.requires.symbol c.requires.kinds c.requires.compat;
+          c.tokens_are_found.ensures c.requires.checked c.requires.short c.requires.tokens c.requires.form c.requires.symbol c.requires.kinds c.requires.compat;
     }
 
 pub returns : goal.returns
