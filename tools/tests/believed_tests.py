@@ -88,6 +88,11 @@ class Small(unittest.TestCase):
         lines = ["    4 crates/command_perses/specs/Call.antt Runs", "    7 crates/low/specs/Log.antt Log entries more none", "    4 crates/low/specs/Tree.antt IsTree leaf"]
         self.assertEqual(self.run_on("--names"), (0, "\n".join([*lines, "3 files and 15 lines", ""]), ""))
 
+    def test_the_name_of_a_field_is_no_definition(self):
+        before = self.run_on("--names")
+        self.change("crates/low/specs/Log.antt", "entries none = 0", "entries none = (record { Other = 0 }).Other")
+        self.assertEqual(self.run_on("--names"), before)
+
     def test_a_check_says_nothing_where_all_is_right(self):
         self.assertEqual(self.run_on("--check"), (0, "", ""))
 

@@ -14,10 +14,10 @@ use Rattle.reduce_journal.specs.Report.{report_text}
 use Rattle.reduce_journal.specs.declared.counts.Counts.{Counts}
 use Rattle.reduce_trees_input.specs.Parsed.{IsInputOf}
 use Rattle.run_gated.specs.Records.{OnlyNo}
+use Rattle.run_problem.specs.Committed.{questions_over}
 use Rattle.run_problem.specs.Ends.{AreOf, ReducesFrom}
 use Rattle.run_problem.specs.Laws.{AnswersAreBounded}
 use Rattle.run_problem.specs.Problem.{IsCandidateOf, Problem, start_of}
-use Rattle.run_problem.specs.Reducer.{reducer_of}
 use Rattle.run_problem.proofs.ModeLemmas.{none_of}
 use Rattle.command_words.specs.Commands.{Command, ModeOptions, ReduceOptions}
 use Rattle.command_grammar.specs.Grammar.{start_name}
@@ -183,7 +183,7 @@ module _ (one_history : BytesHaveOneHistory) (bounded : AnswersAreBounded) (may_
     first = are.first;
     ends_at_no = are.ends_at_no;
     legal = are.legal;
-    bounded = (bounded (reducer_of options.keeps problem)).in_history history are.legal;
+    bounded = bounded.of_questions history (questions_over options.keeps problem history) are.readable are.legal;
     alone = are.sequential;
     written = λ was.
         let it = result (has_written old.files new.files status was) in

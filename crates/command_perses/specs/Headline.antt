@@ -6,19 +6,15 @@ use Rattle.edge_io.specs.Files.{Holds, SameFiles, SameOthers}
 use Rattle.script_gate_trait.specs.declared.gate.Verdict.{Verdict}
 use Rattle.script_gate_trait.specs.declared.gate.Verdict.TheVariants.{Yes}
 use Rattle.keep_guard.specs.Keep.{holds_all}
-use Rattle.reduce_step.specs.Plan.{HasEnded, height}
 use Rattle.verdict_table.specs.TableState.{texts_of, verdict_in}
 use Rattle.reduce_journal.specs.History.{History, IsHistory, records_of}
 use Rattle.reduce_journal.specs.Journal.{journal_text}
 use Rattle.reduce_journal.specs.Report.{report_text}
-use Rattle.ordered_commit_moves.specs.Replay.{IsLegal, replay}
 use Rattle.reduce_rounds.specs.Verdicts.{HasVerdicts}
-use Rattle.run_worker.specs.RunHistory.{IsBeginning, own_history}
 use Rattle.run_gated.specs.Records.{BeginsAt, FirstIs, FirstIsNo, OnlyNo}
-use Rattle.run_problem.specs.Ends.{IsWhole}
+use Rattle.run_problem.specs.Committed.{IsPrefix, committed_texts, questions_over, thread_over}
 use Rattle.run_problem.specs.Laws.{answer_count}
-use Rattle.run_problem.specs.Problem.{EndsMinimally, IsCandidateOf, Problem, counts_of, questions_of, reduced_text, start_of}
-use Rattle.run_problem.specs.Reducer.{reducer_of}
+use Rattle.run_problem.specs.Problem.{EndsMinimally, IsCandidateOf, Problem, counts_of, reduced_text, start_of}
 use Rattle.command_words.specs.Commands.{ModeOptions, ReduceOptions}
 use Rattle.command_ends.specs.Status.{IsOneOf}
 use Rattle.command_ends.specs.World.{AnyGateFailed, CallFailed, NotReached, Puts, SeenFiles, World, logs_of}
@@ -75,7 +71,7 @@ pub record Headline (may_say : List ℕ → Verdict → Type 0) (options : Reduc
   pub files_kept : status ≢ 0 → status ≢ 4 → SameFiles old.files.shown new.files.shown
   -- the start's verdict is yes, and each text that the reduction asks has one
   pub start_yes : HasResult status → FirstIs (start_of problem) Yes (records_of history)
-  pub defined : HasResult status → HasVerdicts (verdicts_of history) (questions_of options.keeps problem (verdicts_of history))
+  pub defined : HasResult status → HasVerdicts (verdicts_of history) (questions_over options.keeps problem history)
   -- the result's verdict is yes; it is a candidate too, with each keep text
   pub yes_at_end : HasResult status → verdicts_of history (result_text options problem history) ≡ Some Yes
   pub candidate : HasResult status → IsCandidateOf options.keeps problem (result_text options problem history)
@@ -109,14 +105,14 @@ pub record Headline (may_say : List ℕ → Verdict → Type 0) (options : Reduc
   -- the history can be read back of its bytes, and no other history has them
   pub readable : IsHistory history
   pub only : (other : History) → IsHistory other → journal_text other ≡ journal_text history → other ≡ history
-  -- each commit answers what the reduction asks then, by an earlier record; there are at most as many as it takes answers
-  pub legal : IsLegal (reducer_of options.keeps problem) history
-  pub bounded : answer_count history ≤ height (reducer_of options.keeps problem)
-  -- where there is a result, they lead the reduction to its end
-  pub ended : HasResult status → HasEnded (replay (reducer_of options.keeps problem) history)
-  -- by one worker the history is a beginning of what one thread does over these verdicts; where there is a result, all of it
-  pub alone : options.jobs ≡ 1 → IsBeginning history (own_history (reducer_of options.keeps problem) history)
-  pub whole : HasResult status → options.jobs ≡ 1 → IsWhole options.keeps problem history
+  -- the texts of the earlier records that the commits name are what the reduction asks, in its order, from the first on; so there are no more
+  pub legal : IsPrefix (committed_texts history) (questions_over options.keeps problem history)
+  pub bounded : answer_count history ≤ length (questions_over options.keeps problem history)
+  -- where there is a result, they are all of them
+  pub ended : HasResult status → committed_texts history ≡ questions_over options.keeps problem history
+  -- by one worker the history is a beginning of what one thread does that asks these texts; where there is a result, all of it
+  pub alone : options.jobs ≡ 1 → IsPrefix history (thread_over options.keeps problem history)
+  pub whole : HasResult status → options.jobs ≡ 1 → history ≡ thread_over options.keeps problem history
   -- at 0 the report was put on `out`, and nothing else
   pub report : status ≡ 0 → Puts (report_text (counts_of options.keeps problem (records_of history))) old.out new.out
   -- ---- the run succeeds

@@ -13,6 +13,7 @@ use Rattle.reduce_journal.specs.declared.event.Event.TheVariants.{Recorded, Comm
 use Rattle.ordered_commit_moves.specs.Replay.{CommitsWhatIsAsked}
 use Rattle.run_worker.specs.Sequential.{answer_events, by_verdict, number_for, records_after, sequential_from}
 use Rattle.run_problem.specs.Laws.{AnswersAreBounded, answer_count}
+use Rattle.run_problem.proofs.QuestionLemmas.{commits_are_few}
 
 -- an answer lowers the height
 lower : (text : List ℕ) (at_yes at_no : Plan) (verdict : Verdict) → suc (height (after (Ask text at_yes at_no) verdict)) ≤ height (Ask text at_yes at_no)
@@ -61,7 +62,10 @@ module _ (V : List ℕ → Option Verdict) where
       (answered_within records text No (sequential_from V at_no_records at_no) (height at_no) (thread_within at_no_records at_no))
 
 pub answers_are_bounded : AnswersAreBounded
-answers_are_bounded first = record {
-  in_history = λ history legal. commits_within [] first history legal.commits;
-  by_verdicts = λ V. thread_within V [] first;
+answers_are_bounded = record {
+  of_reducers = λ first. record {
+    in_history = λ history legal. commits_within [] first history legal.commits;
+    by_verdicts = λ V. thread_within V [] first;
+  };
+  of_questions = commits_are_few;
 }

@@ -1,3 +1,4 @@
 pub mod AlikeLemmas
 pub mod BoundLemmas
 pub mod ModeLemmas
+pub mod QuestionLemmas

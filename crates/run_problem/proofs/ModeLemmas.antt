@@ -17,12 +17,13 @@ use Rattle.reduce_rounds.specs.Trials.{IsTriedAtNo}
 use Rattle.reduce_rounds.specs.Laws.{EndsWell, IsTextOf, result_of}
 use Rattle.reduce_rounds.specs.Verdicts.{HasVerdicts, says_yes}
 use Rattle.reduce_rounds.specs.Mode.{RoundMode}
+use Rattle.reduce_rounds.specs.RoundsPlan.{plan_first}
 use Rattle.run_gated.specs.declared.fault.RunFault.{RunFault}
 use Rattle.run_gated.specs.declared.fault.RunFault.TheVariants as run
 use Rattle.run_gated.specs.declared.ran.Reduced.{Reduced}
 use Rattle.reduce_journal.specs.History.{History, records_of}
 use Rattle.reduce_journal.specs.declared.counts.Counts.{Counts}
-use Rattle.run_worker.specs.RunHistory.{own_history}
+use Rattle.ordered_commit_moves.specs.Replay.{IsLegal}
 use Rattle.run_gated.specs.Records.{AreAnswers, AreOfMode, BeginsAt, FirstIs}
 use Rattle.run_gated.proofs.AllLemmas.{nothing_asked}
 use Rattle.run_gated.specs.RunEnds as ends
@@ -43,6 +44,8 @@ use Rattle.reduce_trees.specs.Laws.{WalksAreRecursions}
 use Rattle.reduce_trees.specs.WalkMode.{walk_mode}
 use Rattle.reduce_step.specs.declared.mode.TreeMode.{TreeMode}
 use Rattle.run_problem.specs.Problem.{IsEditBy, Problem, questions_of, recursion_of, reduction_of}
+use Rattle.run_problem.specs.Committed.{IsPrefix, questions_over, thread_history, thread_over}
+use Rattle.run_problem.specs.Laws.{GoesByQuestions, HistoriesGoByQuestions}
 use Rattle.run_problem.specs.Reducer.{reducer_of, round_of}
 use Rattle.run_problem.specs.Walks.{IsTreeMode}
 use Rattle.run_problem.specs.Ends.{AreOf, IsUnfinished, ProblemEnds, ReducesFrom, RunFails}
@@ -86,13 +89,15 @@ module _ (keeps : List (List ℕ)) where
       omega (arith, within, of_text, of_start)
 
   -- the history is one of lines
-  pub are_of : (workers : ℕ) (start : List ℕ) (history : History) → AreOfMode workers (line_mode (lines_of start)) (AreOfStart (lines_of start)) history → AreOf workers keeps (Problem.of_lines start) history
-  are_of workers start history of =
+  pub are_of : HistoriesGoByQuestions → (workers : ℕ) (start : List ℕ) (history : History) → AreOfMode workers (line_mode (lines_of start)) (AreOfStart (lines_of start)) history → AreOf workers keeps (Problem.of_lines start) history
+  are_of by workers start history of =
       let records : List Record = records_of history in
+      let goes : GoesByQuestions keeps (Problem.of_lines start) history = by keeps (Problem.of_lines start) tt history in
       record {
-        legal = of.legal;
+        distinct = of.legal.distinct;
+        legal = goes.answers of.legal;
         readable = of.readable;
-        sequential = of.sequential;
+        sequential = λ alone. subst (IsPrefix history) goes.alone (of.sequential alone);
         candidates = All-weaker (λ (r : Record). IsTextOf (line_mode (lines_of start)) (AreOfStart (lines_of start)) r.text) (λ (r : Record). IsLineCandidate (keeps_admit keeps) start r.text)
             (λ r one. record { lines = one.state; some = one.kept; listed = one.listed; joined = one.same }) records of.candidates;
         short = All-weaker (λ (r : Record). IsTextOf (line_mode (lines_of start)) (AreOfStart (lines_of start)) r.text) (λ (r : Record). length r.text ≤ length start)
@@ -101,9 +106,12 @@ module _ (keeps : List (List ℕ)) where
         ends_at_no = of.ends_at_no;
       }
 
-  module _ (workers : ℕ) (recursions : LinesAreRecursions) (start : List ℕ) (history : History) where
+  module _ (workers : ℕ) (recursions : LinesAreRecursions) (by : HistoriesGoByQuestions) (start : List ℕ) (history : History) (legal : IsLegal (reducer_of keeps (Problem.of_lines start)) history) where
     abbrev records : List Record
     records = records_of history
+
+    goes : GoesByQuestions keeps (Problem.of_lines start) history
+    goes = by keeps (Problem.of_lines start) tt history
 
     abbrev R : Reduction (List Line)
     R = reduction (line_recursion (keeps_admit keeps) start) (says_yes (verdict_in records))
@@ -140,19 +148,20 @@ module _ (keeps : List (List ℕ)) where
               ∙ ap (λ (r : StepResult). ends.counts_of (length (numbered_lines start)) (length (text_of (numbered_lines start))) r (length records))
               (it.is_result ∙ ap (result_of (trials.recursion_of (line_mode (lines_of start)))) same_reduction)
               ∙ ap (λ (text : List ℕ). ends.counts_of (length (numbered_lines start)) (length text) (result_of (trials.recursion_of (line_mode (lines_of start))) R) (length records)) (text-numbered_lines start);
-          whole = it.whole;
-          committed = it.committed;
+          whole = λ alone. it.whole alone ∙ goes.alone;
+          committed = goes.answered legal it.committed;
         }
 
     -- why the start has no reduction
     fails : (gates gates' : List ℕ) (journal journal' : ℕ) (fault : RunFault) → RunFailsIn workers (line_mode (lines_of start)) history gates gates' journal journal' fault → RunFails workers keeps (Problem.of_lines start) history gates gates' journal journal' fault
-    fails gates gates' journal journal' run.NotInteresting why = (record { first = first_text No why.0; only = why.1; whole = why.3; committed = why.4 }, why.2)
+    fails gates gates' journal journal' run.NotInteresting why =
+        (record { first = first_text No why.0; only = why.1; whole = λ alone. why.3 alone ∙ goes.alone; committed = goes.answered legal why.4 }, why.2)
     fails gates gates' journal journal' (run.Script worker) why = (
       why.0,
       why.1,
       λ alone.
           let waits = why.2 alone in
-          record { waits = λ has. waits.1 (subst (λ (r : Reduction (List Line)). HasVerdicts (verdict_in records) r.questions) (sym same_reduction) has); not_no = waits.0; whole = waits.2 },
+          record { waits = λ has. waits.1 (subst (λ (r : Reduction (List Line)). HasVerdicts (verdict_in records) r.questions) (sym same_reduction) has); not_no = waits.0; whole = waits.2 ∙ goes.alone },
     )
     fails gates gates' journal journal' run.Journal why = why
     fails gates gates' journal journal' run.Memory why = why
@@ -165,14 +174,18 @@ module _ (keeps : List (List ℕ)) where
     lines_end minimal kept gates gates' journal journal' (Err fault) came = fails gates gates' journal journal' fault came
 
 -- nothing was asked of a problem
-none_own : (keeps : List (List ℕ)) (problem : Problem) → own_history (reducer_of keeps problem) [] ≡ []
-none_own keeps (Problem.of_lines start) = refl
-none_own keeps (Problem.of_tree mode input) = refl
+none_answered : (questions : List (List ℕ)) → thread_history (verdict_in []) questions ≡ []
+none_answered [] = refl
+none_answered (text ∷ questions) = refl
+
+none_own : (keeps : List (List ℕ)) (problem : Problem) → thread_over keeps problem [] ≡ []
+none_own keeps problem = none_answered (questions_over keeps problem [])
 
 pub none_of : (workers : ℕ) (keeps : List (List ℕ)) (problem : Problem) (history : History) → history ≡ [] → AreOf workers keeps problem history
 unfolding IsDistinct
 none_of workers keeps problem history none = subst (AreOf workers keeps problem) (sym none) (record {
-  legal = record { distinct = tt; commits = tt };
+  distinct = tt;
+  legal = (questions_over keeps problem [], refl);
   readable = tt;
   sequential = λ _. ([], none_own keeps problem);
   candidates = All-nil _;
@@ -193,7 +206,7 @@ pub unfinished_without : (keeps : List (List ℕ)) (problem : Problem) → IsUnf
 unfinished_without keeps problem = record { waits = none_waits keeps problem; not_no = λ first_no. first_no; whole = sym (none_own keeps problem) }
 
 -- What a run of a reducer of trees says, in the words of the reduction of trees.
-module _ (workers : ℕ) (mode : TreeMode) (laws : IsTreeMode (round_of mode) (IsEditBy mode)) (recursions : WalksAreRecursions mode (round_of mode)) (input : TreeInput) (is : IsInput input) (admitted : AdmitsStart input) (history : History) where
+module _ (workers : ℕ) (mode : TreeMode) (laws : IsTreeMode (round_of mode) (IsEditBy mode)) (recursions : WalksAreRecursions mode (round_of mode)) (by : HistoriesGoByQuestions) (input : TreeInput) (is : IsInput input) (admitted : AdmitsStart input) (history : History) where
   abbrev tree_records : List Record
   tree_records = records_of history
 
@@ -210,13 +223,17 @@ module _ (workers : ℕ) (mode : TreeMode) (laws : IsTreeMode (round_of mode) (I
   begins : BeginsWith trees input.start
   begins = laws.begins input is admitted
 
+  goes_on : (keeps : List (List ℕ)) → GoesByQuestions keeps (Problem.of_tree mode input) history
+  goes_on keeps = by keeps (Problem.of_tree mode input) is history
+
   -- the history is one of trees
   pub are_of_tree : (keeps : List (List ℕ)) → AreOfMode workers trees (IsKept input) history → AreOf workers keeps (Problem.of_tree mode input) history
   are_of_tree keeps of =
       record {
-        legal = of.legal;
+        distinct = of.legal.distinct;
+        legal = (goes_on keeps).answers of.legal;
         readable = of.readable;
-        sequential = of.sequential;
+        sequential = λ alone. subst (IsPrefix history) (goes_on keeps).alone (of.sequential alone);
         candidates = All-weaker (λ (r : Record). IsTextOf trees (IsKept input) r.text) (λ (r : Record). IsCandidate input r.text) (λ r one. laws.asks input r.text is one) tree_records of.candidates;
         short = All-weaker (λ (r : Record). IsTextOf trees (IsKept input) r.text) (λ (r : Record). length r.text ≤ length input.start)
             (λ r one. subst (λ (text : List ℕ). length text ≤ length input.start) (sym one.same) (laws.no_longer input one.state is one.kept)) tree_records of.candidates;
@@ -225,9 +242,9 @@ module _ (workers : ℕ) (mode : TreeMode) (laws : IsTreeMode (round_of mode) (I
       }
 
   -- the tree is reduced to the text of the result
-  tree_reduces : (keeps : List (List ℕ)) → input.admits ≡ keeps_admit keeps → (result : StepResult) (counts : Counts) → counts ≡ ends.counts_of (trees.size trees.start) (length (trees.text trees.start)) result (length tree_records)
+  tree_reduces : (keeps : List (List ℕ)) → IsLegal (plan_first trees) history → input.admits ≡ keeps_admit keeps → (result : StepResult) (counts : Counts) → counts ≡ ends.counts_of (trees.size trees.start) (length (trees.text trees.start)) result (length tree_records)
       → ReducesIn workers trees (IsKept input) history result → ReducesFrom workers keeps (Problem.of_tree mode input) history result.text counts
-  tree_reduces keeps admits result counts are_counts it =
+  tree_reduces keeps legal admits result counts are_counts it =
       let V = verdict_in tree_records in
       let R = over_records keeps in
       let same = same_trees keeps in
@@ -252,27 +269,34 @@ module _ (workers : ℕ) (mode : TreeMode) (laws : IsTreeMode (round_of mode) (I
             ∙ ap (λ (r : StepResult). ends.counts_of (trees.size trees.start) (length (trees.text trees.start)) r (length tree_records))
             (it.is_result ∙ ap (result_of (trials.recursion_of trees)) same)
             ∙ ap (λ (text : List ℕ). ends.counts_of (trees.size trees.start) (length text) (result_of (trials.recursion_of trees) R) (length tree_records)) begins.text;
-        whole = it.whole;
-        committed = it.committed;
+        whole = λ alone. it.whole alone ∙ (goes_on keeps).alone;
+        committed = (goes_on keeps).answered legal it.committed;
       }
 
   -- why the tree has no reduction
-  tree_fails : (keeps : List (List ℕ)) (gates gates' : List ℕ) (journal journal' : ℕ) (fault : RunFault) → RunFailsIn workers trees history gates gates' journal journal' fault → RunFails workers keeps (Problem.of_tree mode input) history gates gates' journal journal' fault
-  tree_fails keeps gates gates' journal journal' run.NotInteresting why =
-      (record { first = subst (λ (start : List ℕ). FirstIs start No tree_records) begins.text why.0; only = why.1; whole = why.3; committed = why.4 }, why.2)
-  tree_fails keeps gates gates' journal journal' (run.Script worker) why = (
+  tree_fails : (keeps : List (List ℕ)) → IsLegal (plan_first trees) history → (gates gates' : List ℕ) (journal journal' : ℕ) (fault : RunFault) → RunFailsIn workers trees history gates gates' journal journal' fault → RunFails workers keeps (Problem.of_tree mode input) history gates gates' journal journal' fault
+  tree_fails keeps legal gates gates' journal journal' run.NotInteresting why = (
+    record {
+      first = subst (λ (start : List ℕ). FirstIs start No tree_records) begins.text why.0;
+      only = why.1;
+      whole = λ alone. why.3 alone ∙ (goes_on keeps).alone;
+      committed = (goes_on keeps).answered legal why.4;
+    },
+    why.2,
+  )
+  tree_fails keeps legal gates gates' journal journal' (run.Script worker) why = (
     why.0,
     why.1,
     λ alone.
         let waits = why.2 alone in
-        record { waits = λ has. waits.1 (subst (λ (r : Reduction TreeState). HasVerdicts (verdict_in tree_records) r.questions) (sym (same_trees keeps)) has); not_no = waits.0; whole = waits.2 },
+        record { waits = λ has. waits.1 (subst (λ (r : Reduction TreeState). HasVerdicts (verdict_in tree_records) r.questions) (sym (same_trees keeps)) has); not_no = waits.0; whole = waits.2 ∙ (goes_on keeps).alone },
   )
-  tree_fails keeps gates gates' journal journal' run.Journal why = why
-  tree_fails keeps gates gates' journal journal' run.Memory why = why
+  tree_fails keeps legal gates gates' journal journal' run.Journal why = why
+  tree_fails keeps legal gates gates' journal journal' run.Memory why = why
 
   -- how the run of the tree ends
-  pub tree_ends : (keeps : List (List ℕ)) → input.admits ≡ keeps_admit keeps → (gates gates' : List ℕ) (journal journal' : ℕ) (result : Result Reduced RunFault) → RunEndsIn workers trees (IsKept input) history gates gates' journal journal' result
+  pub tree_ends : (keeps : List (List ℕ)) → IsLegal (plan_first trees) history → input.admits ≡ keeps_admit keeps → (gates gates' : List ℕ) (journal journal' : ℕ) (result : Result Reduced RunFault) → RunEndsIn workers trees (IsKept input) history gates gates' journal journal' result
       → ProblemEnds workers keeps (Problem.of_tree mode input) history gates gates' journal journal' result
-  tree_ends keeps admits gates gates' journal journal' (Ok reduced) came =
-      (subst (λ (text : List ℕ). ReducesFrom workers keeps (Problem.of_tree mode input) history text reduced.counts) (sym came.0.1) (tree_reduces keeps admits came.0.0 reduced.counts came.0.2 came.0.3), came.1)
-  tree_ends keeps admits gates gates' journal journal' (Err fault) came = tree_fails keeps gates gates' journal journal' fault came
+  tree_ends keeps legal admits gates gates' journal journal' (Ok reduced) came =
+      (subst (λ (text : List ℕ). ReducesFrom workers keeps (Problem.of_tree mode input) history text reduced.counts) (sym came.0.1) (tree_reduces keeps legal admits came.0.0 reduced.counts came.0.2 came.0.3), came.1)
+  tree_ends keeps legal admits gates gates' journal journal' (Err fault) came = tree_fails keeps legal gates gates' journal journal' fault came

@@ -1,58 +1,64 @@
 -- How the run of a problem ends, and what its history is.
 use Rattle.std.specs.Prelude.{◌≡◌, ◌≤◌, ℕ, List, All, length, Result, Ok, Err}
+use Rattle.std.specs.List.{IsDistinct}
+use Rattle.std.specs.Str.{bytes_eq}
 use Rattle.faults.specs.Count.{Rose}
 use Rattle.script_gate_trait.specs.declared.gate.Verdict.TheVariants.{Yes, No}
-use Rattle.reduce_step.specs.Plan.{HasEnded}
-use Rattle.verdict_table.specs.TableState.{verdict_in}
+use Rattle.verdict_table.specs.TableState.{texts_of, verdict_in}
 use Rattle.reduce_journal.specs.History.{History, IsHistory, records_of}
 use Rattle.reduce_journal.specs.declared.counts.Counts.{Counts}
-use Rattle.ordered_commit_moves.specs.Replay.{IsLegal, replay}
 use Rattle.reduce_rounds.specs.Verdicts.{HasVerdicts}
-use Rattle.run_worker.specs.RunHistory.{IsBeginning, own_history}
 use Rattle.run_gated.specs.Records.{BeginsAt, FirstIs, FirstIsNo, OnlyNo}
 use Rattle.run_gated.specs.RunEnds.{NoneFailed}
 use Rattle.run_gated.specs.Workers.{RoseAt}
 use Rattle.run_gated.specs.declared.fault.RunFault.{RunFault}
 use Rattle.run_gated.specs.declared.fault.RunFault.TheVariants.{NotInteresting, Script, Journal, Memory}
 use Rattle.run_gated.specs.declared.ran.Reduced.{Reduced}
-use Rattle.run_problem.specs.Problem.{IsCandidateOf, IsReductionOf, Problem, counts_of, questions_of, start_of}
-use Rattle.run_problem.specs.Reducer.{reducer_of}
+use Rattle.run_problem.specs.Problem.{IsCandidateOf, IsReductionOf, Problem, counts_of, start_of}
+use Rattle.run_problem.specs.Committed.{IsPrefix, committed_texts, questions_over, thread_over}
 
--- The history is one that the problem's reducer can have; each record's text may be asked, and isn't longer than the start; the first is the start, and after
--- its no nothing was asked. With one worker it is a beginning of what one thread does over its records.
+-- No text has two records. What the commits answer, each by an earlier record, is what the problem's reduction asks, in its order, from the first question on.
+-- Each record's text may be asked, and isn't longer than the start; the first is the start, and after its no nothing was asked.
+-- With one worker the history is a beginning of what one thread does over its records.
 pub record AreOf (workers : ℕ) (keeps : List (List ℕ)) (problem : Problem) (history : History) : Type 0 where
-  pub legal : IsLegal (reducer_of keeps problem) history
+  pub distinct : IsDistinct bytes_eq (texts_of (records_of history))
+  pub legal : IsPrefix (committed_texts history) (questions_over keeps problem history)
   pub readable : IsHistory history
   pub candidates : All (λ r. IsCandidateOf keeps problem r.text) (records_of history)
   pub short : All (λ r. length r.text ≤ length (start_of problem)) (records_of history)
   pub first : BeginsAt (start_of problem) (records_of history)
   pub ends_at_no : FirstIsNo (records_of history) → OnlyNo (records_of history)
-  pub sequential : workers ≡ 1 → IsBeginning history (own_history (reducer_of keeps problem) history)
+  pub sequential : workers ≡ 1 → IsPrefix history (thread_over keeps problem history)
+
+-- each question of the reduction was answered
+abbrev pub IsAnswered : List (List ℕ) → Problem → History → Type 0
+IsAnswered keeps problem history = committed_texts history ≡ questions_over keeps problem history
 
 -- the history is all that one thread does over its records
 abbrev pub IsWhole : List (List ℕ) → Problem → History → Type 0
-IsWhole keeps problem history = history ≡ own_history (reducer_of keeps problem) history
+IsWhole keeps problem history = history ≡ thread_over keeps problem history
 
--- A problem reduces to the text over the verdicts of the records, of which the first is the start's yes, and these are its counts; the commits lead the reducer to its end; with one worker the history is all that one thread does over them.
+-- A problem reduces to the text over the verdicts of the records, of which the first is the start's yes, and these are its counts.
+-- Each question was answered; with one worker the history is all that one thread does over the records.
 pub record ReducesFrom (workers : ℕ) (keeps : List (List ℕ)) (problem : Problem) (history : History) (text : List ℕ) (counts : Counts) : Type 0 where
   pub first : FirstIs (start_of problem) Yes (records_of history)
   pub reduced : IsReductionOf keeps (verdict_in (records_of history)) problem text
   pub is_counts : counts ≡ counts_of keeps problem (records_of history)
   pub whole : workers ≡ 1 → IsWhole keeps problem history
-  pub committed : HasEnded (replay (reducer_of keeps problem) history)
+  pub committed : IsAnswered keeps problem history
 
 -- The reduction asks for a text that has no record; the gate hadn't said no to the start; and the history is all that one thread does over its records.
 pub record IsUnfinished (keeps : List (List ℕ)) (problem : Problem) (history : History) : Type 0 where
-  pub waits : ¬ HasVerdicts (verdict_in (records_of history)) (questions_of keeps problem (verdict_in (records_of history)))
+  pub waits : ¬ HasVerdicts (verdict_in (records_of history)) (questions_over keeps problem history)
   pub not_no : ¬ FirstIsNo (records_of history)
   pub whole : IsWhole keeps problem history
 
--- a gate said no to the start, and none was asked again; and the reducer was answered so
+-- a gate said no to the start, and none was asked again; and each question was answered
 pub record IsRefused (workers : ℕ) (keeps : List (List ℕ)) (problem : Problem) (history : History) : Type 0 where
   pub first : FirstIs (start_of problem) No (records_of history)
   pub only : OnlyNo (records_of history)
   pub whole : workers ≡ 1 → IsWhole keeps problem history
-  pub committed : HasEnded (replay (reducer_of keeps problem) history)
+  pub committed : IsAnswered keeps problem history
 
 -- Why a problem has no reduction: a gate said no to its start; or a call failed of the gate of the worker that is named, and with one worker the reduction wasn't finished; or a call of the journal failed; or out of memory. Of the gates and of the journal these are the counts before and after. After a no, no call failed; and with one worker no call failed but the one that is the cause.
 abbrev pub RunFails : ℕ → List (List ℕ) → Problem → History → List ℕ → List ℕ → ℕ → ℕ → RunFault → Type 0

@@ -1,18 +1,23 @@
--- What holds of two reductions of a problem, and of two runs, by whatever workers each; and how often a reducer is answered.
+-- What holds of two reductions of a problem, and of two runs, by whatever workers each; how often a reducer is answered; and that it asks these questions.
 use Rattle.std.specs.Prelude.{◌≡◌, ◌≤◌, ℕ, suc, List, [], ◌∷◌, All, Option, length}
+use Rattle.std.specs.List.{IsDistinct}
+use Rattle.std.specs.Str.{bytes_eq}
 use Rattle.script_gate_trait.specs.declared.gate.Verdict.{Verdict}
 use Rattle.verdict_table.specs.declared.record.Record.{Record}
-use Rattle.verdict_table.specs.TableState.{verdict_in}
+use Rattle.verdict_table.specs.TableState.{texts_of, verdict_in}
 use Rattle.reduce_journal.specs.declared.counts.Counts.{Counts}
-use Rattle.reduce_journal.specs.History.{History, records_of}
+use Rattle.reduce_journal.specs.History.{History, IsHistory, records_of}
 use Rattle.reduce_journal.specs.declared.event.Event.TheVariants.{Recorded, Committed}
-use Rattle.ordered_commit_moves.specs.Replay.{IsLegal}
-use Rattle.reduce_step.specs.Plan.{Plan, height}
+use Rattle.ordered_commit_moves.specs.Replay.{IsLegal, replay}
+use Rattle.reduce_step.specs.Plan.{HasEnded, Plan, height}
 use Rattle.reduce_rounds.specs.Laws.{AgreeingMapsReduceAlike}
 use Rattle.reduce_rounds.specs.Verdicts.{Agree}
+use Rattle.run_worker.specs.RunHistory.{own_history}
 use Rattle.run_worker.specs.Sequential.{sequential_history}
 use Rattle.run_problem.specs.Problem.{IsProblem, Problem, recursion_of}
-use Rattle.run_problem.specs.Ends.{ReducesFrom}
+use Rattle.run_problem.specs.Reducer.{reducer_of}
+use Rattle.run_problem.specs.Committed.{IsPrefix, committed_texts, questions_over, thread_over}
+use Rattle.run_problem.specs.Ends.{IsAnswered, ReducesFrom}
 
 -- Reductions of a problem over two maps of verdicts that agree are equal, where each map has a verdict for each text that its own reduction asks.
 abbrev pub ProblemsReduceAlike : Type 0
@@ -42,5 +47,23 @@ pub record IsAnsweredWithin (first : Plan) (most : ℕ) : Type 0 where
   pub in_history : (history : History) → IsLegal first history → answer_count history ≤ most
   pub by_verdicts : (V : List ℕ → Option Verdict) → answer_count (sequential_history V first) ≤ most
 
-abbrev pub AnswersAreBounded : Type 0
-AnswersAreBounded = (first : Plan) → IsAnsweredWithin first (height first)
+-- A reducer is answered within its height. Where the commits of a history answer the first of some questions, each by an earlier record, there are no more
+-- commits than questions.
+pub record AnswersAreBounded : Type 0 where
+  pub of_reducers : (first : Plan) → IsAnsweredWithin first (height first)
+  pub of_questions : (history : History) (questions : List (List ℕ)) → IsHistory history → IsPrefix (committed_texts history) questions
+      → answer_count history ≤ length questions
+
+-- What a problem's reducer, which is made of what it tries, says of a history is what the questions of its reduction say: that it can have it, that it has
+-- ended, and what one thread does. There are at most as many questions as the reducer takes answers.
+pub record GoesByQuestions (keeps : List (List ℕ)) (problem : Problem) (history : History) : Type 0 where
+  pub answers : IsLegal (reducer_of keeps problem) history → IsPrefix (committed_texts history) (questions_over keeps problem history)
+  pub legal : IsDistinct bytes_eq (texts_of (records_of history)) → IsHistory history
+      → IsPrefix (committed_texts history) (questions_over keeps problem history) → IsLegal (reducer_of keeps problem) history
+  pub answered : IsLegal (reducer_of keeps problem) history → HasEnded (replay (reducer_of keeps problem) history) → IsAnswered keeps problem history
+  pub ended : IsLegal (reducer_of keeps problem) history → IsAnswered keeps problem history → HasEnded (replay (reducer_of keeps problem) history)
+  pub alone : own_history (reducer_of keeps problem) history ≡ thread_over keeps problem history
+  pub within : length (questions_over keeps problem history) ≤ height (reducer_of keeps problem)
+
+abbrev pub HistoriesGoByQuestions : Type 0
+HistoriesGoByQuestions = (keeps : List (List ℕ)) (problem : Problem) → IsProblem problem → (history : History) → GoesByQuestions keeps problem history

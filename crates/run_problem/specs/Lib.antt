@@ -7,5 +7,6 @@ pub mod Problem
 pub mod Reducer
 pub mod Walks
 pub mod Read
+pub mod Committed
 pub mod Ends
 pub mod Laws

@@ -1,7 +1,7 @@
-//! What holds of two runs, by whatever workers each, for those who compare runs, and how often a reducer
-//! is answered.
+//! What holds of two runs, by whatever workers each, for those who compare runs, how often a reducer is
+//! answered, and that it asks the questions of its reduction.
 
-ghost use Rattle.run_problem.specs.Laws.{AnswersAreBounded, ProblemsReduceAlike, RunsReduceAlike, VerdictsAgree};
+ghost use Rattle.run_problem.specs.Laws.{AnswersAreBounded, HistoriesGoByQuestions, ProblemsReduceAlike, RunsReduceAlike, VerdictsAgree};
 
 use reduce_core::lines_are_recursions;
 use reduce_trees::{hdd_is_its_recursion, perses_is_its_recursion};
@@ -29,7 +29,17 @@ pub fn verdicts_agree<G: Gate>()
     ensures { VerdictsAgree G.may_say }
 {}
 
-/// A reducer is answered at most as often as its height says, whatever the answers are.
+/// A reducer is answered at most as often as its height says, whatever the answers are, and at most as
+/// often as there are questions.
 pub fn answers_are_bounded()
     ensures { AnswersAreBounded }
 {}
+
+/// What is said of a history by a problem's reducer is what the questions of its reduction say.
+pub fn histories_go_by_questions()
+    ensures { HistoriesGoByQuestions }
+{
+    lines_are_recursions();
+    perses_is_its_recursion();
+    hdd_is_its_recursion();
+}

@@ -18,6 +18,7 @@ ghost use Rattle.run_problem.specs.Read.{IsFoundIn, IsReadAs, IsReady, start_rea
 ghost use Rattle.run_problem.specs.Ends.{AreOf, ProblemEnds};
 ghost use Rattle.run_problem.specs.Walks.{IsTreeMode};
 
+use crate::laws::histories_go_by_questions;
 use crate::problem::ReadProblem;
 use compat_table::compat;
 use edge_io::Sink;
@@ -65,6 +66,7 @@ fn lines_result<G: Gate + Send, J: Sink + Drop + Send, T: Threads + Wait + Sync>
 {
     lines_are_recursions();
     lines_end_minimal();
+    histories_go_by_questions();
     match line_reducer(alloc, start, guard) {
         Ok(reducer) => run_to_text(rt, alloc, reducer, workers, journal),
         Err(_) => Ran::refused(alloc, journal, RunFault::Memory),
@@ -159,6 +161,7 @@ fn tree_result<'a, G: Gate + Send, J: Sink + Drop + Send, T: Threads + Wait + Sy
     ensures journal { JournalHas (length workers.old) result.events.items (J.put_so_far journal) (J.put_so_far result.journal) (J.faults journal) (J.faults result.journal) result.outcome }
 {
     parts.is_input();
+    histories_go_by_questions();
     match mode {
         TreeMode::Perses => {
             walk_laws::<TreeVisits>();

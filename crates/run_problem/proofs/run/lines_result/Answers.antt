@@ -14,10 +14,12 @@ returns-in-Err-clause-of_problem g c = none_of (length c.args.workers.now) c.arg
 pub returns-in-Ok-clause-of_problem : goal.returns-in-Ok-clause-of_problem
 returns-in-Ok-clause-of_problem g c =
     let input = lines_of c.args.guard.now c.args.start.now in
-    are_of c.args.guard.now (length c.args.workers.now) c.args.start.now c.run_to_text.result.events.items
+    are_of c.args.guard.now c.histories_go_by_questions.ensures (length c.args.workers.now) c.args.start.now c.run_to_text.result.events.items
     (c.run_to_text.ensures.of_mode input c.in-Ok.ensures.first (line_lawful input).keeps (admits_start c.args.guard.now c.args.start.now c.requires.kept))
 
 pub returns-in-Ok-clause-ends : goal.returns-in-Ok-clause-ends
 returns-in-Ok-clause-ends g c =
-    lines_end c.args.guard.now (length c.args.workers.now) c.lines_are_recursions.ensures c.args.start.now c.run_to_text.result.events.items c.lines_end_minimal.ensures c.requires.kept _ _ _ _ c.run_to_text.result.outcome
-    (c.run_to_text.ensures.ends (lines_of c.args.guard.now c.args.start.now) c.in-Ok.ensures.first c.in-Ok.ensures.start)
+    let input = lines_of c.args.guard.now c.args.start.now in
+    let of = c.run_to_text.ensures.of_mode input c.in-Ok.ensures.first (line_lawful input).keeps (admits_start c.args.guard.now c.args.start.now c.requires.kept) in
+    lines_end c.args.guard.now (length c.args.workers.now) c.lines_are_recursions.ensures c.histories_go_by_questions.ensures c.args.start.now c.run_to_text.result.events.items of.legal c.lines_end_minimal.ensures c.requires.kept _ _ _ _ c.run_to_text.result.outcome
+    (c.run_to_text.ensures.ends input c.in-Ok.ensures.first c.in-Ok.ensures.start)
