@@ -9,13 +9,12 @@ use Rattle.grammar_reader_words.specs.Words.{words_of}
 use Rattle.grammar_reader_notation.specs.Sets.{outside, within}
 use Rattle.grammar_reader_notation.specs.Notation.{IsTextOf}
 use Rattle.grammar_reader_notation.specs.Reads.{IsProfile, only_words}
-use Rattle.grammar_reader_notation.proofs.Sizes.{profile_fits}
+use Rattle.grammar_reader_notation.proofs.Lent.{profile_fits}
 use Rattle.grammar_tree.specs.Kinds.{kinds_of}
 use Rattle.case_language.proofs.WellFormed.{well_formed}
 use Rattle.grammar_reader_machine.specs.Machine.{AtEnd, AtStart}
 use Rattle.grammar_reader_laws.specs.WordByWord.{run}
-use Rattle.grammar_reader_laws.proofs.Rest.{Goes, Rest}
-use Rattle.grammar_reader_laws.proofs.Runs.{accepts, run_complete}
+use Rattle.grammar_reader_laws.proofs.Lent.{Goes, Rest, accepts, run_complete}
 use Rattle.case_maker.specs.Mini.{mini_text}
 use Rattle.case_language.specs.Mini.{all_chars, blank_of, comment_of, digits, grammar_with, id_of, int_of, letters, letters_digits, line_chars, line_of, mini, plain_chars, str_of}
 use Rattle.case_language.specs.Laws.{CasesAreInLanguage, MiniIsSpelled}

@@ -5,7 +5,7 @@ use Rattle.std.proofs.lemmas.Bool.Decides.{nat_tests}
 use Rattle.regex_class.specs.Ranges.{in_range, in_ranges, rises_from}
 use Rattle.grammar_tree.specs.Chars.{IsCharSet, has}
 use Rattle.grammar_reader_notation.specs.Sets.{outside, within}
-use Rattle.grammar_reader_notation.proofs.SetOf.{is_set_of}
+use Rattle.grammar_reader_notation.proofs.Lent.{is_set_of}
 use Rattle.case_language.specs.Mini.{all_chars, blanks, digits, letters, letters_digits, line_chars, plain_chars}
 
 letters_set : IsCharSet letters

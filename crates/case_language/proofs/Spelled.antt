@@ -9,7 +9,8 @@ use Rattle.grammar_tree.specs.Kinds.{lexer_rules}
 use Rattle.grammar_tree.specs.Faults.{AtLexerRule}
 use Rattle.grammar_tree.specs.Matches.{Matches, MatchesAlternative, MatchesAlts, MatchesMany, MatchesRule, MatchesSeq, is_short}
 use Rattle.grammar_tree.specs.Lexes.{KindMatches, SourceMatches}
-use Rattle.case_language.specs.Mini.{all_chars, blank_token, blanks, comment_token, digits, id_token, int_token, letters, letters_digits, line_chars, line_token, mini, plain_chars, str_token, string_part}
+use Rattle.case_language.specs.Mini.{all_chars, blank_token, blanks, comment_token, digits, id_token, int_token, letters, letters_digits, line_chars, line_token, mini, plain_chars, str_token}
+use Rattle.case_language.specs.inner.Mini.{string_part}
 use Rattle.case_language.proofs.Tests.{not_both, or_parts}
 use Rattle.case_language.proofs.Threads.{Any, accepts, any_accepts, any_run, moved, run, run_nameless}
 use Rattle.case_language.proofs.MiniKinds.{kinds_mini, mini_kinds}

@@ -4,7 +4,7 @@ use Rattle.std.proofs.lemmas.Bool.{and_parts, and_from, eq-eqb}
 use Rattle.grammar_tree.specs.Chars.{has}
 use Rattle.grammar_tree.specs.Written.{LexerTerm, LexerSeq, LexerAlts, LexerRule}
 use Rattle.grammar_tree.specs.Matches.{Matches, MatchesAlts, MatchesMany, MatchesSeq}
-use Rattle.grammar_tree.proofs.MatchForms.{by_form}
+use Rattle.grammar_tree.proofs.Lent.{by_form}
 use Rattle.case_language.proofs.Tests.{or_later}
 
 -- no name is used

@@ -6,7 +6,7 @@ use Rattle.script_gate_trait.specs.Rule.{occur_all}
 use Rattle.script_gate_trait.specs.declared.gate.Verdict.TheVariants.{Yes, No}
 use Rattle.case_maker.specs.Cases.{case_text}
 use Rattle.case_maker.specs.Laws.{HoldsQAndZ}
-use Rattle.case_maker.proofs.Letters.{holds}
+use Rattle.case_maker.proofs.Lent.{holds}
 use Rattle.case_language.specs.Laws.{CasesGetYes}
 use Rattle.case_language.proofs.Tests.{or_later}
 

@@ -11,7 +11,7 @@ use Rattle.grammar_tree.specs.Matches.{Matches}
 use Rattle.grammar_tree.specs.Derives.{Alts, DerivesAlts, resolved_alts}
 use Rattle.grammar_tree.specs.Corners.{HasEmptyLoopAlts, IsLeftCorner, LeadsTo, bases, normal_count, rests}
 use Rattle.grammar_tree.specs.Faults.{EmptyLoop, EmptyToken, EofPlace, FragmentLoop, IsUnknown, IsWellFormed, LeftRecursion, LexerHasEmptyLoop, LexerHasEmptyLoopAlts, LexerHasEmptyLoopSeq, NameUse, NoBase, NoRule, ShortUse, TooManyRules, TwoRules, Uses, UsesThrough, any_has_eof, is_misplaced, name_uses, number_at, used_names}
-use Rattle.grammar_tree.proofs.Places.{contains_at, contains_later, lexer_places, numbers}
+use Rattle.grammar_tree.proofs.Lent.{contains_at, contains_later, lexer_places, numbers}
 use Rattle.case_language.specs.Mini.{mini}
 use Rattle.case_language.proofs.Tests.{neither, not_both, not_false, or_parts}
 use Rattle.case_language.proofs.Threads.{accepts, all_nameless, any_accepts, empty, empty_found, nameless}

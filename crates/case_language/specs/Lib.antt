@@ -4,3 +4,4 @@ pub use Rattle.reduce_trees_mode.specs.Candidates
 pub use Rattle.case_maker.specs as CaseMaker
 pub mod Mini
 pub mod Laws
+pub mod inner

@@ -146,9 +146,6 @@ id_token = id_of letters letters_digits
 abbrev pub int_token : LexerRule
 int_token = int_of digits
 
-abbrev pub string_part : LexerTerm
-string_part = part_of plain_chars all_chars
-
 abbrev pub str_token : LexerRule
 str_token = str_of plain_chars all_chars
 

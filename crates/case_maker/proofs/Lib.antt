@@ -1,3 +1,4 @@
-pub mod Letters
-pub mod Joined
+mod Letters
+mod Joined
 mod Lengths
+pub mod Lent

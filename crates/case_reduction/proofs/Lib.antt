@@ -1,4 +1,4 @@
-pub mod Alike
-pub mod CaseTrees
-pub mod OneSummary
-pub mod RuleRuns
+mod Alike
+mod CaseTrees
+mod OneSummary
+mod RuleRuns

@@ -13,8 +13,8 @@ use Rattle.normal_form.specs.View.{alts_form, rule_form}
 use Rattle.normal_form_spans.specs.Spans.{DerivesSpan, DerivesSpanMany, DerivesSpanSeq}
 use Rattle.normal_form_spans.specs.SpanLaws.{SpansByForm}
 use Rattle.chart_parser.specs.declared.part.Part.{Part}
-use Rattle.chart_parser.specs.GoingOn.{IsListOf}
-use Rattle.chart_parser.specs.Parts.{IsContent}
+use Rattle.chart_parser.specs.inner.GoingOn.{IsListOf}
+use Rattle.chart_parser.specs.inner.Parts.{IsContent}
 
 pub alternative_is : (alts : List (Vec Sym)) (n : ℕ) (v : Vec Sym) (symbols : List Sym) → n < length alts → v ≡ get_or alts n v → symbols ≡ v.items → slice_get (alts_form alts) n ≡ Some symbols
 alternative_is [] n v symbols l e f = absurd (omega (arith, l))

@@ -4,7 +4,7 @@ use Rattle.std.specs.Prelude.{reverse, Result, Ok, Err, IfOk, OnOk}
 use Rattle.std.proofs.lemmas.List.{append-nil, map-append, reverse-append, reverse-reverse}
 use Rattle.chart_parser.specs.declared.part.Asked.{Asked}
 use Rattle.chart_parser.specs.declared.part.Part.{Part}
-use Rattle.chart_parser.specs.Preorder.{below}
+use Rattle.chart_parser.specs.inner.Preorder.{below}
 
 pub on_ok : {A E : Type 0} (r : Result A E) (P Q : Type 0) → (P → Q) → OnOk r P → OnOk r Q
 on_ok (Ok x) P Q f p = f p

@@ -15,10 +15,10 @@ use Rattle.normal_form_spans.specs.Spans.{DerivesSpan, DerivesSpanSeq}
 use Rattle.syntax_tree.specs.Preferred.{IsLongest}
 use Rattle.chart_parser_ends.specs.Input.{ChartInput}
 use Rattle.chart_parser_ends.specs.Positions.{EndsUpTo, HasAll, HasExactly, IsGrown, IsGreatest, IsLastAmong}
-use Rattle.chart_parser_ends.proofs.Spans.{joins, lists, spans}
+use Rattle.chart_parser_ends.proofs.Lent.{joins, lists, spans}
 use Rattle.chart_parser.specs.declared.part.Part.{Part}
-use Rattle.chart_parser.specs.GoingOn.{AreGoingOn, AreReached, EndsFrom, HasGoingOn, HasReached, Meets, set_at}
-use Rattle.chart_parser.specs.Parts.{AreParts, IsPart}
+use Rattle.chart_parser.specs.inner.GoingOn.{AreGoingOn, AreReached, EndsFrom, HasGoingOn, HasReached, Meets, set_at}
+use Rattle.chart_parser.specs.inner.Parts.{AreParts, IsPart}
 
 pub set_at_read : (sets : List (Vec ℕ)) (k : ℕ) (v : Vec ℕ) → k < length sets → v ≡ get_or sets k v → v.items ≡ set_at sets k
 set_at_read [] k v l e = absurd (omega (arith, l))

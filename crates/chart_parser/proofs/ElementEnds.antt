@@ -13,10 +13,10 @@ use Rattle.normal_form.specs.Form.{NormalForm}
 use Rattle.normal_form_spans.specs.Spans.{DerivesSpan, DerivesSpanMany}
 use Rattle.syntax_tree.specs.Preferred.{IsLongest}
 use Rattle.chart_parser_ends.specs.Positions.{EndsUpTo, HasAll, HasExactly, IsGrown, IsGreatest, IsLastAmong}
-use Rattle.chart_parser_ends.proofs.Spans.{joins, lists, spans}
+use Rattle.chart_parser_ends.proofs.Lent.{joins, lists, spans}
 use Rattle.chart_parser.specs.declared.part.Part.{Part}
-use Rattle.chart_parser.specs.GoingOn.{ElementsGoOn, HasEndsOfElements, IsClosedBefore, IsListOf, MovesOn}
-use Rattle.chart_parser.specs.Parts.{AreElements, IsPart}
+use Rattle.chart_parser.specs.inner.GoingOn.{ElementsGoOn, HasEndsOfElements, IsClosedBefore, IsListOf, MovesOn}
+use Rattle.chart_parser.specs.inner.Parts.{AreElements, IsPart}
 
 -- elements of lists without their first ones
 in_later : (n : ℕ) (xs : List ℕ) (x : ℕ) (h : Contains xs x) → n ≤ h.0 → Contains (drop n xs) x

@@ -1,6 +1,6 @@
-pub mod TreeOfParts
-pub mod Preorder
-pub mod Cutting
-pub mod ElementEnds
-pub mod Asking
-pub mod Alternatives
+mod TreeOfParts
+mod Preorder
+mod Cutting
+mod ElementEnds
+mod Asking
+mod Alternatives

@@ -14,8 +14,8 @@ use Rattle.syntax_tree.specs.Preferred.{Preferred}
 use Rattle.syntax_tree.specs.Laws.{PreferredTreesAreValid}
 use Rattle.chart_parser.specs.declared.part.Asked.{Asked}
 use Rattle.chart_parser.specs.declared.part.Part.{Part}
-use Rattle.chart_parser.specs.Parts.{AreElements, AreOfForm, AreOfRule, AreParts, IsContent}
-use Rattle.chart_parser.specs.Preorder.{AreBegun, AreDerived, Completes, below, leaf_node, rule_node}
+use Rattle.chart_parser.specs.inner.Parts.{AreElements, AreOfForm, AreOfRule, AreParts, IsContent}
+use Rattle.chart_parser.specs.inner.Preorder.{AreBegun, AreDerived, Completes, below, leaf_node, rule_node}
 use Rattle.chart_parser.proofs.TreeOfParts.{ArePreferred, count_is, slots, slots_are, tree_of_parts}
 
 module _ (N : NormalForm) (K : List ℕ) where

@@ -10,7 +10,7 @@ use Rattle.syntax_tree.specs.Trees.{PlainTree, PlainTrees, count}
 use Rattle.syntax_tree.specs.Valid.{slots_of, slots_of_form}
 use Rattle.syntax_tree.specs.Preferred.{Preferred, PreferredSeq, PreferredMany}
 use Rattle.chart_parser.specs.declared.part.Part.{Part}
-use Rattle.chart_parser.specs.Parts.{AreParts, AreElements, IsContent, AreOfForm, AreOfRule}
+use Rattle.chart_parser.specs.inner.Parts.{AreParts, AreElements, IsContent, AreOfForm, AreOfRule}
 
 abbrev pub slots : List Part → List Sym
 slots ps = map (λ (p : Part). p.slot) ps

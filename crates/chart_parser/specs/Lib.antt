@@ -2,6 +2,4 @@ pub use Rattle.normal_form.specs as NormalForm
 pub use Rattle.normal_form_spans.specs.Spans
 pub use Rattle.syntax_tree.specs as SyntaxTree
 pub mod Parse
-pub mod Parts
-pub mod GoingOn
-pub mod Preorder
+pub mod inner

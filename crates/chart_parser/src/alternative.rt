@@ -4,8 +4,8 @@ ghost use Rattle.std.specs.Prelude.{◌≡◌, ◌+◌, ◌<◌, ◌≤◌, [], 
 ghost use Rattle.std.specs.List.Sorted.{IsStrictlyIncreasing};
 ghost use Rattle.normal_form_spans.specs.Spans.{DerivesSpanSeq};
 ghost use Rattle.chart_parser_ends.specs.Positions.{HasAll, HasExactly};
-ghost use Rattle.chart_parser.specs.GoingOn.{AreGoingOn, AreReached, EndsFrom, Meets};
-ghost use Rattle.chart_parser.specs.Parts.{AreParts};
+ghost use Rattle.chart_parser.specs.inner.GoingOn.{AreGoingOn, AreReached, EndsFrom, Meets};
+ghost use Rattle.chart_parser.specs.inner.Parts.{AreParts};
 
 use crate::part::Part;
 use chart_parser_ends::Chart;

@@ -4,7 +4,7 @@ ghost use Rattle.std.specs.Prelude.{◌≡◌, ◌⊎◌, ◌<◌, ◌≤◌, �
 ghost use Rattle.normal_form_spans.specs.Spans.{DerivesSpan, DerivesSpanSeq};
 ghost use Rattle.normal_form.specs.declared.normal.Sym;
 ghost use Rattle.normal_form.specs.View.{alts_form};
-ghost use Rattle.chart_parser.specs.Parts.{AreOfLeast, AreOfRule, IsContent};
+ghost use Rattle.chart_parser.specs.inner.Parts.{AreOfLeast, AreOfRule, IsContent};
 
 use crate::alternative::alternative_parts;
 use crate::elements::add_list;

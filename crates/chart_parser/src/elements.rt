@@ -5,8 +5,8 @@ ghost use Rattle.std.specs.List.{Contains};
 ghost use Rattle.std.specs.List.Sorted.{IsStrictlyIncreasing};
 ghost use Rattle.normal_form_spans.specs.Spans.{DerivesSpanMany};
 ghost use Rattle.chart_parser_ends.specs.Positions.{HasExactly};
-ghost use Rattle.chart_parser.specs.GoingOn.{ElementsGoOn, HasEndsOfElements, IsClosedBefore, IsListOf, MovesOn};
-ghost use Rattle.chart_parser.specs.Parts.{AreElements};
+ghost use Rattle.chart_parser.specs.inner.GoingOn.{ElementsGoOn, HasEndsOfElements, IsClosedBefore, IsListOf, MovesOn};
+ghost use Rattle.chart_parser.specs.inner.Parts.{AreElements};
 
 use crate::part::Part;
 use chart_parser_ends::Chart;

@@ -4,8 +4,8 @@
 //! Of several alternatives that derive the tokens the first is taken, and of several ends of a part
 //! the greatest from which the rest can go on. Nothing here recurs as deep as a tree.
 //!
-//! Read `specs/Parse.antt` first: what the answer is; then `specs/Parts.antt`: how the span of a node
-//! is cut into those of its children, and `specs/Preorder.antt`: what the nodes that were made and
+//! Read `specs/Parse.antt` first: what the answer is; then `specs/inner/Parts.antt`: how the span of a node
+//! is cut into those of its children, and `specs/inner/Preorder.antt`: what the nodes that were made and
 //! those that are still asked for make together. An ambiguous list is never refused.
 #![tactic(auto)]
 

@@ -7,7 +7,7 @@ ghost use Rattle.syntax_tree.specs.Nodes.{AreNodesOf};
 ghost use Rattle.syntax_tree.specs.Preferred.{Preferred};
 ghost use Rattle.syntax_tree.specs.Trees.{PlainTree};
 ghost use Rattle.chart_parser.specs.declared.part.Asked.{Asked};
-ghost use Rattle.chart_parser.specs.Preorder.{AreBegun, AreDerived, below, leaf_node};
+ghost use Rattle.chart_parser.specs.inner.Preorder.{AreBegun, AreDerived, below, leaf_node};
 
 use crate::choice::rule_parts;
 use crate::part::{Asked, Part};

@@ -11,7 +11,7 @@ use Rattle.normal_form.specs.View.{alts_form, rule_form}
 use Rattle.normal_form.specs.declared.normal.Sym.{Sym}
 use Rattle.normal_form_spans.specs.Spans.{DerivesSpan}
 use Rattle.chart_parser_ends.specs.Input.{ChartInput}
-use Rattle.chart_parser_ends.specs.Working.{HasAlternatives}
+use Rattle.chart_parser_ends.specs.inner.Working.{HasAlternatives}
 use Rattle.chart_parser_ends.specs.Positions.{EndsUpTo, HasAll, HasExactly, IsGrown}
 use Rattle.chart_parser_ends.proofs.Exactly.{exactly_grown, exactly_none, exactly_same}
 

@@ -12,8 +12,8 @@ use Rattle.normal_form.specs.Form.{NormalForm}
 use Rattle.normal_form_spans.specs.Spans.{DerivesSpan, DerivesSpanSeq}
 use Rattle.chart_parser_ends.specs.declared.choice.Choice.{Choice}
 use Rattle.chart_parser_ends.specs.Positions.{HasAll, HasExactly, IsGrown}
-use Rattle.chart_parser_ends.specs.Working.{DerivesEarlier, DerivesFrom, HasAlternatives, IsChoice, alternative_at, symbol_at}
-use Rattle.chart_parser_ends.specs.Moves.{Begins, HasNextAlternative, HasNextSymbol, IsNextSymbol}
+use Rattle.chart_parser_ends.specs.inner.Working.{DerivesEarlier, DerivesFrom, HasAlternatives, IsChoice, alternative_at, symbol_at}
+use Rattle.chart_parser_ends.specs.inner.Moves.{Begins, HasNextAlternative, HasNextSymbol, IsNextSymbol}
 use Rattle.chart_parser_ends.proofs.Rising.{order, take_cases}
 use Rattle.chart_parser_ends.proofs.Exactly.{contains_none, exactly_grown, exactly_none, exactly_one, exactly_same, taken_before, taken_last}
 use Rattle.chart_parser_ends.proofs.Spans.{joins, spans}

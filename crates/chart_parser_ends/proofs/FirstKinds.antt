@@ -7,9 +7,9 @@ use Rattle.normal_form.specs.declared.normal.Sym.TheVariants.{Kind, Set, Rule}
 use Rattle.normal_form.specs.Form.{RuleForm, NormalForm}
 use Rattle.normal_form.specs.NormalDerives.{NormalDerives, NormalDerivesSeq, NormalDerivesMany, of_kind, of_set, of_regular, of_absent, of_present, of_star, of_plus, of_done, of_next, of_end, of_more}
 use Rattle.normal_form_spans.specs.Spans.{DerivesSpan, DerivesSpanMany}
-use Rattle.normal_form_spans.proofs.Cuts.{between_append, between_one}
+use Rattle.normal_form_spans.proofs.Lent.{between_append, between_one}
 use Rattle.chart_parser_ends.specs.declared.firsts.FirstRow.{FirstRow}
-use Rattle.chart_parser_ends.specs.Firsts.{AreClosed, AreFirsts, CanBeLeftOut, CoversAlternative, HasKind, HasWhatBegins, MayBeEmpty, MayBeEmptyBefore, MayBegin}
+use Rattle.chart_parser_ends.specs.inner.Firsts.{AreClosed, AreFirsts, CanBeLeftOut, CoversAlternative, HasKind, HasWhatBegins, MayBeEmpty, MayBeEmptyBefore, MayBegin}
 use Rattle.chart_parser_ends.specs.Positions.{HasExactly}
 use Rattle.chart_parser_ends.proofs.Exactly.{exactly_none, exactly_one}
 use Rattle.chart_parser_ends.proofs.Rising.{order}

@@ -7,7 +7,7 @@ use Rattle.normal_form.specs.declared.normal.Sym.TheVariants.{Rule}
 use Rattle.normal_form.specs.Form.{RuleForm, NormalForm}
 use Rattle.normal_form.specs.View.{alts_form}
 use Rattle.chart_parser_ends.specs.declared.firsts.FirstRow.{FirstRow}
-use Rattle.chart_parser_ends.specs.Firsts.{Covers, CoversAlternative, HasKind, HasWhatBegins, IsCovered, Keeps, MayBeEmpty, MayBeEmptyBefore}
+use Rattle.chart_parser_ends.specs.inner.Firsts.{Covers, CoversAlternative, HasKind, HasWhatBegins, IsCovered, Keeps, MayBeEmpty, MayBeEmptyBefore}
 use Rattle.chart_parser_ends.proofs.Rising.{order}
 
 pub covers_more : (N : NormalForm) (rows : List FirstRow) (alt : List Sym) (a b : FirstRow) → Keeps a b → CoversAlternative N rows alt a → CoversAlternative N rows alt b

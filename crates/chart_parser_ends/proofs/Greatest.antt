@@ -7,7 +7,8 @@ use Rattle.std.proofs.lemmas.List.Sorted.{searched}
 use Rattle.std.specs.List.{Contains}
 use Rattle.std.specs.List.Sorted.{IsStrictlyIncreasing, IsBinarySearchResult}
 use Rattle.std.specs.Prelude.{Result, Ok, Err, MatchResult}
-use Rattle.chart_parser_ends.specs.Positions.{HasAll, HasExactly, IsGreatest, IsGrown, IsLastAmong, IsUpTo}
+use Rattle.chart_parser_ends.specs.Positions.{HasAll, HasExactly, IsGreatest, IsGrown, IsLastAmong}
+use Rattle.chart_parser_ends.specs.inner.Positions.{IsUpTo}
 use Rattle.chart_parser_ends.proofs.Rising.{not_falling, order}
 
 -- The positions before the index n are at most x, and the others are greater.

@@ -1,13 +1,14 @@
-pub mod Rising
-pub mod Exactly
-pub mod Spans
-pub mod SymbolEnds
-pub mod Pooled
+mod Rising
+mod Exactly
+mod Spans
+mod SymbolEnds
+mod Pooled
+mod AllPositions
+mod Greatest
+mod Choosing
+mod Optionally
+mod Repeating
+mod Beginning
+mod FirstKinds
+mod FirstRows
 pub mod Lent
-pub mod Greatest
-pub mod Choosing
-pub mod Optionally
-pub mod Repeating
-pub mod Beginning
-pub mod FirstKinds
-pub mod FirstRows

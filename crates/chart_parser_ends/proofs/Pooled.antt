@@ -4,8 +4,8 @@ use Rattle.std.proofs.lemmas.List.{map_push, take-append-le}
 use Rattle.std.proofs.Math.Seq.{drop-append_seam}
 use Rattle.std.specs.Prelude.{slice_range}
 use Rattle.chart_parser_ends.specs.declared.entries.EndsRange.{EndsRange}
-use Rattle.chart_parser_ends.specs.Entries.{entry}
-use Rattle.chart_parser_ends.specs.Ranges.{AreWithin, entries_in, entry_in}
+use Rattle.chart_parser_ends.specs.inner.Entries.{entry}
+use Rattle.chart_parser_ends.specs.inner.Ranges.{AreWithin, entries_in, entry_in}
 
 drop_append : (n : ℕ) (xs ys : List ℕ) → n ≤ length xs → drop n (xs ++ ys) ≡ drop n xs ++ ys
 drop_append zero xs ys l = refl

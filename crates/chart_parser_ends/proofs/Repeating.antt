@@ -9,14 +9,14 @@ use Rattle.normal_form.specs.declared.normal.Sym.{Sym}
 use Rattle.normal_form.specs.declared.normal.Sym.TheVariants.{Rule}
 use Rattle.normal_form.specs.Form.{RuleForm, NormalForm}
 use Rattle.normal_form.specs.NormalOf.{IsNormal}
-use Rattle.normal_form.proofs.Elements as elements
+use Rattle.normal_form.proofs.Lent as elements
 use Rattle.normal_form_spans.specs.Spans.{DerivesSpan, DerivesSpanMany}
-use Rattle.normal_form_spans.proofs.Elements as moving
+use Rattle.normal_form_spans.proofs.Lent as moving
 use Rattle.chart_parser_ends.specs.declared.repetition.Repetition.{Repetition}
 use Rattle.chart_parser_ends.specs.declared.work.RuleEnds.{RuleEnds}
 use Rattle.chart_parser_ends.specs.Positions.{HasAll, HasExactly, IsGrown}
-use Rattle.chart_parser_ends.specs.Moves.{BeginsRepetition, TakesEntry}
-use Rattle.chart_parser_ends.specs.Working.{HasRuleEnds, IsClosing, IsNext, IsRepetition, repeated}
+use Rattle.chart_parser_ends.specs.inner.Moves.{BeginsRepetition, TakesEntry}
+use Rattle.chart_parser_ends.specs.inner.Working.{HasRuleEnds, IsClosing, IsNext, IsRepetition, repeated}
 use Rattle.chart_parser_ends.proofs.Rising.{not_falling, order}
 use Rattle.chart_parser_ends.proofs.Exactly.{contains_none, contains_one}
 use Rattle.chart_parser_ends.proofs.Spans.{closed_many, joins, many_within, spans}

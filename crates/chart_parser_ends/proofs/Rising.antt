@@ -9,8 +9,9 @@ use Rattle.std.proofs.lemmas.List.Edits.{get_or-insert_at, get_or-insert_below, 
 use Rattle.std.proofs.lemmas.List.Kept.{AllPairs-from_increasing}
 use Rattle.std.proofs.lemmas.List.Sorted.{searched}
 use Rattle.std.specs.List.Sorted.{IsStrictlyIncreasing, IsBinarySearchResult}
-use Rattle.chart_parser_ends.specs.Positions.{IsWith, IsGrown, HasAll}
-use Rattle.chart_parser_ends.specs.Working.{IsNext}
+use Rattle.chart_parser_ends.specs.Positions.{IsGrown, HasAll}
+use Rattle.chart_parser_ends.specs.inner.Positions.{IsWith}
+use Rattle.chart_parser_ends.specs.inner.Working.{IsNext}
 
 contains_head : (x : ℕ) (xs : List ℕ) → Contains (x ∷ xs) x
 contains_head x xs = (0, omega arith, refl)

@@ -2,21 +2,19 @@
 use Rattle.std.proofs.Common.{ℕ, ◌≤◌, List, length}
 use Rattle.normal_form.specs.declared.normal.Sym.{Sym}
 use Rattle.normal_form.specs.Form.{NormalForm}
-use Rattle.normal_form.proofs.DeriveForms as forms
+use Rattle.normal_form.proofs.Lent as forms
 use Rattle.normal_form_spans.specs.Spans.{DerivesSpan, DerivesSpanMany}
 use Rattle.normal_form_spans.specs.SpanLaws.{SpansAreDerived, SpansByForm, SpansJoin}
-use Rattle.normal_form_spans.proofs.ByForm as by_form
-use Rattle.normal_form_spans.proofs.Derived as derived
-use Rattle.normal_form_spans.proofs.Joined as joined
+use Rattle.normal_form_spans.proofs.Lent as lent
 
 pub spans : (N : NormalForm) (K : List ℕ) → SpansByForm N K
-spans N K = by_form.by_form N K (forms.by_form N)
+spans N K = lent.by_form N K (forms.by_form N)
 
 pub joins : (N : NormalForm) (K : List ℕ) → SpansJoin N K
-joins N K = joined.joined N K
+joins N K = lent.joined N K
 
 pub lists : (N : NormalForm) (K : List ℕ) → SpansAreDerived N K
-lists N K = derived.derived N K
+lists N K = lent.derived N K
 
 pub many_within : {N : NormalForm} {K : List ℕ} {s : Sym} {i j : ℕ} → DerivesSpanMany N K s i j → (i ≤ j) × (j ≤ length K)
 many_within {N} {K} {s} {i} {j} d = let x = ((lists N K).many s i j).0 d in (x.0, x.1)

@@ -11,8 +11,8 @@ use Rattle.normal_form.specs.declared.normal.Sym.{Sym}
 use Rattle.normal_form.specs.declared.normal.Sym.TheVariants.{Kind, Set, Rule}
 use Rattle.normal_form.specs.Form.{NormalForm}
 use Rattle.normal_form_spans.specs.Spans.{DerivesSpan}
-use Rattle.chart_parser_ends.specs.Entries.{Entry, entry}
-use Rattle.chart_parser_ends.specs.Exact.{IsExact, IsTokenOf}
+use Rattle.chart_parser_ends.specs.inner.Entries.{Entry, entry}
+use Rattle.chart_parser_ends.specs.inner.Exact.{IsExact, IsTokenOf}
 use Rattle.chart_parser_ends.specs.Positions.{HasExactly}
 use Rattle.chart_parser_ends.proofs.Exactly.{exactly_none, exactly_one}
 use Rattle.chart_parser_ends.proofs.Spans.{spans}

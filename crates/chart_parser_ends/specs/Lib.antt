@@ -3,10 +3,4 @@ pub use Rattle.normal_form.specs.NormalDerives
 pub use Rattle.normal_form_spans.specs.Spans
 pub mod Positions
 pub mod Input
-pub mod Entries
-pub mod Ranges
-pub mod Exact
-pub mod Firsts
-pub mod Kept
-pub mod Working
-pub mod Moves
+pub mod inner

@@ -1,16 +1,10 @@
 -- Lists of positions.
-use Rattle.std.specs.Prelude.{◌≡◌, ◌⊎◌, ℕ, ◌+◌, ◌≤◌, List, length, Option, Some, None, slice_get}
+use Rattle.std.specs.Prelude.{◌⊎◌, ℕ, ◌≤◌, List, Option, Some, None}
 use Rattle.std.specs.List.{Contains}
 use Rattle.std.specs.List.Sorted.{IsStrictlyIncreasing}
 use Rattle.normal_form.specs.declared.normal.Sym.{Sym}
 use Rattle.normal_form.specs.Form.{NormalForm}
 use Rattle.normal_form_spans.specs.Spans.{DerivesSpan}
-
--- The list has one more position, unless it had it before.
-pub record IsWith (old : List ℕ) (position : ℕ) (new : List ℕ) : Type 0 where
-  pub only : (x : ℕ) → Contains new x → Contains old x ⊎ (x ≡ position)
-  pub kept : (x : ℕ) → Contains old x → Contains new x
-  pub has : Contains new position
 
 -- The list has more positions, of each of which P holds.
 pub record IsGrown (P : ℕ → Type 0) (old new : List ℕ) : Type 0 where
@@ -26,15 +20,6 @@ pub record HasExactly (P : ℕ → Type 0) (positions : List ℕ) : Type 0 where
   pub rising : IsStrictlyIncreasing positions
   pub only : (x : ℕ) → Contains positions x → P x
   pub all : (x : ℕ) → P x → Contains positions x
-
--- The positions of a list with n elements, each at its number.
-pub record ArePositionsTo (n : ℕ) (positions : List ℕ) : Type 0 where
-  pub count : length positions ≡ n + 1
-  pub each : (i : ℕ) → i ≤ n → slice_get positions i ≡ Some i
-
--- It is one of these positions and is at most `last`.
-abbrev pub IsUpTo : List ℕ → ℕ → ℕ → Type 0
-IsUpTo positions last x = Contains positions x × (x ≤ last)
 
 -- The symbol that begins at the position `first` can end at x, which is at most `last`.
 abbrev pub EndsUpTo : NormalForm → List ℕ → Sym → ℕ → ℕ → ℕ → Type 0

@@ -4,7 +4,7 @@ ghost use Rattle.std.specs.Prelude.{◌≡◌, ◌≢◌, ◌↔◌, ℕ, ◌<�
 ghost use Rattle.std.specs.List.Sorted.{IsStrictlyIncreasing};
 ghost use Rattle.normal_form_spans.specs.Spans.{DerivesSpan};
 ghost use Rattle.chart_parser_ends.specs.Positions.{EndsUpTo, HasAll, HasExactly, IsGrown, IsLastAmong};
-ghost use Rattle.chart_parser_ends.specs.Working.{HasRuleEnds};
+ghost use Rattle.chart_parser_ends.specs.inner.Working.{HasRuleEnds};
 ghost use Rattle.normal_form.specs.declared.normal.Sym;
 
 use crate::entries::Entries;
@@ -37,13 +37,14 @@ pub struct Chart<'a> {
 }
 
 impl<'a> Model for Chart<'a> {
-    ghost use Rattle.chart_parser_ends.specs.Input.{ChartInput, input_coded};
+    ghost use Rattle.chart_parser_ends.specs.Input.{ChartInput};
+    ghost use Rattle.chart_parser_ends.specs.inner.Input.{input_coded};
 
     ghost Value = { ChartInput };
 
     ghost coded = { input_coded };
 
-    ghost use Rattle.chart_parser_ends.specs.Kept.{IsChartOf};
+    ghost use Rattle.chart_parser_ends.specs.inner.Kept.{IsChartOf};
 
     ghost view = { λ c. record { normal = c.normal.now; kinds = c.kinds.now } };
 

@@ -3,8 +3,8 @@
 ghost use Rattle.std.specs.Prelude.{◌+◌, ◌<◌, ◌≡◌, ◌^◌, [], length, IfOk, IfSome, OnOk};
 ghost use Rattle.std.specs.List.Sorted.{IsStrictlyIncreasing};
 ghost use Rattle.std.specs.Option.{option_map};
-ghost use Rattle.chart_parser_ends.specs.Moves.{Begins, FindsAlternative, HasNextAlternative, HasNextSymbol, IsNextSymbol};
-ghost use Rattle.chart_parser_ends.specs.Working.{IsChoice, IsStep};
+ghost use Rattle.chart_parser_ends.specs.inner.Moves.{Begins, FindsAlternative, HasNextAlternative, HasNextSymbol, IsNextSymbol};
+ghost use Rattle.chart_parser_ends.specs.inner.Working.{IsChoice, IsStep};
 
 use crate::chart::Chart;
 use crate::positions::add_all;

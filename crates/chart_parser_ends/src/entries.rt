@@ -2,7 +2,7 @@
 
 ghost use Rattle.std.specs.Prelude.{◌≡◌, ◌&&◌, ◌++◌, ◌∷◌, [], IfSome, OnErr, OnOk, nat_eq};
 ghost use Rattle.std.specs.List.{Contains};
-ghost use Rattle.chart_parser_ends.specs.Entries.{entry};
+ghost use Rattle.chart_parser_ends.specs.inner.Entries.{entry};
 
 use faults::Memory;
 use std::alloc::Global;
@@ -43,11 +43,11 @@ pub(crate) struct Entries {
 
 impl Model for Entries {
     ghost use Rattle.std.specs.Prelude.{List};
-    ghost use Rattle.chart_parser_ends.specs.Entries.{Entry};
+    ghost use Rattle.chart_parser_ends.specs.inner.Entries.{Entry};
 
     ghost Value = { List Entry };
 
-    ghost use Rattle.chart_parser_ends.specs.Ranges.{AreWithin, entries_in};
+    ghost use Rattle.chart_parser_ends.specs.inner.Ranges.{AreWithin, entries_in};
 
     ghost view = { λ e. entries_in e.ends.items e.ranges.items };
 

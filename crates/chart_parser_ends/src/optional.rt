@@ -1,7 +1,7 @@
 //! The work on where an optional can end.
 
 ghost use Rattle.std.specs.Prelude.{IfOk};
-ghost use Rattle.chart_parser_ends.specs.Working.{IsOptional, IsStep};
+ghost use Rattle.chart_parser_ends.specs.inner.Working.{IsOptional, IsStep};
 
 use crate::chart::Chart;
 use crate::positions::add_all;

@@ -3,7 +3,8 @@
 ghost use Rattle.std.specs.Prelude.{◌≡◌, ℕ, ◌<◌, ◌≤◌, ◌↔◌, ◌+◌, ◌^◌, length, slice_index, IfOk, OnOk, IsTrue};
 ghost use Rattle.std.specs.List.{Contains};
 ghost use Rattle.std.specs.List.Sorted.{IsStrictlyIncreasing};
-ghost use Rattle.chart_parser_ends.specs.Positions.{ArePositionsTo, HasAll, IsGrown, IsLastAmong, IsUpTo, IsWith};
+ghost use Rattle.chart_parser_ends.specs.Positions.{HasAll, IsGrown, IsLastAmong};
+ghost use Rattle.chart_parser_ends.specs.inner.Positions.{ArePositionsTo, IsUpTo, IsWith};
 
 use faults::Memory;
 use std::alloc::Global;

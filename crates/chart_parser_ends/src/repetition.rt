@@ -3,8 +3,8 @@
 ghost use Rattle.std.specs.Prelude.{◌≡◌, ◌+◌, ◌<◌, ℕ, drop, if◌then◌else◌, length, IfOk, MatchOption};
 ghost use Rattle.std.specs.List.{Contains};
 ghost use Rattle.std.specs.List.Sorted.{IsStrictlyIncreasing};
-ghost use Rattle.chart_parser_ends.specs.Moves.{BeginsRepetition, TakesEntry};
-ghost use Rattle.chart_parser_ends.specs.Working.{IsNext, IsRepetition, IsStep};
+ghost use Rattle.chart_parser_ends.specs.inner.Moves.{BeginsRepetition, TakesEntry};
+ghost use Rattle.chart_parser_ends.specs.inner.Working.{IsNext, IsRepetition, IsStep};
 
 use crate::chart::Chart;
 use crate::positions::{add_all, has};

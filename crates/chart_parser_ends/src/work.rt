@@ -2,7 +2,7 @@
 
 ghost use Rattle.std.specs.Prelude.{◌≡◌, ◌≤◌, length, IfOk, OnOk};
 ghost use Rattle.std.specs.List.{All};
-ghost use Rattle.chart_parser_ends.specs.Working.{IsStep, IsWork};
+ghost use Rattle.chart_parser_ends.specs.inner.Working.{IsStep, IsWork};
 
 use crate::chart::Chart;
 use crate::choice::Choice;

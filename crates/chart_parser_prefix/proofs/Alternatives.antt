@@ -11,13 +11,11 @@ use Rattle.normal_form.specs.Form.{RuleForm, NormalForm}
 use Rattle.normal_form.specs.View.{alts_form}
 use Rattle.normal_form_spans.specs.Spans.{DerivesSpan, DerivesSpanSeq, DerivesSpanMany}
 use Rattle.chart_parser_ends.specs.Positions.{EndsUpTo, HasAll, HasExactly, IsGrown}
-use Rattle.chart_parser_ends.specs.Working.{DerivesFrom}
-use Rattle.chart_parser_ends.proofs.Exactly.{contains_none, contains_one, exactly_none, exactly_one, exactly_same}
-use Rattle.chart_parser_ends.proofs.Choosing.{next_position}
-use Rattle.chart_parser_ends.proofs.Spans.{joins, lists, spans}
-use Rattle.chart_parser_prefix.specs.Expected.{IsElement, IsInAlternative, IsInAlternatives, IsInProductive, Predicts, of_alternative, of_optional, of_star, of_plus}
-use Rattle.chart_parser_prefix.specs.Productive.{DerivesSomeSeq}
-use Rattle.chart_parser_prefix.specs.Walk.{Expects, ExpectsAll, IsAtOneOf, IsGrownBy}
+use Rattle.chart_parser_ends.specs.inner.Working.{DerivesFrom}
+use Rattle.chart_parser_ends.proofs.Lent.{contains_none, contains_one, exactly_none, exactly_one, exactly_same, next_position, joins, lists, spans}
+use Rattle.chart_parser_prefix.specs.inner.Expected.{IsElement, IsInAlternative, IsInAlternatives, IsInProductive, Predicts, of_alternative, of_optional, of_star, of_plus}
+use Rattle.chart_parser_prefix.specs.inner.Productive.{DerivesSomeSeq}
+use Rattle.chart_parser_prefix.specs.inner.Walk.{Expects, ExpectsAll, IsAtOneOf, IsGrownBy}
 use Rattle.chart_parser_prefix.proofs.Cons.{first_same, no_list, rest_same}
 use Rattle.chart_parser_prefix.proofs.Growing.{grown_then, grown_weaker, kept, taken_cases}
 

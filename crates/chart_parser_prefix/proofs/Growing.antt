@@ -7,7 +7,7 @@ use Rattle.std.proofs.Math.ListN.{set}
 use Rattle.std.specs.Global.{Vec}
 use Rattle.std.specs.List.{Contains}
 use Rattle.normal_form.specs.declared.normal.Sym.{Sym}
-use Rattle.chart_parser_prefix.specs.Walk.{Expects, ExpectsAll, HasOneMore, IsAtOneOf, IsGrownBy, IsWithout, symbols_at}
+use Rattle.chart_parser_prefix.specs.inner.Walk.{Expects, ExpectsAll, HasOneMore, IsAtOneOf, IsGrownBy, IsWithout, symbols_at}
 
 pub contains_none : {X : Type 0} (x : X) → Contains [] x → ⊥
 contains_none x (k, l, e) = omega (arith, l)

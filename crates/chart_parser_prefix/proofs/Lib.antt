@@ -1,7 +1,7 @@
-pub mod Cons
-pub mod Producing
-pub mod Viable
-pub mod Growing
-pub mod Alternatives
-pub mod Walking
-pub mod Tokens
+mod Cons
+mod Producing
+mod Viable
+mod Growing
+mod Alternatives
+mod Walking
+mod Tokens

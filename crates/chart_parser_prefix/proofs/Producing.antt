@@ -12,7 +12,7 @@ use Rattle.normal_form.specs.declared.normal.Sym.TheVariants.{Kind, Set, Rule}
 use Rattle.normal_form.specs.Form.{RuleForm, NormalForm}
 use Rattle.normal_form.specs.NormalDerives.{NormalDerives, NormalDerivesSeq, of_kind, of_set, of_regular, of_absent, of_present, of_star, of_plus, of_done, of_next, of_end}
 use Rattle.normal_form.specs.View.{alts_form}
-use Rattle.chart_parser_prefix.specs.Productive.{AreProductive, DerivesSome, DerivesSomeSeq, form_passes, has_some, numbered_passes, passes}
+use Rattle.chart_parser_prefix.specs.inner.Productive.{AreProductive, DerivesSome, DerivesSomeSeq, form_passes, has_some, numbered_passes, passes}
 
 and_both : (b c : Bool) → (b && c) ≡ true → (b ≡ true) × (c ≡ true)
 and_both true c e = (refl, e)

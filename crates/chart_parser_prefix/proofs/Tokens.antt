@@ -11,11 +11,11 @@ use Rattle.grammar_names.specs.KindLists.{IsPartOf, is_in, lacking}
 use Rattle.normal_form.specs.declared.normal.Sym.{Sym}
 use Rattle.normal_form.specs.declared.normal.Sym.TheVariants.{Kind, Set}
 use Rattle.normal_form.specs.Form.{NormalForm}
-use Rattle.chart_parser_ends.specs.Exact.{IsTokenOf}
+use Rattle.chart_parser_ends.specs.inner.Exact.{IsTokenOf}
 use Rattle.chart_parser_ends.specs.Positions.{HasExactly}
-use Rattle.chart_parser_ends.proofs.Exactly.{contains_none, contains_one, exactly_same}
-use Rattle.chart_parser_prefix.specs.Following.{AddsKinds, IsTokenOfOne}
-use Rattle.chart_parser_prefix.specs.Productive.{has_some}
+use Rattle.chart_parser_ends.proofs.Lent.{contains_none, contains_one, exactly_same}
+use Rattle.chart_parser_prefix.specs.inner.Following.{AddsKinds, IsTokenOfOne}
+use Rattle.chart_parser_prefix.specs.inner.Productive.{has_some}
 use Rattle.chart_parser_prefix.proofs.Growing.{taken_before, taken_cases, taken_last}
 
 -- What a filter keeps and what it doesn't are the whole list.

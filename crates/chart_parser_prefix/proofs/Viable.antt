@@ -9,14 +9,14 @@ use Rattle.normal_form.specs.declared.normal.Sym.TheVariants.{Kind, Set, Rule}
 use Rattle.normal_form.specs.Form.{RuleForm, NormalForm}
 use Rattle.normal_form.specs.NormalDerives.{NormalDerives, NormalDerivesSeq, NormalDerivesMany, of_kind, of_set, of_regular, of_absent, of_present, of_star, of_plus, of_done, of_next, of_end, of_more}
 use Rattle.normal_form.specs.FormLaws.{NormalDerivesByForm}
-use Rattle.normal_form.proofs.DeriveForms as forms
+use Rattle.normal_form.proofs.Lent as forms
 use Rattle.normal_form_spans.specs.Spans.{DerivesSpan, DerivesSpanSeq, DerivesSpanMany}
-use Rattle.normal_form_spans.proofs.Cuts.{between_append, cut, none_between}
-use Rattle.chart_parser_ends.specs.Exact.{IsTokenOf}
-use Rattle.chart_parser_ends.proofs.Spans.{joins, lists, many_within}
-use Rattle.chart_parser_prefix.specs.Expected.{IsExpected, Predicts, of_start, of_symbol, of_alternative, of_optional, of_star as star_predicts, of_plus as plus_predicts}
+use Rattle.normal_form_spans.proofs.Lent.{between_append, cut, none_between}
+use Rattle.chart_parser_ends.specs.inner.Exact.{IsTokenOf}
+use Rattle.chart_parser_ends.proofs.Lent.{joins, lists, many_within}
+use Rattle.chart_parser_prefix.specs.inner.Expected.{IsExpected, Predicts, of_start, of_symbol, of_alternative, of_optional, of_star as star_predicts, of_plus as plus_predicts}
 use Rattle.chart_parser_prefix.specs.Prefixes.{CanFollow, IsViablePrefix}
-use Rattle.chart_parser_prefix.specs.Productive.{DerivesSomeSeq}
+use Rattle.chart_parser_prefix.specs.inner.Productive.{DerivesSomeSeq}
 use Rattle.chart_parser_prefix.proofs.Cons.{first_same, no_list, rest_same}
 
 by_form : (N : NormalForm) → NormalDerivesByForm N

@@ -11,14 +11,13 @@ use Rattle.normal_form.specs.declared.normal.Sym.TheVariants.{Kind, Set, Rule}
 use Rattle.normal_form.specs.Form.{NormalForm}
 use Rattle.normal_form.specs.NormalDerives.{NormalDerives}
 use Rattle.normal_form_spans.specs.Spans.{DerivesSpan}
-use Rattle.chart_parser_ends.specs.Exact.{IsTokenOf}
+use Rattle.chart_parser_ends.specs.inner.Exact.{IsTokenOf}
 use Rattle.chart_parser_ends.specs.Positions.{HasExactly}
-use Rattle.chart_parser_ends.proofs.Exactly.{exactly_same}
-use Rattle.chart_parser_ends.proofs.Spans.{spans}
-use Rattle.chart_parser_prefix.specs.Expected.{IsExpected, Predicts, is_token, of_start, of_symbol}
-use Rattle.chart_parser_prefix.specs.Following.{IsTokenOfOne}
+use Rattle.chart_parser_ends.proofs.Lent.{exactly_same, spans}
+use Rattle.chart_parser_prefix.specs.inner.Expected.{IsExpected, Predicts, is_token, of_start, of_symbol}
+use Rattle.chart_parser_prefix.specs.inner.Following.{IsTokenOfOne}
 use Rattle.chart_parser_prefix.specs.Prefixes.{CanFollow, IsLongestViable, IsViablePrefix}
-use Rattle.chart_parser_prefix.specs.Walk.{Expects, ExpectsAll, IsAtOneOf, IsClosed, IsClosedTo, IsGrownBy, IsWalk, IsWithout, symbols_at}
+use Rattle.chart_parser_prefix.specs.inner.Walk.{Expects, ExpectsAll, IsAtOneOf, IsClosed, IsClosedTo, IsGrownBy, IsWalk, IsWithout, symbols_at}
 use Rattle.chart_parser_prefix.proofs.Growing.{contains_none, kept, taken_cases}
 use Rattle.chart_parser_prefix.proofs.Viable.{can_follow, expected_within, joined, predicts_within, shorter, sound}
 

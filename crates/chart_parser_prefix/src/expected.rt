@@ -2,7 +2,7 @@
 
 ghost use Rattle.std.specs.Prelude.{◌≡◌, ◌↔◌, ℕ, ◌+◌, ◌<◌, ◌^◌, [], ◌∷◌, length, IfOk, IsTrue, OnOk};
 ghost use Rattle.std.specs.List.{Contains};
-ghost use Rattle.chart_parser_prefix.specs.Walk.{ExpectsAll, HasOneMore, IsAtOneOf, IsGrownBy, IsWithout, symbols_at};
+ghost use Rattle.chart_parser_prefix.specs.inner.Walk.{ExpectsAll, HasOneMore, IsAtOneOf, IsGrownBy, IsWithout, symbols_at};
 
 use faults::Memory;
 use normal_form::Sym;

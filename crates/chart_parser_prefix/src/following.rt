@@ -2,9 +2,10 @@
 
 ghost use Rattle.std.specs.Prelude.{◌↔◌, ◌<◌, length, IfOk, IsTrue, OnOk};
 ghost use Rattle.std.specs.List.{Contains};
-ghost use Rattle.chart_parser_ends.specs.Exact.{IsTokenOf};
+ghost use Rattle.chart_parser_ends.specs.inner.Exact.{IsTokenOf};
 ghost use Rattle.chart_parser_ends.specs.Positions.{HasExactly};
-ghost use Rattle.chart_parser_prefix.specs.Following.{AddsKinds, AreFirst, IsTokenOfOne};
+ghost use Rattle.chart_parser_prefix.specs.Following.{AreFirst};
+ghost use Rattle.chart_parser_prefix.specs.inner.Following.{AddsKinds, IsTokenOfOne};
 
 use faults::Memory;
 use normal_form::{Normal, Sym};

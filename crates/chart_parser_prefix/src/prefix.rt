@@ -3,7 +3,7 @@
 ghost use Rattle.std.specs.Prelude.{◌≡◌, ℕ, ◌+◌, ◌<◌, ◌≤◌, ◌^◌, List, length, take, IfOk, MatchOption};
 ghost use Rattle.normal_form.specs.NormalDerives.{NormalDerives};
 ghost use Rattle.chart_parser_prefix.specs.Prefixes.{IsLongestPrefix};
-ghost use Rattle.chart_parser_prefix.specs.Productive.{AreProductive, DerivesSome};
+ghost use Rattle.chart_parser_prefix.specs.inner.Productive.{AreProductive, DerivesSome};
 
 use crate::expected::{add_at, empty_lists};
 use crate::following::first_kinds;

@@ -4,7 +4,7 @@ ghost use Rattle.std.specs.Prelude.{◌≡◌, ◌↔◌, false, length, ltb, sl
 ghost use Rattle.std.specs.List.{list_all, list_any};
 ghost use Rattle.std.specs.Option.{option_map_or};
 ghost use Rattle.normal_form.specs.View.{alts_form, rule_form};
-ghost use Rattle.chart_parser_prefix.specs.Productive.{AreProductive, DerivesSome, DerivesSomeSeq, form_passes, has_some, passes};
+ghost use Rattle.chart_parser_prefix.specs.inner.Productive.{AreProductive, DerivesSome, DerivesSomeSeq, form_passes, has_some, passes};
 
 use faults::Memory;
 use grammar_check_tables::{Condition, Test, is_flagged, least_table};
@@ -86,7 +86,7 @@ struct Rules<'a> {
 
 impl<'a> Test for Rules<'a> {
     ghost use Rattle.std.specs.Prelude.{length};
-    ghost use Rattle.chart_parser_prefix.specs.Productive.{numbered_passes};
+    ghost use Rattle.chart_parser_prefix.specs.inner.Productive.{numbered_passes};
 
     type Alternative = Vec<Sym>;
 

@@ -7,11 +7,11 @@ ghost use Rattle.normal_form.specs.View.{alts_form};
 ghost use Rattle.normal_form.specs.declared.normal.Sym;
 ghost use Rattle.normal_form_spans.specs.Spans.{DerivesSpan};
 ghost use Rattle.chart_parser_ends.specs.Positions.{HasExactly};
-ghost use Rattle.chart_parser_ends.specs.Working.{DerivesFrom};
-ghost use Rattle.chart_parser_prefix.specs.Expected.{IsElement, IsInAlternative, IsInAlternatives, IsInProductive, Predicts, is_token};
+ghost use Rattle.chart_parser_ends.specs.inner.Working.{DerivesFrom};
+ghost use Rattle.chart_parser_prefix.specs.inner.Expected.{IsElement, IsInAlternative, IsInAlternatives, IsInProductive, Predicts, is_token};
 ghost use Rattle.chart_parser_prefix.specs.Prefixes.{IsLongestViable, IsViablePrefix};
-ghost use Rattle.chart_parser_prefix.specs.Productive.{AreProductive};
-ghost use Rattle.chart_parser_prefix.specs.Walk.{ExpectsAll, IsClosed, IsClosedTo, IsGrownBy, IsWalk, symbols_at};
+ghost use Rattle.chart_parser_prefix.specs.inner.Productive.{AreProductive};
+ghost use Rattle.chart_parser_prefix.specs.inner.Walk.{ExpectsAll, IsClosed, IsClosedTo, IsGrownBy, IsWalk, symbols_at};
 
 use crate::expected::{add_at, add_at_each, clear_at, is_same};
 use crate::productive::all_derive_some;

@@ -1,1 +1,2 @@
-pub mod FileLemmas
+mod FileLemmas
+pub mod Lent

@@ -3,7 +3,7 @@ use Rattle.std.proofs.Common.{◌≡◌, ◌≢◌, ◌≤◌, arith, ℕ, List,
 use Rattle.edge_io.specs.Files.{Holds}
 use Rattle.grammar_tree.specs.Kinds.{kinds_of}
 use Rattle.grammar_tree.specs.Written.{CheckedGrammar}
-use Rattle.grammar_reader_notation.proofs.Sizes.{profile_fits}
+use Rattle.grammar_reader_notation.proofs.Lent.{profile_fits}
 use Rattle.grammar_load.specs.Answer.{IsGrammarFault, Spells}
 use Rattle.grammar_load.specs.Message.{grammar_fault_text}
 use Rattle.grammar_load.specs.declared.fault.GrammarFault.{GrammarFault}
@@ -11,7 +11,8 @@ use Rattle.grammar_load.specs.declared.fault.GrammarFault.TheVariants as grammar
 use Rattle.command_ends.specs.declared.status.Refusal.{Refusal}
 use Rattle.command_ends.specs.declared.status.Refusal.TheVariants.{Memory, CannotRead, Grammar, TooLong}
 use Rattle.command_ends.specs.declared.status.NamedFile.TheVariants as read_file
-use Rattle.command_grammar.specs.Grammar.{GrammarFails, GrammarRead, IsFaultRefusal, IsGrammarText, SpellsTheGrammar}
+use Rattle.command_grammar.specs.Grammar.{GrammarFails, GrammarRead, IsGrammarText, SpellsTheGrammar}
+use Rattle.command_grammar.specs.inner.Grammar.{IsFaultRefusal}
 use Rattle.command_ends.specs.Status.{IsGrammarRefusal, ReadFails}
 use Rattle.command_words.specs.Commands.{GrammarSource}
 use Rattle.command_grammar.specs.Grammar.{start_name}

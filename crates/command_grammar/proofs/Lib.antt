@@ -1,1 +1,1 @@
-pub mod GrammarLemmas
+mod GrammarLemmas

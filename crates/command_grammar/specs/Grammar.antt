@@ -36,12 +36,6 @@ pub record IsFaultIn (named : GrammarSource) (bytes text : List ℕ) : Type 0 wh
   pub is_text : text ≡ grammar_fault_text fault
   pub refused : ¬ IsGrammarText named bytes
 
--- why bytes give no grammar
-abbrev pub IsFaultRefusal : GrammarSource → List ℕ → Refusal → Type 0
-IsFaultRefusal named bytes Memory = Unit {0}
-IsFaultRefusal named bytes (Grammar line) = (text : List ℕ) × IsFaultIn named bytes text × (string_bytes line ≡ fault_line text)
-IsFaultRefusal named bytes _ = ⊥
-
 -- The bytes spell this grammar, well-formed for that rule, and no other such grammar.
 pub record SpellsTheGrammar (named : GrammarSource) (bytes : List ℕ) (grammar : CheckedGrammar) : Type 0 where
   pub spelled : Spells bytes (start_name named) grammar

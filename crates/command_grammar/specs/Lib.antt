@@ -3,3 +3,4 @@ pub use Rattle.grammar_tree.specs as GrammarTree
 pub use Rattle.grammar_load.specs as GrammarLoad
 pub use Rattle.command_ends.specs as CommandEnds
 pub mod Grammar
+pub mod inner

@@ -4,7 +4,8 @@ ghost use Rattle.std.specs.Prelude.{◌≡◌, ◌≤◌, IfErr, IfOk, OnOk, len
 ghost use Rattle.std.specs.Str.{chars};
 ghost use Rattle.edge_io.specs.Files.{SameFiles};
 ghost use Rattle.command_words.specs.Lines.{grammar_read};
-ghost use Rattle.command_grammar.specs.Grammar.{GrammarFails, GrammarRead, IsFaultRefusal, SpellsTheGrammar, start_name};
+ghost use Rattle.command_grammar.specs.Grammar.{GrammarFails, GrammarRead, SpellsTheGrammar, start_name};
+ghost use Rattle.command_grammar.specs.inner.Grammar.{IsFaultRefusal};
 ghost use Rattle.command_ends.specs.World.{IsQuiet, grammar_limit, seen};
 
 use command_ends::{GRAMMAR_LIMIT, NamedFile, Refusal, read_file};

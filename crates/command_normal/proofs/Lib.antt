@@ -1,2 +1,3 @@
-pub mod NormalLemmas
-pub mod NormalByStatusLemmas
+mod NormalLemmas
+mod NormalByStatusLemmas
+pub mod Lent

@@ -6,13 +6,14 @@ use Rattle.grammar_load.specs.Answer.{Spells}
 use Rattle.command_ends.specs.declared.status.Refusal.{Refusal}
 use Rattle.command_ends.specs.declared.status.Refusal.TheVariants.{Memory, CannotRead, Grammar, TooLong}
 use Rattle.command_grammar.specs.Grammar.{GrammarFails, GrammarRead, IsGrammarText}
-use Rattle.command_normal.specs.Normal.{IsNormalOf, NormalEnds, NormalFails, NormalMustEnd, PrintsNormal}
+use Rattle.command_normal.specs.Normal.{IsNormalOf, NormalEnds, NormalMustEnd, PrintsNormal}
+use Rattle.command_normal.specs.inner.Normal.{NormalFails}
 use Rattle.command_normal.specs.Normal.NormalEnds.{done, memory, unread as cannot_read, unput, faulty, too_long}
 use Rattle.command_ends.specs.Status.{EndsRefused, EndsWithAnswer}
 use Rattle.command_words.specs.Commands.{GrammarSource}
 use Rattle.command_grammar.specs.Grammar.{start_name}
 use Rattle.command_ends.specs.World.{IsQuiet, PutsLine, SeenFiles, SeenOut, WasRead, grammar_limit}
-use Rattle.command_ends.proofs.FileLemmas.{not_both, not_longer, read_not_over, longer_not_missing, read_not_missing}
+use Rattle.command_ends.proofs.Lent.{not_both, not_longer, read_not_over, longer_not_missing, read_not_missing}
 
 -- the form of a grammar that was read
 pub is_formed : (named : GrammarSource) (content : Option FileContent) (grammar : CheckedGrammar) (text : List ℕ) → GrammarRead named content grammar → ((bytes : List ℕ) → Spells bytes (start_name named) grammar → IsNormalOf named bytes text) → WasRead grammar_limit content (λ bytes. IsNormalOf named bytes text)

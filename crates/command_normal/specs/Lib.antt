@@ -6,3 +6,4 @@ pub use Rattle.command_ends.specs as CommandEnds
 pub use Rattle.command_grammar.specs.Grammar
 pub mod Normal
 pub mod NormalByStatus
+pub mod inner

@@ -6,9 +6,8 @@ use Rattle.grammar_load.specs.Answer.{Spells}
 use Rattle.normal_form.specs.Laws.{HasEqualLanguages}
 use Rattle.normal_form.specs.NormalOf.{normal_of}
 use Rattle.normal_form_print.specs.Print.{printed}
-use Rattle.command_ends.specs.declared.status.Refusal.{Refusal}
 use Rattle.command_grammar.specs.Grammar.{IsFaultIn, IsGrammarText}
-use Rattle.command_ends.specs.Status.{fault_line, line_of, status_of}
+use Rattle.command_ends.specs.Status.{fault_line}
 use Rattle.command_words.specs.Commands.{GrammarSource}
 use Rattle.command_grammar.specs.Grammar.{start_name}
 use Rattle.command_ends.specs.World.{PutsPrefix, CallFailed, IsOver, IsQuiet, IsShownWithin, Puts, PutsLine, PutsMessage, SeenFiles, SeenOut, WasRead, grammar_limit}
@@ -74,7 +73,3 @@ pub record PrintsNormal (grammar : GrammarSource) (files files' : SeenFiles) (ou
   pub ends : NormalEnds grammar files files' out out' status
   pub must_end : NormalMustEnd grammar files files' out out' status
   pub same : SameFiles files.shown files'.shown
-
--- the command ends with this refusal, whatever becomes of its line
-abbrev pub NormalFails : GrammarSource → SeenFiles → SeenFiles → Refusal → Type 0
-NormalFails grammar files files' refusal = (out out' : SeenOut) → PutsLine (line_of refusal) out out' → NormalEnds grammar files files' out out' (status_of refusal)

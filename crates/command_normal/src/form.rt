@@ -3,7 +3,8 @@
 ghost use Rattle.std.specs.Prelude.{IfErr, IfOk, List, OnOk, ℕ};
 ghost use Rattle.edge_io.specs.Files.{SameFiles};
 ghost use Rattle.grammar_load.specs.Answer.{Spells};
-ghost use Rattle.command_normal.specs.Normal.{IsNormalOf, NormalFails, PrintsNormal};
+ghost use Rattle.command_normal.specs.Normal.{IsNormalOf, PrintsNormal};
+ghost use Rattle.command_normal.specs.inner.Normal.{NormalFails};
 ghost use Rattle.command_words.specs.Commands.{GrammarSource};
 ghost use Rattle.command_words.specs.Lines.{grammar_read};
 ghost use Rattle.command_grammar.specs.Grammar.{start_name};

@@ -7,18 +7,17 @@ use Rattle.command_words.specs.Lines.{command_read}
 use Rattle.command_words.specs.declared.commands.CommandLine.{CommandLine}
 use Rattle.command_ends.specs.declared.status.Refusal.TheVariants.{Memory, Usage}
 use Rattle.command_ends.specs.declared.status.Refusal.{Refusal}
-use Rattle.command_perses.specs.Call.{RunsCommand, WordsFail}
+use Rattle.command_perses.specs.Call.{RunsCommand}
+use Rattle.command_perses.specs.inner.Call.{WordsFail}
 use Rattle.command_reduce_calls.specs.Journal.{JournalSoFar}
 use Rattle.command_normal.specs.Normal.{NormalEnds, PrintsNormal}
 use Rattle.command_reduce.specs.Reduce.{ReduceEnds, Reduces}
 use Rattle.command_selftest.specs.Selftest.{RunsSelftest, SelftestEnds}
 use Rattle.command_ends.specs.Status.{EndsRefused, IsOneOf}
 use Rattle.command_ends.specs.World.{NotReached, SeenFiles, SeenOut, World, logs_of}
-use Rattle.command_reduce.proofs.UsedLemmas.{none_sound}
-use Rattle.command_normal.proofs.NormalLemmas.{prints_normal}
-use Rattle.command_normal.proofs.NormalByStatusLemmas.{normal_by_status}
-use Rattle.command_reduce.proofs.ReduceByStatusLemmas.{reduce_by_status}
-use Rattle.command_selftest.proofs.SelftestLemmas.{selftest_ends}
+use Rattle.command_reduce.proofs.Lent.{none_sound, reduce_by_status}
+use Rattle.command_normal.proofs.Lent.{prints_normal, normal_by_status}
+use Rattle.command_selftest.proofs.Lent.{selftest_ends}
 
 module _ (may_say : List ℕ → Verdict → Type 0) (old : World) (out : SeenOut) where
   abbrev new : World

@@ -18,7 +18,7 @@ use Rattle.run_problem.specs.Committed.{questions_over}
 use Rattle.run_problem.specs.Ends.{AreOf, ReducesFrom}
 use Rattle.run_problem.specs.Laws.{AnswersAreBounded}
 use Rattle.run_problem.specs.Problem.{IsCandidateOf, Problem, start_of}
-use Rattle.run_problem.proofs.ModeLemmas.{none_of}
+use Rattle.run_problem.proofs.Lent.{none_of}
 use Rattle.command_words.specs.Commands.{Command, ModeOptions, ReduceOptions}
 use Rattle.command_grammar.specs.Grammar.{start_name}
 use Rattle.command_ends.specs.Status.{IsOneOf}
@@ -27,7 +27,7 @@ use Rattle.command_reduce_calls.specs.Journal.{JournalSoFar}
 use Rattle.command_reduce.specs.Reduce.{IsHistoryOfInput, IsShownProblem, ProblemAccepted, ReadIn, ReduceEnds, ReduceMustEnd, Reduces, ReducesTo}
 use Rattle.command_reduce.specs.Reduce.ReduceEnds.{done, memory, script, uninteresting, unput, unwritten}
 use Rattle.command_reduce.specs.ReduceByStatus.{ReduceMeans}
-use Rattle.command_reduce.proofs.ReduceByStatusLemmas.{reduce_by_status}
+use Rattle.command_reduce.proofs.Lent.{reduce_by_status}
 use Rattle.command_perses.specs.Call.{RunsCommand}
 use Rattle.command_perses.specs.Headline.{AreVisible, HasResult, Headline, IsProblemOf, NoCallFailed, WasWritten, verdicts_of}
 

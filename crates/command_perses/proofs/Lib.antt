@@ -1,3 +1,4 @@
-pub mod CallLemmas
-pub mod HeadlineLemmas
-pub mod WorkerLemmas
+mod CallLemmas
+mod HeadlineLemmas
+mod WorkerLemmas
+pub mod Lent

@@ -9,8 +9,6 @@ use Rattle.command_normal.specs.Normal.{PrintsNormal}
 use Rattle.command_reduce.specs.Reduce.{Reduces}
 use Rattle.command_words.specs.Commands.{Command, GrammarSource, ReduceOptions, SelftestOptions}
 use Rattle.command_selftest.specs.Selftest.{RunsSelftest}
-use Rattle.command_ends.specs.declared.status.Refusal.{Refusal}
-use Rattle.command_ends.specs.declared.status.Refusal.TheVariants.{Memory, Usage}
 use Rattle.command_ends.specs.World.{NotReached, PutsMessage, World, seen, seen_gates}
 
 -- what is visible of these files, of the gates of these workers, of this journal and this `out`, by their members
@@ -47,9 +45,3 @@ pub data RunsCommand (may_say : List ℕ → Verdict → Type 0) (old new : Worl
       → RunsCommand may_say old new status (Some (Command.normal grammar))
   selftest : (options : SelftestOptions) → RunsSelftest options old.out new.out status → new.files ≡ old.files → NotReached [] old new
       → RunsCommand may_say old new status (Some (Command.selftest options))
-
--- why no command line was read: the words are none, or memory ran out
-abbrev pub WordsFail : Option Command → Refusal → Type 0
-WordsFail asked Memory = Unit {0}
-WordsFail asked Usage = asked ≡ None
-WordsFail asked _ = ⊥

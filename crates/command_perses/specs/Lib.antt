@@ -4,3 +4,4 @@ pub use Rattle.command_reduce.specs as CommandReduce
 pub mod Call
 pub mod Headline
 pub mod Workers
+pub mod inner

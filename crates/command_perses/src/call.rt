@@ -1,7 +1,8 @@
 //! The top call.
 
 ghost use Rattle.std.specs.Prelude.{◌≡◌, ◌⊎◌, None, Some, IfErr, IfOk, length, map, string_bytes};
-ghost use Rattle.command_perses.specs.Call.{RunsCommand, WordsFail, world};
+ghost use Rattle.command_perses.specs.Call.{RunsCommand, world};
+ghost use Rattle.command_perses.specs.inner.Call.{WordsFail};
 ghost use Rattle.command_perses.specs.Headline.{Headline};
 ghost use Rattle.command_words.specs.Commands.{Command, ReduceOptions, command_line_of};
 ghost use Rattle.command_words.specs.Lines.{IsSized, command_read};

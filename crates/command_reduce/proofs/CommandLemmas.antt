@@ -21,10 +21,11 @@ use Rattle.run_gated.specs.Faults.{fault_of}
 use Rattle.run_gated.specs.RunEnds.{NoneFailed}
 use Rattle.script_gate_trait.specs.declared.gate.GateFault.{GateFault}
 use Rattle.script_gate_trait.specs.declared.gate.GateFault.TheVariants.{Failed as GateFailed, Memory as GateMemory}
-use Rattle.command_reduce.specs.Reduce.{GateUnopened, Inside, IsHistoryOfInput, ProblemAccepted, ProblemFails, ProblemRead, RecordsAreSound, ReduceEnds, ReduceFails, ReduceReports, ReduceSteps, Reduces, ReducesTo, beside}
+use Rattle.command_reduce.specs.Reduce.{GateUnopened, IsHistoryOfInput, ProblemAccepted, ProblemRead, RecordsAreSound, ReduceEnds, Reduces, ReducesTo}
+use Rattle.command_reduce.specs.inner.Reduce.{Inside, ProblemFails, ReduceFails, ReduceReports, ReduceSteps, beside}
 use Rattle.command_reduce_calls.specs.Journal.{JournalSoFar, JournalWhole}
-use Rattle.command_reduce.specs.Read.{AcceptFails, KeepRefused}
-use Rattle.command_reduce.specs.Run.{JournalAfter, StartLeaves, Unopened}
+use Rattle.command_reduce.specs.inner.Read.{AcceptFails, KeepRefused}
+use Rattle.command_reduce.specs.inner.Run.{JournalAfter, StartLeaves, Unopened}
 use Rattle.command_reduce_calls.specs.Calls.{WriteEnds}
 use Rattle.command_reduce.specs.Reduce.ReduceEnds.{done, memory, unread, unwritten, faulty, no_token, unparsed, uninteresting, unput, keep_missing, too_long, script, journal}
 use Rattle.run_gated.specs.declared.fault.RunFault.{RunFault}

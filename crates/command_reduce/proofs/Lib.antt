@@ -1,8 +1,9 @@
-pub mod ProblemLemmas
-pub mod ReadLemmas
-pub mod StartLemmas
-pub mod MustEndLemmas
-pub mod CommandLemmas
-pub mod ReduceByStatusLemmas
-pub mod UsedLemmas
-pub mod LentLemmas
+mod ProblemLemmas
+mod ReadLemmas
+mod StartLemmas
+mod MustEndLemmas
+mod CommandLemmas
+mod ReduceByStatusLemmas
+mod UsedLemmas
+mod LentLemmas
+pub mod Lent

@@ -2,7 +2,7 @@
 use Rattle.std.proofs.Common.{◌≡◌, ℕ, List, [], ◌∷◌, Some, true, false, ⊎_elim, refl, sym, ap, ◌∙◌, subst}
 use Rattle.std.proofs.lemmas.Bool.{false≢true}
 use Rattle.keep_guard.specs.Keep.{first_missing, holds_all}
-use Rattle.keep_guard.proofs.KeepLemmas.{holds_all_or_misses}
+use Rattle.keep_guard.proofs.Lent.{holds_all_or_misses}
 use Rattle.script_gate_trait.specs.declared.gate.Verdict.TheVariants.{Yes}
 use Rattle.verdict_table.specs.declared.record.Record.{Record}
 use Rattle.run_gated.specs.Records.{FirstIs, FirstIsNo}
@@ -23,7 +23,7 @@ use Rattle.command_reduce.specs.Reduce.ReduceEnds.{done, memory, unread, unwritt
 use Rattle.command_ends.specs.Status.{IsUncut}
 use Rattle.command_words.specs.Commands.{GrammarOptions, GrammarSource, ModeOptions, ReduceOptions}
 use Rattle.command_ends.specs.World.{IsQuiet, IsShownWithin, SeenJournal, counts_of, WasRead, World, grammar_limit, input_limit}
-use Rattle.command_ends.proofs.FileLemmas.{longer_not_missing, not_longer, read_not_missing, read_not_over}
+use Rattle.command_ends.proofs.Lent.{longer_not_missing, not_longer, read_not_missing, read_not_over}
 use Rattle.command_reduce.proofs.ProblemLemmas.{any_problem, fault_is, fault_not_shown, faulty_not_shown, grammar_not_faulty, grammar_not_missing, grammar_not_over, input_read, long_grammar, long_grammar_not_shown, long_input_no_fault, long_input_not_shown, no_fault, no_grammar, not_faulty, parse_caused, reached_grammar, read_and_shown, shown_not_faulty, shown_not_long, uncut_caused}
 
 yes_no : (start : List ℕ) (records : List Record) → FirstIs start Yes records → FirstIsNo records → ⊥

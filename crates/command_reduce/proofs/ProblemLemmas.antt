@@ -22,7 +22,7 @@ use Rattle.command_ends.specs.Status.{IsUncut}
 use Rattle.command_words.specs.Commands.{GrammarOptions, GrammarSource, ModeOptions, ReduceOptions}
 use Rattle.command_grammar.specs.Grammar.{start_name}
 use Rattle.command_ends.specs.World.{IsOver, IsShownWithin, SeenFiles, WasRead, grammar_limit, input_limit}
-use Rattle.command_ends.proofs.FileLemmas.{not_longer, read_not_missing, read_not_over}
+use Rattle.command_ends.proofs.Lent.{not_longer, read_not_missing, read_not_over}
 
 -- what is visible of a file holds of the bytes that were read
 pub shown_holds : (limit : ℕ) (P : List ℕ → Type 0) (content : Option FileContent) → IsShownWithin limit content P → (bytes : List ℕ) → Holds bytes content → P bytes

@@ -18,8 +18,9 @@ use Rattle.command_ends.specs.declared.status.Refusal.{Refusal}
 use Rattle.command_ends.specs.declared.status.NamedFile.TheVariants as named
 use Rattle.command_ends.specs.declared.status.Refusal.TheVariants.{Memory, CannotRead, Grammar, KeepMissing, NoParse, TooLong, Uncut}
 use Rattle.command_grammar.specs.Grammar.{GrammarRead}
-use Rattle.command_reduce.specs.Read.{GivesTree, KeepRefused, TreeFails}
-use Rattle.command_reduce.specs.Reduce.{IsReached, ProblemFails, ProblemRead, ReadIn, grammar_in}
+use Rattle.command_reduce.specs.inner.Read.{GivesTree, KeepRefused, TreeFails}
+use Rattle.command_reduce.specs.Reduce.{IsReached, ProblemRead, ReadIn, grammar_in}
+use Rattle.command_reduce.specs.inner.Reduce.{ProblemFails}
 use Rattle.command_ends.specs.Status.{IsInputRefusal}
 use Rattle.command_reduce_calls.specs.Keeps.{KeepFails}
 use Rattle.command_words.specs.Commands.{GrammarOptions, GrammarSource, ModeOptions, ReduceOptions}

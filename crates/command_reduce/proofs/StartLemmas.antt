@@ -8,7 +8,7 @@ use Rattle.run_gated.specs.declared.ran.Reduced.{Reduced}
 use Rattle.run_gated.specs.declared.fault.RunFault.{RunFault}
 use Rattle.run_problem.specs.Problem.{Problem}
 use Rattle.run_problem.specs.Ends.{IsUnfinished, ProblemEnds, RunFails}
-use Rattle.run_problem.proofs.ModeLemmas.{unfinished_without}
+use Rattle.run_problem.proofs.Lent.{unfinished_without}
 use Rattle.command_reduce_calls.specs.Openings.{OpenFailed}
 
 module _ (workers : ℕ) (keeps : List (List ℕ)) (problem : Problem) (history : History) (counts counts' : List ℕ) where

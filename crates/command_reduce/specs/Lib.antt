@@ -4,6 +4,5 @@ pub use Rattle.reduce_trees_input.specs as ReduceTreesInput
 pub use Rattle.command_reduce_calls.specs as CommandReduceCalls
 pub use Rattle.command_grammar.specs.Grammar
 pub mod Reduce
-pub mod Run
-pub mod Read
 pub mod ReduceByStatus
+pub mod inner

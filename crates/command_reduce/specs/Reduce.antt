@@ -1,6 +1,5 @@
 -- The command `reduce`: how it ends, by its status, and what its history and its records are.
-use Rattle.std.specs.Prelude.{◌≡◌, ◌≢◌, ◌<◌, ◌≤◌, ◌⊎◌, ℕ, suc, ◌+◌, drop, length, map, sum, Bool, List, [], ◌∷◌, ◌++◌, true, false, Option, Some, None, All, MatchResult, Result, codes, option_map, string_bytes}
-use Rattle.std.specs.Global.{Vec}
+use Rattle.std.specs.Prelude.{◌≡◌, ◌≢◌, ◌<◌, ◌≤◌, ◌⊎◌, ℕ, suc, ◌+◌, drop, length, map, sum, Bool, List, [], ◌∷◌, ◌++◌, true, false, Option, Some, None, All, codes, option_map}
 use Rattle.std.specs.List.{IsDistinct}
 use Rattle.std.specs.Str.{bytes_eq}
 use Rattle.script_gate_trait.specs.declared.gate.Verdict.{Verdict}
@@ -25,17 +24,15 @@ use Rattle.reduce_trees_input.specs.declared.fault.InputFault.{InputFault}
 use Rattle.reduce_trees_input.specs.declared.fault.InputFault.TheVariants as input_fault
 use Rattle.command_ends.specs.declared.status.NamedFile.{NamedFile}
 use Rattle.command_ends.specs.declared.status.NamedFile.TheVariants as named
-use Rattle.command_grammar.specs.Grammar.{GrammarFails, GrammarRead, IsFaultIn, IsGrammarText}
+use Rattle.command_grammar.specs.Grammar.{GrammarRead, IsFaultIn, IsGrammarText}
 use Rattle.run_problem.specs.Problem.{Problem, start_of}
 use Rattle.run_problem.specs.Ends.{AreOf, IsRefused, IsUnfinished, ReducesFrom}
-use Rattle.command_ends.specs.declared.status.Refusal.{Refusal}
-use Rattle.command_ends.specs.declared.status.Refusal.TheVariants.{Memory, CannotRead, Grammar, NoParse, TooLong, Uncut}
-use Rattle.command_ends.specs.Status.{IsOneOf, IsUncut, fault_line, keep_text, line_of, script_text, status_of, word_for}
+use Rattle.command_ends.specs.Status.{IsOneOf, IsUncut, fault_line, keep_text, script_text, word_for}
 use Rattle.command_words.specs.Commands.{GrammarOptions, GrammarSource, ModeOptions, ReduceOptions}
 use Rattle.run_worker.specs.RunHistory.{with_all_asked}
 use Rattle.command_reduce_calls.specs.Openings.{opened_from, opened_log}
 use Rattle.command_grammar.specs.Grammar.{start_name}
-use Rattle.command_ends.specs.World.{AnyGateFailed, AreQuiet, CallFailed, GateFailed, logs_of, FilesKept, IsOver, IsQuiet, IsShownWithin, NotReached, Puts, PutsLine, PutsMessage, PutsPrefix, SeenFiles, SeenGate, SeenJournal, SeenOut, WasRead, World, grammar_limit, input_limit, line_of_text}
+use Rattle.command_ends.specs.World.{AnyGateFailed, AreQuiet, CallFailed, GateFailed, logs_of, FilesKept, IsOver, IsQuiet, IsShownWithin, NotReached, Puts, PutsLine, PutsMessage, PutsPrefix, SeenFiles, SeenJournal, WasRead, World, grammar_limit, input_limit}
 
 -- The input is made of this text by this grammar, what is admitted is what has each keep text, and the squeezed text of the whole is tried or not; there is
 -- no other such input.
@@ -335,47 +332,3 @@ pub record Reduces (options : ReduceOptions) (may_say : List ℕ → Verdict →
   pub sound : RecordsAreSound options may_say (records_of history) (logs_of old.gates) (logs_of new.gates) old.journal new.journal
   pub of_input : IsHistoryOfInput options old.files history
   pub others : drop options.jobs new.gates ≡ drop options.jobs old.gates
-
--- why there is no problem: a file wasn't read, the grammar is faulty, or the input isn't in its language
-abbrev pub ProblemFails : ReduceOptions → SeenFiles → SeenFiles → Refusal → Type 0
-ProblemFails options files files' Memory = IsQuiet files files'
-ProblemFails options files files' (CannotRead file) = IsReached options.mode file files × CallFailed files files'
-ProblemFails options files files' (TooLong file) =
-    IsReached options.mode file files × IsLonger (limit_of file) (files.shown (name_of options file)) × IsQuiet files files'
-ProblemFails options files files' (Grammar line) =
-    (trees : GrammarOptions) × (options.mode ≡ ModeOptions.by_grammar trees) × GrammarFails trees.grammar files files' (Grammar line)
-ProblemFails options files files' (Uncut line) =
-    (trees : GrammarOptions) × (fault : InputFault) × (options.mode ≡ ModeOptions.by_grammar trees) × IsUncut fault
-    × InputHas trees.grammar (λ c bytes. IsInputFault c bytes fault) options files
-    × (string_bytes line ≡ line_of_text (input_fault_text fault)) × IsQuiet files files'
-ProblemFails options files files' NoParse =
-    (trees : GrammarOptions) × (options.mode ≡ ModeOptions.by_grammar trees)
-    × InputHas trees.grammar (λ c bytes. IsInputFault c bytes input_fault.NoParse) options files × IsQuiet files files'
-ProblemFails options files files' _ = ⊥
-
--- What `reduce` reaches, without `out`.
-pub record Inside : Type 0 where
-  pub files : SeenFiles
-  pub gates : List SeenGate
-  pub journal : SeenJournal
-
--- these, and this `out`
-abbrev pub beside : Inside → SeenOut → World
-beside inside out = record { files = inside.files; gates = inside.gates; journal = inside.journal; out = out }
-
--- the run ends with this refusal, whatever becomes of its line
-abbrev pub ReduceFails : ReduceOptions → History → Inside → Inside → Refusal → Type 0
-ReduceFails options history old new refusal =
-    (out out' : SeenOut) → PutsLine (line_of refusal) out out' → ReduceEnds options history (beside old out) (beside new out') (status_of refusal)
-
--- the run comes to this report, whatever becomes of it
-abbrev pub ReduceReports : ReduceOptions → History → Inside → Inside → List ℕ → Type 0
-ReduceReports options history old new report = (out out' : SeenOut) → WritesReduced options history report (beside old out) (beside new out')
-
--- the steps of `reduce`, but for what is put on `out`
-pub record ReduceSteps (options : ReduceOptions) (may_say : List ℕ → Verdict → Type 0) (history : History) (old new : Inside)
-    (outcome : Result (Vec ℕ) Refusal) : Type 0 where
-  pub sound : RecordsAreSound options may_say (records_of history) (logs_of old.gates) (logs_of new.gates) old.journal new.journal
-  pub of_input : IsHistoryOfInput options old.files history
-  pub others : drop options.jobs new.gates ≡ drop options.jobs old.gates
-  pub ends : MatchResult outcome (λ report. ReduceReports options history old new report.items) (λ refusal. ReduceFails options history old new refusal)

@@ -4,8 +4,9 @@ ghost use Rattle.std.specs.Prelude.{◌≡◌, IfErr, IfOk, OnOk};
 ghost use Rattle.edge_io.specs.Files.{SameFiles};
 ghost use Rattle.run_problem.specs.declared.problem.ReadProblem.TheVariants.{Tree};
 ghost use Rattle.run_problem.specs.Read.{IsReadAs, IsReady};
-ghost use Rattle.command_reduce.specs.Read.{GivesTree, TreeFails};
-ghost use Rattle.command_reduce.specs.Reduce.{ProblemFails, ProblemRead};
+ghost use Rattle.command_reduce.specs.inner.Read.{GivesTree, TreeFails};
+ghost use Rattle.command_reduce.specs.Reduce.{ProblemRead};
+ghost use Rattle.command_reduce.specs.inner.Reduce.{ProblemFails};
 ghost use Rattle.command_words.specs.Lines.{grammar_read, reduce_read};
 ghost use Rattle.command_ends.specs.World.{IsQuiet, seen};
 

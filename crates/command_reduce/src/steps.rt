@@ -9,9 +9,10 @@ ghost use Rattle.run_gated.specs.Workers.{AreIdle, worker_faults, worker_logs};
 ghost use Rattle.run_problem.specs.Problem.{Problem};
 ghost use Rattle.run_problem.specs.Read.{IsReadAs, IsReady, start_read};
 ghost use Rattle.run_problem.specs.Ends.{AreOf, ProblemEnds};
-ghost use Rattle.command_reduce.specs.Reduce.{ProblemRead, RecordsAreSound, ReduceSteps, Reduces};
-ghost use Rattle.command_reduce.specs.Read.{AcceptFails};
-ghost use Rattle.command_reduce.specs.Run.{JournalAfter, StartLeaves};
+ghost use Rattle.command_reduce.specs.Reduce.{ProblemRead, RecordsAreSound, Reduces};
+ghost use Rattle.command_reduce.specs.inner.Reduce.{ReduceSteps};
+ghost use Rattle.command_reduce.specs.inner.Read.{AcceptFails};
+ghost use Rattle.command_reduce.specs.inner.Run.{JournalAfter, StartLeaves};
 ghost use Rattle.command_words.specs.Lines.{reduce_read};
 ghost use Rattle.command_ends.specs.World.{IsQuiet, seen, seen_gates};
 

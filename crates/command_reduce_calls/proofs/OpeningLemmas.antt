@@ -12,7 +12,7 @@ use Rattle.script_gate_trait.specs.declared.log.Log.{Log}
 use Rattle.command_words.specs.Commands.{ReduceOptions}
 use Rattle.run_gated.specs.Workers.{AreIdle, RoseAtIndex, worker_faults, worker_logs}
 use Rattle.worker_pool.specs.declared.worker.Worker.{Worker}
-use Rattle.command_reduce_calls.specs.Calls.{OpenFails}
+use Rattle.command_reduce_calls.specs.inner.Calls.{OpenFails}
 use Rattle.command_reduce_calls.specs.Openings.{GateRefused, OpenFailed, opened_from, opened_log}
 
 -- the next log

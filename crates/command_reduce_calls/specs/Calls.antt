@@ -3,7 +3,6 @@ use Rattle.std.specs.Prelude.{◌≡◌, ℕ, List, Result, Ok, Err}
 use Rattle.std.specs.Global.{Vec}
 use Rattle.faults.specs.Count.{Rose}
 use Rattle.edge_io.specs.Files.{Holds, SameOthers}
-use Rattle.script_gate_trait.specs.declared.gate.GateFault.{GateFault}
 use Rattle.reduce_journal.specs.Report.{report_text}
 use Rattle.run_gated.specs.declared.fault.RunFault.{RunFault}
 use Rattle.run_gated.specs.declared.fault.RunFault.TheVariants as run
@@ -12,12 +11,6 @@ use Rattle.command_ends.specs.declared.status.Refusal.{Refusal}
 use Rattle.command_ends.specs.declared.status.Refusal.TheVariants.{Memory, CannotWrite}
 use Rattle.command_ends.specs.Status.{ending_of, ending_of_run}
 use Rattle.command_ends.specs.World.{CallFailed, FilesKept, IsQuiet, SeenFiles}
-use Rattle.script_gate_trait.specs.declared.gate.GateFault.TheVariants.{Failed as GateFailed, Memory as GateMemory}
-
--- why a gate wasn't opened, by its counts before and after
-abbrev pub OpenFails : ℕ → ℕ → GateFault → Type 0
-OpenFails count count' GateFailed = Rose count count'
-OpenFails count count' GateMemory = count' ≡ count
 
 -- why the journal wasn't opened, by its counts before and after
 abbrev pub OpeningFails : ℕ → ℕ → RunFault → Type 0

@@ -10,3 +10,4 @@ pub mod Openings
 pub mod Journal
 pub mod Calls
 pub mod Keeps
+pub mod inner

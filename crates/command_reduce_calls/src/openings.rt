@@ -5,7 +5,8 @@ ghost use Rattle.command_reduce_calls.specs.Openings.{GateRefused, opened_from, 
 ghost use Rattle.run_gated.specs.Workers.{AreIdle, worker_faults, worker_logs};
 ghost use Rattle.run_gated.specs.Faults.{fault_of};
 ghost use Rattle.command_reduce_calls.specs.Journal.{opened_as};
-ghost use Rattle.command_reduce_calls.specs.Calls.{OpeningFails, OpenFails};
+ghost use Rattle.command_reduce_calls.specs.Calls.{OpeningFails};
+ghost use Rattle.command_reduce_calls.specs.inner.Calls.{OpenFails};
 ghost use Rattle.command_words.specs.Lines.{reduce_read};
 
 use crate::name::file_name_of;

@@ -1,1 +1,2 @@
-pub mod SelftestLemmas
+mod SelftestLemmas
+pub mod Lent

@@ -4,7 +4,8 @@ use Rattle.std.specs.Global.{Vec}
 use Rattle.command_words.specs.Commands.{SelftestOptions}
 use Rattle.command_ends.specs.declared.status.Refusal.{Refusal}
 use Rattle.command_ends.specs.declared.status.Refusal.TheVariants.{Memory}
-use Rattle.command_selftest.specs.Selftest.{RunsSelftest, SelftestEnds, SelftestFails, SelftestMustEnd, SummarizesCase}
+use Rattle.command_selftest.specs.Selftest.{RunsSelftest, SelftestEnds, SelftestMustEnd, SummarizesCase}
+use Rattle.command_selftest.specs.inner.Selftest.{SelftestFails}
 use Rattle.command_selftest.specs.Selftest.SelftestEnds.{done, memory, unput}
 use Rattle.command_ends.specs.Status.{EndsRefused, EndsWithAnswer, line_of, status_of}
 use Rattle.command_ends.specs.World.{PutsLine, SeenOut}

@@ -3,17 +3,10 @@ use Rattle.std.specs.Prelude.{◌≡◌, ◌⊎◌, ℕ, List, codes}
 use Rattle.case_reduction.specs.Summary.{IsSummary}
 use Rattle.command_words.specs.Commands.{SelftestOptions}
 use Rattle.command_ends.specs.World.{CallFailed, IsQuiet, Puts, PutsMessage, PutsPrefix, SeenOut}
-use Rattle.command_ends.specs.declared.status.Refusal.{Refusal}
-use Rattle.command_ends.specs.declared.status.Refusal.TheVariants.{Memory}
 
 -- the text is the summary of the reduction of the program of the number and the size, in the mode
 abbrev pub SummarizesCase : SelftestOptions → List ℕ → Type 0
 SummarizesCase options text = IsSummary options.mode options.number options.size text
-
--- only memory can run out
-abbrev pub SelftestFails : Refusal → Type 0
-SelftestFails Memory = Unit {0}
-SelftestFails _ = ⊥
 
 -- How `selftest` ends, by its status.
 pub data SelftestEnds (options : SelftestOptions) (out out' : SeenOut) : ℕ → Type 0 where

@@ -2,7 +2,8 @@
 
 ghost use Rattle.std.specs.Prelude.{◌≤◌, IfErr, IfOk};
 ghost use Rattle.command_words.specs.Lines.{selftest_read};
-ghost use Rattle.command_selftest.specs.Selftest.{RunsSelftest, SelftestFails, SummarizesCase};
+ghost use Rattle.command_selftest.specs.Selftest.{RunsSelftest, SummarizesCase};
+ghost use Rattle.command_selftest.specs.inner.Selftest.{SelftestFails};
 ghost use Rattle.command_ends.specs.World.{seen};
 
 use case_reduction::case_summary;

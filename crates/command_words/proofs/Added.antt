@@ -3,7 +3,7 @@ use Rattle.std.proofs.Common.{◌≡◌, ◌∙◌, ℕ, ◌+◌, ◌<◌, List,
 use Rattle.std.proofs.lemmas.List.{take_more}
 use Rattle.clap.specs.Words.{App, Rule, with_rule}
 use Rattle.command_words.specs.declared.options.ClapOption.{ClapOption}
-use Rattle.command_words.specs.Read.{option_rule, read_row}
+use Rattle.command_words.specs.inner.Read.{option_rule, read_row}
 
 -- one option more
 one_added : (a : App) (rows : List ClapOption) (row : ClapOption)

@@ -17,7 +17,7 @@ use Rattle.clap.specs.declared.parser.matches.ValueSource.TheVariants.{DefaultVa
 use Rattle.clap.proofs.FaultLemmas.{leaf_fault}
 use Rattle.clap.proofs.WalkLemmas.{first_value-rows, one_text-rows, raw_values-rows}
 use Rattle.command_words.specs.Options.{OptionRow, OptionWord, Use, WordKind, has_value, is_value, kind_by_row, kind_of_option, kind_of_word, name_and_value, option_word, row_of, then_uses, uses_after, uses_from, values_for}
-use Rattle.command_words.specs.Read.{AllFound, HasRead, HasUses, IsOnce, flag_text, is_option_part, is_part_of, is_well_formed, NamesValue, table_row, takes_of, where_some}
+use Rattle.command_words.specs.inner.Read.{AllFound, HasRead, HasUses, IsOnce, flag_text, is_option_part, is_part_of, is_well_formed, NamesValue, table_row, takes_of, where_some}
 use Rattle.command_words.proofs.Texts.{both_answers, text_same}
 use Rattle.command_words.proofs.Rules.{app_for, built_rule, built_shape, no_check_fails, no_defaults_fail}
 use Rattle.command_words.proofs.Rows.{HasRows, row_is_seen, seen, seen_after, shown, with_more}

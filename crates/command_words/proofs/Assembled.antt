@@ -7,8 +7,8 @@ use Rattle.clap.specs.declared.parser.matches.ArgMatches.{ArgMatches}
 use Rattle.command_words.specs.Options.{OptionRow, Use, Values, fits_table, is_number_in, options_in, takes_value, uses_from, values_for, where_fits}
 use Rattle.command_words.specs.Tables.{normal_table, reduce_table, selftest_table, tree_modes}
 use Rattle.command_words.specs.Commands.{Command, GrammarSource, ModeOptions, ReduceOptions, SelftestOptions, command_line_of, command_of, is_given, mode_options, named_grammar, normal_line, number_of, reduce_line, reduce_of, reduction_in, selftest_line, selftest_of, text_of, tree_mode_named, tree_mode_of, value_of, value_or}
-use Rattle.command_words.specs.Found.{HasFound, fitting_jobs, fitting_keeps, fitting_mode, fitting_number, line_of_parts, line_with, names_files, values_fit}
-use Rattle.command_words.specs.Read.{IsAnswered, IsOnce, IsTable}
+use Rattle.command_words.specs.inner.Found.{HasFound, fitting_jobs, fitting_keeps, fitting_mode, fitting_number, line_of_parts, line_with, names_files, values_fit}
+use Rattle.command_words.specs.inner.Read.{IsAnswered, IsOnce, IsTable}
 use Rattle.reduce_step.specs.declared.mode.TreeMode.{TreeMode}
 use Rattle.command_words.proofs.Fits.{fits_once, flags_once, normal_fits, reduce_fits, selftest_fits}
 use Rattle.command_words.proofs.FoundValues.{no_values, number_read, one_value}

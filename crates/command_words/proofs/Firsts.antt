@@ -7,8 +7,8 @@ use Rattle.clap.specs.declared.parser.matches.MatchedArg.{MatchedArg}
 use Rattle.command_words.specs.Options.{OptionRow, Use, Values, takes_value, values_for}
 use Rattle.command_words.specs.Tables.{optional, reduce_table, tree_modes}
 use Rattle.command_words.specs.Commands.{GrammarSource, ModeOptions, is_given, lines_options, named_grammar, text_of, tree_mode_named, trees_options, value_of, value_or}
-use Rattle.command_words.specs.Found.{HasFound, fitting_mode, names_files}
-use Rattle.command_words.specs.Read.{flag_text, NamesValue, where_some}
+use Rattle.command_words.specs.inner.Found.{HasFound, fitting_mode, names_files}
+use Rattle.command_words.specs.inner.Read.{flag_text, NamesValue, where_some}
 use Rattle.reduce_step.specs.declared.mode.TreeMode.{TreeMode}
 use Rattle.command_words.proofs.FoundValues.{given_none, given_some, mode_default, mode_of_lines, mode_of_trees, mode_unknown}
 

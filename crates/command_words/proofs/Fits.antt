@@ -5,8 +5,8 @@ use Rattle.std.proofs.lemmas.Bool.{and_parts}
 use Rattle.command_words.specs.Options.{OptionRow, Use, Values, fits_row, fits_table, has_value, takes_value, values_for}
 use Rattle.command_words.specs.Tables.{normal_table, optional, reduce_table, required, selftest_table, tree_modes}
 use Rattle.command_words.specs.Commands.{is_given}
-use Rattle.command_words.specs.Found.{names_files, values_fit}
-use Rattle.command_words.specs.Read.{IsOnce, is_several, takes_of}
+use Rattle.command_words.specs.inner.Found.{names_files, values_fit}
+use Rattle.command_words.specs.inner.Read.{IsOnce, is_several, takes_of}
 
 -- ---- one row, by the values that are given
 

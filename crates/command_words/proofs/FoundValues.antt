@@ -6,8 +6,8 @@ use Rattle.std.specs.Str.Parse.{digits_value}
 use Rattle.command_words.specs.Options.{OptionRow, Use, Values, has_value, is_number_in, row_of, takes_value, values_for}
 use Rattle.command_words.specs.Tables.{tree_modes}
 use Rattle.command_words.specs.Commands.{ModeOptions, is_given, lines_options, text_of, tree_mode_named, trees_options, value_of}
-use Rattle.command_words.specs.Found.{fitting_jobs, fitting_keeps, fitting_mode}
-use Rattle.command_words.specs.Read.{NamesValue, where_some}
+use Rattle.command_words.specs.inner.Found.{fitting_jobs, fitting_keeps, fitting_mode}
+use Rattle.command_words.specs.inner.Read.{NamesValue, where_some}
 use Rattle.reduce_step.specs.declared.mode.TreeMode.{TreeMode}
 use Rattle.reduce_step.specs.declared.mode.TreeMode.TheVariants.{Perses}
 use Rattle.command_words.proofs.Texts.{both_answers, text_equal, text_same}

@@ -1,17 +1,17 @@
-pub mod Texts
-pub mod Parts
-pub mod Numbers
-pub mod Rules
-pub mod Rows
-pub mod Steps
-pub mod Shapes
-pub mod Walks
-pub mod Reading
-pub mod Flags
-pub mod Answered
-pub mod Fits
-pub mod Made
-pub mod FoundValues
-pub mod Firsts
-pub mod Added
-pub mod Assembled
+mod Texts
+mod Parts
+mod Numbers
+mod Rules
+mod Rows
+mod Steps
+mod Shapes
+mod Walks
+mod Reading
+mod Flags
+mod Answered
+mod Fits
+mod Made
+mod FoundValues
+mod Firsts
+mod Added
+mod Assembled

@@ -14,7 +14,7 @@ use Rattle.clap.specs.declared.error.kind.ErrorKind.TheVariants.{OutOfMemory}
 use Rattle.clap.specs.declared.parser.matches.ArgMatches.{ArgMatches}
 use Rattle.command_words.specs.Options.{OptionRow}
 use Rattle.command_words.specs.declared.options.ClapOption.{ClapOption}
-use Rattle.command_words.specs.Read.{IsAnswered, IsTable, is_well_formed, option_rule, read_row, table_row}
+use Rattle.command_words.specs.inner.Read.{IsAnswered, IsTable, is_well_formed, option_rule, read_row, table_row}
 use Rattle.command_words.proofs.Texts.{both_answers}
 use Rattle.command_words.proofs.Rules.{is_plain_command}
 use Rattle.command_words.proofs.Answered.{answered_err, answered_ok, app, are_well_formed}

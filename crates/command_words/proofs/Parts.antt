@@ -4,7 +4,7 @@ use Rattle.std.specs.List.{after_first, before_first, list_any, position_or_len}
 use Rattle.std.proofs.lemmas.Bool.{cases_lt}
 use Rattle.std.proofs.lemmas.List.{take_all}
 use Rattle.command_words.specs.Options.{is_equals, is_value, name_and_value}
-use Rattle.command_words.specs.Read.{is_option_part}
+use Rattle.command_words.specs.inner.Read.{is_option_part}
 
 shifted : (a b : ℕ) → nat_lt a b ≡ nat_lt (1 + a) (suc b)
 shifted a b = elim (cases_lt a b) [

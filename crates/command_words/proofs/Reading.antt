@@ -10,7 +10,7 @@ use Rattle.clap.specs.Faults.{option_fault, positional_fault, react_fault, settl
 use Rattle.clap.specs.declared.error.kind.ErrorKind.TheVariants as kind
 use Rattle.clap.specs.Lexer.{long_of, short_of}
 use Rattle.command_words.specs.Options.{OptionRow, OptionWord, Use, WordKind, has_value, is_value, kind_by_row, kind_of_option, kind_of_word, option_word, row_of, then_uses, uses_after, uses_from}
-use Rattle.command_words.specs.Read.{IsOnce, is_well_formed, table_row, takes_of}
+use Rattle.command_words.specs.inner.Read.{IsOnce, is_well_formed, table_row, takes_of}
 use Rattle.command_words.proofs.Texts.{text_self}
 use Rattle.command_words.proofs.Rules.{built_rule, none_by_index}
 use Rattle.command_words.proofs.Rows.{HasRows}

@@ -7,7 +7,7 @@ use Rattle.clap.specs.Takes.{is_given}
 use Rattle.clap.specs.Kinds.{Kinds, check_kinds, or_else}
 use Rattle.clap.specs.Faults.{check_fault, default_fault, defaults_fault, given_default_fault, is_simple_and_free}
 use Rattle.clap.proofs.WalkLemmas.{find-map}
-use Rattle.command_words.specs.Read.{PlainRow, option_rule}
+use Rattle.command_words.specs.inner.Read.{PlainRow, option_rule}
 use Rattle.command_words.specs.declared.options.Takes.{Takes}
 use Rattle.command_words.specs.declared.options.Takes.TheVariants.{Nothing, Several, Value}
 

@@ -3,7 +3,7 @@ use Rattle.std.proofs.Common.{◌≡◌, ◌∙◌, ℕ, ◌==◌, Bool, true, f
 use Rattle.clap.specs.Walk.{Text}
 use Rattle.clap.specs.Lexer.{long_of, long_of_rest, short_of, short_of_rest, strip_byte}
 use Rattle.command_words.specs.Options.{OptionWord, is_value, name_and_value, option_word}
-use Rattle.command_words.specs.Read.{is_part_of, is_well_formed}
+use Rattle.command_words.specs.inner.Read.{is_part_of, is_well_formed}
 
 -- two hyphens
 abbrev pub dashes : Text

@@ -8,7 +8,7 @@ use Rattle.clap.specs.declared.builder.value_parser.Reading.{Reading}
 use Rattle.clap.specs.declared.error.kind.ErrorKind.TheVariants as kind
 use Rattle.clap.specs.declared.parser.matches.ValueSource.TheVariants.{CommandLine}
 use Rattle.command_words.specs.Options.{OptionRow, Use, has_value, row_of, values_for}
-use Rattle.command_words.specs.Read.{IsOnce, is_several, table_row, takes_of}
+use Rattle.command_words.specs.inner.Read.{IsOnce, is_several, table_row, takes_of}
 use Rattle.command_words.proofs.Texts.{both_answers, text_same, text_self}
 use Rattle.command_words.proofs.Rules.{built_rule}
 use Rattle.command_words.proofs.Rows.{HasRows, given_after, given_append, own_value, row_is_seen, rows_after_use, shown, without_none}

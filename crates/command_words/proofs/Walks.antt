@@ -8,7 +8,7 @@ use Rattle.clap.specs.Faults.{bundle_fault, flag_word_fault, long_fault, other_f
 use Rattle.clap.proofs.WalkLemmas.{find-map}
 use Rattle.clap.specs.Lexer.{long_of, short_of}
 use Rattle.command_words.specs.Options.{OptionRow, Use, has_value, row_of, then_uses}
-use Rattle.command_words.specs.Read.{IsOnce, PlainRow, table_row, takes_of}
+use Rattle.command_words.specs.inner.Read.{IsOnce, PlainRow, table_row, takes_of}
 use Rattle.command_words.proofs.Texts.{found_passes, text_same}
 use Rattle.command_words.proofs.Rules.{built_rule, by_id, by_long, find_plain, rules_for, shape_for}
 use Rattle.command_words.proofs.Rows.{HasRows}

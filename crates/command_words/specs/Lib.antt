@@ -4,5 +4,4 @@ pub mod Commands
 pub mod Lines
 pub mod Worked
 -- what is found before a command is made of it, which the code's own contracts cite
-pub mod Found
-pub mod Read
+pub mod inner

@@ -3,9 +3,9 @@
 ghost use Rattle.std.specs.Prelude.{◌≡◌, List, codes, option_map};
 ghost use Rattle.command_words.specs.Options.{OptionRow, Use};
 ghost use Rattle.command_words.specs.Commands.{named_grammar};
-ghost use Rattle.command_words.specs.Found.{HasFound};
+ghost use Rattle.command_words.specs.inner.Found.{HasFound};
 ghost use Rattle.command_words.specs.Lines.{grammar_read};
-ghost use Rattle.command_words.specs.Read.{NamesValue};
+ghost use Rattle.command_words.specs.inner.Read.{NamesValue};
 
 use crate::commands::NamedGrammar;
 use clap::ArgMatches;

@@ -4,7 +4,7 @@ ghost use Rattle.std.specs.Prelude.{◌≡◌, ◌<◌, IfOk, IfSome, length, Li
 ghost use Rattle.std.specs.List.{list_all};
 ghost use Rattle.clap.specs.Words.{app_of, rule_of, with_rule};
 ghost use Rattle.command_words.specs.Options.{OptionRow, is_equals, name_and_value};
-ghost use Rattle.command_words.specs.Read.{IsAnswered, IsTable, action_for, is_option_part, is_well_formed, option_rule, read_row, table_row};
+ghost use Rattle.command_words.specs.inner.Read.{IsAnswered, IsTable, action_for, is_option_part, is_well_formed, option_rule, read_row, table_row};
 
 use crate::values::is_value;
 use clap::error::ErrorKind;

@@ -3,7 +3,7 @@
 ghost use Rattle.std.specs.Prelude.{◌≡◌, ◌||◌, List, IfOk, MatchOption, codes, false, map, option_and_then, option_map, string_bytes, true, IfSome, ◌≤◌};
 ghost use Rattle.command_words.specs.Options.{Use, Values, takes_value, where_fits};
 ghost use Rattle.command_words.specs.Tables.{reduce_table, tree_modes};
-ghost use Rattle.command_words.specs.Found.{HasFound, fitting_jobs, fitting_keeps, fitting_mode, line_with, names_files};
+ghost use Rattle.command_words.specs.inner.Found.{HasFound, fitting_jobs, fitting_keeps, fitting_mode, line_with, names_files};
 ghost use Rattle.command_words.specs.Commands.{is_given, lines_options, reduce_line, reduce_of, text_of, tree_mode_named, trees_options};
 ghost use Rattle.command_words.specs.Lines.{journal_of, mode_of, reduce_read};
 

@@ -4,8 +4,8 @@ ghost use Rattle.std.specs.Prelude.{◌≡◌, ◌≤◌, List, IfOk, IfSome, le
 ghost use Rattle.command_words.specs.Options.{Use, values_for, where_fits};
 ghost use Rattle.command_words.specs.Tables.{selftest_table};
 ghost use Rattle.command_words.specs.Commands.{selftest_line, selftest_of};
-ghost use Rattle.command_words.specs.Found.{HasFound, fitting_number};
-ghost use Rattle.command_words.specs.Read.{NamesValue};
+ghost use Rattle.command_words.specs.inner.Found.{HasFound, fitting_number};
+ghost use Rattle.command_words.specs.inner.Read.{NamesValue};
 ghost use Rattle.command_words.specs.Lines.{selftest_read};
 
 use crate::commands::SelftestLine;

@@ -15,9 +15,9 @@ use Rattle.normal_form.specs.Form.{RuleForm, NormalForm}
 use Rattle.normal_form.specs.FormLaws.{HasKnownSymbols}
 use Rattle.normal_form.specs.View.{alts_form}
 use Rattle.compat_table.specs.Fits.{Fits, IsKindIn, itself, in_set, by_alternative}
-use Rattle.compat_table.specs.Rows.{HasEdge, IsAmong, LeadsTo, Symbols, lone_symbol, lone_symbols}
-use Rattle.compat_table.specs.Table.{AreRowsOf, IsClosed, edges_of_form}
-use Rattle.grammar_tree.proofs.Elements.{contains_cases, contains_first, contains_later, contains_none}
+use Rattle.compat_table.specs.inner.Rows.{HasEdge, IsAmong, LeadsTo, Symbols, lone_symbol, lone_symbols}
+use Rattle.compat_table.specs.inner.Table.{AreRowsOf, IsClosed, edges_of_form}
+use Rattle.grammar_tree.proofs.Lent.{contains_cases, contains_first, elements_contains_later as contains_later, contains_none}
 
 -- a symbol is among those that are alone exactly where it is an alternative
 lone_in : (alts : List (List Sym)) (t : Sym) → Contains (filter_map lone_symbol alts) t → Contains alts (t ∷ [])

@@ -1,3 +1,4 @@
-pub mod Fitting
-pub mod Edges
-pub mod Searching
+mod Fitting
+mod Edges
+mod Searching
+pub mod Lent

@@ -11,9 +11,9 @@ use Rattle.std.proofs.lemmas.List.Sums.{sum_by-cons, sum_by-set}
 use Rattle.std.proofs.lemmas.Option.{none-some, same_Some}
 use Rattle.normal_form.specs.declared.normal.Sym.{Sym}
 use Rattle.normal_form.specs.declared.normal.Sym.TheVariants.{Kind, Set, Rule}
-use Rattle.compat_table.specs.Rows.{HasEdge, IsAmong, IsGrown, IsMarked, IsRowOf, IsSearched, LeadsTo, Symbols, unmarked}
-use Rattle.compat_table.specs.View.{edges_of}
-use Rattle.grammar_tree.proofs.Elements.{contains_cases, contains_first, contains_none}
+use Rattle.compat_table.specs.inner.Rows.{HasEdge, IsAmong, IsGrown, IsMarked, IsRowOf, IsSearched, LeadsTo, Symbols, unmarked}
+use Rattle.compat_table.specs.inner.View.{edges_of}
+use Rattle.grammar_tree.proofs.Lent.{contains_cases, contains_first, contains_none}
 
 -- Growing by nothing, and by one list after another.
 pub grown_by_none : (row : Symbols) → IsGrown [] row row

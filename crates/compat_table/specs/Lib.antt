@@ -2,6 +2,4 @@ pub use Rattle.normal_form.specs.Form
 pub use Rattle.normal_form.specs.NormalDerives
 pub mod Fits
 pub mod Laws
-pub mod Rows
-pub mod View
-pub mod Table
+pub mod inner

@@ -5,9 +5,9 @@ ghost use Rattle.std.specs.List.{All, Contains};
 ghost use Rattle.std.specs.List.Sorted.{IsNonDecreasing};
 ghost use Rattle.normal_form.specs.declared.normal.Sym.{Sym as Symbol};
 ghost use Rattle.normal_form.specs.declared.normal.Sym.TheVariants.{Rule};
-ghost use Rattle.compat_table.specs.Rows.{IsAmong, IsGrown, IsMarked};
-ghost use Rattle.compat_table.specs.Table.{IsSortedRow};
-ghost use Rattle.compat_table.specs.View.{symbols_of};
+ghost use Rattle.compat_table.specs.inner.Rows.{IsAmong, IsGrown, IsMarked};
+ghost use Rattle.compat_table.specs.inner.Table.{IsSortedRow};
+ghost use Rattle.compat_table.specs.inner.View.{symbols_of};
 
 use faults::Memory;
 use grammar_names::is_among;

@@ -3,9 +3,9 @@
 ghost use Rattle.std.specs.Prelude.{◌≡◌, ◌+◌, ◌<◌, ◌^◌, ◌++◌, IfOk, OnOk, length, map, option_to_list};
 ghost use Rattle.std.specs.List.{All, filter_map};
 ghost use Rattle.normal_form.specs.View.{alts_form, rule_form};
-ghost use Rattle.compat_table.specs.Rows.{IsRowOf, lone_symbol, lone_symbols};
-ghost use Rattle.compat_table.specs.View.{edges_of, symbols_of};
-ghost use Rattle.compat_table.specs.Table.{AreRowsOf, IsClosed, IsSortedRow};
+ghost use Rattle.compat_table.specs.inner.Rows.{IsRowOf, lone_symbol, lone_symbols};
+ghost use Rattle.compat_table.specs.inner.View.{edges_of, symbols_of};
+ghost use Rattle.compat_table.specs.inner.Table.{AreRowsOf, IsClosed, IsSortedRow};
 
 use crate::row::Row;
 use faults::Memory;

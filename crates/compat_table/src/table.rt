@@ -18,15 +18,15 @@ pub struct Compat {
 
 impl Model for Compat {
     ghost use Rattle.normal_form.specs.Form.{NormalForm};
-    ghost use Rattle.normal_form.specs.Code.{normal_coded};
+    ghost use Rattle.normal_form.specs.inner.Code.{normal_coded};
 
     ghost Value = { NormalForm };
 
     ghost coded = { normal_coded };
 
     ghost use Rattle.std.specs.Prelude.{map};
-    ghost use Rattle.compat_table.specs.Table.{AreRowsOf, edges_of_form};
-    ghost use Rattle.compat_table.specs.View.{symbols_of};
+    ghost use Rattle.compat_table.specs.inner.Table.{AreRowsOf, edges_of_form};
+    ghost use Rattle.compat_table.specs.inner.View.{symbols_of};
 
     ghost view = { λ c. c.normal };
 

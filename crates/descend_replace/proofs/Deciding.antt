@@ -7,7 +7,7 @@ use Rattle.std.specs.Option.{option_map_or}
 use Rattle.std.proofs.lemmas.Bool.{cases_eq, eqb-true}
 use Rattle.std.proofs.lemmas.Bool.Decides.{Decides-and, Decides-like, Decides-or}
 use Rattle.std.proofs.lemmas.Option.{none-some, slice_get_within}
-use Rattle.grammar_tree.proofs.Elements.{contains_cases, contains_first, contains_later, contains_none}
+use Rattle.grammar_tree.proofs.Lent.{contains_cases, contains_first, elements_contains_later as contains_later, contains_none}
 use Rattle.normal_form.specs.declared.normal.Sym.{Sym}
 use Rattle.normal_form.specs.declared.normal.Sym.TheVariants.{Kind, Set, Rule}
 use Rattle.normal_form.specs.Form.{RuleForm, NormalForm}

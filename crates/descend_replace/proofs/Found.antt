@@ -18,18 +18,11 @@ use Rattle.syntax_tree.specs.Numbered.{NumbersRise, number_of, roots, subtree}
 use Rattle.syntax_tree.specs.Valid.{slot_at}
 use Rattle.syntax_tree.specs.Nodes.{AreNodesOf, SyntaxTree, whole}
 use Rattle.syntax_tree.specs.Levels.{below_in_level_order}
-use Rattle.syntax_tree.proofs.Within.{found, within_from}
-use Rattle.syntax_tree.proofs.Finding.{deeper, is_found}
-use Rattle.syntax_tree.proofs.LevelOrder.{levels}
-use Rattle.syntax_tree.proofs.LeftTrees.{part}
-use Rattle.syntax_tree.proofs.NodeLists.{have_nodes, whole_rise}
+use Rattle.syntax_tree.proofs.Lent.{found, within_from, deeper, is_found, levels, part, have_nodes, whole_rise}
 use Rattle.syntax_tree_cut.specs.declared.mark.Mark.{Mark}
 use Rattle.syntax_tree_cut.specs.declared.mark.Mark.TheVariants.{Kept}
 use Rattle.syntax_tree_cut.specs.Cuts.{CutForm, IsCutOf, by_mark, cut_tree, left_among, left_at, left_of_each, mark_at}
-use Rattle.syntax_tree_cut.proofs.Rising.{Rises, rises_from, subtree_own, subtree_within}
-use Rattle.syntax_tree_cut.proofs.LeftTrees.{leaf_own, left_below, left_there, node_own, own_left}
-use Rattle.syntax_tree_cut.proofs.CutEdits.{some_is}
-use Rattle.syntax_tree_cut.proofs.CutFacts.{index_is, some_of}
+use Rattle.syntax_tree_cut.proofs.Lent.{Rises, rises_from, subtree_own, subtree_within, leaf_own, left_below, left_there, node_own, own_left, some_is, index_is, some_of}
 use Rattle.descend_replace.proofs.Queue.{HasNext, IsQueue, next_is_below, next_number, next_of, queue_goes_on}
 use Rattle.descend_replace.specs.Compatible.{DecidesFits, compatible, is_compatible}
 

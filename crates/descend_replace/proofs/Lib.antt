@@ -1,3 +1,4 @@
-pub mod Deciding
-pub mod Queue
-pub mod Found
+mod Deciding
+mod Queue
+mod Found
+pub mod Lent

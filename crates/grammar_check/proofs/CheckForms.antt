@@ -6,19 +6,18 @@ use Rattle.grammar_tree.specs.Faults as fault
 use Rattle.grammar_tree.specs.Faults.{IsWellFormed, NoStart, start_of}
 use Rattle.grammar_tree.specs.Kinds.{rule_name}
 use Rattle.grammar_tree.specs.Written.{WrittenRule, WrittenGrammar}
-use Rattle.grammar_tree.proofs.Counts.{start_is_found}
-use Rattle.grammar_tree.proofs.StartLaws.{there}
+use Rattle.grammar_tree.proofs.Lent.{start_is_found, there}
 use Rattle.grammar_check_cycles.specs.First.{Nowhere}
 use Rattle.grammar_check_faults.specs.Answer.{IsFirstNamed}
-use Rattle.grammar_check.specs.CheckFaults.{HasNoneBefore, HoldsAt, IsFirstInTable, IsNamedAt, row}
+use Rattle.grammar_check.specs.CheckFaults.{HoldsAt, IsFirstInTable, IsNamedAt, row}
+use Rattle.grammar_check.specs.inner.CheckFaults.{HasNoneBefore}
 use Rattle.grammar_check.specs.Laws.{NoFaultIsWellFormed, WellFormedHasNoFault}
 use Rattle.grammar_check_faults.specs.Twins.{IsTwinAt}
 use Rattle.grammar_check_faults.specs.Unknown.{IsFirstUnknown, IsUnknownAt}
 use Rattle.grammar_check.specs.declared.fault.CheckFault.{CheckFault}
 use Rattle.grammar_check.specs.declared.fault.CheckFault.TheVariants as variant
-use Rattle.grammar_check_faults.proofs.AnswerForms.{HasRules, baseless_are_rules, empty_loops_in_rules, eof_in_rules, loops_are_rules, recursive_are_rules, shorts_are_rules, tokens_are_rules}
+use Rattle.grammar_check_faults.proofs.Lent.{HasRules, baseless_are_rules, empty_loops_in_rules, eof_in_rules, loops_are_rules, recursive_are_rules, shorts_are_rules, tokens_are_rules, no_two}
 use Rattle.grammar_check.proofs.Table.{IsOfRow, first_at, first_named, none_at_all, passed}
-use Rattle.grammar_check_faults.proofs.Twins.{no_two}
 
 module _ (G : WrittenGrammar) (wanted : Option (List ℕ)) where
   rule_named : (o : Option WrittenRule) (name : List ℕ) → option_map rule_name o ≡ Some name → (rule : WrittenRule) × (o ≡ Some rule) × (rule_name rule ≡ name)

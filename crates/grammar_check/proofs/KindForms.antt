@@ -8,9 +8,9 @@ use Rattle.std.proofs.lemmas.List.Folds.{find_at}
 use Rattle.std.proofs.lemmas.Option.{none-some}
 use Rattle.grammar_tree.specs.Kinds.{all_references, as_literal, declared_kind, declared_names, distinct, implicit_kind, implicit_literals, is_named_by, kinds_of, makes_token, same_text, written_kinds}
 use Rattle.grammar_tree.specs.Written.{Source, TokenKind, WrittenRule, WrittenGrammar}
-use Rattle.grammar_tree.proofs.Elements.{found_none}
-use Rattle.grammar_check_faults.proofs.SeenForms.{seen}
-use Rattle.grammar_check.specs.Kinds.{absent, plain_kind, unless_seen}
+use Rattle.grammar_tree.proofs.Lent.{found_none}
+use Rattle.grammar_check_faults.proofs.Lent.{seen}
+use Rattle.grammar_check.specs.inner.Kinds.{absent, plain_kind, unless_seen}
 
 kept : (t u : List ℕ) (b : Bool) → filter (λ v. not (same_text t v)) (cond b [] (u ∷ [])) ≡ cond (same_text t u || b) [] (u ∷ [])
 kept t u true = by (same_text t u)

@@ -1,4 +1,5 @@
-pub mod KindForms
-pub mod Table
-pub mod CheckForms
-pub mod MessageForms
+mod KindForms
+mod Table
+mod CheckForms
+mod MessageForms
+pub mod Lent

@@ -1,7 +1,8 @@
 -- The texts of faults, by their parts.
 use Rattle.std.proofs.Common.{◌≡◌, ℕ, List, [], ◌∷◌, ◌++◌, codes, refl, append-nil}
 use Rattle.std.specs.Prelude.{encode_utf8_all}
-use Rattle.grammar_check.specs.Messages.{check_fault_text, no_start}
+use Rattle.grammar_check.specs.Messages.{check_fault_text}
+use Rattle.grammar_check.specs.inner.Messages.{no_start}
 use Rattle.grammar_check.specs.declared.fault.CheckFault.TheVariants.{NoStart}
 
 -- the text of a start rule that isn't there

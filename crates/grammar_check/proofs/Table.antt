@@ -6,7 +6,8 @@ use Rattle.grammar_tree.specs.Faults.{NoStart, used_name}
 use Rattle.grammar_tree.specs.Written.{WrittenGrammar}
 use Rattle.grammar_check_cycles.specs.First.{Nowhere}
 use Rattle.grammar_check_faults.specs.Answer.{IsFirstNamed}
-use Rattle.grammar_check.specs.CheckFaults.{HasNoneBefore, HoldsAt, IsFirstInTable, IsNamedAt, row}
+use Rattle.grammar_check.specs.CheckFaults.{HoldsAt, IsFirstInTable, IsNamedAt, row}
+use Rattle.grammar_check.specs.inner.CheckFaults.{HasNoneBefore}
 use Rattle.grammar_check.specs.Laws.{FirstFaultOnce}
 use Rattle.grammar_check.specs.declared.fault.CheckFault.{CheckFault}
 use Rattle.grammar_check.specs.declared.fault.CheckFault.TheVariants.{TwoRules, NoRule, NoStart as NoStartFault, EofPlace, FragmentLoop, ShortUse, EmptyToken, NoBase, EmptyLoop, LeftRecursion, TooManyRules as TooManyRulesFault, Memory}

@@ -4,10 +4,6 @@ use Rattle.grammar_check_lexer_rules.specs.Lexer.{is_nil}
 use Rattle.grammar_check.specs.declared.fault.CheckFault.{CheckFault}
 use Rattle.grammar_check.specs.declared.fault.CheckFault.TheVariants.{TwoRules, NoRule, NoStart, EofPlace, FragmentLoop, ShortUse, EmptyToken, NoBase, EmptyLoop, LeftRecursion, TooManyRules, Memory}
 
--- what is printed before the name of a start rule that isn't there
-abbrev pub no_start : List ℕ → List ℕ
-no_start name = if is_nil name then codes "no start" else codes "no start "
-
 abbrev pub check_fault_text : CheckFault → List ℕ
 check_fault_text (TwoRules name) = codes "two rules " ++ encode_utf8_all name
 check_fault_text (NoRule name) = codes "no rule " ++ encode_utf8_all name

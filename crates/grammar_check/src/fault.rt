@@ -1,7 +1,7 @@
 //! The faults of a grammar, and the texts that they print.
 
 ghost use Rattle.std.specs.Prelude.{◌≡◌};
-ghost use Rattle.grammar_check.specs.Messages.{no_start};
+ghost use Rattle.grammar_check.specs.inner.Messages.{no_start};
 
 use grammar_check_lexer_rules::is_empty_text;
 use grammar_tree::Text;

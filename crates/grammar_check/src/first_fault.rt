@@ -4,7 +4,7 @@ ghost use Rattle.std.specs.Prelude.{◌≡◌, ◌<◌, ◌^◌, List, Option, I
 ghost use Rattle.grammar_tree.specs.GrammarView.{grammar_of, kind_of};
 ghost use Rattle.grammar_tree.specs.Kinds.{kinds_of};
 ghost use Rattle.grammar_tree.specs.Size.{grammar_size};
-ghost use Rattle.grammar_check.specs.CheckFaults.{IsAnswer};
+ghost use Rattle.grammar_check.specs.inner.CheckFaults.{IsAnswer};
 
 use crate::fault::{Answer, CheckFault};
 use crate::lexer_fault::{LexerAnswer, lexer_fault};

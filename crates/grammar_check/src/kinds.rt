@@ -6,8 +6,8 @@ ghost use Rattle.grammar_tree.specs.GrammarView.{grammar_of, kind_of, rule_of, s
 ghost use Rattle.grammar_tree.specs.Kinds.{as_literal, declared_kind, declared_names, distinct, implicit_kind, implicit_literals, kinds_of, written_kinds};
 ghost use Rattle.grammar_tree.specs.View.{token_ref};
 ghost use Rattle.grammar_names.specs.Index.{Finds};
-ghost use Rattle.grammar_check_faults.specs.Seen.{seen_in};
-ghost use Rattle.grammar_check.specs.Kinds.{absent, plain_kind, unless_seen};
+ghost use Rattle.grammar_check_faults.specs.inner.Seen.{seen_in};
+ghost use Rattle.grammar_check.specs.inner.Kinds.{absent, plain_kind, unless_seen};
 
 use faults::Memory;
 use grammar_check_parser_rules::{Key, references_of, rules_by};

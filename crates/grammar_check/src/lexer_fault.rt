@@ -2,7 +2,7 @@
 
 ghost use Rattle.std.specs.Prelude.{◌≡◌, ℕ, ◌<◌, ◌^◌, List, Option, IfOk, length, map};
 ghost use Rattle.grammar_tree.specs.GrammarView.{grammar_of, rule_of};
-ghost use Rattle.grammar_check.specs.CheckFaults.{HasNoneBefore, IsFirstBefore, IsLexerAnswer};
+ghost use Rattle.grammar_check.specs.inner.CheckFaults.{HasNoneBefore, IsFirstBefore, IsLexerAnswer};
 ghost use Rattle.grammar_check_lexer_rules.specs.Lexer.{OneRule};
 ghost use Rattle.grammar_check_faults.specs.LexerFaults.{AreEdgesOf};
 

@@ -1,2 +1,3 @@
-pub mod Searching
-pub mod Walking
+mod Searching
+mod Walking
+pub mod Lent

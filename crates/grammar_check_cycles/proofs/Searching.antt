@@ -7,7 +7,8 @@ use Rattle.std.proofs.lemmas.List.{length-append, length-map, get_or_default}
 use Rattle.std.proofs.lemmas.List.Elements.{All-contains, All-same, Contains-get_or, Contains-append_left, Contains-append_right, Contains-append_cases}
 use Rattle.std.proofs.lemmas.Option.{same_Some, slice_get_within}
 use Rattle.std.proofs.Math.ListN.{get_or-append, get_or-eq_default}
-use Rattle.grammar_check_cycles.specs.Graph.{AreFound, AreTargets, HasEdge, IsClosed, IsOnCycle, IsSearched, NeverRises, Reaches, is_among, with_new, with_row}
+use Rattle.grammar_check_cycles.specs.Graph.{AreTargets, HasEdge, IsClosed, IsOnCycle, Reaches}
+use Rattle.grammar_check_cycles.specs.inner.Graph.{AreFound, IsSearched, NeverRises, is_among, with_new, with_row}
 
 one_contains : (j x : ℕ) → Contains (j ∷ []) x → j ≡ x
 one_contains j x (zero, lt, e) = e

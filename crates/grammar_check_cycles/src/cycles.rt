@@ -3,7 +3,8 @@
 ghost use Rattle.std.specs.Prelude.{◌≡◌, ℕ, ◌<◌, ◌^◌, ◌↔◌, List, IfOk, OnOk, IsTrue, false, length, map, slice_index, slice_index_or, true, vec_len};
 ghost use Rattle.std.specs.List.{All, Contains};
 ghost use Rattle.grammar_check_cycles.specs.First.{IsFirstOrNone};
-ghost use Rattle.grammar_check_cycles.specs.Graph.{IsClosed, IsOnCycle, NeverRises, Reaches};
+ghost use Rattle.grammar_check_cycles.specs.Graph.{IsClosed, IsOnCycle, Reaches};
+ghost use Rattle.grammar_check_cycles.specs.inner.Graph.{NeverRises};
 
 use crate::graph::{Search, Walk, callees_first, size_of};
 use faults::Memory;

@@ -2,7 +2,8 @@
 
 ghost use Rattle.std.specs.Prelude.{◌≡◌, ℕ, ◌+◌, ◌<◌, ◌^◌, List, [], IfOk, OnOk, count_by, length, map, not, slice_index_or, vec_len, false};
 ghost use Rattle.std.specs.List.{All};
-ghost use Rattle.grammar_check_cycles.specs.Graph.{AreTargets, IsClosed, is_among, with_row};
+ghost use Rattle.grammar_check_cycles.specs.Graph.{AreTargets, IsClosed};
+ghost use Rattle.grammar_check_cycles.specs.inner.Graph.{is_among, with_row};
 
 use faults::Memory;
 use std::alloc::Global;

@@ -13,14 +13,12 @@ use Rattle.grammar_tree.specs.Written.{Reference, WrittenTerm, WrittenRule, Writ
 use Rattle.grammar_tree.specs.declared.parser_term.ParserAlts.{ParserAlts, out-ParserAlts}
 use Rattle.grammar_tree.specs.declared.parser_term.ParserTerm.{ParserTerm}
 use Rattle.grammar_tree.specs.declared.parser_term.ParserTerms.{ParserTerms, out-ParserTerms}
-use Rattle.grammar_tree.proofs.Elements.{contains_cases, contains_filter_map, contains_first, contains_later, contains_none}
-use Rattle.grammar_check_faults.specs.Eof.{is_misplaced_rule, is_misplaced_term}
-use Rattle.grammar_check_faults.specs.Seen.{seen_in}
-use Rattle.grammar_check_parser_rules.proofs.CornerForms.{drop_at, drop_end}
-use Rattle.grammar_check_parser_rules.proofs.EmptyRules.{and_both, from_both, from_first, from_second, or_one}
+use Rattle.grammar_tree.proofs.Lent.{contains_cases, contains_filter_map, contains_first, elements_contains_later as contains_later, contains_none}
+use Rattle.grammar_check_faults.specs.inner.Eof.{is_misplaced_rule, is_misplaced_term}
+use Rattle.grammar_check_faults.specs.inner.Seen.{seen_in}
+use Rattle.grammar_check_parser_rules.proofs.Lent.{drop_at, drop_end, and_both, from_both, from_first, from_second, or_one, alts_view, seq_view}
 use Rattle.grammar_check_faults.proofs.SeenForms.{was_seen}
-use Rattle.grammar_check_lexer_rules.proofs.LexerEdges.{from_filter_map}
-use Rattle.grammar_check_parser_rules.proofs.Traversed.{alts_view, seq_view}
+use Rattle.grammar_check_lexer_rules.proofs.Lent.{from_filter_map}
 
 eof_terms : (ts : List ParserTerm) → seq_has_eof (written_seq (map parser_term ts)) ≡ list_any (λ t. has_eof (parser_term t)) ts
 eof_terms [] = refl

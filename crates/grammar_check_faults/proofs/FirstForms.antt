@@ -8,9 +8,9 @@ use Rattle.grammar_check_tables.specs.Flags.{flag}
 use Rattle.grammar_check_parser_rules.specs.Empty.{AreEmptyRules, alts_is_empty}
 use Rattle.grammar_check_cycles.specs.First.{IsFirstOrNone, Nowhere}
 use Rattle.grammar_check_parser_rules.specs.Loops.{alts_has_loop}
-use Rattle.grammar_check_faults.specs.ParserFaults.{HasLoopAt, HasNoBaseAt}
+use Rattle.grammar_check_faults.specs.inner.ParserFaults.{HasLoopAt, HasNoBaseAt}
 use Rattle.grammar_check_recursion.specs.Recursion.{has_alternative}
-use Rattle.grammar_check_parser_rules.proofs.CornerFacts.{alts_empty_of, alts_is_empty_of, loop_alts, looped_alts}
+use Rattle.grammar_check_parser_rules.proofs.Lent.{alts_empty_of, alts_is_empty_of, loop_alts, looped_alts}
 
 module _ (P : ℕ → Type 0) where
   pub not_here : (i : ℕ) → ((r : ℕ) → r < i → ¬ P r) → ¬ P i → (r : ℕ) → r < i + 1 → ¬ P r

@@ -9,9 +9,11 @@ use Rattle.grammar_tree.specs.Kinds.{parser_rules}
 use Rattle.grammar_tree.specs.Faults.{LeftRecursion, NoBase, number_at}
 use Rattle.grammar_tree.specs.Written.{ParserRule, WrittenRule, WrittenGrammar}
 use Rattle.grammar_check_cycles.specs.First.{IsFirst, IsFirstOrNone, Nowhere}
-use Rattle.grammar_tree.proofs.Places.{numbers}
-use Rattle.grammar_check_faults.specs.ParserFaults.{HasLoopAt, HasNoBaseAt, LeadsBackAt, ParserLoopAt}
-use Rattle.grammar_check_faults.specs.ParserIndices.{earlier_index, index_at, indices_from}
+use Rattle.grammar_tree.proofs.Lent.{numbers}
+use Rattle.grammar_check_faults.specs.ParserFaults.{ParserLoopAt}
+use Rattle.grammar_check_faults.specs.inner.ParserFaults.{HasLoopAt, HasNoBaseAt, LeadsBackAt}
+use Rattle.grammar_check_faults.specs.ParserIndices.{indices_from}
+use Rattle.grammar_check_faults.specs.inner.ParserIndices.{earlier_index, index_at}
 
 pub indices_append : (from : ℕ) (xs ys : List WrittenRule) → indices_from from (xs ++ ys) ≡ indices_from from xs ++ indices_from (length xs + from) ys
 indices_append from [] ys = ap (λ n. indices_from n ys) (omega arith)

@@ -9,16 +9,14 @@ use Rattle.grammar_tree.specs.Kinds.{lexer_rules}
 use Rattle.grammar_tree.specs.Matches.{MatchesAlts, MatchesRule}
 use Rattle.grammar_tree.specs.Written.{LexerAlts, LexerRule, WrittenRule, WrittenGrammar}
 use Rattle.grammar_tree.specs.declared.rule.Rule.{Rule}
-use Rattle.grammar_tree.proofs.MatchForms.{greedily}
+use Rattle.grammar_tree.proofs.Lent.{greedily, at_of_contains, lexer_place as index_of_rule}
 use Rattle.grammar_check_tables.specs.Flags.{flag}
-use Rattle.grammar_tree.proofs.Places.{at_of_contains, lexer_place as index_of_rule}
 use Rattle.grammar_check_cycles.specs.First.{Nowhere}
 use Rattle.grammar_check_cycles.specs.Graph.{AreTargets}
 use Rattle.grammar_check_lexer_rules.specs.Lexer.{AreEmptyLexerRules, OneRule, lexer_index, lexer_edges}
-use Rattle.grammar_check_faults.specs.LexerFaults.{is_empty_token, is_looping_rule, is_short_rule}
-use Rattle.grammar_check_parser_rules.proofs.EmptyRules.{and_both, nil_parts}
-use Rattle.grammar_check_lexer_rules.proofs.LexerFacts.{loop_alts, looped_alts}
-use Rattle.grammar_check_lexer_rules.proofs.LexerEdges.{edge_of_use, edge_uses, use_of_edge}
+use Rattle.grammar_check_faults.specs.inner.LexerFaults.{is_empty_token, is_looping_rule, is_short_rule}
+use Rattle.grammar_check_parser_rules.proofs.Lent.{and_both, nil_parts}
+use Rattle.grammar_check_lexer_rules.proofs.Lent.{loop_alts, looped_alts, edge_of_use, edge_uses, use_of_edge}
 
 -- the rule at an index, as it was read
 pub rule_at : (rules : List Rule) (i : ℕ) (rule : Rule) → i < length rules → rule ≡ slice_index_or rules i rule → slice_get (map rule_of rules) i ≡ Some (rule_of rule)

@@ -1,11 +1,12 @@
-pub mod SeenForms
-pub mod FirstForms
-pub mod LexerChecks
-pub mod FoundFirst
-pub mod Twins
-pub mod EofForms
-pub mod FindForms
-pub mod IndexForms
-pub mod UnknownForms
-pub mod AnswerForms
-pub mod StartForms
+mod SeenForms
+mod FirstForms
+mod LexerChecks
+mod FoundFirst
+mod Twins
+mod EofForms
+mod FindForms
+mod IndexForms
+mod UnknownForms
+mod AnswerForms
+mod StartForms
+pub mod Lent

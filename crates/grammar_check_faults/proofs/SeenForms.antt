@@ -6,7 +6,7 @@ use Rattle.std.proofs.lemmas.List.Folds.{list_any-append}
 use Rattle.std.proofs.lemmas.Slice.Eq.{bytes_eq-Decides}
 use Rattle.grammar_tree.specs.Kinds.{same_text}
 use Rattle.grammar_names.specs.Index.{or_added}
-use Rattle.grammar_check_faults.specs.Seen.{seen_in}
+use Rattle.grammar_check_faults.specs.inner.Seen.{seen_in}
 
 abbrev pub seen : List (List ℕ) → List ℕ → Bool
 seen texts t = list_any (λ u. same_text u t) texts

@@ -3,7 +3,7 @@ use Rattle.std.proofs.Common.{◌≡◌, ℕ, List, [], Some, None}
 use Rattle.grammar_tree.specs.Faults.{NoStart, start_of}
 use Rattle.grammar_tree.specs.Kinds.{parser_rules}
 use Rattle.grammar_tree.specs.Written.{WrittenGrammar}
-use Rattle.grammar_tree.proofs.Counts.{start_is_found}
+use Rattle.grammar_tree.proofs.Lent.{start_is_found}
 
 module _ (G : WrittenGrammar) where
   no_rules : (name : List ℕ) → NoStart G None name → parser_rules G.rules ≡ []

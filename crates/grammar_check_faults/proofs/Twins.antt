@@ -10,13 +10,13 @@ use Rattle.std.proofs.lemmas.Slice.Eq.{bytes_eq-Decides}
 use Rattle.grammar_tree.specs.Faults.{TwoRules}
 use Rattle.grammar_tree.specs.Kinds.{rule_name, same_text}
 use Rattle.grammar_tree.specs.Written.{WrittenAlts, WrittenRule, WrittenGrammar}
-use Rattle.grammar_tree.proofs.Places.{contains_at, one_name, passes_twice}
-use Rattle.grammar_tree.proofs.Names.{some_position}
+use Rattle.grammar_tree.proofs.Lent.{contains_at, one_name, passes_twice, some_position}
 use Rattle.grammar_check_parser_rules.specs.Rules.{has_key}
 use Rattle.grammar_check_parser_rules.specs.declared.rules.Key.TheVariants.{Name}
 use Rattle.grammar_check_cycles.specs.First.{IsFirst, Nowhere}
 use Rattle.grammar_check_lexer_rules.specs.Lexer.{OneRule}
-use Rattle.grammar_check_faults.specs.Twins.{AreFirstSoFar, IsEarliest, IsTwinAt}
+use Rattle.grammar_check_faults.specs.Twins.{IsTwinAt}
+use Rattle.grammar_check_faults.specs.inner.Twins.{AreFirstSoFar, IsEarliest}
 
 module _ {X : Type 0} (p : X → Bool) where
   some_passes : (xs : List X) → 1 ≤ count_by p xs → (i : ℕ) × (x : X) × (slice_get xs i ≡ Some x) × (p x ≡ true)

@@ -9,16 +9,13 @@ use Rattle.std.proofs.lemmas.Slice.Eq.{bytes_eq-Decides}
 use Rattle.grammar_tree.specs.Faults.{IsUnknown, NameUse, NamesNothing, name_uses, used_name}
 use Rattle.grammar_tree.specs.Kinds.{declared_kind, declared_names, distinct, has_name, implicit_kind, implicit_literals, kinds_of, lexer_rules, makes_token, name_kind, parser_rules, rule_number, same_text, written_kinds}
 use Rattle.grammar_tree.specs.Written.{ParserRule, LexerRule, WrittenRule, WrittenGrammar, Source, TokenKind}
-use Rattle.grammar_tree.proofs.Counts.{kind_cases, kinds_are_rules}
-use Rattle.grammar_tree.proofs.Elements.{contains_cases, contains_filter, contains_first, contains_later, contains_map, contains_none, filtered, mapped}
-use Rattle.grammar_tree.proofs.Names.{some_position}
-use Rattle.grammar_tree.proofs.Places.{contains_at, lexer_places, numbers}
-use Rattle.grammar_tree.proofs.Resolved.{names_nothing}
+use Rattle.grammar_tree.proofs.Lent.{kind_cases, kinds_are_rules, contains_cases, contains_filter, contains_first, elements_contains_later as contains_later, contains_map, contains_none, filtered, mapped, some_position, contains_at, lexer_places, numbers, names_nothing}
 use Rattle.grammar_check_lexer_rules.specs.Lexer.{lexer_index}
 use Rattle.grammar_check_parser_rules.specs.Rules.{has_key}
 use Rattle.grammar_check_parser_rules.specs.declared.rules.Key.TheVariants.{LexerName}
-use Rattle.grammar_check_faults.specs.Unknown.{IsFirstUnknown, is_unknown}
-use Rattle.grammar_check_lexer_rules.proofs.LexerFacts.{contains_rule, rule_of_index}
+use Rattle.grammar_check_faults.specs.Unknown.{IsFirstUnknown}
+use Rattle.grammar_check_faults.specs.inner.Unknown.{is_unknown}
+use Rattle.grammar_check_lexer_rules.proofs.Lent.{contains_rule, rule_of_index}
 
 distinct_are : (ts : List (List ℕ)) (t : List ℕ) → Contains (distinct ts) t → Contains ts t
 distinct_are [] t c = absurd (contains_none t c)

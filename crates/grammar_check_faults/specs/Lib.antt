@@ -5,8 +5,7 @@ pub use Rattle.grammar_check_lexer_rules.specs.Lexer
 pub mod ParserFaults
 pub mod LexerFaults
 pub mod Twins
-pub mod Eof
 pub mod Unknown
 pub mod ParserIndices
 pub mod Answer
-pub mod Seen
+pub mod inner

@@ -8,9 +8,9 @@ ghost use Rattle.grammar_tree.specs.Kinds.{as_name};
 ghost use Rattle.grammar_tree.specs.View.{parser_alts, parser_term, parser_terms, token_ref};
 ghost use Rattle.grammar_tree.specs.Written.{written_alts, written_seq};
 ghost use Rattle.grammar_names.specs.Index.{Finds};
-ghost use Rattle.grammar_check_faults.specs.Eof.{is_misplaced_rule, is_misplaced_term};
+ghost use Rattle.grammar_check_faults.specs.inner.Eof.{is_misplaced_rule, is_misplaced_term};
 ghost use Rattle.grammar_check_cycles.specs.First.{IsFirstOrNone};
-ghost use Rattle.grammar_check_faults.specs.Seen.{seen_in};
+ghost use Rattle.grammar_check_faults.specs.inner.Seen.{seen_in};
 
 use crate::rule_checks::name_of;
 use faults::Memory;

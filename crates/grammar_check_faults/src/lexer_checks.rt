@@ -6,7 +6,8 @@ ghost use Rattle.grammar_tree.specs.GrammarView.{grammar_of, rule_of};
 ghost use Rattle.grammar_check_tables.specs.Flags.{flag};
 ghost use Rattle.grammar_check_cycles.specs.First.{IsFirstOrNone};
 ghost use Rattle.grammar_check_lexer_rules.specs.Lexer.{AreEmptyLexerRules, OneRule, lexer_index};
-ghost use Rattle.grammar_check_faults.specs.LexerFaults.{LexerLoopAt, is_empty_token, is_looping_rule};
+ghost use Rattle.grammar_check_faults.specs.LexerFaults.{LexerLoopAt};
+ghost use Rattle.grammar_check_faults.specs.inner.LexerFaults.{is_empty_token, is_looping_rule};
 
 use grammar_check_lexer_rules::{LexerNames, lexer_alts_have_empty_loop};
 use grammar_check_tables::is_flagged;

@@ -5,7 +5,7 @@ ghost use Rattle.grammar_tree.specs.Derives.{bodies};
 ghost use Rattle.grammar_tree.specs.View.{parser_alts};
 ghost use Rattle.grammar_check_parser_rules.specs.Empty.{AreBodies, AreEmptyRules};
 ghost use Rattle.grammar_check_cycles.specs.First.{IsFirstOrNone};
-ghost use Rattle.grammar_check_faults.specs.ParserFaults.{HasLoopAt, HasNoBaseAt, LeadsBackAt};
+ghost use Rattle.grammar_check_faults.specs.inner.ParserFaults.{HasLoopAt, HasNoBaseAt, LeadsBackAt};
 
 use faults::Memory;
 use grammar_check_cycles::first_on_cycle;

@@ -9,7 +9,8 @@ ghost use Rattle.grammar_check_parser_rules.specs.Empty.{AreBodies, AreEmptyRule
 ghost use Rattle.grammar_check_cycles.specs.First.{IsFirstOrNone};
 ghost use Rattle.grammar_check_faults.specs.LexerFaults.{LexerLoopAt};
 ghost use Rattle.grammar_check_faults.specs.ParserFaults.{ParserLoopAt};
-ghost use Rattle.grammar_check_faults.specs.ParserIndices.{earlier_index, index_at, indices_from};
+ghost use Rattle.grammar_check_faults.specs.ParserIndices.{indices_from};
+ghost use Rattle.grammar_check_faults.specs.inner.ParserIndices.{earlier_index, index_at};
 
 use crate::parser_checks::{first_left_recursive, first_with_loop, first_without_base};
 use faults::Memory;

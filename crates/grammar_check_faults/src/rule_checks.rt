@@ -7,8 +7,10 @@ ghost use Rattle.grammar_tree.specs.GrammarView.{grammar_of, rule_of};
 ghost use Rattle.grammar_tree.specs.Kinds.{rule_name};
 ghost use Rattle.grammar_names.specs.Index.{Finds};
 ghost use Rattle.grammar_check_cycles.specs.First.{IsFirstOrNone, Nowhere};
-ghost use Rattle.grammar_check_faults.specs.LexerFaults.{AreEdgesOf, is_short_rule};
-ghost use Rattle.grammar_check_faults.specs.Twins.{IsEarliest, IsTwinAt};
+ghost use Rattle.grammar_check_faults.specs.LexerFaults.{AreEdgesOf};
+ghost use Rattle.grammar_check_faults.specs.inner.LexerFaults.{is_short_rule};
+ghost use Rattle.grammar_check_faults.specs.Twins.{IsTwinAt};
+ghost use Rattle.grammar_check_faults.specs.inner.Twins.{IsEarliest};
 
 use faults::Memory;
 use grammar_check_cycles::targets;

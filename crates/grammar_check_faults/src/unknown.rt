@@ -6,7 +6,8 @@ ghost use Rattle.grammar_tree.specs.Faults.{NameUse, rule_uses, used_name};
 ghost use Rattle.grammar_tree.specs.GrammarView.{rule_of};
 ghost use Rattle.grammar_tree.specs.Kinds.{as_name};
 ghost use Rattle.grammar_tree.specs.View.{token_ref};
-ghost use Rattle.grammar_check_faults.specs.Unknown.{IsFirstUnknown, is_unknown};
+ghost use Rattle.grammar_check_faults.specs.Unknown.{IsFirstUnknown};
+ghost use Rattle.grammar_check_faults.specs.inner.Unknown.{is_unknown};
 
 use faults::Memory;
 use grammar_check_lexer_rules::{LexerNames, add_names};

@@ -1,3 +1,4 @@
-pub mod LexerForms
-pub mod LexerFacts
-pub mod LexerEdges
+mod LexerForms
+mod LexerFacts
+mod LexerEdges
+pub mod Lent

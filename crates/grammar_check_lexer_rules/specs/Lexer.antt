@@ -58,14 +58,6 @@ abbrev mutual
   lexer_alts_have_loop f e LexerAlts.none = false
   lexer_alts_have_loop f e (LexerAlts.or s a) = lexer_seq_has_loop f e s || lexer_alts_have_loop f e a
 
--- whether the rule matches the empty text, where a table says which rules do; no parser rule does
-abbrev pub rule_is_empty : (List ℕ → Option ℕ) → (ℕ → Bool) → WrittenRule → Bool
-rule_is_empty f e (WrittenRule.parser_rule r) = false
-rule_is_empty f e (WrittenRule.lexer_rule r) = lexer_alts_are_empty f e r.alts
-
-abbrev pub lexer_rule_is_empty : List WrittenRule → List Bool → ℕ → Bool
-lexer_rule_is_empty rules flags i = option_map_or (rule_is_empty (lexer_index rules) (flag flags)) (slice_get rules i) false
-
 -- The table says exactly which lexer rules have alternatives that match the empty text.
 abbrev pub AreEmptyLexerRules : List WrittenRule → List Bool → Type 0
 AreEmptyLexerRules rules flags = (i : ℕ) (rule : LexerRule) → slice_get rules i ≡ Some (WrittenRule.lexer_rule rule) →

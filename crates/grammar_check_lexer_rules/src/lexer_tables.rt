@@ -77,7 +77,7 @@ fn condition<'t>(term: &'t LexTerm, names: &LexerNames) -> Condition<'t, LexTerm
 impl<'a> Test for LexerNames<'a> {
     ghost use Rattle.std.specs.Prelude.{length, map};
     ghost use Rattle.grammar_tree.specs.GrammarView.{rule_of};
-    ghost use Rattle.grammar_check_lexer_rules.specs.Lexer.{lexer_rule_is_empty};
+    ghost use Rattle.grammar_check_lexer_rules.specs.inner.Lexer.{lexer_rule_is_empty};
 
     type Alternative = LexTerms;
 

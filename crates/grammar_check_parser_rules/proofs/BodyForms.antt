@@ -10,9 +10,9 @@ use Rattle.grammar_tree.specs.Size.{alts_size, grammar_size, rule_size}
 use Rattle.grammar_tree.specs.View.{parser_alts}
 use Rattle.grammar_tree.specs.Written.{ParserRule, WrittenTerm, WrittenRule, WrittenGrammar, written_alts}
 use Rattle.grammar_tree.specs.declared.parser_term.ParserAlts.{ParserAlts}
-use Rattle.grammar_tree.proofs.Counts.{counts_fit}
+use Rattle.grammar_tree.proofs.Lent.{counts_fit}
 use Rattle.grammar_check_parser_rules.specs.Empty.{AreBodies}
-use Rattle.grammar_check_parser_rules.specs.Rules.{body_of}
+use Rattle.grammar_check_parser_rules.specs.inner.Rules.{body_of}
 
 module _ (G : WrittenGrammar) (found : List (Bor ParserAlts)) (is : map (λ (a : Bor ParserAlts). written_alts (parser_alts a.now)) found ≡ filter_map body_of G.rules) where
   resolved_are : (rs : List WrittenRule) → map (λ (r : ParserRule). resolved_alts G r.alts) (parser_rules rs) ≡ map (resolved_alts G) (filter_map body_of rs)

@@ -9,8 +9,7 @@ use Rattle.grammar_tree.specs.Corners.{and_base, and_rest, bases, rest_of, rests
 use Rattle.grammar_tree.specs.Derives.{Term, Seq, Alts, bodies, name_term, resolved, resolved_alts, resolved_seq}
 use Rattle.grammar_tree.specs.Kinds.{name_kind, parser_rules, rule_number}
 use Rattle.grammar_tree.specs.Written.{ParserRule, WrittenTerm, WrittenSeq, WrittenAlts, WrittenGrammar}
-use Rattle.grammar_tree.proofs.LeftRecursion.{leads as front}
-use Rattle.grammar_tree.proofs.Places.{numbers}
+use Rattle.grammar_tree.proofs.Lent.{leads as front, numbers}
 use Rattle.grammar_check_parser_rules.specs.Corners.{AreCornerEdges, alts_corners, corners, rule_corners, seq_corners}
 use Rattle.grammar_check_tables.specs.Flags.{flag}
 use Rattle.grammar_check_parser_rules.specs.Empty.{AreEmptyRules, alts_is_empty, is_empty}

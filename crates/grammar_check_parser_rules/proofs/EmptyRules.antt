@@ -6,7 +6,8 @@ use Rattle.std.proofs.lemmas.Option.{same_Some, slice_get-map, slice_get_within}
 use Rattle.grammar_tree.specs.Written.{WrittenTerm, WrittenGrammar, written_alts}
 use Rattle.grammar_tree.specs.Derives.{Term, Seq, Alts, Derives, DerivesMany, DerivesSeq, DerivesAlts, bodies, resolved_alts}
 use Rattle.grammar_check_tables.specs.Flags.{flag}
-use Rattle.grammar_check_parser_rules.specs.Empty.{AreBodies, AreEmptyRules, alts_is_empty, body_is_empty, is_empty, seq_is_empty}
+use Rattle.grammar_check_parser_rules.specs.Empty.{AreBodies, AreEmptyRules, alts_is_empty, is_empty, seq_is_empty}
+use Rattle.grammar_check_parser_rules.specs.inner.Empty.{body_is_empty}
 use Rattle.grammar_check_tables.specs.Marking.{IsClosedAt, IsMarked}
 
 pub and_both : (b c : Bool) → (b && c) ≡ true → (b ≡ true) × (c ≡ true)

@@ -1,11 +1,12 @@
-pub mod Traversed
-pub mod EmptyForms
-pub mod EmptyRules
-pub mod LoopForms
-pub mod CornerForms
-pub mod RecursionForms
-pub mod CornerFacts
-pub mod ReferenceForms
-pub mod CornerEdges
-pub mod CountForms
-pub mod BodyForms
+mod Traversed
+mod EmptyForms
+mod EmptyRules
+mod LoopForms
+mod CornerForms
+mod RecursionForms
+mod CornerFacts
+mod ReferenceForms
+mod CornerEdges
+mod CountForms
+mod BodyForms
+pub mod Lent

@@ -11,7 +11,7 @@ use Rattle.grammar_tree.specs.declared.parser_term.ParserTerm.{ParserTerm}
 use Rattle.grammar_tree.specs.declared.parser_term.ParserTerms.{ParserTerms, out-ParserTerms}
 use Rattle.grammar_check_parser_rules.specs.Corners.{alts_corners, seq_corners}
 use Rattle.grammar_check_parser_rules.specs.Empty.{alts_is_empty, is_empty, seq_is_empty}
-use Rattle.grammar_check_parser_rules.specs.Recursion.{is_empty_base}
+use Rattle.grammar_check_parser_rules.specs.inner.Recursion.{is_empty_base}
 use Rattle.grammar_check_parser_rules.proofs.CornerForms.{drop_at, drop_end}
 use Rattle.grammar_check_parser_rules.proofs.Traversed.{alts_view, seq_view}
 

@@ -9,7 +9,7 @@ use Rattle.grammar_tree.specs.declared.parser_term.ParserAlts.{ParserAlts, out-P
 use Rattle.grammar_tree.specs.declared.parser_term.ParserTerm.{ParserTerm}
 use Rattle.grammar_tree.specs.declared.parser_term.ParserTerms.{ParserTerms, out-ParserTerms}
 use Rattle.grammar_tree.specs.declared.rule.Rule.{Rule}
-use Rattle.grammar_check_parser_rules.specs.Rules.{rule_references}
+use Rattle.grammar_check_parser_rules.specs.inner.Rules.{rule_references}
 use Rattle.grammar_check_parser_rules.proofs.Traversed.{alts_view, seq_view}
 
 by_terms : (ts : List ParserTerm) → seq_references (written_seq (map parser_term ts)) ≡ flat_map (λ t. term_references (parser_term t)) ts

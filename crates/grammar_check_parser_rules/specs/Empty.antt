@@ -1,6 +1,5 @@
 -- Which terms can be empty, where it is known which rules can be.
-use Rattle.std.specs.Prelude.{◌≡◌, ℕ, Bool, true, false, ◌&&◌, ◌||◌, List, [], map, slice_get}
-use Rattle.std.specs.Option.{option_map_or}
+use Rattle.std.specs.Prelude.{◌≡◌, ℕ, Bool, true, false, ◌&&◌, ◌||◌, List, [], map}
 use Rattle.grammar_tree.specs.Written.{WrittenTerm, WrittenGrammar, written_alts}
 use Rattle.grammar_tree.specs.Derives.{Term, Seq, Alts, Derives, bodies, resolved_alts}
 use Rattle.grammar_check_tables.specs.Flags.{flag}
@@ -24,10 +23,6 @@ abbrev mutual
   pub alts_is_empty : (ℕ → Bool) → Alts → Bool
   alts_is_empty e Alts.none = false
   alts_is_empty e (Alts.or s a) = seq_is_empty e s || alts_is_empty e a
-
--- whether the alternatives of the rule with this number can be empty, where a table says which rules can; false past the last rule
-abbrev pub body_is_empty : WrittenGrammar → List (List (List WrittenTerm)) → List Bool → ℕ → Bool
-body_is_empty G alts flags r = option_map_or (λ a. alts_is_empty (flag flags) (resolved_alts G (written_alts a))) (slice_get alts r) false
 
 -- The table says exactly which rules derive the empty list.
 abbrev pub AreEmptyRules : List Alts → List Bool → Type 0

@@ -3,5 +3,5 @@ pub use Rattle.grammar_check_tables.specs.Flags
 pub mod Empty
 pub mod Loops
 pub mod Corners
-pub mod Recursion
 pub mod Rules
+pub mod inner

@@ -7,7 +7,7 @@ ghost use Rattle.grammar_tree.specs.View.{parser_alts};
 ghost use Rattle.grammar_tree.specs.Written.{written_alts};
 ghost use Rattle.grammar_tree.specs.Size.{alts_size, grammar_size};
 ghost use Rattle.grammar_check_parser_rules.specs.Empty.{AreBodies};
-ghost use Rattle.grammar_check_parser_rules.specs.Rules.{body_of};
+ghost use Rattle.grammar_check_parser_rules.specs.inner.Rules.{body_of};
 
 use faults::Memory;
 use grammar_names::Names;

@@ -33,7 +33,7 @@ struct Bodies<'a, 'n> {
 impl<'a, 'n> Test for Bodies<'a, 'n> {
     ghost use Rattle.std.specs.Prelude.{length, map};
     ghost use Rattle.grammar_tree.specs.View.{parser_alts};
-    ghost use Rattle.grammar_check_parser_rules.specs.Empty.{body_is_empty};
+    ghost use Rattle.grammar_check_parser_rules.specs.inner.Empty.{body_is_empty};
 
     type Alternative = ParserTerms;
 

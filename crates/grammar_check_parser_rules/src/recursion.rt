@@ -9,7 +9,7 @@ ghost use Rattle.grammar_tree.specs.Written.{written_alts, written_seq};
 ghost use Rattle.grammar_check_parser_rules.specs.Corners.{AreCornerEdges, alts_corners, rule_corners};
 ghost use Rattle.grammar_check_tables.specs.Flags.{flag};
 ghost use Rattle.grammar_check_parser_rules.specs.Empty.{AreBodies, alts_is_empty, is_empty, seq_is_empty};
-ghost use Rattle.grammar_check_parser_rules.specs.Recursion.{is_empty_base};
+ghost use Rattle.grammar_check_parser_rules.specs.inner.Recursion.{is_empty_base};
 
 use crate::corners::add_seq_corners;
 use crate::empty::{seq_can_be_empty, term_can_be_empty};

@@ -5,7 +5,7 @@ ghost use Rattle.grammar_tree.specs.GrammarView.{rule_of};
 ghost use Rattle.grammar_tree.specs.Kinds.{all_references, references, seq_references, term_references};
 ghost use Rattle.grammar_tree.specs.View.{parser_alts, parser_term, parser_terms, token_ref};
 ghost use Rattle.grammar_tree.specs.Written.{Reference, written_alts, written_seq};
-ghost use Rattle.grammar_check_parser_rules.specs.Rules.{rule_references};
+ghost use Rattle.grammar_check_parser_rules.specs.inner.Rules.{rule_references};
 
 use faults::Memory;
 use grammar_tree::{ParserAlts, ParserTerm, ParserTerms, Rule, Text, TokenRef, TokenRefs};

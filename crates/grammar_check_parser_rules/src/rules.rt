@@ -4,7 +4,8 @@ ghost use Rattle.std.specs.Prelude.{◌≡◌, ℕ, ◌<◌, ◌^◌, List, IfOk
 ghost use Rattle.std.specs.Option.{option_map_or};
 ghost use Rattle.grammar_tree.specs.GrammarView.{rule_of};
 ghost use Rattle.grammar_tree.specs.Kinds.{same_text};
-ghost use Rattle.grammar_names.specs.Index.{Finds, IsAdded};
+ghost use Rattle.grammar_names.specs.Index.{Finds};
+ghost use Rattle.grammar_names.specs.inner.Index.{IsAdded};
 ghost use Rattle.grammar_check_parser_rules.specs.Rules.{has_key};
 
 use faults::Memory;

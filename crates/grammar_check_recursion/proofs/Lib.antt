@@ -1,2 +1,3 @@
-pub mod Resolving
-pub mod Counted
+mod Resolving
+mod Counted
+pub mod Lent

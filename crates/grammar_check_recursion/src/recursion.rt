@@ -5,7 +5,8 @@ ghost use Rattle.grammar_tree.specs.Corners.{bases, rest_of, rests};
 ghost use Rattle.grammar_tree.specs.Derives.{resolved, resolved_alts, resolved_seq};
 ghost use Rattle.grammar_tree.specs.View.{parser_alts, parser_term, parser_terms};
 ghost use Rattle.grammar_tree.specs.Written.{written_alts, written_seq};
-ghost use Rattle.grammar_check_recursion.specs.Recursion.{has_alternative, is_rule};
+ghost use Rattle.grammar_check_recursion.specs.Recursion.{has_alternative};
+ghost use Rattle.grammar_check_recursion.specs.inner.Recursion.{is_rule};
 
 use grammar_names::Names;
 use grammar_tree::{ParserAlts, ParserTerm, ParserTerms};

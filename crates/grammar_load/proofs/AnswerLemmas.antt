@@ -5,7 +5,7 @@ use Rattle.grammar_tree.specs.Written.{CheckedGrammar, WrittenGrammar}
 use Rattle.grammar_reader_notation.specs.Reads.{IsProfile}
 use Rattle.grammar_check.specs.CheckFaults.{IsFirstInTable}
 use Rattle.grammar_check.specs.declared.fault.CheckFault.{CheckFault}
-use Rattle.grammar_check.proofs.CheckForms.{well_formed_has_no_fault}
+use Rattle.grammar_check.proofs.Lent.{well_formed_has_no_fault}
 use Rattle.grammar_load.specs.Answer.{Spells}
 
 module _ (bytes : List ℕ) (wanted : Option (List ℕ)) (G : WrittenGrammar) (only : (other : WrittenGrammar) → IsProfile bytes other → G ≡ other) where

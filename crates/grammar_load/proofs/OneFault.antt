@@ -9,10 +9,10 @@ use Rattle.grammar_reader_notation.specs.Notation.{IsText}
 use Rattle.grammar_reader_notation.specs.Reads.{IsFaultOf, IsFirstFault, IsProfile, only_words}
 use Rattle.grammar_reader_notation.specs.declared.fault.ReadFault.{ReadFault}
 use Rattle.grammar_reader_notation.specs.declared.fault.ReadFault.TheVariants as read
-use Rattle.grammar_reader_notation.proofs.Once.{faults_once}
+use Rattle.grammar_reader_notation.proofs.Lent.{faults_once}
 use Rattle.grammar_check.specs.CheckFaults.{IsFirstInTable}
 use Rattle.grammar_check.specs.declared.fault.CheckFault.{CheckFault}
-use Rattle.grammar_check.proofs.Table.{first_fault_once}
+use Rattle.grammar_check.proofs.Lent.{first_fault_once}
 use Rattle.grammar_load.specs.Answer.{IsGrammarFault, Spells}
 use Rattle.grammar_load.specs.Laws.{GrammarFaultOnce}
 use Rattle.grammar_load.specs.declared.fault.GrammarFault.{GrammarFault}

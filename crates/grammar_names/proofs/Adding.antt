@@ -9,7 +9,8 @@ use Rattle.std.proofs.lemmas.Str.{encodes-chars}
 use Rattle.grammar_tree.specs.Kinds.{same_text}
 use Rattle.std.proofs.Common.{Result, Ok, Err, OnOk}
 use Rattle.grammar_names.specs.declared.index.Index.{Index}
-use Rattle.grammar_names.specs.Index.{IsAdded, or_added}
+use Rattle.grammar_names.specs.Index.{or_added}
+use Rattle.grammar_names.specs.inner.Index.{IsAdded}
 
 -- a map of bytes has for each text the number that the function gives
 abbrev pub MapFinds : {Y : Type 0} → BTreeMap (String Y) ℕ → (List ℕ → Option ℕ) → Type 0

@@ -1,6 +1,7 @@
-pub mod KindLists
-pub mod Adding
-pub mod Places
-pub mod TokenKinds
-pub mod Literals
-pub mod LiteralKinds
+mod KindLists
+mod Adding
+mod Places
+mod TokenKinds
+mod Literals
+mod LiteralKinds
+pub mod Lent

@@ -11,7 +11,7 @@ use Rattle.std.proofs.lemmas.Option.{slice_get_cases, slice_get-get_or}
 use Rattle.std.proofs.lemmas.Slice.Eq.{bytes_eq-Decides}
 use Rattle.grammar_tree.specs.Written.{LexerAlts, WrittenAlts, WrittenRule, WrittenGrammar, Source, TokenKind}
 use Rattle.grammar_tree.specs.Kinds.{declared_kind, declared_names, implicit_kind, is_implicit, is_just, is_named_by, is_written_at, kinds_of, literal_kind, same_text, written_kinds}
-use Rattle.grammar_names.specs.Names.{can_stand_for}
+use Rattle.grammar_names.specs.inner.Names.{can_stand_for}
 use Rattle.grammar_names.proofs.Places.{position_some, position_none}
 
 eq_true : (a b : ℕ) → a ≡ b → nat_eq a b ≡ true

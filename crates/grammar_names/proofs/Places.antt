@@ -15,8 +15,9 @@ use Rattle.grammar_tree.specs.declared.rule.Kind.{Kind}
 use Rattle.grammar_tree.specs.GrammarView.{kind_of}
 use Rattle.std.proofs.Common.{length-take}
 use Rattle.grammar_names.specs.declared.index.Index.{Index}
-use Rattle.grammar_names.specs.Index.{Finds, IsAdded, or_added}
-use Rattle.grammar_names.specs.Names.{is_parser_rule_of, next_number}
+use Rattle.grammar_names.specs.Index.{Finds, or_added}
+use Rattle.grammar_names.specs.inner.Index.{IsAdded}
+use Rattle.grammar_names.specs.inner.Names.{is_parser_rule_of, next_number}
 
 not_below : (m n : ℕ) → n ≤ m → (b : Bool) → nat_lt m n ≡ b → b ≡ false
 not_below m n h false e = refl

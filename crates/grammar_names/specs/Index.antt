@@ -13,7 +13,3 @@ abbrev pub or_added : Option ℕ → Bool → ℕ → Option ℕ
 or_added (Some k) is_added number = Some k
 or_added None true number = Some number
 or_added None false number = None
-
--- The number was added to the texts that pass the test.
-abbrev pub IsAdded : Index → Index → (List ℕ → Bool) → ℕ → Type 0
-IsAdded old new test number = (f : List ℕ → Option ℕ) → Finds old f → Finds new (λ t. or_added (f t) (test t) number)

@@ -1,7 +1,7 @@
 pub use Rattle.grammar_tree.specs.Written
 pub use Rattle.grammar_tree.specs.Kinds
-pub use Rattle.grammar_tree.specs.Code
+pub use Rattle.grammar_tree.specs.inner.Code
 pub use Rattle.grammar_tree.specs.GrammarView
 pub mod Index
 pub mod KindLists
-pub mod Names
+pub mod inner

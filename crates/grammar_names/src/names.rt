@@ -9,9 +9,10 @@ ghost use Rattle.grammar_tree.specs.Kinds.{any_kinds, has_name, is_just, is_name
 ghost use Rattle.grammar_tree.specs.Size.{grammar_size};
 ghost use Rattle.grammar_tree.specs.View.{lex_alts, lex_terms, token_ref};
 ghost use Rattle.grammar_tree.specs.Written.{ParserRule, lexer_alts};
-ghost use Rattle.grammar_names.specs.Index.{Finds, IsAdded};
+ghost use Rattle.grammar_names.specs.Index.{Finds};
+ghost use Rattle.grammar_names.specs.inner.Index.{IsAdded};
 ghost use Rattle.grammar_names.specs.KindLists.{named_kinds};
-ghost use Rattle.grammar_names.specs.Names.{can_stand_for, is_parser_rule_of, next_number};
+ghost use Rattle.grammar_names.specs.inner.Names.{can_stand_for, is_parser_rule_of, next_number};
 
 use crate::index::Index;
 use crate::kinds::{common, sorted, visible_kinds, without};
@@ -36,14 +37,14 @@ pub struct Names<'a> {
 
 impl<'a> Model for Names<'a> {
     ghost use Rattle.grammar_tree.specs.Written.{WrittenGrammar};
-    ghost use Rattle.grammar_tree.specs.Code.{grammar_coded};
+    ghost use Rattle.grammar_tree.specs.inner.Code.{grammar_coded};
 
     ghost Value = { WrittenGrammar };
 
     ghost coded = { grammar_coded };
 
     ghost use Rattle.grammar_tree.specs.GrammarView.{grammar_of};
-    ghost use Rattle.grammar_names.specs.Names.{AreNamesOf};
+    ghost use Rattle.grammar_names.specs.inner.Names.{AreNamesOf};
 
     ghost view = { λ n. grammar_of n.grammar.now };
 

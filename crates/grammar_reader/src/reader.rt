@@ -6,7 +6,7 @@ ghost use Rattle.grammar_tree.specs.Written.{WrittenGrammar};
 ghost use Rattle.grammar_tree.specs.GrammarView.{grammar_of};
 ghost use Rattle.grammar_tree.specs.Size.{grammar_size};
 ghost use Rattle.grammar_reader_words.specs.Words.{is_last};
-ghost use Rattle.grammar_reader.specs.Ended.{IsEnded};
+ghost use Rattle.grammar_reader.specs.inner.Ended.{IsEnded};
 ghost use Rattle.grammar_reader_notation.specs.Reads.{IsFaultOf, IsProfile, IsReadAs};
 ghost use Rattle.grammar_reader_machine.specs.View.{state_of};
 

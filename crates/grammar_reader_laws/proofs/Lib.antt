@@ -1,19 +1,20 @@
-pub mod Rest
-pub mod Unroll
-pub mod ParserSteps
-pub mod LexerSteps
-pub mod Steps
-pub mod Runs
-pub mod Regions
-pub mod RegionSteps
-pub mod Following
-pub mod Going
-pub mod Leading
-pub mod Known
-pub mod Classes
-pub mod Names
-pub mod Seen
-pub mod Fitting
-pub mod Firsts
-pub mod Deeper
-pub mod Called
+mod Rest
+mod Unroll
+mod ParserSteps
+mod LexerSteps
+mod Steps
+mod Runs
+mod Regions
+mod RegionSteps
+mod Following
+mod Going
+mod Leading
+mod Known
+mod Classes
+mod Names
+mod Seen
+mod Fitting
+mod Firsts
+mod Deeper
+mod Called
+pub mod Lent

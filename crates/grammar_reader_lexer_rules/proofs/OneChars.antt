@@ -2,7 +2,7 @@
 use Rattle.std.proofs.Common.{ℕ, ◌≡◌, List, [], ◌∷◌, Option, Some, None, nat_le, refl, sym, ap, ◌∙◌}
 use Rattle.grammar_reader_words.specs.Cursor.{uncons}
 use Rattle.grammar_reader_machine.specs.Machine as m
-use Rattle.grammar_reader_lexer_rules.specs.OneChar.{only_char}
+use Rattle.grammar_reader_lexer_rules.specs.inner.OneChar.{only_char}
 
 pub no_char : (cs : List ℕ) → None ≡ uncons cs → None ≡ only_char cs
 no_char [] e = refl

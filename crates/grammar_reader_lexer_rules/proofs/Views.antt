@@ -2,7 +2,7 @@
 use Rattle.std.proofs.Common.{◌≡◌, ◌-◌, ◌+◌, ℕ, zero, suc, length, List, [], ◌∷◌, ◌++◌, Bool, true, false, Some, None, refl, ap, sym, ◌∙◌}
 use Rattle.std.proofs.Math.Numerals.{sub-one, add-one}
 use Rattle.grammar_tree.specs.Written.{LexerTerm, lexer_alts}
-use Rattle.grammar_tree.proofs.LexerViews.{lex_term-Literal, lex_term-Set, lex_term-Name, lex_term-Block}
+use Rattle.grammar_tree.proofs.Lent.{lex_term-Literal, lex_term-Set, lex_term-Name, lex_term-Block}
 use Rattle.grammar_reader_words.specs.declared.word.Word.{Word}
 use Rattle.grammar_reader_machine.specs.declared.frame.LexFrame.{LexFrame}
 use Rattle.grammar_reader_machine.specs.View.{lex_frame_of, lex_frames_around}

@@ -5,7 +5,7 @@ ghost use Rattle.std.specs.Prelude.{◌≡◌, ◌++◌, ◌∷◌, [], ℕ, Som
 ghost use Rattle.grammar_tree.specs.Written.{LexerTerm};
 ghost use Rattle.grammar_reader_machine.specs.Machine as m;
 ghost use Rattle.grammar_reader_machine.specs.NextState.{NextIs};
-ghost use Rattle.grammar_reader_lexer_rules.specs.OneChar.{only_char};
+ghost use Rattle.grammar_reader_lexer_rules.specs.inner.OneChar.{only_char};
 ghost use Rattle.grammar_reader_notation.specs.Sets.{within};
 ghost use Rattle.grammar_reader_machine.specs.View.{item_position_of, lex_body_of, lexer_state};
 

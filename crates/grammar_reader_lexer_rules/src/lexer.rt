@@ -8,7 +8,7 @@ ghost use Rattle.grammar_reader_machine.specs.Machine as m;
 ghost use Rattle.grammar_reader_machine.specs.NextState.{NextIs};
 ghost use Rattle.grammar_reader_notation.specs.Sets.{outside, within};
 ghost use Rattle.grammar_reader_machine.specs.View.{lex_body_of, lexer_state, top_body_of};
-ghost use Rattle.grammar_reader_lexer_rules.specs.Terms.{lex_suffixed};
+ghost use Rattle.grammar_reader_lexer_rules.specs.inner.Terms.{lex_suffixed};
 
 use crate::terms::{BlockEnd, end_in_block, lex_suffixed, negated};
 use crate::top::step_done;

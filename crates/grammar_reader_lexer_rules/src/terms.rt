@@ -5,7 +5,7 @@ ghost use Rattle.grammar_tree.specs.View.{lex_term};
 ghost use Rattle.grammar_reader_machine.specs.Machine as m;
 ghost use Rattle.grammar_reader_machine.specs.View.{lexer_state};
 ghost use Rattle.grammar_reader_notation.specs.Sets.{outside, within};
-ghost use Rattle.grammar_reader_lexer_rules.specs.Terms.{after_block_end, lex_suffixed};
+ghost use Rattle.grammar_reader_lexer_rules.specs.inner.Terms.{after_block_end, lex_suffixed};
 
 use faults::Memory;
 use grammar_reader_machine::LexerPosition;

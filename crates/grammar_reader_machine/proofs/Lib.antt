@@ -1,2 +1,3 @@
-pub mod NextOf
-pub mod Pushed
+mod NextOf
+mod Pushed
+pub mod Lent

@@ -3,4 +3,4 @@ pub use Rattle.grammar_reader_notation.specs.Notation
 pub mod Machine
 pub mod View
 pub mod NextState
-pub mod Codes
+pub mod inner

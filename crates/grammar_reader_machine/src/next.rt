@@ -19,8 +19,8 @@ impl Model for Next {
     ghost use Rattle.std.specs.Coded.{codes};
     ghost use Rattle.std.specs.Prelude.{Option};
     ghost use Rattle.grammar_reader_machine.specs.Machine as m;
-    ghost use Rattle.grammar_tree.specs.Code.{grammar_coded};
-    ghost use Rattle.grammar_reader_machine.specs.Codes.{lexer_term_coded, parser_term_coded};
+    ghost use Rattle.grammar_tree.specs.inner.Code.{grammar_coded};
+    ghost use Rattle.grammar_reader_machine.specs.inner.Codes.{lexer_term_coded, parser_term_coded};
 
     ghost Value = { Option m.State };
 

@@ -1,5 +1,6 @@
-pub mod Sizes
-pub mod SetOf
-pub mod Ranging
-pub mod Named
-pub mod Once
+mod Sizes
+mod SetOf
+mod Ranging
+mod Named
+mod Once
+pub mod Lent

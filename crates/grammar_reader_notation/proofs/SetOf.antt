@@ -4,7 +4,7 @@ use Rattle.std.proofs.lemmas.Bool.Decides.{nat_tests}
 use Rattle.std.specs.Char.{IsScalar}
 use Rattle.grammar_tree.specs.Ranges.{in_range, in_ranges, rises_from, fits_from}
 use Rattle.grammar_tree.specs.Chars.{is_surrogate, IsCharSet, HasExactlyChars}
-use Rattle.grammar_tree.proofs.SetLaws.{same_chars}
+use Rattle.grammar_tree.proofs.Lent.{same_chars}
 use Rattle.grammar_reader_notation.specs.Sets.{and_number, ranges_below, set_of}
 
 -- the ranges end below the number

@@ -6,11 +6,10 @@ use Rattle.grammar_tree.specs.Written.{Reference, WrittenTerm, LexerTerm, Writte
 use Rattle.grammar_tree.specs.Size.{term_size, seq_size, alts_size, lexer_term_size, lexer_seq_size, lexer_alts_size, rule_size, grammar_size}
 use Rattle.grammar_reader_words.specs.Words.{words_of}
 use Rattle.grammar_reader_words.specs.declared.word.Word.{Word}
-use Rattle.grammar_reader_words.proofs.Numbers.{words_of_few}
+use Rattle.grammar_reader_words.proofs.Lent.{words_of_few, choose}
 use Rattle.grammar_reader_notation.specs.Notation.{IsPath, IsValue, IsEntries, IsOptions, MayBeOptions, IsTokens, IsPrequels, IsRefs, named, is_eof, IsSimple, IsSuffixed, IsLabel, IsOpening, IsAltName, IsAtom, IsElements, IsAlts, IsItem, IsItems, IsCharSet, IsLexSimple, IsLexSuffixed, IsCommand, IsLast, IsLoop, Level, IsEnding, IsLexAtom, IsLexElements, IsLexAlts, IsRules, IsTextOf}
 use Rattle.grammar_reader_notation.specs.Notation as n
 use Rattle.grammar_reader_notation.specs.Reads.{IsProfile}
-use Rattle.grammar_reader_words.proofs.Tails.{choose}
 
 -- what is read without a trace is no less than what remains
 

@@ -5,8 +5,8 @@ use Rattle.grammar_reader_words.specs.declared.word.Word.{Word}
 use Rattle.grammar_reader_words.specs.declared.word.Word.TheVariants as w
 use Rattle.grammar_reader_notation.specs.Notation.{is_eof}
 use Rattle.grammar_reader_machine.specs.Machine as m
-use Rattle.grammar_reader_parser_rules.specs.Terms.{is_name, reference}
-use Rattle.grammar_reader_parser_rules.specs.References.{after_reference, after_listed}
+use Rattle.grammar_reader_parser_rules.specs.inner.Terms.{is_name, reference}
+use Rattle.grammar_reader_parser_rules.specs.inner.References.{after_reference, after_listed}
 
 pub no_opening : (b : m.Body) (word : Word) → (word ≡ w.Less → ⊥) → m.step_alt b word ≡ m.step_elements b word
 no_opening b w.Less h = absurd (h refl)

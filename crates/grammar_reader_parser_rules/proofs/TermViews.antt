@@ -1,4 +1,4 @@
 -- What is seen of the terms that a name in upper case can be.
-use Rattle.grammar_tree.proofs.ParserViews.{parser_term-Name, parser_term-Eof}
+use Rattle.grammar_tree.proofs.Lent.{parser_term-Name, parser_term-Eof}
 
 pub ruleset views = (parser_term-Name, parser_term-Eof)

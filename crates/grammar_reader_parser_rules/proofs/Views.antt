@@ -2,7 +2,7 @@
 use Rattle.std.proofs.Common.{◌≡◌, ◌-◌, ◌+◌, ℕ, zero, suc, length, List, [], ◌∷◌, ◌++◌, Some, None, refl, ap, sym, ◌∙◌}
 use Rattle.std.proofs.Math.Numerals.{sub-one, add-one}
 use Rattle.grammar_tree.specs.Written.{WrittenTerm, written_alts}
-use Rattle.grammar_tree.proofs.ParserViews.{parser_term-Literal, parser_term-Name, parser_term-Not, parser_term-Any, parser_term-Block}
+use Rattle.grammar_tree.proofs.Lent.{parser_term-Literal, parser_term-Name, parser_term-Not, parser_term-Any, parser_term-Block}
 use Rattle.grammar_reader_machine.specs.declared.frame.Frame.{Frame}
 use Rattle.grammar_reader_machine.specs.View.{frame_of, frames_around}
 use Rattle.grammar_reader_machine.specs.Machine as m

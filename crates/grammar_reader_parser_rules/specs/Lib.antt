@@ -2,5 +2,4 @@ pub use Rattle.grammar_reader_notation.specs.Notation
 pub use Rattle.grammar_reader_machine.specs.Machine
 pub use Rattle.grammar_reader_machine.specs.View
 pub use Rattle.grammar_reader_machine.specs.NextState
-pub mod Terms
-pub mod References
+pub mod inner

@@ -7,8 +7,8 @@ ghost use Rattle.grammar_tree.specs.Written.{WrittenTerm};
 ghost use Rattle.grammar_reader_machine.specs.Machine as m;
 ghost use Rattle.grammar_reader_machine.specs.View.{body_of, parser_state, refs_of};
 ghost use Rattle.grammar_reader_machine.specs.NextState.{NextIs};
-ghost use Rattle.grammar_reader_parser_rules.specs.References.{after_listed, after_reference};
-ghost use Rattle.grammar_reader_parser_rules.specs.Terms.{is_name, reference_of, suffixed};
+ghost use Rattle.grammar_reader_parser_rules.specs.inner.References.{after_listed, after_reference};
+ghost use Rattle.grammar_reader_parser_rules.specs.inner.Terms.{is_name, reference_of, suffixed};
 
 use crate::terms::{is_name, more_refs, named, past_label, reference, suffixed};
 use faults::Memory;

@@ -7,7 +7,7 @@ ghost use Rattle.grammar_tree.specs.Written.{Reference};
 ghost use Rattle.grammar_reader_machine.specs.Machine as m;
 ghost use Rattle.grammar_reader_machine.specs.View.{parser_state, refs_of};
 ghost use Rattle.grammar_reader_notation.specs.Notation.{is_eof, named};
-ghost use Rattle.grammar_reader_parser_rules.specs.Terms.{is_name, reference, reference_of, suffixed};
+ghost use Rattle.grammar_reader_parser_rules.specs.inner.Terms.{is_name, reference, reference_of, suffixed};
 
 use faults::Memory;
 use grammar_reader_machine::ParserPosition;

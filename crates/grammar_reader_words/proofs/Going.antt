@@ -5,7 +5,8 @@ use Rattle.std.specs.Char.{is_ascii_digit, is_ascii_alphabetic}
 use Rattle.std.specs.Int.{is_in_range}
 use Rattle.grammar_reader_words.specs.Names.{is, is_part, word_before_brace}
 use Rattle.grammar_reader_words.specs.Quoted.{begins, literal_piece, set_piece, Pieces, pieces_from}
-use Rattle.grammar_reader_words.specs.Words.{after_close, comment, gap, is_blank, is_on_line, symbol, single, literal_word, set_word, name_at, word, is_last, at_brace, brace_from, settled, placed, listed, listed_gap, words_from, words_left}
+use Rattle.grammar_reader_words.specs.Words.{after_close, comment, gap, is_blank, is_on_line, symbol, single, literal_word, set_word, name_at, word, is_last, at_brace, brace_from, settled, placed, listed, listed_gap, words_from}
+use Rattle.grammar_reader_words.specs.inner.Words.{words_left}
 use Rattle.grammar_reader_words.specs.declared.quoted.Mark.{Mark}
 use Rattle.grammar_reader_words.specs.declared.word.Word.{Word}
 use Rattle.grammar_reader_words.specs.declared.word.Word.TheVariants as w

@@ -1,6 +1,7 @@
-pub mod Going
-pub mod Hex
-pub mod Joined
-pub mod Tails
-pub mod CharTests
-pub mod Numbers
+mod Going
+mod Hex
+mod Joined
+mod Tails
+mod CharTests
+mod Numbers
+pub mod Lent

@@ -1,6 +1,6 @@
 pub use Rattle.grammar_tree.specs.Chars
 pub mod Cursor
 pub mod Names
-pub mod Next
 pub mod Quoted
 pub mod Words
+pub mod inner

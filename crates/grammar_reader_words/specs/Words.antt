@@ -143,8 +143,3 @@ without_mark (c ∷ cs) = cond (c == 0xFEFF) cs (c ∷ cs)
 -- the words of the text that the bytes spell
 unfoldable pub words_of : List ℕ → List Placed
 words_of bytes = words_from (length bytes) 0 (without_mark (chars bytes))
-
--- the words that remain
-abbrev pub words_left : Bool → ℕ → List ℕ → List Placed
-words_left true total cs = []
-words_left false total cs = words_from total 0 cs

@@ -23,7 +23,7 @@ pub struct Words<'a> {
 impl<'a> Model for Words<'a> {
     ghost use Rattle.std.specs.Prelude.{List};
     ghost use Rattle.std.specs.Str.{chars};
-    ghost use Rattle.grammar_reader_words.specs.Words.{words_left};
+    ghost use Rattle.grammar_reader_words.specs.inner.Words.{words_left};
     ghost use Rattle.grammar_reader_words.specs.declared.word.Placed.{Placed};
 
     ghost Value = { List Placed };

@@ -2,8 +2,8 @@
 
 ghost use Rattle.std.specs.Prelude.{◌≡◌, ◌+◌, ◌∷◌, IfOk, length};
 ghost use Rattle.std.specs.Str.{chars};
-ghost use Rattle.grammar_reader_words.specs.Cursor.{seen_marks, seen_ranges};
-ghost use Rattle.grammar_reader_words.specs.Next.{IsShorter, ranges_by};
+ghost use Rattle.grammar_reader_words.specs.inner.Cursor.{seen_marks, seen_ranges};
+ghost use Rattle.grammar_reader_words.specs.inner.Next.{IsShorter, ranges_by};
 ghost use Rattle.grammar_reader_words.specs.declared.quoted.Mark.TheVariants.{Code};
 ghost use Rattle.grammar_reader_words.specs.Quoted.{first_plain, has_property, last_plain, outer_dashes_plain, pieces_from, plain, ranges_of, set_piece};
 

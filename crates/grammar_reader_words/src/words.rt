@@ -2,7 +2,8 @@
 
 ghost use Rattle.std.specs.Prelude.{◌≡◌, ◌<◌, ◌≤◌, ◌&&◌, ◌==◌, ◌+◌, ◌∷◌, IfOk, IfSome, length, drop, take, string_bytes, cond};
 ghost use Rattle.std.specs.Str.{chars, encode_utf8_all};
-ghost use Rattle.grammar_reader_words.specs.Cursor.{seen, seen_content, seen_rest, seen_word};
+ghost use Rattle.grammar_reader_words.specs.Cursor.{seen};
+ghost use Rattle.grammar_reader_words.specs.inner.Cursor.{seen_content, seen_rest, seen_word};
 ghost use Rattle.grammar_reader_words.specs.Names.{is_part, name_word};
 ghost use Rattle.grammar_reader_words.specs.Quoted.{literal_piece, outer_dashes_plain, pieces_from, ranges_of, set_piece};
 ghost use Rattle.std.specs.List.{prefix_len};

@@ -10,7 +10,7 @@ pub mod Corners
 pub mod Size
 pub mod Faults
 pub mod Lexes
-pub mod Code
 pub mod Checked
 pub mod Laws
 pub mod Places
+pub mod inner

@@ -22,7 +22,7 @@ pub struct Checked {
 
 impl Model for Checked {
     ghost use Rattle.grammar_tree.specs.Written.{CheckedGrammar};
-    ghost use Rattle.grammar_tree.specs.Code.{checked_coded};
+    ghost use Rattle.grammar_tree.specs.inner.Code.{checked_coded};
 
     ghost Value = { CheckedGrammar };
 

@@ -14,14 +14,13 @@ use Rattle.syntax_tree.specs.Numbered.{number_of}
 use Rattle.syntax_tree.specs.Valid.{IsValid}
 use Rattle.syntax_tree.specs.Levels.{at_depth, at_depth_all, depth, height}
 use Rattle.syntax_tree_cut.specs.WithoutNodes.{AreElements, CanDrop, dropped, without_nodes}
-use Rattle.syntax_tree_cut.proofs.Rising.{Rises}
-use Rattle.syntax_tree_cut.proofs.CutEdits.{in_found}
-use Rattle.syntax_tree_cut.proofs.WithoutNodes.{nothing_out}
+use Rattle.syntax_tree_cut.proofs.Lent.{Rises, in_found, nothing_out}
 use Rattle.descend_replace.specs.LevelLaws.{children_of_each}
-use Rattle.descend_replace.proofs.Queue.{levels_are_children}
+use Rattle.descend_replace.proofs.Lent.{levels_are_children}
 use Rattle.hdd_levels.specs.declared.level_nodes.Elements.{Elements}
 use Rattle.hdd_levels.specs.Levels.{deletable_children, fills_pluses, is_so_deep, kept_only, level}
-use Rattle.hdd_levels.specs.LevelForms.{AreNodesIn, IsLevelAt, IsWithin, LevelForm, keeps_element, parents_at, pluses_at, pluses_of}
+use Rattle.hdd_levels.specs.LevelForms.{IsLevelAt, LevelForm, parents_at, pluses_at, pluses_of}
+use Rattle.hdd_levels.specs.inner.LevelForms.{AreNodesIn, IsWithin, keeps_element}
 use Rattle.hdd_levels.proofs.InLevels.{depth_in, dropped_apart, level_apart}
 use Rattle.hdd_levels.proofs.KeptTrees.{dropped_of, fills_valid, level_elements, valid_without}
 use Rattle.hdd_levels.proofs.Pluses.{level_fills, pluses_within}

@@ -9,7 +9,7 @@ use Rattle.std.proofs.lemmas.Grind.{flat_map-append}
 use Rattle.std.proofs.lemmas.List.{append-nil, length-map, map-append}
 use Rattle.std.proofs.lemmas.List.Elements.{filter-append}
 use Rattle.std.proofs.lemmas.Option.{none-some, same_Some}
-use Rattle.grammar_tree.proofs.Elements.{contains_none}
+use Rattle.grammar_tree.proofs.Lent.{contains_none}
 use Rattle.normal_form.specs.Form.{RuleForm, NormalForm}
 use Rattle.syntax_tree.specs.Trees.{IsInSome, PlainTree, PlainTrees, children_of, count, weight}
 use Rattle.syntax_tree.specs.Trees as trees
@@ -20,14 +20,13 @@ use Rattle.syntax_tree_cut.specs.declared.shape.Shape.{Shape}
 use Rattle.syntax_tree_cut.specs.declared.shape.Shape.TheVariants.{Leaf}
 use Rattle.syntax_tree_cut.specs.Shapes.{shape_of, shape_of_form}
 use Rattle.syntax_tree_cut.specs.WithoutNodes.{form_loses}
-use Rattle.syntax_tree_cut.proofs.Rising.{Rises, subtree_within}
-use Rattle.syntax_tree_cut.proofs.CutEdits.{deeper_found, some_is}
+use Rattle.syntax_tree_cut.proofs.Lent.{Rises, subtree_within, deeper_found, some_is}
 use Rattle.descend_replace.specs.LevelLaws.{children_of_each, list_of}
-use Rattle.descend_replace.proofs.Found.{cut_rises}
-use Rattle.descend_replace.proofs.Queue.{roots_numbers}
+use Rattle.descend_replace.proofs.Lent.{cut_rises, roots_numbers}
 use Rattle.hdd_levels.specs.declared.level_nodes.Elements.{Elements}
 use Rattle.hdd_levels.specs.Levels.{deletable_children, is_plus_form, with_leaves}
-use Rattle.hdd_levels.specs.LevelForms.{AreNodesIn, elements_if, has_leaf, is_plus_node, plus_of, pluses_of, shape_loses, whole_plus, with_leaves_in}
+use Rattle.hdd_levels.specs.LevelForms.{elements_if, is_plus_node, plus_of, pluses_of}
+use Rattle.hdd_levels.specs.inner.LevelForms.{AreNodesIn, has_leaf, shape_loses, whole_plus, with_leaves_in}
 use Rattle.hdd_levels.proofs.InLevels.{below_found, rising_bound}
 
 take_none : (ts : List PlainTree) → take 0 ts ≡ []

@@ -7,16 +7,15 @@ use Rattle.std.proofs.lemmas.Grind.{flat_map-append}
 use Rattle.std.proofs.lemmas.List.{map-append}
 use Rattle.std.proofs.lemmas.List.Elements.{Contains-append_cases}
 use Rattle.std.proofs.lemmas.Option.{same_Some}
-use Rattle.grammar_tree.proofs.Elements.{contains_none}
+use Rattle.grammar_tree.proofs.Lent.{contains_none}
 use Rattle.normal_form.specs.Form.{NormalForm}
 use Rattle.syntax_tree.specs.Trees.{PlainTree, PlainTrees, IsBelow, IsIn, IsInSome, weight}
 use Rattle.syntax_tree.specs.Trees as trees
 use Rattle.syntax_tree.specs.Numbered.{NumbersRise, number_of, subtree}
-use Rattle.syntax_tree.proofs.Within.{AreWithin, IsWithin, within_from}
+use Rattle.syntax_tree.proofs.Lent.{AreWithin, IsWithin, within_from}
 use Rattle.syntax_tree.specs.Levels.{at_depth, at_depth_all}
 use Rattle.syntax_tree_cut.specs.WithoutNodes.{AreApart, dropped, is_among, loses_children}
-use Rattle.syntax_tree_cut.proofs.Rising.{Rises, RiseAll, bounds_rise, found_among_within, found_within, not_found, number_within, rises_wider, subtree_below, subtree_within}
-use Rattle.syntax_tree_cut.proofs.CutEdits.{deeper_found, in_found, in_some_found}
+use Rattle.syntax_tree_cut.proofs.Lent.{Rises, RiseAll, bounds_rise, found_among_within, found_within, not_found, number_within, rises_wider, subtree_below, subtree_within, deeper_found, in_found, in_some_found}
 use Rattle.hdd_levels.specs.Levels.{deletable_at, deletable_children, level, with_leaves}
 
 -- The numbers of the trees, and of what is below them, rise from tree to tree.

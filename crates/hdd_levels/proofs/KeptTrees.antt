@@ -7,7 +7,7 @@ use Rattle.std.proofs.lemmas.Bool.{and_from, and_parts, cases_Bool, cond-false, 
 use Rattle.std.proofs.lemmas.List.{append-nil, map-append}
 use Rattle.std.proofs.lemmas.List.Elements.{Contains-append_cases}
 use Rattle.std.proofs.lemmas.Map.Views.{Contains-from_any}
-use Rattle.grammar_tree.proofs.Elements.{contains_none}
+use Rattle.grammar_tree.proofs.Lent.{contains_none}
 use Rattle.normal_form.specs.declared.normal.Sym.{Sym}
 use Rattle.normal_form.specs.Form.{RuleForm, NormalForm}
 use Rattle.syntax_tree.specs.Trees.{PlainTree, PlainTrees, weight}
@@ -15,10 +15,8 @@ use Rattle.syntax_tree.specs.Numbered.{number_of, roots}
 use Rattle.syntax_tree.specs.Valid.{AreValid, EachIsValid, IsValid, of_absent, of_leaf, of_next, of_no_slots, of_none, of_plus, of_present, of_regular, of_slot, of_star}
 use Rattle.syntax_tree.specs.Levels.{at_depth, at_depth_all}
 use Rattle.syntax_tree_cut.specs.WithoutNodes.{AreElements, AreElementsOfAll, NoneAmong, dropped, form_loses, is_among, loses_children, without_nodes, without_nodes_all}
-use Rattle.syntax_tree_cut.proofs.Rising.{Rises, RiseAll, bounds_rise, number_within}
-use Rattle.syntax_tree_cut.proofs.Deletions.{child_within}
-use Rattle.syntax_tree.proofs.LeftTrees.{part}
-use Rattle.syntax_tree_cut.proofs.WithoutNodes.{NoneFrom, first_kept, first_out, nothing_out, number_without, without_left}
+use Rattle.syntax_tree_cut.proofs.Lent.{Rises, RiseAll, bounds_rise, number_within, child_within, NoneFrom, first_kept, first_out, nothing_out, number_without, without_left}
+use Rattle.syntax_tree.proofs.Lent.{part}
 use Rattle.hdd_levels.specs.Levels.{deletable_at, deletable_children, fills_plus, fills_pluses, fills_pluses_all, is_plus, is_plus_form, level, with_leaves}
 use Rattle.hdd_levels.specs.Laws.{HigherNodesStay, KeepingAllKeepsTree, KeptTreesAreLeft, KeptTreesAreTrees, ValidTreesFillPluses}
 use Rattle.hdd_levels.proofs.InLevels.{AreOf, depth_spread_all, dropped_in, each_spread, in_with, level_all, level_found, level_next, level_spread, number_spread, rising_bound, tree_of_number}

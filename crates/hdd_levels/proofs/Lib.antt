@@ -1,6 +1,7 @@
-pub mod InLevels
-pub mod KeptTrees
-pub mod OneOut
-pub mod Pluses
-pub mod FoundNodes
-pub mod Depths
+mod InLevels
+mod KeptTrees
+mod OneOut
+mod Pluses
+mod FoundNodes
+mod Depths
+pub mod Lent

@@ -7,7 +7,7 @@ use Rattle.std.proofs.Math.Nat.{le-max_left, le-max_right}
 use Rattle.std.proofs.lemmas.Bool.{and_parts, cases_Bool, cond-false, cond-true, false≢true, lt-ltb}
 use Rattle.std.proofs.lemmas.List.{append-nil}
 use Rattle.std.proofs.lemmas.List.Elements.{Contains-append_cases, Contains-append_left, Contains-append_right}
-use Rattle.grammar_tree.proofs.Elements.{contains_none}
+use Rattle.grammar_tree.proofs.Lent.{contains_none}
 use Rattle.normal_form.specs.declared.normal.Sym.{Sym}
 use Rattle.normal_form.specs.Form.{RuleForm, NormalForm}
 use Rattle.syntax_tree.specs.Trees.{PlainTree, PlainTrees, leaves, weight, weight_all}
@@ -16,11 +16,9 @@ use Rattle.syntax_tree.specs.Valid.{AreValid, EachIsValid, IsValid, of_absent, o
 use Rattle.syntax_tree.specs.Edits.{Deletes, DeletesAmong, IsLocalDeletion, IsSingleDeletion, LeavesOut, first, later}
 use Rattle.syntax_tree.specs.Edits as edits
 use Rattle.syntax_tree.specs.Levels.{at_depth_all, depth, height}
-use Rattle.syntax_tree.proofs.SingleEdits.{edits_are_trees}
+use Rattle.syntax_tree.proofs.Lent.{edits_are_trees}
 use Rattle.syntax_tree_cut.specs.WithoutNodes.{dropped, form_loses, loses_children, without_nodes, without_nodes_all}
-use Rattle.syntax_tree_cut.proofs.Rising.{Rises, RiseAll, number_within}
-use Rattle.syntax_tree_cut.proofs.Deletions.{leaves_count}
-use Rattle.syntax_tree_cut.proofs.WithoutNodes.{first_kept, first_out, is_not_the_one, is_the_one, loses_leaves, one_outside, without_others_all, without_outside}
+use Rattle.syntax_tree_cut.proofs.Lent.{Rises, RiseAll, number_within, leaves_count, first_kept, first_out, is_not_the_one, is_the_one, loses_leaves, one_outside, without_others_all, without_outside}
 use Rattle.hdd_levels.specs.Levels.{deletable_at, deletable_children, fills_plus, fills_pluses, fills_pluses_all, is_plus_form, kept_tree, level, with_leaves}
 use Rattle.hdd_levels.specs.Laws.{SingleDeletionsAreOfLevels, all_but}
 use Rattle.hdd_levels.proofs.InLevels.{depth_spread_all, each_spread, leaves_spread, level_all, level_found, level_next, level_spread, number_spread, rising_bound, tree_of_number}

@@ -6,18 +6,17 @@ use Rattle.std.proofs.lemmas.Bool.{and_parts, cases_Bool, cond-false, cond-true,
 use Rattle.std.proofs.lemmas.List.{length-map, map-append}
 use Rattle.std.proofs.lemmas.List.Elements.{All-append, All-cons, All-nil, Contains-append_cases}
 use Rattle.std.proofs.lemmas.List.Folds.{list_all-append, list_any-append}
-use Rattle.grammar_tree.proofs.Elements.{contains_none}
+use Rattle.grammar_tree.proofs.Lent.{contains_none}
 use Rattle.std.specs.Option.{option_map_or}
 use Rattle.normal_form.specs.Form.{RuleForm, NormalForm}
 use Rattle.syntax_tree.specs.Trees.{PlainTree, PlainTrees, children_of, count, weight}
 use Rattle.syntax_tree.specs.Numbered.{number_of, roots}
 use Rattle.syntax_tree.specs.Levels.{at_depth, at_depth_all}
 use Rattle.syntax_tree_cut.specs.WithoutNodes.{NoneAmong, dropped, form_loses, is_among, loses_children, without_nodes, without_nodes_all}
-use Rattle.syntax_tree_cut.proofs.Rising.{Rises, RiseAll, bounds_rise, number_within, rise_wider}
-use Rattle.syntax_tree_cut.proofs.Deletions.{child_within}
-use Rattle.syntax_tree_cut.proofs.WithoutNodes.{NoneFrom, first_kept, first_out, without_others}
+use Rattle.syntax_tree_cut.proofs.Lent.{Rises, RiseAll, bounds_rise, number_within, rise_wider, child_within, NoneFrom, first_kept, first_out, without_others}
 use Rattle.hdd_levels.specs.Levels.{deletable_children, fills_plus, fills_pluses, fills_pluses_all, is_plus, is_plus_form, level, with_leaves}
-use Rattle.hdd_levels.specs.LevelForms.{IsWithin, elements_if, is_plus_node, keeps_element, plus_of, pluses_of}
+use Rattle.hdd_levels.specs.LevelForms.{elements_if, is_plus_node, plus_of, pluses_of}
+use Rattle.hdd_levels.specs.inner.LevelForms.{IsWithin, keeps_element}
 use Rattle.hdd_levels.proofs.InLevels.{AreOf, Spread, children_spread, depth_spread, dropped_in, each_spread, leaves_spread, level_all, number_spread}
 use Rattle.hdd_levels.proofs.KeptTrees.{among_contains, dropped_of, filled, level_elements_all, level_split, no_level, own_level}
 

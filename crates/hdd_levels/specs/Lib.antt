@@ -5,3 +5,4 @@ pub use Rattle.descend_replace.specs.LevelLaws
 pub mod Levels
 pub mod LevelForms
 pub mod Laws
+pub mod inner

@@ -3,7 +3,8 @@
 ghost use Rattle.std.specs.Prelude.{◌≡◌, ℕ, if◌then◌else◌, false, Some, None, length};
 ghost use Rattle.std.specs.List.{All, list_all, list_any};
 ghost use Rattle.syntax_tree_cut.specs.Cuts.{IsCutOf, cut_tree};
-ghost use Rattle.hdd_levels.specs.LevelForms.{IsLevelAt, IsWithin, keeps_element};
+ghost use Rattle.hdd_levels.specs.LevelForms.{IsLevelAt};
+ghost use Rattle.hdd_levels.specs.inner.LevelForms.{IsWithin, keeps_element};
 ghost use Rattle.hdd_levels.specs.Levels.{fills_pluses, kept_only, kept_tree};
 
 use crate::level_nodes::{Elements, LevelNodes};

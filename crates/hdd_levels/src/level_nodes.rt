@@ -7,7 +7,8 @@ ghost use Rattle.syntax_tree.specs.Trees.{PlainTree};
 ghost use Rattle.syntax_tree.specs.Numbered.{number_of};
 ghost use Rattle.syntax_tree.specs.Levels.{at_depth};
 ghost use Rattle.syntax_tree_cut.specs.Cuts.{IsCutOf, cut_tree};
-ghost use Rattle.hdd_levels.specs.LevelForms.{AreNodesIn, IsLevelAt, IsLevelIfDeep, parents_at, pluses_of};
+ghost use Rattle.hdd_levels.specs.LevelForms.{IsLevelAt, IsLevelIfDeep, parents_at, pluses_of};
+ghost use Rattle.hdd_levels.specs.inner.LevelForms.{AreNodesIn};
 ghost use Rattle.hdd_levels.specs.Levels.{deletable_children};
 
 use crate::nodes::{children_of_nodes, push_deletable};

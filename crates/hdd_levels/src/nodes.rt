@@ -5,7 +5,8 @@ ghost use Rattle.syntax_tree.specs.Trees.{PlainTree};
 ghost use Rattle.syntax_tree.specs.Numbered.{number_of, subtree};
 ghost use Rattle.syntax_tree_cut.specs.Cuts.{IsCutOf, cut_tree};
 ghost use Rattle.descend_replace.specs.LevelLaws.{children_of_each};
-ghost use Rattle.hdd_levels.specs.LevelForms.{AreNodesIn, elements_if, has_leaf, plus_of, shape_loses, whole_plus, with_leaves_in};
+ghost use Rattle.hdd_levels.specs.LevelForms.{elements_if, plus_of};
+ghost use Rattle.hdd_levels.specs.inner.LevelForms.{AreNodesIn, has_leaf, shape_loses, whole_plus, with_leaves_in};
 ghost use Rattle.hdd_levels.specs.Levels.{deletable_children};
 
 use crate::level_nodes::Elements;

@@ -1,1 +1,2 @@
-pub mod KeepLemmas
+mod KeepLemmas
+pub mod Lent

@@ -9,8 +9,8 @@ use Rattle.grammar_tree.specs.Lexes.{IsNext, Lexes, LexesTo, Piece, PlacedToken,
 use Rattle.lexer_match.specs.declared.nfa.State.{State}
 use Rattle.lexer_match.specs.declared.alternative.Alternative.{Alternative}
 use Rattle.lexer_nfa.specs.GrammarNfa.{IsNfaOf}
-use Rattle.lexer.specs.Candidates.{ComesNext, HasNoNext}
-use Rattle.lexer.specs.Tokens.{unless_gap}
+use Rattle.lexer.specs.inner.Candidates.{ComesNext, HasNoNext}
+use Rattle.lexer.specs.inner.Tokens.{unless_gap}
 
 module _ (G : WrittenGrammar) where
   -- where the pieces end, the first of which begins at the offset

@@ -6,12 +6,11 @@ use Rattle.std.proofs.lemmas.Bool.{cases_lt}
 use Rattle.std.proofs.lemmas.List.Elements.{Contains-append_left, Contains-push, Contains-push_cases}
 use Rattle.std.proofs.lemmas.Option.{same_Some}
 use Rattle.grammar_check_cycles.specs.Graph.{HasEdge, Reaches}
-use Rattle.grammar_check_cycles.proofs.Searching.{further, row_at}
+use Rattle.grammar_check_cycles.proofs.Lent.{further, row_at}
 use Rattle.lexer_match.specs.declared.nfa.State.{State}
 use Rattle.lexer_match.specs.Nfa.{GoesBelow, IsClosed, Reads}
-use Rattle.lexer_match.specs.StateSets.{GoesFrom, GoesTo}
-use Rattle.lexer_match.proofs.States.{get_before, get_last, get_within, set_at, set_other}
-use Rattle.lexer_match.proofs.StateSets.{eq_or_not, index_set_at, index_set_other}
+use Rattle.lexer_match.specs.inner.StateSets.{GoesFrom, GoesTo}
+use Rattle.lexer_match.proofs.Lent.{get_before, get_last, get_within, set_at, set_other, eq_or_not, index_set_at, index_set_other}
 
 -- one number more in one of the rows
 row_pushed : (rows : List (List ℕ)) (index number : ℕ) (row : List ℕ) → slice_get rows index ≡ Some row → (i j : ℕ) → HasEdge (set rows index (row ++ number ∷ [])) i j ↔ (HasEdge rows i j ⊎ ((i ≡ index) × (j ≡ number)))

@@ -10,11 +10,10 @@ use Rattle.lexer_match.specs.Nfa.{Reads}
 use Rattle.lexer.specs.declared.candidates.Beginning.{Beginning}
 use Rattle.lexer_nfa.specs.Order.{NeverFall}
 use Rattle.lexer_match.specs.StateSets.{ReadsTo}
-use Rattle.lexer.specs.Candidates.{AreCandidates, AreListed, IsBeginning}
+use Rattle.lexer.specs.inner.Candidates.{AreCandidates, AreListed, IsBeginning}
 use Rattle.std.proofs.lemmas.List.{map-append}
-use Rattle.lexer_nfa.proofs.Pushed.{mapped_len}
-use Rattle.lexer_match.proofs.StateSets.{index_default}
-use Rattle.lexer_match.proofs.States.{get_before, get_last, get_within}
+use Rattle.lexer_nfa.proofs.Lent.{mapped_len}
+use Rattle.lexer_match.proofs.Lent.{index_default, get_before, get_last, get_within}
 
 take_snoc : (all : List Alternative) (i : ℕ) (d : Alternative) → i < length all → take (suc i) all ≡ take i all ++ slice_index_or all i d ∷ []
 take_snoc [] i d h = absurd (omega (arith, h))

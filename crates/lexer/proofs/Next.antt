@@ -13,8 +13,8 @@ use Rattle.lexer_match.specs.Nfa.{Reads}
 use Rattle.lexer_match.specs.Longest.{HasNone, IsLongestLen}
 use Rattle.lexer_match.specs.Reading.{IsRead}
 use Rattle.lexer_match.specs.Alternatives.{HasAlternative}
-use Rattle.lexer.specs.Candidates.{AreCandidates, ComesNext, HasNoNext, IsBestOf}
-use Rattle.lexer_match.proofs.Best.{begins, begins_same}
+use Rattle.lexer.specs.inner.Candidates.{AreCandidates, ComesNext, HasNoNext, IsBestOf}
+use Rattle.lexer_match.proofs.Lent.{begins, begins_same}
 
 some_bytes : (x : List ℕ) → 0 < length x → 0 < length (encode_utf8_all x)
 some_bytes x h = omega (arith, h, length-le-encodes x)

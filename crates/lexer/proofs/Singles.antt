@@ -17,16 +17,14 @@ use Rattle.lexer_match.specs.declared.nfa.State.{State}
 use Rattle.lexer_match.specs.declared.alternative.Alternative.{Alternative}
 use Rattle.lexer_match.specs.Alternatives.{HasAlternative}
 use Rattle.lexer_nfa.specs.GrammarNfa.{IsNfaOf}
-use Rattle.lexer.specs.Gaps.{AreDecided, AreEmptyFlags, AreGapChars, HasSingle, IsLastOf, IsLeastSingle, SinglesAreUpTo, SinglesNeverFall}
+use Rattle.lexer.specs.inner.Gaps.{AreDecided, AreEmptyFlags, AreGapChars, HasSingle, IsLastOf, IsLeastSingle, SinglesAreUpTo, SinglesNeverFall}
 use Rattle.lexer_match.specs.Nfa.{Reads}
 use Rattle.lexer_nfa.specs.Order.{NeverFall}
 use Rattle.lexer_match.specs.Reading.{IsRead}
 use Rattle.lexer_match.specs.StateSets.{AreFirst, ReadsTo}
 use Rattle.lexer.specs.Tokens.{IsGapText}
-use Rattle.lexer_match.proofs.StateSets.{index_default}
-use Rattle.lexer_match.proofs.States.{cond_some, get_within}
-use Rattle.lexer_match.proofs.Steps.{both_ways, or_same}
-use Rattle.lexer_nfa.proofs.Pushed.{with_same}
+use Rattle.lexer_match.proofs.Lent.{index_default, cond_some, get_within, both_ways, or_same}
+use Rattle.lexer_nfa.proofs.Lent.{with_same}
 
 -- the one character of a range
 one_in : (d c : ℕ) → (in_ranges ((d, d) ∷ []) c ≡ true) ↔ (nat_eq d c ≡ true)

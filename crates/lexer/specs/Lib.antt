@@ -1,5 +1,3 @@
-pub mod Candidates
 pub mod Tokens
-pub mod Gaps
 pub mod FaultText
-pub mod Built
+pub mod inner

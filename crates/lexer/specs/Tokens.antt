@@ -1,5 +1,5 @@
 -- The tokens of a text, and where reading it stops.
-use Rattle.std.specs.Prelude.{◌≡◌, ℕ, true, cond, List, [], ◌∷◌, ⊤}
+use Rattle.std.specs.Prelude.{◌≡◌, ℕ, true, List, [], ◌∷◌, ⊤}
 use Rattle.grammar_tree.specs.Written.{WrittenGrammar}
 use Rattle.grammar_tree.specs.Lexes.{Lexes, Piece, PlacedToken, StopsAt, is_gap_kind, placed_tokens}
 use Rattle.lexer.specs.declared.token.Token.{Token}
@@ -7,10 +7,6 @@ use Rattle.lexer.specs.declared.token.LexFault.{LexFault}
 
 abbrev pub token_of : Token → PlacedToken
 token_of t = record { kind = t.kind; start = t.start; end = t.end }
-
--- the token alone, and none where its kind is a gap kind
-abbrev pub unless_gap : WrittenGrammar → PlacedToken → List PlacedToken
-unless_gap G t = cond (is_gap_kind G t.kind) [] (t ∷ [])
 
 -- the text is cut into pieces, and these are the tokens among them
 abbrev pub HasTokens : WrittenGrammar → List ℕ → List PlacedToken → Type 0

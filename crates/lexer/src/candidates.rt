@@ -5,7 +5,7 @@ ghost use Rattle.std.specs.List.{Contains};
 ghost use Rattle.lexer_match.specs.Alternatives.{IsNfa};
 ghost use Rattle.lexer.specs.declared.candidates.Beginning.{Beginning};
 ghost use Rattle.lexer_match.specs.declared.nfa.State.{State};
-ghost use Rattle.lexer.specs.Candidates.{AreBeginnings, AreCandidates, AreListed, IsBeginning};
+ghost use Rattle.lexer.specs.inner.Candidates.{AreBeginnings, AreCandidates, AreListed, IsBeginning};
 ghost use Rattle.lexer_match.specs.Reading.{IsReady};
 ghost use Rattle.lexer_match.specs.StateSets.{ReadsTo};
 

@@ -2,9 +2,9 @@
 
 ghost use Rattle.std.specs.Prelude.{◌≡◌, ◌⊎◌, ◌↔◌, ◌<◌, ◌^◌, ℕ, IfOk, OnOk, length, map, vec_len};
 ghost use Rattle.grammar_check_cycles.specs.Graph.{HasEdge};
-ghost use Rattle.lexer.specs.Gaps.{AreEmptyFlags};
+ghost use Rattle.lexer.specs.inner.Gaps.{AreEmptyFlags};
 ghost use Rattle.lexer_match.specs.Nfa.{IsClosed};
-ghost use Rattle.lexer_match.specs.StateSets.{GoesFrom, GoesTo};
+ghost use Rattle.lexer_match.specs.inner.StateSets.{GoesFrom, GoesTo};
 
 use faults::Memory;
 use grammar_check_cycles::reached_from;

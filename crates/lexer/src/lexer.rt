@@ -28,7 +28,7 @@ pub struct Lexer {
 
 impl Model for Lexer {
     ghost use Rattle.grammar_tree.specs.Written.{CheckedGrammar};
-    ghost use Rattle.grammar_tree.specs.Code.{checked_coded};
+    ghost use Rattle.grammar_tree.specs.inner.Code.{checked_coded};
 
     ghost Value = { CheckedGrammar };
 
@@ -36,7 +36,7 @@ impl Model for Lexer {
 
     ghost view = { λ l. l.checked };
 
-    ghost use Rattle.lexer.specs.Built.{IsBuilt};
+    ghost use Rattle.lexer.specs.inner.Built.{IsBuilt};
 
     ghost invariant = { λ l. IsBuilt l.checked l.rules };
 }

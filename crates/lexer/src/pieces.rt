@@ -5,7 +5,7 @@ ghost use Rattle.std.specs.List.{Contains};
 ghost use Rattle.std.specs.Str.{chars};
 ghost use Rattle.lexer_match.specs.declared.alternative.Alternative.{Alternative};
 ghost use Rattle.lexer_match.specs.Alternatives.{IsNfa};
-ghost use Rattle.lexer.specs.Candidates.{AreListed, ComesNext, HasNoNext, IsBestOf};
+ghost use Rattle.lexer.specs.inner.Candidates.{AreListed, ComesNext, HasNoNext, IsBestOf};
 ghost use Rattle.lexer_match.specs.Dead.{AreDead, StayDead};
 ghost use Rattle.lexer_match.specs.Nfa.{IsClosed};
 ghost use Rattle.lexer_match.specs.Reading.{IsReady};

@@ -2,8 +2,8 @@
 
 ghost use Rattle.std.specs.Prelude.{ℕ, IfOk, MatchOption, OnOk, length};
 ghost use Rattle.std.specs.Str.{chars};
-ghost use Rattle.lexer.specs.Built.{IsBuilt, IsRunnable};
-ghost use Rattle.lexer.specs.Candidates.{ComesNext, HasNoNext};
+ghost use Rattle.lexer.specs.inner.Built.{IsBuilt, IsRunnable};
+ghost use Rattle.lexer.specs.inner.Candidates.{ComesNext, HasNoNext};
 ghost use Rattle.lexer_match.specs.Dead.{AreDead, HasDead, StayDead};
 ghost use Rattle.lexer_match.specs.Reading.{IsReady};
 

@@ -6,8 +6,9 @@ ghost use Rattle.grammar_tree.specs.GrammarView.{kind_of};
 ghost use Rattle.grammar_tree.specs.Kinds.{kinds_of};
 ghost use Rattle.grammar_tree.specs.Lexes.{is_gap_kind};
 ghost use Rattle.grammar_tree.specs.Written.{WrittenGrammar};
-ghost use Rattle.lexer.specs.Built.{IsBuilt};
-ghost use Rattle.lexer.specs.Tokens.{HasTokens, ReportsStop, token_of, unless_gap};
+ghost use Rattle.lexer.specs.inner.Built.{IsBuilt};
+ghost use Rattle.lexer.specs.Tokens.{HasTokens, ReportsStop, token_of};
+ghost use Rattle.lexer.specs.inner.Tokens.{unless_gap};
 ghost use Rattle.lexer_match.specs.Dead.{HasDead};
 ghost use Rattle.lexer_match.specs.Reading.{IsReady};
 

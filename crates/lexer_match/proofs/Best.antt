@@ -10,7 +10,8 @@ use Rattle.lexer_match.specs.declared.alternative.Alternative.{Alternative}
 use Rattle.lexer_match.specs.Longest.{IsLongestLen}
 use Rattle.lexer_match.specs.Nfa.{Reads}
 use Rattle.lexer_match.specs.Reading.{IsRead}
-use Rattle.lexer_match.specs.StateSets.{AreMarked, IsFollowed, ReadsFrom}
+use Rattle.lexer_match.specs.StateSets.{AreMarked, ReadsFrom}
+use Rattle.lexer_match.specs.inner.StateSets.{IsFollowed}
 use Rattle.lexer_match.proofs.Steps.{both_ways, end_reads}
 
 -- two beginnings of a text: the shorter one begins the longer one

@@ -13,8 +13,9 @@ use Rattle.lexer_match.specs.declared.table.Reached.{Reached}
 use Rattle.lexer_match.specs.declared.table.Step.{Step}
 use Rattle.lexer_match.specs.declared.table.Table.{Table}
 use Rattle.lexer_match.specs.Nfa.{Reads}
-use Rattle.lexer_match.specs.StateSets.{AreMarked, IsFollowed, ReadsFrom}
-use Rattle.lexer_match.specs.Subsets.{AreSets, HasStepsBefore, IsNumbered, IsSame, IsSet, StartsWith}
+use Rattle.lexer_match.specs.StateSets.{AreMarked, ReadsFrom}
+use Rattle.lexer_match.specs.inner.StateSets.{IsFollowed}
+use Rattle.lexer_match.specs.inner.Subsets.{AreSets, HasStepsBefore, IsNumbered, IsSame, IsSet, StartsWith}
 use Rattle.lexer_match.specs.Table.{AfterSet, AreStarts, AreSteps, IsReached, IsStep, IsTable, states_in, states_of}
 use Rattle.lexer_match.proofs.States.{get_before, get_last, get_within, set_at, set_other}
 use Rattle.lexer_match.proofs.StateSets.{eq_or_not}

@@ -1,7 +1,8 @@
-pub mod States
-pub mod StateSets
-pub mod Steps
-pub mod Best
-pub mod Traced
-pub mod Found
-pub mod Walked
+mod States
+mod StateSets
+mod Steps
+mod Best
+mod Traced
+mod Found
+mod Walked
+pub mod Lent

@@ -4,7 +4,8 @@ use Rattle.std.specs.List.{Contains}
 use Rattle.std.proofs.Math.ListN.{set, length-set}
 use Rattle.std.proofs.lemmas.Bool.{cases_lt}
 use Rattle.std.proofs.lemmas.List.Elements.{Contains-push, Contains-push_cases, Contains-append_left}
-use Rattle.lexer_match.specs.StateSets.{AreMarked, HasGrown, unmarked}
+use Rattle.lexer_match.specs.StateSets.{AreMarked}
+use Rattle.lexer_match.specs.inner.StateSets.{HasGrown, unmarked}
 
 pub index_within : (marks : List Bool) (n : ℕ) → slice_index_or marks n false ≡ true → n < length marks
 index_within [] n e = absurd (cc)

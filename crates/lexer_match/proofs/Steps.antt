@@ -5,7 +5,8 @@ use Rattle.std.proofs.lemmas.Bool.{cases_lt}
 use Rattle.grammar_tree.specs.Chars.{has}
 use Rattle.lexer_match.specs.declared.nfa.State.{State}
 use Rattle.lexer_match.specs.Nfa.{Reads, GoesBelow, IsClosed, after}
-use Rattle.lexer_match.specs.StateSets.{AreMarked, ComesAfter, GoesTo, HasGrown, IsFollowed, ReadsFrom, ReadsTo}
+use Rattle.lexer_match.specs.StateSets.{AreMarked, ReadsFrom, ReadsTo}
+use Rattle.lexer_match.specs.inner.StateSets.{ComesAfter, GoesTo, HasGrown, IsFollowed}
 use Rattle.lexer_match.proofs.States.{cond_some}
 use Rattle.lexer_match.proofs.StateSets.{grown_keeps, index_default, index_within}
 

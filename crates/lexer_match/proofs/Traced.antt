@@ -8,7 +8,8 @@ use Rattle.std.proofs.lemmas.Str.{chars_past_char, chars-nil}
 use Rattle.lexer_match.specs.declared.nfa.State.{State}
 use Rattle.lexer_match.specs.declared.dead.DeadStates.{DeadStates}
 use Rattle.lexer_match.specs.declared.dead.StateAt.{StateAt}
-use Rattle.lexer_match.specs.Dead.{AreDead, EndsWith, HasDead, IsDead, StayDead, state_at}
+use Rattle.lexer_match.specs.Dead.{AreDead, EndsWith, HasDead, IsDead, StayDead}
+use Rattle.lexer_match.specs.inner.Dead.{state_at}
 use Rattle.lexer_match.specs.Nfa.{Reads}
 use Rattle.lexer_match.specs.StateSets.{AreMarked, ReadsFrom}
 use Rattle.lexer_match.specs.declared.state_set.StateSet.{StateSet}

@@ -5,15 +5,11 @@ use Rattle.std.specs.BTreeSet.{contains}
 use Rattle.std.specs.Str.{chars}
 use Rattle.lexer_match.specs.declared.nfa.State.{State}
 use Rattle.lexer_match.specs.declared.dead.DeadStates.{DeadStates}
-use Rattle.lexer_match.specs.declared.dead.StateAt.{StateAt}
 use Rattle.lexer_match.specs.Nfa.{Reads}
 
 -- the state is kept as dead where so many bytes remain
 abbrev pub HasDead : DeadStates → ℕ → ℕ → Type 0
 HasDead dead remaining state = contains (λ (x y : ℕ × ℕ). ordering_then (nat_cmp x.0 y.0) (nat_cmp x.1 y.1)) dead.pairs (remaining, state) ≡ true
-
-abbrev pub state_at : ℕ → ℕ → StateAt
-state_at remaining state = record { remaining = remaining; state = state }
 
 -- Where so many bytes of the text remain, the NFA reads no beginning of the rest from the state.
 abbrev pub IsDead : List State → List ℕ → ℕ → ℕ → Type 0

@@ -4,5 +4,5 @@ pub mod Longest
 pub mod Dead
 pub mod Reading
 pub mod Table
-pub mod Subsets
 pub mod Alternatives
+pub mod inner

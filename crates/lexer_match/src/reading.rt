@@ -4,11 +4,13 @@ ghost use Rattle.std.specs.Prelude.{◌≡◌, ◌⊎◌, ◌↔◌, ◌<◌, �
 ghost use Rattle.std.specs.List.{Contains};
 ghost use Rattle.std.specs.Str.{chars};
 ghost use Rattle.lexer_match.specs.declared.dead.StateAt.{StateAt};
-ghost use Rattle.lexer_match.specs.Dead.{AreDead, EndsWith, HasDead, IsDead, StayDead, state_at};
+ghost use Rattle.lexer_match.specs.Dead.{AreDead, EndsWith, HasDead, IsDead, StayDead};
+ghost use Rattle.lexer_match.specs.inner.Dead.{state_at};
 ghost use Rattle.lexer_match.specs.Longest.{IsLongestLen};
 ghost use Rattle.lexer_match.specs.Nfa.{IsClosed, Reads};
 ghost use Rattle.lexer_match.specs.Reading.{IsRead, IsReady};
-ghost use Rattle.lexer_match.specs.StateSets.{AreFirst, IsFollowed, ReadsFrom};
+ghost use Rattle.lexer_match.specs.StateSets.{AreFirst, ReadsFrom};
+ghost use Rattle.lexer_match.specs.inner.StateSets.{IsFollowed};
 ghost use Rattle.lexer_match.specs.Table.{IsTable};
 ghost use Rattle.lexer_match.specs.declared.nfa.State.{State};
 

@@ -3,7 +3,8 @@
 ghost use Rattle.std.specs.Prelude.{◌≡◌, ◌⊎◌, ◌↔◌, ◌<◌, ◌∷◌, [], ℕ, List, Some, false, true, IfOk, OnOk, length, slice_get, slice_index_or};
 ghost use Rattle.std.specs.List.{Contains};
 ghost use Rattle.lexer_match.specs.Nfa.{IsClosed, Reads};
-ghost use Rattle.lexer_match.specs.StateSets.{AreMarked, ComesAfter, GoesTo, HasGrown, IsFollowed, ReadsFrom, ReadsTo};
+ghost use Rattle.lexer_match.specs.StateSets.{AreMarked, ReadsFrom, ReadsTo};
+ghost use Rattle.lexer_match.specs.inner.StateSets.{ComesAfter, GoesTo, HasGrown, IsFollowed};
 
 use crate::nfa::State;
 use faults::Memory;

@@ -4,7 +4,7 @@ ghost use Rattle.std.specs.Prelude.{◌≡◌, ◌<◌, [], List, true, false, I
 ghost use Rattle.lexer_match.specs.Alternatives.{IsNfa};
 ghost use Rattle.lexer_match.specs.Nfa.{IsClosed, Reads};
 ghost use Rattle.lexer_match.specs.StateSets.{AreMarked, ReadsFrom};
-ghost use Rattle.lexer_match.specs.Subsets.{AreSets, HasStepsBefore, IsNumbered, IsReadyFor, IsSame, IsSet, StartsWith};
+ghost use Rattle.lexer_match.specs.inner.Subsets.{AreSets, HasStepsBefore, IsNumbered, IsReadyFor, IsSame, IsSet, StartsWith};
 ghost use Rattle.lexer_match.specs.Table.{AreStarts, AreSteps, IsReached, IsStep, IsTable, states_of};
 ghost use Rattle.lexer_match.specs.declared.nfa.State.{State};
 

@@ -5,11 +5,11 @@ use Rattle.std.proofs.lemmas.Bool.{cases_lt}
 use Rattle.grammar_tree.specs.Written.{LexerTerm, LexerRule, WrittenRule}
 use Rattle.grammar_tree.specs.Matches.{Matches, MatchesMany}
 use Rattle.grammar_tree.specs.Laws.{CutsInto}
-use Rattle.grammar_tree.proofs.MatchForms as forms
+use Rattle.grammar_tree.proofs.Lent as forms
 use Rattle.lexer_match.specs.declared.nfa.State.{State}
 use Rattle.lexer_match.specs.Nfa.{Reads, GoesBelow, IsClosed}
-use Rattle.lexer_nfa.specs.Compile.{HaveSame, Implements, ImplementsAll, IsAdded, MatchesRuleAt}
-use Rattle.lexer_match.proofs.States.{get_before, get_last, get_within, set_at, set_other, below_more, never_reads, set_reads, char_reads, split_reads}
+use Rattle.lexer_nfa.specs.inner.Compile.{HaveSame, Implements, ImplementsAll, IsAdded, MatchesRuleAt}
+use Rattle.lexer_match.proofs.Lent.{get_before, get_last, get_within, set_at, set_other, below_more, never_reads, set_reads, char_reads, split_reads}
 
 abbrev Language : Type 1
 Language = List ℕ → Type 0

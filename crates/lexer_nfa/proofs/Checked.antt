@@ -5,8 +5,8 @@ use Rattle.grammar_tree.specs.Faults.{IsWellFormed}
 use Rattle.grammar_tree.specs.GrammarView.{grammar_of, rule_of}
 use Rattle.grammar_tree.specs.declared.rule.Grammar.{Grammar}
 use Rattle.grammar_tree.specs.declared.rule.Rule.{Rule}
-use Rattle.grammar_tree.proofs.Resolved.{well_formed_names}
-use Rattle.lexer_nfa.specs.Names.{HaveNoLoops, HaveOneName}
+use Rattle.grammar_tree.proofs.Lent.{well_formed_names}
+use Rattle.lexer_nfa.specs.inner.Names.{HaveNoLoops, HaveOneName}
 use Rattle.lexer_nfa.proofs.Compiled.{lexer_from}
 
 module _ (G : WrittenGrammar) (start : ℕ) (W : IsWellFormed G start) where

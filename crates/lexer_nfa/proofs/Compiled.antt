@@ -7,7 +7,7 @@ use Rattle.std.proofs.lemmas.Option.{slice_get-map, slice_get_read, slice_get-ge
 use Rattle.std.proofs.lemmas.List.Quantifiers.{position-Some}
 use Rattle.std.proofs.lemmas.Slice.Eq.{bytes_eq-Decides}
 use Rattle.std.proofs.lemmas.Bool.{false≢true}
-use Rattle.grammar_tree.proofs.Names.{some_position}
+use Rattle.grammar_tree.proofs.Lent.{some_position}
 use Rattle.grammar_tree.specs.declared.rule.Rule.{Rule}
 use Rattle.grammar_tree.specs.GrammarView.{rule_of}
 use Rattle.std.proofs.lemmas.Str.{chars_from_encodes}
@@ -16,14 +16,14 @@ use Rattle.std.proofs.Math.ListN.{set}
 use Rattle.grammar_tree.specs.Written.{LexerAlts, LexerTerm, LexerRule, WrittenRule}
 use Rattle.grammar_tree.specs.Faults.{LexerHasEmptyLoopAlts}
 use Rattle.grammar_tree.specs.Kinds.{lexer_rules}
-use Rattle.grammar_tree.proofs.MatchForms as forms
+use Rattle.grammar_tree.proofs.Lent as forms
 use Rattle.grammar_tree.specs.Matches.{Matches, MatchesAlts}
 use Rattle.grammar_tree.specs.Laws.{CutsInto}
 use Rattle.lexer_match.specs.declared.nfa.State.{State}
 use Rattle.lexer_match.specs.Nfa.{GoesBelow, IsClosed}
-use Rattle.lexer_nfa.specs.Compile.{IsAdded, MatchesRuleAt}
-use Rattle.lexer_nfa.specs.Names.{HaveNoLoops, HaveOneName, is_named, rule_index}
-use Rattle.lexer_match.proofs.States.{get_within}
+use Rattle.lexer_nfa.specs.inner.Compile.{IsAdded, MatchesRuleAt}
+use Rattle.lexer_nfa.specs.inner.Names.{HaveNoLoops, HaveOneName, is_named, rule_index}
+use Rattle.lexer_match.proofs.Lent.{get_within}
 use Rattle.lexer_nfa.proofs.Added.{added_as, added_call, added_never, added_then, added_char, added_set, added_star, added_plus, pushed_closed}
 
 -- the NFA and the entry under other names

@@ -7,10 +7,9 @@ use Rattle.grammar_tree.specs.Written.{WrittenRule}
 use Rattle.grammar_tree.specs.Laws.{CutsInto}
 use Rattle.lexer_match.specs.declared.nfa.State.{State}
 use Rattle.lexer_match.specs.Nfa.{Reads, IsClosed}
-use Rattle.lexer_nfa.specs.Compile.{AreExpanded, Implements, ImplementsAll, IsAdded, IsCompiled, IsExpanded, IsNoCall, MatchesRuleAt}
-use Rattle.lexer_match.proofs.States.{call_reads, get_within, set_at, set_other, split_reads}
+use Rattle.lexer_nfa.specs.inner.Compile.{AreExpanded, Implements, ImplementsAll, IsAdded, IsCompiled, IsExpanded, IsNoCall, MatchesRuleAt}
+use Rattle.lexer_match.proofs.Lent.{call_reads, get_within, set_at, set_other, split_reads, both_ways}
 use Rattle.lexer_nfa.proofs.Added.{set_closed}
-use Rattle.lexer_match.proofs.Steps.{both_ways}
 
 two_states : (x y : State) → Some x ≡ Some y → x ≡ y
 two_states x y e = cc

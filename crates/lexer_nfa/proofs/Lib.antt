@@ -1,7 +1,8 @@
-pub mod Added
-pub mod Compiled
-pub mod Terms
-pub mod Checked
-pub mod Expanded
-pub mod Pushed
-pub mod Order
+mod Added
+mod Compiled
+mod Terms
+mod Checked
+mod Expanded
+mod Pushed
+mod Order
+pub mod Lent

@@ -4,7 +4,8 @@ use Rattle.std.specs.List.{Contains}
 use Rattle.std.proofs.lemmas.List.{get_or-drop, get_or-take, get_or_default, length-drop, length-take-le}
 use Rattle.std.proofs.lemmas.List.Elements.{Contains-get_or, Contains-push_cases}
 use Rattle.std.proofs.lemmas.List.Quantifiers.{all_pairs_push}
-use Rattle.lexer_nfa.specs.Order.{AreUpTo, NeverFall}
+use Rattle.lexer_nfa.specs.Order.{NeverFall}
+use Rattle.lexer_nfa.specs.inner.Order.{AreUpTo}
 
 module _ {X : Type 0} (key : X → ℕ) where
   pub up_to_none : (list : List X) (last : ℕ) → list ≡ [] → AreUpTo key list last

@@ -5,7 +5,7 @@ use Rattle.std.proofs.lemmas.List.{append-nil}
 use Rattle.std.proofs.lemmas.List.Elements.{Contains-push, Contains-push_cases, Contains-append_left}
 use Rattle.grammar_tree.specs.Written.{LexerTerm, LexerSeq, LexerAlts, LexerRule, WrittenRule, WrittenGrammar, lexer_seq, lexer_alts}
 use Rattle.grammar_tree.specs.Matches.{MatchesSeq, MatchesAlternative, MatchesRule, is_short}
-use Rattle.grammar_tree.proofs.MatchForms as forms
+use Rattle.grammar_tree.proofs.Lent as forms
 use Rattle.grammar_tree.specs.View.{lex_terms, lex_alts}
 use Rattle.grammar_tree.specs.declared.lex_term.LexAlts.{LexAlts, out-LexAlts}
 use Rattle.grammar_tree.specs.declared.lex_term.LexTerms.{LexTerms}
@@ -13,7 +13,7 @@ use Rattle.lexer_match.specs.declared.nfa.State.{State}
 use Rattle.lexer_match.specs.declared.alternative.Alternative.{Alternative}
 use Rattle.lexer_match.specs.Nfa.{Reads, GoesBelow, IsClosed, after}
 use Rattle.lexer_match.specs.Reading.{IsRead}
-use Rattle.lexer_nfa.specs.Compile.{HaveSame, IsCompiled}
+use Rattle.lexer_nfa.specs.inner.Compile.{HaveSame, IsCompiled}
 use Rattle.lexer_match.specs.Alternatives.{HasAlternative, IsNfa}
 use Rattle.grammar_tree.specs.Written.{TokenKind}
 use Rattle.grammar_tree.specs.Kinds.{kinds_of, lexer_rules}
@@ -24,8 +24,7 @@ use Rattle.grammar_tree.specs.declared.rule.Kind.{Kind}
 use Rattle.std.specs.Option.{option_map}
 use Rattle.std.proofs.lemmas.Bool.{cases_lt}
 use Rattle.std.proofs.lemmas.Option.{slice_get-map, slice_get_read}
-use Rattle.lexer_match.proofs.States.{get_within}
-use Rattle.lexer_match.proofs.Steps.{after_inside}
+use Rattle.lexer_match.proofs.Lent.{get_within, after_inside}
 use Rattle.lexer_nfa.proofs.Terms.{alts_out, take_all, take_at}
 
 -- what a closed NFA reads stays the same where states come after it

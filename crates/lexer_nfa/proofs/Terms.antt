@@ -9,10 +9,10 @@ use Rattle.grammar_tree.specs.View.{lex_term, lex_terms, lex_alts, lex_node, lex
 use Rattle.grammar_tree.specs.declared.lex_term.LexAlts.{LexAlts, out-LexAlts, fold_out-LexAlts}
 use Rattle.grammar_tree.specs.declared.lex_term.LexTerms.{LexTerms, out-LexTerms, fold_out-LexTerms}
 use Rattle.grammar_tree.specs.declared.lex_term.LexTerm.{LexTerm}
-use Rattle.grammar_tree.proofs.MatchForms as forms
+use Rattle.grammar_tree.proofs.Lent as forms
 use Rattle.lexer_match.specs.declared.nfa.State.{State}
 use Rattle.lexer_match.specs.Nfa.{IsClosed}
-use Rattle.lexer_nfa.specs.Compile.{IsAdded}
+use Rattle.lexer_nfa.specs.inner.Compile.{IsAdded}
 use Rattle.lexer_nfa.proofs.Added.{added_as, added_nothing, added_never, added_opt, added_or, added_then}
 use Rattle.lexer_nfa.proofs.Compiled.{added_to}
 

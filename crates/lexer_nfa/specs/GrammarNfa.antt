@@ -5,11 +5,7 @@ use Rattle.grammar_tree.specs.Lexes.{KindMatches}
 use Rattle.lexer_match.specs.declared.nfa.State.{State}
 use Rattle.lexer_match.specs.declared.alternative.Alternative.{Alternative}
 use Rattle.lexer_match.specs.Alternatives.{HasAlternative, IsNfa}
-use Rattle.lexer_nfa.specs.Order.{AreUpTo, NeverFall}
-
--- their kinds never fall, and none is above the last one
-abbrev pub KindsAreUpTo : List Alternative → ℕ → Type 0
-KindsAreUpTo alternatives last = AreUpTo (λ (a : Alternative). a.kind) alternatives last
+use Rattle.lexer_nfa.specs.Order.{NeverFall}
 
 -- The alternatives match what the kinds of the grammar do, and are in the order of their kinds.
 pub record IsNfaOf (G : WrittenGrammar) (P : List State) (alternatives : List Alternative) : Type 0 where

@@ -1,4 +1,3 @@
 pub mod Order
-pub mod Names
-pub mod Compile
 pub mod GrammarNfa
+pub mod inner

@@ -9,7 +9,8 @@ ghost use Rattle.grammar_tree.specs.Matches.{MatchesAlternative, MatchesRule};
 ghost use Rattle.grammar_tree.specs.View.{lex_alts, lex_terms};
 ghost use Rattle.grammar_tree.specs.Written.{WrittenGrammar, lexer_alts, lexer_seq};
 ghost use Rattle.lexer_match.specs.Alternatives.{HasAlternative, IsNfa};
-ghost use Rattle.lexer_nfa.specs.GrammarNfa.{IsNfaOf, KindsAreUpTo};
+ghost use Rattle.lexer_nfa.specs.GrammarNfa.{IsNfaOf};
+ghost use Rattle.lexer_nfa.specs.inner.GrammarNfa.{KindsAreUpTo};
 
 use crate::compile::{Budget, add_literal, compile};
 use crate::names::NamedRules;

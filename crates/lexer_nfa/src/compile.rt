@@ -12,7 +12,7 @@ ghost use Rattle.grammar_tree.specs.Kinds.{lexer_rules};
 ghost use Rattle.grammar_tree.specs.Matches.{Matches, MatchesAlts, MatchesSeq};
 ghost use Rattle.grammar_tree.specs.View.{lex_alts, lex_term, lex_terms};
 ghost use Rattle.grammar_tree.specs.Written.{LexerTerm, WrittenRule, lexer_alts, lexer_seq};
-ghost use Rattle.lexer_nfa.specs.Compile.{AreExpanded, IsAdded, IsCompiled, IsExpanded, MatchesRuleAt};
+ghost use Rattle.lexer_nfa.specs.inner.Compile.{AreExpanded, IsAdded, IsCompiled, IsExpanded, MatchesRuleAt};
 ghost use Rattle.lexer_match.specs.Nfa.{IsClosed};
 ghost use Rattle.lexer_match.specs.declared.nfa.State.{State};
 

@@ -1,11 +1,12 @@
 //! The rules of a grammar, by the names of its lexer rules.
 
 ghost use Rattle.std.specs.Prelude.{◌≡◌, ◌<◌, ◌^◌, IfNone, IfOk, IfSome, OnOk, Some, length, map, slice_get};
-ghost use Rattle.grammar_names.specs.Index.{Finds, IsAdded};
+ghost use Rattle.grammar_names.specs.Index.{Finds};
+ghost use Rattle.grammar_names.specs.inner.Index.{IsAdded};
 ghost use Rattle.grammar_tree.specs.GrammarView.{rule_of};
 ghost use Rattle.grammar_tree.specs.View.{lex_alts};
 ghost use Rattle.grammar_tree.specs.Written.{LexerRule, WrittenRule, lexer_alts};
-ghost use Rattle.lexer_nfa.specs.Names.{HaveNoLoops, HaveOneName, is_named, rule_index};
+ghost use Rattle.lexer_nfa.specs.inner.Names.{HaveNoLoops, HaveOneName, is_named, rule_index};
 
 use faults::Memory;
 use grammar_names::Index;

@@ -5,7 +5,8 @@ use Rattle.std.specs.Prelude.{◌&&◌, ◌||◌, nat_lt}
 use Rattle.std.specs.List.{AllByRecursion}
 use Rattle.list_ddmin.specs.ListStep.{Outcome, list_step, kept_count, part, complement, IsOneMinimal}
 use Rattle.list_ddmin.specs.Machine.{State, Nothing, Parts, Complements, End, begun, asks, kept, after}
-use Rattle.list_ddmin.specs.Asked.{WasAsked, DeletionsAsked, KeepsLastYes, KeepsAllAtFirst}
+use Rattle.list_ddmin.specs.Asked.{WasAsked, DeletionsAsked}
+use Rattle.list_ddmin.specs.inner.Asked.{KeepsLastYes, KeepsAllAtFirst}
 use Rattle.list_ddmin.proofs.Follows.{agreeing_maps}
 use Rattle.list_ddmin.proofs.Minimal.{ends_one_minimal}
 

@@ -1,7 +1,8 @@
 -- How many elements are kept.
 use Rattle.std.proofs.Common.{◌≡◌, ℕ, suc, zero, ◌<◌, true, false, [], ◌∷◌, replicate, arith, refl, subst}
 use Rattle.list_ddmin.specs.ListStep.{kept_count, part, complement}
-use Rattle.list_ddmin.specs.Machine.{Nothing, Parts, Complements, End, kept, CountsKept, EachYesIsSmaller}
+use Rattle.list_ddmin.specs.Machine.{Nothing, Parts, Complements, End, kept}
+use Rattle.list_ddmin.specs.inner.Machine.{CountsKept, EachYesIsSmaller}
 use Rattle.list_ddmin.proofs.Borders.{kept_count-part}
 use Rattle.list_ddmin.proofs.Minimal.{kept_count-all}
 

@@ -9,7 +9,7 @@ use Rattle.list_ddmin.specs.declared.machine.Phase.TheVariants.{Nothing, Parts, 
 use Rattle.list_ddmin.specs.ListStep.{kept_count, kept_where, border, part, complement}
 use Rattle.list_ddmin.specs.Machine as machine
 use Rattle.list_ddmin.specs.Machine.{IsSound, begun, after}
-use Rattle.list_ddmin.specs.Fields.{state_of, IsWhole, begun_phase, next_phase, first_phase_of, chosen, Marks, Agrees}
+use Rattle.list_ddmin.specs.inner.Fields.{state_of, IsWhole, begun_phase, next_phase, first_phase_of, chosen, Marks, Agrees}
 use Rattle.list_ddmin.proofs.Minimal.{length-part, length-complement, kept_count-all}
 use Rattle.list_ddmin.proofs.Follows.{IsSound-after, IsSound-start}
 

@@ -1,14 +1,15 @@
-pub mod Borders
-pub mod Tried
-pub mod Minimal
-pub mod Enough
-pub mod Follows
-pub mod FieldLemmas
-pub mod Left
-pub mod Slices
-pub mod Counts
-pub mod Lengths
-pub mod Positions
-pub mod Rows
-pub mod AskedLemmas
-pub mod KeepsLess
+mod Borders
+mod Tried
+mod Minimal
+mod Enough
+mod Follows
+mod FieldLemmas
+mod Left
+mod Slices
+mod Counts
+mod Lengths
+mod Positions
+mod Rows
+mod AskedLemmas
+mod KeepsLess
+pub mod Lent

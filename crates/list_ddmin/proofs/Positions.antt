@@ -5,7 +5,7 @@ use Rattle.std.proofs.Math.Seq.{take-length}
 use Rattle.std.specs.Prelude.{slice_range, ◌==◌}
 use Rattle.std.specs.List.{list_any}
 use Rattle.list_ddmin.specs.ListStep.{kept_count, kept_of, border, part, complement}
-use Rattle.list_ddmin.specs.Plain.{positions_from, flags_of}
+use Rattle.list_ddmin.specs.inner.Plain.{positions_from, flags_of}
 use Rattle.list_ddmin.proofs.Borders.{border_rises, border_within}
 use Rattle.list_ddmin.proofs.Minimal.{length-part, length-complement}
 use Rattle.list_ddmin.proofs.Slices.{parts_are_slices}

@@ -4,7 +4,7 @@ use Rattle.std.proofs.lemmas.Bool.{cond-true, cond-false, lt-ltb, le-ltb}
 use Rattle.std.proofs.lemmas.Nat.{mul-le}
 use Rattle.std.specs.Prelude.{nat_lt}
 use Rattle.list_ddmin.specs.ListStep.{kept_count, part, complement, enough_calls, Outcome, tried, ends_with, asks_first, finer, complements_tried, ddmin, list_step}
-use Rattle.list_ddmin.specs.Plain.{asks_before, follows, IsTried, IsOneOf}
+use Rattle.list_ddmin.specs.inner.Plain.{asks_before, follows, IsTried, IsOneOf}
 use Rattle.list_ddmin.proofs.Borders.{kept_count-part}
 use Rattle.list_ddmin.proofs.Minimal.{length-part, length-complement}
 use Rattle.list_ddmin.proofs.Enough.{ddmin-steps}

@@ -1,5 +1,5 @@
 -- What a list step has asked by its end, and what its answers keep.
-use Rattle.std.specs.Prelude.{◌≡◌, ◌<◌, ◌≤◌, ◌⊎◌, ℕ, Bool, true, false, List, [], ◌∷◌, Some, slice_get, slice_set, replicate}
+use Rattle.std.specs.Prelude.{◌≡◌, ◌<◌, ◌≤◌, ◌⊎◌, ℕ, Bool, true, false, List, [], ◌∷◌, Some, slice_get, slice_set}
 use Rattle.list_ddmin.specs.ListStep.{kept_count, list_step}
 use Rattle.list_ddmin.specs.Machine.{State, Nothing, Parts, Complements, End, IsSound, asks, kept, start, after}
 
@@ -36,14 +36,6 @@ DeletionsAsked = (verdict : List Bool → Bool) (len k : ℕ) →
     → WasAsked (list_step verdict len true).questions (slice_set (list_step verdict len true).result k false))
     × (2 ≤ kept_count (list_step verdict len false).result → slice_get (list_step verdict len false).result k ≡ Some true
     → WasAsked (list_step verdict len false).questions (slice_set (list_step verdict len false).result k false))
-
--- A yes keeps what was asked, a no keeps what was kept, and at a start everything is kept.
-abbrev pub KeepsLastYes : Type 0
-KeepsLastYes = (state : State) (question : List Bool) → asks state ≡ Some question
-    → (kept (after state true) ≡ question) × (kept (after state false) ≡ kept state)
-
-abbrev pub KeepsAllAtFirst : Type 0
-KeepsAllAtFirst = (len : ℕ) (may_be_empty : Bool) → kept (start len may_be_empty) ≡ replicate len true
 
 -- A state asks for some of the elements that it keeps, and not for all of them. It asks for at least one, unless it asks whether all may go.
 abbrev pub AsksFewer : Type 0

@@ -1,5 +1,4 @@
 pub mod ListStep
 pub mod Machine
-pub mod Fields
-pub mod Plain
 pub mod Asked
+pub mod inner

@@ -3,7 +3,7 @@
 ghost use Rattle.std.specs.Prelude.{◌≡◌, ◌+◌, ◌*◌, ◌/◌, ◌^◌, ◌<◌, ◌≤◌, ◌↔◌, length, IfOk, IsSome, option_copied, MatchOption, Some, None, if◌then◌else◌};
 ghost use Rattle.list_ddmin.specs.ListStep.{border, kept_count, kept_where};
 ghost use Rattle.list_ddmin.specs.Machine.{IsSound, after, asks, kept, start};
-ghost use Rattle.list_ddmin.specs.Fields.{begun_phase, chosen, first_phase_of, next_phase, Numbered, Marks};
+ghost use Rattle.list_ddmin.specs.inner.Fields.{begun_phase, chosen, first_phase_of, next_phase, Numbered, Marks};
 
 use faults::Memory;
 use std::alloc::Global;
@@ -45,7 +45,7 @@ impl Model for Ddmin {
 
     ghost Value = { State };
 
-    ghost use Rattle.list_ddmin.specs.Fields.{state_of, Agrees};
+    ghost use Rattle.list_ddmin.specs.inner.Fields.{state_of, Agrees};
 
     ghost view = { λ d. state_of d.phase d.keep.items };
 

@@ -2,7 +2,7 @@
 
 ghost use Rattle.std.specs.Prelude.{◌≡◌, ℕ, ◌+◌, ◌*◌, ◌^◌, ◌<◌, ◌≤◌, ◌==◌, Bool, List, Option, IfOk, IfSome, OnOk, [], ◌∷◌, ◌++◌, length, map, option_map, replicate, true, vec_len};
 ghost use Rattle.list_ddmin.specs.ListStep.{ddmin, ends_with, kept_count, list_step};
-ghost use Rattle.list_ddmin.specs.Plain.{IsOneOf, IsTried, asks_before, candidate_of, flags_of, positions_from};
+ghost use Rattle.list_ddmin.specs.inner.Plain.{IsOneOf, IsTried, asks_before, candidate_of, flags_of, positions_from};
 
 use crate::machine::border_of;
 use faults::Memory;

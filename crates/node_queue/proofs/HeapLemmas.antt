@@ -11,7 +11,7 @@ use Rattle.std.proofs.lemmas.List.Sorted.{sum_by-IsPermutation}
 use Rattle.std.proofs.lemmas.List.Sums.{sum_by-cons}
 use Rattle.node_queue.specs.declared.queue.Entry.{Entry}
 use Rattle.node_queue.specs.Waiting.{IsInOrder, Waiting, comes_before, with_node}
-use Rattle.node_queue.specs.Heap.{entry_cmp, in_order, waiting_of}
+use Rattle.node_queue.specs.inner.Heap.{entry_cmp, in_order, waiting_of}
 use Rattle.std.proofs.lemmas.Bool.{eqb-true}
 use Rattle.node_queue.proofs.QueueLemmas.{all-with_node, stays_in_order, with_node-before, with_node-some}
 use Rattle.node_queue.proofs.Counts.{count_at, count_of, count_of-with_node, same_counts}

@@ -1,4 +1,5 @@
-pub mod OrderLemmas
-pub mod QueueLemmas
-pub mod Counts
-pub mod HeapLemmas
+mod OrderLemmas
+mod QueueLemmas
+mod Counts
+mod HeapLemmas
+pub mod Lent

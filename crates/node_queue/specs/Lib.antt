@@ -1,3 +1,3 @@
 pub mod Waiting
-pub mod Heap
 pub mod Laws
+pub mod inner

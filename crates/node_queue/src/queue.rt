@@ -36,7 +36,7 @@ impl Model for Queue {
 
     ghost Value = { List Waiting };
 
-    ghost use Rattle.node_queue.specs.Heap.{entry_cmp, in_order};
+    ghost use Rattle.node_queue.specs.inner.Heap.{entry_cmp, in_order};
 
     ghost view = { λ queue. in_order (heap_items queue.heap) };
 

@@ -13,7 +13,7 @@ use Rattle.grammar_tree.specs.Faults.{number_at}
 use Rattle.grammar_tree.specs.Places.{PlacesHaveNumbers}
 use Rattle.grammar_tree.specs.Size.{alts_size, seq_size, term_size, grammar_size, rule_size}
 use Rattle.grammar_tree.specs.Checked.{IsChecked}
-use Rattle.grammar_check_recursion.proofs.Resolving.{kind_term, name_term}
+use Rattle.grammar_check_recursion.proofs.Lent.{kind_term, name_term}
 use Rattle.normal_form.specs.NormalOf.{alts_sets, seq_sets, sets_of, term_sets}
 
 -- The sets are fewer than the terms.

@@ -6,7 +6,7 @@ use Rattle.std.proofs.lemmas.List.Elements.{Contains-append_left, Contains-appen
 use Rattle.std.proofs.lemmas.Option.{slice_get-map, slice_get-get_or}
 use Rattle.std.specs.Option.{option_map}
 use Rattle.std.proofs.Common.{get_or}
-use Rattle.grammar_check_recursion.proofs.Resolving.{kind_term, name_term}
+use Rattle.grammar_check_recursion.proofs.Lent.{kind_term, name_term}
 use Rattle.normal_form.proofs.Lists.{Contains-here}
 use Rattle.grammar_tree.specs.Written.{WrittenTerm, WrittenSeq, WrittenAlts, ParserRule, WrittenRule, WrittenGrammar}
 use Rattle.grammar_tree.specs.Kinds.{parser_rules, rule_number, name_kind, literal_kind, same_text}

@@ -2,7 +2,7 @@
 use Rattle.std.proofs.Common.{ℕ, ◌<◌, arith}
 use Rattle.grammar_tree.specs.Derives.{Alts}
 use Rattle.grammar_tree.specs.Corners.{group_size, rests}
-use Rattle.grammar_check_recursion.proofs.Counted.{head_count}
+use Rattle.grammar_check_recursion.proofs.Lent.{head_count}
 
 head_positive : (a : Alts) → 0 < head_count a
 head_positive Alts.none = omega arith

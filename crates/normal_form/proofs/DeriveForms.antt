@@ -9,7 +9,7 @@ use Rattle.normal_form.specs.declared.normal.Sym.TheVariants.{Kind, Set, Rule}
 use Rattle.normal_form.specs.Form.{RuleForm, NormalForm}
 use Rattle.normal_form.specs.NormalDerives.{NormalDerives, NormalDerivesSeq, NormalDerivesMany, of_kind, of_set, of_regular, of_absent, of_present, of_star, of_plus, of_done, of_next, of_end, of_more}
 use Rattle.normal_form.specs.FormLaws.{NormalDerivesByForm}
-use Rattle.grammar_tree.proofs.Places.{at_of_contains, contains_at}
+use Rattle.grammar_tree.proofs.Lent.{at_of_contains, contains_at}
 use Rattle.normal_form.proofs.Lists.{Contains-nil}
 use Rattle.normal_form.proofs.Forward.{OneOf, all_inverse, regular_inverse, star_inverse}
 

@@ -6,7 +6,7 @@ use Rattle.grammar_tree.specs.Derives.{Alts, bodies, resolved_alts}
 use Rattle.grammar_tree.specs.Corners.{group_size, normal_count_from}
 use Rattle.grammar_tree.specs.Faults.{number_at}
 use Rattle.grammar_tree.specs.Checked.{IsChecked}
-use Rattle.grammar_tree.proofs.Places.{numbers}
+use Rattle.grammar_tree.proofs.Lent.{numbers}
 use Rattle.normal_form.specs.Form.{NormalForm}
 use Rattle.normal_form.specs.Numbering.{Numbering, group, groups}
 use Rattle.normal_form.specs.NormalOf.{group_names, names_from, new_names, normal_of, numbering}

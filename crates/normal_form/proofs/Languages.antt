@@ -7,7 +7,7 @@ use Rattle.grammar_tree.specs.Written.{CheckedGrammar}
 use Rattle.grammar_tree.specs.Checked.{IsChecked}
 use Rattle.grammar_tree.specs.Derives.{Alts, RuleDerives, Term, bodies}
 use Rattle.grammar_tree.specs.Faults.{number_at}
-use Rattle.grammar_tree.proofs.Places.{numbers}
+use Rattle.grammar_tree.proofs.Lent.{numbers}
 use Rattle.normal_form.specs.declared.normal.Sym.TheVariants.{Rule}
 use Rattle.normal_form.specs.Numbering.{groups, group}
 use Rattle.normal_form.specs.NormalOf.{normal_of, numbering, own_rule, alts_sets}

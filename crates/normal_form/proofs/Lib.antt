@@ -1,24 +1,25 @@
-pub mod Lists
-pub mod Represents
-pub mod Closed
-pub mod Forward
-pub mod Backward
-pub mod Named
-pub mod SetNumbers
-pub mod Languages
-pub mod Counted
-pub mod Bounds
-pub mod Few
-pub mod SameForms
-pub mod DeriveForms
-pub mod VisibleKinds
-pub mod Parts
-pub mod Positions
-pub mod Origins
-pub mod Settings
-pub mod KnownSymbols
-pub mod SmallNumbers
-pub mod Elements
-pub mod Corners
-pub mod NoLeftRecursion
-pub mod ShortChains
+mod Lists
+mod Represents
+mod Closed
+mod Forward
+mod Backward
+mod Named
+mod SetNumbers
+mod Languages
+mod Counted
+mod Bounds
+mod Few
+mod SameForms
+mod DeriveForms
+mod VisibleKinds
+mod Parts
+mod Positions
+mod Origins
+mod Settings
+mod KnownSymbols
+mod SmallNumbers
+mod Elements
+mod Corners
+mod NoLeftRecursion
+mod ShortChains
+pub mod Lent

@@ -8,7 +8,7 @@ use Rattle.normal_form.specs.Form.{RuleForm, NormalForm}
 use Rattle.normal_form.specs.Numbering.{Numbering, symbol, and_symbol, seq_symbols, alts_symbols, term_rules, seq_rules, alts_rules, tail, base_symbols, rest_symbols, group_of, group, groups}
 use Rattle.normal_form.specs.Numbering as numbers
 use Rattle.normal_form.proofs.Represents.{Represents, RepresentsSeq, RepresentsAlts, IsPlainRule, IsRecursiveRule}
-use Rattle.grammar_check_recursion.proofs.Counted.{head_count}
+use Rattle.grammar_check_recursion.proofs.Lent.{head_count}
 use Rattle.normal_form.proofs.Closed.{IsClosed, IsClosedSeq, IsClosedAlts}
 use Rattle.normal_form.proofs.Forward.{rest_is}
 

@@ -5,7 +5,7 @@ use Rattle.grammar_tree.specs.Written.{CheckedGrammar}
 use Rattle.grammar_tree.specs.Checked.{IsChecked}
 use Rattle.grammar_tree.specs.Derives.{Alts, bodies}
 use Rattle.grammar_tree.specs.Corners.{IsLeftCorner, LeadsTo, by_corner, by_corners, group_size, in_base, in_rest, normal_count_from}
-use Rattle.grammar_tree.proofs.Places.{numbers}
+use Rattle.grammar_tree.proofs.Lent.{numbers}
 use Rattle.normal_form.specs.Form.{NormalForm}
 use Rattle.normal_form.specs.FormLaws.{IsNormalCorner, NoLeftRecursion, NormalLeadsTo, no_step, one_more}
 use Rattle.normal_form.specs.NormalOf.{normal_of, own_rule}

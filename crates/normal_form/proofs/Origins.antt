@@ -6,7 +6,7 @@ use Rattle.normal_form.specs.declared.normal.Sym.TheVariants.{Rule}
 use Rattle.normal_form.specs.Form.{RuleForm}
 use Rattle.normal_form.specs.Numbering.{Numbering, alts_symbols, alts_rules, base_symbols, rest_symbols, group_of, group, groups}
 use Rattle.normal_form.proofs.Closed.{IsClosedAlts}
-use Rattle.grammar_check_recursion.proofs.Counted.{head_count}
+use Rattle.grammar_check_recursion.proofs.Lent.{head_count}
 use Rattle.normal_form.proofs.Named.{At, IsThere, group_length}
 use Rattle.normal_form.proofs.Parts.{Setting, KnownAlts, HasKindsAlts, Begun, alts_size, get_append, in_alts}
 

@@ -5,7 +5,7 @@ use Rattle.std.specs.List.{Contains, position_or_len}
 use Rattle.std.proofs.lemmas.Bool.{lt-ltb}
 use Rattle.std.proofs.lemmas.Slice.Eq.{bytes_eq-Decides}
 use Rattle.grammar_tree.specs.Kinds.{distinct, same_text}
-use Rattle.grammar_tree.proofs.Elements.{contains_distinct}
+use Rattle.grammar_tree.proofs.Lent.{contains_distinct}
 use Rattle.normal_form.specs.NormalOf.{set_number}
 use Rattle.normal_form.proofs.Lists.{Contains-nil, Contains-cases}
 

@@ -14,7 +14,7 @@ use Rattle.grammar_tree.specs.Faults.{number_at}
 use Rattle.grammar_tree.specs.Size.{grammar_size, rule_size}
 use Rattle.grammar_tree.specs.Size as written
 use Rattle.grammar_tree.specs.Checked.{IsChecked}
-use Rattle.grammar_tree.proofs.Places.{numbers}
+use Rattle.grammar_tree.proofs.Lent.{numbers}
 use Rattle.normal_form.specs.Form.{RuleForm}
 use Rattle.normal_form.specs.Numbering.{group, groups}
 use Rattle.normal_form.specs.NormalOf.{alts_sets, normal_of, numbering, own_rule}
@@ -23,7 +23,7 @@ use Rattle.normal_form.proofs.Languages.{sets_among}
 use Rattle.normal_form.proofs.Named.{At_all, IsThere, group_at}
 use Rattle.normal_form.proofs.Origins.{Origin, RuleAt, in_groups, origin}
 use Rattle.normal_form.proofs.Parts.{HasKinds, HasKindsAlts, HasKindsSeq, Setting, alts_size, seq_size, size}
-use Rattle.grammar_check_recursion.proofs.Resolving.{kind_term, name_term}
+use Rattle.grammar_check_recursion.proofs.Lent.{kind_term, name_term}
 use Rattle.normal_form.proofs.SetNumbers.{set_is_there}
 
 abbrev pub setting : CheckedGrammar → Setting

@@ -11,7 +11,7 @@ use Rattle.normal_form.specs.Form.{RuleForm, NormalForm}
 use Rattle.normal_form.specs.FormLaws.{NumbersAreSmall}
 use Rattle.normal_form.specs.NormalOf.{IsNormal, normal_of, own_rule}
 use Rattle.normal_form.specs.Numbering.{Numbering, and_symbol, symbol, seq_symbols, alts_symbols, base_symbols, rest_symbols, term_rules, with_base, with_rest}
-use Rattle.grammar_tree.proofs.Counts.{counts_fit}
+use Rattle.grammar_tree.proofs.Lent.{counts_fit}
 use Rattle.normal_form.proofs.Bounds.{few_sets}
 use Rattle.normal_form.proofs.Lists.{Contains-only}
 use Rattle.normal_form.proofs.Origins.{Origin, RuleAt, left_alts, plain_alts}

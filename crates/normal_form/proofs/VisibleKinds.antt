@@ -7,15 +7,14 @@ use Rattle.std.proofs.lemmas.List.Elements.{Contains-append_cases, Contains-get_
 use Rattle.grammar_tree.specs.Written.{WrittenTerm, WrittenSeq, WrittenAlts, ParserRule, WrittenGrammar, Source, TokenKind}
 use Rattle.grammar_tree.specs.Kinds.{any_kinds, distinct, kinds_of, literal_kind, name_kind, other_kinds, parser_rules, rule_number, same_text, visible_from}
 use Rattle.grammar_tree.specs.Derives.{Alts, bodies, resolved, resolved_seq, resolved_alts}
-use Rattle.grammar_tree.proofs.Elements.{contains_none, contains_first, contains_later, contains_cases, filtered, flat_mapped, mapped}
-use Rattle.grammar_tree.proofs.Places.{contains_at}
+use Rattle.grammar_tree.proofs.Lent.{contains_none, contains_first, elements_contains_later as contains_later, contains_cases, filtered, flat_mapped, mapped, contains_at}
 use Rattle.grammar_names.specs.KindLists.{IsPartOf, is_in}
 use Rattle.normal_form.specs.NormalOf.{alts_sets, normal_of, seq_sets, sets_of, term_sets}
 use Rattle.normal_form.specs.Form.{NormalForm}
 use Rattle.normal_form.specs.FormLaws.{AreVisibleKinds, PartsAreVisible, PartsAreVisibleKinds, SetsAreVisibleKinds}
-use Rattle.normal_form_sets.proofs.Lacking.{all_part, kept_part, none_part, part_rises}
+use Rattle.normal_form_sets.proofs.Lent.{all_part, kept_part, none_part, part_rises}
 use Rattle.normal_form.proofs.Lists.{Contains-only}
-use Rattle.grammar_check_recursion.proofs.Resolving.{kind_term, name_term}
+use Rattle.grammar_check_recursion.proofs.Lent.{kind_term, name_term}
 
 -- a number of a kind that isn't a gap kind, where the first kind has the number n
 abbrev IsVisible : ℕ → List TokenKind → ℕ → Type 0

@@ -4,8 +4,8 @@ pub mod Form
 pub mod NormalDerives
 pub mod Numbering
 pub mod NormalOf
-pub mod Code
 pub mod View
 pub mod Laws
 pub mod Symbols
 pub mod FormLaws
+pub mod inner

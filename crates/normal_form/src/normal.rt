@@ -50,7 +50,7 @@ pub struct Normal {
 
 impl Model for Normal {
     ghost use Rattle.normal_form.specs.Form.{NormalForm};
-    ghost use Rattle.normal_form.specs.Code.{normal_coded};
+    ghost use Rattle.normal_form.specs.inner.Code.{normal_coded};
 
     ghost Value = { NormalForm };
 

@@ -12,17 +12,17 @@ use Rattle.grammar_tree.specs.Checked.{IsChecked}
 use Rattle.normal_form_build.specs.declared.parser_rule.ParserRuleRef.{ParserRuleRef}
 use Rattle.normal_form.specs.NormalOf.{names_from, normal_of, numbering, own_rule, sets_of}
 use Rattle.normal_form_terms.specs.Numbers.{AreNumbersOf}
-use Rattle.normal_form_build.specs.OwnRules.{own_rules_from}
+use Rattle.normal_form_build.specs.inner.OwnRules.{own_rules_from}
 use Rattle.normal_form_sets.specs.Sets.{SetsOfKinds}
 use Rattle.normal_form.specs.View.{normal_form, rule_form}
-use Rattle.normal_form_build.specs.ParserRules.{bodies_of, parser_rule}
+use Rattle.normal_form_build.specs.inner.ParserRules.{bodies_of, parser_rule}
 use Rattle.normal_form.specs.Form.{RuleForm, NormalForm}
 use Rattle.normal_form.specs.Numbering.{groups}
 use Rattle.normal_form.specs.Laws.{EqualLanguages, HasEqualLanguages}
 use Rattle.normal_form.specs.declared.normal.NormalRule.{NormalRule}
 use Rattle.grammar_tree.specs.declared.rule.Rule.{Rule}
 use Rattle.grammar_tree.specs.GrammarView.{rule_of}
-use Rattle.normal_form.proofs.Bounds.{few_sets}
+use Rattle.normal_form.proofs.Lent.{few_sets}
 
 -- the alternatives of the parser rules that were found
 pub bodies_are : (G H : WrittenGrammar) (found : List ParserRuleRef) (rules : List WrittenRule) → H ≡ G → rules ≡ G.rules → map parser_rule found ≡ parser_rules rules → bodies_of H found ≡ bodies G

@@ -8,9 +8,9 @@ use Rattle.normal_form.specs.Form.{RuleForm}
 use Rattle.normal_form.specs.NormalOf.{group_names, names_from}
 use Rattle.normal_form.specs.Numbering.{Numbering, group, groups}
 use Rattle.normal_form_build.specs.declared.parser_rule.ParserRuleRef.{ParserRuleRef}
-use Rattle.normal_form_build.specs.OwnRules.{own_rules_from}
-use Rattle.normal_form_build.specs.ParserRules.{bodies_of, parser_rule}
-use Rattle.normal_form_terms.proofs.RuleSteps.{all_made, more_made}
+use Rattle.normal_form_build.specs.inner.OwnRules.{own_rules_from}
+use Rattle.normal_form_build.specs.inner.ParserRules.{bodies_of, parser_rule}
+use Rattle.normal_form_terms.proofs.Lent.{all_made, more_made}
 
 -- the parser rules from an index on, of which one is taken
 pub body_taken : (G : WrittenGrammar) (rules : List ParserRuleRef) (i : ℕ) (r : ParserRuleRef) → i < length rules → r ≡ slice_index_or rules i r → bodies_of G (drop i rules) ≡ resolved_alts G (parser_rule r).alts ∷ bodies_of G (drop (i + 1) rules)

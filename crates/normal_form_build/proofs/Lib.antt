@@ -1,3 +1,3 @@
-pub mod GroupSteps
-pub mod NewNames
-pub mod Assembly
+mod GroupSteps
+mod NewNames
+mod Assembly

@@ -1,4 +1,3 @@
 pub use Rattle.grammar_tree.specs.Written
 pub use Rattle.normal_form.specs as NormalForm
-pub mod ParserRules
-pub mod OwnRules
+pub mod inner

@@ -8,7 +8,7 @@ ghost use Rattle.normal_form.specs.Laws.{HasEqualLanguages};
 ghost use Rattle.normal_form.specs.NormalOf.{normal_of, numbering};
 ghost use Rattle.normal_form.specs.Numbering.{groups};
 ghost use Rattle.normal_form.specs.View.{rule_form};
-ghost use Rattle.normal_form_build.specs.ParserRules.{HaveNumbers, bodies_of};
+ghost use Rattle.normal_form_build.specs.inner.ParserRules.{HaveNumbers, bodies_of};
 
 use crate::groups::push_group;
 use crate::own_rules::own_rules;

@@ -1,8 +1,8 @@
 //! Where the rules of each parser rule begin.
 
 ghost use Rattle.std.specs.Prelude.{◌≡◌, IfOk};
-ghost use Rattle.normal_form_build.specs.OwnRules.{own_rules_from};
-ghost use Rattle.normal_form_build.specs.ParserRules.{HaveNumbers, bodies_of};
+ghost use Rattle.normal_form_build.specs.inner.OwnRules.{own_rules_from};
+ghost use Rattle.normal_form_build.specs.inner.ParserRules.{HaveNumbers, bodies_of};
 
 use crate::parser_rule::ParserRuleRef;
 use faults::Memory;

@@ -3,7 +3,7 @@
 ghost use Rattle.std.specs.Prelude.{◌≡◌, IfOk, map};
 ghost use Rattle.grammar_tree.specs.GrammarView.{rule_of};
 ghost use Rattle.grammar_tree.specs.Kinds.{parser_rules};
-ghost use Rattle.normal_form_build.specs.ParserRules.{parser_rule};
+ghost use Rattle.normal_form_build.specs.inner.ParserRules.{parser_rule};
 
 use faults::Memory;
 use grammar_tree::{ParserAlts, Rule, Text};

@@ -2,7 +2,7 @@
 
 ghost use Rattle.std.specs.Prelude.{◌≡◌, ◌∷◌, ◌++◌, ◌<◌, IfOk, OnOk, decimal, map};
 ghost use Rattle.normal_form.specs.NormalOf.{group_names, names_from};
-ghost use Rattle.normal_form_build.specs.ParserRules.{HaveNumbers, parser_rule};
+ghost use Rattle.normal_form_build.specs.inner.ParserRules.{HaveNumbers, parser_rule};
 
 use crate::parser_rule::ParserRuleRef;
 use faults::Memory;

@@ -6,9 +6,9 @@ ghost use Rattle.grammar_tree.specs.Kinds.{any_kinds, name_kind, rule_number};
 ghost use Rattle.grammar_tree.specs.View.{parser_alts, parser_term, parser_terms};
 ghost use Rattle.grammar_tree.specs.Written.{written_alts, written_seq};
 ghost use Rattle.normal_form.specs.NormalOf.{alts_sets, seq_sets, sets_of, term_sets};
-ghost use Rattle.normal_form_build.specs.OwnRules.{name_sets, token_sets};
+ghost use Rattle.normal_form_build.specs.inner.OwnRules.{name_sets, token_sets};
 ghost use Rattle.normal_form_sets.specs.Sets.{with_each};
-ghost use Rattle.normal_form_build.specs.ParserRules.{bodies_of};
+ghost use Rattle.normal_form_build.specs.inner.ParserRules.{bodies_of};
 
 use crate::parser_rule::ParserRuleRef;
 use faults::Memory;

@@ -1,3 +1,3 @@
-pub mod PrintLemmas
-pub mod PrintedSymbols
-pub mod Rows
+mod PrintLemmas
+mod PrintedSymbols
+mod Rows

@@ -10,7 +10,7 @@ use Rattle.normal_form.specs.declared.normal.Sym.TheVariants.{Kind, Set, Rule}
 use Rattle.normal_form_print.specs.declared.print.Symbols.{Symbols}
 use Rattle.normal_form.specs.Form.{NormalForm}
 use Rattle.normal_form_print.specs.Print.{lines_from, printed, set_text, symbol_text}
-use Rattle.normal_form_print.specs.Printing.{kind_bytes, symbol_bytes}
+use Rattle.normal_form_print.specs.inner.Printing.{kind_bytes, symbol_bytes}
 use Rattle.normal_form_print.proofs.PrintLemmas.{lines_bytes}
 
 -- a look-up in a list that is mapped

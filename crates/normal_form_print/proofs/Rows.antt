@@ -11,7 +11,7 @@ use Rattle.normal_form.specs.NormalDerives.{NormalDerives, of_done, of_end, of_n
 use Rattle.normal_form.specs.NormalOf.{normal_of}
 use Rattle.normal_form_print.specs.Print.{printed}
 use Rattle.normal_form.specs.Symbols.{IsSymbolOf}
-use Rattle.normal_form.proofs.Lists.{Contains-here}
+use Rattle.normal_form.proofs.Lent.{Contains-here}
 
 abbrev literal : List ℕ → WrittenTerm
 literal t = WrittenTerm.literal t

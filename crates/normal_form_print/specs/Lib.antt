@@ -1,4 +1,4 @@
 pub use Rattle.grammar_tree.specs.Written
 pub use Rattle.normal_form.specs.Form
 pub mod Print
-pub mod Printing
+pub mod inner

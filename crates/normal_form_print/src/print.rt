@@ -5,7 +5,7 @@ ghost use Rattle.std.specs.Option.{option_map_or};
 ghost use Rattle.std.specs.List.{flat_map, join_by};
 ghost use Rattle.grammar_tree.specs.GrammarView.{kind_of};
 ghost use Rattle.normal_form_print.specs.Print.{body_text, but_text, code_of, escaped, kind_text, lines_from, numbered_kind_text, printed, set_text};
-ghost use Rattle.normal_form_print.specs.Printing.{kind_bytes, symbol_bytes};
+ghost use Rattle.normal_form_print.specs.inner.Printing.{kind_bytes, symbol_bytes};
 ghost use Rattle.normal_form.specs.View.{alts_form, rule_form};
 
 use faults::Memory;

@@ -24,9 +24,9 @@ use Rattle.std.proofs.lemmas.Slice.Eq.{bytes_eq-Decides}
 use Rattle.grammar_tree.specs.Kinds.{same_text}
 use Rattle.grammar_names.specs.Index.{or_added}
 use Rattle.grammar_names.specs.KindLists.{IsPartOf, is_in, lacking}
-use Rattle.grammar_names.proofs.KindLists.{filter_agree_on, in_filter}
-use Rattle.grammar_names.proofs.Places.{added_nothing, position_none, position_push, position_some}
-use Rattle.normal_form_sets.specs.Sets.{HasNumbers, SetsOfKinds, items_of, number_in, with_each}
+use Rattle.grammar_names.proofs.Lent.{filter_agree_on, in_filter, added_nothing, position_none, position_push, position_some}
+use Rattle.normal_form_sets.specs.Sets.{SetsOfKinds, items_of, with_each}
+use Rattle.normal_form_sets.specs.inner.Sets.{HasNumbers, number_in}
 
 -- What a list holds at an index that is looked up.
 pub item_some : {X : Type 0} (xs : List X) (i : ℕ) (x : Bor X) (r : Option (Bor X)) → r ≡ Some x → IsItemAt xs i r → slice_get xs i ≡ Some x.now

@@ -1,2 +1,3 @@
-pub mod Lacking
-pub mod SetSteps
+mod Lacking
+mod SetSteps
+pub mod Lent

@@ -4,7 +4,8 @@ ghost use Rattle.std.specs.Prelude.{◌≡◌, [], ◌∷◌, ◌++◌, IfOk, On
 ghost use Rattle.std.specs.List.Sorted.{IsStrictlyIncreasing};
 ghost use Rattle.grammar_tree.specs.Kinds.{same_text};
 ghost use Rattle.grammar_names.specs.KindLists.{IsPartOf, lacking};
-ghost use Rattle.normal_form_sets.specs.Sets.{HasNumbers, no_sets, with_each};
+ghost use Rattle.normal_form_sets.specs.Sets.{no_sets, with_each};
+ghost use Rattle.normal_form_sets.specs.inner.Sets.{HasNumbers};
 
 use crate::kind_sets::KindSets;
 use faults::Memory;
@@ -21,7 +22,8 @@ pub struct FoundSets {
 }
 
 impl Model for FoundSets {
-    ghost use Rattle.normal_form_sets.specs.Sets.{HasNumbers, SetsOfKinds, sets_coded};
+    ghost use Rattle.normal_form_sets.specs.Sets.{SetsOfKinds};
+    ghost use Rattle.normal_form_sets.specs.inner.Sets.{HasNumbers, sets_coded};
 
     ghost Value = { SetsOfKinds };
 

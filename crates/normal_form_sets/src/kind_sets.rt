@@ -21,7 +21,8 @@ pub struct KindSets {
 
 impl Model for KindSets {
     ghost use Rattle.std.specs.Prelude.{map};
-    ghost use Rattle.normal_form_sets.specs.Sets.{AreMissing, SetsOfKinds, items_of, sets_coded, sets_lacking};
+    ghost use Rattle.normal_form_sets.specs.Sets.{SetsOfKinds, items_of};
+    ghost use Rattle.normal_form_sets.specs.inner.Sets.{AreMissing, sets_coded, sets_lacking};
 
     ghost Value = { SetsOfKinds };
 

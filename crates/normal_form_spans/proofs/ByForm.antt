@@ -4,7 +4,7 @@ use Rattle.std.specs.List.{Contains, between}
 use Rattle.std.proofs.lemmas.List.Edits.{between_none}
 use Rattle.std.proofs.lemmas.Option.{slice_get_within, get_or_from_slice_get}
 use Rattle.grammar_tree.specs.Laws.{CutsInto}
-use Rattle.grammar_tree.proofs.Places.{at_of_contains, contains_at}
+use Rattle.grammar_tree.proofs.Lent.{at_of_contains, contains_at}
 use Rattle.normal_form.specs.declared.normal.Sym.{Sym}
 use Rattle.normal_form.specs.declared.normal.Sym.TheVariants.{Kind, Set, Rule}
 use Rattle.normal_form.specs.Form.{RuleForm, NormalForm}

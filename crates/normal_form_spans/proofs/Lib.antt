@@ -1,5 +1,6 @@
-pub mod Cuts
-pub mod Derived
-pub mod Joined
-pub mod ByForm
-pub mod Elements
+mod Cuts
+mod Derived
+mod Joined
+mod ByForm
+mod Elements
+pub mod Lent

@@ -1,4 +1,5 @@
-pub mod NamedSets
-pub mod Replaced
-pub mod RuleSteps
-pub mod TermRules
+mod NamedSets
+mod Replaced
+mod RuleSteps
+mod TermRules
+pub mod Lent

@@ -6,10 +6,9 @@ use Rattle.grammar_tree.specs.Written.{Reference, WrittenGrammar}
 use Rattle.grammar_tree.specs.Kinds.{any_kinds, other_kinds, reference_kind, same_text}
 use Rattle.grammar_tree.specs.Derives.{bodies}
 use Rattle.grammar_names.specs.KindLists.{IsPartOf, is_in, lacking, named_kinds}
-use Rattle.grammar_names.proofs.KindLists.{filter_agree_on, in_filter}
-use Rattle.grammar_names.proofs.TokenKinds.{others_are}
+use Rattle.grammar_names.proofs.Lent.{filter_agree_on, in_filter, others_are}
 use Rattle.normal_form_sets.specs.Sets.{SetsOfKinds}
-use Rattle.normal_form_sets.proofs.Lacking.{and_in, kept_part}
+use Rattle.normal_form_sets.proofs.Lent.{and_in, kept_part}
 use Rattle.normal_form.specs.NormalOf.{set_number, sets_of}
 
 -- `~` lacks the kinds that are named

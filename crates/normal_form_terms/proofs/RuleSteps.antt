@@ -14,7 +14,7 @@ use Rattle.normal_form.specs.declared.normal.Sym.{Sym}
 use Rattle.normal_form.specs.Form.{RuleForm}
 use Rattle.normal_form.specs.View.{alts_form}
 use Rattle.normal_form.specs.Numbering.{Numbering, alts_rules, alts_symbols, and_symbol, base_symbols, rest_symbols, seq_rules, seq_symbols, symbol, tail, term_rules, with_base, with_rest}
-use Rattle.normal_form_terms.specs.Terms.{has_symbol}
+use Rattle.normal_form_terms.specs.inner.Terms.{has_symbol}
 
 -- the terms from an index on, of which one is taken
 pub term_taken : (G : WrittenGrammar) (items : List ParserTerm) (i : ℕ) (t : ParserTerm) → i < length items → t ≡ slice_index_or items i t →

@@ -7,7 +7,7 @@ use Rattle.normal_form.specs.declared.normal.Sym.{Sym}
 use Rattle.normal_form.specs.Numbering.{Numbering, symbol, term_rules}
 use Rattle.normal_form.specs.View.{rule_form}
 use Rattle.grammar_tree.specs.declared.suffix.Suffix.{Suffix}
-use Rattle.normal_form_terms.specs.Terms.{suffix_form}
+use Rattle.normal_form_terms.specs.inner.Terms.{suffix_form}
 
 -- the rule of a term with a suffix, and after it those of the term
 pub suffixed : (M : Numbering) (t : Term) (old pushed : List NormalRule) (own : NormalRule) (s : Suffix) (x : Sym) (n i k : ℕ) → pushed ≡ old ++ own ∷ [] → rule_form own ≡ suffix_form s x → x ≡ symbol M i t → i ≡ n + 1 → k ≡ n + 1 →

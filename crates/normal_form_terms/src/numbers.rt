@@ -7,7 +7,8 @@ ghost use Rattle.grammar_tree.specs.View.{parser_term};
 ghost use Rattle.grammar_names.specs.KindLists.{IsPartOf, lacking};
 ghost use Rattle.normal_form.specs.Numbering.{symbol};
 ghost use Rattle.normal_form.specs.NormalOf.{numbering, sets_of};
-ghost use Rattle.normal_form_terms.specs.Numbers.{AreNumbersOf, named_symbol, token_symbol};
+ghost use Rattle.normal_form_terms.specs.Numbers.{AreNumbersOf};
+ghost use Rattle.normal_form_terms.specs.inner.Numbers.{named_symbol, token_symbol};
 
 use faults::Memory;
 use grammar_names::Names;
@@ -30,7 +31,7 @@ pub struct Numbers<'a> {
 
 impl<'a> Model for Numbers<'a> {
     ghost use Rattle.grammar_tree.specs.Written.{WrittenGrammar};
-    ghost use Rattle.grammar_tree.specs.Code.{grammar_coded};
+    ghost use Rattle.grammar_tree.specs.inner.Code.{grammar_coded};
 
     ghost Value = { WrittenGrammar };
 

@@ -8,7 +8,7 @@ ghost use Rattle.grammar_tree.specs.Written.{written_alts, written_seq};
 ghost use Rattle.normal_form.specs.Numbering.{alts_rules, alts_symbols, and_symbol, seq_rules, seq_symbols, symbol, term_rules};
 ghost use Rattle.normal_form.specs.Form.{RuleForm};
 ghost use Rattle.normal_form.specs.NormalOf.{numbering};
-ghost use Rattle.normal_form_terms.specs.Terms.{has_symbol, suffix_form};
+ghost use Rattle.normal_form_terms.specs.inner.Terms.{has_symbol, suffix_form};
 ghost use Rattle.normal_form.specs.View.{alts_form, rule_form};
 
 use crate::numbers::Numbers;

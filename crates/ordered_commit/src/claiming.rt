@@ -7,7 +7,7 @@ ghost use Rattle.reduce_step.specs.Ahead.{ahead};
 ghost use Rattle.reduce_step.specs.Plan.{asked};
 ghost use Rattle.ordered_commit.specs.BoardState.{IsSettled};
 ghost use Rattle.verdict_table.specs.TableState.{found_in};
-ghost use Rattle.ordered_commit.specs.Claiming.{ClaimsNext, is_absent, is_claimed};
+ghost use Rattle.ordered_commit.specs.inner.Claiming.{ClaimsNext, is_absent, is_claimed};
 ghost use Rattle.ordered_commit.specs.Seats.{Agrees, SameForOthers};
 ghost use Rattle.ordered_commit.specs.TakeEnds.{IsShown, TakeEnds};
 

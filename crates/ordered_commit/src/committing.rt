@@ -3,8 +3,9 @@
 ghost use Rattle.std.specs.Prelude.{◌≡◌, ◌≤◌, ◌<◌, ◌+◌, IsSome, IsErrOf, length, vec_capacity};
 ghost use Rattle.faults.specs.Count.{Rose};
 ghost use Rattle.reduce_step.specs.Plan.{asked};
-ghost use Rattle.ordered_commit.specs.CommitEnds.{CommitEnds, WritesCommit};
-ghost use Rattle.ordered_commit.specs.Numbers.{number_asked};
+ghost use Rattle.ordered_commit.specs.CommitEnds.{CommitEnds};
+ghost use Rattle.ordered_commit.specs.inner.CommitEnds.{WritesCommit};
+ghost use Rattle.ordered_commit.specs.inner.Numbers.{number_asked};
 ghost use Rattle.ordered_commit.specs.Writes.{HasSameName};
 
 use crate::board::Board;

@@ -15,10 +15,8 @@ use Rattle.verdict_table.specs.declared.record.Record.{Record}
 use Rattle.reduce_step.specs.Plan.{MayAsk, Plan, after, asked, follow}
 use Rattle.reduce_step.specs.Ahead.{ahead}
 use Rattle.verdict_table.specs.TableState.{Extends, texts_of, verdict_in}
-use Rattle.reduce_step.proofs.AheadLemmas.{ahead_may}
-use Rattle.reduce_step.proofs.PlanLemmas.{after_may, follow_after, follow_ended, stays}
-use Rattle.verdict_table.proofs.RecordLemmas.{extends_front, extends_itself}
-use Rattle.verdict_table.proofs.TableLemmas.{distinct_front}
+use Rattle.reduce_step.proofs.Lent.{ahead_may, after_may, follow_after, follow_ended, stays}
+use Rattle.verdict_table.proofs.Lent.{extends_front, extends_itself, distinct_front}
 use Rattle.reduce_journal.specs.declared.event.Event.TheVariants.{Recorded, Committed}
 use Rattle.reduce_journal.specs.History.{History, records_of}
 use Rattle.ordered_commit_moves.specs.Replay.{CommitsWhatIsAsked, answered, record_at, replay, replay_from}

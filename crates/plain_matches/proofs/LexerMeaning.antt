@@ -7,7 +7,7 @@ use Rattle.std.proofs.lemmas.Slice.Eq.{bytes_eq-Decides}
 use Rattle.grammar_tree.specs.Written.{LexerTerm, LexerSeq, LexerAlts, LexerRule, WrittenRule}
 use Rattle.grammar_tree.specs.Kinds.{lexer_rules, same_text}
 use Rattle.grammar_tree.specs.Matches.{Matches, MatchesMany, MatchesSeq, MatchesAlts}
-use Rattle.grammar_tree.proofs.Places.{at_of_contains, contains_later, lexer_place}
+use Rattle.grammar_tree.proofs.Lent.{at_of_contains, contains_later, lexer_place}
 use Rattle.plain_matches.specs.Patterns.{Pattern, Spans}
 use Rattle.plain_matches.specs.Positions.{IsExact, Known as rows_known, Many, SpansBy}
 use Rattle.plain_matches.specs.declared.chart.Row.{Row}

@@ -1,14 +1,14 @@
-pub mod Marks
-pub mod Ends
-pub mod Rows
-pub mod Views
-pub mod Pairs
-pub mod Spanned
-pub mod Ones
-pub mod Reading
+mod Marks
+mod Ends
+mod Rows
+mod Views
+mod Pairs
+mod Spanned
+mod Ones
+mod Reading
 pub mod Lent
-pub mod Pushed
-pub mod LexerViews
-pub mod LexerMeaning
-pub mod LexerResults
-pub mod LexerAlternatives
+mod Pushed
+mod LexerViews
+mod LexerMeaning
+mod LexerResults
+mod LexerAlternatives

@@ -1,1 +1,1 @@
-pub mod GrowingLists
+mod GrowingLists

@@ -1,3 +1,3 @@
-pub mod FoundLemmas
-pub mod InMode
-pub mod EndsLemmas
+mod FoundLemmas
+mod InMode
+mod EndsLemmas

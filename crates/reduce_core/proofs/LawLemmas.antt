@@ -3,14 +3,12 @@ use Rattle.std.proofs.Common.{ℕ, List, sym, ap, ◌∙◌, subst}
 use Rattle.std.proofs.lemmas.List.Elements.{All-weaker}
 use Rattle.reduce_step.specs.Plan.{End, MayAsk}
 use Rattle.reduce_step.specs.Ahead.{after_all, ahead}
-use Rattle.reduce_step.proofs.AheadLemmas.{ahead_may}
+use Rattle.reduce_step.proofs.Lent.{ahead_may}
 use Rattle.reduce_rounds.specs.Mode.{RoundMode}
 use Rattle.reduce_rounds.specs.Reduction.{Reduction}
 use Rattle.reduce_rounds.specs.Laws.{EndsWell, result_of}
 use Rattle.reduce_rounds.specs.Verdicts.{HasVerdicts, says_yes}
-use Rattle.reduce_rounds.proofs.Following as following
-use Rattle.reduce_rounds.proofs.Ends as ends
-use Rattle.reduce_rounds.proofs.Candidates as candidates
+use Rattle.reduce_rounds.proofs.Lent as lent
 use Rattle.reduce_core.specs.declared.lines.Line.{Line}
 use Rattle.reduce_core.specs.LineMode.{AreOfStart, LineInput, line_mode, line_plan}
 use Rattle.reduce_core.specs.Laws.{AheadAreCandidates, AsksCandidates, FollowsLines, LinesEndMinimal, RefusesLinesAtNo}
@@ -26,7 +24,7 @@ pub follows_lines : FollowsLines
 follows_lines admits V start =
     let mode : RoundMode (List Line) = line_mode (of_input admits start) in
     let is = sym (lines_are_recursions admits (says_yes V) start) in
-    let all = following.follows_reduction mode V in
+    let all = lent.follows_reduction mode V in
     record {
       ends = λ has. all.ends (subst (λ (r : Reduction (List Line)). HasVerdicts V r.questions) (sym is) has) ∙ ap (λ (r : Reduction (List Line)). End (result_of (line_recursion admits start) r)) is;
       defined = λ ended. subst (λ (r : Reduction (List Line)). HasVerdicts V r.questions) is (all.defined ended);
@@ -34,7 +32,7 @@ follows_lines admits V start =
 
 pub refuses_lines_at_no : RefusesLinesAtNo
 refuses_lines_at_no admits start V =
-    let both = following.refuses_at_no (line_mode (of_input admits start)) V in
+    let both = lent.refuses_at_no (line_mode (of_input admits start)) V in
     let is = lines_are_recursions admits (says_yes V) start in (
       λ yes_there. ap (λ (r : Reduction (List Line)). r.refused) is ∙ both.0 yes_there,
       λ no_there. let refused = both.1 no_there in (refused.0, ap (λ (r : Reduction (List Line)). r.refused) is ∙ refused.1),
@@ -45,13 +43,13 @@ lines_end_minimal admits V start admitted stays has =
     let input : LineInput = of_input admits start in
     let is = lines_are_recursions admits (says_yes V) start in
     subst (λ (r : Reduction (List Line)). EndsWell (line_mode input) (AreOfStart input) IsLineEdit V r.state) (sym is)
-    (ends.ends_minimal (line_mode input) (AreOfStart input) IsLineEdit (line_lawful input) (line_tries_edits input) admitted V
+    (lent.ends_minimal (line_mode input) (AreOfStart input) IsLineEdit (line_lawful input) (line_tries_edits input) admitted V
     (ap (λ (r : Reduction (List Line)). r.refused) (sym is) ∙ stays) (subst (λ (r : Reduction (List Line)). HasVerdicts V r.questions) is has))
 
 pub asks_candidates : AsksCandidates
 asks_candidates admits start text admitted may =
     let input : LineInput = of_input admits start in
-    let one = candidates.asks_candidates (line_mode input) (AreOfStart input) (line_lawful input).keeps admitted text may in
+    let one = lent.asks_candidates (line_mode input) (AreOfStart input) (line_lawful input).keeps admitted text may in
     record { lines = one.state; some = one.kept; listed = one.listed; joined = one.same }
 
 pub ahead_are_candidates : AheadAreCandidates

@@ -1,9 +1,10 @@
-pub mod LinesLemmas
-pub mod Subsequences
-pub mod LineLaws
-pub mod LineRounds
-pub mod LawLemmas
-pub mod Keeping
-pub mod Limits
-pub mod RoundLemmas
-pub mod PlainLemmas
+mod LinesLemmas
+mod Subsequences
+mod LineLaws
+mod LineRounds
+mod LawLemmas
+mod Keeping
+mod Limits
+mod RoundLemmas
+mod PlainLemmas
+pub mod Lent

@@ -7,7 +7,7 @@ use Rattle.list_ddmin.specs.ListStep.{kept_of}
 use Rattle.reduce_step.specs.Limits.{text_limit}
 use Rattle.reduce_core.specs.declared.lines.Line.{Line}
 use Rattle.reduce_core.specs.Lines.{at_front_of, lines_of, numbered_lines, text_of}
-use Rattle.reduce_core.specs.Fields.{IsInLimit}
+use Rattle.reduce_core.specs.inner.Fields.{IsInLimit}
 use Rattle.reduce_core.proofs.LinesLemmas.{kept_of-rises, length-numbered, numbered_lines-rise, text-numbered_lines}
 use Rattle.reduce_core.proofs.Keeping.{length-kept_of}
 

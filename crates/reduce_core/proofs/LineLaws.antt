@@ -4,11 +4,10 @@ use Rattle.std.proofs.lemmas.Bool.{false≢true}
 use Rattle.list_ddmin.specs.ListStep.{kept_of}
 use Rattle.list_ddmin.specs.Machine.{start as list_start}
 use Rattle.list_ddmin.specs.Asked.{KeepsFewer, KeepsOnlyOf}
-use Rattle.list_ddmin.proofs.Counts.{length-kept_of as count-kept_of}
+use Rattle.list_ddmin.proofs.Lent.{length-kept_of as count-kept_of}
 use Rattle.reduce_rounds.specs.Trials.{EachIsSmaller, IsTriedAtNo}
 use Rattle.reduce_rounds.specs.Mode.{IsLawful, Keeps, TriesEdits}
-use Rattle.reduce_list_trials.proofs.Tried.{becomes_smaller, tries_selections}
-use Rattle.reduce_list_trials.proofs.AtNo.{tries_deletions}
+use Rattle.reduce_list_trials.proofs.Lent.{becomes_smaller, tries_selections, tries_deletions}
 use Rattle.reduce_rounds.specs.Trials.{Done}
 use Rattle.reduce_core.specs.declared.lines.Line.{Line}
 use Rattle.reduce_core.specs.Lines.{numbered_lines}

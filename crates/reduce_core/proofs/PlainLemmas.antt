@@ -14,7 +14,7 @@ use Rattle.reduce_core.proofs.LineRounds.{fewer-after-yes, rounds-step, same-wit
 use Rattle.reduce_core.proofs.LinesLemmas.{text-numbered_lines}
 use Rattle.std.proofs.lemmas.Bool.{cond_both}
 use Rattle.std.specs.Bool.{beq}
-use Rattle.reduce_core.specs.Plain.{is_among, first_other, texts_asked, with_yes}
+use Rattle.reduce_core.specs.inner.Plain.{is_among, first_other, texts_asked, with_yes}
 
 either : (b : Bool) → (b ≡ true) ⊎ (b ≡ false)
 either true = inl refl

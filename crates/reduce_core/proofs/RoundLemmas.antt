@@ -5,18 +5,17 @@ use Rattle.std.specs.Option.{IfSome}
 use Rattle.list_ddmin.specs.Machine as list
 use Rattle.list_ddmin.specs.Machine.{State}
 use Rattle.list_ddmin.specs.ListStep.{kept_of}
-use Rattle.list_ddmin.proofs.AskedLemmas.{keeps_all_at_first, keeps_last_yes}
-use Rattle.list_ddmin.proofs.Lengths.{keeps_length, starts_with_all}
-use Rattle.list_ddmin.proofs.Follows as list_follows
+use Rattle.list_ddmin.proofs.Lent.{keeps_all_at_first, keeps_last_yes, keeps_length, starts_with_all}
+use Rattle.list_ddmin.proofs.Lent as list_follows
 use Rattle.reduce_step.specs.Limits.{text_limit}
 use Rattle.reduce_rounds.specs.Trials.{Done, Try, is_done, state_after, tried_state, trials_after}
 use Rattle.reduce_rounds.specs.Fields.{listed_text, text_if}
-use Rattle.reduce_list_trials.proofs.GoesOn.{at_end, at_question, by_asked}
+use Rattle.reduce_list_trials.proofs.Lent.{at_end, at_question, by_asked}
 use Rattle.reduce_core.specs.declared.lines.Line.{Line}
 use Rattle.reduce_core.specs.declared.line_round.Question.{Question}
 use Rattle.reduce_core.specs.Reduction.{Admits}
 use Rattle.reduce_core.specs.LineMode.{LineInput, line_mode, line_trials}
-use Rattle.reduce_core.specs.Fields.{Agrees, AreCopies, IsAbout, IsAsked, IsInLimit, IsOf, IsReady, rest_of}
+use Rattle.reduce_core.specs.inner.Fields.{Agrees, AreCopies, IsAbout, IsAsked, IsInLimit, IsOf, IsReady, rest_of}
 use Rattle.reduce_core.proofs.Limits.{length-text-kept_of}
 use Rattle.reduce_core.proofs.LinesLemmas.{length-numbers_of}
 use Rattle.reduce_core.proofs.Keeping.{kept_of-all}

@@ -4,9 +4,7 @@ pub use Rattle.reduce_rounds.specs as ReduceRounds
 pub use Rattle.reduce_list_trials.specs.ListTrials
 pub mod Lines
 pub mod Reduction
-pub mod Plain
 pub mod Candidates
 pub mod LineMode
-pub mod Fields
-pub mod FieldProps
 pub mod Laws
+pub mod inner

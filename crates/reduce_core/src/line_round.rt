@@ -3,8 +3,8 @@
 ghost use Rattle.std.specs.Prelude.{◌≡◌, ◌≤◌, length, IfOk};
 ghost use Rattle.list_ddmin.specs.Machine as list;
 ghost use Rattle.reduce_step.specs.Limits.{text_limit};
-ghost use Rattle.reduce_core.specs.Fields.{Agrees, AreCopies, IsAsked, IsInLimit};
-ghost use Rattle.reduce_core.specs.FieldProps.{agrees_prop};
+ghost use Rattle.reduce_core.specs.inner.Fields.{Agrees, AreCopies, IsAsked, IsInLimit};
+ghost use Rattle.reduce_core.specs.inner.FieldProps.{agrees_prop};
 
 use crate::lines::{Candidate, Lines};
 use faults::Memory;
@@ -71,7 +71,7 @@ impl<'a, F: Relation> Round for LineRound<'a, F> {
     ghost use Rattle.list_ddmin.specs.ListStep.{kept_of};
     ghost use Rattle.reduce_core.specs.declared.lines.Line.{Line};
     ghost use Rattle.reduce_core.specs.LineMode.{AreOfStart, LineInput, line_mode};
-    ghost use Rattle.reduce_core.specs.Fields.{rest_of};
+    ghost use Rattle.reduce_core.specs.inner.Fields.{rest_of};
 
     ghost Input = { LineInput };
 

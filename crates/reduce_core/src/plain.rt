@@ -5,7 +5,7 @@ ghost use Rattle.std.specs.List.{AllByRecursion};
 ghost use Rattle.std.specs.Option.{option_copied};
 ghost use Rattle.list_ddmin.specs.Machine.{HasLength};
 ghost use Rattle.reduce_step.specs.Limits.{text_limit};
-ghost use Rattle.reduce_core.specs.Plain.{first_other, is_among, texts_asked, verdict_on, with_yes};
+ghost use Rattle.reduce_core.specs.inner.Plain.{first_other, is_among, texts_asked, verdict_on, with_yes};
 ghost use Rattle.keep_guard.specs.Relation.{Rises};
 ghost use Rattle.reduce_core.specs.Lines.{numbers_of};
 ghost use Rattle.reduce_core.specs.Reduction.{line_recursion, line_step};

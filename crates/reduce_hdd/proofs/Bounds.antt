@@ -10,7 +10,7 @@ use Rattle.syntax_tree.specs.Numbered.{number_of}
 use Rattle.syntax_tree.specs.Left.{AreRemaindersOf, IsRemainderOf, IsRemainderOfSome, below_left, kept, leaf_left, left_out, node_left, none_left, of_first, of_later}
 use Rattle.syntax_tree.specs.Nodes.{AreNodesOf, SyntaxTree, whole}
 use Rattle.syntax_tree.specs.Levels.{at_depth, at_depth_all, depth, height}
-use Rattle.syntax_tree.proofs.NodeLists.{as_many}
+use Rattle.syntax_tree.proofs.Lent.{as_many}
 use Rattle.syntax_tree_cut.specs.Cuts.{CutForm, IsCutOf, cut_tree}
 use Rattle.syntax_tree_cut.specs.WithoutNodes.{loses_children}
 use Rattle.hdd_levels.specs.Levels.{deletable_at, deletable_children, level, with_leaves}

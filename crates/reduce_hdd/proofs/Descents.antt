@@ -4,8 +4,7 @@ use Rattle.std.proofs.lemmas.Bool.{cond-false, cond-true, le-leb, leb-true}
 use Rattle.normal_form.specs.declared.normal.Sym.{Sym}
 use Rattle.normal_form.specs.Form.{NormalForm}
 use Rattle.list_ddmin.specs.Machine.{State, kept, start}
-use Rattle.list_ddmin.proofs.AskedLemmas.{keeps_all_at_first}
-use Rattle.list_ddmin.proofs.Lengths.{starts_with_all}
+use Rattle.list_ddmin.proofs.Lent.{keeps_all_at_first, starts_with_all}
 use Rattle.reduce_rounds.specs.Trials.{Done}
 use Rattle.syntax_tree.specs.Trees.{PlainTree}
 use Rattle.syntax_tree.specs.Valid.{IsValid}
@@ -15,9 +14,9 @@ use Rattle.hdd_levels.specs.LevelForms.{IsLevelAt, IsLevelIfDeep, LevelForm, par
 use Rattle.hdd_levels.specs.Laws.{KeepingAllKeepsTree, ValidTreesFillPluses}
 use Rattle.reduce_hdd_trials.specs.Allowed.{allowed_trials}
 use Rattle.reduce_hdd_trials.specs.Round.{level_tried, levels, levels_from}
-use Rattle.reduce_hdd_trials.proofs.Going.{goes_by_levels}
-use Rattle.reduce_hdd.specs.Passing.{HasPassed, allowed_from}
-use Rattle.reduce_hdd.specs.Walking.{IsAskingStep, levels_below, step_trials}
+use Rattle.reduce_hdd_trials.proofs.Lent.{goes_by_levels}
+use Rattle.reduce_hdd.specs.inner.Passing.{HasPassed, allowed_from}
+use Rattle.reduce_hdd.specs.inner.Walking.{IsAskingStep, levels_below, step_trials}
 use Rattle.reduce_hdd.proofs.Passed.{goes_on_at_end, passing_length}
 
 -- The levels down to this depth ask nothing, and the level has the nodes above the next one.

@@ -1,6 +1,6 @@
-pub mod Bounds
-pub mod Passed
-pub mod Steps
-pub mod Descents
-pub mod RoundLemmas
-pub mod Walks
+mod Bounds
+mod Passed
+mod Steps
+mod Descents
+mod RoundLemmas
+mod Walks

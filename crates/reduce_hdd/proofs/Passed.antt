@@ -5,15 +5,14 @@ use Rattle.std.specs.Option.{option_copied, option_map_or}
 use Rattle.std.proofs.lemmas.Bool.{false≢true}
 use Rattle.normal_form.specs.Form.{NormalForm}
 use Rattle.list_ddmin.specs.Machine.{State, IsSound, asks, after, kept, left}
-use Rattle.list_ddmin.proofs.Follows.{IsSound-after}
+use Rattle.list_ddmin.proofs.Lent.{IsSound-after}
 use Rattle.reduce_rounds.specs.Trials.{Trials, Try, state_after, tried_state, trials_after}
-use Rattle.reduce_list_trials.proofs.GoesOn.{at_end, fewer_left}
-use Rattle.reduce_list_trials.proofs.Steps.{kept_at_no, kept_at_yes}
+use Rattle.reduce_list_trials.proofs.Lent.{at_end, fewer_left, kept_at_no, kept_at_yes}
 use Rattle.syntax_tree.specs.Trees.{PlainTree}
 use Rattle.hdd_levels.specs.Levels.{fills_pluses, kept_tree}
 use Rattle.reduce_hdd_trials.specs.Allowed.{allowed_trials}
-use Rattle.reduce_hdd_trials.proofs.AllowedTrials.{allowed_question, passed_question}
-use Rattle.reduce_hdd.specs.Passing.{HasPassed, IsPassing, allowed_from, refuses}
+use Rattle.reduce_hdd_trials.proofs.Lent.{allowed_question, passed_question}
+use Rattle.reduce_hdd.specs.inner.Passing.{HasPassed, IsPassing, allowed_from, refuses}
 
 module _ (N : NormalForm) (t : PlainTree) (nodes : List ℕ) where
   pub nothing_passed : (step : State) → IsSound step → IsPassing N t nodes step step

@@ -5,8 +5,7 @@ use Rattle.std.proofs.lemmas.Option.{none-some, same_Some}
 use Rattle.normal_form.specs.declared.normal.Sym.{Sym}
 use Rattle.normal_form.specs.Form.{NormalForm}
 use Rattle.list_ddmin.specs.Machine.{State, IsSound, asks, after, kept}
-use Rattle.list_ddmin.proofs.Follows.{IsSound-after}
-use Rattle.list_ddmin.proofs.Lengths.{asks_as_kept, keeps_length}
+use Rattle.list_ddmin.proofs.Lent.{IsSound-after, asks_as_kept, keeps_length}
 use Rattle.reduce_rounds.specs.Trials.{is_done, state_after, tried_state, trials_after}
 use Rattle.syntax_tree.specs.Trees.{PlainTree}
 use Rattle.syntax_tree.specs.Numbered.{NumbersRise}
@@ -18,8 +17,8 @@ use Rattle.hdd_levels.specs.LevelForms.{parents_at}
 use Rattle.hdd_levels.specs.Laws.{HigherNodesStay, KeptTreesAreLeft, KeptTreesAreTrees}
 use Rattle.reduce_hdd_trials.specs.Round.{levels_from}
 use Rattle.reduce_hdd.specs.declared.level_step.LevelStep.{LevelStep}
-use Rattle.reduce_hdd.specs.Passing.{HasPassed}
-use Rattle.reduce_hdd.specs.Walking.{IsAskingStep, IsLevelStep, levels_below, step_left, step_trials}
+use Rattle.reduce_hdd.specs.inner.Passing.{HasPassed}
+use Rattle.reduce_hdd.specs.inner.Walking.{IsAskingStep, IsLevelStep, levels_below, step_left, step_trials}
 use Rattle.reduce_hdd.proofs.Passed.{asking_after, asking_full, asking_left, asking_trials, asking_tried, goes_on_at_end, passing_length}
 
 -- where no plus would be empty, what is to be kept is kept

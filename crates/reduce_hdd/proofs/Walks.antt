@@ -13,7 +13,7 @@ use Rattle.syntax_tree.specs.Nodes.{SyntaxTree, whole}
 use Rattle.syntax_tree_cut.specs.Cuts.{CutForm, cut_tree}
 use Rattle.hdd_levels.specs.Laws.{KeptTreesAreLeft, KeptTreesAreTrees}
 use Rattle.reduce_hdd.specs.declared.level_step.LevelStep.{LevelStep}
-use Rattle.reduce_hdd.specs.Walking.{AreLevels, IsWalking, trials_within}
+use Rattle.reduce_hdd.specs.inner.Walking.{AreLevels, IsWalking, trials_within}
 use Rattle.reduce_hdd.proofs.Steps.{not_done, tried_kept}
 
 -- whether nothing more is tried

@@ -3,5 +3,4 @@ pub use Rattle.reduce_walk.specs as ReduceWalk
 pub use Rattle.syntax_tree_cut.specs.Cuts
 pub use Rattle.hdd_levels.specs.LevelForms
 pub mod LevelRounds
-pub mod Passing
-pub mod Walking
+pub mod inner

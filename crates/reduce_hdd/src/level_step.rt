@@ -5,8 +5,8 @@ ghost use Rattle.list_ddmin.specs.Machine.{IsSound, kept};
 ghost use Rattle.reduce_rounds.specs.Trials.{tried_state};
 ghost use Rattle.syntax_tree_cut.specs.Cuts.{IsCutOf, cut_tree};
 ghost use Rattle.hdd_levels.specs.LevelForms.{IsLevelAt};
-ghost use Rattle.reduce_hdd.specs.Passing.{HasPassed, refuses};
-ghost use Rattle.reduce_hdd.specs.Walking.{IsAskingStep, IsLevelStep, IsWalking, step_left, step_trials, tree_left};
+ghost use Rattle.reduce_hdd.specs.inner.Passing.{HasPassed, refuses};
+ghost use Rattle.reduce_hdd.specs.inner.Walking.{IsAskingStep, IsLevelStep, IsWalking, step_left, step_trials, tree_left};
 
 use faults::Memory;
 use hdd_levels::{LevelNodes, can_keep, keep_only};

@@ -3,7 +3,7 @@
 //! `reduce_hdd_trials` says. There are no texts here.
 //!
 //! [`TreeLevels`] is the whole; `level_step` has the list step of one level, and `descent` goes down to
-//! the next level that asks something. Read `specs/Walking.antt` for what the fields mean.
+//! the next level that asks something. Read `specs/inner/Walking.antt` for what the fields mean.
 #![tactic(auto)]
 
 mod descent;

@@ -34,8 +34,9 @@ pub struct TreeLevels<'a> {
 }
 
 impl<'a> Model for TreeLevels<'a> {
-    ghost use Rattle.reduce_walk.specs.WalkState.{WalkState, walk_state_coded};
-    ghost use Rattle.reduce_hdd.specs.Walking.{AreLevels, walk_state};
+    ghost use Rattle.reduce_walk.specs.WalkState.{WalkState};
+    ghost use Rattle.reduce_walk.specs.inner.WalkState.{walk_state_coded};
+    ghost use Rattle.reduce_hdd.specs.inner.Walking.{AreLevels, walk_state};
 
     ghost Value = { WalkState };
 

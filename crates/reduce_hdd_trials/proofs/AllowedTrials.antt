@@ -3,16 +3,15 @@ use Rattle.std.proofs.Common.{◌≡◌, ℕ, inl, inr, Bool, true, false, cond,
 use Rattle.std.specs.Prelude.{◌&&◌}
 use Rattle.std.proofs.lemmas.Bool.{cases_Bool, cond-false, cond-true}
 use Rattle.list_ddmin.specs.Machine.{State, IsSound, asks, after, kept, start}
-use Rattle.list_ddmin.proofs.Follows.{IsSound-start}
-use Rattle.list_ddmin.proofs.AskedLemmas.{keeps_all_at_first}
+use Rattle.list_ddmin.proofs.Lent.{IsSound-start, keeps_all_at_first}
 use Rattle.reduce_rounds.specs.Trials.{Trials, Done, Try, AllTried, EachIsSmaller, IsTriedAtNo}
 use Rattle.reduce_rounds.specs.StateTexts.{StateTexts}
 use Rattle.reduce_rounds.specs.Reduction.{after_question, after_yes}
 use Rattle.reduce_rounds.specs.ByTrials.{trials_end}
 use Rattle.reduce_list_trials.specs.ListTrials.{list_trials}
-use Rattle.reduce_list_trials.specs.Selections.{IsRemainder, IsRemainderAt, IsSelection, IsSelectionAt}
-use Rattle.reduce_list_trials.proofs.GoesOn.{at_end, at_question}
-use Rattle.reduce_list_trials.proofs.Steps.{by_steps, kept_at_no, kept_at_yes, remainder-after, remainder-start, selection-after, selection-asked, selection-start}
+use Rattle.reduce_list_trials.specs.Selections.{IsRemainder, IsSelection}
+use Rattle.reduce_list_trials.specs.inner.Selections.{IsRemainderAt, IsSelectionAt}
+use Rattle.reduce_list_trials.proofs.Lent.{at_end, at_question, by_steps, kept_at_no, kept_at_yes, remainder-after, remainder-start, selection-after, selection-asked, selection-start}
 use Rattle.reduce_hdd_trials.specs.Allowed.{allowed_trials}
 use Rattle.reduce_hdd_trials.specs.Followed.{with_allowed}
 

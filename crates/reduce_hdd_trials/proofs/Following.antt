@@ -4,7 +4,7 @@ use Rattle.std.specs.Prelude.{◌||◌, if◌then◌else◌}
 use Rattle.std.specs.List.{Contains}
 use Rattle.std.proofs.lemmas.Bool.{cases_Bool, cond-false, cond-true, eqb-true, false≢true}
 use Rattle.std.proofs.lemmas.List.Folds.{list_any-append}
-use Rattle.grammar_tree.proofs.Elements.{contains_none}
+use Rattle.grammar_tree.proofs.Lent.{contains_none}
 use Rattle.normal_form.specs.Form.{NormalForm}
 use Rattle.list_ddmin.specs.Asked.{KeepsFewer, KeepsOnlyOf}
 use Rattle.reduce_rounds.specs.Trials.{Trials, Done, Try}
@@ -13,12 +13,12 @@ use Rattle.syntax_tree.specs.Numbered.{NumbersRise, number_of}
 use Rattle.syntax_tree.specs.Levels.{depth}
 use Rattle.syntax_tree.specs.LeftLaws.{LeftIsPart}
 use Rattle.syntax_tree_cut.specs.WithoutNodes.{dropped, is_among, without_nodes, without_nodes_all}
-use Rattle.syntax_tree_cut.proofs.WithoutNodes.{without_both}
+use Rattle.syntax_tree_cut.proofs.Lent.{without_both}
 use Rattle.hdd_levels.specs.Levels.{fills_pluses, is_so_deep, kept_tree, level}
 use Rattle.hdd_levels.specs.Laws.{KeepingAllKeepsTree, KeptTreesAreLeft}
-use Rattle.hdd_levels.proofs.InLevels.{dropped_in}
+use Rattle.hdd_levels.proofs.Lent.{dropped_in}
 use Rattle.reduce_perses_trials.specs.Laws.{EachFollows}
-use Rattle.reduce_perses_trials.proofs.Following.{list_follows}
+use Rattle.reduce_perses_trials.proofs.Lent.{list_follows}
 use Rattle.reduce_hdd_trials.specs.Allowed.{allowed_trials}
 use Rattle.reduce_hdd_trials.specs.Round.{level_tried, levels_within}
 use Rattle.reduce_hdd_trials.specs.Deletions.{DeletesInLevel, TriesLevelDeletions}

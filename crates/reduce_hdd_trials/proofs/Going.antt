@@ -3,7 +3,7 @@ use Rattle.std.proofs.Common.{◌≡◌, ℕ, zero, suc, ◌+◌, ◌-◌, ◌<�
 use Rattle.std.proofs.lemmas.Bool.{cond-false, lt-leb}
 use Rattle.normal_form.specs.Form.{NormalForm}
 use Rattle.reduce_rounds.specs.Trials.{Trials, Done}
-use Rattle.reduce_list_trials.proofs.Tried.{same_by_keep_lists}
+use Rattle.reduce_list_trials.proofs.Lent.{same_by_keep_lists}
 use Rattle.syntax_tree.specs.Trees.{PlainTree}
 use Rattle.syntax_tree.specs.Levels.{depth}
 use Rattle.hdd_levels.specs.Levels.{is_so_deep, kept_tree, level}

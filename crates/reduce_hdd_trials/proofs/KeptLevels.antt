@@ -5,17 +5,14 @@ use Rattle.std.specs.List.{Contains}
 use Rattle.std.proofs.lemmas.Bool.{cases_Bool, cond-false, cond-true, false_from_ne_true, false≢true}
 use Rattle.std.proofs.lemmas.List.{append-nil}
 use Rattle.std.proofs.lemmas.List.Elements.{Contains-append_cases, Contains-append_left, Contains-append_right}
-use Rattle.grammar_tree.proofs.Elements.{contains_none}
+use Rattle.grammar_tree.proofs.Lent.{contains_none}
 use Rattle.normal_form.specs.Form.{NormalForm}
 use Rattle.syntax_tree.specs.Trees.{PlainTree, PlainTrees, weight}
 use Rattle.syntax_tree.specs.Numbered.{NumbersRise, number_of, roots}
 use Rattle.syntax_tree_cut.specs.WithoutNodes.{dropped, is_among, loses_children, without_nodes, without_nodes_all}
-use Rattle.syntax_tree_cut.proofs.Rising.{Rises, RiseAll, bounds_rise, number_within}
-use Rattle.syntax_tree_cut.proofs.Deletions.{child_within}
-use Rattle.syntax_tree_cut.proofs.WithoutNodes.{NoneFrom, first_kept, first_out, without_others}
+use Rattle.syntax_tree_cut.proofs.Lent.{Rises, RiseAll, bounds_rise, number_within, child_within, NoneFrom, first_kept, first_out, without_others}
 use Rattle.hdd_levels.specs.Levels.{deletable_children, level, with_leaves}
-use Rattle.hdd_levels.proofs.InLevels.{AreOf, level_all, level_next, rising_bound}
-use Rattle.hdd_levels.proofs.KeptTrees.{dropped_of, level_split, own_level}
+use Rattle.hdd_levels.proofs.Lent.{AreOf, level_all, level_next, rising_bound, dropped_of, level_split, own_level}
 
 -- The number is one of a tree that has a leaf.
 abbrev HasNumber : PlainTrees → ℕ → Type 0

@@ -1,8 +1,9 @@
-pub mod AllowedTrials
-pub mod KeptDepth
-pub mod Lighter
-pub mod Going
-pub mod Rounds
+mod AllowedTrials
+mod KeptDepth
+mod Lighter
+mod Going
+mod Rounds
 mod KeptLevels
 mod Following
 mod WorkedLemmas
+pub mod Lent

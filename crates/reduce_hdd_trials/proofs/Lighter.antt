@@ -7,13 +7,12 @@ use Rattle.list_ddmin.specs.ListStep.{kept_count}
 use Rattle.list_ddmin.specs.Asked.{KeepsOnlyOf}
 use Rattle.syntax_tree.specs.Trees.{PlainTree, leaves, weight}
 use Rattle.syntax_tree.specs.Numbered.{number_of, subtree}
-use Rattle.syntax_tree.proofs.Within.{within_from}
+use Rattle.syntax_tree.proofs.Lent.{within_from}
 use Rattle.syntax_tree_cut.specs.WeightLaws.{WeightsCountLeaves}
 use Rattle.syntax_tree_cut.specs.WithoutNodes.{AreApart, HasLeafBelow, dropped, without_nodes}
-use Rattle.syntax_tree_cut.proofs.Rising.{Rises}
-use Rattle.syntax_tree_cut.proofs.WithoutNodes.{LosesLeaves, later_stays, loses_leaves, nothing_out, number_without, without_both, without_rises}
+use Rattle.syntax_tree_cut.proofs.Lent.{Rises, LosesLeaves, later_stays, loses_leaves, nothing_out, number_without, without_both, without_rises}
 use Rattle.hdd_levels.specs.Levels.{level}
-use Rattle.hdd_levels.proofs.InLevels.{dropped_apart, level_apart}
+use Rattle.hdd_levels.proofs.Lent.{dropped_apart, level_apart}
 use Rattle.reduce_hdd_trials.specs.Laws.{FewerNodesAreLighter}
 
 -- how many leaves the node with this number has

@@ -9,9 +9,8 @@ use Rattle.reduce_rounds.specs.StateTexts.{StateTexts}
 use Rattle.reduce_rounds.specs.Reduction.{end_at}
 use Rattle.reduce_rounds.specs.ByTrials.{trials_end}
 use Rattle.reduce_list_trials.specs.ListEnd.{after_texts, keep_verdict}
-use Rattle.reduce_list_trials.proofs.Tried.{becomes_smaller}
-use Rattle.reduce_list_trials.proofs.AtNo as lists
-use Rattle.reduce_list_trials.proofs.Ends.{ends_as_list_step}
+use Rattle.reduce_list_trials.proofs.Lent.{becomes_smaller, ends_as_list_step}
+use Rattle.reduce_list_trials.proofs.Lent as lists
 use Rattle.syntax_tree.specs.Trees.{PlainTree, weight}
 use Rattle.syntax_tree.specs.Numbered.{NumbersRise}
 use Rattle.syntax_tree.specs.Valid.{IsTreeFor}

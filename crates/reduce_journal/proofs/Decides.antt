@@ -2,7 +2,7 @@
 use Rattle.std.proofs.Common.{◌≡◌, ◌≢◌, inl, inr, ℕ, List, [], ◌∷◌, ◌++◌, Ok, Err, refl, sym, ap, ◌∙◌, append_assoc, eqb, subst}
 use Rattle.std.proofs.lemmas.Bool.{cases_Bool, eq-eqb, eqb-true}
 use Rattle.reduce_journal.specs.declared.numbers.Mismatch.TheVariants.{Torn}
-use Rattle.reduce_journal.specs.Reading.{Parse, ◌>>=◌, after}
+use Rattle.reduce_journal.specs.inner.Reading.{Parse, ◌>>=◌, after}
 use Rattle.reduce_journal.proofs.Lists.{cut_apart, same_found, some_before, step_ok, step_err}
 
 -- the bytes are the beginning of the text of such a value, and not all of it

@@ -8,7 +8,7 @@ use Rattle.std.proofs.lemmas.Bool.Decides.{nat_tests}
 use Rattle.std.proofs.lemmas.Fmt.{decimal_by_steps, decimal_digit, decimal_step}
 use Rattle.reduce_journal.specs.declared.numbers.Mismatch.{Mismatch}
 use Rattle.reduce_journal.specs.declared.numbers.Mismatch.TheVariants.{Torn, Bad}
-use Rattle.reduce_journal.specs.Reading.{Parse, after, with_digit, digits_from, positive_at, number_at}
+use Rattle.reduce_journal.specs.inner.Reading.{Parse, after, with_digit, digits_from, positive_at, number_at}
 use Rattle.reduce_journal.proofs.Lists.{cut_apart, one_cut, same_found, some_after, step_ok, step_err}
 use Rattle.reduce_journal.proofs.Decides.{Begins, Decides, after_ok, after_torn}
 

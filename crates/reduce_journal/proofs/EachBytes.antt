@@ -8,7 +8,7 @@ use Rattle.reduce_journal.specs.declared.event.Event.{Event}
 use Rattle.reduce_journal.specs.declared.numbers.Mismatch.TheVariants.{Torn, Bad}
 use Rattle.reduce_journal.specs.History.{History, records_with, AllMayFollow}
 use Rattle.reduce_journal.specs.Journal.{head, event_text, journal_text, LacksHead, BeginsWithEvent, IsTorn, IsJournalOf, IsBadAt}
-use Rattle.reduce_journal.specs.Reading.{Parse, event_at}
+use Rattle.reduce_journal.specs.inner.Reading.{Parse, event_at}
 use Rattle.reduce_journal.proofs.Events.{event_decides}
 use Rattle.reduce_journal.proofs.Journals.{count_after, count_from_none, few_records, some_text, texts}
 

@@ -11,7 +11,7 @@ use Rattle.reduce_journal.specs.declared.event.Event.TheVariants.{Recorded, Comm
 use Rattle.reduce_journal.specs.declared.numbers.Mismatch.TheVariants.{Torn, Bad}
 use Rattle.reduce_journal.specs.History.{MayFollow}
 use Rattle.reduce_journal.specs.Journal.{event_text}
-use Rattle.reduce_journal.specs.Reading.{Parse, ◌>>=◌, after, verdict_at, text_at, number_at, positive_at, record_at, commit_at, event_at}
+use Rattle.reduce_journal.specs.inner.Reading.{Parse, ◌>>=◌, after, verdict_at, text_at, number_at, positive_at, record_at, commit_at, event_at}
 use Rattle.reduce_journal.proofs.Lists.{one_cut, same_found, some_after, step_ok, step_err}
 use Rattle.reduce_journal.proofs.Decides.{Begins, Decides, after_byte, after_ok, after_torn, in_order, renamed}
 use Rattle.reduce_journal.proofs.DecimalNumbers.{IsPositive, ended, number_decides, positive_decides}

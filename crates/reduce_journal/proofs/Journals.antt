@@ -11,7 +11,7 @@ use Rattle.reduce_journal.specs.declared.read.JournalFault.{JournalFault}
 use Rattle.reduce_journal.specs.declared.read.JournalFault.TheVariants.{BadHead, BadRecord, Memory}
 use Rattle.reduce_journal.specs.History.{History, records_of, records_with, MayFollow, AllMayFollow, IsHistory}
 use Rattle.reduce_journal.specs.Journal.{head, event_text, journal_text, LacksHead, BeginsWithEvent, IsTorn, HasEvents, IsJournalOf, IsBadAt, GivesJournal}
-use Rattle.reduce_journal.specs.Reading.{event_at}
+use Rattle.reduce_journal.specs.inner.Reading.{event_at}
 use Rattle.reduce_journal.proofs.Lists.{cut_apart, same_found, some_after}
 use Rattle.reduce_journal.proofs.Events.{event_decides}
 

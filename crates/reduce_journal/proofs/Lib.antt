@@ -1,7 +1,8 @@
-pub mod Lists
-pub mod Decides
-pub mod DecimalNumbers
-pub mod Events
-pub mod Journals
-pub mod Pieces
-pub mod EachBytes
+mod Lists
+mod Decides
+mod DecimalNumbers
+mod Events
+mod Journals
+mod Pieces
+mod EachBytes
+pub mod Lent

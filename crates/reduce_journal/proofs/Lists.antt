@@ -1,7 +1,7 @@
 -- Two ways to cut one list, and results of two steps.
 use Rattle.std.proofs.Common.{◌≡◌, ◌≢◌, ◌⊎◌, inl, inr, List, [], ◌∷◌, ◌++◌, Result, Ok, Err, refl, sym, ap}
 use Rattle.reduce_journal.specs.declared.numbers.Mismatch.{Mismatch}
-use Rattle.reduce_journal.specs.Reading.{◌>>=◌}
+use Rattle.reduce_journal.specs.inner.Reading.{◌>>=◌}
 
 -- of two ways to cut a list one comes first: it ends within the other's first part, or it ends in the other's second part
 pub cut_apart : {A : Type 0} (a b c d : List A) → a ++ b ≡ c ++ d

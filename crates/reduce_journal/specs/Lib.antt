@@ -3,4 +3,4 @@ pub use Rattle.edge_io.specs.Sink
 pub mod History
 pub mod Journal
 pub mod Report
-pub mod Reading
+pub mod inner

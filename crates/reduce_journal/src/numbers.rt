@@ -1,7 +1,7 @@
 //! The numbers of a journal.
 
 ghost use Rattle.std.specs.Prelude.{◌≡◌, ◌≤◌, IfOk};
-ghost use Rattle.reduce_journal.specs.Reading.{Gives, after, digits_from, number_at, positive_at, with_digit};
+ghost use Rattle.reduce_journal.specs.inner.Reading.{Gives, after, digits_from, number_at, positive_at, with_digit};
 
 /// Why what is looked for isn't at the front of some bytes.
 #[derive(Clone, Copy, Debug, PartialEq, Eq)]
@@ -29,7 +29,7 @@ pub(crate) fn after(byte: u8, bytes: &[u8]) -> Result<&[u8], Mismatch>
 }
 
 /// The number from 0 to `greatest` that these bytes begin with, and what follows the newline after it.
-#[tactic(auto, unfolding(crate::specs::Reading::number_at))]
+#[tactic(auto, unfolding(crate::specs::inner::Reading::number_at))]
 pub(crate) fn number_at(greatest: u64, bytes: &[u8]) -> Result<(u64, &[u8]), Mismatch>
     ensures { Gives (λ found. (found.0, found.1.now)) result (number_at greatest bytes.now) }
 {
@@ -44,7 +44,7 @@ pub(crate) fn number_at(greatest: u64, bytes: &[u8]) -> Result<(u64, &[u8]), Mis
 }
 
 /// The number from 1 to `greatest` that these bytes begin with, and what follows the newline after it.
-#[tactic(auto, unfolding(crate::specs::Reading::positive_at))]
+#[tactic(auto, unfolding(crate::specs::inner::Reading::positive_at))]
 pub(crate) fn positive_at(greatest: u64, bytes: &[u8]) -> Result<(u64, &[u8]), Mismatch>
     ensures { Gives (λ found. (found.0, found.1.now)) result (positive_at greatest bytes.now) }
 {
@@ -74,7 +74,7 @@ fn digits_from(greatest: u64, number: u64, bytes: &[u8]) -> Result<(u64, &[u8]),
 }
 
 /// The number with one more digit, if this byte is one and the number is at most `greatest`.
-#[tactic(auto, unfolding(crate::specs::Reading::with_digit))]
+#[tactic(auto, unfolding(crate::specs::inner::Reading::with_digit))]
 fn with_digit(greatest: u64, number: u64, byte: u8) -> Result<u64, Mismatch>
     requires { number ≤ greatest }
     ensures value { result ≡ with_digit greatest number byte }

@@ -1,7 +1,7 @@
 //! One event of a journal.
 
 ghost use Rattle.std.specs.Prelude.{◌≡◌, IfOk};
-ghost use Rattle.reduce_journal.specs.Reading.{Gives, commit_at, event_at, lent_event, record_at, text_at, verdict_at};
+ghost use Rattle.reduce_journal.specs.inner.Reading.{Gives, commit_at, event_at, lent_event, record_at, text_at, verdict_at};
 
 use crate::event::Event;
 use crate::numbers::{Mismatch, after, number_at, positive_at};
@@ -38,7 +38,7 @@ impl LentEvent<'_> {
 }
 
 /// The event that these bytes begin with, after so many records, and the bytes after it.
-#[tactic(auto, unfolding(crate::specs::Reading::event_at))]
+#[tactic(auto, unfolding(crate::specs::inner::Reading::event_at))]
 pub(crate) fn event_at(records: u64, bytes: &[u8]) -> Result<(LentEvent<'_>, &[u8]), Mismatch>
     ensures { Gives (λ found. (lent_event found.0, found.1.now)) result (event_at records bytes.now) }
 {
@@ -51,7 +51,7 @@ pub(crate) fn event_at(records: u64, bytes: &[u8]) -> Result<(LentEvent<'_>, &[u
 }
 
 /// The record that these bytes begin with but for its first letter.
-#[tactic(auto, unfolding(crate::specs::Reading::record_at))]
+#[tactic(auto, unfolding(crate::specs::inner::Reading::record_at))]
 fn record_at(bytes: &[u8]) -> Result<(LentEvent<'_>, &[u8]), Mismatch>
     ensures { Gives (λ found. (lent_event found.0, found.1.now)) result (record_at bytes.now) }
 {
@@ -64,7 +64,7 @@ fn record_at(bytes: &[u8]) -> Result<(LentEvent<'_>, &[u8]), Mismatch>
 }
 
 /// The commit that these bytes begin with but for its first letter, after so many records.
-#[tactic(auto, unfolding(crate::specs::Reading::commit_at))]
+#[tactic(auto, unfolding(crate::specs::inner::Reading::commit_at))]
 fn commit_at(records: u64, bytes: &[u8]) -> Result<(LentEvent<'_>, &[u8]), Mismatch>
     ensures { Gives (λ found. (lent_event found.0, found.1.now)) result (commit_at records bytes.now) }
 {
@@ -89,7 +89,7 @@ fn verdict_at(bytes: &[u8]) -> Result<(Verdict, &[u8]), Mismatch>
 }
 
 /// The text of so many bytes that these bytes begin with, and what follows the newline after it.
-#[tactic(auto, unfolding(crate::specs::Reading::text_at))]
+#[tactic(auto, unfolding(crate::specs::inner::Reading::text_at))]
 fn text_at(count: usize, bytes: &[u8]) -> Result<(&[u8], &[u8]), Mismatch>
     ensures { Gives (λ found. (found.0.now, found.1.now)) result (text_at count bytes.now) }
 {

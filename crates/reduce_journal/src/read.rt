@@ -3,7 +3,7 @@
 ghost use Rattle.std.specs.Prelude.{◌≡◌, ◌↔◌, ◌⊎◌, ◌<◌, ◌^◌, ℕ, ◌+◌, List, ◌++◌, IfOk, IsErrOf};
 ghost use Rattle.reduce_journal.specs.History.{History, records_with};
 ghost use Rattle.reduce_journal.specs.Journal.{GivesJournal, IsBadAt, IsJournalOf, LacksHead, head};
-ghost use Rattle.reduce_journal.specs.Reading.{lent_event};
+ghost use Rattle.reduce_journal.specs.inner.Reading.{lent_event};
 
 use crate::event::Event;
 use crate::numbers::Mismatch;

@@ -3,9 +3,7 @@ use Rattle.std.proofs.Common.{◌≡◌, ◌<◌, ◌≤◌, ℕ, zero, suc, inl
 use Rattle.list_ddmin.specs.ListStep.{Outcome, kept_count, list_step}
 use Rattle.list_ddmin.specs.Machine.{State, IsSound, Answered, after, kept, start}
 use Rattle.list_ddmin.specs.Asked.{WasAsked}
-use Rattle.list_ddmin.proofs.Follows.{IsSound-after, IsSound-start, follows_list_step}
-use Rattle.list_ddmin.proofs.Minimal.{kept_count-all}
-use Rattle.list_ddmin.proofs.AskedLemmas.{deletions_asked, keeps_all_at_first}
+use Rattle.list_ddmin.proofs.Lent.{IsSound-after, IsSound-start, follows_list_step, kept_count-all, deletions_asked, keeps_all_at_first}
 use Rattle.reduce_rounds.specs.Trials.{Trials, IsTriedAtNo}
 use Rattle.reduce_list_trials.specs.ListTrials.{list_trials}
 use Rattle.reduce_list_trials.specs.Laws.{TriesDeletions}

@@ -4,15 +4,15 @@ use Rattle.std.specs.Prelude.{◌&&◌, ◌||◌}
 use Rattle.std.specs.List.{list_any}
 use Rattle.list_ddmin.specs.ListStep.{Outcome}
 use Rattle.list_ddmin.specs.Machine.{State, IsSound, after, kept, rest_of, start}
-use Rattle.list_ddmin.proofs.Follows.{IsSound-start, begins_list_step, rest_of-after, stops_at_end}
-use Rattle.list_ddmin.proofs.AskedLemmas.{keeps_all_at_first}
+use Rattle.list_ddmin.proofs.Lent.{IsSound-start, begins_list_step, rest_of-after, stops_at_end, keeps_all_at_first}
 use Rattle.reduce_rounds.specs.Trials.{Trials}
 use Rattle.reduce_rounds.specs.StateTexts.{StateTexts}
 use Rattle.reduce_rounds.specs.Reduction.{RoundEnd, after_question, after_yes}
 use Rattle.reduce_rounds.specs.ByTrials.{trials_end}
 use Rattle.reduce_list_trials.specs.ListTrials.{list_trials}
 use Rattle.reduce_list_trials.specs.ListEnd.{after_texts, keep_verdict, listed_texts}
-use Rattle.reduce_list_trials.specs.Laws.{EndsAsListStep, EndsAsRest, end_after}
+use Rattle.reduce_list_trials.specs.Laws.{EndsAsListStep, end_after}
+use Rattle.reduce_list_trials.specs.inner.Laws.{EndsAsRest}
 use Rattle.reduce_list_trials.proofs.GoesOn.{at_end, at_question}
 use Rattle.reduce_list_trials.proofs.Steps.{by_steps, kept_at_no, kept_at_yes}
 

@@ -1,8 +1,8 @@
 -- Trials of a list step go by its machine, and the bound on its questions is never met.
 use Rattle.std.proofs.Common.{◌≡◌, ◌<◌, ◌≤◌, ℕ, zero, suc, Bool, true, false, List, Option, Some, None, refl, ◌∙◌, arith}
 use Rattle.list_ddmin.specs.Machine.{State, IsSound, asks, after, kept, left}
-use Rattle.list_ddmin.proofs.Left as list_left
-use Rattle.list_ddmin.proofs.Follows.{IsSound-after}
+use Rattle.list_ddmin.proofs.Lent as list_left
+use Rattle.list_ddmin.proofs.Lent.{IsSound-after}
 use Rattle.reduce_rounds.specs.Trials.{Trials, Try}
 use Rattle.reduce_list_trials.specs.ListTrials.{by_question, list_trials, list_within}
 use Rattle.reduce_list_trials.specs.Laws.{GoesByQuestions}

@@ -1,6 +1,7 @@
-pub mod GoesOn
-pub mod Steps
-pub mod Tried
-pub mod AtNo
-pub mod Ends
-pub mod WorkedLemmas
+mod GoesOn
+mod Steps
+mod Tried
+mod AtNo
+mod Ends
+mod WorkedLemmas
+pub mod Lent

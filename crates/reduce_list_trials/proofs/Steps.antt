@@ -4,11 +4,9 @@ use Rattle.std.proofs.lemmas.List.{length-replicate}
 use Rattle.list_ddmin.specs.ListStep.{kept_count}
 use Rattle.list_ddmin.specs.Machine.{State, IsSound, asks, after, kept, left, start}
 use Rattle.list_ddmin.specs.Asked.{KeepsFewer, IsNothing}
-use Rattle.list_ddmin.proofs.Follows.{IsSound-after}
-use Rattle.list_ddmin.proofs.Minimal.{kept_count-all}
-use Rattle.list_ddmin.proofs.AskedLemmas.{keeps_last_yes, keeps_all_at_first}
-use Rattle.list_ddmin.proofs.KeepsLess.{asks_fewer, asks_for_nothing_first, only-fewer, only-length}
-use Rattle.reduce_list_trials.specs.Selections.{IsSelection, IsRemainder, IsSelectionAt, IsRemainderAt}
+use Rattle.list_ddmin.proofs.Lent.{IsSound-after, kept_count-all, keeps_last_yes, keeps_all_at_first, asks_fewer, asks_for_nothing_first, only-fewer, only-length}
+use Rattle.reduce_list_trials.specs.Selections.{IsSelection, IsRemainder}
+use Rattle.reduce_list_trials.specs.inner.Selections.{IsSelectionAt, IsRemainderAt}
 use Rattle.reduce_list_trials.proofs.GoesOn.{by_asked, fewer_left}
 
 -- what holds where nothing is asked, and at a question if it does after both answers, holds of each sound state

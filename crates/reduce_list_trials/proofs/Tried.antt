@@ -3,14 +3,12 @@ use Rattle.std.proofs.Common.{◌≡◌, ◌<◌, ℕ, inl, Bool, true, false, L
 use Rattle.std.proofs.lemmas.List.{length-replicate}
 use Rattle.list_ddmin.specs.Machine.{State, IsSound, after, kept, start}
 use Rattle.list_ddmin.specs.Asked.{KeepsFewer}
-use Rattle.list_ddmin.proofs.Follows.{IsSound-start}
-use Rattle.list_ddmin.proofs.Lengths.{keeps_length}
-use Rattle.list_ddmin.proofs.AskedLemmas.{keeps_all_at_first}
-use Rattle.list_ddmin.proofs.KeepsLess.{asks_fewer}
+use Rattle.list_ddmin.proofs.Lent.{IsSound-start, keeps_length, keeps_all_at_first, asks_fewer}
 use Rattle.reduce_rounds.specs.Trials.{Trials, Try, AllTried, EachIsSmaller}
 use Rattle.reduce_list_trials.specs.ListTrials.{list_trials}
-use Rattle.reduce_list_trials.specs.Selections.{IsSelectionAt, IsRemainderAt}
-use Rattle.reduce_list_trials.specs.Laws.{BecomesSmaller, BecomesSmallerAt, SameByKeepLists, SameByKeepListsAt, TriesSelections, TriesSelectionsAt}
+use Rattle.reduce_list_trials.specs.inner.Selections.{IsSelectionAt, IsRemainderAt}
+use Rattle.reduce_list_trials.specs.Laws.{BecomesSmaller, SameByKeepLists, TriesSelections}
+use Rattle.reduce_list_trials.specs.inner.Laws.{BecomesSmallerAt, SameByKeepListsAt, TriesSelectionsAt}
 use Rattle.reduce_list_trials.proofs.GoesOn.{at_end, at_question}
 use Rattle.reduce_list_trials.proofs.Steps.{by_steps, kept_at_no, kept_at_yes, remainder-after, remainder-start, selection-after, selection-asked, selection-start}
 

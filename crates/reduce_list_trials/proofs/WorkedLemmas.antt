@@ -2,7 +2,7 @@
 use Rattle.std.proofs.Common.{◌≡◌, ◌≤◌, ℕ, zero, suc, Bool, true, false, List, [], ◌∷◌, Option, Some, None, refl, ◌∙◌, arith}
 use Rattle.list_ddmin.specs.ListStep.{complement, kept_of, part}
 use Rattle.list_ddmin.specs.Machine.{State, IsSound, asks, after, kept, left, start}
-use Rattle.list_ddmin.proofs.Follows.{IsSound-after, IsSound-start}
+use Rattle.list_ddmin.proofs.Lent.{IsSound-after, IsSound-start}
 use Rattle.reduce_rounds.specs.Trials.{Trials, Try}
 use Rattle.reduce_list_trials.specs.ListTrials.{list_trials}
 use Rattle.reduce_list_trials.specs.Worked.{WorkedTrials}

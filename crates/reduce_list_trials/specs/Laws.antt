@@ -1,14 +1,14 @@
 -- The laws of list steps as trials.
 use Rattle.std.specs.Prelude.{◌≡◌, ◌<◌, ◌≤◌, ℕ, Bool, true, false, List, Some, None, length, replicate, slice_set}
 use Rattle.list_ddmin.specs.ListStep.{Outcome, list_step}
-use Rattle.list_ddmin.specs.Machine.{State, IsSound, asks, after, kept, start, rest_of}
+use Rattle.list_ddmin.specs.Machine.{State, IsSound, asks, after, kept, start}
 use Rattle.list_ddmin.specs.Asked.{KeepsFewer}
 use Rattle.reduce_rounds.specs.Trials.{Trials, Try, AllTried, EachIsSmaller, IsTriedAtNo}
 use Rattle.reduce_rounds.specs.StateTexts.{StateTexts}
 use Rattle.reduce_rounds.specs.Reduction.{RoundEnd}
 use Rattle.reduce_rounds.specs.ByTrials.{trials_end}
 use Rattle.reduce_list_trials.specs.ListTrials.{list_trials}
-use Rattle.reduce_list_trials.specs.Selections.{IsSelection, IsRemainder, IsSelectionAt, IsRemainderAt}
+use Rattle.reduce_list_trials.specs.Selections.{IsSelection, IsRemainder}
 use Rattle.reduce_list_trials.specs.ListEnd.{after_step, keep_verdict}
 
 -- At a question its state is tried, and each answer goes on from the machine's next state. Where nothing is asked, it goes on from the elements that remain.
@@ -55,28 +55,3 @@ SameByKeepLists state_of state_of' next next' = (len : ℕ) (may_be_empty : Bool
     → ((keep : List Bool) → IsSelection len may_be_empty keep → state_of keep ≡ state_of' keep)
     → ((keep : List Bool) → IsRemainder len may_be_empty keep → next keep ≡ next' keep)
     → list_trials state_of next (start len may_be_empty) ≡ list_trials state_of' next' (start len may_be_empty)
-
--- The same from each sound state of the machine on.
-
-abbrev pub TriesSelectionsAt : {T : Type 0} → (T → Type 0) → (List Bool → T) → (List Bool → Trials T) → Type 0
-TriesSelectionsAt P state_of next = (step : State) → IsSound step
-    → ((keep : List Bool) → IsSelectionAt step keep → P (state_of keep))
-    → ((keep : List Bool) → IsRemainderAt step keep → AllTried P (next keep))
-    → AllTried P (list_trials state_of next step)
-
-abbrev pub BecomesSmallerAt : {T : Type 0} → (T → ℕ) → (List Bool → T) → (List Bool → Trials T) → Type 0
-BecomesSmallerAt size state_of next = (step : State) → IsSound step
-    → ((question keep : List Bool) → length keep ≡ length (kept step) → KeepsFewer question keep → size (state_of question) < size (state_of keep))
-    → ((keep : List Bool) → IsRemainderAt step keep → EachIsSmaller size (size (state_of keep)) (next keep))
-    → EachIsSmaller size (size (state_of (kept step))) (list_trials state_of next step)
-
-abbrev pub EndsAsRest : {T : Type 0} → StateTexts T → (List ℕ → Bool) → (List Bool → T) → (List Bool → Trials T) → Type 0
-EndsAsRest texts verdict state_of next = (step : State) → IsSound step
-    → trials_end texts verdict (state_of (kept step)) (list_trials state_of next step)
-    ≡ end_after texts verdict state_of next (rest_of (keep_verdict texts verdict state_of) step)
-
-abbrev pub SameByKeepListsAt : {T : Type 0} → (List Bool → T) → (List Bool → T) → (List Bool → Trials T) → (List Bool → Trials T) → Type 0
-SameByKeepListsAt state_of state_of' next next' = (step : State) → IsSound step
-    → ((keep : List Bool) → IsSelectionAt step keep → state_of keep ≡ state_of' keep)
-    → ((keep : List Bool) → IsRemainderAt step keep → next keep ≡ next' keep)
-    → list_trials state_of next step ≡ list_trials state_of' next' step

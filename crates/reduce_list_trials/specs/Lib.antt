@@ -3,3 +3,4 @@ pub mod Selections
 pub mod ListEnd
 pub mod Laws
 pub mod Worked
+pub mod inner

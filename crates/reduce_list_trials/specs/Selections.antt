@@ -1,8 +1,6 @@
 -- Which keep lists a list step may try, and which elements may remain at its end.
 use Rattle.std.specs.Prelude.{◌≡◌, ◌<◌, ◌⊎◌, ℕ, Bool, true, false, List, length, replicate}
 use Rattle.list_ddmin.specs.ListStep.{kept_count}
-use Rattle.list_ddmin.specs.Machine.{State, kept}
-use Rattle.list_ddmin.specs.Asked.{KeepsFewer, IsNothing}
 
 -- some of so many elements, but not all of them; and where they may not all go, at least one
 pub record IsSelection (len : ℕ) (may_be_empty : Bool) (keep : List Bool) : Type 0 where
@@ -13,12 +11,3 @@ pub record IsSelection (len : ℕ) (may_be_empty : Bool) (keep : List Bool) : Ty
 -- all of so many elements, or a selection of them
 abbrev pub IsRemainder : ℕ → Bool → List Bool → Type 0
 IsRemainder len may_be_empty keep = (keep ≡ replicate len true) ⊎ IsSelection len may_be_empty keep
-
--- The same at a state of the list step's machine: some of the elements that it keeps, but not all of them; and at least one, unless it asks whether all may go.
-pub record IsSelectionAt (step : State) (keep : List Bool) : Type 0 where
-  pub fewer : KeepsFewer keep (kept step)
-  pub some : (0 < kept_count keep) ⊎ IsNothing step
-
--- all elements that the state keeps, or a selection of them
-abbrev pub IsRemainderAt : State → List Bool → Type 0
-IsRemainderAt step keep = (keep ≡ kept step) ⊎ IsSelectionAt step keep

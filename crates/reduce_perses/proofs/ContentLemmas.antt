@@ -9,8 +9,8 @@ use Rattle.syntax_tree.specs.Numbered.{with_subtree}
 use Rattle.syntax_tree_cut.specs.Cuts.{CanEmpty}
 use Rattle.reduce_perses_trials.specs.Queued.{with_trees}
 use Rattle.reduce_perses.specs.declared.visit.Visit.TheVariants.{Content}
-use Rattle.reduce_perses.specs.VisitTrials.{content_tried, goes_on, visit_trials}
-use Rattle.reduce_perses.specs.Visiting.{GoesOnWith, IsContent}
+use Rattle.reduce_perses.specs.inner.VisitTrials.{content_tried, goes_on, visit_trials}
+use Rattle.reduce_perses.specs.inner.Visiting.{GoesOnWith, IsContent}
 use Rattle.reduce_perses.proofs.DescendantsLemmas.{same_round}
 
 module _ (N : NormalForm) (s : Sym) (t : PlainTree) (later : List Waiting) (n : ℕ) (is : IsContent N s t later n) where

@@ -13,25 +13,18 @@ use Rattle.syntax_tree.specs.Valid.{IsValid}
 use Rattle.syntax_tree.specs.Numbered.{number_of, subtree, with_subtree}
 use Rattle.syntax_tree.specs.Edits.{by_descendant}
 use Rattle.syntax_tree.specs.Left.{IsRemainderOf}
-use Rattle.syntax_tree.proofs.Within.{within_from}
-use Rattle.syntax_tree.proofs.Finding.{is_found}
-use Rattle.syntax_tree.proofs.InSlots.{have_slots, root_found}
-use Rattle.syntax_tree.proofs.LevelOrder.{levels}
-use Rattle.syntax_tree.proofs.OtherNodes.{other_nodes}
-use Rattle.syntax_tree.proofs.SingleEdits.{local_edits}
+use Rattle.syntax_tree.proofs.Lent.{within_from, is_found, have_slots, root_found, levels, other_nodes, local_edits}
 use Rattle.syntax_tree_cut.specs.Cuts.{CanReplace}
 use Rattle.descend_replace.specs.Compatible.{compatible}
-use Rattle.descend_replace.proofs.Deciding.{decides}
-use Rattle.descend_replace.proofs.Found.{below_found}
+use Rattle.descend_replace.proofs.Lent.{decides, below_found}
 use Rattle.reduce_perses_trials.specs.Queued.{IsInRound, nodes_in, with_trees}
 use Rattle.reduce_perses_trials.specs.Visit.{each_tried, form_visited, node_visited}
 use Rattle.reduce_perses_trials.specs.Laws.{GoesOn}
-use Rattle.reduce_perses_trials.proofs.Descending.{IsCompatible, all_compatible}
-use Rattle.reduce_perses_trials.proofs.NodeFacts.{is_some, node_rises}
+use Rattle.reduce_perses_trials.proofs.Lent.{IsCompatible, all_compatible, is_some, node_rises}
 use Rattle.reduce_perses.specs.declared.visit.Visit.{Visit}
 use Rattle.descend_replace.specs.FitsIn.{fits_in}
-use Rattle.reduce_perses.specs.VisitTrials.{descendants_tried, goes_on}
-use Rattle.reduce_perses.specs.Visiting.{AreFound, GoesOnWith, HasFewer, IsRegular, IsTaken, descendants_at, node_trials}
+use Rattle.reduce_perses.specs.inner.VisitTrials.{descendants_tried, goes_on}
+use Rattle.reduce_perses.specs.inner.Visiting.{AreFound, GoesOnWith, HasFewer, IsRegular, IsTaken, descendants_at, node_trials}
 use Rattle.reduce_perses.proofs.WaitingLemmas.{children_fewer}
 
 -- where all that holds, it holds at an index

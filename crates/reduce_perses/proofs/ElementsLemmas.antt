@@ -10,39 +10,31 @@ use Rattle.normal_form.specs.declared.normal.Sym.{Sym}
 use Rattle.normal_form.specs.Form.{RuleForm, NormalForm}
 use Rattle.list_ddmin.specs.ListStep.{kept_count}
 use Rattle.list_ddmin.specs.Machine.{State, after, asks, kept, start}
-use Rattle.list_ddmin.proofs.Follows.{IsSound-after, IsSound-start}
-use Rattle.list_ddmin.proofs.Minimal.{kept_count-all}
-use Rattle.list_ddmin.proofs.AskedLemmas.{keeps_all_at_first}
-use Rattle.list_ddmin.proofs.Lengths.{keeps_length, starts_with_all}
+use Rattle.list_ddmin.proofs.Lent.{IsSound-after, IsSound-start, kept_count-all, keeps_all_at_first, keeps_length, starts_with_all}
 use Rattle.node_queue.specs.Waiting.{Waiting}
 use Rattle.reduce_rounds.specs.Trials.{Trials, Try, state_after, tried_state, trials_after}
 use Rattle.reduce_list_trials.specs.ListTrials.{list_trials}
-use Rattle.reduce_list_trials.specs.Selections.{IsRemainder, IsRemainderAt}
-use Rattle.reduce_list_trials.proofs.GoesOn.{at_end, at_question}
-use Rattle.reduce_list_trials.proofs.Steps.{kept_at_no, kept_at_yes, remainder-after, remainder-start, selection-asked}
+use Rattle.reduce_list_trials.specs.Selections.{IsRemainder}
+use Rattle.reduce_list_trials.specs.inner.Selections.{IsRemainderAt}
+use Rattle.reduce_list_trials.proofs.Lent.{at_end, at_question, kept_at_no, kept_at_yes, remainder-after, remainder-start, selection-asked}
 use Rattle.syntax_tree.specs.Trees.{PlainTree, PlainTrees, children_of, count, weight_all}
 use Rattle.syntax_tree.specs.Numbered.{number_of, roots, subtree, subtree_among, with_subtree}
 use Rattle.syntax_tree.specs.Valid.{slot_at}
 use Rattle.syntax_tree.specs.Nodes.{AreNodesOf, SyntaxTree, whole}
 use Rattle.syntax_tree.specs.Left.{node_left, selected_trees}
-use Rattle.syntax_tree.proofs.Within.{AreWithin, IsWithin, bounds}
-use Rattle.syntax_tree.proofs.InSlots.{root_found}
-use Rattle.syntax_tree.proofs.LeftTrees.{selected_left}
-use Rattle.syntax_tree.proofs.OtherNodes.{other_nodes}
+use Rattle.syntax_tree.proofs.Lent.{AreWithin, IsWithin, bounds, root_found, selected_left, other_nodes}
 use Rattle.syntax_tree_cut.specs.Cuts.{CanSelect, CutForm, HasChildren, IsCutOf, cut_tree}
-use Rattle.syntax_tree_cut.proofs.CutFacts.{some_of}
-use Rattle.descend_replace.proofs.Found.{children_are, cut_rises, left_node}
+use Rattle.syntax_tree_cut.proofs.Lent.{some_of}
+use Rattle.descend_replace.proofs.Lent.{children_are, cut_rises, left_node}
 use Rattle.reduce_perses_trials.specs.Queued.{IsInRound, with_trees}
 use Rattle.reduce_perses_trials.specs.Visit.{form_visited, list_visited, node_visited}
 use Rattle.reduce_perses_trials.specs.Laws.{GoesOn, IsNextVisit}
-use Rattle.reduce_perses_trials.proofs.NodeFacts.{child_found, children_within, first_found, later_found, node_deeper, node_rises}
-use Rattle.reduce_perses_trials.proofs.Selecting.{selected_all}
-use Rattle.reduce_perses_trials.proofs.Visits.{same_with}
+use Rattle.reduce_perses_trials.proofs.Lent.{child_found, children_within, first_found, later_found, node_deeper, node_rises, selected_all, same_with}
 use Rattle.reduce_perses.specs.declared.visit.Visit.{Visit}
 use Rattle.reduce_perses.specs.declared.visit.Visit.TheVariants.{Elements}
 use Rattle.descend_replace.specs.FitsIn.{fits_in}
-use Rattle.reduce_perses.specs.VisitTrials.{elements_tried, goes_on, with_kept}
-use Rattle.reduce_perses.specs.Visiting.{GoesOnWith, HasFewer, IsElements, IsList, IsTaken, list_rule, node_trials}
+use Rattle.reduce_perses.specs.inner.VisitTrials.{elements_tried, goes_on, with_kept}
+use Rattle.reduce_perses.specs.inner.Visiting.{GoesOnWith, HasFewer, IsElements, IsList, IsTaken, list_rule, node_trials}
 use Rattle.reduce_perses.proofs.WaitingLemmas.{children_fewer}
 
 -- What the machine lends.

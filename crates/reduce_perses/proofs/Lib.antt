@@ -1,7 +1,7 @@
-pub mod WaitingLemmas
-pub mod ElementsLemmas
-pub mod DescendantsLemmas
-pub mod ContentLemmas
-pub mod VisitLemmas
-pub mod NextLemmas
-pub mod RoundLemmas
+mod WaitingLemmas
+mod ElementsLemmas
+mod DescendantsLemmas
+mod ContentLemmas
+mod VisitLemmas
+mod NextLemmas
+mod RoundLemmas

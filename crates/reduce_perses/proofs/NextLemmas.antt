@@ -8,7 +8,7 @@ use Rattle.node_queue.specs.Waiting.{Waiting}
 use Rattle.syntax_tree.specs.Trees.{PlainTree, PlainTrees, weight_all}
 use Rattle.syntax_tree.specs.Valid.{IsTreeFor, IsValid, slot_at}
 use Rattle.syntax_tree.specs.Numbered.{NumbersRise, number_of, subtree}
-use Rattle.syntax_tree.proofs.InSlots.{have_slots, root_found}
+use Rattle.syntax_tree.proofs.Lent.{have_slots, root_found}
 use Rattle.syntax_tree_cut.specs.declared.shape.Shape.{Shape}
 use Rattle.syntax_tree_cut.specs.declared.shape.Shape.TheVariants.{Optional}
 use Rattle.syntax_tree_cut.specs.Shapes.{shape_of, shape_of_form}
@@ -16,15 +16,14 @@ use Rattle.reduce_rounds.specs.Trials.{Done}
 use Rattle.reduce_perses_trials.specs.Queued.{IsInRound, nodes_in, with_trees}
 use Rattle.reduce_perses_trials.specs.Visit.{form_visited, node_visited}
 use Rattle.reduce_perses_trials.specs.Laws.{IsNextVisit}
-use Rattle.reduce_perses_trials.proofs.Forms.{optional_form}
-use Rattle.reduce_perses_trials.proofs.Rounds.{round_begins, rounds_go_by_visits, visits_go_on}
+use Rattle.reduce_perses_trials.proofs.Lent.{optional_form, round_begins, rounds_go_by_visits, visits_go_on}
 use Rattle.reduce_perses.specs.declared.visit.Visit.{Visit}
 use Rattle.reduce_perses.specs.declared.visit.Visit.TheVariants.{Content}
 use Rattle.descend_replace.specs.FitsIn.{fits_in}
-use Rattle.reduce_perses.specs.VisitTrials.{content_tried, goes_on, trials_from, trials_within}
-use Rattle.reduce_perses.specs.Visiting.{GoesOnWith, HasFewer, IsContent, IsGoing, IsTaken, node_trials, size_at}
+use Rattle.reduce_perses.specs.inner.VisitTrials.{content_tried, goes_on, trials_from, trials_within}
+use Rattle.reduce_perses.specs.inner.Visiting.{GoesOnWith, HasFewer, IsContent, IsGoing, IsTaken, node_trials, size_at}
 use Rattle.descend_replace.specs.Compatible.{DecidesFits}
-use Rattle.descend_replace.proofs.Deciding.{decides}
+use Rattle.descend_replace.proofs.Lent.{decides}
 
 fits_decides : (N : NormalForm) → DecidesFits N (fits_in N)
 fits_decides N = decides N

@@ -1,5 +1,5 @@
 -- What the rounds of mode `perses` owe, since which symbols fit which slots is decided.
-use Rattle.descend_replace.proofs.Deciding.{decides}
+use Rattle.descend_replace.proofs.Lent.{decides}
 use Rattle.syntax_tree.specs.Edits.{IsSingleEdit}
 use Rattle.reduce_perses_trials.specs.Laws.{LosesLeaves, TriesKeptTrees, TriesSingleEdits}
 use Rattle.reduce_walk.specs.Rounds.{RoundsKeepTrees, RoundsLoseLeaves, RoundsTryEdits}

@@ -8,22 +8,21 @@ use Rattle.normal_form.specs.Form.{NormalForm}
 use Rattle.list_ddmin.specs.Machine.{State, asks}
 use Rattle.node_queue.specs.Waiting.{Waiting}
 use Rattle.reduce_rounds.specs.Trials.{Trials, Try, is_done, tried_state}
-use Rattle.reduce_list_trials.proofs.GoesOn.{by_asked}
-use Rattle.reduce_list_trials.proofs.Steps.{selection-asked}
+use Rattle.reduce_list_trials.proofs.Lent.{by_asked, selection-asked}
 use Rattle.syntax_tree.specs.Trees.{PlainTree}
 use Rattle.syntax_tree.specs.Valid.{IsTreeFor}
 use Rattle.syntax_tree.specs.Numbered.{subtree, with_subtree}
 use Rattle.syntax_tree.specs.Nodes.{SyntaxTree, whole}
 use Rattle.syntax_tree.specs.Left.{IsRemainderOf, selected_trees}
-use Rattle.syntax_tree.proofs.LeftTrees.{transitive}
+use Rattle.syntax_tree.proofs.Lent.{transitive}
 use Rattle.syntax_tree_cut.specs.Cuts.{CanSelect, CutForm, HasChildren, cut_tree}
-use Rattle.syntax_tree_cut.proofs.CutFacts.{some_of}
+use Rattle.syntax_tree_cut.proofs.Lent.{some_of}
 use Rattle.reduce_perses_trials.specs.Queued.{IsKeptTree}
 use Rattle.reduce_perses_trials.specs.Laws.{GoesOn}
 use Rattle.reduce_perses.specs.declared.visit.Visit.{Visit}
 use Rattle.reduce_perses.specs.declared.visit.Visit.TheVariants.{Elements, Content, Descendants}
-use Rattle.reduce_perses.specs.VisitTrials.{content_tried, elements_tried, trials_within, visit_trials}
-use Rattle.reduce_perses.specs.Visiting.{AreDescendants, AreVisits, IsElements, IsVisit, IsVisiting, descendants_at}
+use Rattle.reduce_perses.specs.inner.VisitTrials.{content_tried, elements_tried, trials_within, visit_trials}
+use Rattle.reduce_perses.specs.inner.Visiting.{AreDescendants, AreVisits, IsElements, IsVisit, IsVisiting, descendants_at}
 use Rattle.reduce_perses.proofs.ElementsLemmas as elements
 use Rattle.reduce_perses.proofs.ContentLemmas as content
 use Rattle.reduce_perses.proofs.DescendantsLemmas as descendants

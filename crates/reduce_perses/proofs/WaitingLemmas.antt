@@ -9,16 +9,14 @@ use Rattle.node_queue.specs.Waiting.{Waiting, with_node}
 use Rattle.syntax_tree.specs.Trees.{PlainTree, PlainTrees, children_of, leaves, size, size_all, weight}
 use Rattle.syntax_tree.specs.Numbered.{NumbersRise, number_of, roots, subtree, subtree_among}
 use Rattle.syntax_tree.specs.Nodes.{later_trees}
-use Rattle.syntax_tree.proofs.Within.{AreWithin, or_some}
-use Rattle.syntax_tree.proofs.InSlots.{root_found}
+use Rattle.syntax_tree.proofs.Lent.{AreWithin, or_some, root_found}
 use Rattle.syntax_tree_cut.specs.declared.shape.Shape.{Shape}
 use Rattle.syntax_tree_cut.specs.declared.shape.Shape.TheVariants.{Leaf, Star, Plus, Optional, Regular}
 use Rattle.syntax_tree_cut.specs.Shapes.{shape_of}
-use Rattle.syntax_tree_cut.proofs.Rising.{when_equal, when_not}
+use Rattle.syntax_tree_cut.proofs.Lent.{when_equal, when_not}
 use Rattle.reduce_perses_trials.specs.Queued.{first_token, nodes_in, waiting_of, waits, with_trees}
-use Rattle.reduce_perses_trials.proofs.NodeFacts.{child_found, children_within, first_found, is_some, later_found, node_deeper, node_rises}
-use Rattle.reduce_perses_trials.proofs.Queues.{nodes_more}
-use Rattle.reduce_perses.specs.Visiting.{size_at}
+use Rattle.reduce_perses_trials.proofs.Lent.{child_found, children_within, first_found, is_some, later_found, node_deeper, node_rises, nodes_more}
+use Rattle.reduce_perses.specs.inner.Visiting.{size_at}
 
 -- what has no leaf's shape and has a leaf waits
 heavy_waits : (N : NormalForm) (u : PlainTree) → (shape_of N u ≡ Some Leaf → ⊥) → 0 < weight u → waits u ≡ true

@@ -4,5 +4,4 @@ pub use Rattle.syntax_tree_cut.specs.Cuts
 pub use Rattle.reduce_walk.specs.WalkState
 pub use Rattle.reduce_walk.specs.Rounds
 pub mod VisitRounds
-pub mod VisitTrials
-pub mod Visiting
+pub mod inner

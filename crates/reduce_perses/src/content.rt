@@ -4,8 +4,8 @@ ghost use Rattle.std.specs.Prelude.{IfOk};
 ghost use Rattle.reduce_rounds.specs.Trials.{state_after, trials_after};
 ghost use Rattle.syntax_tree_cut.specs.Cuts.{IsCutOf, cut_tree};
 ghost use Rattle.reduce_perses.specs.declared.visit.Visit.TheVariants.{Content};
-ghost use Rattle.reduce_perses.specs.VisitTrials.{visit_trials};
-ghost use Rattle.reduce_perses.specs.Visiting.{IsContent, GoesOnWith};
+ghost use Rattle.reduce_perses.specs.inner.VisitTrials.{visit_trials};
+ghost use Rattle.reduce_perses.specs.inner.Visiting.{IsContent, GoesOnWith};
 
 use crate::visit::Visit;
 use crate::waiting::queue_children;

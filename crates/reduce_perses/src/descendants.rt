@@ -3,7 +3,7 @@
 ghost use Rattle.std.specs.Prelude.{◌≡◌, ◌≤◌, IfOk, false, length, true};
 ghost use Rattle.reduce_rounds.specs.Trials.{state_after, trials_after};
 ghost use Rattle.syntax_tree_cut.specs.Cuts.{IsCutOf, cut_tree};
-ghost use Rattle.reduce_perses.specs.Visiting.{AreDescendants, AreFound, GoesOnWith, HasFewer, IsRegular, IsTaken, descendants_at, node_trials};
+ghost use Rattle.reduce_perses.specs.inner.Visiting.{AreDescendants, AreFound, GoesOnWith, HasFewer, IsRegular, IsTaken, descendants_at, node_trials};
 
 use crate::visit::Visit;
 use crate::waiting::{push_if_waiting, queue_children};

@@ -6,8 +6,8 @@ ghost use Rattle.reduce_rounds.specs.Trials.{state_after, trials_after};
 ghost use Rattle.syntax_tree.specs.Left.{selected_trees};
 ghost use Rattle.syntax_tree_cut.specs.Cuts.{CanSelect, HasChildren, IsCutOf, cut_tree};
 ghost use Rattle.reduce_perses.specs.declared.visit.Visit.TheVariants.{Elements};
-ghost use Rattle.reduce_perses.specs.VisitTrials.{tree_within, visit_trials};
-ghost use Rattle.reduce_perses.specs.Visiting.{IsElements, IsList, IsTaken, node_trials, GoesOnWith, HasFewer};
+ghost use Rattle.reduce_perses.specs.inner.VisitTrials.{tree_within, visit_trials};
+ghost use Rattle.reduce_perses.specs.inner.Visiting.{IsElements, IsList, IsTaken, node_trials, GoesOnWith, HasFewer};
 
 use crate::visit::Visit;
 use crate::waiting::queue_children;

@@ -3,7 +3,7 @@
 //!
 //! Read `reduce_perses_trials/specs/Visit.antt` first: what a round tries of a tree. Enter by
 //! [`TreeVisits::new`]; contracts see what is left of the tree and what is still tried
-//! (`specs/Visiting.antt`). Texts, and which of them may be asked, are no matter of this crate.
+//! (`specs/inner/Visiting.antt`). Texts, and which of them may be asked, are no matter of this crate.
 #![tactic(auto)]
 
 mod content;

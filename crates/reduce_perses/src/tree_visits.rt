@@ -4,8 +4,8 @@ ghost use Rattle.std.specs.Prelude.{◌≡◌, IfOk};
 ghost use Rattle.reduce_rounds.specs.Trials.{Done};
 ghost use Rattle.syntax_tree.specs.Nodes.{whole};
 ghost use Rattle.syntax_tree_cut.specs.Cuts.{IsCutOf, cut_tree};
-ghost use Rattle.reduce_perses.specs.Visiting.{IsGoing, IsVisiting};
-ghost use Rattle.reduce_perses.specs.VisitTrials.{tree_left, trials_from, trials_within};
+ghost use Rattle.reduce_perses.specs.inner.Visiting.{IsGoing, IsVisiting};
+ghost use Rattle.reduce_perses.specs.inner.VisitTrials.{tree_left, trials_from, trials_within};
 
 use crate::visit::{Visit, after_answer, copy_of, next_visit, settle, tried_cut};
 use crate::waiting::push_if_waiting;
@@ -40,8 +40,9 @@ pub struct TreeVisits<'a> {
 }
 
 impl<'a> Model for TreeVisits<'a> {
-    ghost use Rattle.reduce_perses.specs.Visiting.{AreVisits, visit_state};
-    ghost use Rattle.reduce_walk.specs.WalkState.{WalkState, walk_state_coded};
+    ghost use Rattle.reduce_perses.specs.inner.Visiting.{AreVisits, visit_state};
+    ghost use Rattle.reduce_walk.specs.WalkState.{WalkState};
+    ghost use Rattle.reduce_walk.specs.inner.WalkState.{walk_state_coded};
 
     ghost Value = { WalkState };
 

@@ -8,8 +8,8 @@ ghost use Rattle.reduce_rounds.specs.Trials.{state_after, tried_state, trials_af
 ghost use Rattle.syntax_tree.specs.Trees.{PlainTree};
 ghost use Rattle.syntax_tree_cut.specs.Cuts.{IsCutOf, cut_tree};
 ghost use Rattle.reduce_perses_trials.specs.Queued.{IsInRound};
-ghost use Rattle.reduce_perses.specs.VisitTrials.{goes_on, tree_left, tree_within, trials_within, visit_trials};
-ghost use Rattle.reduce_perses.specs.Visiting.{AreCopies, IsTaken, IsVisit, IsVisiting, node_trials, GoesOnWith, HasFewer};
+ghost use Rattle.reduce_perses.specs.inner.VisitTrials.{goes_on, tree_left, tree_within, trials_within, visit_trials};
+ghost use Rattle.reduce_perses.specs.inner.Visiting.{AreCopies, IsTaken, IsVisit, IsVisiting, node_trials, GoesOnWith, HasFewer};
 
 use crate::content::after_content;
 use crate::descendants::{after_replacement, begin_descendants, next_descendant};

@@ -6,18 +6,16 @@ use Rattle.std.proofs.lemmas.Option.{none-some, same_Some}
 use Rattle.normal_form.specs.declared.normal.Sym.{Sym}
 use Rattle.normal_form.specs.Form.{RuleForm, NormalForm}
 use Rattle.node_queue.specs.Waiting.{Waiting, comes_before, with_node}
-use Rattle.node_queue.proofs.OrderLemmas.{by_test}
-use Rattle.node_queue.proofs.QueueLemmas.{with_node-after, with_node-before}
+use Rattle.node_queue.proofs.Lent.{by_test, with_node-after, with_node-before}
 use Rattle.reduce_rounds.specs.Trials.{Trials, IsTriedAtNo}
-use Rattle.reduce_list_trials.proofs.AtNo as lists
+use Rattle.reduce_list_trials.proofs.Lent as lists
 use Rattle.syntax_tree.specs.Trees.{PlainTree, PlainTrees, count, weight, weight_all}
 use Rattle.syntax_tree.specs.Valid.{slot_at}
 use Rattle.syntax_tree.specs.Numbered.{number_of, subtree, subtree_among, with_subtree}
 use Rattle.syntax_tree.specs.Edits.{IsLocalDeletion, IsLocalEdit, IsLocalReplacement, LeavesOut, by_descendant, of_opt, of_plus, of_star}
 use Rattle.syntax_tree.specs.Left.{selected_trees}
 use Rattle.syntax_tree.specs.EditLaws.{IsEditAt}
-use Rattle.syntax_tree.proofs.Within.{AreWithin, or_some}
-use Rattle.syntax_tree.proofs.InSlots.{root_found}
+use Rattle.syntax_tree.proofs.Lent.{AreWithin, or_some, root_found}
 use Rattle.descend_replace.specs.Compatible.{DecidesFits, compatible}
 use Rattle.reduce_perses_trials.specs.Queued.{IsInRound, nodes_in, waiting_of, waits, with_trees}
 use Rattle.reduce_perses_trials.specs.Visit.{each_tried, form_visited, list_visited, optional_visited, visit_within}

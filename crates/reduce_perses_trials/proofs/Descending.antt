@@ -12,8 +12,7 @@ use Rattle.compat_table.specs.Fits.{Fits}
 use Rattle.syntax_tree.specs.Trees.{PlainTree, PlainTrees, IsBelow, IsIn, IsInSome, below, in_first, in_later, itself, size, size_all, symbol_of, weight, weight_all}
 use Rattle.syntax_tree.specs.Numbered.{subtree}
 use Rattle.syntax_tree.specs.Levels.{below_in_level_order}
-use Rattle.syntax_tree.proofs.Finding.{is_in}
-use Rattle.syntax_tree.proofs.LevelOrder.{levels}
+use Rattle.syntax_tree.proofs.Lent.{is_in, levels}
 use Rattle.descend_replace.specs.Compatible.{DecidesFits, compatible}
 use Rattle.reduce_perses_trials.specs.Queued.{waits}
 

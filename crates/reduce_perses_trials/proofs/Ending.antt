@@ -6,15 +6,15 @@ use Rattle.normal_form.specs.Form.{RuleForm, NormalForm}
 use Rattle.node_queue.specs.Waiting.{Waiting}
 use Rattle.list_ddmin.specs.ListStep.{Outcome, list_step}
 use Rattle.list_ddmin.specs.Machine.{State, IsSound, after, rest_of, start}
-use Rattle.list_ddmin.proofs.Follows.{IsSound-start, begins_list_step, rest_of-after, stops_at_end}
+use Rattle.list_ddmin.proofs.Lent.{IsSound-start, begins_list_step, rest_of-after, stops_at_end}
 use Rattle.reduce_rounds.specs.StateTexts.{StateTexts}
 use Rattle.reduce_rounds.specs.Reduction.{RoundEnd, end_at, tested}
 use Rattle.reduce_rounds.specs.ByTrials.{trials_end}
 use Rattle.reduce_rounds.specs.Trials.{Trials}
 use Rattle.reduce_list_trials.specs.ListEnd.{after_texts, keep_verdict, listed_texts}
-use Rattle.reduce_list_trials.specs.Selections.{IsRemainder, IsRemainderAt}
-use Rattle.reduce_list_trials.proofs.Ends.{ends_as_list_step}
-use Rattle.reduce_list_trials.proofs.Steps.{by_steps, remainder-after, remainder-start}
+use Rattle.reduce_list_trials.specs.Selections.{IsRemainder}
+use Rattle.reduce_list_trials.specs.inner.Selections.{IsRemainderAt}
+use Rattle.reduce_list_trials.proofs.Lent.{ends_as_list_step, by_steps, remainder-after, remainder-start}
 use Rattle.syntax_tree.specs.Trees.{PlainTree, PlainTrees, count, weight_all}
 use Rattle.syntax_tree.specs.Numbered.{subtree, with_subtree}
 use Rattle.syntax_tree.specs.Left.{selected_trees}

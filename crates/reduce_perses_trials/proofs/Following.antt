@@ -7,21 +7,18 @@ use Rattle.node_queue.specs.Waiting.{Waiting}
 use Rattle.list_ddmin.specs.ListStep.{kept_of}
 use Rattle.list_ddmin.specs.Machine.{State, IsSound, after, kept, start}
 use Rattle.list_ddmin.specs.Asked.{KeepsFewer}
-use Rattle.list_ddmin.proofs.Follows.{IsSound-start}
-use Rattle.list_ddmin.proofs.AskedLemmas.{keeps_all_at_first}
-use Rattle.list_ddmin.proofs.KeepsLess.{asks_fewer}
+use Rattle.list_ddmin.proofs.Lent.{IsSound-start, keeps_all_at_first, asks_fewer}
 use Rattle.reduce_rounds.specs.Trials.{Trials}
 use Rattle.reduce_list_trials.specs.ListTrials.{list_trials}
-use Rattle.reduce_list_trials.specs.Selections.{IsRemainder, IsRemainderAt, IsSelection, IsSelectionAt}
-use Rattle.reduce_list_trials.proofs.GoesOn.{at_end, at_question}
-use Rattle.reduce_list_trials.proofs.Steps.{by_steps, kept_at_no, kept_at_yes, remainder-after, remainder-start, selection-after, selection-asked, selection-start}
+use Rattle.reduce_list_trials.specs.Selections.{IsRemainder, IsSelection}
+use Rattle.reduce_list_trials.specs.inner.Selections.{IsRemainderAt, IsSelectionAt}
+use Rattle.reduce_list_trials.proofs.Lent.{at_end, at_question, by_steps, kept_at_no, kept_at_yes, remainder-after, remainder-start, selection-after, selection-asked, selection-start}
 use Rattle.syntax_tree.specs.Trees.{PlainTree, PlainTrees, count, weight_all}
 use Rattle.syntax_tree.specs.Numbered.{number_of, with_subtree, with_subtree_among}
 use Rattle.syntax_tree.specs.Left.{selected_trees}
 use Rattle.syntax_tree.specs.EditLaws.{SelectsElements}
 use Rattle.syntax_tree.specs.EditLaws as selects
-use Rattle.syntax_tree.proofs.InSlots.{root_found, root_with}
-use Rattle.syntax_tree.proofs.SingleEdits.{selections}
+use Rattle.syntax_tree.proofs.Lent.{root_found, root_with, selections}
 use Rattle.descend_replace.specs.Compatible.{DecidesFits}
 use Rattle.reduce_perses_trials.specs.Queued.{IsInRound, with_trees}
 use Rattle.reduce_perses_trials.specs.Visit.{list_visited, visit_within}

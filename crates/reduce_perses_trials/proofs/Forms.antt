@@ -16,11 +16,7 @@ use Rattle.syntax_tree.specs.Edits as edits
 use Rattle.syntax_tree.specs.Left.{IsRemainderOf, selected_trees}
 use Rattle.syntax_tree.specs.EditLaws.{SelectsElements}
 use Rattle.syntax_tree.specs.EditLaws as selects
-use Rattle.syntax_tree.proofs.Within.{or_none, within_from}
-use Rattle.syntax_tree.proofs.LeftTrees.{part}
-use Rattle.syntax_tree.proofs.InSlots.{have_slots}
-use Rattle.syntax_tree.proofs.Exchanged.{change}
-use Rattle.syntax_tree.proofs.SingleEdits.{local_edits, numbered, selections}
+use Rattle.syntax_tree.proofs.Lent.{or_none, within_from, part, have_slots, change, local_edits, numbered, selections}
 use Rattle.reduce_perses_trials.specs.Queued.{AreApartAt, IsInRound, nodes_in, waiting_of, waits, with_trees}
 use Rattle.reduce_perses_trials.proofs.NodeFacts.{child_found, children_within}
 use Rattle.reduce_perses_trials.proofs.Queues.{all_map}

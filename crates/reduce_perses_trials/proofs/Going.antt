@@ -5,7 +5,7 @@ use Rattle.normal_form.specs.declared.normal.Sym.{Sym}
 use Rattle.normal_form.specs.Form.{RuleForm, NormalForm}
 use Rattle.node_queue.specs.Waiting.{Waiting}
 use Rattle.reduce_rounds.specs.Trials.{Trials, Done, Try}
-use Rattle.reduce_list_trials.proofs.Tried.{same_by_keep_lists}
+use Rattle.reduce_list_trials.proofs.Lent.{same_by_keep_lists}
 use Rattle.syntax_tree.specs.Trees.{PlainTree, PlainTrees, count, weight_all}
 use Rattle.syntax_tree.specs.Numbered.{subtree, with_subtree}
 use Rattle.syntax_tree.specs.Left.{selected_trees}

@@ -1,13 +1,14 @@
-pub mod NodeFacts
-pub mod Queues
-pub mod Selecting
-pub mod Descending
-pub mod Visits
-pub mod Forms
-pub mod Going
-pub mod Ending
-pub mod Tried
-pub mod Following
-pub mod AtNo
-pub mod Rounds
-pub mod WorkedLemmas
+mod NodeFacts
+mod Queues
+mod Selecting
+mod Descending
+mod Visits
+mod Forms
+mod Going
+mod Ending
+mod Tried
+mod Following
+mod AtNo
+mod Rounds
+mod WorkedLemmas
+pub mod Lent

@@ -5,9 +5,7 @@ use Rattle.std.proofs.lemmas.Bool.{cond-false, ne_eqb}
 use Rattle.std.proofs.lemmas.Option.{same_Some}
 use Rattle.syntax_tree.specs.Trees.{PlainTree, PlainTrees}
 use Rattle.syntax_tree.specs.Numbered.{NumbersRise, number_of, subtree, subtree_among}
-use Rattle.syntax_tree.proofs.Within.{AreWithin, IsWithin, found, found_among, lacks_subtree, outside, rise_from, within_from}
-use Rattle.syntax_tree.proofs.Finding.{find}
-use Rattle.syntax_tree.proofs.InSlots.{root_found}
+use Rattle.syntax_tree.proofs.Lent.{AreWithin, IsWithin, found, found_among, lacks_subtree, outside, rise_from, within_from, find, root_found}
 
 pub is_some : {A : Type 0} (o : Option A) (x : A) → o ≡ Some x → IsSome o
 is_some {A} o x e = let P : Option A → Type 0 = λ p. IsSome p in subst P (sym e) refl

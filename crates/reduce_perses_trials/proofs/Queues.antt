@@ -3,12 +3,10 @@ use Rattle.std.proofs.Common.{◌≡◌, ℕ, ◌+◌, ◌≤◌, Bool, true, fa
 use Rattle.std.specs.List.{AllByRecursion}
 use Rattle.std.specs.Option.{option_map_or}
 use Rattle.node_queue.specs.Waiting.{Waiting, comes_before, with_node}
-use Rattle.node_queue.proofs.OrderLemmas.{by_test}
-use Rattle.node_queue.proofs.QueueLemmas.{all-with_node, stays_in_order, with_node-after, with_node-before}
+use Rattle.node_queue.proofs.Lent.{by_test, all-with_node, stays_in_order, with_node-after, with_node-before}
 use Rattle.syntax_tree.specs.Trees.{PlainTree, PlainTrees, size, size_all}
 use Rattle.syntax_tree.specs.Numbered.{number_of, subtree, subtree_among}
-use Rattle.syntax_tree.proofs.Within.{AreWithin, IsWithin}
-use Rattle.syntax_tree.proofs.InSlots.{root_found}
+use Rattle.syntax_tree.proofs.Lent.{AreWithin, IsWithin, root_found}
 use Rattle.reduce_perses_trials.specs.Queued.{AreApartAt, AreApartIn, IsEntryIn, IsQueueOf, nodes_in, waiting_of, waits, with_trees}
 use Rattle.reduce_perses_trials.proofs.NodeFacts.{first_found, later_found, not_both, same_node}
 

@@ -8,9 +8,7 @@ use Rattle.syntax_tree.specs.Trees.{PlainTree, PlainTrees, weight_all}
 use Rattle.syntax_tree.specs.Numbered.{NumbersRise, subtree, with_subtree}
 use Rattle.syntax_tree.specs.EditLaws.{IsEditAt}
 use Rattle.syntax_tree.specs.Laws.{ElementsHaveTokens}
-use Rattle.syntax_tree.proofs.Within.{AreWithin, or_none, within_from}
-use Rattle.syntax_tree.proofs.LeftTrees.{part}
-use Rattle.syntax_tree.proofs.SingleEdits.{numbered}
+use Rattle.syntax_tree.proofs.Lent.{AreWithin, or_none, within_from, part, numbered}
 use Rattle.descend_replace.specs.Compatible.{DecidesFits, compatible}
 use Rattle.reduce_perses_trials.specs.Queued.{nodes_in, with_trees}
 use Rattle.reduce_perses_trials.specs.Laws.{GoesOn, IsNextVisit, LosesLeaves, RoundBegins, RoundsEndByVisits, RoundsGoByVisits, TriesEditsAndSelections, TriesKeptTrees, TriesSingleEdits, VisitsGoOn}

@@ -7,14 +7,14 @@ use Rattle.normal_form.specs.NormalOf.{IsNormal}
 use Rattle.node_queue.specs.Waiting.{Waiting}
 use Rattle.list_ddmin.specs.Asked.{KeepsFewer}
 use Rattle.reduce_rounds.specs.Trials.{Trials, Try, AllTried, EachIsSmaller}
-use Rattle.reduce_list_trials.proofs.Tried as lists
+use Rattle.reduce_list_trials.proofs.Lent as lists
 use Rattle.syntax_tree.specs.Trees.{PlainTree, PlainTrees, count, weight, weight_all}
 use Rattle.syntax_tree.specs.Valid.{IsValid}
 use Rattle.syntax_tree.specs.Numbered.{with_subtree}
 use Rattle.syntax_tree.specs.Edits.{IsSingleEdit}
 use Rattle.syntax_tree.specs.Left.{IsRemainderOf, selected_trees}
 use Rattle.syntax_tree.specs.Laws.{ElementsHaveTokens}
-use Rattle.syntax_tree.proofs.LeftTrees.{transitive}
+use Rattle.syntax_tree.proofs.Lent.{transitive}
 use Rattle.descend_replace.specs.Compatible.{DecidesFits, compatible}
 use Rattle.reduce_perses_trials.specs.Queued.{IsInRound, IsKeptTree, with_trees}
 use Rattle.reduce_perses_trials.specs.Visit.{each_tried, form_visited, list_visited, optional_visited, visit_within}

@@ -11,12 +11,7 @@ use Rattle.syntax_tree.specs.Trees.{PlainTree, PlainTrees, size, size_all}
 use Rattle.syntax_tree.specs.Valid.{IsTreeFor, IsValid, slot_at}
 use Rattle.syntax_tree.specs.Numbered.{NumbersRise, subtree, subtree_among, with_subtree, with_subtree_among}
 use Rattle.syntax_tree.specs.Left.{IsRemainderOf}
-use Rattle.syntax_tree.proofs.Within.{AreWithin, IsWithin, all_outside, found, found_among, lack_with, lacks_with, none_lacks, or_some, outside, within_from}
-use Rattle.syntax_tree.proofs.LeftTrees.{part, reflexive}
-use Rattle.syntax_tree.proofs.Exchanged.{are_left}
-use Rattle.syntax_tree.proofs.InSlots.{fit}
-use Rattle.syntax_tree.proofs.KeptLeaves.{nodes_left}
-use Rattle.syntax_tree.proofs.OtherNodes.{other_nodes}
+use Rattle.syntax_tree.proofs.Lent.{AreWithin, IsWithin, all_outside, found, found_among, lack_with, lacks_with, none_lacks, or_some, outside, within_from, part, reflexive, are_left, fit, nodes_left, other_nodes}
 use Rattle.reduce_perses_trials.specs.Queued.{AreApart, IsEntryIn, IsInRound, IsQueueOf, nodes_in, with_trees}
 use Rattle.reduce_perses_trials.proofs.NodeFacts.{is_some, node_deeper, node_itself, node_rises}
 use Rattle.reduce_perses_trials.proofs.Queues.{AreIn, IsApartFrom, IsOpenFor, IsSameAt, all_both, all_map, nodes_more, nodes_same, queue_more, queue_same}

@@ -13,10 +13,12 @@ use Rattle.reduce_rounds.specs.declared.stage.Progress.{Progress}
 use Rattle.reduce_rounds.specs.Trials.{Trials, Done, Try, AllTried, EachIsSmaller, is_done, state_after, trials_after}
 use Rattle.reduce_rounds.specs.Mode.{RoundMode, IsLawful}
 use Rattle.reduce_rounds.specs.Verdicts.{is_yes}
-use Rattle.reduce_rounds.specs.RoundsPlan.{ask_if, plan_in, plan_next, plan_opening, plan_round, plan_rounds, step_result}
+use Rattle.reduce_rounds.specs.RoundsPlan.{ask_if, plan_in, plan_next, plan_opening, plan_rounds, step_result}
+use Rattle.reduce_rounds.specs.inner.RoundsPlan.{plan_round}
 use Rattle.reduce_rounds.specs.Reduction.{capped_count}
-use Rattle.reduce_rounds.specs.Fields.{Becomes, HasState, IsReady, IsTrying, StaysKept, listed_text, listed_trials, plan_of, result_so_far, stage_after, text_if}
-use Rattle.reduce_rounds.specs.FieldProps.{are_kept_prop}
+use Rattle.reduce_rounds.specs.Fields.{listed_text, text_if}
+use Rattle.reduce_rounds.specs.inner.Fields.{Becomes, HasState, IsReady, IsTrying, StaysKept, listed_trials, plan_of, result_so_far, stage_after}
+use Rattle.reduce_rounds.specs.inner.FieldProps.{are_kept_prop}
 use Rattle.reduce_rounds.proofs.Continued.{or-false, or-true}
 use Rattle.reduce_rounds.proofs.Fuel.{ask_if-same, plan_rounds-step}
 

@@ -6,7 +6,8 @@ use Rattle.reduce_rounds.specs.Trials.{Trials, Done, Try, AllTried, EachIsSmalle
 use Rattle.reduce_rounds.specs.Mode.{RoundMode, IsLawful}
 use Rattle.reduce_rounds.specs.Reduction.{Reduction, RoundEnd, after_question, after_round, after_yes, capped_count, ends_with, next_rounds, rounds_of, rounds_within}
 use Rattle.reduce_rounds.specs.ByTrials.{recursion_of, round_of, texts_of, trials_end}
-use Rattle.reduce_rounds.specs.RoundsPlan.{ask_if, plan_in, plan_next, plan_round, plan_rounds, plan_within}
+use Rattle.reduce_rounds.specs.RoundsPlan.{ask_if, plan_in, plan_next, plan_rounds, plan_within}
+use Rattle.reduce_rounds.specs.inner.RoundsPlan.{plan_round}
 use Rattle.reduce_rounds.specs.Laws.{GoesByItsRounds}
 
 pub ask_if-same : (listed : Bool) (text : List ℕ) (y y' n n' p p' : Plan) → y ≡ y' → n ≡ n' → p ≡ p' → ask_if listed text y n p ≡ ask_if listed text y' n' p'

@@ -1,9 +1,10 @@
-pub mod Continued
-pub mod Fuel
-pub mod Recursions
-pub mod Following
-pub mod Ends
-pub mod Candidates
-pub mod Agreement
-pub mod LookingAhead
-pub mod FieldLemmas
+mod Continued
+mod Fuel
+mod Recursions
+mod Following
+mod Ends
+mod Candidates
+mod Agreement
+mod LookingAhead
+mod FieldLemmas
+pub mod Lent

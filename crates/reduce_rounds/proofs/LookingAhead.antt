@@ -7,7 +7,7 @@ use Rattle.script_gate_trait.specs.declared.gate.Verdict.TheVariants.{No}
 use Rattle.reduce_step.specs.Limits.{text_limit}
 use Rattle.reduce_step.specs.Plan.{Plan, after, asked}
 use Rattle.reduce_step.specs.Ahead.{after_all, ahead, asked_at_no}
-use Rattle.reduce_step.proofs.AheadLemmas.{ahead-ended, ahead-full, ahead-more, ahead_may}
+use Rattle.reduce_step.proofs.Lent.{ahead-ended, ahead-full, ahead-more, ahead_may}
 use Rattle.reduce_rounds.specs.Mode.{RoundMode}
 use Rattle.reduce_rounds.specs.RoundsPlan.{plan_first}
 use Rattle.reduce_rounds.specs.Laws.{AheadAreCandidates, AheadIsStartAlone, IsTextOf}

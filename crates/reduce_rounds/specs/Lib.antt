@@ -11,4 +11,4 @@ pub mod ByTrials
 pub mod RoundsPlan
 pub mod Laws
 pub mod Fields
-pub mod FieldProps
+pub mod inner

@@ -46,10 +46,6 @@ plan_rounds mode rounds used state = plan_within (suc (mode.size state)) mode ro
 abbrev pub plan_opening : {T : Type 0} → RoundMode T → ℕ → T → Trials T → ℕ → Plan
 plan_opening mode rounds state trials used = plan_in mode (λ remaining changed used'. plan_rounds mode rounds used' remaining) state trials false used
 
--- within a round
-abbrev pub plan_round : {T : Type 0} → RoundMode T → ℕ → T → Trials T → Bool → ℕ → Plan
-plan_round mode rounds state trials changed used = plan_in mode (plan_next mode (plan_rounds mode) rounds) state trials changed used
-
 -- the whole reduction
 abbrev pub plan_first : {T : Type 0} → RoundMode T → Plan
 plan_first mode =

@@ -1,5 +1,5 @@
 -- What is tried one after another, as a finite tree. The state that remains at its end is the last one that had a yes.
-use Rattle.std.specs.Prelude.{◌≡◌, ◌⊎◌, ◌<◌, ℕ, suc, max, Bool, true, false, Option, Some, None, if◌then◌else◌}
+use Rattle.std.specs.Prelude.{◌≡◌, ◌⊎◌, ◌<◌, ℕ, Bool, true, false, Option, Some, None, if◌then◌else◌}
 
 -- nothing more is tried; or a state is tried, and then it goes on in one way at yes and in another at no
 pub data Trials (T : Type 0) : Type 0 where
@@ -25,11 +25,6 @@ trials_after (Try other at_yes at_no) answer = if answer then at_yes else at_no
 abbrev pub state_after : {T : Type 0} → T → Trials T → Bool → T
 state_after state Done answer = state
 state_after state (Try other at_yes at_no) answer = if answer then other else state
-
--- at most so many answers
-abbrev pub height : {T : Type 0} → Trials T → ℕ
-height Done = 0
-height (Try other at_yes at_no) = suc (max (height at_yes) (height at_no))
 
 -- each state that is tried is smaller than the last yes before it, which has this size at first
 abbrev pub EachIsSmaller : {T : Type 0} → (T → ℕ) → ℕ → Trials T → Type 0

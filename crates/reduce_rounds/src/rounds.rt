@@ -3,8 +3,9 @@
 ghost use Rattle.std.specs.Prelude.{◌≡◌, ◌≤◌, length, OnOk, IsSome, IfOk, true, false};
 ghost use Rattle.reduce_step.specs.Limits.{text_limit};
 ghost use Rattle.reduce_rounds.specs.Trials.{Done, state_after};
-ghost use Rattle.reduce_rounds.specs.Fields.{Becomes, HasState, IsReady, IsTrying, StaysKept, listed_text, listed_trials, plan_of, result_so_far, stage_after};
-ghost use Rattle.reduce_rounds.specs.FieldProps.{ready_prop};
+ghost use Rattle.reduce_rounds.specs.Fields.{listed_text};
+ghost use Rattle.reduce_rounds.specs.inner.Fields.{Becomes, HasState, IsReady, IsTrying, StaysKept, listed_trials, plan_of, result_so_far, stage_after};
+ghost use Rattle.reduce_rounds.specs.inner.FieldProps.{ready_prop};
 ghost use Rattle.reduce_rounds.specs.RoundsPlan.{IsStart, plan_first, plan_rounds};
 ghost use Rattle.reduce_step.specs.Plan.{after as plan_after, asked};
 

@@ -1,2 +1,3 @@
-pub mod PlanLemmas
-pub mod AheadLemmas
+mod PlanLemmas
+mod AheadLemmas
+pub mod Lent

@@ -10,7 +10,7 @@ use Rattle.token_print.specs.Kept.{KeepsTokens}
 use Rattle.keep_guard.specs.Relation.{Rises, RisesFrom}
 use Rattle.reduce_trees_mode.specs.Input.{TreeInput}
 use Rattle.reduce_trees_mode.specs.Listed.{text_in}
-use Rattle.reduce_trees.specs.Candidates.{is_listed_in}
+use Rattle.reduce_trees.specs.inner.Candidates.{is_listed_in}
 
 -- the first number is this or greater
 abbrev IsFrom : ℕ → List ℕ → Type 0

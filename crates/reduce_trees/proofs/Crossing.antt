@@ -10,7 +10,7 @@ use Rattle.std.specs.contracts.impls.GlobalAllocator.TheImpl as allocator
 use Rattle.compat_table.proofs.table.Compat.TheSendSync as compat
 use Rattle.keep_guard.proofs.guard.Guard.TheSendSync as guard
 use Rattle.keep_guard.specs.declared.guard.Relation
-use Rattle.lexer.proofs.Crossing.{lexer_sync}
+use Rattle.lexer.proofs.Lent.{lexer_sync}
 use Rattle.lexer.proofs.token.Tokens.TheSendSync as tokens
 use Rattle.reduce_rounds.proofs.rounds.Rounds.TheSendSync as rounds
 use Rattle.reduce_rounds.specs.contracts.rounds.Rounds

@@ -1,10 +1,11 @@
-pub mod WalkLaws
-pub mod PersesRounds
-pub mod EndLaws
-pub mod PartsLemmas
-pub mod CandidateLemmas
-pub mod TrialLemmas
-pub mod RoundLemmas
-pub mod HddRounds
-pub mod Recursions
+mod WalkLaws
+mod PersesRounds
+mod EndLaws
+mod PartsLemmas
+mod CandidateLemmas
+mod TrialLemmas
+mod RoundLemmas
+mod HddRounds
+mod Recursions
 pub mod Crossing
+pub mod Lent

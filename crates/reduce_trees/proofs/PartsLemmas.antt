@@ -14,9 +14,9 @@ use Rattle.syntax_tree.specs.Trees.{kinds_of}
 use Rattle.syntax_tree.specs.Nodes.{SyntaxTree, whole}
 use Rattle.token_laws.specs.Readings.{TokensAreFound}
 use Rattle.reduce_step.specs.Limits.{text_limit}
-use Rattle.reduce_trees_mode.specs.FormedProp.{well_formed_prop}
+use Rattle.reduce_trees_mode.specs.inner.FormedProp.{well_formed_prop}
 use Rattle.reduce_trees_mode.specs.InputOf.{input_of}
-use Rattle.reduce_trees.specs.Parts.{BelongTogether}
+use Rattle.reduce_trees.specs.inner.Parts.{BelongTogether}
 
 module _ (grammar : CheckedGrammar) (tree : SyntaxTree) (start : List ℕ) (tokens : List Token) (admits : List ℕ → List ℕ → Bool) (squeezes : Bool) where
   pub belong : (formed : IsWellFormed grammar.grammar grammar.start) (compat : NormalForm) → TokensAreFound → IsChecked grammar → length start ≤ text_limit → HasTokens grammar.grammar (chars start) (map token_of tokens) →

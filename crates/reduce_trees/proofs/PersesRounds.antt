@@ -1,6 +1,6 @@
 -- A round of mode `perses` is the recursion that visits node after node.
 use Rattle.std.proofs.Common.{◌∙◌, ap}
-use Rattle.descend_replace.proofs.Deciding.{decides}
+use Rattle.descend_replace.proofs.Lent.{decides}
 use Rattle.syntax_tree.specs.NodeLaws.{WholeTreesRise}
 use Rattle.syntax_tree.specs.LeftLaws.{LeftIsPart}
 use Rattle.reduce_trees_mode.specs.Laws.{RoundsKeepStyle}

@@ -1,7 +1,7 @@
 -- The reductions of a mode of trees are those of its recursion.
 use Rattle.std.proofs.Common.{sym}
 use Rattle.reduce_step.specs.declared.mode.TreeMode.TheVariants.{Hdd, Perses}
-use Rattle.reduce_rounds.proofs.Recursions.{recursions_reduce_alike}
+use Rattle.reduce_rounds.proofs.Lent.{recursions_reduce_alike}
 use Rattle.reduce_trees_mode.specs.InStyles.{end_in, squeezed_first, trees_in}
 use Rattle.reduce_trees_mode.specs.Laws.{OpeningIsOneTest}
 use Rattle.reduce_trees_mode.specs.Listed.{IsKept}

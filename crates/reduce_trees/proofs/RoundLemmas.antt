@@ -6,11 +6,11 @@ use Rattle.reduce_rounds.specs.Trials.{Trials, Done, Try, tried_state}
 use Rattle.token_print.specs.declared.style.Style.{Style}
 use Rattle.reduce_trees_mode.specs.Input.{TreeInput, TreeState}
 use Rattle.reduce_trees_mode.specs.InStyles.{in_style}
-use Rattle.reduce_trees_mode.proofs.Leaves.{leaves_length}
+use Rattle.reduce_trees_mode.proofs.Lent.{leaves_length}
 use Rattle.reduce_trees.specs.declared.candidate.Candidate.{Candidate}
 use Rattle.reduce_trees.specs.declared.trial.Trial.{Trial}
 use Rattle.reduce_trees.specs.declared.trial.Trial.TheVariants.{Over, Squeezed, Edit}
-use Rattle.reduce_trees.specs.Fields.{IsCandidateOf, IsTried, candidate_in, rest_of}
+use Rattle.reduce_trees.specs.inner.Fields.{IsCandidateOf, IsTried, candidate_in, rest_of}
 
 module _ (input : TreeInput) (style : Style) where
   -- the state that is tried now, with its candidate

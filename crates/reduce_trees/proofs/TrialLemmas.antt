@@ -16,7 +16,7 @@ use Rattle.reduce_trees_mode.specs.Input.{IsInput, TreeInput}
 use Rattle.reduce_trees_mode.specs.Laws.{IsStart, TextsAreNoLonger}
 use Rattle.reduce_trees_mode.specs.Listed.{IsKept, MayKeepStyle, text_in}
 use Rattle.reduce_trees_mode.specs.InStyles.{in_style}
-use Rattle.reduce_trees_mode.proofs.Listing.{are_kept}
+use Rattle.reduce_trees_mode.proofs.Lent.{are_kept}
 use Rattle.reduce_trees.specs.Fields.{IsTreeOf}
 
 module _ (input : TreeInput) where

@@ -9,9 +9,7 @@ pub mod TreeRounds
 pub mod WalkMode
 pub mod PersesMode
 pub mod HddMode
-pub mod Parts
-pub mod Candidates
 pub mod Fields
-pub mod FieldProps
 pub mod Laws
 pub mod Ends
+pub mod inner

@@ -5,7 +5,7 @@ ghost use Rattle.token_print.specs.Kept.{AreKept};
 ghost use Rattle.reduce_step.specs.Limits.{text_limit};
 ghost use Rattle.reduce_trees_mode.specs.Listed.{text_in};
 ghost use Rattle.token_print.specs.declared.style.Style.{Style as TextStyle};
-ghost use Rattle.reduce_trees.specs.Candidates.{IsCandidateIn, is_listed_in};
+ghost use Rattle.reduce_trees.specs.inner.Candidates.{IsCandidateIn, is_listed_in};
 
 use crate::parts::{HasInput, TreeParts};
 use faults::Memory;

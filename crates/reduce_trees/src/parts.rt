@@ -12,9 +12,9 @@ ghost use Rattle.syntax_tree.specs.Trees.{kinds_of};
 ghost use Rattle.syntax_tree.specs.Nodes.{whole};
 ghost use Rattle.reduce_step.specs.Limits.{text_limit};
 ghost use Rattle.reduce_trees_mode.specs.Input.{IsInput};
-ghost use Rattle.reduce_trees_mode.specs.FormedProp.{well_formed_prop};
+ghost use Rattle.reduce_trees_mode.specs.inner.FormedProp.{well_formed_prop};
 ghost use Rattle.reduce_trees_mode.specs.InputOf.{input_of};
-ghost use Rattle.reduce_trees.specs.Parts.{BelongTogether, together_prop};
+ghost use Rattle.reduce_trees.specs.inner.Parts.{BelongTogether, together_prop};
 
 use compat_table::Compat;
 use keep_guard::{Guard, Relation};

@@ -3,8 +3,9 @@
 ghost use Rattle.std.specs.Prelude.{◌≡◌, IfOk, if◌then◌else◌, string_bytes};
 ghost use Rattle.token_print.specs.declared.style.Style.TheVariants.{Squeezed};
 ghost use Rattle.reduce_rounds.specs.Trials.{Done};
-ghost use Rattle.reduce_trees.specs.Fields.{Agrees, IsTreeOf};
-ghost use Rattle.reduce_trees.specs.FieldProps.{agrees_prop};
+ghost use Rattle.reduce_trees.specs.Fields.{IsTreeOf};
+ghost use Rattle.reduce_trees.specs.inner.Fields.{Agrees};
+ghost use Rattle.reduce_trees.specs.inner.FieldProps.{agrees_prop};
 ghost use Rattle.reduce_trees_mode.specs.InputOf.{input_of};
 ghost use Rattle.reduce_trees.specs.WalkMode.{walk_mode};
 
@@ -66,7 +67,7 @@ impl<'a, F: Relation, W: TreeWalk + Drop> Round for TreeRound<'a, F, W> {
     ghost use Rattle.reduce_trees_mode.specs.Input.{TreeInput, TreeState};
     ghost use Rattle.reduce_trees_mode.specs.Listed.{IsKept};
     ghost use Rattle.reduce_trees_mode.specs.InStyles.{in_style};
-    ghost use Rattle.reduce_trees.specs.Fields.{rest_of};
+    ghost use Rattle.reduce_trees.specs.inner.Fields.{rest_of};
 
     ghost Input = { TreeInput };
 

@@ -3,7 +3,8 @@
 ghost use Rattle.std.specs.Prelude.{◌≡◌, IfOk, option_copied};
 ghost use Rattle.reduce_trees_mode.specs.Listed.{MayKeepStyle};
 ghost use Rattle.reduce_trees_mode.specs.TreeTrials.{opening_trials, trials_in};
-ghost use Rattle.reduce_trees.specs.Fields.{AreCopies, IsTreeOf, IsTried, candidate_in, rest_of};
+ghost use Rattle.reduce_trees.specs.Fields.{IsTreeOf};
+ghost use Rattle.reduce_trees.specs.inner.Fields.{AreCopies, IsTried, candidate_in, rest_of};
 ghost use Rattle.token_print.specs.declared.style.Style.{Style as TextStyle};
 ghost use Rattle.reduce_rounds.specs.Trials.{Done};
 

@@ -1,2 +1,2 @@
-pub mod Inputs
-pub mod OneFault
+mod Inputs
+mod OneFault

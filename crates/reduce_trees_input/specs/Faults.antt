@@ -16,9 +16,3 @@ IsInputFault grammar bytes (NotUtf8 offset) = (¬ IsUtf8 bytes) × (offset ≡ u
 IsInputFault grammar bytes (NoToken offset) = IsUtf8 bytes × StopsAt grammar.grammar (chars bytes) offset
 IsInputFault grammar bytes NoParse = IsUtf8 bytes × ((tokens : List PlacedToken) × HasTokens grammar.grammar (chars bytes) tokens × (¬ StartDerives grammar (kinds_in tokens)))
 IsInputFault grammar bytes Memory = ⊤
-
--- why tokens of these kinds have no tree
-abbrev pub IsParseFault : CheckedGrammar → List ℕ → InputFault → Type 0
-IsParseFault grammar kinds NoParse = ¬ StartDerives grammar kinds
-IsParseFault grammar kinds Memory = ⊤
-IsParseFault grammar kinds _ = ⊥

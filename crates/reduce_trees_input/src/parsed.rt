@@ -11,7 +11,8 @@ ghost use Rattle.syntax_tree.specs.Nodes.{IsWhole, whole};
 ghost use Rattle.chart_parser.specs.Parse.{IsParse};
 ghost use Rattle.reduce_trees_mode.specs.Candidates.{InLanguage};
 ghost use Rattle.reduce_trees_input.specs.Parsed.{IsParsed, MakesInputOf, kinds_in, tokens_in};
-ghost use Rattle.reduce_trees_input.specs.Faults.{IsInputFault, IsParseFault};
+ghost use Rattle.reduce_trees_input.specs.Faults.{IsInputFault};
+ghost use Rattle.reduce_trees_input.specs.inner.Faults.{IsParseFault};
 ghost use Rattle.reduce_trees_input.specs.declared.fault.InputFault.TheVariants.{Memory as OutOfMemory};
 
 use crate::fault::InputFault;

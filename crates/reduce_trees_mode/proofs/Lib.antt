@@ -1,6 +1,7 @@
-pub mod Leaves
-pub mod Listing
-pub mod Starts
-pub mod Styles
-pub mod Joining
-pub mod Lawful
+mod Leaves
+mod Listing
+mod Starts
+mod Styles
+mod Joining
+mod Lawful
+pub mod Lent

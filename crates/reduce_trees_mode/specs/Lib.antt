@@ -1,7 +1,6 @@
 pub use Rattle.syntax_tree.specs as SyntaxTree
 pub use Rattle.token_print.specs as TokenPrint
 pub use Rattle.reduce_rounds.specs as ReduceRounds
-pub mod FormedProp
 pub mod Input
 pub mod InputOf
 pub mod InputParts
@@ -11,3 +10,4 @@ pub mod InStyles
 pub mod TreeTrials
 pub mod Laws
 pub mod Lawful
+pub mod inner

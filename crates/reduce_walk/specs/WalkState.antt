@@ -1,19 +1,10 @@
 -- What contracts see of a walk, as one value.
-use Rattle.std.specs.Prelude.{refl}
-use Rattle.std.specs.Coded.{Coded, code_by, coded×}
 use Rattle.reduce_rounds.specs.Trials.{Trials}
 use Rattle.syntax_tree.specs.Trees.{PlainTree}
 use Rattle.syntax_tree.specs.Nodes.{SyntaxTree}
-use Rattle.reduce_walk.specs.Codes.{syntax_tree_coded, tree_coded, trials_coded}
 
 -- The tree, what is left of it, and what is still tried.
 pub record WalkState : Type 0 where
   pub tree : SyntaxTree
   pub left : PlainTree
   pub rest : Trials PlainTree
-
--- it has a code, by those of its fields
-abbrev pub walk_state_coded : Coded WalkState
-walk_state_coded =
-    code_by (SyntaxTree × (PlainTree × Trials PlainTree)) (coded× syntax_tree_coded (coded× tree_coded (trials_coded tree_coded)))
-    (λ v. (v.tree, (v.left, v.rest))) (λ p. record { tree = p.0; left = p.1.0; rest = p.1.1 }) (λ _. refl)

@@ -17,14 +17,16 @@ use Rattle.ordered_commit.specs.BoardState.{BoardState}
 use Rattle.ordered_commit.specs.Faults.{board_fault}
 use Rattle.ordered_commit.specs.Kept.{BrokeOff, IsJournal}
 use Rattle.run_worker.specs.RunHistory.{with_all_asked}
-use Rattle.run_worker.specs.RunEnds.{HasSameName, HasWritten, JournalEnds}
+use Rattle.run_worker.specs.RunEnds.{HasSameName, HasWritten}
+use Rattle.run_worker.specs.inner.RunEnds.{JournalEnds}
 use Rattle.run_worker.specs.UnderWay.{AreJournalBytes}
-use Rattle.run_worker.proofs.EndLemmas.{none_asked, none_history, none_sequential}
+use Rattle.run_worker.proofs.Lent.{none_asked, none_history, none_sequential}
 use Rattle.worker_pool.specs.declared.worker.Worker.{Worker}
 use Rattle.worker_pool.specs.Ends.{AreDone, IsOfOne, IsOutcome}
 use Rattle.worker_pool.specs.Runs.{members}
 use Rattle.run_gated.specs.Records.{AreAsked, all_asked}
-use Rattle.run_gated.specs.Workers.{AreIdle, BrokeBy, IsCausedBy, IsQuietBut, IsRunBy, JournalLeft, RoseAt, WaitsAt, worker_faults, worker_logs}
+use Rattle.run_gated.specs.Workers.{AreIdle, BrokeBy, RoseAt, worker_faults, worker_logs}
+use Rattle.run_gated.specs.inner.Workers.{IsCausedBy, IsQuietBut, IsRunBy, JournalLeft, WaitsAt}
 use Rattle.run_gated.proofs.ShareLemmas.{all_quiet}
 use Rattle.run_gated.proofs.PoolLemmas.{named_failed, none_failed, several_asked}
 use Rattle.run_gated.proofs.RunLemmas.{caused_by, one_left, one_ran, run_from}

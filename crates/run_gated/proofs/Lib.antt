@@ -1,4 +1,5 @@
-pub mod RunLemmas
+mod RunLemmas
 mod ShareLemmas
 mod PoolLemmas
-pub mod AllLemmas
+mod AllLemmas
+pub mod Lent

@@ -23,12 +23,15 @@ use Rattle.ordered_commit.specs.declared.fault.PoolFault.TheVariants as pool
 use Rattle.script_gate_trait.specs.declared.log.Log.{Log}
 use Rattle.verdict_table.specs.TableState.{texts_of}
 use Rattle.run_worker.specs.RunHistory.{BeginsWith, EndsAtFirst, IsHistoryOf, IsSequential, own_history, with_all_asked}
-use Rattle.run_worker.specs.RunEnds.{BrokeAtEnd, HasPart, IsCaused, JournalEnds, ReducerEnds}
-use Rattle.run_worker.proofs.BeginLemmas.{has_beginning}
+use Rattle.run_worker.specs.RunEnds.{BrokeAtEnd, IsCaused, ReducerEnds}
+use Rattle.run_worker.specs.inner.RunEnds.{HasPart, JournalEnds}
+use Rattle.run_worker.proofs.Lent.{has_beginning}
 use Rattle.run_gated.specs.Faults.{fault_kept}
 use Rattle.run_gated.specs.Records.{AreAsked, AreOfMode, BeginsAt, FirstIs, FirstIsNo, OnlyNo}
-use Rattle.run_gated.specs.Workers.{BrokeBy, HasPartBy, IsCausedBy, IsQuietBut, IsRunBy, JournalLeft, WaitsAt}
-use Rattle.run_gated.specs.RunEnds.{AnswersFor, IsDefinedOver, IsUnfinishedIn, JournalHas, NoneFailed, ReducesIn, RunEndsIn, reduction_over}
+use Rattle.run_gated.specs.Workers.{BrokeBy, HasPartBy}
+use Rattle.run_gated.specs.inner.Workers.{IsCausedBy, IsQuietBut, IsRunBy, JournalLeft, WaitsAt}
+use Rattle.run_gated.specs.RunEnds.{IsDefinedOver, IsUnfinishedIn, JournalHas, NoneFailed, ReducesIn, RunEndsIn, reduction_over}
+use Rattle.run_gated.specs.inner.RunEnds.{AnswersFor}
 use Rattle.run_gated.specs.declared.fault.RunFault.{RunFault}
 use Rattle.run_gated.specs.declared.fault.RunFault.TheVariants as run
 use Rattle.run_gated.specs.declared.ran.Reduced.{Reduced}

@@ -5,3 +5,4 @@ pub mod Faults
 pub mod Records
 pub mod Workers
 pub mod RunEnds
+pub mod inner

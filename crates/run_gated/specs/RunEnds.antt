@@ -1,5 +1,5 @@
 -- How a run of a reducer ends.
-use Rattle.std.specs.Prelude.{◌≡◌, ◌⊎◌, ℕ, List, true, false, length, Option, Some, None, Result, Ok, Err}
+use Rattle.std.specs.Prelude.{◌≡◌, ◌⊎◌, ℕ, List, true, false, length, Option, Result, Ok, Err}
 use Rattle.faults.specs.Count.{Rose}
 use Rattle.edge_io.specs.Sink.{Put}
 use Rattle.script_gate_trait.specs.declared.gate.Verdict.TheVariants.{Yes, No}
@@ -18,8 +18,6 @@ use Rattle.reduce_rounds.specs.RoundsPlan.{plan_first}
 use Rattle.ordered_commit_moves.specs.Replay.{replay}
 use Rattle.run_worker.specs.RunHistory.{own_history}
 use Rattle.run_worker.specs.RunEnds.{HasNothing, HasWritten}
-use Rattle.ordered_commit.specs.declared.fault.PoolFault.{PoolFault}
-use Rattle.run_gated.specs.Faults.{fault_kept}
 use Rattle.run_gated.specs.Records.{FirstIs, FirstIsNo, OnlyNo}
 use Rattle.run_gated.specs.Workers.{HasPartBy, RoseAt}
 use Rattle.run_gated.specs.declared.fault.RunFault.{RunFault}
@@ -80,15 +78,6 @@ RunEndsIn workers mode Kept history gates gates' journal journal' (Ok reduced) =
     × (reduced.counts ≡ counts_of (mode.size mode.start) (length (mode.text mode.start)) result (length (records_of history))) × ReducesIn workers mode Kept history result)
     × NoneFailed gates gates' journal journal'
 RunEndsIn workers mode Kept history gates gates' journal journal' (Err fault) = RunFailsIn workers mode history gates gates' journal journal' fault
-
--- what is answered for a reducer that has come to this result, of a start of so many units and bytes, after so many records and this fault, if there was one; without a fault memory may run out
-abbrev pub AnswersFor : Option PoolFault → StepResult → ℕ → ℕ → ℕ → Result Reduced RunFault → Type 0
-AnswersFor (Some fault) result units bytes records answer = answer ≡ Err (fault_kept fault)
-AnswersFor None result units bytes records (Ok reduced) = (result.refused ≡ false) × (reduced.text.items ≡ result.text) × (reduced.counts ≡ counts_of units bytes result records)
-AnswersFor None result units bytes records (Err NotInteresting) = result.refused ≡ true
-AnswersFor None result units bytes records (Err Memory) = Unit {0}
-AnswersFor None result units bytes records (Err (Script worker)) = ⊥
-AnswersFor None result units bytes records (Err Journal) = ⊥
 
 -- What the journal has, which was empty, by what the run answered: all of the history; where memory ran out that, or nothing, if there is no history; where a call of it failed a part. The counts are those of its calls that failed, before and after.
 abbrev pub JournalHas : {A : Type 0} → ℕ → History → Option Put → Option Put → ℕ → ℕ → Result A RunFault → Type 0

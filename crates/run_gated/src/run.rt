@@ -7,7 +7,8 @@ ghost use Rattle.reduce_rounds.specs.RoundsPlan.{IsStart, plan_first};
 ghost use Rattle.run_gated.specs.Records.{AreAnswers, AreOfMode};
 ghost use Rattle.reduce_step.specs.Plan.{End, HasEnded};
 ghost use Rattle.run_gated.specs.Workers.{AreIdle, worker_faults, worker_logs};
-ghost use Rattle.run_gated.specs.RunEnds.{AnswersFor, JournalHas, RunEndsIn};
+ghost use Rattle.run_gated.specs.RunEnds.{JournalHas, RunEndsIn};
+ghost use Rattle.run_gated.specs.inner.RunEnds.{AnswersFor};
 
 use crate::fault::RunFault;
 use crate::ran::{Ran, Reduced};

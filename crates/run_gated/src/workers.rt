@@ -2,7 +2,8 @@
 
 ghost use Rattle.std.specs.Prelude.{◌≡◌, [], IfSome, Some, length};
 ghost use Rattle.ordered_commit.specs.Faults.{board_fault};
-ghost use Rattle.run_gated.specs.Workers.{AreIdle, IsCausedBy, IsRunBy, JournalLeft, worker_faults, worker_logs};
+ghost use Rattle.run_gated.specs.Workers.{AreIdle, worker_faults, worker_logs};
+ghost use Rattle.run_gated.specs.inner.Workers.{IsCausedBy, IsRunBy, JournalLeft};
 
 use edge_io::Sink;
 use ordered_commit::{Board, Outcome, Refused};

@@ -13,7 +13,7 @@ use Rattle.reduce_rounds.specs.ByTrials as trials
 use Rattle.reduce_rounds.specs.Laws.{AgreeingMapsReduceAlike}
 use Rattle.reduce_rounds.specs.Verdicts.{Agree, HasVerdicts, says_yes}
 use Rattle.reduce_rounds.specs.Reduction.{Recursion, Reduction, capped_count, reduction}
-use Rattle.reduce_rounds.proofs.Agreement.{agreeing_maps}
+use Rattle.reduce_rounds.proofs.Lent.{agreeing_maps}
 use Rattle.reduce_core.specs.Laws.{LinesAreRecursions}
 use Rattle.reduce_core.specs.LineMode.{line_mode}
 use Rattle.reduce_core.specs.Reduction.{line_recursion}

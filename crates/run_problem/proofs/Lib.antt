@@ -1,4 +1,5 @@
-pub mod AlikeLemmas
-pub mod BoundLemmas
-pub mod ModeLemmas
-pub mod QuestionLemmas
+mod AlikeLemmas
+mod BoundLemmas
+mod ModeLemmas
+mod QuestionLemmas
+pub mod Lent

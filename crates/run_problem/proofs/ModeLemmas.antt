@@ -25,7 +25,7 @@ use Rattle.reduce_journal.specs.History.{History, records_of}
 use Rattle.reduce_journal.specs.declared.counts.Counts.{Counts}
 use Rattle.ordered_commit_moves.specs.Replay.{IsLegal}
 use Rattle.run_gated.specs.Records.{AreAnswers, AreOfMode, BeginsAt, FirstIs}
-use Rattle.run_gated.proofs.AllLemmas.{nothing_asked}
+use Rattle.run_gated.proofs.Lent.{nothing_asked}
 use Rattle.run_gated.specs.RunEnds as ends
 use Rattle.run_gated.specs.RunEnds.{ReducesIn, RunEndsIn, RunFailsIn, reduction_over}
 use Rattle.reduce_core.specs.declared.lines.Line.{Line}
@@ -35,7 +35,7 @@ use Rattle.reduce_core.specs.Candidates.{IsLineCandidate, IsSubsequence}
 use Rattle.reduce_core.specs.Candidates.IsSubsequence.{nothing, keeps as keeps_line, leaves as leaves_line}
 use Rattle.reduce_core.specs.Lines.{numbered_lines, text_of}
 use Rattle.reduce_core.specs.Reduction.{is_listed, line_recursion}
-use Rattle.reduce_core.proofs.LinesLemmas.{text-numbered_lines}
+use Rattle.reduce_core.proofs.Lent.{text-numbered_lines}
 use Rattle.reduce_trees_mode.specs.Input.{IsInput, TreeInput, TreeState}
 use Rattle.reduce_trees_mode.specs.Candidates.{IsCandidate}
 use Rattle.reduce_trees_mode.specs.Listed.{IsKept, text_of_state}
@@ -47,7 +47,7 @@ use Rattle.run_problem.specs.Problem.{IsEditBy, Problem, questions_of, recursion
 use Rattle.run_problem.specs.Committed.{IsPrefix, questions_over, thread_history, thread_over}
 use Rattle.run_problem.specs.Laws.{GoesByQuestions, HistoriesGoByQuestions}
 use Rattle.run_problem.specs.Reducer.{reducer_of, round_of}
-use Rattle.run_problem.specs.Walks.{IsTreeMode}
+use Rattle.run_problem.specs.inner.Walks.{IsTreeMode}
 use Rattle.run_problem.specs.Ends.{AreOf, IsUnfinished, ProblemEnds, ReducesFrom, RunFails}
 
 -- no record was made, and no gate was asked

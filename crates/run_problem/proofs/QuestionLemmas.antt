@@ -6,12 +6,12 @@ use Rattle.script_gate_trait.specs.declared.gate.Verdict.{Verdict}
 use Rattle.script_gate_trait.specs.declared.gate.Verdict.TheVariants.{Yes, No}
 use Rattle.verdict_table.specs.declared.record.Record.{Record}
 use Rattle.verdict_table.specs.TableState.{Extends, texts_of, verdict_in}
-use Rattle.verdict_table.proofs.RecordLemmas.{extends_itself}
+use Rattle.verdict_table.proofs.Lent.{extends_itself}
 use Rattle.reduce_step.specs.Plan.{Plan, End, Ask, HasEnded, after, height}
 use Rattle.reduce_journal.specs.History.{AllMayFollow, History, IsHistory, records_of}
 use Rattle.reduce_journal.specs.declared.event.Event.TheVariants.{Recorded, Committed}
 use Rattle.ordered_commit_moves.specs.Replay.{CommitsWhatIsAsked, IsLegal, answered, record_at, replay, replay_from}
-use Rattle.ordered_commit_moves.proofs.Runs.{extends_at}
+use Rattle.ordered_commit_moves.proofs.Lent.{extends_at}
 use Rattle.run_worker.specs.Sequential.{answer_events, by_verdict, records_after, sequential_from}
 use Rattle.keep_guard.specs.Keep.{keeps_admit}
 use Rattle.reduce_rounds.specs.Trials.{Trials, Done, Try}
@@ -20,7 +20,7 @@ use Rattle.reduce_rounds.specs.Reduction.{Reduction, asks_first, capped_count, e
 use Rattle.reduce_rounds.specs.ByTrials.{reduction_of}
 use Rattle.reduce_rounds.specs.RoundsPlan.{ask_if, plan_first, plan_in, plan_next, plan_opening, plan_rounds, plan_within, step_result}
 use Rattle.reduce_rounds.specs.Verdicts.{is_yes, says_yes}
-use Rattle.reduce_rounds.proofs.Continued.{all_rounds, by_test, next_round, reduction-in, reduction_in, rounds_in, tried_in}
+use Rattle.reduce_rounds.proofs.Lent.{all_rounds, by_test, next_round, reduction-in, reduction_in, rounds_in, tried_in}
 use Rattle.reduce_core.specs.Laws.{LinesAreRecursions}
 use Rattle.reduce_core.specs.LineMode.{line_mode}
 use Rattle.reduce_core.specs.declared.lines.Line.{Line}

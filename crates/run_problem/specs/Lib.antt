@@ -5,8 +5,8 @@ pub use Rattle.reduce_trees_input.specs.Parsed
 pub use Rattle.reduce_trees.specs as ReduceTrees
 pub mod Problem
 pub mod Reducer
-pub mod Walks
 pub mod Read
 pub mod Committed
 pub mod Ends
 pub mod Laws
+pub mod inner

@@ -16,7 +16,7 @@ ghost use Rattle.run_gated.specs.RunEnds.{JournalHas, RunEndsIn};
 ghost use Rattle.run_problem.specs.Problem.{Problem};
 ghost use Rattle.run_problem.specs.Read.{IsFoundIn, IsReadAs, IsReady, start_read};
 ghost use Rattle.run_problem.specs.Ends.{AreOf, ProblemEnds};
-ghost use Rattle.run_problem.specs.Walks.{IsTreeMode};
+ghost use Rattle.run_problem.specs.inner.Walks.{IsTreeMode};
 
 use crate::laws::histories_go_by_questions;
 use crate::problem::ReadProblem;

@@ -15,21 +15,21 @@ use Rattle.gate_permits.specs.Permits.{AnsweredText, ClaimedText, IsAnswerTo}
 use Rattle.verdict_table.specs.declared.record.Record.{Record}
 use Rattle.reduce_step.specs.Plan.{Plan, asked}
 use Rattle.verdict_table.specs.TableState.{texts_of, verdict_in}
-use Rattle.verdict_table.proofs.RecordLemmas.{not_among}
+use Rattle.verdict_table.proofs.Lent.{not_among}
 use Rattle.reduce_journal.specs.declared.event.Event.TheVariants.{Recorded}
 use Rattle.reduce_journal.specs.History.{History, records_of}
 use Rattle.ordered_commit_moves.specs.Replay.{record_at, replay}
-use Rattle.ordered_commit_moves.proofs.Runs.{numbered, records_more, replay_record}
+use Rattle.ordered_commit_moves.proofs.Lent.{numbered, records_more, replay_record}
 use Rattle.ordered_commit.specs.declared.fault.PoolFault.{PoolFault}
 use Rattle.ordered_commit.specs.declared.fault.PoolFault.TheVariants.{Journal}
 use Rattle.ordered_commit.specs.declared.seat.Seat.{Seat}
 use Rattle.ordered_commit.specs.BoardState.{BoardState}
 use Rattle.ordered_commit.specs.RecordEnds.{IsRecorded, RecordEnds, event_of}
 use Rattle.ordered_commit.specs.Writes.{HasSameName, IsWrittenUnlessBroken}
-use Rattle.ordered_commit.proofs.JournalLemmas.{has_more}
+use Rattle.ordered_commit.proofs.Lent.{has_more}
 use Rattle.run_worker.specs.RunHistory.{with_all_asked}
 use Rattle.run_worker.specs.RunEnds.{IsCaused}
-use Rattle.run_worker.specs.UnderWay.{CanGoOn, GoesOn, IsAsking, IsUnansweredAt, IsUnderWay, LeadsOn, Moment, moment}
+use Rattle.run_worker.specs.inner.UnderWay.{CanGoOn, GoesOn, IsAsking, IsUnansweredAt, IsUnderWay, LeadsOn, Moment, moment}
 use Rattle.run_worker.proofs.SequentialLemmas.{goes_record, leads_record}
 use Rattle.run_worker.proofs.WrittenLemmas.{Has, all_written, record_broke}
 use Rattle.run_worker.proofs.AskLemmas.{replaced}

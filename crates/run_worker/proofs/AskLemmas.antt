@@ -12,16 +12,16 @@ use Rattle.verdict_table.specs.declared.table.Claim.{Claim}
 use Rattle.reduce_step.specs.Ahead.{ahead, asked_at_no}
 use Rattle.reduce_step.specs.Plan.{Ask, End, Plan, asked}
 use Rattle.verdict_table.specs.TableState.{texts_of, verdict_in}
-use Rattle.verdict_table.proofs.RecordLemmas.{not_among}
+use Rattle.verdict_table.proofs.Lent.{not_among}
 use Rattle.reduce_journal.specs.History.{History, records_of}
 use Rattle.ordered_commit_moves.specs.Moves.{OpenClaim, is_taken, next_text}
 use Rattle.ordered_commit_moves.specs.Replay.{record_at}
-use Rattle.ordered_commit_moves.proofs.Runs.{numbered}
+use Rattle.ordered_commit_moves.proofs.Lent.{numbered}
 use Rattle.ordered_commit.specs.declared.seat.Seat.{Seat}
 use Rattle.ordered_commit.specs.Seats.{with_seat}
 use Rattle.ordered_commit.specs.BoardState.{BoardState, IsSettled, core_of, held_claims}
 use Rattle.ordered_commit.specs.TakeEnds.{IsClaimed}
-use Rattle.run_worker.specs.UnderWay.{IsAsking, IsFree, IsUnderWay, Moment, moment}
+use Rattle.run_worker.specs.inner.UnderWay.{IsAsking, IsFree, IsUnderWay, Moment, moment}
 
 -- ---- a single seat
 

@@ -6,8 +6,8 @@ use Rattle.script_gate_trait.specs.declared.gate.Verdict.{Verdict}
 use Rattle.script_gate_trait.specs.declared.gate.Verdict.TheVariants.{Yes, No}
 use Rattle.reduce_step.specs.Plan.{Ask, End, HasEnded, Plan, after, asked, follow}
 use Rattle.verdict_table.specs.TableState.{texts_of, verdict_in}
-use Rattle.reduce_step.proofs.PlanLemmas.{follow_ended, stays}
-use Rattle.verdict_table.proofs.RecordLemmas.{extends_itself}
+use Rattle.reduce_step.proofs.Lent.{follow_ended, stays}
+use Rattle.verdict_table.proofs.Lent.{extends_itself}
 use Rattle.reduce_journal.specs.declared.event.Event.{Event}
 use Rattle.reduce_journal.specs.declared.event.Event.TheVariants.{Recorded, Committed}
 use Rattle.reduce_journal.specs.History.{History, records_of}
@@ -17,7 +17,7 @@ use Rattle.ordered_commit.specs.declared.fault.PoolFault.TheVariants.{Script, Jo
 use Rattle.run_worker.specs.Sequential.{by_verdict, sequential_from, sequential_history}
 use Rattle.run_worker.specs.RunHistory.{BeginsWith, EndsAtFirst, IsBeginning, IsSequential, own_history}
 use Rattle.run_worker.specs.RunEnds.{ReducerEnds}
-use Rattle.run_worker.specs.UnderWay.{GoesOn, IsUnansweredAt, LeadsOn}
+use Rattle.run_worker.specs.inner.UnderWay.{GoesOn, IsUnansweredAt, LeadsOn}
 use Rattle.run_worker.proofs.SequentialLemmas.{after_end, after_unanswered}
 
 -- nothing comes before nothing

@@ -12,7 +12,7 @@ use Rattle.reduce_journal.specs.declared.event.Event.TheVariants.{Committed}
 use Rattle.reduce_journal.specs.History.{History, records_of}
 use Rattle.ordered_commit_moves.specs.Moves.{CoreState}
 use Rattle.ordered_commit_moves.specs.Replay.{answered, record_at, replay}
-use Rattle.ordered_commit_moves.proofs.Runs.{records_same, replay_commit}
+use Rattle.ordered_commit_moves.proofs.Lent.{records_same, replay_commit}
 use Rattle.ordered_commit.specs.declared.fault.PoolFault.{PoolFault}
 use Rattle.ordered_commit.specs.declared.fault.PoolFault.TheVariants.{Journal, Memory}
 use Rattle.ordered_commit.specs.declared.fault.BoardFault.{BoardFault}
@@ -21,10 +21,10 @@ use Rattle.ordered_commit.specs.declared.seat.Seat.{Seat}
 use Rattle.ordered_commit.specs.BoardState.{BoardState, CanCommit}
 use Rattle.ordered_commit.specs.CommitEnds.{CommitEnds}
 use Rattle.ordered_commit.specs.Writes.{HasSameName, IsWritten}
-use Rattle.ordered_commit.proofs.JournalLemmas.{has_more}
+use Rattle.ordered_commit.proofs.Lent.{has_more}
 use Rattle.run_worker.specs.RunHistory.{with_all_asked}
 use Rattle.run_worker.specs.RunEnds.{IsCaused}
-use Rattle.run_worker.specs.UnderWay.{GoesOn, IsUnansweredAt, IsUnderWay, LeadsOn, Moment, moment}
+use Rattle.run_worker.specs.inner.UnderWay.{GoesOn, IsUnansweredAt, IsUnderWay, LeadsOn, Moment, moment}
 use Rattle.run_worker.proofs.SequentialLemmas.{goes_commit, leads_commit}
 use Rattle.run_worker.proofs.WrittenLemmas.{Has, all_written, commit_broke}
 

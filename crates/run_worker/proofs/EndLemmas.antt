@@ -20,7 +20,7 @@ use Rattle.ordered_commit.specs.Faults.{board_fault}
 use Rattle.ordered_commit.specs.Kept.{IsKept}
 use Rattle.run_worker.specs.RunHistory.{IsHistoryOf, IsSequential, own_history, with_all_asked}
 use Rattle.run_worker.specs.RunEnds.{ReducerEnds}
-use Rattle.run_worker.specs.UnderWay.{IsUnderWay, Moment}
+use Rattle.run_worker.specs.inner.UnderWay.{IsUnderWay, Moment}
 use Rattle.run_worker.proofs.BeginLemmas.{is_sequential, reducer_ends}
 
 pub none_asked : (o : Option Log) → o ≡ option_map (with_all_asked []) o

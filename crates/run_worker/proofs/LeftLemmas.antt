@@ -18,7 +18,7 @@ use Rattle.ordered_commit.specs.declared.seat.Seat.{Seat}
 use Rattle.ordered_commit.specs.BoardState.{BoardState, CanCommit, IsSettled}
 use Rattle.ordered_commit.specs.CommitEnds.{CommitEnds}
 use Rattle.ordered_commit.specs.TakeEnds.{IsClaimed}
-use Rattle.run_worker.specs.UnderWay.{CanGoOn, IsFree, turns_left}
+use Rattle.run_worker.specs.inner.UnderWay.{CanGoOn, IsFree, turns_left}
 
 -- an answer leaves fewer to come
 lower : (p : Plan) (v : Verdict) (text : List ℕ) → asked p ≡ Some text → height (after p v) < height p

@@ -1,8 +1,9 @@
-pub mod SequentialLemmas
-pub mod BeginLemmas
-pub mod WrittenLemmas
-pub mod CallLemmas
-pub mod AskLemmas
-pub mod AnswerLemmas
-pub mod LeftLemmas
-pub mod EndLemmas
+mod SequentialLemmas
+mod BeginLemmas
+mod WrittenLemmas
+mod CallLemmas
+mod AskLemmas
+mod AnswerLemmas
+mod LeftLemmas
+mod EndLemmas
+pub mod Lent

@@ -9,14 +9,14 @@ use Rattle.script_gate_trait.specs.declared.gate.Verdict.TheVariants.{Yes, No}
 use Rattle.verdict_table.specs.declared.record.Record.{Record}
 use Rattle.reduce_step.specs.Plan.{Ask, End, HasEnded, Plan, after, asked, follow}
 use Rattle.verdict_table.specs.TableState.{Extends, texts_of}
-use Rattle.reduce_step.proofs.PlanLemmas.{follow_after}
-use Rattle.verdict_table.proofs.RecordLemmas.{extends_front, extends_back}
+use Rattle.reduce_step.proofs.Lent.{follow_after}
+use Rattle.verdict_table.proofs.Lent.{extends_front, extends_back}
 use Rattle.reduce_journal.specs.declared.event.Event.TheVariants.{Recorded, Committed}
 use Rattle.reduce_journal.specs.History.{History, records_of}
 use Rattle.ordered_commit_moves.specs.Replay.{answered, record_at, replay}
-use Rattle.ordered_commit_moves.proofs.Runs.{extends_at, records_more, records_same, replay_commit, replay_record}
+use Rattle.ordered_commit_moves.proofs.Lent.{extends_at, records_more, records_same, replay_commit, replay_record}
 use Rattle.run_worker.specs.Sequential.{answer_events, by_verdict, number_for, records_after, sequential_from}
-use Rattle.run_worker.specs.UnderWay.{GoesOn, LeadsOn}
+use Rattle.run_worker.specs.inner.UnderWay.{GoesOn, LeadsOn}
 
 -- ---- records by their texts
 

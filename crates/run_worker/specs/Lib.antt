@@ -7,3 +7,4 @@ pub mod Sequential
 pub mod RunHistory
 pub mod RunEnds
 pub mod UnderWay
+pub mod inner

@@ -1,14 +1,14 @@
 -- How a run ends, by the fault that ended it, if one did.
-use Rattle.std.specs.Prelude.{◌≡◌, ◌⊎◌, ◌++◌, ◌∷◌, ℕ, List, [], Option, Some, None, IfSome, IsSome, option_map, take}
+use Rattle.std.specs.Prelude.{◌≡◌, ◌⊎◌, ◌++◌, ◌∷◌, ℕ, List, [], Option, Some, None, IsSome, option_map, take}
 use Rattle.faults.specs.Count.{Rose}
-use Rattle.edge_io.specs.Sink.{GrewByPrefix, Put, with_piece}
+use Rattle.edge_io.specs.Sink.{Put, with_piece}
 use Rattle.script_gate_trait.specs.declared.gate.Verdict.{Verdict}
 use Rattle.verdict_table.specs.declared.record.Record.{Record}
 use Rattle.reduce_step.specs.Plan.{HasEnded, Plan, asked, follow}
 use Rattle.verdict_table.specs.TableState.{verdict_in}
 use Rattle.reduce_journal.specs.declared.event.Event.TheVariants.{Recorded, Committed}
 use Rattle.reduce_journal.specs.History.{History, records_of}
-use Rattle.reduce_journal.specs.Journal.{event_text, head, journal_text}
+use Rattle.reduce_journal.specs.Journal.{event_text, journal_text}
 use Rattle.ordered_commit_moves.specs.Replay.{record_at}
 use Rattle.ordered_commit.specs.declared.fault.PoolFault.{PoolFault}
 use Rattle.ordered_commit.specs.declared.fault.PoolFault.TheVariants.{Script, Journal, Memory}
@@ -58,15 +58,3 @@ pub record BrokeInCommit (history : History) (bytes : List ℕ) : Type 0 where
 -- it broke off in the last record, or in a commit that would come next
 abbrev pub BrokeAtEnd : History → List ℕ → Type 0
 BrokeAtEnd history bytes = BrokeInRecord history bytes ⊎ BrokeInCommit history bytes
-
--- it broke off, in its first line, in the last record, or in a commit that would come next
-abbrev pub HasPart : History → Option Put → Option Put → Type 0
-HasPart history old new =
-    HasSameName old new × (((history ≡ []) × GrewByPrefix head old new) ⊎ IfSome new (λ put. BrokeAtEnd history put.bytes))
-
--- What the journal has, by the fault.
-abbrev pub JournalEnds : Option PoolFault → History → Option Put → Option Put → Type 0
-JournalEnds None history old new = HasWritten history old new
-JournalEnds (Some (Script worker)) history old new = HasWritten history old new
-JournalEnds (Some Journal) history old new = HasPart history old new
-JournalEnds (Some Memory) history old new = HasWritten history old new ⊎ HasNothing history old new

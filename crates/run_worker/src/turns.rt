@@ -6,7 +6,7 @@ ghost use Rattle.boxcar.specs.Table.{Shows};
 ghost use Rattle.reduce_step.specs.Plan.{HasEnded};
 ghost use Rattle.ordered_commit.specs.declared.seat.Seat.{Seat as WorkerSeat};
 ghost use Rattle.ordered_commit.specs.BoardState.{IsSettled};
-ghost use Rattle.run_worker.specs.UnderWay.{CanGoOn, IsAsking, IsFree, IsUnderWay, Moment, moment, turns_left};
+ghost use Rattle.run_worker.specs.inner.UnderWay.{CanGoOn, IsAsking, IsFree, IsUnderWay, Moment, moment, turns_left};
 
 use edge_io::Sink;
 use gate_permits::{Permit, Texts, ask_once};

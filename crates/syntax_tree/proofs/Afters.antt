@@ -8,7 +8,8 @@ use Rattle.normal_form.specs.Form.{NormalForm}
 use Rattle.syntax_tree.specs.declared.node.Node.{Node}
 use Rattle.syntax_tree.specs.Trees.{PlainTree, PlainTrees, IsInSome, below, children_of, count, in_first, in_later, itself, renumbered, renumbered_all, size, size_all}
 use Rattle.syntax_tree.specs.Numbered.{number_of, subtree, subtree_among}
-use Rattle.syntax_tree.specs.Nodes.{AreAfters, AreNodesOf, HaveAfters, later_trees, whole_of}
+use Rattle.syntax_tree.specs.Nodes.{AreNodesOf, later_trees, whole_of}
+use Rattle.syntax_tree.specs.inner.Nodes.{AreAfters, HaveAfters}
 use Rattle.syntax_tree.proofs.Within.{found, numbered_within, or_some}
 use Rattle.syntax_tree.proofs.Finding.{deeper, is_found}
 use Rattle.syntax_tree.proofs.NodeLists.{as_many, subtrees}

@@ -1,18 +1,19 @@
-pub mod ValidTrees
-pub mod PreferredTrees
-pub mod Decoding
-pub mod OneTree
-pub mod Within
-pub mod LeftTrees
-pub mod Exchanged
-pub mod InSlots
-pub mod SingleEdits
-pub mod NodeLists
-pub mod Finding
-pub mod LevelOrder
-pub mod KeptLeaves
-pub mod KeptKinds
-pub mod SpanLeaves
-pub mod OtherNodes
-pub mod Afters
-pub mod TokenOrder
+mod ValidTrees
+mod PreferredTrees
+mod Decoding
+mod OneTree
+mod Within
+mod LeftTrees
+mod Exchanged
+mod InSlots
+mod SingleEdits
+mod NodeLists
+mod Finding
+mod LevelOrder
+mod KeptLeaves
+mod KeptKinds
+mod SpanLeaves
+mod OtherNodes
+mod Afters
+mod TokenOrder
+pub mod Lent

@@ -10,8 +10,9 @@ use Rattle.compat_table.specs.Fits.{itself, in_set}
 use Rattle.normal_form_spans.specs.Spans.{DerivesSpan, DerivesSpanSeq, DerivesSpanMany}
 use Rattle.normal_form_spans.specs.Spans as span
 use Rattle.normal_form_spans.specs.SpanLaws.{SpansByForm}
-use Rattle.normal_form_spans.proofs.Cuts.{between_append, between_one}
-use Rattle.syntax_tree.specs.Trees.{PlainTree, PlainTrees, HasTokensFrom, HaveTokensFrom, kinds_of, kinds_of_all, renumbered, renumbered_all, size, weight, weight_all}
+use Rattle.normal_form_spans.proofs.Lent.{between_append, between_one}
+use Rattle.syntax_tree.specs.Trees.{PlainTree, PlainTrees, HasTokensFrom, HaveTokensFrom, kinds_of, renumbered, renumbered_all, size, weight, weight_all}
+use Rattle.syntax_tree.specs.inner.Trees.{kinds_of_all}
 use Rattle.syntax_tree.specs.Valid.{IsValid, AreValid, EachIsValid}
 use Rattle.syntax_tree.specs.Valid as valid
 use Rattle.syntax_tree.specs.Preferred.{Preferred, PreferredSeq, PreferredMany, of_kind, of_set, of_regular, of_present, of_absent, of_star, of_plus, of_done, of_next, of_end, of_more}

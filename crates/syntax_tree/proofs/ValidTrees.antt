@@ -2,15 +2,16 @@
 use Rattle.std.proofs.Common.{◌≡◌, ◌⊎◌, inl, inr, ℕ, List, [], ◌∷◌, ◌++◌, Some, slice_get, sym, subst, arith}
 use Rattle.std.proofs.lemmas.Bool.{cases_lt}
 use Rattle.std.proofs.lemmas.List.{append-nil}
-use Rattle.grammar_tree.proofs.Places.{contains_at}
+use Rattle.grammar_tree.proofs.Lent.{contains_at}
 use Rattle.normal_form.specs.declared.normal.Sym.{Sym}
 use Rattle.normal_form.specs.declared.normal.Sym.TheVariants.{Kind, Rule}
 use Rattle.normal_form.specs.Form.{RuleForm, NormalForm}
 use Rattle.normal_form.specs.NormalDerives.{NormalDerives, NormalDerivesSeq, NormalDerivesMany, of_kind, of_set, of_done, of_end, of_more}
 use Rattle.normal_form.specs.NormalDerives as derives
 use Rattle.normal_form.specs.FormLaws.{ElementsAreNotEmpty}
-use Rattle.compat_table.proofs.Fitting.{derive_more}
-use Rattle.syntax_tree.specs.Trees.{PlainTree, PlainTrees, kinds_of, kinds_of_all, weight}
+use Rattle.compat_table.proofs.Lent.{derive_more}
+use Rattle.syntax_tree.specs.Trees.{PlainTree, PlainTrees, kinds_of, weight}
+use Rattle.syntax_tree.specs.inner.Trees.{kinds_of_all}
 use Rattle.syntax_tree.specs.Valid.{IsValid, AreValid, EachIsValid, of_leaf, of_regular, of_absent, of_present, of_star, of_plus, of_no_slots, of_slot, of_none, of_next}
 use Rattle.syntax_tree.specs.Laws.{ElementsHaveTokens, ValidTreesAreDerived}
 use Rattle.syntax_tree.proofs.LeftTrees.{no_leaves}

@@ -13,3 +13,4 @@ pub mod Laws
 pub mod NodeLaws
 pub mod EditLaws
 pub mod LeftLaws
+pub mod inner

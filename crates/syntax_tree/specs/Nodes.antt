@@ -1,11 +1,10 @@
 -- The nodes of a parsed tree as a list, each at the index that is its number.
-use Rattle.std.specs.Prelude.{◌≡◌, ℕ, zero, suc, ◌+◌, ⊤, List, [], ◌∷◌, ◌++◌, Option, Some, None, slice_get}
+use Rattle.std.specs.Prelude.{◌≡◌, ℕ, zero, suc, ◌+◌, List, [], ◌∷◌, ◌++◌, Option, Some, None}
 use Rattle.normal_form.specs.declared.normal.Sym.{Sym}
 use Rattle.normal_form.specs.declared.normal.Sym.TheVariants.{Kind, Set, Rule}
 use Rattle.normal_form.specs.Form.{NormalForm}
 use Rattle.syntax_tree.specs.declared.node.Node.{Node}
-use Rattle.syntax_tree.specs.Trees.{PlainTree, PlainTrees, HasTokensFrom, count, renumbered, size, weight}
-use Rattle.syntax_tree.specs.Numbered.{subtree}
+use Rattle.syntax_tree.specs.Trees.{PlainTree, PlainTrees, HasTokensFrom, count, renumbered, weight}
 use Rattle.syntax_tree.specs.Valid.{IsValid, slots_of}
 
 -- The tree of all tokens of an input: valid for its slot; its nodes are numbered from 0, each before those below it, from left to right; and its leaves are the tokens from 0 on, in their order.
@@ -66,10 +65,6 @@ first_tree (PlainTrees.next t ts) = t
 abbrev pub whole_of : List Node → PlainTree
 whole_of nodes = first_tree (trees_of 0 nodes)
 
--- These are the nodes of the tree of all tokens of some input.
-abbrev pub AreNodes : List Node → Type 0
-AreNodes nodes = (N : NormalForm) × (s : Sym) × AreNodesOf N s nodes (whole_of nodes)
-
 -- What contracts see of a parsed tree: the normal form that it is over, the slot that it is in as a whole, and its nodes.
 pub record SyntaxTree : Type 0 where
   pub form : NormalForm
@@ -79,12 +74,3 @@ pub record SyntaxTree : Type 0 where
 -- the tree itself
 abbrev pub whole : SyntaxTree → PlainTree
 whole tree = whole_of tree.nodes
-
--- For each node, at the index that is its number, the number after those of the node and of all below it.
-abbrev pub AreAfters : List ℕ → PlainTree → Type 0
-AreAfters after t = (q : ℕ) (u : PlainTree) → subtree q t ≡ Some u → slice_get after q ≡ Some (q + size u)
-
--- That is so of these trees, of which the first has the number n, but perhaps not of what is below them.
-abbrev pub HaveAfters : List ℕ → ℕ → PlainTrees → Type 0
-HaveAfters after n PlainTrees.none = ⊤
-HaveAfters after n (PlainTrees.next t ts) = (slice_get after n ≡ Some (n + size t)) × HaveAfters after (n + size t) ts

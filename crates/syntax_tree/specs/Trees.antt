@@ -39,9 +39,6 @@ leaves t = of_leaves (λ k i. i) t
 abbrev pub kinds_of : PlainTree → List ℕ
 kinds_of t = of_leaves (λ k i. k) t
 
-abbrev pub kinds_of_all : PlainTrees → List ℕ
-kinds_of_all ts = of_leaves_all (λ k i. k) ts
-
 abbrev mutual
   -- how many leaves the tree has
   pub weight : PlainTree → ℕ

@@ -3,7 +3,8 @@
 ghost use Rattle.std.specs.Prelude.{◌≡◌, ◌+◌, ◌<◌, ◌^◌, IfOk, Some, length, vec_len};
 ghost use Rattle.syntax_tree.specs.Trees.{PlainTree, PlainTrees, count, size, size_all};
 ghost use Rattle.syntax_tree.specs.Numbered.{subtree};
-ghost use Rattle.syntax_tree.specs.Nodes.{AreAfters, AreNodes, AreNodesOf, HaveAfters, whole, whole_of};
+ghost use Rattle.syntax_tree.specs.Nodes.{AreNodesOf, whole, whole_of};
+ghost use Rattle.syntax_tree.specs.inner.Nodes.{AreAfters, AreNodes, HaveAfters};
 
 use crate::node::Node;
 use faults::Memory;
@@ -26,7 +27,8 @@ impl Model for Tree {
     ghost Value = { SyntaxTree };
 
     ghost use Rattle.std.specs.Prelude.{◌<◌, ◌^◌, vec_len};
-    ghost use Rattle.syntax_tree.specs.Nodes.{AreAfters, AreNodesOf, whole_of};
+    ghost use Rattle.syntax_tree.specs.Nodes.{AreNodesOf, whole_of};
+    ghost use Rattle.syntax_tree.specs.inner.Nodes.{AreAfters};
 
     ghost view = { λ t. record { form = t.normal; start = t.start; nodes = t.nodes.items } };
 

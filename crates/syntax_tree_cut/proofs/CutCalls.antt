@@ -12,9 +12,9 @@ use Rattle.syntax_tree.specs.Nodes.{AreNodesOf, SyntaxTree, whole}
 use Rattle.syntax_tree.specs.Valid.{IsValid}
 use Rattle.syntax_tree.specs.Edits.{IsLocalDeletion, LeavesOut, of_opt, of_plus, of_star}
 use Rattle.syntax_tree_cut.specs.Cuts.{CanDelete, CanEmpty, CanReplace, CutForm, HasChildren, IsCutOf, IsOccupant, cut_tree, left_at, left_of_each, without}
-use Rattle.syntax_tree_cut.specs.TreeLaws.{TreeLaws}
-use Rattle.syntax_tree_cut.specs.Children.{IsRest}
-use Rattle.syntax_tree_cut.specs.Steps.{HasDeleted, HasReplaced}
+use Rattle.syntax_tree_cut.specs.inner.TreeLaws.{TreeLaws}
+use Rattle.syntax_tree_cut.specs.inner.Children.{IsRest}
+use Rattle.syntax_tree_cut.specs.inner.Steps.{HasDeleted, HasReplaced}
 use Rattle.syntax_tree_cut.proofs.Rising.{subtree_below, subtree_own, subtree_within, when_equal}
 use Rattle.syntax_tree_cut.proofs.Deletions.{child_found, child_within, left_out_count, some_first, without_leaves_out}
 use Rattle.syntax_tree_cut.proofs.CutEdits.{child_gone, deeper_found, node_was, replaced_cut, tree_rises, whole_numbers, whole_rises}

@@ -20,10 +20,10 @@ use Rattle.syntax_tree.specs.Left.{IsRemainderOf}
 use Rattle.syntax_tree.specs.LeftLaws.{AreLeavesInSpan, is_within}
 use Rattle.syntax_tree_cut.specs.declared.mark.Mark.{Mark}
 use Rattle.syntax_tree_cut.specs.declared.mark.Mark.TheVariants.{Kept, Deleted, Replaced}
-use Rattle.syntax_tree_cut.specs.Tokens.{before, from_on, within}
+use Rattle.syntax_tree_cut.specs.inner.Tokens.{before, from_on, within}
 use Rattle.syntax_tree_cut.specs.Cuts.{CutForm, IsCutOf, ReplacementsGoDown, by_mark, cut_tree, left_among, left_at, left_of_each, mark_at, slot_of, without}
-use Rattle.syntax_tree_cut.specs.TreeLaws.{TreeLaws}
-use Rattle.syntax_tree_cut.specs.Steps.{HasDeleted, HasReplaced}
+use Rattle.syntax_tree_cut.specs.inner.TreeLaws.{TreeLaws}
+use Rattle.syntax_tree_cut.specs.inner.Steps.{HasDeleted, HasReplaced}
 use Rattle.syntax_tree_cut.proofs.Rising.{Rises, RiseAll, cases_option, cases_or, found_among_within, found_within, not_found, or_first, or_second, rises_from, subtree_below, subtree_own, subtree_within, when_equal, when_not}
 use Rattle.syntax_tree_cut.proofs.LeftTrees.{among_rises, leaf_own, left_among_there, left_below, left_rises, left_there, node_own, own_left, own_of_each, part_left}
 use Rattle.syntax_tree_cut.proofs.EditedTrees.{edited, edited_outside, edited_with, left_among_edited, left_edited}

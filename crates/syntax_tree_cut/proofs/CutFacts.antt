@@ -17,9 +17,9 @@ use Rattle.syntax_tree.specs.Valid.{slot_at}
 use Rattle.syntax_tree.specs.Nodes.{AreNodesOf, SyntaxTree, nodes_of, whole}
 use Rattle.syntax_tree_cut.specs.declared.mark.Mark.{Mark}
 use Rattle.syntax_tree_cut.specs.declared.mark.Mark.TheVariants.{Kept, Replaced}
-use Rattle.syntax_tree_cut.specs.Tokens.{within}
+use Rattle.syntax_tree_cut.specs.inner.Tokens.{within}
 use Rattle.syntax_tree_cut.specs.Cuts.{CutForm, IsCutOf, ReplacementsGoDown, cut_tree, left_at, mark_at, slot_of}
-use Rattle.syntax_tree_cut.specs.TreeLaws.{TreeLaws}
+use Rattle.syntax_tree_cut.specs.inner.TreeLaws.{TreeLaws}
 use Rattle.syntax_tree_cut.proofs.Rising.{cases_option, found_within, or_first, or_second, subtree_below, subtree_own}
 use Rattle.syntax_tree_cut.proofs.LeftTrees.{part_left, whole_left}
 use Rattle.syntax_tree_cut.proofs.Deletions.{leaves_count, slot_there}

@@ -8,7 +8,7 @@ use Rattle.std.proofs.lemmas.Bool.{and_from, and_parts, cases_eq, cases_lt, cond
 use Rattle.std.proofs.lemmas.List.{drop-drop, get_or-set_other, get_or-set_same, length-set, take-append-drop}
 use Rattle.std.proofs.lemmas.List.Elements.{Contains-append_cases, Contains-append_left}
 use Rattle.std.proofs.lemmas.Option.{same_Some, slice_get-get_or, slice_get_within}
-use Rattle.grammar_tree.proofs.Elements.{contains_filter, contains_none, filtered}
+use Rattle.grammar_tree.proofs.Lent.{contains_filter, contains_none, filtered}
 use Rattle.syntax_tree.specs.declared.node.Node.{Node}
 use Rattle.syntax_tree.specs.Trees.{PlainTree, leaves, size}
 use Rattle.syntax_tree.specs.Numbered.{number_of, subtree}
@@ -16,14 +16,14 @@ use Rattle.syntax_tree.specs.Nodes.{AreNodesOf, SyntaxTree, whole}
 use Rattle.syntax_tree.specs.NodeLaws.{IsNodeOf}
 use Rattle.syntax_tree.specs.Left.{IsRemainderOf}
 use Rattle.syntax_tree.specs.LeftLaws.{AreLeavesInSpan, is_within}
-use Rattle.syntax_tree.proofs.TokenOrder.{tokens_follow}
+use Rattle.syntax_tree.proofs.Lent.{tokens_follow}
 use Rattle.syntax_tree_cut.specs.declared.mark.Mark.{Mark}
 use Rattle.syntax_tree_cut.specs.declared.mark.Mark.TheVariants.{Kept, Deleted, Replaced}
 use Rattle.syntax_tree_cut.specs.declared.tokens.Gap.{Gap}
 use Rattle.syntax_tree_cut.specs.Cuts.{CutForm, IsCutOf, ReplacementsGoDown, cut_tree, left_at, mark_at, slot_of}
-use Rattle.syntax_tree_cut.specs.Dropping.{IsDroppedSoFar}
-use Rattle.syntax_tree_cut.specs.Tokens.{IsSplitAt, before, from_on}
-use Rattle.syntax_tree_cut.specs.TreeLaws.{TreeLaws}
+use Rattle.syntax_tree_cut.specs.inner.Dropping.{IsDroppedSoFar}
+use Rattle.syntax_tree_cut.specs.inner.Tokens.{IsSplitAt, before, from_on}
+use Rattle.syntax_tree_cut.specs.inner.TreeLaws.{TreeLaws}
 use Rattle.syntax_tree_cut.specs.WithoutNodes.{AreApart, CanDrop, HasLeafBelow, dropped, without_nodes}
 use Rattle.syntax_tree_cut.proofs.Rising.{Rises, found_within, subtree_within}
 use Rattle.syntax_tree_cut.proofs.LeftTrees.{left_rises, left_there, own_left, part_left}

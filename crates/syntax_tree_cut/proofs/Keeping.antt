@@ -16,12 +16,13 @@ use Rattle.syntax_tree_cut.specs.declared.mark.Mark.{Mark}
 use Rattle.syntax_tree_cut.specs.declared.mark.Mark.TheVariants.{Kept, Deleted}
 use Rattle.syntax_tree_cut.specs.declared.progress.Progress.{Progress}
 use Rattle.syntax_tree_cut.specs.declared.tokens.Gap.{Gap}
-use Rattle.syntax_tree_cut.specs.Children.{IsRest}
-use Rattle.syntax_tree_cut.specs.Cuts.{CanDelete, CanSelect, CutForm, HasChildren, IsCutOf, IsOccupant, ReplacementsRise, cut_tree, left_at, left_of_each, or_next, without}
-use Rattle.syntax_tree_cut.specs.Keeping.{CanPass, HasPassed, IsKeptSoFar, with_trees_after}
-use Rattle.syntax_tree_cut.specs.Steps.{HasDeleted}
-use Rattle.syntax_tree_cut.specs.Tokens.{IsSplitAt, before, from_on, within}
-use Rattle.syntax_tree_cut.specs.TreeLaws.{TreeLaws}
+use Rattle.syntax_tree_cut.specs.inner.Children.{IsRest}
+use Rattle.syntax_tree_cut.specs.Cuts.{CanDelete, CanSelect, CutForm, HasChildren, IsCutOf, IsOccupant, cut_tree, left_at, left_of_each, or_next, without}
+use Rattle.syntax_tree_cut.specs.inner.Cuts.{ReplacementsRise}
+use Rattle.syntax_tree_cut.specs.inner.Keeping.{CanPass, HasPassed, IsKeptSoFar, with_trees_after}
+use Rattle.syntax_tree_cut.specs.inner.Steps.{HasDeleted}
+use Rattle.syntax_tree_cut.specs.inner.Tokens.{IsSplitAt, before, from_on, within}
+use Rattle.syntax_tree_cut.specs.inner.TreeLaws.{TreeLaws}
 use Rattle.syntax_tree_cut.proofs.Rising.{RiseAll, Rises, found_among_within, number_within, rise_from, rises_from, subtree_below, subtree_own, subtree_within}
 use Rattle.syntax_tree_cut.proofs.LeftTrees.{each_rises, left_below, left_rises}
 use Rattle.syntax_tree_cut.proofs.EditedTrees.{edited_all_outside, left_of_each_edited}

@@ -1,17 +1,18 @@
-pub mod Rising
-pub mod LeftTrees
-pub mod EditedTrees
-pub mod Deletions
-pub mod Spans
-pub mod CutEdits
-pub mod Splits
-pub mod CutFacts
-pub mod Positions
-pub mod CutCalls
-pub mod Ways
-pub mod Seen
-pub mod Questions
-pub mod TreesAfter
-pub mod Keeping
-pub mod WithoutNodes
-pub mod Dropping
+mod Rising
+mod LeftTrees
+mod EditedTrees
+mod Deletions
+mod Spans
+mod CutEdits
+mod Splits
+mod CutFacts
+mod Positions
+mod CutCalls
+mod Ways
+mod Seen
+mod Questions
+mod TreesAfter
+mod Keeping
+mod WithoutNodes
+mod Dropping
+pub mod Lent

@@ -14,9 +14,10 @@ use Rattle.syntax_tree.specs.Numbered.{number_of, roots, subtree, subtree_among}
 use Rattle.syntax_tree.specs.Nodes.{AreNodesOf, SyntaxTree, whole}
 use Rattle.syntax_tree_cut.specs.declared.mark.Mark.{Mark}
 use Rattle.syntax_tree_cut.specs.declared.mark.Mark.TheVariants.{Kept, Deleted, Replaced}
-use Rattle.syntax_tree_cut.specs.Cuts.{CutForm, IsCutOf, IsOccupant, ReplacementsRise, by_mark, cut_tree, deleted, itself, left_among, left_at, left_of_each, mark_at, or_next, replaced}
-use Rattle.syntax_tree_cut.specs.TreeLaws.{TreeLaws}
-use Rattle.syntax_tree_cut.specs.Children.{AreSubtrees, IsRest}
+use Rattle.syntax_tree_cut.specs.Cuts.{CutForm, IsCutOf, IsOccupant, by_mark, cut_tree, deleted, itself, left_among, left_at, left_of_each, mark_at, or_next, replaced}
+use Rattle.syntax_tree_cut.specs.inner.Cuts.{ReplacementsRise}
+use Rattle.syntax_tree_cut.specs.inner.TreeLaws.{TreeLaws}
+use Rattle.syntax_tree_cut.specs.inner.Children.{AreSubtrees, IsRest}
 use Rattle.syntax_tree_cut.proofs.Rising.{Rises, RiseAll, cases_or, found_among_within, found_within, not_found, or_first, or_second, subtree_below, subtree_own, subtree_within, when_not}
 use Rattle.syntax_tree_cut.proofs.LeftTrees.{leaf_own, left_below, node_other, node_own}
 use Rattle.syntax_tree_cut.proofs.CutEdits.{deeper_found, node_was, none_there, whole_rises}

@@ -19,11 +19,13 @@ use Rattle.syntax_tree_cut.specs.declared.mark.Mark.TheVariants.{Kept}
 use Rattle.syntax_tree_cut.specs.declared.shape.Shape.{Shape}
 use Rattle.syntax_tree_cut.specs.declared.shape.Shape.TheVariants.{Leaf, Optional, Regular}
 use Rattle.syntax_tree_cut.specs.declared.children.Seen.{Seen}
-use Rattle.syntax_tree_cut.specs.Children.{HasSeen}
-use Rattle.syntax_tree_cut.specs.Cuts.{CanDelete, CanEmpty, CanReplace, CutForm, HasBelow, HasFitting, IsCutOf, IsOccupant, by_mark, cut_tree, left_among, left_at, left_of_each, mark_at}
-use Rattle.syntax_tree_cut.specs.Shapes.{fewest_of, shape_of, shape_of_form}
-use Rattle.syntax_tree_cut.specs.Tokens.{within}
-use Rattle.syntax_tree_cut.specs.TreeLaws.{TreeLaws}
+use Rattle.syntax_tree_cut.specs.inner.Children.{HasSeen}
+use Rattle.syntax_tree_cut.specs.Cuts.{CanDelete, CanEmpty, CanReplace, CutForm, IsCutOf, IsOccupant, by_mark, cut_tree, left_among, left_at, left_of_each, mark_at}
+use Rattle.syntax_tree_cut.specs.inner.Cuts.{HasBelow, HasFitting}
+use Rattle.syntax_tree_cut.specs.Shapes.{shape_of, shape_of_form}
+use Rattle.syntax_tree_cut.specs.inner.Shapes.{fewest_of}
+use Rattle.syntax_tree_cut.specs.inner.Tokens.{within}
+use Rattle.syntax_tree_cut.specs.inner.TreeLaws.{TreeLaws}
 use Rattle.syntax_tree_cut.proofs.Rising.{Rises, cases_or, found_among_within, found_within, subtree_below, subtree_own, subtree_within, when_not}
 use Rattle.syntax_tree_cut.proofs.Deletions.{leaves_count}
 use Rattle.syntax_tree_cut.proofs.LeftTrees.{leaf_own, left_below, node_own}

@@ -8,7 +8,7 @@ use Rattle.std.specs.List.Sorted.{IsNonDecreasing, IsStrictlyIncreasing}
 use Rattle.std.proofs.lemmas.Bool.{cases_lt, and_from, and_left, and_right, le-leb, lt-leb, lt-ltb, le-ltb}
 use Rattle.std.proofs.lemmas.List.Sorted.{IsNonDecreasingBy-from_default}
 use Rattle.syntax_tree.specs.LeftLaws.{is_within}
-use Rattle.syntax_tree_cut.specs.Tokens.{IsSplitAt, before, from_on, within}
+use Rattle.syntax_tree_cut.specs.inner.Tokens.{IsSplitAt, before, from_on, within}
 
 pub not_falling : (xs : List ℕ) → IsStrictlyIncreasing xs → (i n : ℕ) → i + n < length xs → slice_index xs i ≤ slice_index xs (i + n)
 not_falling xs up i zero lt =

@@ -9,7 +9,7 @@ use Rattle.syntax_tree.specs.Trees.{PlainTree, PlainTrees, count}
 use Rattle.syntax_tree.specs.Numbered.{number_of, roots, subtree, subtree_among, with_subtree, with_subtree_among}
 use Rattle.syntax_tree.specs.Left.{selected_trees}
 use Rattle.syntax_tree_cut.specs.Cuts.{without}
-use Rattle.syntax_tree_cut.specs.Keeping.{with_trees_after}
+use Rattle.syntax_tree_cut.specs.inner.Keeping.{with_trees_after}
 use Rattle.syntax_tree_cut.proofs.Rising.{Rises, RiseAll, cases_or, found_among_within, not_found, number_within, or_first, or_second, subtree_below, subtree_own, when_equal, when_not}
 use Rattle.syntax_tree_cut.proofs.Deletions.{with_outside}
 

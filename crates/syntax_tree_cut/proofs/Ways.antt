@@ -10,8 +10,8 @@ use Rattle.syntax_tree.specs.Nodes.{AreNodesOf, SyntaxTree, whole}
 use Rattle.syntax_tree_cut.specs.declared.mark.Mark.{Mark}
 use Rattle.syntax_tree_cut.specs.declared.mark.Mark.TheVariants.{Kept, Deleted, Replaced}
 use Rattle.syntax_tree_cut.specs.Cuts.{ReplacementsGoDown, by_mark, left_among, left_at, left_of_each, mark_at, or_next}
-use Rattle.syntax_tree_cut.specs.TreeLaws.{TreeLaws}
-use Rattle.syntax_tree_cut.specs.Ways.{IsAhead}
+use Rattle.syntax_tree_cut.specs.inner.TreeLaws.{TreeLaws}
+use Rattle.syntax_tree_cut.specs.inner.Ways.{IsAhead}
 use Rattle.syntax_tree_cut.proofs.Rising.{Rises, RiseAll, cases_option, found_among_within, found_within, not_found, not_found_among, or_first, or_none, or_second, rise_from, rises_from, subtree_below, subtree_own, subtree_within, when_not}
 use Rattle.syntax_tree_cut.proofs.LeftTrees.{each_rises, left_below, left_rises, node_own}
 use Rattle.syntax_tree_cut.proofs.CutEdits.{deeper_found, none_there, some_is, whole_rises}

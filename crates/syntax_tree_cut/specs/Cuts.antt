@@ -1,5 +1,5 @@
 -- What is left of a parsed tree after deletions and replacements.
-use Rattle.std.specs.Prelude.{◌≡◌, ◌⊎◌, ℕ, ◌<◌, ◌≤◌, if◌then◌else◌, nat_eq, Bool, true, List, Option, Some, None, length, slice_get, slice_index_or}
+use Rattle.std.specs.Prelude.{◌≡◌, ◌⊎◌, ℕ, ◌≤◌, if◌then◌else◌, nat_eq, Bool, true, List, Option, Some, None, length, slice_get, slice_index_or}
 use Rattle.std.specs.List.{Contains}
 use Rattle.std.specs.Option.{option_and_then, option_map, option_map_or, option_or}
 use Rattle.normal_form.specs.declared.normal.Sym.{Sym}
@@ -55,10 +55,6 @@ abbrev mutual
 -- the tree that is left (in a cut there always is one; no other marks matter)
 abbrev pub cut_tree : SyntaxTree → CutForm → PlainTree
 cut_tree tree c = option_map_or (λ t. t) (left_at c.marks 0 (whole tree)) (whole tree)
-
--- A node is replaced by one after it alone.
-abbrev pub ReplacementsRise : List Mark → Type 0
-ReplacementsRise marks = (q by : ℕ) → slice_get marks q ≡ Some (Replaced by) → (q < by) × (by < length marks)
 
 -- Nodes are replaced by ones below them.
 abbrev pub ReplacementsGoDown : List Mark → PlainTree → Type 0
@@ -140,18 +136,3 @@ pub record CanReplace (N : NormalForm) (start : Sym) (t : PlainTree) (q by : ℕ
   pub other_is : subtree by t ≡ Some other
   pub below : IsBelow other (PlainTree.node q rule alt children)
   pub fits : Fits N (symbol_of other) slot
-
--- The node `by` of the tree is below its node q.
-pub record HasBelow (t : PlainTree) (q by : ℕ) : Type 0 where
-  pub node : PlainTree
-  pub other : PlainTree
-  pub node_is : subtree q t ≡ Some node
-  pub other_is : subtree by t ≡ Some other
-  pub below : IsBelow other node
-
--- The node `by` of the tree, which is for the slot, is below its node q, and fits that node's slot.
-pub record HasFitting (N : NormalForm) (start : Sym) (t : PlainTree) (q by : ℕ) : Type 0 where
-  pub below : HasBelow t q by
-  pub slot : Sym
-  pub slot_is : slot_at N start q t ≡ Some slot
-  pub fits : Fits N (symbol_of below.other) slot

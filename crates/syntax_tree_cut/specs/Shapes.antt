@@ -1,5 +1,5 @@
 -- What nodes are by their rules.
-use Rattle.std.specs.Prelude.{ℕ, Option, Some, None, slice_get}
+use Rattle.std.specs.Prelude.{Option, Some, slice_get}
 use Rattle.std.specs.Option.{option_map}
 use Rattle.normal_form.specs.declared.normal.Sym.{Sym}
 use Rattle.normal_form.specs.declared.normal.Sym.TheVariants.{Kind, Set, Rule}
@@ -23,12 +23,3 @@ shape_of_symbol N (Rule r) = option_map shape_of_form (slice_get N.rules r)
 -- the shape of the tree's root
 abbrev pub shape_of : NormalForm → PlainTree → Option Shape
 shape_of N t = shape_of_symbol N (symbol_of t)
-
--- how many elements a list has at least of which one can be deleted
-abbrev pub fewest_of : Option Shape → Option ℕ
-fewest_of None = None
-fewest_of (Some Leaf) = None
-fewest_of (Some Star) = Some 1
-fewest_of (Some Plus) = Some 2
-fewest_of (Some Optional) = None
-fewest_of (Some Regular) = None

@@ -1,7 +1,7 @@
 //! Children that are counted.
 
 ghost use Rattle.std.specs.Prelude.{◌≡◌, ◌≤◌, ◌<◌, ◌+◌, ◌^◌, ◌++◌, ℕ, List, option_to_list};
-ghost use Rattle.syntax_tree_cut.specs.Children.{HasSeen};
+ghost use Rattle.syntax_tree_cut.specs.inner.Children.{HasSeen};
 
 /// Of children that were gone through, how many there are, and whether one with a certain number is
 /// among them.

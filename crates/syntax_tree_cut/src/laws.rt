@@ -1,6 +1,6 @@
 //! The laws of trees that the proofs of this crate use.
 
-ghost use Rattle.syntax_tree_cut.specs.TreeLaws.{TreeLaws};
+ghost use Rattle.syntax_tree_cut.specs.inner.TreeLaws.{TreeLaws};
 
 use syntax_tree::{
     leaves_in_span, left_is_part, left_is_reflexive, local_edits_are_valid, nodes_are_subtrees,

@@ -1,7 +1,8 @@
 //! Which nodes are at the positions of others.
 
 ghost use Rattle.std.specs.Prelude.{◌≡◌, ℕ, Option, ◌<◌, ◌++◌, OnOk, length, option_to_list};
-ghost use Rattle.syntax_tree_cut.specs.Cuts.{IsOccupant, ReplacementsRise};
+ghost use Rattle.syntax_tree_cut.specs.Cuts.{IsOccupant};
+ghost use Rattle.syntax_tree_cut.specs.inner.Cuts.{ReplacementsRise};
 
 use crate::mark::Mark;
 use faults::Memory;

@@ -3,7 +3,8 @@
 ghost use Rattle.std.specs.Prelude.{◌≡◌, ◌↔◌, Some, IsSome, IsTrue};
 ghost use Rattle.normal_form.specs.View.{rule_form};
 ghost use Rattle.syntax_tree_cut.specs.declared.shape.Shape.TheVariants.{Optional, Regular};
-ghost use Rattle.syntax_tree_cut.specs.Shapes.{fewest_of, shape_of_form, shape_of_symbol};
+ghost use Rattle.syntax_tree_cut.specs.Shapes.{shape_of_form, shape_of_symbol};
+ghost use Rattle.syntax_tree_cut.specs.inner.Shapes.{fewest_of};
 
 use normal_form::{Normal, NormalRule, Sym};
 

@@ -3,7 +3,7 @@
 ghost use Rattle.std.specs.Prelude.{◌≡◌, ◌+◌, ◌≤◌, ◌<◌, ◌++◌, Some, IfOk, length, slice_get, take, drop};
 ghost use Rattle.std.specs.List.{range_with_len};
 ghost use Rattle.std.specs.List.Sorted.{IsStrictlyIncreasing};
-ghost use Rattle.syntax_tree_cut.specs.Tokens.{IsSplitAt, before, from_on, within};
+ghost use Rattle.syntax_tree_cut.specs.inner.Tokens.{IsSplitAt, before, from_on, within};
 
 use faults::Memory;
 use std::alloc::Global;

@@ -6,7 +6,7 @@ ghost use Rattle.syntax_tree.specs.Trees.{PlainTree, size};
 ghost use Rattle.syntax_tree.specs.Numbered.{subtree};
 ghost use Rattle.syntax_tree.specs.Nodes.{whole};
 ghost use Rattle.syntax_tree_cut.specs.Cuts.{ReplacementsGoDown, left_at};
-ghost use Rattle.syntax_tree_cut.specs.Ways.{IsAhead, LeadsOn};
+ghost use Rattle.syntax_tree_cut.specs.inner.Ways.{IsAhead, LeadsOn};
 
 use crate::laws::tree_laws;
 use crate::mark::Mark;

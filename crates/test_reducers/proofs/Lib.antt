@@ -1,3 +1,3 @@
-pub mod ByteLaws
-pub mod RoundLemmas
+mod ByteLaws
+mod RoundLemmas
 mod Ready

@@ -7,7 +7,7 @@ use Rattle.std.specs.List.{range_with_len}
 use Rattle.std.specs.List.Sorted.{IsPermutation}
 use Rattle.ordered_commit.specs.declared.seat.Seat.{Seat}
 use Rattle.ordered_commit.specs.Seats.{Agrees, AreFreeSeats}
-use Rattle.ordered_commit.proofs.SeatLemmas.{range_more}
+use Rattle.ordered_commit.proofs.Lent.{range_more}
 
 -- the first so many of these seats are those of the workers from 1 on, agree and have no claim
 pub record AreFreeSoFar (own given : List Seat) (count : ℕ) : Type 0 where

@@ -1,3 +1,3 @@
-pub mod FreeSeats
-pub mod Questions
-pub mod Settled
+mod FreeSeats
+mod Questions
+mod Settled

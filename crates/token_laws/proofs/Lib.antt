@@ -1,12 +1,13 @@
-pub mod Once
-pub mod Order
-pub mod Gaps
-pub mod Pieces
-pub mod Slices
-pub mod GapPieces
-pub mod Runs
-pub mod Spelled
-pub mod ByReading
-pub mod Decided
-pub mod Matching
-pub mod Reading
+mod Once
+mod Order
+mod Gaps
+mod Pieces
+mod Slices
+mod GapPieces
+mod Runs
+mod Spelled
+mod ByReading
+mod Decided
+mod Matching
+mod Reading
+pub mod Lent

@@ -14,10 +14,7 @@ use Rattle.grammar_tree.specs.Faults.{IsWellFormed, LexerHasEmptyLoop, LexerHasE
 use Rattle.grammar_tree.specs.Laws.{CutsInto}
 use Rattle.grammar_tree.specs.Matches.{Matches, MatchesAlternative, MatchesAlts, MatchesRule, MatchesSeq, is_short}
 use Rattle.grammar_tree.specs.Places.{NamesAreKnown}
-use Rattle.grammar_tree.proofs.Elements.{contains_cases, contains_first, contains_later, contains_none}
-use Rattle.grammar_tree.proofs.MatchForms.{by_form, rule_by_form}
-use Rattle.grammar_tree.proofs.Places.{lexer_places}
-use Rattle.grammar_tree.proofs.Resolved.{well_formed_names}
+use Rattle.grammar_tree.proofs.Lent.{contains_cases, contains_first, elements_contains_later as contains_later, contains_none, by_form, rule_by_form, lexer_places, well_formed_names}
 use Rattle.token_laws.specs.Reading.{all_match, alternative_matches, has_rule, is_cut, is_cut_up, is_cut_within, is_filled, is_one_of, name_matches, rule_matches, some_match, term_matches}
 use Rattle.token_laws.proofs.Decided as decided
 use Rattle.token_laws.proofs.Decided.{always, both_where, decides_by, never}

@@ -1,7 +1,7 @@
 -- A text has one list of tokens at most, and then no stop.
 use Rattle.std.proofs.Common.{sym, ap, ◌∙◌}
 use Rattle.grammar_tree.specs.Lexes.{placed_tokens}
-use Rattle.grammar_tree.proofs.LexLaws.{lexed_stops_nowhere, one_way}
+use Rattle.grammar_tree.proofs.Lent.{lexed_stops_nowhere, one_way}
 use Rattle.token_laws.specs.Laws.{TokensAreUnique, TokensHaveNoStop}
 
 pub unique : TokensAreUnique

@@ -10,8 +10,7 @@ use Rattle.grammar_tree.specs.Matches.{MatchesRule}
 use Rattle.grammar_tree.specs.Faults.{AtLexerRule, IsWellFormed}
 use Rattle.grammar_tree.specs.Lexes.{IsNext, KindMatches, Lexes, LexesTo, Piece, PlacedToken, SourceMatches, StopsAt, placed_tokens}
 use Rattle.lexer.specs.Tokens.{HasTokens}
-use Rattle.grammar_tree.proofs.Elements.{contains_filter_map}
-use Rattle.grammar_tree.proofs.Places.{contains_at}
+use Rattle.grammar_tree.proofs.Lent.{contains_filter_map, contains_at}
 use Rattle.token_laws.specs.Laws.{EachTextIsRead}
 use Rattle.token_laws.specs.Reading.{Front, kind_matches, least_kind, lexer_rule_matches, longest_front, next_piece, pieces_from, pieces_within, source_matches, tokens_in, with_first}
 use Rattle.token_laws.proofs.Decided as decided

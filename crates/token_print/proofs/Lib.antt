@@ -1,10 +1,10 @@
-pub mod Offsets
-pub mod Same
-pub mod Writing
-pub mod Keeping
-pub mod Skipped
-pub mod Whole
-pub mod Climbing
-pub mod Sizes
-pub mod Squeezing
-pub mod Numbers
+mod Offsets
+mod Same
+mod Writing
+mod Keeping
+mod Skipped
+mod Whole
+mod Climbing
+mod Sizes
+mod Squeezing
+mod Numbers

@@ -1,2 +1,3 @@
-pub mod RecordLemmas
-pub mod TableLemmas
+mod RecordLemmas
+mod TableLemmas
+pub mod Lent

@@ -1,7 +1,7 @@
-pub mod StartLemmas
-pub mod RunLemmas
-pub mod WorkLemmas
-pub mod FinishLemmas
-pub mod PoolLemmas
-pub mod DoneLemmas
-pub mod OutcomeLemmas
+mod StartLemmas
+mod RunLemmas
+mod WorkLemmas
+mod FinishLemmas
+mod PoolLemmas
+mod DoneLemmas
+mod OutcomeLemmas

@@ -9,11 +9,10 @@ use Rattle.std.specs.List.Sorted.{IsPermutation}
 use Rattle.script_gate_trait.specs.declared.log.Log.{Log}
 use Rattle.ordered_commit.specs.declared.seat.Seat.{Seat}
 use Rattle.ordered_commit.specs.Seats.{Agrees, AreFreeSeats, SameForOthers, new_seat, new_seats}
-use Rattle.ordered_commit.proofs.SeatLemmas.{all_agree}
-use Rattle.ordered_commit.proofs.SeatParts.{workers_apart}
+use Rattle.ordered_commit.proofs.Lent.{all_agree, workers_apart}
 use Rattle.worker_pool.specs.declared.worker.Worker.{Worker}
-use Rattle.worker_pool.specs.Work.{HasWorked}
-use Rattle.worker_pool.specs.Ends.{GoesOn, HasDone, HasWorkedFrom, IsBrought, IsLeft, IsTaken}
+use Rattle.worker_pool.specs.inner.Work.{HasWorked}
+use Rattle.worker_pool.specs.inner.Ends.{GoesOn, HasDone, HasWorkedFrom, IsBrought, IsLeft, IsTaken}
 use Rattle.worker_pool.proofs.FinishLemmas.{same_seats}
 use Rattle.worker_pool.proofs.WorkLemmas.{worked_none, worked_then}
 

@@ -21,7 +21,7 @@ use Rattle.ordered_commit.specs.declared.seat.Seat.{Seat}
 use Rattle.ordered_commit.specs.declared.take.Take.{Take}
 use Rattle.ordered_commit.specs.declared.take.Take.TheVariants.{Work, NotYet, Done, Stopped}
 use Rattle.ordered_commit.specs.Seats.{Agrees, with_seat}
-use Rattle.ordered_commit.proofs.TableFacts.{find_passes}
+use Rattle.ordered_commit.proofs.Lent.{find_passes}
 use Rattle.ordered_commit.specs.Faults.{ask_fault, kept_fault}
 use Rattle.ordered_commit.specs.BoardState.{BoardState, IsSettled}
 use Rattle.ordered_commit.specs.Kept.{IsKept}
@@ -29,7 +29,8 @@ use Rattle.ordered_commit.specs.CommitEnds.{CommitEnds}
 use Rattle.ordered_commit.specs.TakeEnds.{TakeEnds, with_claimed}
 use Rattle.ordered_commit.specs.RecordEnds.{IsRecorded, RecordEnds}
 use Rattle.ordered_commit.specs.Writes.{HasSameName}
-use Rattle.worker_pool.specs.Runs.{AtStart, IsOfRun, RunMembers}
+use Rattle.worker_pool.specs.Runs.{RunMembers}
+use Rattle.worker_pool.specs.inner.Runs.{AtStart, IsOfRun}
 use Rattle.worker_pool.proofs.StartLemmas.{record_alone, taken_alone}
 
 -- a fault of an ask that is kept isn't one of the journal, and takes the place of none

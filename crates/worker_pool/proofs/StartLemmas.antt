@@ -10,26 +10,23 @@ use Rattle.script_gate_trait.specs.declared.gate.Verdict.TheVariants.{No}
 use Rattle.gate_permits.specs.Permits.{AnsweredText, ClaimedText}
 use Rattle.reduce_step.specs.Ahead.{ahead}
 use Rattle.reduce_step.specs.Plan.{Ask, End, HasEnded, Plan, after, asked, follow}
-use Rattle.reduce_step.proofs.PlanLemmas.{follow_after, follow_ended, stays}
+use Rattle.reduce_step.proofs.Lent.{follow_after, follow_ended, stays}
 use Rattle.verdict_table.specs.declared.record.Record.{Record}
 use Rattle.verdict_table.specs.declared.table.Claim.{Claim}
 use Rattle.verdict_table.specs.TableState.{TableState, all_texts, claimed_texts, other_claims, text_claimed, texts_of, verdict_in}
-use Rattle.verdict_table.proofs.RecordLemmas.{extends_itself}
-use Rattle.verdict_table.proofs.TableLemmas.{absent_everywhere}
+use Rattle.verdict_table.proofs.Lent.{extends_itself, absent_everywhere}
 use Rattle.reduce_journal.specs.History.{records_of}
 use Rattle.ordered_commit_moves.specs.Replay.{replay}
 use Rattle.ordered_commit.specs.declared.seat.Seat.{Seat}
 use Rattle.ordered_commit.specs.BoardState.{BoardState, IsSettled}
-use Rattle.ordered_commit.specs.Claiming.{is_absent}
+use Rattle.ordered_commit.specs.inner.Claiming.{is_absent}
 use Rattle.ordered_commit.specs.Kept.{BeginsWithin, IsKept}
 use Rattle.ordered_commit.specs.RecordEnds.{with_filled}
 use Rattle.ordered_commit.specs.TakeEnds.{IsClaimed, with_claimed}
-use Rattle.ordered_commit.proofs.Leads.{leads_on}
-use Rattle.ordered_commit.proofs.TableFacts.{absent_found, find_passes}
-use Rattle.ordered_commit.proofs.TakeLemmas.{next_free, nothing_committed}
+use Rattle.ordered_commit.proofs.Lent.{leads_on, absent_found, find_passes, next_free, nothing_committed}
 use Rattle.run_worker.specs.RunHistory.{BeginsWith, EndsAtFirst}
-use Rattle.run_worker.proofs.AskLemmas.{unrecorded}
-use Rattle.worker_pool.specs.Runs.{AtStart, StartsAlone}
+use Rattle.run_worker.proofs.Lent.{unrecorded}
+use Rattle.worker_pool.specs.inner.Runs.{AtStart, StartsAlone}
 
 -- ---- what is ahead of such a reducer
 

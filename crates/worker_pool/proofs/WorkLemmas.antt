@@ -15,7 +15,7 @@ use Rattle.ordered_commit.specs.declared.take.Take.TheVariants.{Work, NotYet, Do
 use Rattle.ordered_commit.specs.BoardState.{BoardState}
 use Rattle.ordered_commit.specs.TakeEnds.{TakeEnds}
 use Rattle.run_worker.specs.RunHistory.{with_all_asked}
-use Rattle.worker_pool.specs.Work.{HasWorked}
+use Rattle.worker_pool.specs.inner.Work.{HasWorked}
 
 -- a count that rose, and then doesn't fall, rose
 pub rose_on : (a b c : ℕ) → a ≤ b → b ≤ c → Rose a b → Rose a c

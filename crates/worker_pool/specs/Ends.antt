@@ -1,5 +1,5 @@
 -- What a run of several workers comes to.
-use Rattle.std.specs.Prelude.{◌≡◌, ◌≢◌, ◌<◌, ◌≤◌, ◌*◌, ℕ, suc, true, false, List, [], Option, Some, None, IfSome, length, option_map, slice_index_or}
+use Rattle.std.specs.Prelude.{◌≡◌, ◌≢◌, ◌<◌, ◌≤◌, ◌*◌, ℕ, suc, List, [], Option, Some, None, IfSome, length, option_map, slice_index_or}
 use Rattle.std.specs.List.{sum}
 use Rattle.faults.specs.Count.{Rose}
 use Rattle.edge_io.specs.Sink.{Put}
@@ -14,14 +14,12 @@ use Rattle.ordered_commit_moves.specs.Replay.{replay}
 use Rattle.ordered_commit.specs.declared.fault.PoolFault.{PoolFault}
 use Rattle.ordered_commit.specs.declared.fault.PoolFault.TheVariants.{Journal, Script}
 use Rattle.ordered_commit.specs.declared.outcome.Outcome.{Outcome}
-use Rattle.ordered_commit.specs.declared.seat.Seat.{Seat}
 use Rattle.ordered_commit.specs.Kept.{BeginsWithin, BrokeWhereDue, IsJournal}
 use Rattle.run_worker.specs.RunHistory.{BeginsWith, EndsAtFirst, IsHistoryOf, IsSequential, with_all_asked}
 use Rattle.run_worker.specs.RunEnds.{IsCaused, ReducerEnds}
 use Rattle.run_worker.specs.UnderWay.{AreJournalBytes}
 use Rattle.worker_pool.specs.declared.worker.Worker.{Worker}
 use Rattle.worker_pool.specs.Runs.{RunMembers}
-use Rattle.worker_pool.specs.Work.{HasWorked}
 
 -- a gate answered so often, where its asks are visible; its opening is as it was
 pub record HasAnswered (count : ℕ) (old new : Option Log) : Type 0 where
@@ -75,47 +73,3 @@ pub record IsOfOne {S J G : Type 0} (plan : S → Plan) (log : G → Option Log)
   pub ended : ReducerEnds outcome.fault run.first (plan outcome.front) (records_of outcome.events.items)
   pub caused : IsCaused outcome.fault (gate_faults old.gate) (gate_faults new.gate) run.faults (faults outcome.journal)
   pub journal : IfSome (put_so_far outcome.journal) (λ put. AreJournalBytes outcome.fault outcome.events.items put.bytes)
-
--- ---- between the workers' end and the run's
-
--- the worker worked from this seat on, and has its last seat, without a claim
-pub record HasWorkedFrom {G : Type 0} (log : G → Option Log) (faults : G → ℕ) (seat : Seat) (old new : Worker G) : Type 0 where
-  pub number : new.number ≡ old.number
-  pub last : Seat
-  pub has : new.seat ≡ Some last
-  pub worked : HasWorked seat last (log old.gate) (log new.gate) (faults old.gate) (faults new.gate)
-  pub free : last.claim ≡ None
-
--- the worker's seat was taken back
-abbrev pub IsLeft : {G : Type 0} → Worker G → Worker G → Type 0
-IsLeft old new = new ≡ record old { seat = None }
-
--- the worker has its last seat, which has no claim, and is of the worker of this one
-pub record IsBrought {G : Type 0} (seat : Seat) (worker : Worker G) : Type 0 where
-  pub last : Seat
-  pub has : worker.seat ≡ Some last
-  pub same : last.worker ≡ seat.worker
-  pub free : last.claim ≡ None
-
--- it went on from this seat
-pub record GoesOn {G : Type 0} (log : G → Option Log) (faults : G → ℕ) (seat seat' : Seat) (old new : Worker G) : Type 0 where
-  pub number : new.number ≡ old.number
-  pub same_seat : new.seat ≡ old.seat
-  pub worked : HasWorked seat seat' (log old.gate) (log new.gate) (faults old.gate) (faults new.gate)
-
--- its seat was taken, and it went on from there
-pub record IsTaken {G : Type 0} (log : G → Option Log) (faults : G → ℕ) (seat' : Seat) (old new : Worker G) : Type 0 where
-  pub number : new.number ≡ old.number
-  pub unseated : new.seat ≡ None
-  pub last : Seat
-  pub had : old.seat ≡ Some last
-  pub worked : HasWorked last seat' (log old.gate) (log new.gate) (faults old.gate) (faults new.gate)
-
--- the worker ended with this seat, which was taken back, and has the number that it had
-pub record HasDone {G : Type 0} (log : G → Option Log) (faults : G → ℕ) (worker : ℕ) (seat : Seat) (old new : Worker G) : Type 0 where
-  pub same_worker : seat.worker ≡ worker
-  pub number : new.number ≡ old.number
-  pub unseated : new.seat ≡ None
-  pub answered : HasAnswered seat.records (log old.gate) (log new.gate)
-  pub failed : seat.failed ≡ true → Rose (faults old.gate) (faults new.gate)
-  pub quiet : seat.failed ≡ false → faults new.gate ≡ faults old.gate

@@ -1,4 +1,4 @@
 pub use Rattle.run_worker.specs as RunWorker
 pub mod Runs
-pub mod Work
 pub mod Ends
+pub mod inner

@@ -6,8 +6,9 @@ ghost use Rattle.boxcar.specs.Table.{Shows};
 ghost use Rattle.ordered_commit.specs.BoardState.{Holds};
 ghost use Rattle.ordered_commit.specs.Kept.{IsKept};
 ghost use Rattle.ordered_commit.specs.Seats.{Agrees, SameForOthers, claims_held, with_seat};
-ghost use Rattle.worker_pool.specs.Runs.{IsOfRun, RunMembers};
-ghost use Rattle.worker_pool.specs.Work.{HasWorked};
+ghost use Rattle.worker_pool.specs.Runs.{RunMembers};
+ghost use Rattle.worker_pool.specs.inner.Runs.{IsOfRun};
+ghost use Rattle.worker_pool.specs.inner.Work.{HasWorked};
 
 use crate::moves::{commit_all, give_up, record};
 use edge_io::Sink;

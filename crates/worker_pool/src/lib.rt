@@ -1,7 +1,7 @@
 //! A run of 1 to 16 workers, each with a gate of its own, over one board.
 //!
 //! Enter by [`run_workers`]. Read `specs/Ends.antt` first, what a run comes to, however the workers
-//! interleave, then `specs/Runs.antt`, what names a run, and `specs/Work.antt`, what one worker does.
+//! interleave, then `specs/Runs.antt`, what names a run, and `specs/inner/Work.antt`, what one worker does.
 //! The board is behind one lock. A worker commits all it can and takes under the lock, asks its gate
 //! outside, and records or gives up under the lock. One that finds nothing to take waits until the board
 //! has changed. Once all have ended the calling thread goes on with the first worker, so that nothing is

@@ -4,8 +4,9 @@ ghost use Rattle.std.specs.Prelude.{◌≡◌, None, Some, IfOk};
 ghost use Rattle.ordered_commit.specs.BoardState.{Holds, IsSettled};
 ghost use Rattle.ordered_commit.specs.Seats.{Agrees, SameForOthers, with_record, with_seat, without_claim};
 ghost use Rattle.ordered_commit.specs.TakeEnds.{IsShown};
-ghost use Rattle.worker_pool.specs.Runs.{IsOfRun, RunMembers};
-ghost use Rattle.worker_pool.specs.Work.{TakesSeat};
+ghost use Rattle.worker_pool.specs.Runs.{RunMembers};
+ghost use Rattle.worker_pool.specs.inner.Runs.{IsOfRun};
+ghost use Rattle.worker_pool.specs.inner.Work.{TakesSeat};
 
 use edge_io::Sink;
 use faults::Memory;

@@ -6,8 +6,10 @@ ghost use Rattle.reduce_step.specs.Plan.{HasEnded};
 ghost use Rattle.ordered_commit.specs.Kept.{IsKept};
 ghost use Rattle.ordered_commit.specs.Made.{new_board};
 ghost use Rattle.ordered_commit.specs.Seats.{Agrees, AreFreeSeats, new_seats};
-ghost use Rattle.worker_pool.specs.Ends.{AreDone, GoesOn, HasDone, IsBrought, IsLeft, IsOutcome, IsTaken};
-ghost use Rattle.worker_pool.specs.Runs.{IsOfRun, RunMembers, members};
+ghost use Rattle.worker_pool.specs.Ends.{AreDone, IsOutcome};
+ghost use Rattle.worker_pool.specs.inner.Ends.{GoesOn, HasDone, IsBrought, IsLeft, IsTaken};
+ghost use Rattle.worker_pool.specs.Runs.{RunMembers, members};
+ghost use Rattle.worker_pool.specs.inner.Runs.{IsOfRun};
 
 use crate::finish::finish;
 use crate::run::{Run, Shared};

@@ -5,8 +5,8 @@ ghost use Rattle.boxcar.specs.Table.{Shows};
 ghost use Rattle.ordered_commit.specs.BoardState.{Holds};
 ghost use Rattle.ordered_commit.specs.TakeEnds.{IsShown};
 ghost use Rattle.ordered_commit.specs.Seats.{Agrees, with_record, without_claim};
-ghost use Rattle.worker_pool.specs.Runs.{IsOfRun};
-ghost use Rattle.worker_pool.specs.Work.{TakesSeat};
+ghost use Rattle.worker_pool.specs.inner.Runs.{IsOfRun};
+ghost use Rattle.worker_pool.specs.inner.Work.{TakesSeat};
 
 use crate::moves::{give_up, next, record};
 use edge_io::Sink;
@@ -26,7 +26,7 @@ pub trait Run {
 }
 
 impl Run for Brand {
-    ghost use Rattle.worker_pool.specs.Runs.{no_run};
+    ghost use Rattle.worker_pool.specs.inner.Runs.{no_run};
 
     ghost run = { no_run };
 }
@@ -40,7 +40,7 @@ pub struct Shared<S: Step + Drop, G: Gate, J: Sink + Drop, R: Run> {
 
 impl<S: Step + Drop, G: Gate, J: Sink + Drop, R: Run> Model for Shared<S, G, J, R> {
     ghost use Rattle.ordered_commit.specs.BoardState.{BoardState};
-    ghost use Rattle.worker_pool.specs.Runs.{IsOfRun};
+    ghost use Rattle.worker_pool.specs.inner.Runs.{IsOfRun};
 
     ghost Value = { BoardState S J };
 

@@ -3,7 +3,7 @@
 ghost use Rattle.std.specs.Prelude.{◌≡◌, None, Some, IfSome};
 ghost use Rattle.boxcar.specs.Table.{Shows};
 ghost use Rattle.ordered_commit.specs.Seats.{with_record, without_claim};
-ghost use Rattle.worker_pool.specs.Work.{ClaimsSeat, HasWorked};
+ghost use Rattle.worker_pool.specs.inner.Work.{ClaimsSeat, HasWorked};
 
 use crate::run::{Run, Shared};
 use edge_io::Sink;

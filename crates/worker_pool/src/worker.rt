@@ -1,7 +1,7 @@
 //! The workers, and how they all work.
 
 ghost use Rattle.std.specs.Prelude.{◌≡◌, ◌<◌, ℕ, None, All, length, slice_index_or};
-ghost use Rattle.worker_pool.specs.Ends.{HasWorkedFrom};
+ghost use Rattle.worker_pool.specs.inner.Ends.{HasWorkedFrom};
 
 use crate::run::{Run, Shared};
 use crate::turns::work;

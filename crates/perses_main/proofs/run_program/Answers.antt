@@ -1,6 +1,6 @@
 use Rattle.std.proofs.Common.{◌∙◌, length, sym, ap, subst}
 use Rattle.command_perses.specs.Workers.{AreNumbered}
-use Rattle.command_perses.proofs.WorkerLemmas.{sixteen_idle}
+use Rattle.command_perses.proofs.Lent.{sixteen_idle}
 use Rattle.perses_main.proofs.run_program.Goals as goal
 
 pub perses-ended-requires-clause-idle : goal.perses-ended-requires-clause-idle

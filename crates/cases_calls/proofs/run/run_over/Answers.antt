@@ -1,4 +1,4 @@
-use Rattle.command_perses.proofs.WorkerLemmas.{sixteen_idle}
+use Rattle.command_perses.proofs.Lent.{sixteen_idle}
 use Rattle.cases_calls.proofs.run.run_over.Goals as goal
 
 pub perses-ended-requires-clause-idle : goal.perses-ended-requires-clause-idle

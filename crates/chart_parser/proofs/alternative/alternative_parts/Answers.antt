@@ -2,7 +2,7 @@ use Rattle.std.proofs.Common.{ℕ, List, subst, sym, ◌≡◌, length}
 use Rattle.std.proofs.lemmas.Bool.{eqb-false, eqb-true}
 use Rattle.std.specs.Global.{Vec}
 use Rattle.chart_parser_ends.specs.Input.{ChartInput}
-use Rattle.chart_parser.specs.GoingOn.{AreGoingOn, AreReached}
+use Rattle.chart_parser.specs.inner.GoingOn.{AreGoingOn, AreReached}
 use Rattle.chart_parser.proofs.Cutting.{no_symbols, no_symbols_not}
 use Rattle.chart_parser.proofs.alternative.alternative_parts.Goals as goal
 

@@ -1,6 +1,6 @@
 use Rattle.std.proofs.Common.{◌≡◌, take}
 use Rattle.chart_parser_ends.specs.Positions.{HasExactly}
-use Rattle.chart_parser.specs.GoingOn.{Meets}
+use Rattle.chart_parser.specs.inner.GoingOn.{Meets}
 use Rattle.chart_parser.proofs.alternative.going_on.Given as goal
 
 abbrev pub invariant-loop-position : goal.invariant-loop-position

@@ -1,7 +1,7 @@
 use Rattle.std.proofs.Common.{ℕ, ◌+◌, ◌-◌, ◌<◌, length, refl, sym, ◌∙◌, ap, subst, arith}
 use Rattle.std.proofs.lemmas.List.{get_or_default, length_push, length-set}
 use Rattle.std.specs.List.Sorted.{IsStrictlyIncreasing}
-use Rattle.chart_parser.specs.GoingOn.{AreGoingOn, AreReached}
+use Rattle.chart_parser.specs.inner.GoingOn.{AreGoingOn, AreReached}
 use Rattle.chart_parser.proofs.Cutting.{going_on_step, last_going_on, push_reached, set_at_read}
 use Rattle.chart_parser.proofs.alternative.keep_going_on.Goals as goal
 

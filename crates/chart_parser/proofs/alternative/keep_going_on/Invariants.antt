@@ -1,5 +1,5 @@
 use Rattle.std.proofs.Common.{◌≡◌, ◌+◌, length}
-use Rattle.chart_parser.specs.GoingOn.{AreGoingOn, AreReached}
+use Rattle.chart_parser.specs.inner.GoingOn.{AreGoingOn, AreReached}
 use Rattle.chart_parser.proofs.alternative.keep_going_on.Given as goal
 
 abbrev pub invariant-loop-index : goal.invariant-loop-index

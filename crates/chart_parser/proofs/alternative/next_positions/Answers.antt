@@ -2,7 +2,7 @@ use Rattle.std.proofs.Common.{ℕ, List, get_or, refl, ◌∙◌, ap, subst, len
 use Rattle.std.proofs.lemmas.List.{take_all}
 use Rattle.chart_parser_ends.specs.Input.{ChartInput}
 use Rattle.chart_parser_ends.specs.Positions.{EndsUpTo, HasAll, IsGrown}
-use Rattle.chart_parser.specs.GoingOn.{EndsFrom}
+use Rattle.chart_parser.specs.inner.GoingOn.{EndsFrom}
 use Rattle.chart_parser.proofs.Cutting.{next_more, next_none}
 use Rattle.chart_parser.proofs.alternative.next_positions.Goals as goal
 

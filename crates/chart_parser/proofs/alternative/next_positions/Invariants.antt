@@ -1,7 +1,7 @@
 use Rattle.std.proofs.Common.{◌≡◌, take}
 use Rattle.std.specs.List.Sorted.{IsStrictlyIncreasing}
 use Rattle.chart_parser_ends.specs.Positions.{HasAll}
-use Rattle.chart_parser.specs.GoingOn.{EndsFrom}
+use Rattle.chart_parser.specs.inner.GoingOn.{EndsFrom}
 use Rattle.chart_parser.proofs.alternative.next_positions.Given as goal
 
 abbrev pub invariant-loop-position : goal.invariant-loop-position

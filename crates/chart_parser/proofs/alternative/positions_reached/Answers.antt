@@ -1,7 +1,7 @@
 use Rattle.std.proofs.Common.{ℕ, List, ◌∷◌, ◌++◌, [], ◌<◌, ◌+◌, length, refl, sym, ◌∙◌, ap, subst, arith}
 use Rattle.std.proofs.lemmas.List.{get_or_default, length_push}
 use Rattle.std.specs.Global.{Vec}
-use Rattle.chart_parser.specs.GoingOn.{AreReached}
+use Rattle.chart_parser.specs.inner.GoingOn.{AreReached}
 use Rattle.chart_parser.proofs.Cutting.{first_reached, reach_step}
 use Rattle.chart_parser.proofs.alternative.positions_reached.Goals as goal
 

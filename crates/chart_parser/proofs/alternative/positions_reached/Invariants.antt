@@ -1,5 +1,5 @@
 use Rattle.std.proofs.Common.{◌≡◌, ◌+◌, length}
-use Rattle.chart_parser.specs.GoingOn.{AreReached}
+use Rattle.chart_parser.specs.inner.GoingOn.{AreReached}
 use Rattle.chart_parser.proofs.alternative.positions_reached.Given as goal
 
 abbrev pub invariant-loop-index : goal.invariant-loop-index

@@ -5,7 +5,7 @@ use Rattle.normal_form.specs.Form.{RuleForm, NormalForm}
 use Rattle.normal_form.specs.NormalOf.{IsNormal}
 use Rattle.normal_form.specs.View.{alts_form, rule_form}
 use Rattle.normal_form_spans.specs.Spans.{DerivesSpanMany, DerivesSpanSeq}
-use Rattle.chart_parser.specs.Parts.{AreOfLeast, AreOfRule}
+use Rattle.chart_parser.specs.inner.Parts.{AreOfLeast, AreOfRule}
 use Rattle.chart_parser.proofs.Alternatives.{count_alternatives, optional_derived, plus_derived, plus_is_list, regular_derived, rule_at, rule_within, star_derived, star_is_list}
 use Rattle.chart_parser.proofs.Asking.{if_ok}
 use Rattle.chart_parser.proofs.ElementEnds.{many_within}

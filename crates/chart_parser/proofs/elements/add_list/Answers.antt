@@ -3,8 +3,8 @@ use Rattle.std.proofs.lemmas.List.{take_rest}
 use Rattle.normal_form_spans.specs.Spans.{DerivesSpanMany}
 use Rattle.chart_parser_ends.specs.Input.{ChartInput}
 use Rattle.chart_parser_ends.specs.Positions.{EndsUpTo, HasAll, HasExactly, IsGrown}
-use Rattle.chart_parser.specs.GoingOn.{ElementsGoOn, HasEndsOfElements, IsClosedBefore, MovesOn}
-use Rattle.chart_parser.specs.Parts.{AreElements}
+use Rattle.chart_parser.specs.inner.GoingOn.{ElementsGoOn, HasEndsOfElements, IsClosedBefore, MovesOn}
+use Rattle.chart_parser.specs.inner.Parts.{AreElements}
 use Rattle.chart_parser.proofs.Asking.{on_ok}
 use Rattle.chart_parser.proofs.ElementEnds.{begins_before, ends_before, ends_closed, ends_of_elements, no_elements, one_element_after, within_kinds}
 use Rattle.chart_parser.proofs.elements.add_list.Goals as goal

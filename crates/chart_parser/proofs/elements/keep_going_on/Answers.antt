@@ -4,7 +4,7 @@ use Rattle.std.proofs.lemmas.List.{take_rest}
 use Rattle.normal_form_spans.specs.Spans.{DerivesSpan}
 use Rattle.chart_parser_ends.specs.Input.{ChartInput}
 use Rattle.chart_parser_ends.specs.Positions.{HasExactly, IsLastAmong}
-use Rattle.chart_parser.specs.GoingOn.{ElementsGoOn}
+use Rattle.chart_parser.specs.inner.GoingOn.{ElementsGoOn}
 use Rattle.chart_parser.proofs.Cutting.{is_not_there, is_there}
 use Rattle.chart_parser.proofs.ElementEnds.{AreMoved, moved_begin, moved_more, moved_same}
 use Rattle.chart_parser.proofs.elements.keep_going_on.Goals as goal

@@ -1,7 +1,7 @@
 use Rattle.std.proofs.Common.{ℕ, List, [], ◌∷◌, ◌++◌, ◌≡◌, length, map, sym, ◌∙◌, ap, subst, arith}
 use Rattle.std.specs.Prelude.{reverse}
 use Rattle.syntax_tree.specs.declared.node.Node.{Node}
-use Rattle.chart_parser.specs.Preorder.{AreBegun, AreDerived, below, rule_node}
+use Rattle.chart_parser.specs.inner.Preorder.{AreBegun, AreDerived, below, rule_node}
 use Rattle.chart_parser.proofs.Asking.{on_ok, reverse_asked}
 use Rattle.chart_parser.proofs.Preorder.{chain, children_derived, rule_begun}
 use Rattle.chart_parser.proofs.nodes.add_rule_node.Goals as goal

@@ -3,7 +3,7 @@ use Rattle.std.specs.Prelude.{reverse}
 use Rattle.std.proofs.lemmas.List.{nil_from_length}
 use Rattle.chart_parser.specs.declared.part.Asked.{Asked}
 use Rattle.chart_parser.specs.declared.part.Part.{Part}
-use Rattle.chart_parser.specs.Preorder.{below}
+use Rattle.chart_parser.specs.inner.Preorder.{below}
 use Rattle.chart_parser.proofs.Asking.{asked_one, none_asked}
 use Rattle.chart_parser.proofs.nodes.ask_for.Goals as goal
 

@@ -1,6 +1,6 @@
 use Rattle.std.proofs.Common.{◌≡◌, ◌++◌, map, vec_len}
 use Rattle.std.specs.Prelude.{reverse}
-use Rattle.chart_parser.specs.Preorder.{below}
+use Rattle.chart_parser.specs.inner.Preorder.{below}
 use Rattle.chart_parser.proofs.nodes.ask_for.Given as goal
 
 abbrev pub invariant-loop-part : goal.invariant-loop-part

@@ -5,7 +5,7 @@ use Rattle.std.proofs.lemmas.Option.{get_or_from_slice_get, slice_get_within}
 use Rattle.chart_parser_ends.specs.Input.{ChartInput}
 use Rattle.syntax_tree.specs.declared.node.Node.{Node}
 use Rattle.chart_parser.specs.declared.part.Asked.{Asked}
-use Rattle.chart_parser.specs.Preorder.{AreBegun, AreDerived, leaf_node}
+use Rattle.chart_parser.specs.inner.Preorder.{AreBegun, AreDerived, leaf_node}
 use Rattle.chart_parser.proofs.Asking.{reverse_pushed}
 use Rattle.chart_parser.proofs.Preorder.{all_made, leaf_begun, token}
 use Rattle.chart_parser.proofs.nodes.preferred_nodes.Goals as goal

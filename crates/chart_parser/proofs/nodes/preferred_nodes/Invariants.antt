@@ -1,6 +1,6 @@
 use Rattle.std.proofs.Common.{◌≡◌, ◌-◌, ◌^◌, ◌<◌, None, length, vec_len}
 use Rattle.std.specs.Prelude.{reverse}
-use Rattle.chart_parser.specs.Preorder.{AreBegun, AreDerived}
+use Rattle.chart_parser.specs.inner.Preorder.{AreBegun, AreDerived}
 use Rattle.chart_parser.proofs.nodes.preferred_nodes.Given as goal
 
 abbrev pub invariant-loop-asked : goal.invariant-loop-asked

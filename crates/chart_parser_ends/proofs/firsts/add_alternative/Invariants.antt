@@ -1,5 +1,5 @@
 use Rattle.std.proofs.Common.{◌≡◌, vec_len}
-use Rattle.chart_parser_ends.specs.Firsts.{Keeps, MayBeEmptyBefore}
+use Rattle.chart_parser_ends.specs.inner.Firsts.{Keeps, MayBeEmptyBefore}
 use Rattle.chart_parser_ends.proofs.FirstRows.{HasFirst}
 use Rattle.chart_parser_ends.proofs.firsts.add_alternative.Given as goal
 

@@ -1,6 +1,6 @@
 use Rattle.std.proofs.Common.{◌∙◌, ap, subst, arith}
 use Rattle.std.proofs.lemmas.List.{length-map}
-use Rattle.chart_parser_ends.specs.Firsts.{CoversAlternative}
+use Rattle.chart_parser_ends.specs.inner.Firsts.{CoversAlternative}
 use Rattle.chart_parser_ends.proofs.FirstRows.{covers_all, covers_first_more}
 use Rattle.chart_parser_ends.proofs.firsts.add_alternatives.Goals as goal
 

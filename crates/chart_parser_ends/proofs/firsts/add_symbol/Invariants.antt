@@ -1,5 +1,5 @@
 use Rattle.std.proofs.Common.{◌≡◌, ℕ, ◌<◌, vec_len}
-use Rattle.chart_parser_ends.specs.Firsts.{HasKind, Keeps, MayBegin}
+use Rattle.chart_parser_ends.specs.inner.Firsts.{HasKind, Keeps, MayBegin}
 use Rattle.chart_parser_ends.proofs.firsts.add_symbol.Given as goal
 
 abbrev pub invariant-loop-kind : goal.invariant-loop-kind

@@ -1,5 +1,5 @@
 use Rattle.std.proofs.Common.{subst}
-use Rattle.chart_parser_ends.specs.Firsts.{AreClosed}
+use Rattle.chart_parser_ends.specs.inner.Firsts.{AreClosed}
 use Rattle.chart_parser_ends.proofs.FirstKinds.{closed_firsts}
 use Rattle.chart_parser_ends.proofs.firsts.first_rows.Goals as goal
 

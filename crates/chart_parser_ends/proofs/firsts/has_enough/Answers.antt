@@ -1,7 +1,7 @@
 use Rattle.std.proofs.Common.{◌≡◌, sym, ◌∙◌, subst}
 use Rattle.normal_form.specs.View.{rule_form}
-use Rattle.normal_form_sets.proofs.Lacking.{item_some}
-use Rattle.chart_parser_ends.specs.Firsts.{Keeps}
+use Rattle.normal_form_sets.proofs.Lent.{item_some}
+use Rattle.chart_parser_ends.specs.inner.Firsts.{Keeps}
 use Rattle.chart_parser_ends.proofs.FirstRows.{covers_within, same_row}
 use Rattle.chart_parser_ends.proofs.firsts.has_enough.Goals as goal
 

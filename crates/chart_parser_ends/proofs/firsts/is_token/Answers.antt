@@ -2,7 +2,7 @@ use Rattle.std.proofs.Common.{◌≡◌, false, true, [], slice_get, sym, ap, �
 use Rattle.std.specs.Option.{option_map_or}
 use Rattle.grammar_names.specs.KindLists.{is_in}
 use Rattle.normal_form.specs.declared.normal.Sym.{Sym}
-use Rattle.chart_parser_ends.specs.Exact.{IsTokenOf}
+use Rattle.chart_parser_ends.specs.inner.Exact.{IsTokenOf}
 use Rattle.chart_parser_ends.proofs.SymbolEnds.{set_token}
 use Rattle.chart_parser_ends.proofs.firsts.is_token.Goals as goal
 

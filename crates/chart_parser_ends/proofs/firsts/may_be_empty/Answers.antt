@@ -1,7 +1,7 @@
 use Rattle.std.proofs.Common.{◌≡◌, true, sym, subst}
 use Rattle.normal_form.specs.declared.normal.Sym.{Sym}
-use Rattle.normal_form_sets.proofs.Lacking.{item_some}
-use Rattle.chart_parser_ends.specs.Firsts.{MayBeEmpty}
+use Rattle.normal_form_sets.proofs.Lent.{item_some}
+use Rattle.chart_parser_ends.specs.inner.Firsts.{MayBeEmpty}
 use Rattle.chart_parser_ends.proofs.FirstRows.{empty_by_row}
 use Rattle.chart_parser_ends.proofs.firsts.may_be_empty.Goals as goal
 

@@ -1,6 +1,6 @@
 use Rattle.std.proofs.Common.{subst, sym, nat_cmp}
 use Rattle.std.specs.List.Sorted.{IsStrictlyIncreasing, IsBinarySearchResult}
-use Rattle.chart_parser_ends.specs.Positions.{IsWith}
+use Rattle.chart_parser_ends.specs.inner.Positions.{IsWith}
 use Rattle.chart_parser_ends.proofs.Rising.{inserted, search_missing}
 use Rattle.chart_parser_ends.proofs.positions.add.Goals as goal
 

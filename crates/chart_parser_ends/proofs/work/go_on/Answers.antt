@@ -1,7 +1,7 @@
 use Rattle.std.proofs.Common.{subst, sym}
 use Rattle.std.proofs.lemmas.List.Elements.{All-push}
 use Rattle.std.specs.List.{All}
-use Rattle.chart_parser_ends.specs.Working.{IsStep, IsWork}
+use Rattle.chart_parser_ends.specs.inner.Working.{IsStep, IsWork}
 use Rattle.chart_parser_ends.proofs.work.go_on.Goals as goal
 
 pub returns-in_ok-push-in-Needs-2-clause-stack : goal.returns-in_ok-push-in-Needs-2-clause-stack

@@ -1,6 +1,6 @@
 use Rattle.std.proofs.Common.{◌≡◌}
 use Rattle.std.specs.List.{All}
-use Rattle.chart_parser_ends.specs.Working.{IsWork}
+use Rattle.chart_parser_ends.specs.inner.Working.{IsWork}
 use Rattle.chart_parser_ends.proofs.work.work_out.Given as goal
 
 abbrev pub invariant-loop : goal.invariant-loop

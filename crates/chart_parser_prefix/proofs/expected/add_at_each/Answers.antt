@@ -1,6 +1,6 @@
 use Rattle.std.proofs.Common.{List, arith, get_or, refl, subst, ℕ}
 use Rattle.chart_parser_prefix.proofs.Growing.{contains_none, each_more, grown_none}
-use Rattle.chart_parser_prefix.specs.Walk.{ExpectsAll, IsAtOneOf, IsGrownBy}
+use Rattle.chart_parser_prefix.specs.inner.Walk.{ExpectsAll, IsAtOneOf, IsGrownBy}
 use Rattle.std.proofs.lemmas.List.{take_all}
 use Rattle.std.proofs.lemmas.List.Elements.{Contains-get_or}
 use Rattle.chart_parser_prefix.proofs.expected.add_at_each.Goals as goal

@@ -1,5 +1,5 @@
 use Rattle.std.proofs.Common.{take}
-use Rattle.chart_parser_prefix.specs.Walk.{ExpectsAll, IsAtOneOf, IsGrownBy}
+use Rattle.chart_parser_prefix.specs.inner.Walk.{ExpectsAll, IsAtOneOf, IsGrownBy}
 use Rattle.chart_parser_prefix.proofs.expected.add_at_each.Given as goal
 
 abbrev pub invariant-loop-position : goal.invariant-loop-position

@@ -1,6 +1,6 @@
 use Rattle.std.proofs.Common.{List, [], ap, length, refl, subst, sym, ℕ, ◌+◌, ◌∙◌, ◌≡◌}
 use Rattle.chart_parser_prefix.proofs.Growing.{pushed_empty}
-use Rattle.chart_parser_prefix.specs.Walk.{symbols_at}
+use Rattle.chart_parser_prefix.specs.inner.Walk.{symbols_at}
 use Rattle.normal_form.specs.declared.normal.Sym.{Sym}
 use Rattle.std.specs.Global.{Vec}
 use Rattle.std.proofs.lemmas.List.{length_push}

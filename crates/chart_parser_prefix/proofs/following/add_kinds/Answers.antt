@@ -1,7 +1,7 @@
 use Rattle.std.proofs.Common.{List, [], ap, refl, slice_get, subst, sym, ℕ, ◌++◌, ◌∙◌, ◌∷◌, ◌≡◌}
-use Rattle.chart_parser_ends.specs.Exact.{IsTokenOf}
+use Rattle.chart_parser_ends.specs.inner.Exact.{IsTokenOf}
 use Rattle.chart_parser_prefix.proofs.Tokens.{adds_list, adds_nothing, kinds_in_set, one_kind}
-use Rattle.chart_parser_prefix.specs.Following.{AddsKinds}
+use Rattle.chart_parser_prefix.specs.inner.Following.{AddsKinds}
 use Rattle.normal_form.specs.declared.normal.Sym.{Sym}
 use Rattle.normal_form.specs.declared.normal.Sym.TheVariants.{Kind, Set}
 use Rattle.std.specs.Option.{option_map_or}

@@ -1,6 +1,6 @@
 use Rattle.std.proofs.Common.{ℕ, ◌↔◌, take}
 use Rattle.std.specs.List.{Contains}
-use Rattle.chart_parser_prefix.specs.Following.{IsTokenOfOne}
+use Rattle.chart_parser_prefix.specs.inner.Following.{IsTokenOfOne}
 use Rattle.chart_parser_prefix.proofs.following.kinds_of.Given as goal
 
 abbrev pub invariant-loop-symbol : goal.invariant-loop-symbol

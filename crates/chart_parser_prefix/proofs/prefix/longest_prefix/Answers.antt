@@ -1,5 +1,5 @@
 use Rattle.std.proofs.Common.{false, subst, sym, true, ◌∙◌, ◌≡◌}
-use Rattle.chart_parser_prefix.specs.Productive.{AreProductive}
+use Rattle.chart_parser_prefix.specs.inner.Productive.{AreProductive}
 use Rattle.chart_parser_prefix.proofs.prefix.longest_prefix.Goals as goal
 
 false_true : false ≡ true → ⊥

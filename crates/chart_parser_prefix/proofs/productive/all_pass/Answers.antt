@@ -1,5 +1,5 @@
 use Rattle.std.proofs.Common.{ap, get_or, sym, ◌&&◌, ◌∙◌}
-use Rattle.chart_parser_prefix.specs.Productive.{passes}
+use Rattle.chart_parser_prefix.specs.inner.Productive.{passes}
 use Rattle.normal_form.specs.declared.normal.Sym.TheVariants.{Kind}
 use Rattle.std.proofs.lemmas.List.{take_all}
 use Rattle.std.proofs.lemmas.List.Folds.{list_all_at, list_all_more}

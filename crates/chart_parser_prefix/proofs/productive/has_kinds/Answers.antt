@@ -1,6 +1,6 @@
 use Rattle.std.proofs.Common.{List, ap, false, length, ltb, slice_get, ℕ, ◌∙◌}
 use Rattle.chart_parser_prefix.proofs.Tokens.{lacks_fewer}
-use Rattle.chart_parser_prefix.specs.Productive.{has_some}
+use Rattle.chart_parser_prefix.specs.inner.Productive.{has_some}
 use Rattle.std.specs.Option.{option_map_or}
 use Rattle.chart_parser_prefix.proofs.productive.has_kinds.Goals as goal
 

@@ -1,6 +1,6 @@
 use Rattle.std.proofs.Common.{ap, false, get_or, sym, true, ◌||◌, ◌∙◌, ◌≡◌}
 use Rattle.chart_parser_prefix.proofs.Producing.{any_form}
-use Rattle.chart_parser_prefix.specs.Productive.{passes}
+use Rattle.chart_parser_prefix.specs.inner.Productive.{passes}
 use Rattle.normal_form.specs.declared.normal.Sym.{Sym}
 use Rattle.std.proofs.lemmas.List.{take_all}
 use Rattle.std.proofs.lemmas.List.Folds.{list_any_at, list_any_more}

@@ -2,7 +2,7 @@ use Rattle.std.proofs.Common.{◌≡◌, false, take}
 use Rattle.std.specs.Global.{Vec}
 use Rattle.std.specs.List.{list_all, list_any}
 use Rattle.normal_form.specs.declared.normal.Sym.{Sym}
-use Rattle.chart_parser_prefix.specs.Productive.{passes}
+use Rattle.chart_parser_prefix.specs.inner.Productive.{passes}
 use Rattle.chart_parser_prefix.proofs.productive.one_passes.Given as goal
 
 abbrev pub invariant-loop-symbols : goal.invariant-loop-symbols

@@ -1,11 +1,11 @@
 use Rattle.std.proofs.Common.{List, ap, arith, get_or, length, refl, subst, sym, take, ℕ, ◌∙◌}
-use Rattle.chart_parser_ends.proofs.Spans.{lists}
+use Rattle.chart_parser_ends.proofs.Lent.{lists}
 use Rattle.chart_parser_ends.specs.Input.{ChartInput}
 use Rattle.chart_parser_ends.specs.Positions.{HasExactly}
-use Rattle.chart_parser_ends.specs.Working.{DerivesFrom}
+use Rattle.chart_parser_ends.specs.inner.Working.{DerivesFrom}
 use Rattle.chart_parser_prefix.proofs.Alternatives.{alternative_all, alternative_more, begun, next_reached, none_early}
 use Rattle.chart_parser_prefix.proofs.Growing.{grown_none}
-use Rattle.chart_parser_prefix.specs.Walk.{ExpectsAll, IsAtOneOf, IsGrownBy}
+use Rattle.chart_parser_prefix.specs.inner.Walk.{ExpectsAll, IsAtOneOf, IsGrownBy}
 use Rattle.normal_form.specs.declared.normal.Sym.TheVariants.{Kind}
 use Rattle.normal_form_spans.specs.Spans.{DerivesSpanSeq}
 use Rattle.std.specs.List.{Contains}

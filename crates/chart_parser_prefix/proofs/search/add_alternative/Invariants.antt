@@ -1,8 +1,8 @@
 use Rattle.std.proofs.Common.{◌≡◌, take}
 use Rattle.normal_form_spans.specs.Spans.{DerivesSpanSeq}
 use Rattle.chart_parser_ends.specs.Positions.{HasExactly}
-use Rattle.chart_parser_prefix.specs.Expected.{IsInAlternative}
-use Rattle.chart_parser_prefix.specs.Walk.{ExpectsAll, IsGrownBy}
+use Rattle.chart_parser_prefix.specs.inner.Expected.{IsInAlternative}
+use Rattle.chart_parser_prefix.specs.inner.Walk.{ExpectsAll, IsGrownBy}
 use Rattle.chart_parser_prefix.proofs.Alternatives.{IsEarlyIn}
 use Rattle.chart_parser_prefix.proofs.search.add_alternative.Given as goal
 

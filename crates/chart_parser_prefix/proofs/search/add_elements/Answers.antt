@@ -1,5 +1,5 @@
 use Rattle.std.proofs.Common.{List, arith, subst, sym, ℕ}
-use Rattle.chart_parser_ends.proofs.Spans.{many_within}
+use Rattle.chart_parser_ends.proofs.Lent.{many_within}
 use Rattle.chart_parser_prefix.proofs.Alternatives.{at_element, element_at}
 use Rattle.chart_parser_prefix.proofs.Growing.{grown_weaker}
 use Rattle.std.specs.List.{Contains}

@@ -1,7 +1,7 @@
 use Rattle.std.proofs.Common.{List, get_or, refl, subst, ℕ, ◌∙◌}
 use Rattle.chart_parser_ends.specs.Input.{ChartInput}
 use Rattle.chart_parser_ends.specs.Positions.{EndsUpTo, HasAll, HasExactly, IsGrown}
-use Rattle.chart_parser_ends.specs.Working.{DerivesFrom}
+use Rattle.chart_parser_ends.specs.inner.Working.{DerivesFrom}
 use Rattle.chart_parser_prefix.proofs.Alternatives.{ends_more, ends_none}
 use Rattle.std.proofs.lemmas.List.{take_all}
 use Rattle.chart_parser_prefix.proofs.search.ends_from.Goals as goal

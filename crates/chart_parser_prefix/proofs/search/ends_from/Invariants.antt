@@ -1,6 +1,6 @@
 use Rattle.std.proofs.Common.{◌≡◌, take}
 use Rattle.chart_parser_ends.specs.Positions.{HasExactly}
-use Rattle.chart_parser_ends.specs.Working.{DerivesFrom}
+use Rattle.chart_parser_ends.specs.inner.Working.{DerivesFrom}
 use Rattle.chart_parser_prefix.proofs.search.ends_from.Given as goal
 
 abbrev pub invariant-loop-position : goal.invariant-loop-position

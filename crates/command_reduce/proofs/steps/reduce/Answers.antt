@@ -1,4 +1,4 @@
-use Rattle.command_reduce.specs.Reduce.{Inside}
+use Rattle.command_reduce.specs.inner.Reduce.{Inside}
 use Rattle.command_words.specs.Lines.{reduce_read}
 use Rattle.command_ends.specs.World.{seen, seen_gates}
 use Rattle.command_reduce.proofs.CommandLemmas.{reduce_ends}

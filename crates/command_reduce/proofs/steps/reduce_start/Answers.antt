@@ -3,11 +3,11 @@ use Rattle.std.proofs.lemmas.List.{length-map}
 use Rattle.reduce_journal.specs.History.{records_of}
 use Rattle.run_gated.specs.Workers.{worker_faults, worker_logs}
 use Rattle.run_problem.specs.Ends.{AreOf, ProblemEnds}
-use Rattle.run_problem.proofs.ModeLemmas.{none_of}
+use Rattle.run_problem.proofs.Lent.{none_of}
 use Rattle.command_words.specs.Lines.{reduce_read}
 use Rattle.command_ends.specs.World.{seen}
 use Rattle.command_reduce_calls.specs.Openings.{opened_from}
-use Rattle.command_reduce.specs.Run.{JournalAfter}
+use Rattle.command_reduce.specs.inner.Run.{JournalAfter}
 use Rattle.command_reduce.proofs.StartLemmas.{unopened_ends}
 use Rattle.command_reduce.proofs.UsedLemmas.{asked_sound, refused_sound}
 use Rattle.command_reduce.proofs.steps.reduce_start.Goals as goal

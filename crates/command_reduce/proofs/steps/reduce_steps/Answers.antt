@@ -1,5 +1,5 @@
 use Rattle.std.proofs.Common.{◌++◌, drop, length, refl, sym, take}
-use Rattle.command_reduce.specs.Reduce.{Inside}
+use Rattle.command_reduce.specs.inner.Reduce.{Inside}
 use Rattle.command_words.specs.Lines.{reduce_read}
 use Rattle.command_ends.specs.World.{seen, seen_gates}
 use Rattle.run_gated.specs.Workers.{worker_faults, worker_logs}

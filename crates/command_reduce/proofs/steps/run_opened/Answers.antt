@@ -1,7 +1,7 @@
 use Rattle.std.proofs.Common.{ap}
 use Rattle.reduce_journal.specs.History.{records_of}
 use Rattle.run_gated.specs.Workers.{worker_logs}
-use Rattle.run_problem.proofs.ModeLemmas.{none_answers, none_of}
+use Rattle.run_problem.proofs.Lent.{none_answers, none_of}
 use Rattle.command_reduce.proofs.steps.run_opened.Goals as goal
 
 pub returns-in-Err-clause-answers : goal.returns-in-Err-clause-answers

@@ -1,5 +1,5 @@
 use Rattle.std.proofs.Common.{ℕ, List, sym, subst, ◌∙◌}
-use Rattle.keep_guard.proofs.KeepLemmas.{holds_all_or_misses}
+use Rattle.keep_guard.proofs.Lent.{holds_all_or_misses}
 use Rattle.command_reduce_calls.specs.Keeps.{KeepFails}
 use Rattle.command_reduce_calls.proofs.KeepsLemmas.{keep_fails}
 use Rattle.command_reduce_calls.proofs.keeps.guard_of.Goals as goal

@@ -1,6 +1,6 @@
 use Rattle.std.proofs.Common.{◌∙◌, Some, ap, codes, map, option_and_then, refl, string_bytes, sym}
 use Rattle.command_words.specs.Commands.{named_grammar}
-use Rattle.command_words.specs.Read.{IsAnswered}
+use Rattle.command_words.specs.inner.Read.{IsAnswered}
 use Rattle.command_words.specs.Tables.{normal_table}
 use Rattle.command_words.proofs.Assembled.{found_in_words, none_in, normal_found, normal_is_table, these_in}
 use Rattle.command_words.proofs.FoundValues.{named_by}

@@ -1,6 +1,6 @@
 use Rattle.std.proofs.Common.{◌≡◌, fold, map, take}
 use Rattle.clap.specs.Words.{app_of, with_rule}
-use Rattle.command_words.specs.Read.{option_rule, read_row}
+use Rattle.command_words.specs.inner.Read.{option_rule, read_row}
 use Rattle.command_words.proofs.options.with_options.Given as goal
 
 -- the options so far

@@ -1,5 +1,5 @@
 use Rattle.std.proofs.Common.{◌∙◌, ap}
-use Rattle.command_words.specs.Found.{line_with}
+use Rattle.command_words.specs.inner.Found.{line_with}
 use Rattle.command_words.proofs.Assembled.{no_line, reduce_found}
 use Rattle.command_words.proofs.reduce.line_of.Goals as goal
 

@@ -1,7 +1,7 @@
 use Rattle.std.proofs.Common.{◌≡◌, Option, Some, IfOk, ap, map, option_and_then, option_map, refl, string_bytes, subst, sym}
 use Rattle.command_words.specs.Commands.{ReduceOptions, reduce_of}
 use Rattle.command_words.specs.Lines.{reduce_read}
-use Rattle.command_words.specs.Read.{IsAnswered}
+use Rattle.command_words.specs.inner.Read.{IsAnswered}
 use Rattle.command_words.specs.Tables.{reduce_table}
 use Rattle.command_words.proofs.Assembled.{found_in_words, none_in, reduce_is_table, these_in}
 use Rattle.command_words.proofs.reduce.read_reduce.Goals as goal

@@ -1,6 +1,6 @@
 use Rattle.std.proofs.Common.{◌∙◌, Some, ap, map, option_map, refl, string_bytes, sym}
 use Rattle.command_words.specs.Commands.{selftest_of}
-use Rattle.command_words.specs.Read.{IsAnswered}
+use Rattle.command_words.specs.inner.Read.{IsAnswered}
 use Rattle.command_words.specs.Tables.{selftest_table}
 use Rattle.command_words.proofs.Assembled.{found_in_words, none_in, selftest_is_table, these_in}
 use Rattle.command_words.proofs.selftest.read_selftest.Goals as goal

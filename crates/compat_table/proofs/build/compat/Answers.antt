@@ -1,8 +1,8 @@
 use Rattle.std.proofs.Common.{◌≡◌, List, map, sym, ap, ◌∙◌, subst}
 use Rattle.normal_form.specs.Form.{RuleForm}
-use Rattle.compat_table.specs.Rows.{lone_symbols}
-use Rattle.compat_table.specs.Table.{IsClosed, edges_of_form}
-use Rattle.compat_table.specs.View.{edges_of}
+use Rattle.compat_table.specs.inner.Rows.{lone_symbols}
+use Rattle.compat_table.specs.inner.Table.{IsClosed, edges_of_form}
+use Rattle.compat_table.specs.inner.View.{edges_of}
 use Rattle.compat_table.proofs.Edges.{closed}
 use Rattle.compat_table.proofs.build.compat.Goals as goal
 

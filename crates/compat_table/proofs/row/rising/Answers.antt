@@ -6,7 +6,7 @@ use Rattle.std.proofs.lemmas.List.Kept.{Contains-dedup_nat, Contains-from_dedup}
 use Rattle.std.proofs.lemmas.List.Sorted.{Contains-permutation, IsPermutation-sym}
 use Rattle.std.proofs.lemmas.Map.Keys.{IsStrictlyIncreasing-dedup}
 use Rattle.std.proofs.Math.Dec.{eqb}
-use Rattle.grammar_names.proofs.KindLists.{not_falling}
+use Rattle.grammar_names.proofs.Lent.{not_falling}
 use Rattle.compat_table.proofs.row.rising.Goals as goal
 
 pub returns-clause-rising : goal.returns-clause-rising

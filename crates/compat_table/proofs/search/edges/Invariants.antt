@@ -1,7 +1,7 @@
 use Rattle.std.proofs.Common.{◌≡◌, map, take}
 use Rattle.normal_form.specs.View.{rule_form}
-use Rattle.compat_table.specs.Rows.{lone_symbols}
-use Rattle.compat_table.specs.View.{edges_of}
+use Rattle.compat_table.specs.inner.Rows.{lone_symbols}
+use Rattle.compat_table.specs.inner.View.{edges_of}
 use Rattle.compat_table.proofs.search.edges.Given as goal
 
 abbrev pub invariant-loop-rule : goal.invariant-loop-rule

@@ -4,7 +4,7 @@ use Rattle.std.specs.Global.{Vec}
 use Rattle.std.specs.List.{filter_map}
 use Rattle.normal_form.specs.declared.normal.Sym.{Sym}
 use Rattle.normal_form.specs.View.{alts_form}
-use Rattle.compat_table.specs.Rows.{lone_symbol}
+use Rattle.compat_table.specs.inner.Rows.{lone_symbol}
 use Rattle.compat_table.proofs.Edges.{lone_more}
 use Rattle.compat_table.proofs.search.lone_among.Goals as goal
 

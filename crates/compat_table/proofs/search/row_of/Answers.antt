@@ -2,8 +2,8 @@ use Rattle.std.proofs.Common.{◌≡◌, ◌+◌, ◌<◌, length, slice_index, 
 use Rattle.std.specs.Global.{Vec}
 use Rattle.normal_form.specs.declared.normal.Sym.{Sym}
 use Rattle.std.proofs.lemmas.List.{get_or_default, length-map}
-use Rattle.compat_table.specs.Rows.{Symbols}
-use Rattle.compat_table.specs.View.{edges_of, symbols_of}
+use Rattle.compat_table.specs.inner.Rows.{Symbols}
+use Rattle.compat_table.specs.inner.View.{edges_of, symbols_of}
 use Rattle.compat_table.proofs.Searching.{marked_none, none_among, row_at, search_begun, search_more, searched_whole}
 use Rattle.compat_table.proofs.search.row_of.Goals as goal
 

@@ -1,7 +1,7 @@
 use Rattle.std.proofs.Common.{◌+◌, ◌-◌, ◌<◌, ◌≤◌, length, vec_len}
 use Rattle.std.specs.List.{All}
-use Rattle.compat_table.specs.Rows.{IsMarked, IsSearched}
-use Rattle.compat_table.specs.View.{edges_of, symbols_of}
+use Rattle.compat_table.specs.inner.Rows.{IsMarked, IsSearched}
+use Rattle.compat_table.specs.inner.View.{edges_of, symbols_of}
 use Rattle.compat_table.proofs.search.row_of.Given as goal
 
 abbrev pub invariant-loop-done : goal.invariant-loop-done

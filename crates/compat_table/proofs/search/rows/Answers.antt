@@ -1,9 +1,9 @@
 use Rattle.std.proofs.Common.{◌≡◌, inl, inr, ℕ, List, ◌++◌, [], ◌∷◌, Some, length, map, slice_get, ap, ◌∙◌, subst, arith}
 use Rattle.std.proofs.lemmas.List.{length-append}
 use Rattle.compat_table.specs.declared.row.Row.{Row}
-use Rattle.compat_table.specs.Rows.{IsRowOf, Symbols}
-use Rattle.compat_table.specs.Table.{IsSortedRow}
-use Rattle.compat_table.specs.View.{edges_of, symbols_of}
+use Rattle.compat_table.specs.inner.Rows.{IsRowOf, Symbols}
+use Rattle.compat_table.specs.inner.Table.{IsSortedRow}
+use Rattle.compat_table.specs.inner.View.{edges_of, symbols_of}
 use Rattle.compat_table.proofs.Searching.{got_more}
 use Rattle.compat_table.proofs.search.rows.Goals as goal
 

@@ -1,8 +1,8 @@
 use Rattle.std.proofs.Common.{◌≡◌, ◌+◌, ◌<◌, ℕ, Some, length, map, slice_get}
 use Rattle.std.specs.List.{All}
-use Rattle.compat_table.specs.Rows.{IsRowOf, Symbols}
-use Rattle.compat_table.specs.Table.{IsSortedRow}
-use Rattle.compat_table.specs.View.{edges_of, symbols_of}
+use Rattle.compat_table.specs.inner.Rows.{IsRowOf, Symbols}
+use Rattle.compat_table.specs.inner.Table.{IsSortedRow}
+use Rattle.compat_table.specs.inner.View.{edges_of, symbols_of}
 use Rattle.compat_table.proofs.search.rows.Given as goal
 
 abbrev pub invariant-loop-rule : goal.invariant-loop-rule

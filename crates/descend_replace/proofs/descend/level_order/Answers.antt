@@ -4,7 +4,7 @@ use Rattle.syntax_tree.specs.Trees.{PlainTree}
 use Rattle.syntax_tree.specs.Numbered.{subtree}
 use Rattle.syntax_tree.specs.Levels.{below_in_level_order}
 use Rattle.syntax_tree_cut.specs.Cuts.{cut_tree}
-use Rattle.syntax_tree_cut.proofs.CutFacts.{some_of}
+use Rattle.syntax_tree_cut.proofs.Lent.{some_of}
 use Rattle.descend_replace.proofs.Queue.{next_is_before, next_of, queue_begins, queue_ends}
 use Rattle.descend_replace.proofs.Found.{children_are, next_is_left, queue_step}
 use Rattle.descend_replace.proofs.descend.level_order.Goals as goal

@@ -4,8 +4,8 @@ use Rattle.std.proofs.lemmas.List.{length-map}
 use Rattle.std.proofs.lemmas.Option.{slice_get_within}
 use Rattle.grammar_tree.specs.GrammarView.{grammar_of, rule_of}
 use Rattle.grammar_tree.specs.Written.{WrittenRule}
-use Rattle.grammar_tree.proofs.Counts.{counts_fit}
-use Rattle.grammar_check.specs.CheckFaults.{IsAnswer}
+use Rattle.grammar_tree.proofs.Lent.{counts_fit}
+use Rattle.grammar_check.specs.inner.CheckFaults.{IsAnswer}
 use Rattle.grammar_check.specs.declared.fault.Answer.{Answer}
 use Rattle.grammar_check.proofs.checking.check.Goals as goal
 

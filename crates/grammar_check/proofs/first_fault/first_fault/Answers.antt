@@ -4,15 +4,14 @@ use Rattle.std.proofs.lemmas.List.{length-map}
 use Rattle.grammar_tree.specs.Faults.{EofPlace}
 use Rattle.grammar_tree.specs.GrammarView.{grammar_of, rule_of}
 use Rattle.grammar_tree.specs.Written.{WrittenGrammar}
-use Rattle.grammar_tree.proofs.Counts.{counts_fit}
-use Rattle.grammar_check.specs.CheckFaults.{IsFirstBefore, IsLexerAnswer}
+use Rattle.grammar_tree.proofs.Lent.{counts_fit}
+use Rattle.grammar_check.specs.inner.CheckFaults.{IsFirstBefore, IsLexerAnswer}
 use Rattle.grammar_check_faults.specs.Twins.{IsTwinAt}
 use Rattle.grammar_check_faults.specs.Unknown.{IsFirstUnknown}
 use Rattle.grammar_check.specs.declared.fault.CheckFault.{CheckFault}
 use Rattle.grammar_check.specs.declared.lexer_fault.LexerAnswer.{LexerAnswer}
-use Rattle.grammar_check_faults.proofs.AnswerForms.{with_name}
+use Rattle.grammar_check_faults.proofs.Lent.{with_name, one_rule}
 use Rattle.grammar_check.proofs.CheckForms.{before_eof, before_loops, eof_at, fine, no_rule, no_start, two_rules}
-use Rattle.grammar_check_faults.proofs.Twins.{one_rule}
 use Rattle.grammar_check.proofs.first_fault.first_fault.Goals as goal
 
 abbrev text : Bor (List ℕ) → List ℕ

@@ -3,7 +3,7 @@ use Rattle.std.specs.Prelude.{is_none}
 use Rattle.std.proofs.lemmas.List.{map-append, take_more}
 use Rattle.std.proofs.lemmas.List.Elements.{filter-append}
 use Rattle.grammar_tree.specs.GrammarView.{kind_of, source_of}
-use Rattle.grammar_check.specs.Kinds.{absent, plain_kind}
+use Rattle.grammar_check.specs.inner.Kinds.{absent, plain_kind}
 use Rattle.grammar_check.proofs.kinds.add_all_absent.Goals as goal
 
 pub loop-text-preserved : goal.loop-text-preserved

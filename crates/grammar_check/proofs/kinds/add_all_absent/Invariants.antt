@@ -1,7 +1,7 @@
 use Rattle.std.proofs.Common.{◌≡◌, ◌++◌, ℕ, List, Option, map, take}
 use Rattle.grammar_tree.specs.GrammarView.{kind_of, source_of}
 use Rattle.grammar_names.specs.Index.{Finds}
-use Rattle.grammar_check.specs.Kinds.{absent, plain_kind}
+use Rattle.grammar_check.specs.inner.Kinds.{absent, plain_kind}
 use Rattle.grammar_check.proofs.kinds.add_all_absent.Given as goal
 
 abbrev pub invariant-loop-text : goal.invariant-loop-text

@@ -2,7 +2,7 @@ use Rattle.std.proofs.Common.{◌≡◌, ◌++◌, ◌+◌, ◌∷◌, [], lengt
 use Rattle.std.proofs.lemmas.List.{length-map}
 use Rattle.grammar_tree.specs.GrammarView.{kind_of, rule_of}
 use Rattle.grammar_tree.specs.Kinds.{written_kinds}
-use Rattle.grammar_names.proofs.Places.{mapped_more}
+use Rattle.grammar_names.proofs.Lent.{mapped_more}
 use Rattle.grammar_check.proofs.KindForms.{kinds_append}
 use Rattle.grammar_check.proofs.kinds.add_all_written.Goals as goal
 

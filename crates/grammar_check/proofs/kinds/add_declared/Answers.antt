@@ -5,7 +5,7 @@ use Rattle.grammar_tree.specs.Kinds.{distinct, makes_token}
 use Rattle.grammar_tree.specs.Written.{Source}
 use Rattle.grammar_names.specs.Index.{Finds}
 use Rattle.grammar_tree.specs.declared.rule.Rule.{Rule}
-use Rattle.grammar_check.specs.Kinds.{absent, plain_kind}
+use Rattle.grammar_check.specs.inner.Kinds.{absent, plain_kind}
 use Rattle.grammar_check.proofs.KindForms.{declared_are}
 use Rattle.grammar_check.proofs.kinds.add_declared.Goals as goal
 

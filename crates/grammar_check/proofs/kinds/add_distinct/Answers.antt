@@ -1,7 +1,7 @@
 use Rattle.std.proofs.Common.{◌++◌, [], ◌∷◌, cond, is_some, sym, ap, ◌∙◌, append-nil}
 use Rattle.std.specs.Str.{chars}
-use Rattle.grammar_check_faults.specs.Seen.{seen_in}
-use Rattle.grammar_check_faults.proofs.SeenForms.{seen_again, seen_push, was_not_seen, was_seen}
+use Rattle.grammar_check_faults.specs.inner.Seen.{seen_in}
+use Rattle.grammar_check_faults.proofs.Lent.{seen_again, seen_push, was_not_seen, was_seen}
 use Rattle.grammar_check.proofs.kinds.add_distinct.Goals as goal
 
 pub returns-then-is_some : goal.returns-then-is_some

@@ -5,7 +5,7 @@ use Rattle.grammar_tree.specs.GrammarView.{kind_of, rule_of}
 use Rattle.grammar_tree.specs.Kinds.{all_references, as_literal, distinct, is_named_by}
 use Rattle.grammar_tree.specs.View.{token_ref}
 use Rattle.grammar_tree.specs.Written.{Source}
-use Rattle.grammar_check.specs.Kinds.{absent, plain_kind}
+use Rattle.grammar_check.specs.inner.Kinds.{absent, plain_kind}
 use Rattle.grammar_check.proofs.KindForms.{implicit_are}
 use Rattle.grammar_check.proofs.kinds.add_implicit.Goals as goal
 

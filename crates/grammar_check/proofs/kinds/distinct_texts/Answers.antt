@@ -2,8 +2,8 @@ use Rattle.std.proofs.Common.{◌++◌, List, ℕ, ◌∷◌, [], take, sym, ap,
 use Rattle.std.proofs.lemmas.List.{take_more}
 use Rattle.grammar_tree.specs.Kinds.{distinct}
 use Rattle.grammar_names.specs.Index.{Finds}
-use Rattle.grammar_check_faults.specs.Seen.{seen_in}
-use Rattle.grammar_check.specs.Kinds.{unless_seen}
+use Rattle.grammar_check_faults.specs.inner.Seen.{seen_in}
+use Rattle.grammar_check.specs.inner.Kinds.{unless_seen}
 use Rattle.grammar_check.proofs.KindForms.{distinct_push}
 use Rattle.grammar_check.proofs.kinds.distinct_texts.Goals as goal
 

@@ -3,7 +3,7 @@ use Rattle.std.specs.List.{filter_map}
 use Rattle.std.proofs.lemmas.List.Elements.{filter_map-append}
 use Rattle.grammar_tree.specs.Kinds.{as_literal}
 use Rattle.grammar_tree.specs.View.{token_ref}
-use Rattle.grammar_names.proofs.Places.{mapped_more}
+use Rattle.grammar_names.proofs.Lent.{mapped_more}
 use Rattle.grammar_check.proofs.kinds.literals_of.Goals as goal
 
 pub loop-reference-preserved : goal.loop-reference-preserved

@@ -1,9 +1,9 @@
 use Rattle.std.proofs.Common.{Option, Some, None, subst}
 use Rattle.grammar_tree.specs.Faults.{EmptyToken}
 use Rattle.grammar_tree.specs.GrammarView.{grammar_of}
-use Rattle.grammar_check.specs.CheckFaults.{IsFirstBefore}
+use Rattle.grammar_check.specs.inner.CheckFaults.{IsFirstBefore}
 use Rattle.grammar_check.specs.declared.fault.CheckFault.{CheckFault}
-use Rattle.grammar_check_faults.proofs.AnswerForms.{named_first, with_name, tokens_are_rules}
+use Rattle.grammar_check_faults.proofs.Lent.{named_first, with_name, tokens_are_rules}
 use Rattle.grammar_check.proofs.CheckForms.{before_bases, empty_token}
 use Rattle.grammar_check.proofs.lexer_fault.lexer_fault.Goals as goal
 

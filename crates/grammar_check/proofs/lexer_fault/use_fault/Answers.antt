@@ -1,7 +1,7 @@
 use Rattle.std.proofs.Common.{Some, None}
 use Rattle.grammar_tree.specs.Faults.{FragmentLoop, ShortUse}
 use Rattle.grammar_tree.specs.GrammarView.{grammar_of}
-use Rattle.grammar_check_faults.proofs.AnswerForms.{named_first, shorts_are_rules, with_name}
+use Rattle.grammar_check_faults.proofs.Lent.{named_first, shorts_are_rules, with_name}
 use Rattle.grammar_check.proofs.CheckForms.{before_short_uses, before_tokens, fragment_loop, short_use}
 use Rattle.grammar_check.proofs.lexer_fault.use_fault.Goals as goal
 

@@ -1,6 +1,6 @@
 use Rattle.std.proofs.Common.{◌≡◌, ◌<◌, ◌+◌, ℕ, List, Vec, Global, [], length, map, slice_index, sym, ap, ◌∙◌, subst, arith}
 use Rattle.std.proofs.lemmas.List.{get_or_default, length-map}
-use Rattle.grammar_check_cycles.specs.Graph.{IsSearched, with_row}
+use Rattle.grammar_check_cycles.specs.inner.Graph.{IsSearched, with_row}
 use Rattle.grammar_check_cycles.proofs.Searching.{all_found, among_contains, contains_among, flag_within, next_within, row_at, row_length, row_within, start, step, within}
 use Rattle.grammar_check_cycles.proofs.cycles.reached_from.Goals as goal
 

@@ -1,5 +1,5 @@
 use Rattle.std.proofs.Common.{◌≡◌, ◌-◌, ◌≤◌, length, map, vec_len}
-use Rattle.grammar_check_cycles.specs.Graph.{IsSearched}
+use Rattle.grammar_check_cycles.specs.inner.Graph.{IsSearched}
 use Rattle.grammar_check_cycles.proofs.cycles.reached_from.Given as goal
 
 abbrev pub invariant-loop-done : goal.invariant-loop-done

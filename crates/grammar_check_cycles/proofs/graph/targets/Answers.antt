@@ -1,6 +1,6 @@
 use Rattle.std.proofs.Common.{◌≡◌, ◌+◌, ℕ, List, Vec, Global, length, map, sym, subst, arith}
 use Rattle.std.proofs.lemmas.List.{length-map}
-use Rattle.grammar_check_cycles.specs.Graph.{AreFound}
+use Rattle.grammar_check_cycles.specs.inner.Graph.{AreFound}
 use Rattle.grammar_check_cycles.proofs.Searching.{none_found, row_at, row_found, row_within, targets}
 use Rattle.grammar_check_cycles.proofs.graph.targets.Goals as goal
 

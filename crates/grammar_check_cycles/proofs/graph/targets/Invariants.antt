@@ -1,5 +1,5 @@
 use Rattle.std.proofs.Common.{◌≡◌, length, map, vec_len}
-use Rattle.grammar_check_cycles.specs.Graph.{AreFound}
+use Rattle.grammar_check_cycles.specs.inner.Graph.{AreFound}
 use Rattle.grammar_check_cycles.proofs.graph.targets.Given as goal
 
 abbrev pub invariant-loop-row : goal.invariant-loop-row

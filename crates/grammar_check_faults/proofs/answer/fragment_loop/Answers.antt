@@ -4,7 +4,7 @@ use Rattle.grammar_tree.specs.GrammarView.{grammar_of}
 use Rattle.grammar_check_cycles.specs.First.{IsFirstOrNone}
 use Rattle.grammar_check_cycles.specs.Graph.{IsClosed, IsOnCycle}
 use Rattle.grammar_check_lexer_rules.specs.Lexer.{lexer_edges}
-use Rattle.grammar_check_lexer_rules.proofs.LexerEdges.{closed, loops, uses_itself}
+use Rattle.grammar_check_lexer_rules.proofs.Lent.{closed, loops, uses_itself}
 use Rattle.grammar_check_faults.proofs.AnswerForms.{loops_are_rules, named_first}
 use Rattle.grammar_check_faults.proofs.FirstForms.{same_first}
 use Rattle.grammar_check_faults.proofs.answer.fragment_loop.Goals as goal

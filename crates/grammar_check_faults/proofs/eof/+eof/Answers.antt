@@ -6,7 +6,7 @@ use Rattle.grammar_tree.specs.declared.parser_term.ParserAlts.{out-ParserAlts}
 use Rattle.grammar_tree.specs.declared.parser_term.ParserTerm.{ParserTerm}
 use Rattle.grammar_tree.specs.declared.parser_term.ParserTerms.{ParserTerms, out-ParserTerms}
 use Rattle.grammar_check_faults.proofs.EofForms.{eof_alts, eof_seq}
-use Rattle.grammar_check_parser_rules.proofs.Traversed.{any_passes, none_passes}
+use Rattle.grammar_check_parser_rules.proofs.Lent.{any_passes, none_passes}
 use Rattle.grammar_check_faults.proofs.eof.+eof.Goals as goal
 
 pub alts_have_eof-returns-then-terms_have_eof : goal.alts_have_eof-returns-then-terms_have_eof

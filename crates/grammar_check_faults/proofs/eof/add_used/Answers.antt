@@ -4,7 +4,7 @@ use Rattle.std.specs.Str.{chars}
 use Rattle.grammar_tree.specs.Kinds.{as_name}
 use Rattle.grammar_tree.specs.View.{token_ref}
 use Rattle.grammar_tree.specs.declared.parser_term.TokenRef.{TokenRef}
-use Rattle.grammar_check_faults.specs.Seen.{seen_in}
+use Rattle.grammar_check_faults.specs.inner.Seen.{seen_in}
 use Rattle.grammar_check_faults.proofs.SeenForms.{seen_push}
 use Rattle.grammar_check_faults.proofs.eof.add_used.Goals as goal
 

@@ -7,8 +7,8 @@ use Rattle.grammar_tree.specs.View.{token_ref}
 use Rattle.grammar_tree.specs.Written.{WrittenRule}
 use Rattle.grammar_tree.specs.declared.parser_term.TokenRef.{TokenRef}
 use Rattle.grammar_tree.specs.declared.rule.Rule.{Rule}
-use Rattle.grammar_check_faults.specs.Eof.{is_misplaced_rule}
-use Rattle.grammar_check_faults.specs.Seen.{seen_in}
+use Rattle.grammar_check_faults.specs.inner.Eof.{is_misplaced_rule}
+use Rattle.grammar_check_faults.specs.inner.Seen.{seen_in}
 use Rattle.grammar_check_faults.proofs.EofForms.{misplaced, not_misplaced}
 use Rattle.grammar_check_faults.proofs.FirstForms.{not_here, nowhere}
 use Rattle.grammar_check_faults.proofs.LexerChecks.{index_within, rule_at}

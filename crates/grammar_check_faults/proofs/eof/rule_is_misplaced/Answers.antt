@@ -3,7 +3,7 @@ use Rattle.grammar_tree.specs.Faults.{any_has_eof}
 use Rattle.grammar_tree.specs.GrammarView.{rule_of}
 use Rattle.grammar_tree.specs.View.{parser_alts}
 use Rattle.grammar_tree.specs.Written.{written_alts}
-use Rattle.grammar_check_faults.specs.Eof.{is_misplaced_rule}
+use Rattle.grammar_check_faults.specs.inner.Eof.{is_misplaced_rule}
 use Rattle.grammar_check_faults.proofs.EofForms.{may, may_not}
 use Rattle.grammar_check_faults.proofs.eof.rule_is_misplaced.Goals as goal
 

@@ -5,7 +5,7 @@ use Rattle.grammar_tree.specs.Written.{written_seq}
 use Rattle.grammar_tree.specs.declared.parser_term.ParserAlts.{out-ParserAlts}
 use Rattle.grammar_tree.specs.declared.parser_term.ParserTerms.{ParserTerms}
 use Rattle.grammar_check_faults.proofs.EofForms.{misplaced_alts}
-use Rattle.grammar_check_parser_rules.proofs.Traversed.{any_passes, none_passes}
+use Rattle.grammar_check_parser_rules.proofs.Lent.{any_passes, none_passes}
 use Rattle.grammar_check_faults.proofs.eof.some_is_misplaced.Goals as goal
 
 pub returns-then-terms_are_misplaced : goal.returns-then-terms_are_misplaced

@@ -4,8 +4,8 @@ use Rattle.std.proofs.lemmas.List.Elements.{filter_map-append}
 use Rattle.grammar_tree.specs.Kinds.{as_name}
 use Rattle.grammar_tree.specs.View.{token_ref}
 use Rattle.grammar_names.specs.Index.{Finds}
-use Rattle.grammar_names.proofs.Places.{mapped_more}
-use Rattle.grammar_check_faults.specs.Seen.{seen_in}
+use Rattle.grammar_names.proofs.Lent.{mapped_more}
+use Rattle.grammar_check_faults.specs.inner.Seen.{seen_in}
 use Rattle.grammar_check_faults.proofs.eof.used_names.Goals as goal
 
 pub loop-reference-preserved : goal.loop-reference-preserved

@@ -3,7 +3,7 @@ use Rattle.std.specs.List.{filter_map}
 use Rattle.grammar_tree.specs.Kinds.{as_name}
 use Rattle.grammar_tree.specs.View.{token_ref}
 use Rattle.grammar_names.specs.Index.{Finds}
-use Rattle.grammar_check_faults.specs.Seen.{seen_in}
+use Rattle.grammar_check_faults.specs.inner.Seen.{seen_in}
 use Rattle.grammar_check_faults.proofs.eof.used_names.Given as goal
 
 abbrev pub invariant-loop-reference : goal.invariant-loop-reference

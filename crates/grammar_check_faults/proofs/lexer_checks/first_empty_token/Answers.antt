@@ -3,7 +3,7 @@ use Rattle.grammar_tree.specs.Faults.{EmptyToken}
 use Rattle.grammar_tree.specs.GrammarView.{grammar_of, rule_of}
 use Rattle.grammar_tree.specs.Written.{WrittenRule}
 use Rattle.grammar_check_tables.specs.Flags.{flag}
-use Rattle.grammar_check_faults.specs.LexerFaults.{is_empty_token}
+use Rattle.grammar_check_faults.specs.inner.LexerFaults.{is_empty_token}
 use Rattle.grammar_check_faults.proofs.FirstForms.{not_here, nowhere}
 use Rattle.grammar_check_faults.proofs.LexerChecks.{empty_token, no_empty_token, index_within, rule_at}
 use Rattle.grammar_check_faults.proofs.lexer_checks.first_empty_token.Goals as goal

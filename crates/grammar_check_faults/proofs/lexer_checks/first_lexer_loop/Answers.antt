@@ -4,7 +4,8 @@ use Rattle.grammar_tree.specs.Written.{WrittenRule}
 use Rattle.grammar_tree.specs.declared.rule.Rule.{Rule}
 use Rattle.grammar_check_tables.specs.Flags.{flag}
 use Rattle.grammar_check_lexer_rules.specs.Lexer.{lexer_index}
-use Rattle.grammar_check_faults.specs.LexerFaults.{LexerLoopAt, is_looping_rule}
+use Rattle.grammar_check_faults.specs.LexerFaults.{LexerLoopAt}
+use Rattle.grammar_check_faults.specs.inner.LexerFaults.{is_looping_rule}
 use Rattle.grammar_check_faults.proofs.FirstForms.{not_here, nowhere}
 use Rattle.grammar_check_faults.proofs.LexerChecks.{loop_there, no_loop, index_within, rule_at}
 use Rattle.grammar_check_faults.proofs.lexer_checks.first_lexer_loop.Goals as goal

@@ -1,6 +1,6 @@
 use Rattle.std.proofs.Common.{◌&&◌, not, sym, ap, ◌∙◌}
 use Rattle.grammar_tree.specs.GrammarView.{rule_of}
-use Rattle.grammar_check_faults.specs.LexerFaults.{is_empty_token}
+use Rattle.grammar_check_faults.specs.inner.LexerFaults.{is_empty_token}
 use Rattle.grammar_check_faults.proofs.lexer_checks.makes_empty_token.Goals as goal
 
 pub returns-then-not-fragment : goal.returns-then-not-fragment

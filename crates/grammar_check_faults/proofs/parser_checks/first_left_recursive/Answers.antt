@@ -3,8 +3,8 @@ use Rattle.grammar_tree.specs.Derives.{bodies}
 use Rattle.grammar_check_tables.specs.Flags.{flag}
 use Rattle.grammar_check_cycles.specs.First.{IsFirstOrNone}
 use Rattle.grammar_check_cycles.specs.Graph.{IsClosed, IsOnCycle}
-use Rattle.grammar_check_faults.specs.ParserFaults.{LeadsBackAt}
-use Rattle.grammar_check_parser_rules.proofs.CornerEdges.{back_leads, closed, leads_back}
+use Rattle.grammar_check_faults.specs.inner.ParserFaults.{LeadsBackAt}
+use Rattle.grammar_check_parser_rules.proofs.Lent.{back_leads, closed, leads_back}
 use Rattle.grammar_check_faults.proofs.FirstForms.{ok_first}
 use Rattle.grammar_check_faults.proofs.parser_checks.first_left_recursive.Goals as goal
 

@@ -3,9 +3,8 @@ use Rattle.grammar_tree.specs.Derives.{bodies}
 use Rattle.grammar_tree.specs.View.{parser_alts}
 use Rattle.grammar_tree.specs.Written.{WrittenTerm}
 use Rattle.grammar_tree.specs.declared.parser_term.ParserAlts.{ParserAlts}
-use Rattle.grammar_check_faults.specs.ParserFaults.{HasLoopAt}
-use Rattle.grammar_check_parser_rules.proofs.EmptyRules.{body_at}
-use Rattle.grammar_check_parser_rules.proofs.BodyForms.{body_within}
+use Rattle.grammar_check_faults.specs.inner.ParserFaults.{HasLoopAt}
+use Rattle.grammar_check_parser_rules.proofs.Lent.{body_at, body_within}
 use Rattle.grammar_check_faults.proofs.FirstForms.{loop_there, no_loop, not_here, nowhere, rest_there}
 use Rattle.grammar_check_faults.proofs.parser_checks.first_with_loop.Goals as goal
 

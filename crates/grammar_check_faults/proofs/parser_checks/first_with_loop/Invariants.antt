@@ -1,6 +1,6 @@
 use Rattle.std.proofs.Common.{ℕ, ◌<◌}
 use Rattle.grammar_tree.specs.Derives.{bodies}
-use Rattle.grammar_check_faults.specs.ParserFaults.{HasLoopAt}
+use Rattle.grammar_check_faults.specs.inner.ParserFaults.{HasLoopAt}
 use Rattle.grammar_check_faults.proofs.parser_checks.first_with_loop.Given as goal
 
 abbrev pub invariant-loop-number : goal.invariant-loop-number

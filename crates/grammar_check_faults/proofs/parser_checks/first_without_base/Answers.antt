@@ -3,9 +3,8 @@ use Rattle.grammar_tree.specs.Derives.{bodies}
 use Rattle.grammar_tree.specs.View.{parser_alts}
 use Rattle.grammar_tree.specs.Written.{WrittenTerm}
 use Rattle.grammar_tree.specs.declared.parser_term.ParserAlts.{ParserAlts}
-use Rattle.grammar_check_faults.specs.ParserFaults.{HasNoBaseAt}
-use Rattle.grammar_check_parser_rules.proofs.EmptyRules.{body_at}
-use Rattle.grammar_check_parser_rules.proofs.BodyForms.{body_within}
+use Rattle.grammar_check_faults.specs.inner.ParserFaults.{HasNoBaseAt}
+use Rattle.grammar_check_parser_rules.proofs.Lent.{body_at, body_within}
 use Rattle.grammar_check_faults.proofs.FirstForms.{base_missing, base_there, not_here, nowhere}
 use Rattle.grammar_check_faults.proofs.parser_checks.first_without_base.Goals as goal
 

@@ -1,8 +1,9 @@
 use Rattle.std.proofs.Common.{ℕ, Option, sym, ap, ◌∙◌, subst}
 use Rattle.grammar_tree.specs.Derives.{bodies}
 use Rattle.grammar_check_cycles.specs.First.{IsFirstOrNone}
-use Rattle.grammar_check_faults.specs.ParserFaults.{HasLoopAt, ParserLoopAt}
-use Rattle.grammar_check_faults.specs.ParserIndices.{index_at}
+use Rattle.grammar_check_faults.specs.ParserFaults.{ParserLoopAt}
+use Rattle.grammar_check_faults.specs.inner.ParserFaults.{HasLoopAt}
+use Rattle.grammar_check_faults.specs.inner.ParserIndices.{index_at}
 use Rattle.grammar_check_faults.proofs.IndexForms.{loops_by_index, first_index}
 use Rattle.grammar_check_faults.proofs.parser_rules.index_with_loop.Goals as goal
 

@@ -2,8 +2,8 @@ use Rattle.std.proofs.Common.{ℕ, Option, sym, ap, ◌∙◌, subst}
 use Rattle.grammar_tree.specs.Derives.{bodies}
 use Rattle.grammar_tree.specs.Faults.{LeftRecursion}
 use Rattle.grammar_check_cycles.specs.First.{IsFirstOrNone}
-use Rattle.grammar_check_faults.specs.ParserFaults.{LeadsBackAt}
-use Rattle.grammar_check_faults.specs.ParserIndices.{index_at}
+use Rattle.grammar_check_faults.specs.inner.ParserFaults.{LeadsBackAt}
+use Rattle.grammar_check_faults.specs.inner.ParserIndices.{index_at}
 use Rattle.grammar_check_faults.proofs.IndexForms.{recursion_by_index, first_index}
 use Rattle.grammar_check_faults.proofs.parser_rules.left_recursive_index.Goals as goal
 

@@ -1,7 +1,7 @@
 use Rattle.std.proofs.Common.{◌≡◌, ◌++◌, ◌+◌, ◌∷◌, [], length, map, take, length-take, sym, ap, ◌∙◌, arith}
 use Rattle.std.proofs.lemmas.List.{length-map}
 use Rattle.grammar_tree.specs.GrammarView.{rule_of}
-use Rattle.grammar_names.proofs.Places.{mapped_more}
+use Rattle.grammar_names.proofs.Lent.{mapped_more}
 use Rattle.grammar_check_faults.specs.ParserIndices.{indices_from}
 use Rattle.grammar_check_faults.proofs.IndexForms.{indices_append}
 use Rattle.grammar_check_faults.proofs.parser_rules.parser_indices.Goals as goal

@@ -4,10 +4,10 @@ use Rattle.grammar_tree.specs.GrammarView.{grammar_of, rule_of}
 use Rattle.grammar_tree.specs.Written.{WrittenRule}
 use Rattle.grammar_check_tables.specs.Flags.{flag}
 use Rattle.grammar_check_cycles.specs.Graph.{AreTargets, IsClosed}
-use Rattle.grammar_check_faults.specs.LexerFaults.{is_short_rule}
+use Rattle.grammar_check_faults.specs.inner.LexerFaults.{is_short_rule}
 use Rattle.grammar_check_faults.proofs.FirstForms.{not_here, nowhere}
 use Rattle.grammar_check_faults.proofs.LexerChecks.{no_short_use, index_within, rule_at, short_use}
-use Rattle.grammar_check_lexer_rules.proofs.LexerEdges.{closed}
+use Rattle.grammar_check_lexer_rules.proofs.Lent.{closed}
 use Rattle.grammar_check_faults.proofs.rule_checks.first_short_use.Goals as goal
 
 pub targets-requires : goal.targets-requires

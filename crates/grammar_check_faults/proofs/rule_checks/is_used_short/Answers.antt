@@ -1,6 +1,6 @@
 use Rattle.std.proofs.Common.{◌&&◌, sym, ap, ◌∙◌}
 use Rattle.grammar_tree.specs.GrammarView.{rule_of}
-use Rattle.grammar_check_faults.specs.LexerFaults.{is_short_rule}
+use Rattle.grammar_check_faults.specs.inner.LexerFaults.{is_short_rule}
 use Rattle.grammar_check_faults.proofs.rule_checks.is_used_short.Goals as goal
 
 pub returns-then-used : goal.returns-then-used

@@ -6,7 +6,7 @@ use Rattle.grammar_tree.specs.GrammarView.{rule_of}
 use Rattle.grammar_tree.specs.declared.rule.Rule.{Rule}
 use Rattle.grammar_tree.specs.Written.{WrittenGrammar}
 use Rattle.grammar_check_lexer_rules.specs.Lexer.{lexer_index}
-use Rattle.grammar_check_faults.specs.Unknown.{is_unknown}
+use Rattle.grammar_check_faults.specs.inner.Unknown.{is_unknown}
 use Rattle.grammar_check_faults.proofs.FindForms.{lexer_use, names_flat, none_more, first_found, none_found}
 use Rattle.grammar_check_faults.proofs.unknown.first_unknown_name.Goals as goal
 

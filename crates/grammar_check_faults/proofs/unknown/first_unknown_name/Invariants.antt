@@ -1,7 +1,7 @@
 use Rattle.std.proofs.Common.{◌≡◌, None, take}
 use Rattle.std.specs.Prelude.{find}
 use Rattle.std.specs.List.{flat_map}
-use Rattle.grammar_check_faults.specs.Unknown.{is_unknown}
+use Rattle.grammar_check_faults.specs.inner.Unknown.{is_unknown}
 use Rattle.grammar_check_faults.proofs.FindForms.{lexer_use}
 use Rattle.grammar_check_faults.proofs.unknown.first_unknown_name.Given as goal
 

@@ -1,7 +1,7 @@
 use Rattle.std.proofs.Common.{Some, sym, ap, ◌∙◌, arith}
 use Rattle.std.specs.Prelude.{find, option_map}
 use Rattle.grammar_tree.specs.Faults.{used_name}
-use Rattle.grammar_check_faults.specs.Unknown.{is_unknown}
+use Rattle.grammar_check_faults.specs.inner.Unknown.{is_unknown}
 use Rattle.grammar_check_faults.proofs.FindForms.{none_more, none_of, reference_use, references_flat, first_found, none_found}
 use Rattle.grammar_check_faults.proofs.unknown.first_unknown_reference.Goals as goal
 

@@ -5,7 +5,7 @@ use Rattle.grammar_tree.specs.Faults.{NameUse, name_uses, rule_uses, used_name}
 use Rattle.grammar_tree.specs.GrammarView.{rule_of}
 use Rattle.grammar_tree.specs.Written.{WrittenGrammar}
 use Rattle.grammar_tree.specs.declared.rule.Rule.{Rule}
-use Rattle.grammar_check_faults.specs.Unknown.{is_unknown}
+use Rattle.grammar_check_faults.specs.inner.Unknown.{is_unknown}
 use Rattle.grammar_check_faults.proofs.FindForms.{none_more, none_of, first_found, none_found}
 use Rattle.grammar_check_faults.proofs.UnknownForms.{first_unknown_is}
 use Rattle.grammar_check_faults.proofs.unknown.first_unknown_use.Goals as goal

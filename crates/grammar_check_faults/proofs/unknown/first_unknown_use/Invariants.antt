@@ -3,7 +3,7 @@ use Rattle.std.specs.Prelude.{find}
 use Rattle.std.specs.List.{flat_map}
 use Rattle.grammar_tree.specs.Faults.{rule_uses}
 use Rattle.grammar_tree.specs.GrammarView.{rule_of}
-use Rattle.grammar_check_faults.specs.Unknown.{is_unknown}
+use Rattle.grammar_check_faults.specs.inner.Unknown.{is_unknown}
 use Rattle.grammar_check_faults.proofs.unknown.first_unknown_use.Given as goal
 
 abbrev pub invariant-loop-rule : goal.invariant-loop-rule

@@ -1,6 +1,6 @@
 use Rattle.std.proofs.Common.{Bor, map, sym, ap, ◌∙◌, subst, arith}
 use Rattle.std.specs.List.{filter_map}
-use Rattle.grammar_check_parser_rules.specs.Rules.{body_of}
+use Rattle.grammar_check_parser_rules.specs.inner.Rules.{body_of}
 use Rattle.grammar_tree.specs.GrammarView.{grammar_of, rule_of}
 use Rattle.grammar_tree.specs.View.{parser_alts}
 use Rattle.grammar_tree.specs.Written.{WrittenGrammar}

@@ -2,8 +2,8 @@ use Rattle.std.proofs.Common.{◌++◌, ◌∷◌, [], map, take, sym, ap, ◌�
 use Rattle.std.specs.List.{filter_map}
 use Rattle.std.proofs.lemmas.List.Elements.{filter_map-append}
 use Rattle.grammar_tree.specs.GrammarView.{rule_of}
-use Rattle.grammar_names.proofs.Places.{mapped_more}
-use Rattle.grammar_check_parser_rules.specs.Rules.{body_of}
+use Rattle.grammar_names.proofs.Lent.{mapped_more}
+use Rattle.grammar_check_parser_rules.specs.inner.Rules.{body_of}
 use Rattle.grammar_check_parser_rules.proofs.bodies.parser_bodies.Goals as goal
 
 pub loop-rule-preserved : goal.loop-rule-preserved

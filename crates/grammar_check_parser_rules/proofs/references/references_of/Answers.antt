@@ -2,7 +2,7 @@ use Rattle.std.proofs.Common.{take_all, sym, ap, ◌∙◌, arith}
 use Rattle.std.specs.List.{flat_map}
 use Rattle.grammar_tree.specs.GrammarView.{rule_of}
 use Rattle.grammar_tree.specs.declared.rule.Rule.{Rule}
-use Rattle.grammar_check_parser_rules.specs.Rules.{rule_references}
+use Rattle.grammar_check_parser_rules.specs.inner.Rules.{rule_references}
 use Rattle.grammar_check_parser_rules.proofs.ReferenceForms.{by_rules}
 use Rattle.grammar_check_parser_rules.proofs.references.references_of.Goals as goal
 

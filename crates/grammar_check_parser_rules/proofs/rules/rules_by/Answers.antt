@@ -4,7 +4,7 @@ use Rattle.std.specs.Prelude.{position}
 use Rattle.grammar_tree.specs.GrammarView.{rule_of}
 use Rattle.grammar_tree.specs.Written.{WrittenRule}
 use Rattle.grammar_names.specs.Index.{Finds}
-use Rattle.grammar_names.proofs.Places.{index_push, mapped_more}
+use Rattle.grammar_names.proofs.Lent.{index_push, mapped_more}
 use Rattle.grammar_check_parser_rules.specs.Rules.{has_key}
 use Rattle.grammar_check_parser_rules.proofs.rules.rules_by.Goals as goal
 

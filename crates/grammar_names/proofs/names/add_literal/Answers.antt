@@ -2,7 +2,7 @@ use Rattle.std.proofs.Common.{map, ap, ◌∙◌, sym}
 use Rattle.grammar_tree.specs.Written.{Source, TokenKind}
 use Rattle.grammar_tree.specs.Kinds.{same_text}
 use Rattle.grammar_tree.specs.GrammarView.{rule_of, kind_of, source_of}
-use Rattle.grammar_names.specs.Names.{can_stand_for}
+use Rattle.grammar_names.specs.inner.Names.{can_stand_for}
 use Rattle.grammar_names.proofs.Adding.{added_so, added_to_none}
 use Rattle.grammar_names.proofs.names.add_literal.Goals as goal
 

@@ -2,7 +2,7 @@ use Rattle.std.proofs.Common.{◌≡◌, [], ◌∷◌, ap, ◌∙◌}
 use Rattle.grammar_tree.specs.Written.{LexerTerm, lexer_alts}
 use Rattle.grammar_tree.specs.Kinds.{is_just}
 use Rattle.grammar_tree.specs.View.{lex_term}
-use Rattle.grammar_tree.proofs.LexerViews.{lex_term-Literal}
+use Rattle.grammar_tree.proofs.Lent.{lex_term-Literal}
 use Rattle.grammar_names.proofs.Literals.{not_one_in, one_in, other_term}
 use Rattle.grammar_names.proofs.names.literal_alone.Goals as goal
 

@@ -1,6 +1,6 @@
 use Rattle.std.proofs.Common.{map}
 use Rattle.grammar_tree.specs.GrammarView.{rule_of}
-use Rattle.grammar_names.specs.Names.{can_stand_for}
+use Rattle.grammar_names.specs.inner.Names.{can_stand_for}
 use Rattle.grammar_names.proofs.Places.{kinds_push}
 use Rattle.grammar_names.proofs.names.literal_index.Goals as goal
 

@@ -1,5 +1,5 @@
 use Rattle.std.proofs.Common.{subst, sym, ap, ◌∙◌}
-use Rattle.grammar_tree.proofs.LexerViews.{lex_term-Set}
+use Rattle.grammar_tree.proofs.Lent.{lex_term-Set}
 use Rattle.grammar_reader_machine.specs.Machine as m
 use Rattle.grammar_reader_machine.specs.View.{lex_body_of}
 use Rattle.grammar_reader_machine.specs.NextState.{NextIs}

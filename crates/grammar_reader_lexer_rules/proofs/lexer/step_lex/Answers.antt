@@ -1,6 +1,6 @@
 use Rattle.std.proofs.Common.{Some, None, cond, subst, sym, ap, ◌∙◌}
 use Rattle.grammar_tree.specs.Written.{LexerTerm}
-use Rattle.grammar_tree.proofs.LexerViews.{lex_term-Name}
+use Rattle.grammar_tree.proofs.Lent.{lex_term-Name}
 use Rattle.grammar_reader_machine.specs.Machine as m
 use Rattle.grammar_reader_machine.specs.View.{lex_body_of}
 use Rattle.grammar_reader_machine.specs.NextState.{NextIs}

@@ -1,5 +1,5 @@
 use Rattle.std.proofs.Common.{refl}
-use Rattle.grammar_tree.proofs.EqualParts.{same_grammar}
+use Rattle.grammar_tree.proofs.Lent.{same_grammar}
 use Rattle.grammar_reader_machine.proofs.rules.with_token.Goals as goal
 
 pub returns : goal.returns

@@ -1,6 +1,6 @@
 use Rattle.std.proofs.Common.{subst, sym, ap, ◌∙◌}
 use Rattle.grammar_reader_machine.specs.View.{body_of}
-use Rattle.grammar_reader_parser_rules.specs.References.{after_reference}
+use Rattle.grammar_reader_parser_rules.specs.inner.References.{after_reference}
 use Rattle.grammar_reader_machine.specs.NextState.{NextIs}
 use Rattle.grammar_reader_parser_rules.proofs.Defaults.{no_bracket}
 use Rattle.grammar_reader_parser_rules.proofs.parser.step_ref.Goals as goal

@@ -1,6 +1,6 @@
 use Rattle.std.proofs.Common.{subst, sym, ap, ◌∙◌}
 use Rattle.grammar_reader_machine.specs.View.{body_of, refs_of}
-use Rattle.grammar_reader_parser_rules.specs.References.{after_listed}
+use Rattle.grammar_reader_parser_rules.specs.inner.References.{after_listed}
 use Rattle.grammar_reader_machine.specs.NextState.{NextIs}
 use Rattle.grammar_reader_parser_rules.proofs.Defaults.{listed}
 use Rattle.grammar_reader_parser_rules.proofs.parser.step_ref_in.Goals as goal

@@ -1,7 +1,7 @@
 use Rattle.std.proofs.Common.{◌∙◌}
 use Rattle.grammar_reader_machine.specs.Machine as m
 use Rattle.grammar_reader_machine.specs.View.{state_of}
-use Rattle.grammar_reader_machine.proofs.NextOf.{gives_as}
+use Rattle.grammar_reader_machine.proofs.Lent.{gives_as}
 use Rattle.grammar_reader_step.proofs.steps.step.Goals as goal
 
 pub returns : goal.returns

@@ -1,6 +1,6 @@
 use Rattle.std.proofs.Common.{◌≡◌, sym, subst, IfOk}
 use Rattle.std.specs.Str.{chars}
-use Rattle.grammar_reader_words.specs.Cursor.{seen_word}
+use Rattle.grammar_reader_words.specs.inner.Cursor.{seen_word}
 use Rattle.grammar_reader_words.specs.Words.{word}
 use Rattle.grammar_reader_words.proofs.Joined.{uncons_some}
 use Rattle.grammar_reader_words.proofs.words.word.Goals as goal

@@ -2,7 +2,7 @@ use Rattle.std.proofs.Common.{List, length, sym, ap, ◌∙◌, subst}
 use Rattle.std.specs.List.{All, list_all}
 use Rattle.syntax_tree_cut.specs.Cuts.{cut_tree}
 use Rattle.hdd_levels.specs.declared.level_nodes.Elements.{Elements}
-use Rattle.hdd_levels.specs.LevelForms.{IsWithin, keeps_element}
+use Rattle.hdd_levels.specs.inner.LevelForms.{IsWithin, keeps_element}
 use Rattle.hdd_levels.proofs.FoundNodes.{cut_rising}
 use Rattle.hdd_levels.proofs.Depths.{elements_within, fills_are}
 use Rattle.hdd_levels.proofs.keeping.can_keep.Goals as goal

@@ -4,12 +4,12 @@ use Rattle.syntax_tree.specs.Trees.{PlainTree, children_of}
 use Rattle.syntax_tree.specs.Numbered.{number_of, roots, subtree}
 use Rattle.syntax_tree.specs.Nodes.{AreNodesOf, SyntaxTree, whole}
 use Rattle.syntax_tree_cut.specs.Cuts.{CutForm, IsCutOf, cut_tree}
-use Rattle.syntax_tree_cut.proofs.CutFacts.{some_of}
+use Rattle.syntax_tree_cut.proofs.Lent.{some_of}
 use Rattle.descend_replace.specs.LevelLaws.{list_of}
-use Rattle.descend_replace.proofs.Found.{children_are}
+use Rattle.descend_replace.proofs.Lent.{children_are}
 use Rattle.hdd_levels.specs.declared.level_nodes.Elements.{Elements}
 use Rattle.hdd_levels.specs.Levels.{deletable_children}
-use Rattle.hdd_levels.specs.LevelForms.{AreNodesIn, with_leaves_in}
+use Rattle.hdd_levels.specs.inner.LevelForms.{AreNodesIn, with_leaves_in}
 use Rattle.hdd_levels.proofs.FoundNodes.{as_many_children, children_found, cut_rising, losing_children, plus_is, shape_is}
 use Rattle.hdd_levels.proofs.nodes.push_deletable.Goals as goal
 

@@ -2,7 +2,7 @@ use Rattle.std.proofs.Common.{◌≡◌, ◌++◌, List, map, take}
 use Rattle.syntax_tree.specs.Trees.{PlainTree}
 use Rattle.syntax_tree.specs.Numbered.{number_of}
 use Rattle.syntax_tree_cut.specs.Cuts.{cut_tree}
-use Rattle.hdd_levels.specs.LevelForms.{AreNodesIn, with_leaves_in}
+use Rattle.hdd_levels.specs.inner.LevelForms.{AreNodesIn, with_leaves_in}
 use Rattle.hdd_levels.proofs.nodes.push_with_tokens.Given as goal
 
 abbrev pub invariant-loop-node : goal.invariant-loop-node

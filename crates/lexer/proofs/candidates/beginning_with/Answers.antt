@@ -2,7 +2,7 @@ use Rattle.std.proofs.Common.{◌≡◌, ◌<◌, List, ℕ, length, map, slice_
 use Rattle.std.specs.List.{Contains}
 use Rattle.lexer.specs.declared.candidates.Beginning.{Beginning}
 use Rattle.lexer_match.specs.declared.alternative.Alternative.{Alternative}
-use Rattle.lexer_nfa.proofs.Pushed.{mapped_len}
+use Rattle.lexer_nfa.proofs.Lent.{mapped_len}
 use Rattle.lexer.proofs.Listed.{alternative_at, among_more, complete_more, complete_skip, complete_all}
 use Rattle.lexer.proofs.candidates.beginning_with.Goals.{then-is_read+in_ok-push, else-is_read}
 use Rattle.lexer.proofs.candidates.beginning_with.Goals as goal

@@ -1,7 +1,7 @@
 use Rattle.std.proofs.Common.{◌≡◌, map, take, length}
 use Rattle.std.specs.List.{Contains}
 use Rattle.lexer.specs.declared.candidates.Beginning.{Beginning}
-use Rattle.lexer.specs.Candidates.{IsBeginning}
+use Rattle.lexer.specs.inner.Candidates.{IsBeginning}
 use Rattle.lexer_match.specs.Reading.{IsReady}
 use Rattle.lexer.proofs.candidates.beginnings.Given as goal
 

@@ -1,6 +1,6 @@
 use Rattle.std.proofs.Common.{◌≡◌, map, length}
 use Rattle.lexer.specs.declared.candidates.Beginning.{Beginning}
-use Rattle.lexer.specs.Candidates.{AreListed}
+use Rattle.lexer.specs.inner.Candidates.{AreListed}
 use Rattle.lexer.proofs.candidates.by_first_character.Given as goal
 
 abbrev pub invariant-loop-c : goal.invariant-loop-c

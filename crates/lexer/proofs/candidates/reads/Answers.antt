@@ -1,6 +1,6 @@
 use Rattle.std.proofs.Common.{length, sym, ◌∙◌, refl, true≢false}
 use Rattle.std.proofs.lemmas.Option.{slice_get_read}
-use Rattle.lexer_match.proofs.Steps.{reads_none}
+use Rattle.lexer_match.proofs.Lent.{reads_none}
 use Rattle.lexer.proofs.candidates.reads.Goals as goal
 
 pub returns-in-Some : goal.returns-in-Some

@@ -3,8 +3,8 @@ use Rattle.std.proofs.lemmas.List.{length-drop, length-take-le, take-append-drop
 use Rattle.std.proofs.Math.Seq.{take-length}
 use Rattle.grammar_tree.specs.Lexes.{is_gap_kind}
 use Rattle.lexer.specs.declared.gaps.Singles.{Singles}
-use Rattle.lexer.specs.Gaps.{AreDecided}
-use Rattle.lexer_nfa.proofs.Order.{apart, take_order}
+use Rattle.lexer.specs.inner.Gaps.{AreDecided}
+use Rattle.lexer_nfa.proofs.Lent.{apart, take_order}
 use Rattle.lexer.proofs.Singles.{joined_decided, none_decided, one_decided}
 use Rattle.lexer.proofs.gaps.+decide.Goals as goal
 

@@ -2,8 +2,8 @@ use Rattle.std.proofs.Common.{◌<◌, ℕ, List, length, slice_get, slice_index
 use Rattle.std.proofs.lemmas.Bool.{false≢true}
 use Rattle.std.proofs.lemmas.List.Elements.{Contains-get_or}
 use Rattle.lexer_match.specs.Nfa.{GoesBelow}
-use Rattle.lexer_nfa.proofs.Pushed.{with_none, with_same}
-use Rattle.lexer_match.proofs.Steps.{both_ways, or_same}
+use Rattle.lexer_nfa.proofs.Lent.{with_none, with_same}
+use Rattle.lexer_match.proofs.Lent.{both_ways, or_same}
 use Rattle.lexer.proofs.Singles.{last_all, last_more, last_none, not_alone, sum_more}
 use Rattle.lexer.proofs.gaps.add_alternative.Goals as goal
 

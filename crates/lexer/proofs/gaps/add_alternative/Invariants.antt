@@ -1,6 +1,6 @@
 use Rattle.std.proofs.Common.{◌≡◌, ◌⊎◌, ◌↔◌, ℕ}
 use Rattle.std.specs.Char.{IsScalar}
-use Rattle.lexer.specs.Gaps.{HasSingle, SinglesAreUpTo}
+use Rattle.lexer.specs.inner.Gaps.{HasSingle, SinglesAreUpTo}
 use Rattle.lexer.proofs.Singles.{LastUpTo}
 use Rattle.lexer.proofs.gaps.add_alternative.Given as goal
 

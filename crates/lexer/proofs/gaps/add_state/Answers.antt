@@ -1,7 +1,7 @@
 use Rattle.std.proofs.Common.{ℕ, refl}
 use Rattle.lexer.specs.declared.gaps.Singles.{Singles}
 use Rattle.lexer_match.specs.declared.nfa.State.{State}
-use Rattle.lexer_nfa.proofs.Order.{up_to_push}
+use Rattle.lexer_nfa.proofs.Lent.{up_to_push}
 use Rattle.lexer.proofs.Singles.{char_last, pushed_single, set_last}
 use Rattle.lexer.proofs.gaps.add_state.Goals as goal
 

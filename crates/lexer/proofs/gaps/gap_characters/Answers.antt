@@ -2,7 +2,7 @@ use Rattle.std.proofs.Common.{List, map, subst}
 use Rattle.grammar_tree.specs.Lexes.{is_gap_kind}
 use Rattle.lexer.specs.declared.candidates.Beginning.{Beginning}
 use Rattle.lexer.specs.declared.gaps.Singles.{Singles}
-use Rattle.lexer.specs.Gaps.{AreDecided}
+use Rattle.lexer.specs.inner.Gaps.{AreDecided}
 use Rattle.lexer.proofs.Singles.{are_gap_chars}
 use Rattle.lexer.proofs.gaps.gap_characters.Goals as goal
 

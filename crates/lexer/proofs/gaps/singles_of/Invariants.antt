@@ -2,7 +2,7 @@ use Rattle.std.proofs.Common.{◌↔◌, ℕ}
 use Rattle.std.specs.Char.{IsScalar}
 use Rattle.std.specs.List.{Contains}
 use Rattle.lexer.specs.declared.gaps.Singles.{Singles}
-use Rattle.lexer.specs.Gaps.{HasSingle, SinglesNeverFall}
+use Rattle.lexer.specs.inner.Gaps.{HasSingle, SinglesNeverFall}
 use Rattle.lexer.proofs.Singles.{IsBelowSome, SingleUpTo}
 use Rattle.lexer.proofs.gaps.singles_of.Given as goal
 

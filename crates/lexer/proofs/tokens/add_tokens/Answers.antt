@@ -2,11 +2,11 @@ use Rattle.std.proofs.Common.{List, map, sym, ap, ◌∙◌, subst, arith}
 use Rattle.std.specs.Prelude.{encode_utf8_all}
 use Rattle.std.specs.Str.{chars}
 use Rattle.grammar_tree.specs.Lexes.{PlacedToken}
-use Rattle.lexer.specs.Candidates.{ComesNext, HasNoNext}
+use Rattle.lexer.specs.inner.Candidates.{ComesNext, HasNoNext}
 use Rattle.lexer.specs.declared.pieces.Match.{Match}
 use Rattle.lexer.specs.Tokens.{token_of}
 use Rattle.lexer.proofs.Cut.{IsReadTo, found_none, found_some, is_boundary, left_is, fits, nothing_read, read_all, read_more, some_read, stops}
-use Rattle.lexer_match.proofs.Traced.{dead_end, none_dead, whole_ends}
+use Rattle.lexer_match.proofs.Lent.{dead_end, none_dead, whole_ends}
 use Rattle.lexer.proofs.tokens.add_tokens.Goals as goal
 
 pub loop-at-init : goal.loop-at-init

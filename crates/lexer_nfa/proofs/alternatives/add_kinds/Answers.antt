@@ -2,11 +2,11 @@ use Rattle.std.proofs.Common.{◌≡◌, ◌+◌, ℕ, List, map, length, sym, a
 use Rattle.grammar_tree.specs.Written.{WrittenRule}
 use Rattle.grammar_tree.specs.GrammarView.{kind_of, rule_of}
 use Rattle.grammar_tree.specs.Kinds.{kinds_of}
-use Rattle.grammar_tree.proofs.Counts.{counts_fit}
+use Rattle.grammar_tree.proofs.Lent.{counts_fit}
 use Rattle.lexer_match.specs.Alternatives.{HasAlternative}
 use Rattle.lexer_match.specs.declared.alternative.Alternative.{Alternative}
 use Rattle.lexer_nfa.proofs.Order.{up_to_more, up_to_none}
-use Rattle.lexer_nfa.specs.Names.{HaveNoLoops, HaveOneName}
+use Rattle.lexer_nfa.specs.inner.Names.{HaveNoLoops, HaveOneName}
 use Rattle.lexer_nfa.proofs.Checked.{has_no_loops, has_one_name, rules_are}
 use Rattle.lexer_nfa.proofs.Pushed.{kinds_all, kinds_more, kinds_none, mapped_len, start_nfa}
 use Rattle.lexer_nfa.proofs.alternatives.add_kinds.Goals as goal

@@ -1,7 +1,7 @@
 use Rattle.std.proofs.Common.{◌<◌, ◌↔◌, ℕ, List}
 use Rattle.grammar_tree.specs.Lexes.{KindMatches}
 use Rattle.lexer_match.specs.Alternatives.{HasAlternative, IsNfa}
-use Rattle.lexer_nfa.specs.GrammarNfa.{KindsAreUpTo}
+use Rattle.lexer_nfa.specs.inner.GrammarNfa.{KindsAreUpTo}
 use Rattle.lexer_nfa.proofs.alternatives.add_kinds.Given as goal
 
 abbrev pub invariant-loop-i : goal.invariant-loop-i

@@ -6,7 +6,7 @@ use Rattle.grammar_tree.specs.View.{lex_terms}
 use Rattle.grammar_tree.specs.Written.{lexer_alts}
 use Rattle.grammar_tree.specs.declared.lex_term.LexAlts.{out-LexAlts}
 use Rattle.lexer_match.specs.Alternatives.{HasAlternative, IsNfa}
-use Rattle.lexer_nfa.specs.GrammarNfa.{KindsAreUpTo}
+use Rattle.lexer_nfa.specs.inner.GrammarNfa.{KindsAreUpTo}
 use Rattle.lexer_nfa.proofs.alternatives.add_rule.Given as goal
 
 abbrev pub invariant-loop-i : goal.invariant-loop-i

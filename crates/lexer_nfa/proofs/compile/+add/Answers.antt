@@ -6,9 +6,9 @@ use Rattle.grammar_tree.specs.Size.{lexer_term_size}
 use Rattle.grammar_tree.specs.View.{lex_term, lex_terms, lex_alts}
 use Rattle.grammar_tree.specs.Written.{LexerTerm, lexer_seq, lexer_alts}
 use Rattle.grammar_tree.specs.declared.lex_term.LexAlts.{out-LexAlts}
-use Rattle.grammar_tree.proofs.LexerViews.{lex_term-Literal, lex_term-Set, lex_term-Name, lex_term-Short, lex_term-Block, lex_term-Opt, lex_term-Star, lex_term-Plus}
+use Rattle.grammar_tree.proofs.Lent.{lex_term-Literal, lex_term-Set, lex_term-Name, lex_term-Short, lex_term-Block, lex_term-Opt, lex_term-Star, lex_term-Plus}
 use Rattle.lexer_match.specs.declared.nfa.State.{State}
-use Rattle.lexer_nfa.specs.Compile.{IsAdded}
+use Rattle.lexer_nfa.specs.inner.Compile.{IsAdded}
 use Rattle.lexer_nfa.proofs.Compiled.{grown, pushed_is_closed, star_all, plus_all}
 use Rattle.lexer_nfa.proofs.Terms.{block_no_loop, opt_no_loop, star_no_loop, plus_no_loop, term_no_loop, literal_term, as_term, block_term, opt_term, seq_none, seq_more, alts_none, alts_more, alts_item, alts_item_size, alts_all, terms_item, terms_item_size}
 use Rattle.lexer_nfa.proofs.compile.+add.Goals as goal

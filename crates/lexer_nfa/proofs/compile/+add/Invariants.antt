@@ -7,7 +7,7 @@ use Rattle.grammar_tree.specs.View.{lex_term, lex_terms, lex_alts}
 use Rattle.grammar_tree.specs.Written.{lexer_alts, lexer_seq}
 use Rattle.grammar_tree.specs.declared.lex_term.LexAlts.{out-LexAlts}
 use Rattle.grammar_tree.specs.declared.lex_term.LexTerms.{out-LexTerms}
-use Rattle.lexer_nfa.specs.Compile.{IsAdded}
+use Rattle.lexer_nfa.specs.inner.Compile.{IsAdded}
 use Rattle.lexer_nfa.proofs.compile.+add.Given as goal
 
 abbrev pub decreases-add_term : goal.decreases-add_term

@@ -2,7 +2,7 @@ use Rattle.std.proofs.Common.{◌≡◌, List, ℕ, ◌++◌, length}
 use Rattle.std.specs.Prelude.{encode_utf8_all}
 use Rattle.std.specs.Str.Iter.{chars_rest}
 use Rattle.grammar_tree.specs.Written.{WrittenRule}
-use Rattle.lexer_nfa.specs.Compile.{IsAdded}
+use Rattle.lexer_nfa.specs.inner.Compile.{IsAdded}
 use Rattle.lexer_nfa.proofs.compile.add_literal.Given as goal
 
 abbrev pub invariant-loop-c : goal.invariant-loop-c

@@ -4,7 +4,7 @@ use Rattle.grammar_tree.specs.Kinds.{lexer_rules}
 use Rattle.grammar_tree.specs.Matches.{MatchesSeq}
 use Rattle.grammar_tree.specs.View.{lex_terms}
 use Rattle.grammar_tree.specs.Written.{lexer_seq}
-use Rattle.lexer_nfa.specs.Compile.{AreExpanded}
+use Rattle.lexer_nfa.specs.inner.Compile.{AreExpanded}
 use Rattle.lexer_nfa.proofs.Expanded.{compiled}
 use Rattle.lexer_nfa.proofs.compile.compile.Goals as goal
 

@@ -1,6 +1,6 @@
 use Rattle.std.proofs.Common.{◌≤◌, ◌-◌, ◌^◌, map}
 use Rattle.grammar_tree.specs.GrammarView.{rule_of}
-use Rattle.lexer_nfa.specs.Compile.{AreExpanded}
+use Rattle.lexer_nfa.specs.inner.Compile.{AreExpanded}
 use Rattle.lexer_nfa.proofs.compile.expand_all.Given as goal
 
 abbrev pub invariant-loop-number : goal.invariant-loop-number

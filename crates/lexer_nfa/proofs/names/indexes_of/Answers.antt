@@ -3,8 +3,8 @@ use Rattle.std.proofs.lemmas.List.{length-map}
 use Rattle.grammar_tree.specs.GrammarView.{rule_of}
 use Rattle.grammar_tree.specs.Written.{WrittenRule}
 use Rattle.grammar_names.specs.Index.{Finds}
-use Rattle.grammar_names.proofs.Places.{index_push, mapped_more}
-use Rattle.lexer_nfa.specs.Names.{is_named, rule_index}
+use Rattle.grammar_names.proofs.Lent.{index_push, mapped_more}
+use Rattle.lexer_nfa.specs.inner.Names.{is_named, rule_index}
 use Rattle.lexer_nfa.proofs.names.indexes_of.Goals as goal
 
 pub loop-index-preserved : goal.loop-index-preserved

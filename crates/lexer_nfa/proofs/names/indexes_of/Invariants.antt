@@ -1,7 +1,7 @@
 use Rattle.std.proofs.Common.{map, take}
 use Rattle.grammar_tree.specs.GrammarView.{rule_of}
 use Rattle.grammar_names.specs.Index.{Finds}
-use Rattle.lexer_nfa.specs.Names.{rule_index}
+use Rattle.lexer_nfa.specs.inner.Names.{rule_index}
 use Rattle.lexer_nfa.proofs.names.indexes_of.Given as goal
 
 abbrev pub invariant-loop-index : goal.invariant-loop-index

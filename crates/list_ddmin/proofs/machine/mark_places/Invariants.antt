@@ -1,6 +1,6 @@
 use Rattle.std.proofs.Common.{◌≡◌, ◌≤◌, drop, take, ◌++◌}
 use Rattle.list_ddmin.specs.ListStep.{kept_where}
-use Rattle.list_ddmin.specs.Fields.{chosen}
+use Rattle.list_ddmin.specs.inner.Fields.{chosen}
 use Rattle.list_ddmin.proofs.machine.mark_places.Given as goal
 
 abbrev pub invariant-loop-k : goal.invariant-loop-k

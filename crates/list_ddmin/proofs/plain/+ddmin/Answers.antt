@@ -1,7 +1,7 @@
 use Rattle.std.proofs.Common.{◌≡◌, ◌∙◌, ◌*◌, ◌<◌, ◌≤◌, min, arith, rules, ap, sym, subst, Some, None, map}
 use Rattle.std.specs.Prelude.{IfOk}
 use Rattle.list_ddmin.specs.ListStep.{Outcome, kept_count, part, complement, ends_with, ddmin, enough_calls}
-use Rattle.list_ddmin.specs.Plain.{asks_before, IsTried, IsOneOf}
+use Rattle.list_ddmin.specs.inner.Plain.{asks_before, IsTried, IsOneOf}
 use Rattle.list_ddmin.proofs.Enough.{ddmin-few}
 use Rattle.list_ddmin.proofs.Rows.{at_part, at_complement, at_finer, at_end, found_part, found_complement, fewer_elements, more_parts}
 use Rattle.list_ddmin.proofs.plain.+ddmin.Goals as goal

@@ -1,7 +1,7 @@
 use Rattle.std.proofs.Common.{◌≡◌, ◌∙◌, ap, sym, subst, ◌-◌, ◌++◌, length, take, drop}
 use Rattle.std.specs.Prelude.{IfOk}
 use Rattle.list_ddmin.specs.ListStep.{kept_count}
-use Rattle.list_ddmin.specs.Plain.{positions_from, flags_of}
+use Rattle.list_ddmin.specs.inner.Plain.{positions_from, flags_of}
 use Rattle.list_ddmin.proofs.Positions.{flags_of-part, flags_of-complement, borders_fit, tail_whole}
 use Rattle.list_ddmin.proofs.plain.candidate.Goals as goal
 

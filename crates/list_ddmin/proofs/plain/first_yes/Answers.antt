@@ -1,6 +1,6 @@
 use Rattle.std.proofs.Common.{◌≡◌, ◌∙◌, sym, true, false, [], ◌∷◌, ◌++◌, map}
 use Rattle.list_ddmin.specs.ListStep.{tried}
-use Rattle.list_ddmin.specs.Plain.{asks_before, candidate_of}
+use Rattle.list_ddmin.specs.inner.Plain.{asks_before, candidate_of}
 use Rattle.list_ddmin.proofs.Rows.{row-yes, row-no, row-over}
 use Rattle.list_ddmin.proofs.plain.first_yes.Goals as goal
 

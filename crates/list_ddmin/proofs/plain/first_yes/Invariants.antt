@@ -1,6 +1,6 @@
 use Rattle.std.proofs.Common.{◌≡◌, ◌-◌, Bool, List, map}
 use Rattle.list_ddmin.specs.ListStep.{Outcome, tried}
-use Rattle.list_ddmin.specs.Plain.{asks_before, candidate_of}
+use Rattle.list_ddmin.specs.inner.Plain.{asks_before, candidate_of}
 use Rattle.list_ddmin.proofs.plain.first_yes.Given as goal
 
 abbrev pub invariant-loop-i : goal.invariant-loop-i

@@ -1,5 +1,5 @@
 use Rattle.std.proofs.Common.{◌∙◌, ap, sym, ◌-◌, ◌+◌, [], ◌∷◌, ◌++◌, append_assoc}
-use Rattle.list_ddmin.specs.Plain.{flags_of}
+use Rattle.list_ddmin.specs.inner.Plain.{flags_of}
 use Rattle.list_ddmin.proofs.Positions.{flags_of-next}
 use Rattle.list_ddmin.proofs.plain.flags.Goals as goal
 

@@ -1,5 +1,5 @@
 use Rattle.std.proofs.Common.{◌≡◌, ◌-◌, ◌++◌}
-use Rattle.list_ddmin.specs.Plain.{flags_of}
+use Rattle.list_ddmin.specs.inner.Plain.{flags_of}
 use Rattle.list_ddmin.proofs.plain.flags.Given as goal
 
 abbrev pub invariant-loop-k : goal.invariant-loop-k

@@ -1,7 +1,7 @@
 use Rattle.std.proofs.Common.{◌≡◌, ◌∙◌, ap, sym, subst, rules, arith, true, false, [], ◌∷◌, ◌++◌, map, replicate, inl, inr, ⊎_elim, ◌⊎◌}
 use Rattle.std.specs.Prelude.{IfOk}
 use Rattle.list_ddmin.specs.ListStep.{Outcome, ddmin}
-use Rattle.list_ddmin.specs.Plain.{asks_before}
+use Rattle.list_ddmin.specs.inner.Plain.{asks_before}
 use Rattle.list_ddmin.proofs.Rows.{list_step-all, list_step-nothing}
 use Rattle.list_ddmin.proofs.plain.plain_list_step.Goals as goal
 

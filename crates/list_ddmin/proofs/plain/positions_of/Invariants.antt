@@ -1,6 +1,6 @@
 use Rattle.std.proofs.Common.{◌≡◌, ◌+◌, ◌≤◌, ◌++◌, drop, vec_len}
 use Rattle.list_ddmin.specs.ListStep.{kept_count}
-use Rattle.list_ddmin.specs.Plain.{positions_from}
+use Rattle.list_ddmin.specs.inner.Plain.{positions_from}
 use Rattle.list_ddmin.proofs.plain.positions_of.Given as goal
 
 abbrev pub invariant-loop-k : goal.invariant-loop-k

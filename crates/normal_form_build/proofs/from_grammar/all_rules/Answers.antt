@@ -3,7 +3,7 @@ use Rattle.grammar_tree.specs.Derives.{bodies, resolved_alts}
 use Rattle.normal_form.specs.NormalOf.{numbering}
 use Rattle.normal_form.specs.Numbering.{groups}
 use Rattle.normal_form.specs.View.{rule_form}
-use Rattle.normal_form_build.specs.ParserRules.{bodies_of, parser_rule}
+use Rattle.normal_form_build.specs.inner.ParserRules.{bodies_of, parser_rule}
 use Rattle.normal_form_build.proofs.GroupSteps.{bodies_end, body_taken, count_more, group_fits, groups_end, groups_more}
 use Rattle.normal_form_build.proofs.from_grammar.all_rules.Goals as goal
 

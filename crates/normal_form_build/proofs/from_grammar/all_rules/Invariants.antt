@@ -4,7 +4,7 @@ use Rattle.grammar_tree.specs.Derives.{bodies}
 use Rattle.normal_form.specs.NormalOf.{numbering}
 use Rattle.normal_form.specs.Numbering.{groups}
 use Rattle.normal_form.specs.View.{rule_form}
-use Rattle.normal_form_build.specs.ParserRules.{bodies_of}
+use Rattle.normal_form_build.specs.inner.ParserRules.{bodies_of}
 use Rattle.normal_form_build.proofs.from_grammar.all_rules.Given as goal
 
 abbrev pub invariant-loop-number : goal.invariant-loop-number

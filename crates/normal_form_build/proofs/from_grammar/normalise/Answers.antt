@@ -8,8 +8,8 @@ use Rattle.grammar_tree.specs.GrammarView.{rule_of}
 use Rattle.normal_form.specs.NormalOf.{names_from, sets_of}
 use Rattle.normal_form_sets.specs.Sets.{SetsOfKinds}
 use Rattle.normal_form.specs.View.{rule_form}
-use Rattle.normal_form_build.specs.ParserRules.{bodies_of, parser_rule}
-use Rattle.normal_form.proofs.Bounds.{few_rules, number_within}
+use Rattle.normal_form_build.specs.inner.ParserRules.{bodies_of, parser_rule}
+use Rattle.normal_form.proofs.Lent.{few_rules, number_within}
 use Rattle.normal_form_build.proofs.Assembly.{assembled, bodies_are, languages_are, made_are, numbers_are, own_rule_read, own_rules_known, start_length, start_number}
 use Rattle.normal_form_build.proofs.from_grammar.normalise.Goals as goal
 

@@ -1,7 +1,7 @@
 use Rattle.std.proofs.Common.{◌≡◌, ◌+◌, ◌∷◌, ◌++◌, drop, arith, ap}
 use Rattle.grammar_tree.specs.Derives.{resolved_alts}
-use Rattle.normal_form_build.specs.OwnRules.{own_rules_from}
-use Rattle.normal_form_build.specs.ParserRules.{bodies_of, parser_rule}
+use Rattle.normal_form_build.specs.inner.OwnRules.{own_rules_from}
+use Rattle.normal_form_build.specs.inner.ParserRules.{bodies_of, parser_rule}
 use Rattle.normal_form_build.proofs.GroupSteps.{bodies_end, body_taken, count_more, group_fits, own_rules_end, own_rules_more}
 use Rattle.normal_form_build.proofs.own_rules.own_rules.Goals as goal
 

@@ -1,7 +1,7 @@
 use Rattle.std.proofs.Common.{◌≡◌, ◌+◌, ◌++◌, drop}
 use Rattle.grammar_tree.specs.Corners.{normal_count_from}
-use Rattle.normal_form_build.specs.OwnRules.{own_rules_from}
-use Rattle.normal_form_build.specs.ParserRules.{bodies_of}
+use Rattle.normal_form_build.specs.inner.OwnRules.{own_rules_from}
+use Rattle.normal_form_build.specs.inner.ParserRules.{bodies_of}
 use Rattle.normal_form_build.proofs.own_rules.own_rules.Given as goal
 
 abbrev pub invariant-loop-number : goal.invariant-loop-number

@@ -2,7 +2,7 @@ use Rattle.std.proofs.Common.{◌+◌, ◌++◌, map, drop, arith, ap}
 use Rattle.grammar_tree.specs.Corners.{normal_count_from}
 use Rattle.grammar_tree.specs.Derives.{resolved_alts}
 use Rattle.normal_form.specs.NormalOf.{names_from}
-use Rattle.normal_form_build.specs.ParserRules.{bodies_of, parser_rule}
+use Rattle.normal_form_build.specs.inner.ParserRules.{bodies_of, parser_rule}
 use Rattle.normal_form_build.proofs.GroupSteps.{all_named, body_taken, name_taken, names_end, names_more, rest_few}
 use Rattle.normal_form_build.proofs.rule_names.rule_names.Goals as goal
 

@@ -1,7 +1,7 @@
 use Rattle.std.proofs.Common.{◌≡◌, ◌++◌, ◌<◌, ◌^◌, map, drop}
 use Rattle.grammar_tree.specs.Corners.{normal_count_from}
 use Rattle.normal_form.specs.NormalOf.{names_from}
-use Rattle.normal_form_build.specs.ParserRules.{bodies_of, parser_rule}
+use Rattle.normal_form_build.specs.inner.ParserRules.{bodies_of, parser_rule}
 use Rattle.normal_form_build.proofs.rule_names.rule_names.Given as goal
 
 abbrev pub invariant-loop-number : goal.invariant-loop-number

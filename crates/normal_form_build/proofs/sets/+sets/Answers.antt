@@ -6,13 +6,12 @@ use Rattle.grammar_tree.specs.View.{token_ref, parser_term, parser_terms, parser
 use Rattle.grammar_tree.specs.declared.parser_term.ParserTerm.{ParserTerm}
 use Rattle.grammar_tree.specs.declared.parser_term.ParserTerms.{ParserTerms, fold_out-ParserTerms}
 use Rattle.grammar_tree.specs.declared.parser_term.ParserAlts.{fold_out-ParserAlts}
-use Rattle.grammar_tree.proofs.ParserViews.{parser_term-Any, parser_term-Not}
+use Rattle.grammar_tree.proofs.Lent.{parser_term-Any, parser_term-Not}
 use Rattle.grammar_names.specs.KindLists.{IsPartOf, lacking, named_kinds}
 use Rattle.normal_form.specs.NormalOf.{term_sets, seq_sets, alts_sets}
 use Rattle.normal_form_sets.specs.Sets.{SetsOfKinds, with_each}
-use Rattle.normal_form_sets.proofs.Lacking.{lacks_none, none_part}
-use Rattle.normal_form_terms.proofs.NamedSets.{lacks_named, named_part}
-use Rattle.normal_form_sets.proofs.SetSteps.{sets_step, sets_end}
+use Rattle.normal_form_sets.proofs.Lent.{lacks_none, none_part, sets_step, sets_end}
+use Rattle.normal_form_terms.proofs.Lent.{lacks_named, named_part}
 use Rattle.normal_form_build.proofs.sets.+sets.Goals as goal
 
 pub with_term-with-requires : goal.with_term-with-requires

@@ -5,8 +5,8 @@ use Rattle.grammar_tree.specs.Kinds.{any_kinds}
 use Rattle.normal_form_build.specs.declared.parser_rule.ParserRuleRef.{ParserRuleRef}
 use Rattle.normal_form.specs.NormalOf.{alts_sets}
 use Rattle.normal_form_sets.specs.Sets.{SetsOfKinds}
-use Rattle.normal_form_build.specs.ParserRules.{bodies_of, parser_rule}
-use Rattle.normal_form_sets.proofs.SetSteps.{sets_step, sets_end, with_all}
+use Rattle.normal_form_build.specs.inner.ParserRules.{bodies_of, parser_rule}
+use Rattle.normal_form_sets.proofs.Lent.{sets_step, sets_end, with_all}
 use Rattle.normal_form_build.proofs.sets.sets.Goals as goal
 
 pub with_alts-requires : goal.with_alts-requires

@@ -1,8 +1,8 @@
 use Rattle.std.proofs.Common.{◌≡◌, ℕ, List, [], ◌∷◌, IfOk, subst, sym, ap, ◌∙◌}
 use Rattle.grammar_names.specs.KindLists.{IsPartOf, lacking}
-use Rattle.normal_form_build.specs.OwnRules.{token_sets}
+use Rattle.normal_form_build.specs.inner.OwnRules.{token_sets}
 use Rattle.normal_form_sets.specs.Sets.{with_each}
-use Rattle.normal_form_sets.proofs.Lacking.{all_part, lacks_all}
+use Rattle.normal_form_sets.proofs.Lent.{all_part, lacks_all}
 use Rattle.normal_form_build.proofs.sets.with_token.Goals as goal
 
 pub with-requires : goal.with-requires

@@ -2,7 +2,7 @@ use Rattle.std.proofs.Common.{◌++◌, map, ap, ◌∙◌}
 use Rattle.std.specs.Prelude.{encode_utf8_all}
 use Rattle.normal_form_print.specs.declared.print.Symbols.{Symbols}
 use Rattle.normal_form_print.specs.Print.{lines_from, set_text}
-use Rattle.normal_form_print.specs.Printing.{symbol_bytes}
+use Rattle.normal_form_print.specs.inner.Printing.{symbol_bytes}
 use Rattle.normal_form.specs.View.{rule_form}
 use Rattle.normal_form_print.proofs.PrintedSymbols.{lines_are}
 use Rattle.normal_form_print.proofs.print.normal_text.Goals as goal

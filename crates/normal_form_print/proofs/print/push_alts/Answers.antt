@@ -2,7 +2,7 @@ use Rattle.std.proofs.Common.{◌-◌, ◌+◌, ◌∷◌, ◌++◌, length, tak
 use Rattle.std.specs.Prelude.{codes}
 use Rattle.std.specs.List.{join_by}
 use Rattle.std.proofs.lemmas.List.{at_drop_more}
-use Rattle.normal_form_print.specs.Printing.{symbol_bytes}
+use Rattle.normal_form_print.specs.inner.Printing.{symbol_bytes}
 use Rattle.normal_form.specs.View.{alts_form}
 use Rattle.normal_form_print.proofs.PrintLemmas.{piece_more}
 use Rattle.normal_form_print.proofs.print.push_alts.Goals as goal

@@ -1,7 +1,7 @@
 use Rattle.std.proofs.Common.{◌≡◌, ◌++◌, drop, string_bytes}
 use Rattle.std.specs.Prelude.{codes}
 use Rattle.std.specs.List.{flat_map, join_by}
-use Rattle.normal_form_print.specs.Printing.{symbol_bytes}
+use Rattle.normal_form_print.specs.inner.Printing.{symbol_bytes}
 use Rattle.normal_form.specs.View.{alts_form}
 use Rattle.normal_form_print.proofs.print.push_alts.Given as goal
 

@@ -2,7 +2,7 @@ use Rattle.std.proofs.Common.{◌≡◌, ◌++◌, map, drop, string_bytes}
 use Rattle.std.specs.Prelude.{codes}
 use Rattle.std.specs.List.{flat_map}
 use Rattle.grammar_tree.specs.GrammarView.{kind_of}
-use Rattle.normal_form_print.specs.Printing.{kind_bytes}
+use Rattle.normal_form_print.specs.inner.Printing.{kind_bytes}
 use Rattle.normal_form_print.proofs.print.push_kinds.Given as goal
 
 abbrev pub invariant-loop-number : goal.invariant-loop-number

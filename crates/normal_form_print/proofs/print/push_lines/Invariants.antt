@@ -1,6 +1,6 @@
 use Rattle.std.proofs.Common.{◌≡◌, ◌++◌, map, drop, string_bytes}
 use Rattle.normal_form_print.specs.Print.{lines_from}
-use Rattle.normal_form_print.specs.Printing.{symbol_bytes}
+use Rattle.normal_form_print.specs.inner.Printing.{symbol_bytes}
 use Rattle.normal_form.specs.View.{rule_form}
 use Rattle.normal_form_print.proofs.print.push_lines.Given as goal
 

@@ -1,7 +1,7 @@
 use Rattle.std.proofs.Common.{◌++◌, map, refl, ap, ◌∙◌}
 use Rattle.grammar_tree.specs.GrammarView.{kind_of}
 use Rattle.normal_form_print.specs.Print.{but_text, numbered_kind_text}
-use Rattle.normal_form_print.specs.Printing.{kind_bytes}
+use Rattle.normal_form_print.specs.inner.Printing.{kind_bytes}
 use Rattle.normal_form_print.proofs.PrintLemmas.{but_bytes}
 use Rattle.normal_form_print.proofs.print.set_text.Goals as goal
 

@@ -2,7 +2,7 @@ use Rattle.std.proofs.Common.{◌≡◌, ◌++◌, [], ◌∷◌, false, List, �
 use Rattle.std.specs.Prelude.{position}
 use Rattle.grammar_tree.specs.Kinds.{same_text}
 use Rattle.grammar_names.specs.KindLists.{IsPartOf, lacking}
-use Rattle.normal_form_sets.specs.Sets.{HasNumbers}
+use Rattle.normal_form_sets.specs.inner.Sets.{HasNumbers}
 use Rattle.normal_form_sets.proofs.Lacking.{numbers_more}
 use Rattle.normal_form_sets.proofs.found_sets.add_number.Goals as goal
 

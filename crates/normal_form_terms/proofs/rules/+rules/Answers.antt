@@ -3,7 +3,7 @@ use Rattle.grammar_tree.specs.Corners.{alts_new_rules, new_rules, seq_new_rules}
 use Rattle.grammar_tree.specs.Derives.{bodies, next, or, resolved, resolved_alts, resolved_seq}
 use Rattle.grammar_tree.specs.View.{parser_alts, parser_term, parser_terms}
 use Rattle.grammar_tree.specs.Written.{WrittenTerm, written_alts, written_seq}
-use Rattle.grammar_tree.proofs.ParserViews.{parser_term-Block, parser_term-Opt, parser_term-Star, parser_term-Plus}
+use Rattle.grammar_tree.proofs.Lent.{parser_term-Block, parser_term-Opt, parser_term-Star, parser_term-Plus}
 use Rattle.normal_form.specs.Form.{RuleForm}
 use Rattle.normal_form.specs.Numbering.{alts_rules, alts_symbols, seq_rules, seq_symbols, term_rules}
 use Rattle.normal_form.specs.NormalOf.{numbering}

@@ -1,7 +1,7 @@
 use Rattle.std.proofs.Common.{sym, ap, ◌∙◌}
 use Rattle.grammar_tree.specs.View.{parser_term}
-use Rattle.grammar_tree.proofs.ParserViews.{parser_term-Eof}
-use Rattle.normal_form_terms.specs.Terms.{has_symbol}
+use Rattle.grammar_tree.proofs.Lent.{parser_term-Eof}
+use Rattle.normal_form_terms.specs.inner.Terms.{has_symbol}
 use Rattle.normal_form_terms.proofs.rules.has_symbol.Goals as goal
 
 pub returns-in-Eof : goal.returns-in-Eof

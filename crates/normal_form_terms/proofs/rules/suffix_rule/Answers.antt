@@ -1,5 +1,5 @@
 use Rattle.std.proofs.Common.{sym, ap}
-use Rattle.normal_form_terms.specs.Terms.{suffix_form}
+use Rattle.normal_form_terms.specs.inner.Terms.{suffix_form}
 use Rattle.normal_form_terms.proofs.rules.suffix_rule.Goals as goal
 
 pub returns-in-Question : goal.returns-in-Question

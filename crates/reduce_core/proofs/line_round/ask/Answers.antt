@@ -1,6 +1,6 @@
 use Rattle.std.proofs.Common.{◌∙◌, sym, subst, rules}
 use Rattle.keep_guard.specs.Relation.{Rises}
-use Rattle.list_ddmin.proofs.Lengths.{asks_as_kept}
+use Rattle.list_ddmin.proofs.Lent.{asks_as_kept}
 use Rattle.reduce_core.proofs.LinesLemmas.{kept_of-rises}
 use Rattle.reduce_core.proofs.line_round.ask.Goals as goal
 

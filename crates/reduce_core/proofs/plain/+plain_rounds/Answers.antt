@@ -3,7 +3,7 @@ use Rattle.std.proofs.lemmas.Result.{IfOk-weaker}
 use Rattle.std.specs.List.{AllByRecursion}
 use Rattle.list_ddmin.specs.ListStep.{Outcome, kept_of}
 use Rattle.reduce_rounds.specs.Reduction.{Reduction}
-use Rattle.reduce_core.specs.Plain.{texts_asked}
+use Rattle.reduce_core.specs.inner.Plain.{texts_asked}
 use Rattle.keep_guard.specs.Relation.{Rises}
 use Rattle.reduce_core.specs.declared.lines.Line.{Line}
 use Rattle.reduce_core.specs.Lines.{numbers_of}

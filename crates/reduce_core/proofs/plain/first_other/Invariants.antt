@@ -1,5 +1,5 @@
 use Rattle.std.proofs.Common.{◌≡◌, drop, map}
-use Rattle.reduce_core.specs.Plain.{first_other}
+use Rattle.reduce_core.specs.inner.Plain.{first_other}
 use Rattle.reduce_core.proofs.plain.first_other.Given as goal
 
 abbrev pub invariant-loop-keep : goal.invariant-loop-keep

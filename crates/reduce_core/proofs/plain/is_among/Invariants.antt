@@ -1,5 +1,5 @@
 use Rattle.std.proofs.Common.{◌≡◌, drop, map}
-use Rattle.reduce_core.specs.Plain.{is_among}
+use Rattle.reduce_core.specs.inner.Plain.{is_among}
 use Rattle.reduce_core.proofs.plain.is_among.Given as goal
 
 abbrev pub invariant-loop-one : goal.invariant-loop-one

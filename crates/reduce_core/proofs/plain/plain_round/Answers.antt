@@ -2,7 +2,7 @@ use Rattle.std.proofs.Common.{◌<◌, ◌∙◌, ap, sym, subst, true, Bool, Li
 use Rattle.std.specs.Option.{option_copied}
 use Rattle.list_ddmin.specs.ListStep.{Outcome, list_step}
 use Rattle.list_ddmin.specs.Machine.{HasLength}
-use Rattle.reduce_core.specs.Plain.{first_other, is_among, verdict_on}
+use Rattle.reduce_core.specs.inner.Plain.{first_other, is_among, verdict_on}
 use Rattle.reduce_core.proofs.PlainLemmas.{answered-next, found-other, missing, missing-asked, whole-step}
 use Rattle.reduce_core.proofs.plain.plain_round.Goals as goal
 

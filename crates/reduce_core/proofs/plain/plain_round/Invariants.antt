@@ -1,7 +1,7 @@
 use Rattle.std.proofs.Common.{◌≡◌, map, length}
 use Rattle.std.specs.Prelude.{true}
 use Rattle.list_ddmin.specs.ListStep as step
-use Rattle.reduce_core.specs.Plain.{is_among, verdict_on}
+use Rattle.reduce_core.specs.inner.Plain.{is_among, verdict_on}
 use Rattle.reduce_core.proofs.PlainLemmas.{IsAnswered, missing}
 use Rattle.reduce_core.proofs.plain.plain_round.Given as goal
 

@@ -1,5 +1,5 @@
 use Rattle.std.proofs.Common.{◌≡◌, ◌++◌, drop, map}
-use Rattle.reduce_core.specs.Plain.{texts_asked}
+use Rattle.reduce_core.specs.inner.Plain.{texts_asked}
 use Rattle.reduce_core.proofs.plain.texts.Given as goal
 
 abbrev pub invariant-loop-keep : goal.invariant-loop-keep

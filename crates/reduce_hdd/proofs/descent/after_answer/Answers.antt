@@ -3,10 +3,10 @@ use Rattle.std.specs.Prelude.{is_some}
 use Rattle.list_ddmin.specs.Machine.{IsSound, State, kept}
 use Rattle.syntax_tree.specs.Trees.{PlainTree}
 use Rattle.syntax_tree_cut.specs.Cuts.{cut_tree}
-use Rattle.descend_replace.proofs.Found.{cut_rises}
+use Rattle.descend_replace.proofs.Lent.{cut_rises}
 use Rattle.hdd_levels.specs.LevelForms.{parents_at}
-use Rattle.reduce_hdd.specs.Passing.{HasPassed}
-use Rattle.reduce_hdd.specs.Walking.{levels_below}
+use Rattle.reduce_hdd.specs.inner.Passing.{HasPassed}
+use Rattle.reduce_hdd.specs.inner.Walking.{levels_below}
 use Rattle.reduce_hdd.proofs.Steps.{asking_step, each_after, left_then, levels_then, parents_after, sound_after, step_after, trials_then}
 use Rattle.reduce_hdd.proofs.descent.after_answer.Goals as goal
 

@@ -3,7 +3,7 @@ use Rattle.list_ddmin.specs.Machine.{State, start}
 use Rattle.syntax_tree.specs.Trees.{PlainTree}
 use Rattle.syntax_tree.specs.Levels.{depth}
 use Rattle.syntax_tree_cut.specs.Cuts.{cut_tree}
-use Rattle.reduce_hdd.specs.Passing.{HasPassed}
+use Rattle.reduce_hdd.specs.inner.Passing.{HasPassed}
 use Rattle.reduce_hdd.proofs.Bounds.{depth_fits, level_fits}
 use Rattle.reduce_hdd.proofs.Descents.{at_next, begun_asking, begun_rest, deeper, descent_begins, descent_ends, descent_goes_on, fewer_below, next_rest, none_next, over_rest}
 use Rattle.reduce_hdd.proofs.descent.descend.Goals as goal

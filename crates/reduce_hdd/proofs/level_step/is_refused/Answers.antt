@@ -1,7 +1,7 @@
 use Rattle.std.proofs.Common.{sym, ap, ◌∙◌}
 use Rattle.std.specs.Prelude.{not, false}
 use Rattle.std.specs.Option.{option_map_or}
-use Rattle.list_ddmin.proofs.Lengths.{asks_as_kept}
+use Rattle.list_ddmin.proofs.Lent.{asks_as_kept}
 use Rattle.syntax_tree_cut.specs.Cuts.{cut_tree}
 use Rattle.hdd_levels.specs.Levels.{fills_pluses, kept_tree}
 use Rattle.reduce_hdd.proofs.level_step.is_refused.Goals as goal

@@ -1,7 +1,7 @@
 use Rattle.std.proofs.Common.{◌<◌, sym, ◌∙◌, subst}
 use Rattle.list_ddmin.specs.Machine.{State, left}
 use Rattle.syntax_tree_cut.specs.Cuts.{cut_tree}
-use Rattle.reduce_hdd.specs.Passing.{IsPassing}
+use Rattle.reduce_hdd.specs.inner.Passing.{IsPassing}
 use Rattle.reduce_hdd.proofs.Passed.{all_passed, nothing_passed, passing_length, refused_asks, refused_fewer, refused_passed}
 use Rattle.reduce_hdd.proofs.level_step.pass_refused.Goals as goal
 

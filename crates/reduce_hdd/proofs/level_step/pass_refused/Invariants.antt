@@ -1,6 +1,6 @@
 use Rattle.list_ddmin.specs.Machine.{left}
 use Rattle.syntax_tree_cut.specs.Cuts.{cut_tree}
-use Rattle.reduce_hdd.specs.Passing.{IsPassing}
+use Rattle.reduce_hdd.specs.inner.Passing.{IsPassing}
 use Rattle.reduce_hdd.proofs.level_step.pass_refused.Given as goal
 
 abbrev pub invariant-question : goal.invariant-question

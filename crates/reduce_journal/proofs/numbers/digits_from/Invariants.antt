@@ -1,5 +1,5 @@
 use Rattle.std.proofs.Common.{◌≡◌, ◌≤◌, drop}
-use Rattle.reduce_journal.specs.Reading.{digits_from}
+use Rattle.reduce_journal.specs.inner.Reading.{digits_from}
 use Rattle.reduce_journal.proofs.numbers.digits_from.Given as goal
 
 abbrev pub invariant-loop-index : goal.invariant-loop-index

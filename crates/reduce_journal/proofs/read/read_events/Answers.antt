@@ -2,7 +2,7 @@ use Rattle.std.proofs.Common.{◌≡◌, ◌-◌, [], ◌∷◌, ◌++◌, lengt
 use Rattle.reduce_journal.specs.declared.event.Event.{Event}
 use Rattle.reduce_journal.specs.History.{records_of, records_with}
 use Rattle.reduce_journal.specs.Journal.{HasEvents}
-use Rattle.reduce_journal.specs.Reading.{lent_event}
+use Rattle.reduce_journal.specs.inner.Reading.{lent_event}
 use Rattle.reduce_journal.proofs.Journals.{few_records, has_more, is_bad, is_journal, records_more}
 use Rattle.reduce_journal.proofs.read.read_events.Goals as goal
 

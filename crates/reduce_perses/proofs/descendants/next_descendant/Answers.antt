@@ -2,7 +2,7 @@ use Rattle.std.proofs.Common.{◌+◌, false}
 use Rattle.reduce_rounds.specs.Trials.{state_after, trials_after}
 use Rattle.syntax_tree.specs.Trees.{PlainTree}
 use Rattle.syntax_tree_cut.specs.Cuts.{cut_tree}
-use Rattle.reduce_perses.specs.Visiting.{descendants_at}
+use Rattle.reduce_perses.specs.inner.Visiting.{descendants_at}
 use Rattle.reduce_perses.proofs.DescendantsLemmas.{left_at_no, rest_at_no, same_goes}
 use Rattle.reduce_perses.proofs.descendants.next_descendant.Goals as goal
 

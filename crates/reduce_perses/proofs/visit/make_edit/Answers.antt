@@ -2,8 +2,8 @@ use Rattle.std.proofs.Common.{ap, ◌∙◌, subst}
 use Rattle.reduce_rounds.specs.Trials.{tried_state}
 use Rattle.syntax_tree_cut.specs.Cuts.{cut_tree}
 use Rattle.reduce_perses.specs.declared.visit.Visit.{Visit}
-use Rattle.reduce_perses.specs.VisitTrials.{visit_trials}
-use Rattle.reduce_perses.specs.Visiting.{IsVisit}
+use Rattle.reduce_perses.specs.inner.VisitTrials.{visit_trials}
+use Rattle.reduce_perses.specs.inner.Visiting.{IsVisit}
 use Rattle.reduce_perses.proofs.DescendantsLemmas.{can_replace}
 use Rattle.reduce_perses.proofs.VisitLemmas.{can_keep_asked, descendants_state, elements_state}
 use Rattle.reduce_perses.proofs.visit.make_edit.Goals as goal

@@ -1,6 +1,6 @@
 use Rattle.std.proofs.Common.{Bool, List, sym, subst}
 use Rattle.syntax_tree_cut.specs.Cuts.{CanSelect, cut_tree}
-use Rattle.reduce_perses.specs.Visiting.{IsVisit, IsVisiting}
+use Rattle.reduce_perses.specs.inner.Visiting.{IsVisit, IsVisiting}
 use Rattle.reduce_perses.proofs.ElementsLemmas.{can_keep}
 use Rattle.reduce_perses.proofs.visit.settle.Goals as goal
 

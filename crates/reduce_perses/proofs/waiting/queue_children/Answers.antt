@@ -1,8 +1,8 @@
 use Rattle.std.proofs.Common.{◌∙◌, refl}
 use Rattle.syntax_tree.specs.Numbered.{subtree}
 use Rattle.syntax_tree_cut.specs.Cuts.{cut_tree}
-use Rattle.syntax_tree_cut.proofs.CutFacts.{some_of}
-use Rattle.descend_replace.proofs.Found.{children_are, cut_rises}
+use Rattle.syntax_tree_cut.proofs.Lent.{some_of}
+use Rattle.descend_replace.proofs.Lent.{children_are, cut_rises}
 use Rattle.reduce_perses.proofs.WaitingLemmas.{child_left, child_waits, children_wait}
 use Rattle.reduce_perses.proofs.waiting.queue_children.Goals as goal
 

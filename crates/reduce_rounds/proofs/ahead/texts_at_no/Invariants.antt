@@ -1,5 +1,5 @@
 use Rattle.std.proofs.Common.{◌-◌, length}
-use Rattle.reduce_rounds.specs.Fields.{plan_of}
+use Rattle.reduce_rounds.specs.inner.Fields.{plan_of}
 use Rattle.reduce_rounds.proofs.LookingAhead.{WereAskedAtNo}
 use Rattle.reduce_rounds.proofs.ahead.texts_at_no.Given as goal
 

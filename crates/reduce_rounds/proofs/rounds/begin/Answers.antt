@@ -1,5 +1,5 @@
 use Rattle.std.proofs.Common.{sym, ◌∙◌, refl, rules}
-use Rattle.reduce_rounds.specs.Fields.{listed_trials}
+use Rattle.reduce_rounds.specs.inner.Fields.{listed_trials}
 use Rattle.reduce_rounds.proofs.FieldLemmas.{begun-asking, begun-over, moved}
 use Rattle.reduce_rounds.proofs.rounds.begin.Goals as goal
 

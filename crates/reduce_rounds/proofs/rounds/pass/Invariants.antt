@@ -1,6 +1,6 @@
 use Rattle.std.proofs.Common.{◌≡◌}
-use Rattle.reduce_rounds.specs.Trials.{height}
-use Rattle.reduce_rounds.specs.Fields.{listed_trials}
+use Rattle.reduce_rounds.specs.inner.Trials.{height}
+use Rattle.reduce_rounds.specs.inner.Fields.{listed_trials}
 use Rattle.reduce_rounds.proofs.rounds.pass.Given as goal
 
 abbrev pub invariant-loop-round : goal.invariant-loop-round

@@ -2,7 +2,7 @@ use Rattle.std.proofs.Common.{◌≡◌, ◌+◌, Some, ◌∙◌, refl, ap, rul
 use Rattle.reduce_rounds.specs.Trials.{state_after, trials_after}
 use Rattle.reduce_rounds.specs.Verdicts.{is_yes}
 use Rattle.reduce_rounds.specs.Reduction.{capped_count}
-use Rattle.reduce_rounds.specs.Fields.{plan_of, stage_after}
+use Rattle.reduce_rounds.specs.inner.Fields.{plan_of, stage_after}
 use Rattle.reduce_rounds.proofs.FieldLemmas.{answered-plan, moved}
 use Rattle.reduce_rounds.proofs.rounds.take_answer.Goals as goal
 

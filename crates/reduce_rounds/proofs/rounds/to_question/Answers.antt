@@ -1,7 +1,7 @@
 use Rattle.std.proofs.Common.{◌≡◌, true, false, sym, ◌∙◌, refl, ap, rules, ◌+◌}
 use Rattle.reduce_rounds.specs.RoundsPlan.{plan_rounds, plan_next}
 use Rattle.reduce_rounds.specs.Reduction.{capped_count}
-use Rattle.reduce_rounds.specs.Fields.{plan_of}
+use Rattle.reduce_rounds.specs.inner.Fields.{plan_of}
 use Rattle.reduce_rounds.proofs.FieldLemmas.{passed-asking, opening-over, round-over, round-ends, moved, done-is}
 use Rattle.reduce_rounds.proofs.rounds.to_question.Goals as goal
 

@@ -8,7 +8,7 @@ use Rattle.token_print.specs.declared.style.Style.{Style}
 use Rattle.reduce_trees_mode.specs.Input.{TreeInput}
 use Rattle.reduce_trees_mode.specs.Listed.{text_of_state}
 use Rattle.reduce_trees_mode.specs.InStyles.{in_style}
-use Rattle.reduce_trees_mode.proofs.Listing.{weight_whole}
+use Rattle.reduce_trees_mode.proofs.Lent.{weight_whole}
 use Rattle.reduce_trees_mode.specs.InputOf.{input_of}
 use Rattle.reduce_trees.specs.WalkMode.{walk_mode}
 use Rattle.reduce_trees.proofs.reducer.tree_reducer.Goals as goal

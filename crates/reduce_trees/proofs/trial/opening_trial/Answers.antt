@@ -3,7 +3,7 @@ use Rattle.std.specs.Prelude.{string_bytes}
 use Rattle.syntax_tree.specs.Trees.{leaves}
 use Rattle.token_print.specs.declared.style.Style.{Style}
 use Rattle.reduce_trees_mode.specs.Listed.{text_in}
-use Rattle.reduce_trees.specs.Candidates.{IsCandidateIn}
+use Rattle.reduce_trees.specs.inner.Candidates.{IsCandidateIn}
 use Rattle.reduce_trees_mode.specs.InputOf.{input_of}
 use Rattle.reduce_trees.proofs.TrialLemmas.{squeezed_short, whole_are_kept}
 use Rattle.reduce_trees.proofs.trial.opening_trial.Goals as goal

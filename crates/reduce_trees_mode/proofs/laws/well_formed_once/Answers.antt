@@ -1,4 +1,4 @@
-use Rattle.reduce_trees_mode.specs.FormedProp.{well_formed_prop}
+use Rattle.reduce_trees_mode.specs.inner.FormedProp.{well_formed_prop}
 use Rattle.reduce_trees_mode.proofs.laws.well_formed_once.Goals as goal
 
 pub returns : goal.returns

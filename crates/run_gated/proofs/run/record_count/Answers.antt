@@ -1,5 +1,5 @@
 use Rattle.std.proofs.Common.{arith}
-use Rattle.ordered_commit.proofs.CommitLemmas.{few_records}
+use Rattle.ordered_commit.proofs.Lent.{few_records}
 use Rattle.run_gated.proofs.run.record_count.Goals as goal
 
 pub overflow_add-records : goal.overflow_add-records

@@ -1,6 +1,6 @@
 use Rattle.std.proofs.Common.{length, ap}
 use Rattle.reduce_journal.specs.History.{records_of}
-use Rattle.reduce_core.proofs.LineLaws.{line_lawful}
+use Rattle.reduce_core.proofs.Lent.{line_lawful}
 use Rattle.run_problem.specs.Problem.{Problem}
 use Rattle.run_problem.proofs.ModeLemmas.{admits_start, are_of, lines_end, lines_of, none_answers, none_of}
 use Rattle.run_problem.proofs.run.lines_result.Goals as goal

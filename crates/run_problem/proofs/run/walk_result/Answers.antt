@@ -1,7 +1,7 @@
 use denote.Exit.{no}
 use denote.Param.Send.{arg_send, param_send}
 use Rattle.keep_guard.proofs.keep.KeepTexts.TheSendSync as keeps
-use Rattle.reduce_trees.proofs.Crossing.{round_send}
+use Rattle.reduce_trees.proofs.Lent.{round_send}
 use Rattle.std.specs.Prelude.{string_bytes}
 use Rattle.keep_guard.specs.Keep.{keeps_admit}
 use Rattle.reduce_trees_mode.specs.Input.{TreeInput}

@@ -1,7 +1,7 @@
 use Rattle.std.proofs.Common.{◌≡◌, ◌⊎◌, ℕ, Option}
 use Rattle.script_gate_trait.specs.declared.log.Log.{Log}
 use Rattle.ordered_commit.specs.declared.seat.Seat.{Seat}
-use Rattle.run_worker.specs.UnderWay.{IsFree, IsUnderWay, Moment, moment, turns_left}
+use Rattle.run_worker.specs.inner.UnderWay.{IsFree, IsUnderWay, Moment, moment, turns_left}
 use Rattle.run_worker.proofs.LeftLemmas.{Fewer}
 use Rattle.run_worker.proofs.turns.commit_all.Given as goal
 

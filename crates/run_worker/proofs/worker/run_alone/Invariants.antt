@@ -1,7 +1,7 @@
 use Rattle.std.proofs.Common.{◌≡◌}
 use Rattle.ordered_commit.specs.BoardState.{IsSettled}
 use Rattle.ordered_commit.specs.Seats.{new_seats}
-use Rattle.run_worker.specs.UnderWay.{IsFree, IsUnderWay, moment, turns_left}
+use Rattle.run_worker.specs.inner.UnderWay.{IsFree, IsUnderWay, moment, turns_left}
 use Rattle.run_worker.proofs.worker.run_alone.Given as goal
 
 abbrev pub invariant-loop : goal.invariant-loop

@@ -1,6 +1,6 @@
 use Rattle.std.proofs.Common.{◌≡◌}
 use Rattle.syntax_tree.specs.Trees.{PlainTrees, count}
-use Rattle.syntax_tree.specs.Nodes.{HaveAfters}
+use Rattle.syntax_tree.specs.inner.Nodes.{HaveAfters}
 use Rattle.syntax_tree.proofs.Afters.{IsAfterSome}
 use Rattle.syntax_tree.proofs.tree.after_children.Given as goal
 

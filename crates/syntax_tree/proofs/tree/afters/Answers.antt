@@ -1,7 +1,8 @@
 use Rattle.std.proofs.Common.{◌≡◌, ◌+◌, ◌-◌, ◌<◌, ℕ, List, length, get_or, sym, ◌∙◌, subst, arith, length-set}
 use Rattle.std.proofs.lemmas.Option.{slice_get-get_or}
 use Rattle.syntax_tree.specs.Trees.{PlainTrees}
-use Rattle.syntax_tree.specs.Nodes.{HaveAfters, whole_of}
+use Rattle.syntax_tree.specs.Nodes.{whole_of}
+use Rattle.syntax_tree.specs.inner.Nodes.{HaveAfters}
 use Rattle.syntax_tree.proofs.Afters.{AreAftersFrom, children_at, more_afters, no_node, no_past}
 use Rattle.syntax_tree.proofs.tree.afters.Goals as goal
 

@@ -1,6 +1,6 @@
 use Rattle.std.proofs.Common.{ℕ, ◌+◌, Option, ◌++◌, sym, subst}
 use Rattle.std.specs.Prelude.{option_to_list, nat_eq}
-use Rattle.syntax_tree_cut.specs.Children.{HasSeen}
+use Rattle.syntax_tree_cut.specs.inner.Children.{HasSeen}
 use Rattle.syntax_tree_cut.proofs.Seen.{one_more}
 use Rattle.syntax_tree_cut.proofs.children.with_occupant.Goals as goal
 

@@ -1,5 +1,5 @@
 use Rattle.std.proofs.Common.{◌≡◌, ℕ, ◌+◌, ◌-◌, ◌≤◌, List, length, ap, ◌∙◌, subst, arith}
-use Rattle.syntax_tree_cut.specs.Tokens.{IsSplitAt, within}
+use Rattle.syntax_tree_cut.specs.inner.Tokens.{IsSplitAt, within}
 use Rattle.syntax_tree_cut.proofs.Splits.{fewer_fit, part_kept, replaced_part}
 use Rattle.syntax_tree_cut.proofs.tokens.keep_within.Goals as goal
 

@@ -1,5 +1,5 @@
 use Rattle.std.proofs.Common.{ℕ, List, ◌++◌, drop, ap, ◌∙◌, subst}
-use Rattle.syntax_tree_cut.specs.Tokens.{IsSplitAt, before}
+use Rattle.syntax_tree_cut.specs.inner.Tokens.{IsSplitAt, before}
 use Rattle.syntax_tree_cut.proofs.Splits.{drop_is, take_is}
 use Rattle.syntax_tree_cut.proofs.tokens.remove_within.Goals as goal
 

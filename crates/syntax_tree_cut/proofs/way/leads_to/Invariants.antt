@@ -3,7 +3,7 @@ use Rattle.std.specs.Option.{option_and_then}
 use Rattle.syntax_tree.specs.Numbered.{subtree}
 use Rattle.syntax_tree.specs.Nodes.{whole}
 use Rattle.syntax_tree_cut.specs.Cuts.{left_at}
-use Rattle.syntax_tree_cut.specs.Ways.{IsAhead}
+use Rattle.syntax_tree_cut.specs.inner.Ways.{IsAhead}
 use Rattle.syntax_tree_cut.proofs.way.leads_to.Given as goal
 
 abbrev pub invariant-way : goal.invariant-way

@@ -3,7 +3,7 @@ use Rattle.std.specs.Option.{option_and_then}
 use Rattle.syntax_tree.specs.Trees.{PlainTree, size}
 use Rattle.syntax_tree.specs.Numbered.{subtree}
 use Rattle.syntax_tree_cut.specs.declared.mark.Mark.TheVariants.{Kept, Deleted, Replaced}
-use Rattle.syntax_tree_cut.specs.Ways.{IsAhead}
+use Rattle.syntax_tree_cut.specs.inner.Ways.{IsAhead}
 use Rattle.syntax_tree_cut.proofs.CutFacts.{some_size}
 use Rattle.syntax_tree_cut.proofs.Ways.{ahead_begins, ahead_below, ahead_first, ahead_past, ahead_within, deleted_lost, kept_here, mark_known, not_begun, outside_of, replaced_by}
 use Rattle.syntax_tree_cut.proofs.way.next_step.Goals as goal

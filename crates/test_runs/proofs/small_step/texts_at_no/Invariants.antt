@@ -1,5 +1,5 @@
 use Rattle.std.proofs.Common.{◌-◌, length}
-use Rattle.reduce_rounds.proofs.LookingAhead.{WereAskedAtNo}
+use Rattle.reduce_rounds.proofs.Lent.{WereAskedAtNo}
 use Rattle.test_runs.specs.SmallPlan.{plan_at}
 use Rattle.test_runs.proofs.small_step.texts_at_no.Given as goal
 

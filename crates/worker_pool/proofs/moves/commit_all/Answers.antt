@@ -1,5 +1,5 @@
 use Rattle.std.proofs.Common.{◌∙◌}
-use Rattle.run_worker.proofs.LeftLemmas.{settled_by_false}
+use Rattle.run_worker.proofs.Lent.{settled_by_false}
 use Rattle.worker_pool.proofs.RunLemmas.{run_commit}
 use Rattle.worker_pool.proofs.moves.commit_all.Goals as goal
 

@@ -1,6 +1,7 @@
 use Rattle.std.proofs.Common.{◌≡◌}
-use Rattle.run_worker.specs.UnderWay.{turns_left}
-use Rattle.worker_pool.specs.Runs.{IsOfRun, RunMembers}
+use Rattle.run_worker.specs.inner.UnderWay.{turns_left}
+use Rattle.worker_pool.specs.Runs.{RunMembers}
+use Rattle.worker_pool.specs.inner.Runs.{IsOfRun}
 use Rattle.worker_pool.proofs.moves.commit_all.Given as goal
 
 abbrev pub invariant-loop-committed : goal.invariant-loop-committed

@@ -1,6 +1,6 @@
 use Rattle.std.proofs.Common.{◌≡◌, ◌<◌, ℕ, All, None, arith, false, ap, length, slice_index_or, subst, sym, ◌∙◌}
 use Rattle.ordered_commit.specs.declared.seat.Seat.{Seat}
-use Rattle.ordered_commit.proofs.SeatLemmas.{new_free, new_length, new_numbered}
+use Rattle.ordered_commit.proofs.Lent.{new_free, new_length, new_numbered}
 use Rattle.worker_pool.proofs.PoolLemmas.{brought, done, new_empty, numbers}
 use Rattle.worker_pool.proofs.pool.run_named.Goals as goal
 

@@ -16,10 +16,10 @@ use Rattle.worker_pool.proofs.OutcomeLemmas.{begins_of}
 use Rattle.worker_pool.proofs.PoolLemmas.{lent, new_empty}
 use Rattle.worker_pool.proofs.RunLemmas.{Unfailed}
 use Rattle.run_worker.specs.RunHistory.{BeginsWith, EndsAtFirst, IsHistoryOf}
-use Rattle.worker_pool.specs.Runs.{AtStart}
+use Rattle.worker_pool.specs.inner.Runs.{AtStart}
 use Rattle.worker_pool.proofs.StartLemmas.{begins_with, ends_alone}
-use Rattle.ordered_commit.proofs.SeatLemmas.{new_length}
-use Rattle.run_worker.proofs.EndLemmas.{kept_history}
+use Rattle.ordered_commit.proofs.Lent.{new_length}
+use Rattle.run_worker.proofs.Lent.{kept_history}
 use Rattle.worker_pool.proofs.pool.run_several.Goals as goal
 
 pub run_named-board-requires-clause-of_run : goal.run_named-board-requires-clause-of_run

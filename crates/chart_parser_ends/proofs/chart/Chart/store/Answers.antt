@@ -1,9 +1,9 @@
 use Rattle.std.proofs.Common.{sym, subst}
 use Rattle.normal_form.specs.declared.normal.Sym.TheVariants.{Rule}
 use Rattle.normal_form_spans.specs.Spans.{DerivesSpan}
-use Rattle.chart_parser_ends.specs.Entries.{entry}
+use Rattle.chart_parser_ends.specs.inner.Entries.{entry}
 use Rattle.chart_parser_ends.specs.Positions.{HasExactly}
-use Rattle.chart_parser_ends.specs.Working.{HasRuleEnds}
+use Rattle.chart_parser_ends.specs.inner.Working.{HasRuleEnds}
 use Rattle.chart_parser_ends.proofs.SymbolEnds.{exact_stored}
 use Rattle.chart_parser_ends.proofs.chart.Chart.store.Goals as goal
 

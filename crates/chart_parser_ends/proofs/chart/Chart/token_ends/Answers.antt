@@ -1,8 +1,8 @@
 use Rattle.std.proofs.Common.{◌≡◌, ◌+◌, ◌-◌, ◌<◌, true, false, length, [], take, drop, get_or, sym, ap, ◌∙◌, subst, arith}
 use Rattle.normal_form_spans.specs.Spans.{DerivesSpan}
-use Rattle.chart_parser_ends.specs.Exact.{IsTokenOf}
+use Rattle.chart_parser_ends.specs.inner.Exact.{IsTokenOf}
 use Rattle.chart_parser_ends.specs.Positions.{HasExactly}
-use Rattle.chart_parser_ends.proofs.Lent.{one_position}
+use Rattle.chart_parser_ends.proofs.AllPositions.{one_position}
 use Rattle.chart_parser_ends.proofs.SymbolEnds.{no_token, token_exact}
 use Rattle.chart_parser_ends.proofs.chart.Chart.token_ends.Goals as goal
 use Rattle.chart_parser_ends.proofs.chart.Chart.token_ends.Goals.{else-index-self-via-then-index-self+else-is_token, else-index-self-via-else-index-self}

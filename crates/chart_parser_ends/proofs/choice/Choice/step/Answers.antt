@@ -2,7 +2,7 @@ use Rattle.std.proofs.Common.{◌≡◌, ℕ, List, inl, inr, [], sym, ap, subst
 use Rattle.std.proofs.lemmas.Option.{get_or_from_slice_get}
 use Rattle.normal_form.specs.declared.normal.Sym.{Sym}
 use Rattle.normal_form.specs.Form.{NormalForm}
-use Rattle.chart_parser_ends.specs.Working.{HasAlternatives, symbol_at}
+use Rattle.chart_parser_ends.specs.inner.Working.{HasAlternatives, symbol_at}
 use Rattle.chart_parser_ends.proofs.Choosing.{Done, alternatives_done, next_alternative, next_symbol}
 use Rattle.chart_parser_ends.proofs.choice.Choice.step.Goals as goal
 use Rattle.chart_parser_ends.proofs.choice.Choice.step.Goals.{then-self-symbols-via-then-self-symbols, then-self-symbols-via-else-self-symbols+then-reached-eq0}

@@ -1,8 +1,8 @@
 use Rattle.std.proofs.Common.{◌++◌, ◌∷◌, [], length, refl, ap, ◌∙◌, arith}
 use Rattle.std.specs.Prelude.{Result, Ok, Err, OnErr}
 use Rattle.chart_parser_ends.specs.declared.entries.EndsRange.{EndsRange}
-use Rattle.chart_parser_ends.specs.Entries.{entry}
-use Rattle.chart_parser_ends.specs.Ranges.{entries_in}
+use Rattle.chart_parser_ends.specs.inner.Entries.{entry}
+use Rattle.chart_parser_ends.specs.inner.Ranges.{entries_in}
 use Rattle.chart_parser_ends.proofs.Pooled.{entries_pushed, entries_stay}
 use Rattle.chart_parser_ends.proofs.entries.Entries.store.Goals as goal
 

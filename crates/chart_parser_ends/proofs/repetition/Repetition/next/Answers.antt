@@ -1,6 +1,6 @@
 use Rattle.std.proofs.Common.{subst, sym, nat_cmp, ◌∙◌, ap, length, arith}
 use Rattle.std.proofs.lemmas.Grind.{get_or_default_zero}
-use Rattle.chart_parser_ends.specs.Working.{IsNext}
+use Rattle.chart_parser_ends.specs.inner.Working.{IsNext}
 use Rattle.std.specs.List.Sorted.{IsBinarySearchResult}
 use Rattle.chart_parser_ends.proofs.Rising.{next_missing, none_left}
 use Rattle.chart_parser_ends.proofs.repetition.Repetition.next.Goals as goal

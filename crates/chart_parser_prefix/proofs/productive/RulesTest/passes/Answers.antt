@@ -1,6 +1,6 @@
 use Rattle.std.proofs.Common.{ap, arith, false, length, sym, ◌∙◌}
-use Rattle.chart_parser_ends.proofs.Beginning.{rule_at}
-use Rattle.chart_parser_prefix.specs.Productive.{form_passes}
+use Rattle.chart_parser_ends.proofs.Lent.{rule_at}
+use Rattle.chart_parser_prefix.specs.inner.Productive.{form_passes}
 use Rattle.normal_form.specs.View.{rule_form}
 use Rattle.std.specs.Option.{option_map_or}
 use Rattle.std.proofs.lemmas.List.{length-map}

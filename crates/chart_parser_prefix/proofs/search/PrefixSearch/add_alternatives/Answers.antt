@@ -1,8 +1,8 @@
 use Rattle.std.proofs.Common.{List, arith, refl, subst, ◌∙◌}
 use Rattle.chart_parser_prefix.proofs.Alternatives.{alternatives_more, form_at}
 use Rattle.chart_parser_prefix.proofs.Growing.{contains_none, grown_none}
-use Rattle.chart_parser_prefix.specs.Expected.{IsInAlternatives}
-use Rattle.chart_parser_prefix.specs.Walk.{ExpectsAll}
+use Rattle.chart_parser_prefix.specs.inner.Expected.{IsInAlternatives}
+use Rattle.chart_parser_prefix.specs.inner.Walk.{ExpectsAll}
 use Rattle.normal_form.specs.View.{alts_form}
 use Rattle.normal_form.specs.declared.normal.Sym.{Sym}
 use Rattle.std.proofs.lemmas.List.{take_all}

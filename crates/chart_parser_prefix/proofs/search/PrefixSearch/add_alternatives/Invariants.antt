@@ -1,7 +1,7 @@
 use Rattle.std.proofs.Common.{◌≡◌, take}
 use Rattle.normal_form.specs.View.{alts_form}
-use Rattle.chart_parser_prefix.specs.Expected.{IsInAlternatives}
-use Rattle.chart_parser_prefix.specs.Walk.{ExpectsAll, IsGrownBy}
+use Rattle.chart_parser_prefix.specs.inner.Expected.{IsInAlternatives}
+use Rattle.chart_parser_prefix.specs.inner.Walk.{ExpectsAll, IsGrownBy}
 use Rattle.chart_parser_prefix.proofs.search.PrefixSearch.add_alternatives.Given as goal
 
 abbrev pub invariant-loop-symbols : goal.invariant-loop-symbols

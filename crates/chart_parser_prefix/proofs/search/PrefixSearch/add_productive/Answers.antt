@@ -1,9 +1,9 @@
 use Rattle.std.proofs.Common.{ap, arith, false, length, subst, sym, true, ◌∙◌, ◌≡◌}
 use Rattle.chart_parser_ends.specs.Input.{ChartInput}
 use Rattle.chart_parser_prefix.proofs.Growing.{grown_none, grown_weaker}
-use Rattle.chart_parser_prefix.specs.Expected.{IsInAlternative}
-use Rattle.chart_parser_prefix.specs.Productive.{AreProductive}
-use Rattle.chart_parser_prefix.specs.Walk.{ExpectsAll, IsGrownBy}
+use Rattle.chart_parser_prefix.specs.inner.Expected.{IsInAlternative}
+use Rattle.chart_parser_prefix.specs.inner.Productive.{AreProductive}
+use Rattle.chart_parser_prefix.specs.inner.Walk.{ExpectsAll, IsGrownBy}
 use Rattle.chart_parser_prefix.proofs.search.PrefixSearch.add_productive.Goals as goal
 
 false_true : false ≡ true → ⊥

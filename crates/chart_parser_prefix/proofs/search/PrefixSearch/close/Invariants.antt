@@ -1,5 +1,5 @@
 use Rattle.std.proofs.Common.{◌≡◌}
-use Rattle.chart_parser_prefix.specs.Walk.{IsClosedTo, IsWalk}
+use Rattle.chart_parser_prefix.specs.inner.Walk.{IsClosedTo, IsWalk}
 use Rattle.chart_parser_prefix.proofs.search.PrefixSearch.close.Given as goal
 
 abbrev pub invariant-loop-done : goal.invariant-loop-done

@@ -1,7 +1,7 @@
 use Rattle.std.proofs.Common.{arith, false, length, refl, subst, sym, take, true, ℕ, ◌∙◌, ◌≡◌}
 use Rattle.chart_parser_prefix.proofs.Walking.{is_longest, walk_on}
 use Rattle.chart_parser_prefix.specs.Prefixes.{IsLongestViable, IsViablePrefix}
-use Rattle.chart_parser_prefix.specs.Walk.{IsClosed, IsWalk}
+use Rattle.chart_parser_prefix.specs.inner.Walk.{IsClosed, IsWalk}
 use Rattle.chart_parser_prefix.proofs.search.PrefixSearch.longest.Goals as goal
 
 false_true : false ≡ true → ⊥

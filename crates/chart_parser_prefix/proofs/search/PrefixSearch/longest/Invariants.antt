@@ -1,6 +1,6 @@
 use Rattle.std.proofs.Common.{◌≡◌, take}
 use Rattle.chart_parser_prefix.specs.Prefixes.{IsViablePrefix}
-use Rattle.chart_parser_prefix.specs.Walk.{IsWalk}
+use Rattle.chart_parser_prefix.specs.inner.Walk.{IsWalk}
 use Rattle.chart_parser_prefix.proofs.search.PrefixSearch.longest.Given as goal
 
 abbrev pub invariant-loop-position : goal.invariant-loop-position

@@ -1,8 +1,8 @@
 use Rattle.std.proofs.Common.{subst, sym}
 use Rattle.chart_parser_prefix.proofs.Alternatives.{other_predicts}
 use Rattle.chart_parser_prefix.proofs.Growing.{grown_none}
-use Rattle.chart_parser_prefix.specs.Expected.{Predicts}
-use Rattle.chart_parser_prefix.specs.Walk.{ExpectsAll, IsGrownBy}
+use Rattle.chart_parser_prefix.specs.inner.Expected.{Predicts}
+use Rattle.chart_parser_prefix.specs.inner.Walk.{ExpectsAll, IsGrownBy}
 use Rattle.normal_form.specs.declared.normal.Sym.{Sym}
 use Rattle.chart_parser_prefix.proofs.search.PrefixSearch.predict.Goals as goal
 

@@ -1,8 +1,8 @@
 use Rattle.std.proofs.Common.{List, ap, arith, false, get_or, length, subst, sym, take, true, ◌<◌, ◌∙◌, ◌≡◌, ◌≤◌}
 use Rattle.chart_parser_prefix.proofs.Growing.{read_at}
 use Rattle.chart_parser_prefix.proofs.Walking.{closed_again, closed_all, closed_more, walk_grown}
-use Rattle.chart_parser_prefix.specs.Expected.{of_symbol}
-use Rattle.chart_parser_prefix.specs.Walk.{symbols_at}
+use Rattle.chart_parser_prefix.specs.inner.Expected.{of_symbol}
+use Rattle.chart_parser_prefix.specs.inner.Walk.{symbols_at}
 use Rattle.normal_form.specs.declared.normal.Sym.{Sym}
 use Rattle.normal_form.specs.declared.normal.Sym.TheVariants.{Kind}
 use Rattle.std.proofs.lemmas.List.Elements.{Contains-get_or}

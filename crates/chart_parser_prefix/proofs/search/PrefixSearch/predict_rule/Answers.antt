@@ -1,10 +1,10 @@
 use Rattle.std.proofs.Common.{List, Some, ap, arith, inl, inr, length, subst, sym, ◌∙◌}
-use Rattle.chart_parser_ends.proofs.Beginning.{no_rule_at, rule_at}
+use Rattle.chart_parser_ends.proofs.Lent.{no_rule_at, rule_at}
 use Rattle.chart_parser_ends.specs.Input.{ChartInput}
 use Rattle.chart_parser_prefix.proofs.Alternatives.{Repeats, element_predicts, no_rule_predicts, optional_predicts, predicts_element, predicts_optional, predicts_regular, regular_predicts}
 use Rattle.chart_parser_prefix.proofs.Growing.{grown_none, grown_weaker}
-use Rattle.chart_parser_prefix.specs.Expected.{IsElement, IsInAlternatives}
-use Rattle.chart_parser_prefix.specs.Walk.{ExpectsAll, IsGrownBy}
+use Rattle.chart_parser_prefix.specs.inner.Expected.{IsElement, IsInAlternatives}
+use Rattle.chart_parser_prefix.specs.inner.Walk.{ExpectsAll, IsGrownBy}
 use Rattle.normal_form.specs.View.{alts_form, rule_form}
 use Rattle.normal_form.specs.declared.normal.Sym.{Sym}
 use Rattle.chart_parser_prefix.proofs.search.PrefixSearch.predict_rule.Goals as goal

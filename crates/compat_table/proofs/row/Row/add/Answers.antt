@@ -6,8 +6,8 @@ use Rattle.std.proofs.Math.Numerals.{add-one}
 use Rattle.std.proofs.Math.Seq.{take-suc}
 use Rattle.normal_form.specs.declared.normal.Sym.{Sym}
 use Rattle.normal_form.specs.declared.normal.Sym.TheVariants.{Kind}
-use Rattle.compat_table.specs.Rows.{IsGrown}
-use Rattle.compat_table.specs.View.{symbols_of}
+use Rattle.compat_table.specs.inner.Rows.{IsGrown}
+use Rattle.compat_table.specs.inner.View.{symbols_of}
 use Rattle.compat_table.proofs.Searching.{grown_by_none, grown_more}
 use Rattle.compat_table.proofs.row.Row.add.Goals as goal
 

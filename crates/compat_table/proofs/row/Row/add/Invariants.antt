@@ -1,7 +1,7 @@
 use Rattle.std.proofs.Common.{ℕ, ◌<◌, take}
 use Rattle.std.specs.List.{All}
-use Rattle.compat_table.specs.Rows.{IsGrown, IsMarked}
-use Rattle.compat_table.specs.View.{symbols_of}
+use Rattle.compat_table.specs.inner.Rows.{IsGrown, IsMarked}
+use Rattle.compat_table.specs.inner.View.{symbols_of}
 use Rattle.compat_table.proofs.row.Row.add.Given as goal
 
 abbrev pub invariant-loop-symbol : goal.invariant-loop-symbol

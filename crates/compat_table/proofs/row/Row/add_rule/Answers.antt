@@ -1,4 +1,4 @@
-use Rattle.compat_table.specs.View.{symbols_of}
+use Rattle.compat_table.specs.inner.View.{symbols_of}
 use Rattle.compat_table.proofs.Searching.{marked_more}
 use Rattle.compat_table.proofs.row.Row.add_rule.Goals as goal
 

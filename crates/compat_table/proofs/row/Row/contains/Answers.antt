@@ -3,9 +3,9 @@ use Rattle.std.specs.Prelude.{◌↔◌, IsTrue}
 use Rattle.std.specs.List.{Contains}
 use Rattle.normal_form.specs.declared.normal.Sym.{Sym}
 use Rattle.grammar_names.specs.KindLists.{is_in}
-use Rattle.grammar_names.proofs.KindLists.{contains_in, in_contains}
-use Rattle.compat_table.specs.Rows.{IsAmong}
-use Rattle.compat_table.specs.View.{symbols_of}
+use Rattle.grammar_names.proofs.Lent.{contains_in, in_contains}
+use Rattle.compat_table.specs.inner.Rows.{IsAmong}
+use Rattle.compat_table.specs.inner.View.{symbols_of}
 use Rattle.compat_table.proofs.row.Row.contains.Goals as goal
 
 among : (found : Bool) (xs ys : List ℕ) (x : ℕ) → found ≡ is_in xs x → xs ≡ ys → IsTrue found ↔ Contains ys x

@@ -7,8 +7,8 @@ use Rattle.compat_table.specs.declared.row.Row.{Row}
 use Rattle.compat_table.proofs.Searching.{got_at}
 use Rattle.normal_form.specs.Form.{NormalForm}
 use Rattle.compat_table.specs.Fits.{IsKindIn}
-use Rattle.compat_table.specs.Table.{AreRowsOf, edges_of_form}
-use Rattle.compat_table.specs.View.{symbols_of}
+use Rattle.compat_table.specs.inner.Table.{AreRowsOf, edges_of_form}
+use Rattle.compat_table.specs.inner.View.{symbols_of}
 use Rattle.compat_table.proofs.Edges.{fits_none, fits_row, row_fits}
 use Rattle.compat_table.proofs.table.Compat.fits_rule.Goals as goal
 

@@ -6,7 +6,7 @@ use Rattle.normal_form.specs.declared.normal.Sym.{Sym}
 use Rattle.normal_form.specs.declared.normal.Sym.TheVariants.{Kind}
 use Rattle.normal_form.specs.Form.{NormalForm}
 use Rattle.grammar_names.specs.KindLists.{is_in}
-use Rattle.grammar_names.proofs.KindLists.{contains_in, in_contains}
+use Rattle.grammar_names.proofs.Lent.{contains_in, in_contains}
 use Rattle.compat_table.specs.Fits.{IsKindIn}
 use Rattle.compat_table.proofs.table.Compat.fits_set.Goals as goal
 

@@ -1,5 +1,5 @@
 use Rattle.std.proofs.Common.{◌≡◌, take, vec_len}
-use Rattle.grammar_check_cycles.specs.Graph.{with_row}
+use Rattle.grammar_check_cycles.specs.inner.Graph.{with_row}
 use Rattle.grammar_check_cycles.proofs.graph.Search.add.Given as goal
 
 abbrev pub invariant-loop-node : goal.invariant-loop-node

@@ -4,7 +4,7 @@ use Rattle.std.specs.Str.{chars}
 use Rattle.grammar_tree.specs.Written.{ParserRule}
 use Rattle.grammar_tree.specs.GrammarView.{grammar_of, kind_of, rule_of}
 use Rattle.grammar_tree.specs.Kinds.{has_name, parser_rules, same_text, visible_from}
-use Rattle.grammar_names.specs.Names.{can_stand_for}
+use Rattle.grammar_names.specs.inner.Names.{can_stand_for}
 use Rattle.grammar_names.proofs.LiteralKinds.{literal_stands}
 use Rattle.grammar_names.proofs.names.Names.new.Goals as goal
 

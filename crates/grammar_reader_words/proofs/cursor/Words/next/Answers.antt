@@ -2,7 +2,8 @@ use Rattle.std.proofs.Common.{◌≡◌, ◌-◌, List, ℕ, length, sym, ap, �
 use Rattle.std.specs.Str.{chars}
 use Rattle.std.proofs.Math.Utf8.{encodes}
 use Rattle.std.proofs.lemmas.Str.{encodes-chars}
-use Rattle.grammar_reader_words.specs.Words.{brace_from, is_last, settled, placed, words_from, words_left}
+use Rattle.grammar_reader_words.specs.Words.{brace_from, is_last, settled, placed, words_from}
+use Rattle.grammar_reader_words.specs.inner.Words.{words_left}
 use Rattle.grammar_reader_words.specs.declared.word.Placed.{Placed}
 use Rattle.grammar_reader_words.specs.declared.word.Word.{Word}
 use Rattle.grammar_reader_words.proofs.Going.{left_none, left_some, word_passed}

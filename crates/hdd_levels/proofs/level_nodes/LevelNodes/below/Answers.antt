@@ -1,6 +1,6 @@
 use Rattle.std.proofs.Common.{ℕ, List, sym, subst}
 use Rattle.syntax_tree_cut.specs.Cuts.{cut_tree}
-use Rattle.hdd_levels.specs.LevelForms.{AreNodesIn}
+use Rattle.hdd_levels.specs.inner.LevelForms.{AreNodesIn}
 use Rattle.hdd_levels.proofs.FoundNodes.{deletable_more, is_left}
 use Rattle.hdd_levels.proofs.level_nodes.LevelNodes.below.Goals as goal
 

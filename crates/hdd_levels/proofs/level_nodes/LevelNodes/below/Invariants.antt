@@ -4,7 +4,8 @@ use Rattle.syntax_tree.specs.Trees.{PlainTree}
 use Rattle.syntax_tree.specs.Numbered.{number_of}
 use Rattle.syntax_tree_cut.specs.Cuts.{cut_tree}
 use Rattle.hdd_levels.specs.Levels.{deletable_children}
-use Rattle.hdd_levels.specs.LevelForms.{AreNodesIn, pluses_of}
+use Rattle.hdd_levels.specs.LevelForms.{pluses_of}
+use Rattle.hdd_levels.specs.inner.LevelForms.{AreNodesIn}
 use Rattle.hdd_levels.proofs.level_nodes.LevelNodes.below.Given as goal
 
 abbrev pub invariant-loop-parent : goal.invariant-loop-parent

@@ -7,7 +7,7 @@ use Rattle.lexer_match.specs.declared.nfa.State.{State}
 use Rattle.lexer_match.specs.declared.alternative.Alternative.{Alternative}
 use Rattle.lexer_match.specs.Alternatives.{IsNfa}
 use Rattle.lexer_nfa.specs.GrammarNfa.{IsNfaOf}
-use Rattle.lexer.specs.Candidates.{AreBeginnings, AreListed, IsBeginning}
+use Rattle.lexer.specs.inner.Candidates.{AreBeginnings, AreListed, IsBeginning}
 use Rattle.lexer_match.specs.Table.{IsTable}
 use Rattle.lexer.proofs.Listed.{beginnings_order}
 use Rattle.lexer.proofs.rules.Rules.build.Goals as goal

@@ -3,7 +3,7 @@ use Rattle.std.specs.Str.{chars}
 use Rattle.lexer.specs.declared.pieces.Match.{Match}
 use Rattle.lexer_match.specs.declared.nfa.State.{State}
 use Rattle.lexer_match.specs.declared.alternative.Alternative.{Alternative}
-use Rattle.lexer.specs.Candidates.{ComesNext, HasNoNext}
+use Rattle.lexer.specs.inner.Candidates.{ComesNext, HasNoNext}
 use Rattle.lexer_match.specs.Dead.{StayDead}
 use Rattle.lexer.proofs.rules.Rules.next.Goals as goal
 

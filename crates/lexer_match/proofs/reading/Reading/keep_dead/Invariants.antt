@@ -1,7 +1,8 @@
 use Rattle.std.proofs.Common.{◌≡◌, ◌⊎◌, ℕ, length}
 use Rattle.std.specs.List.{Contains}
 use Rattle.lexer_match.specs.declared.dead.StateAt.{StateAt}
-use Rattle.lexer_match.specs.Dead.{HasDead, state_at}
+use Rattle.lexer_match.specs.Dead.{HasDead}
+use Rattle.lexer_match.specs.inner.Dead.{state_at}
 use Rattle.lexer_match.proofs.reading.Reading.keep_dead.Given as goal
 
 abbrev pub invariant-loop-dead : goal.invariant-loop-dead

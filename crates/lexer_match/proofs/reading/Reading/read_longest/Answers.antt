@@ -6,7 +6,8 @@ use Rattle.lexer_match.specs.declared.dead.DeadStates.{DeadStates}
 use Rattle.lexer_match.specs.declared.dead.StateAt.{StateAt}
 use Rattle.lexer_match.specs.declared.state_set.StateSet.{StateSet}
 use Rattle.lexer_match.specs.Dead.{AreDead, HasDead}
-use Rattle.lexer_match.specs.StateSets.{IsFollowed, ReadsFrom}
+use Rattle.lexer_match.specs.StateSets.{ReadsFrom}
+use Rattle.lexer_match.specs.inner.StateSets.{IsFollowed}
 use Rattle.lexer_match.proofs.Best.{IsSoFar, so_far_none, so_far_more, fits_more, ended_reads, tested, at_shortest, at_stop, at_end, not_ended, bytes_left}
 use Rattle.lexer_match.proofs.Traced.{ready_same, stuck_dead, stuck_end, traced_both, traced_dead, traced_more}
 use Rattle.lexer_match.proofs.reading.Reading.read_longest.Goals as goal

@@ -3,7 +3,7 @@ use Rattle.std.specs.List.{Contains}
 use Rattle.std.specs.Str.Iter.{chars_rest}
 use Rattle.lexer_match.specs.declared.dead.StateAt.{StateAt}
 use Rattle.lexer_match.specs.Reading.{IsReady}
-use Rattle.lexer_match.specs.StateSets.{IsFollowed}
+use Rattle.lexer_match.specs.inner.StateSets.{IsFollowed}
 use Rattle.lexer_match.proofs.Best.{IsSoFar}
 use Rattle.lexer_match.proofs.Traced.{IsTraced}
 use Rattle.lexer_match.proofs.reading.Reading.read_longest.Given as goal

@@ -1,6 +1,7 @@
 use Rattle.std.proofs.Common.{List, ℕ, ◌↔◌, ◌∷◌, sym, subst}
 use Rattle.lexer_match.specs.declared.state_set.StateSet.{StateSet}
-use Rattle.lexer_match.specs.StateSets.{IsFollowed, ReadsFrom}
+use Rattle.lexer_match.specs.StateSets.{ReadsFrom}
+use Rattle.lexer_match.specs.inner.StateSets.{IsFollowed}
 use Rattle.lexer_match.proofs.reading.Reading.step.Goals as goal
 
 pub returns-clause-followed : goal.returns-clause-followed

@@ -1,6 +1,6 @@
 use Rattle.std.proofs.Common.{List, ℕ, true, false, sym, ◌∙◌, subst}
 use Rattle.std.proofs.Math.ListN.{set}
-use Rattle.lexer_match.specs.StateSets.{HasGrown}
+use Rattle.lexer_match.specs.inner.StateSets.{HasGrown}
 use Rattle.lexer_match.proofs.StateSets.{index_default, push_marks}
 use Rattle.lexer_match.proofs.state_set.StateSet.add.Goals as goal
 

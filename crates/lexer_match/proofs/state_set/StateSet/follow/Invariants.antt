@@ -1,6 +1,7 @@
 use Rattle.std.proofs.Common.{◌<◌, ◌≤◌, ◌+◌, ◌-◌, ℕ, List, length, slice_index_or}
 use Rattle.std.specs.List.{Contains}
-use Rattle.lexer_match.specs.StateSets.{GoesTo, HasGrown, ReadsFrom, unmarked}
+use Rattle.lexer_match.specs.StateSets.{ReadsFrom}
+use Rattle.lexer_match.specs.inner.StateSets.{GoesTo, HasGrown, unmarked}
 use Rattle.lexer_match.proofs.state_set.StateSet.follow.Given as goal
 
 abbrev pub invariant-loop-index : goal.invariant-loop-index

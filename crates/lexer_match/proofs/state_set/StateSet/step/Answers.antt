@@ -1,6 +1,7 @@
 use Rattle.std.proofs.Common.{List, ℕ, ◌∷◌, ◌↔◌, sym, subst, length}
 use Rattle.std.specs.List.{Contains}
-use Rattle.lexer_match.specs.StateSets.{IsFollowed, ReadsFrom}
+use Rattle.lexer_match.specs.StateSets.{ReadsFrom}
+use Rattle.lexer_match.specs.inner.StateSets.{IsFollowed}
 use Rattle.lexer_match.proofs.Steps.{marked_inside}
 use Rattle.lexer_match.proofs.state_set.StateSet.step.Goals as goal
 

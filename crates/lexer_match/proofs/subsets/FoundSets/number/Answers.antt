@@ -1,5 +1,5 @@
 use Rattle.std.proofs.Common.{◌≡◌, List, ℕ, IsPermutation, subst}
-use Rattle.lexer_match.specs.Subsets.{IsNumbered, IsSame}
+use Rattle.lexer_match.specs.inner.Subsets.{IsNumbered, IsSame}
 use Rattle.lexer_match.proofs.Found.{HaveSame, option_as, same_numbered, same_sorted, set_same, sets_as, starts_as, starts_both}
 use Rattle.lexer_match.proofs.subsets.FoundSets.number.Goals as goal
 

@@ -1,5 +1,5 @@
 use Rattle.std.proofs.Common.{List, ℕ, sym, subst}
-use Rattle.lexer_match.specs.Subsets.{IsSame, IsSet}
+use Rattle.lexer_match.specs.inner.Subsets.{IsSame, IsSet}
 use Rattle.lexer_match.proofs.Found.{in_some, reached_of}
 use Rattle.lexer_match.proofs.subsets.FoundSets.reached.Goals as goal
 

@@ -1,4 +1,4 @@
-use Rattle.lexer_match.specs.Subsets.{HasStepsBefore, IsReadyFor, StartsWith}
+use Rattle.lexer_match.specs.inner.Subsets.{HasStepsBefore, IsReadyFor, StartsWith}
 use Rattle.lexer_match.specs.Table.{AreSteps}
 use Rattle.lexer_match.proofs.subsets.Subsets.add_steps.Given as goal
 

@@ -1,5 +1,5 @@
 use Rattle.std.proofs.Common.{◌≡◌, length}
-use Rattle.lexer_match.specs.Subsets.{IsReadyFor}
+use Rattle.lexer_match.specs.inner.Subsets.{IsReadyFor}
 use Rattle.lexer_match.specs.Table.{AreStarts}
 use Rattle.lexer_match.proofs.subsets.Subsets.starts.Given as goal
 

@@ -1,6 +1,7 @@
 use Rattle.std.proofs.Common.{List, ℕ, sym, subst, ◌∙◌, arith}
 use Rattle.std.specs.List.{Contains}
-use Rattle.lexer_match.specs.StateSets.{IsFollowed, ReadsFrom}
+use Rattle.lexer_match.specs.StateSets.{ReadsFrom}
+use Rattle.lexer_match.specs.inner.StateSets.{IsFollowed}
 use Rattle.lexer_match.specs.Table.{IsReached}
 use Rattle.lexer_match.proofs.Found.{in_some, set_of, starts_same, step_of, stuck_of}
 use Rattle.lexer_match.proofs.subsets.Subsets.step.Goals as goal

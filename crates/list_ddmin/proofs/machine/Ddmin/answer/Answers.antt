@@ -1,7 +1,7 @@
 use Rattle.std.proofs.Common.{◌≡◌, take, drop, ◌++◌, length, arith, subst, sym, IsSome}
 use Rattle.std.proofs.lemmas.Grind.{common_steps}
 use Rattle.list_ddmin.specs.Machine.{State, asks}
-use Rattle.list_ddmin.specs.Fields.{Marks, state_of}
+use Rattle.list_ddmin.specs.inner.Fields.{Marks, state_of}
 use Rattle.list_ddmin.proofs.FieldLemmas.{answered}
 use Rattle.list_ddmin.proofs.machine.Ddmin.answer.Goals as goal
 

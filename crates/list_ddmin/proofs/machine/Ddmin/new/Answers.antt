@@ -1,6 +1,6 @@
 use Rattle.std.proofs.Common.{◌≡◌, take, drop, ◌++◌, length, arith, rules, refl, replicate, true}
 use Rattle.std.proofs.lemmas.Grind.{common_steps}
-use Rattle.list_ddmin.specs.Fields.{Marks}
+use Rattle.list_ddmin.specs.inner.Fields.{Marks}
 use Rattle.list_ddmin.proofs.Minimal.{kept_count-all}
 use Rattle.list_ddmin.proofs.FieldLemmas.{started}
 use Rattle.list_ddmin.proofs.machine.Ddmin.new.Goals as goal

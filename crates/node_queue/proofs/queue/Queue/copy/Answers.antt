@@ -1,5 +1,5 @@
 use Rattle.std.proofs.Common.{ap, ◌∙◌}
-use Rattle.node_queue.specs.Heap.{in_order}
+use Rattle.node_queue.specs.inner.Heap.{in_order}
 use Rattle.node_queue.proofs.HeapLemmas.{in_order-permutation}
 use Rattle.node_queue.proofs.queue.Queue.copy.Goals as goal
 

@@ -1,6 +1,6 @@
 use Rattle.std.proofs.Common.{subst, sym, ◌∙◌}
 use Rattle.std.specs.BinaryHeap.{heap_items}
-use Rattle.node_queue.specs.Heap.{in_order, waiting_of}
+use Rattle.node_queue.specs.inner.Heap.{in_order, waiting_of}
 use Rattle.node_queue.specs.Waiting.{IsInOrder}
 use Rattle.node_queue.proofs.HeapLemmas.{first-of, in_order-top, is_in_order, later-of}
 use Rattle.node_queue.proofs.queue.Queue.pop_heaviest.Goals as goal

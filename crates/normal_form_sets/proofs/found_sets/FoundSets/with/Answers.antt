@@ -2,7 +2,8 @@ use Rattle.std.proofs.Common.{◌++◌, [], ◌∷◌, List, ℕ, is_some, sym, 
 use Rattle.std.specs.Prelude.{position}
 use Rattle.grammar_tree.specs.Kinds.{same_text}
 use Rattle.grammar_names.specs.KindLists.{IsPartOf, lacking}
-use Rattle.normal_form_sets.specs.Sets.{HasNumbers, SetsOfKinds}
+use Rattle.normal_form_sets.specs.Sets.{SetsOfKinds}
+use Rattle.normal_form_sets.specs.inner.Sets.{HasNumbers}
 use Rattle.normal_form_sets.proofs.Lacking.{with_known, with_new}
 use Rattle.normal_form_sets.proofs.found_sets.FoundSets.with.Goals as goal
 

@@ -1,7 +1,7 @@
 use Rattle.std.proofs.Common.{◌&&◌, not, refl, sym, ap, ◌∙◌, subst}
 use Rattle.std.specs.List.Sorted.{IsStrictlyIncreasing}
 use Rattle.grammar_names.specs.KindLists.{is_in}
-use Rattle.grammar_names.proofs.KindLists.{not_falling}
+use Rattle.grammar_names.proofs.Lent.{not_falling}
 use Rattle.normal_form_sets.proofs.Lacking.{and_false, and_in, has_kind, part_rises}
 use Rattle.normal_form_sets.proofs.kind_sets.KindSets.contains.Goals as goal
 

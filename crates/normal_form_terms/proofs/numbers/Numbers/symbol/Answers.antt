@@ -3,12 +3,12 @@ use Rattle.grammar_tree.specs.Derives.{bodies, resolved}
 use Rattle.grammar_tree.specs.Kinds.{any_kinds}
 use Rattle.grammar_tree.specs.View.{parser_term, token_ref}
 use Rattle.grammar_tree.specs.Written.{WrittenGrammar}
-use Rattle.grammar_tree.proofs.ParserViews.{parser_term-Any, parser_term-Not}
+use Rattle.grammar_tree.proofs.Lent.{parser_term-Any, parser_term-Not}
 use Rattle.grammar_names.specs.KindLists.{IsPartOf, lacking, named_kinds}
 use Rattle.normal_form.specs.declared.normal.Sym.TheVariants.{Set}
 use Rattle.normal_form.specs.Numbering.{symbol}
 use Rattle.normal_form.specs.NormalOf.{numbering}
-use Rattle.normal_form_sets.proofs.Lacking.{lacks_none, none_part}
+use Rattle.normal_form_sets.proofs.Lent.{lacks_none, none_part}
 use Rattle.normal_form_terms.proofs.NamedSets.{lacks_named, named_part}
 use Rattle.normal_form_terms.proofs.numbers.Numbers.symbol.Goals as goal
 

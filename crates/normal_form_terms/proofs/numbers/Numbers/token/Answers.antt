@@ -4,8 +4,8 @@ use Rattle.grammar_tree.specs.Kinds.{any_kinds}
 use Rattle.grammar_names.specs.KindLists.{IsPartOf, lacking}
 use Rattle.normal_form.specs.declared.normal.Sym.TheVariants.{Set}
 use Rattle.normal_form.specs.NormalOf.{numbering}
-use Rattle.normal_form_terms.specs.Numbers.{token_symbol}
-use Rattle.normal_form_sets.proofs.Lacking.{all_part, lacks_all}
+use Rattle.normal_form_terms.specs.inner.Numbers.{token_symbol}
+use Rattle.normal_form_sets.proofs.Lent.{all_part, lacks_all}
 use Rattle.normal_form_terms.proofs.numbers.Numbers.token.Goals as goal
 
 pub set-requires : goal.set-requires

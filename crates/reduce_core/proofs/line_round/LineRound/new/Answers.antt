@@ -1,7 +1,7 @@
 use Rattle.std.proofs.Common.{◌≡◌, length, sym, ◌∙◌, ap, subst, rules, arith, None, true}
 use Rattle.list_ddmin.specs.Machine as list
 use Rattle.list_ddmin.specs.ListStep.{kept_of}
-use Rattle.reduce_core.specs.Fields.{Agrees, IsInLimit}
+use Rattle.reduce_core.specs.inner.Fields.{Agrees, IsInLimit}
 use Rattle.reduce_core.proofs.Limits.{limit-lines_of}
 use Rattle.reduce_core.proofs.RoundLemmas as lemmas
 use Rattle.reduce_core.proofs.line_round.LineRound.new.Goals as goal

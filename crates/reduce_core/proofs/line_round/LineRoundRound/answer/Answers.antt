@@ -2,7 +2,7 @@ use Rattle.std.proofs.Common.{sym, ◌∙◌, ap, subst, rules, None}
 use Rattle.list_ddmin.specs.Machine as list
 use Rattle.list_ddmin.specs.ListStep.{kept_of}
 use Rattle.reduce_core.specs.LineMode.{line_trials}
-use Rattle.reduce_core.specs.Fields.{Agrees}
+use Rattle.reduce_core.specs.inner.Fields.{Agrees}
 use Rattle.reduce_core.proofs.RoundLemmas as lemmas
 use Rattle.reduce_core.proofs.line_round.LineRoundRound.answer.Goals as goal
 

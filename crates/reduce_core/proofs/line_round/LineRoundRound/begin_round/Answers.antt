@@ -2,7 +2,7 @@ use Rattle.std.proofs.Common.{◌≡◌, length, sym, ◌∙◌, ap, subst, rule
 use Rattle.list_ddmin.specs.Machine as list
 use Rattle.list_ddmin.specs.ListStep.{kept_of}
 use Rattle.reduce_core.specs.LineMode.{line_trials}
-use Rattle.reduce_core.specs.Fields.{Agrees, IsInLimit}
+use Rattle.reduce_core.specs.inner.Fields.{Agrees, IsInLimit}
 use Rattle.reduce_core.proofs.Limits.{limit-kept}
 use Rattle.reduce_core.proofs.LineLaws.{line_lawful}
 use Rattle.reduce_core.proofs.RoundLemmas as lemmas

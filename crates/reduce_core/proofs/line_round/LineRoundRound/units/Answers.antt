@@ -2,7 +2,7 @@ use Rattle.std.proofs.Common.{◌≡◌, length, List, subst, sym, rules}
 use Rattle.std.specs.Option.{IfSome}
 use Rattle.reduce_rounds.specs.Trials.{tried_state}
 use Rattle.reduce_core.specs.declared.lines.Line.{Line}
-use Rattle.reduce_core.specs.Fields.{rest_of}
+use Rattle.reduce_core.specs.inner.Fields.{rest_of}
 use Rattle.reduce_core.proofs.RoundLemmas as lemmas
 use Rattle.reduce_core.proofs.line_round.LineRoundRound.units.Goals as goal
 

@@ -1,6 +1,6 @@
 use Rattle.std.proofs.Common.{sym, subst}
 use Rattle.syntax_tree_cut.specs.Cuts.{cut_tree}
-use Rattle.reduce_hdd.specs.Walking.{IsWalking}
+use Rattle.reduce_hdd.specs.inner.Walking.{IsWalking}
 use Rattle.reduce_hdd.proofs.tree_levels.TreeLevelsTreeWalk.begin_round.Goals as goal
 
 pub settle_last-requires-clause-walking : goal.settle_last-requires-clause-walking

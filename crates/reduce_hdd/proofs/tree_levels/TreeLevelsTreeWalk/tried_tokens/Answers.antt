@@ -1,6 +1,6 @@
 use Rattle.std.proofs.Common.{subst}
 use Rattle.syntax_tree_cut.specs.Cuts.{cut_tree}
-use Rattle.reduce_hdd.specs.Walking.{IsWalking}
+use Rattle.reduce_hdd.specs.inner.Walking.{IsWalking}
 use Rattle.reduce_hdd.proofs.tree_levels.TreeLevelsTreeWalk.tried_tokens.Goals as goal
 
 pub tried_cut-requires-clause-step : goal.tried_cut-requires-clause-step

@@ -4,7 +4,7 @@ use Rattle.syntax_tree.specs.Left.{IsRemainderOf}
 use Rattle.syntax_tree.specs.Nodes.{whole}
 use Rattle.syntax_tree.specs.Trees.{PlainTree}
 use Rattle.syntax_tree.specs.Valid.{IsTreeFor}
-use Rattle.descend_replace.proofs.Found.{cut_rises}
+use Rattle.descend_replace.proofs.Lent.{cut_rises}
 use Rattle.reduce_walk.specs.WalkState.{WalkState}
 use Rattle.reduce_hdd.proofs.Walks.{walks_keep}
 use Rattle.reduce_hdd.proofs.tree_levels.TreeLevelsTreeWalk.tries_kept.Goals as goal

@@ -1,7 +1,7 @@
 use Rattle.std.proofs.Common.{sym, subst}
 use Rattle.syntax_tree_cut.specs.Cuts.{cut_tree}
-use Rattle.descend_replace.proofs.Found.{cut_rises}
-use Rattle.reduce_perses.specs.Visiting.{IsVisiting}
+use Rattle.descend_replace.proofs.Lent.{cut_rises}
+use Rattle.reduce_perses.specs.inner.Visiting.{IsVisiting}
 use Rattle.reduce_perses.proofs.NextLemmas.{root_waits}
 use Rattle.reduce_perses.proofs.tree_visits.TreeVisitsTreeWalk.begin_round.Goals as goal
 

@@ -1,6 +1,6 @@
 use Rattle.std.proofs.Common.{subst}
 use Rattle.syntax_tree_cut.specs.Cuts.{cut_tree}
-use Rattle.reduce_perses.specs.Visiting.{IsVisiting}
+use Rattle.reduce_perses.specs.inner.Visiting.{IsVisiting}
 use Rattle.reduce_perses.proofs.tree_visits.TreeVisitsTreeWalk.tried_tokens.Goals as goal
 
 pub tried_cut-requires-clause-queue : goal.tried_cut-requires-clause-queue

@@ -1,5 +1,5 @@
 use Rattle.std.proofs.Common.{sym, subst, ap, refl, ◌∙◌}
-use Rattle.reduce_rounds.specs.Fields.{StaysKept}
+use Rattle.reduce_rounds.specs.inner.Fields.{StaysKept}
 use Rattle.reduce_rounds.proofs.FieldLemmas.{kept-first}
 use Rattle.reduce_rounds.proofs.rounds.Rounds.new.Goals as goal
 

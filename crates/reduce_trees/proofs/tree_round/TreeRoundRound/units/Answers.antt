@@ -1,6 +1,6 @@
 use Rattle.std.proofs.Common.{◌≡◌, Some, rules}
 use Rattle.std.specs.Prelude.{string_bytes}
-use Rattle.reduce_trees.specs.Fields.{candidate_in}
+use Rattle.reduce_trees.specs.inner.Fields.{candidate_in}
 use Rattle.reduce_trees_mode.specs.InputOf.{input_of}
 use Rattle.reduce_trees.proofs.RoundLemmas.{units_now}
 use Rattle.reduce_trees.proofs.tree_round.TreeRoundRound.units.Goals as goal

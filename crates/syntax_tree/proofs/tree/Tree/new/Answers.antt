@@ -1,6 +1,7 @@
 use Rattle.std.proofs.Common.{List, sym, subst, arith}
 use Rattle.syntax_tree.specs.declared.node.Node.{Node}
-use Rattle.syntax_tree.specs.Nodes.{AreAfters, AreNodesOf, whole_of}
+use Rattle.syntax_tree.specs.Nodes.{AreNodesOf, whole_of}
+use Rattle.syntax_tree.specs.inner.Nodes.{AreAfters}
 use Rattle.syntax_tree.proofs.Decoding.{decoded_whole, nodes_of_decoded}
 use Rattle.syntax_tree.proofs.tree.Tree.new.Goals as goal
 

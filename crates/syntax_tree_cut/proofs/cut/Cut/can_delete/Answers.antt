@@ -1,5 +1,5 @@
 use Rattle.std.proofs.Common.{sym, ap, ◌∙◌}
-use Rattle.syntax_tree_cut.specs.Shapes.{fewest_of}
+use Rattle.syntax_tree_cut.specs.inner.Shapes.{fewest_of}
 use Rattle.syntax_tree_cut.proofs.Questions.{delete_is}
 use Rattle.syntax_tree_cut.proofs.cut.Cut.can_delete.Goals as goal
 

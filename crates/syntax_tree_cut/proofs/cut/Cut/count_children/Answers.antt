@@ -1,7 +1,8 @@
 use Rattle.std.proofs.Common.{ℕ, ◌-◌, ◌<◌, List, [], length, sym, ap, ◌∙◌, subst, arith, refl}
 use Rattle.syntax_tree.specs.declared.node.Node.{Node}
 use Rattle.syntax_tree_cut.specs.declared.mark.Mark.{Mark}
-use Rattle.syntax_tree_cut.specs.Cuts.{CutForm, IsOccupant, ReplacementsRise}
+use Rattle.syntax_tree_cut.specs.Cuts.{CutForm, IsOccupant}
+use Rattle.syntax_tree_cut.specs.inner.Cuts.{ReplacementsRise}
 use Rattle.syntax_tree_cut.proofs.CutFacts.{facts_of}
 use Rattle.syntax_tree_cut.proofs.Positions.{replacements_rise, walk_begin_at, walk_within}
 use Rattle.syntax_tree_cut.proofs.Questions.{IsSeenSoFar, nothing_seen, seen_all, seen_next}

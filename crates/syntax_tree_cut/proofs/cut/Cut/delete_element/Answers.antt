@@ -2,7 +2,7 @@ use Rattle.std.proofs.Common.{ℕ}
 use Rattle.syntax_tree.specs.Trees.{PlainTree}
 use Rattle.syntax_tree.specs.Nodes.{AreNodesOf, SyntaxTree, whole}
 use Rattle.syntax_tree_cut.specs.Cuts.{CanDelete, CutForm, IsCutOf, cut_tree}
-use Rattle.syntax_tree_cut.specs.TreeLaws.{TreeLaws}
+use Rattle.syntax_tree_cut.specs.inner.TreeLaws.{TreeLaws}
 use Rattle.syntax_tree_cut.proofs.CutFacts.{NodeFacts, node_facts}
 use Rattle.syntax_tree_cut.proofs.CutCalls.{child_left, element_deleted}
 use Rattle.syntax_tree_cut.proofs.cut.Cut.delete_element.Goals as goal

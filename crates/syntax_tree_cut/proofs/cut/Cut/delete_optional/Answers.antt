@@ -2,8 +2,9 @@ use Rattle.std.proofs.Common.{◌≡◌, ℕ, ◌+◌, ◌<◌, List, Option, So
 use Rattle.std.proofs.lemmas.Option.{none-some, same_Some}
 use Rattle.syntax_tree.specs.Numbered.{number_of}
 use Rattle.syntax_tree_cut.specs.declared.mark.Mark.{Mark}
-use Rattle.syntax_tree_cut.specs.Cuts.{CutForm, IsOccupant, ReplacementsRise}
-use Rattle.syntax_tree_cut.specs.Steps.{HasDeleted}
+use Rattle.syntax_tree_cut.specs.Cuts.{CutForm, IsOccupant}
+use Rattle.syntax_tree_cut.specs.inner.Cuts.{ReplacementsRise}
+use Rattle.syntax_tree_cut.specs.inner.Steps.{HasDeleted}
 use Rattle.syntax_tree_cut.proofs.CutFacts.{nodes_count}
 use Rattle.syntax_tree_cut.proofs.Positions.{replacements_rise}
 use Rattle.syntax_tree_cut.proofs.CutCalls.{content_at, content_deleted, content_facts}

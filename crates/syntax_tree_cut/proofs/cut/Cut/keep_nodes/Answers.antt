@@ -2,7 +2,7 @@ use Rattle.std.proofs.Common.{◌+◌, ◌≤◌, ℕ, List, drop, length, refl,
 use Rattle.syntax_tree_cut.specs.declared.tokens.Gap.{Gap}
 use Rattle.syntax_tree_cut.specs.Cuts.{CutForm}
 use Rattle.syntax_tree_cut.specs.WithoutNodes.{dropped}
-use Rattle.syntax_tree_cut.specs.Dropping.{IsDroppedSoFar}
+use Rattle.syntax_tree_cut.specs.inner.Dropping.{IsDroppedSoFar}
 use Rattle.syntax_tree_cut.proofs.Dropping.{dropping_begins, dropping_ends, next_is_dropped, next_is_kept, none_is_next}
 use Rattle.syntax_tree_cut.proofs.cut.Cut.keep_nodes.Goals as goal
 use Rattle.syntax_tree_cut.proofs.cut.Cut.keep_nodes.Goals.{then-not-keep-index, else-not-keep-index}

@@ -1,6 +1,6 @@
 use Rattle.std.proofs.Common.{drop}
 use Rattle.syntax_tree_cut.specs.WithoutNodes.{dropped}
-use Rattle.syntax_tree_cut.specs.Dropping.{IsDroppedSoFar}
+use Rattle.syntax_tree_cut.specs.inner.Dropping.{IsDroppedSoFar}
 use Rattle.syntax_tree_cut.proofs.cut.Cut.keep_nodes.Given as goal
 
 abbrev pub invariant-loop-index : goal.invariant-loop-index

@@ -5,7 +5,7 @@ use Rattle.syntax_tree.specs.Nodes.{AreNodesOf, SyntaxTree, whole}
 use Rattle.syntax_tree_cut.specs.declared.mark.Mark.{Mark}
 use Rattle.syntax_tree_cut.specs.declared.mark.Mark.TheVariants.{Kept}
 use Rattle.syntax_tree_cut.specs.Cuts.{IsCutOf, cut_tree}
-use Rattle.syntax_tree_cut.specs.TreeLaws.{TreeLaws}
+use Rattle.syntax_tree_cut.specs.inner.TreeLaws.{TreeLaws}
 use Rattle.syntax_tree_cut.proofs.CutFacts.{index_is, new_cut, some_nodes, tokens_count}
 use Rattle.std.specs.Prelude.{slice_index_or}
 use Rattle.syntax_tree_cut.proofs.cut.Cut.new.Goals as goal

@@ -1,7 +1,8 @@
 use Rattle.std.proofs.Common.{◌<◌, List, length, sym, ap, ◌∙◌, subst, arith}
 use Rattle.syntax_tree.specs.declared.node.Node.{Node}
 use Rattle.syntax_tree_cut.specs.declared.mark.Mark.{Mark}
-use Rattle.syntax_tree_cut.specs.Cuts.{CutForm, ReplacementsRise}
+use Rattle.syntax_tree_cut.specs.Cuts.{CutForm}
+use Rattle.syntax_tree_cut.specs.inner.Cuts.{ReplacementsRise}
 use Rattle.syntax_tree_cut.proofs.CutFacts.{facts_of}
 use Rattle.syntax_tree_cut.proofs.Positions.{add_begin, add_end, add_next, replacements_rise, walk_within}
 use Rattle.syntax_tree_cut.proofs.cut.Cut.push_children.Goals as goal

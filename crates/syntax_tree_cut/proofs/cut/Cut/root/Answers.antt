@@ -3,7 +3,8 @@ use Rattle.std.proofs.lemmas.Option.{none-some, same_Some}
 use Rattle.syntax_tree.specs.Numbered.{number_of}
 use Rattle.syntax_tree.specs.Nodes.{whole}
 use Rattle.syntax_tree_cut.specs.declared.mark.Mark.{Mark}
-use Rattle.syntax_tree_cut.specs.Cuts.{CutForm, IsOccupant, ReplacementsRise, cut_tree}
+use Rattle.syntax_tree_cut.specs.Cuts.{CutForm, IsOccupant, cut_tree}
+use Rattle.syntax_tree_cut.specs.inner.Cuts.{ReplacementsRise}
 use Rattle.syntax_tree_cut.proofs.CutCalls.{root_is}
 use Rattle.syntax_tree_cut.proofs.CutFacts.{some_size}
 use Rattle.syntax_tree_cut.proofs.Positions.{replacements_rise}

@@ -1,5 +1,5 @@
 use Rattle.test_reducers.specs.ByteMode.{IsNoLonger, byte_mode}
-use Rattle.reduce_rounds.proofs.Candidates as lemmas
+use Rattle.reduce_rounds.proofs.Lent as lemmas
 use Rattle.test_reducers.proofs.tests.laws.asks_candidates.Goals as goal
 
 pub returns : goal.returns

@@ -1,5 +1,5 @@
 use Rattle.test_reducers.specs.ByteMode.{IsByteEdit, IsNoLonger, byte_mode}
-use Rattle.reduce_rounds.proofs.Ends as lemmas
+use Rattle.reduce_rounds.proofs.Lent as lemmas
 use Rattle.test_reducers.proofs.tests.laws.ends_minimal.Goals as goal
 
 pub returns : goal.returns

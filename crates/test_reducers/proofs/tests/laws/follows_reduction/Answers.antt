@@ -1,5 +1,5 @@
 use Rattle.test_reducers.specs.ByteMode.{byte_mode}
-use Rattle.reduce_rounds.proofs.Following as lemmas
+use Rattle.reduce_rounds.proofs.Lent as lemmas
 use Rattle.test_reducers.proofs.tests.laws.follows_reduction.Goals as goal
 
 pub returns : goal.returns

@@ -1,0 +1,9 @@
+pub mod Positions
+pub mod Input
+pub mod Entries
+pub mod Ranges
+pub mod Exact
+pub mod Firsts
+pub mod Kept
+pub mod Working
+pub mod Moves

@@ -1,0 +1,69 @@
+-- How the work on an alternative goes on.
+use Rattle.std.specs.Prelude.{◌≡◌, ℕ, ◌+◌, Bool, List, [], ◌∷◌, Option, slice_get}
+use Rattle.std.specs.List.{Contains}
+use Rattle.std.specs.List.Sorted.{IsStrictlyIncreasing}
+use Rattle.normal_form.specs.declared.normal.Sym.{Sym}
+use Rattle.normal_form.specs.Form.{NormalForm}
+use Rattle.chart_parser_ends.specs.declared.choice.Choice.{Choice}
+use Rattle.chart_parser_ends.specs.declared.repetition.Repetition.{Repetition}
+use Rattle.chart_parser_ends.specs.Positions.{HasAll, IsGrown}
+use Rattle.chart_parser_ends.specs.inner.Working.{HasAlternatives, alternative_at, symbol_at}
+
+-- It is the alternative with this number, of the rule's alternatives.
+abbrev pub FindsAlternative : NormalForm → ℕ → ℕ → Option (List Sym) → Type 0
+FindsAlternative N r number found = (alts : List (List Sym)) → HasAlternatives N r alts → found ≡ slice_get alts number
+
+-- The symbol comes next in the work.
+abbrev pub IsNextSymbol : NormalForm → Choice → Sym → Type 0
+IsNextSymbol N w s = (alts : List (List Sym)) → HasAlternatives N w.rule alts → symbol_at (alternative_at alts w.alternative) w.symbol ≡ s
+
+-- The work on the rule at the position `first` is at the beginning of this alternative.
+pub record Begins (rule first alternative : ℕ) (w : Choice) : Type 0 where
+  pub same_rule : w.rule ≡ rule
+  pub same_first : w.first ≡ first
+  pub at : w.alternative ≡ alternative
+  pub symbol : w.symbol ≡ 0
+  pub current : w.current.items ≡ first ∷ []
+  pub done : w.done ≡ 0
+  pub next : w.next.items ≡ []
+
+-- The next alternative is begun, and where the work on the last one has come to is among the ends.
+pub record HasNextAlternative (old new : Choice) : Type 0 where
+  pub begins : Begins old.rule old.first (old.alternative + 1) new
+  pub rising : IsStrictlyIncreasing new.ends.items
+  pub grown : IsGrown (Contains old.current.items) old.ends.items new.ends.items
+  pub all : HasAll (Contains old.current.items) new.ends.items
+
+-- The next symbol is begun, from where the last one ends.
+pub record HasNextSymbol (old new : Choice) : Type 0 where
+  pub rule : new.rule ≡ old.rule
+  pub first : new.first ≡ old.first
+  pub alternative : new.alternative ≡ old.alternative
+  pub symbol : new.symbol ≡ old.symbol + 1
+  pub current : new.current.items ≡ old.next.items
+  pub done : new.done ≡ 0
+  pub next : new.next.items ≡ []
+  pub ends : new.ends.items ≡ old.ends.items
+
+-- The work on a star or plus at the position `first` is at its beginning.
+pub record BeginsRepetition (rule first : ℕ) (symbol : Sym) (plus : Bool) (w : Repetition) : Type 0 where
+  pub same_rule : w.rule ≡ rule
+  pub same_first : w.first ≡ first
+  pub same_symbol : w.symbol ≡ symbol
+  pub same_plus : w.plus ≡ plus
+  pub reached : w.reached.items ≡ first ∷ []
+  pub from : w.from ≡ first
+  pub covered : w.covered.items ≡ []
+
+-- What an entry has from the position is reached and covered, and all before the next position is gone on from.
+pub record TakesEntry (old : Repetition) (position : ℕ) (ends : List ℕ) (new : Repetition) : Type 0 where
+  pub rule : new.rule ≡ old.rule
+  pub first : new.first ≡ old.first
+  pub symbol : new.symbol ≡ old.symbol
+  pub plus : new.plus ≡ old.plus
+  pub from : new.from ≡ position + 1
+  pub rising : IsStrictlyIncreasing new.reached.items
+  pub grown : IsGrown (Contains ends) old.reached.items new.reached.items
+  pub all : HasAll (Contains ends) new.reached.items
+  pub rising_covered : IsStrictlyIncreasing new.covered.items
+  pub grown_covered : IsGrown (Contains ends) old.covered.items new.covered.items

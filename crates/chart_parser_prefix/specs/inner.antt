@@ -1,0 +1,4 @@
+pub mod Productive
+pub mod Expected
+pub mod Walk
+pub mod Following

@@ -1,0 +1,3 @@
+pub mod Kinds
+pub mod CheckFaults
+pub mod Messages

@@ -1,0 +1,3 @@
+pub mod Empty
+pub mod Recursion
+pub mod Rules

@@ -1,0 +1,4 @@
+pub mod Candidates
+pub mod Tokens
+pub mod Gaps
+pub mod Built

@@ -1,0 +1,3 @@
+pub mod StateSets
+pub mod Dead
+pub mod Subsets

@@ -1,0 +1,4 @@
+pub mod Machine
+pub mod Fields
+pub mod Plain
+pub mod Asked

@@ -1,0 +1,2 @@
+pub mod ParserRules
+pub mod OwnRules

@@ -1,0 +1,2 @@
+pub mod VisitTrials
+pub mod Visiting

@@ -1,0 +1,4 @@
+pub mod Trials
+pub mod RoundsPlan
+pub mod Fields
+pub mod FieldProps

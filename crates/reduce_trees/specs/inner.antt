@@ -1,0 +1,4 @@
+pub mod Parts
+pub mod Candidates
+pub mod Fields
+pub mod FieldProps

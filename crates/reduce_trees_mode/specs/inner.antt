@@ -1,0 +1,2 @@
+pub mod FormedProp
+pub mod InputParts

@@ -1,0 +1,9 @@
+pub mod Tokens
+pub mod Cuts
+pub mod TreeLaws
+pub mod Steps
+pub mod Shapes
+pub mod Ways
+pub mod Children
+pub mod Keeping
+pub mod Dropping
