@@ -41,7 +41,7 @@ logs_of gates = map (λ (gate : SeenGate). gate.shown) gates
 abbrev pub counts_of : List SeenGate → List ℕ
 counts_of gates = map (λ (gate : SeenGate). gate.faults) gates
 
--- a call failed of the gate of the worker of this number, from 1
+-- a call failed of the gate of the worker of this number, from 1, as its count says
 abbrev pub GateFailed : ℕ → List SeenGate → List SeenGate → Type 0
 GateFailed worker old new = RoseAt worker (counts_of old) (counts_of new)
 
@@ -61,7 +61,7 @@ pub record World : Type 0 where
   pub journal : SeenJournal
   pub out : SeenOut
 
--- a call of the object failed
+-- a call of the object failed, as its count says, which rises then; or is at its greatest value, where it stays
 abbrev pub CallFailed : {T : Type 0} → Seen T → Seen T → Type 0
 CallFailed old new = Rose old.faults new.faults
 

@@ -40,7 +40,7 @@ verdicts_of history = verdict_in (records_of history)
 abbrev pub result_text : ReduceOptions → Problem → History → List ℕ
 result_text options problem history = reduced_text options.keeps problem (verdicts_of history)
 
--- the reduction came to its result: status 0; or 4, where a call failed of the files, or of `out`
+-- the reduction came to its result: status 0 or 4
 abbrev pub HasResult : ℕ → Type 0
 HasResult status = IsOneOf (0 ∷ 4 ∷ []) status
 
@@ -58,7 +58,7 @@ pub record NoCallFailed (jobs : ℕ) (old new : World) : Type 0 where
 -- What a run of `reduce` with these options has done, with this status, by however many workers and however these interleaved.
 -- What is said of a content holds where the object shows it.
 pub record Headline (may_say : List ℕ → Verdict → Type 0) (options : ReduceOptions) (old new : World) (status : ℕ) : Type 0 where
-  -- the texts that were asked with their verdicts, and which of these the reduction used, in their order
+  -- the texts that have a verdict, with it, and which of these the reduction used, in their order
   pub history : History
   -- what was reduced: where there is a history, the files' own problem as they were, by the grammar as it is written in its file
   pub problem : Problem
@@ -83,7 +83,8 @@ pub record Headline (may_say : List ℕ → Verdict → Type 0) (options : Reduc
   pub said : All (λ r. may_say r.text r.verdict) (records_of history)
   -- no text has two
   pub distinct : IsDistinct bytes_eq (texts_of (records_of history))
-  -- the workers' gates were opened for the script and the input, and asked as often as there are records; the others are as handed in
+  -- the workers' gates were opened for the script and the input, and asked as often as there are records; or not all were opened, and there is no record.
+  -- The others are as handed in
   pub asked : GatesWereUsed options (texts_of (records_of history)) (logs_of old.gates) (logs_of new.gates) old.journal new.journal
   pub other_gates : drop options.jobs new.gates ≡ drop options.jobs old.gates
   -- each text is of some of the start's lines or tokens, in the language of the grammar as it is written, and has each keep text
@@ -98,10 +99,11 @@ pub record Headline (may_say : List ℕ → Verdict → Type 0) (options : Reduc
   pub journal : IsOneOf (0 ∷ 4 ∷ 8 ∷ []) status → JournalWhole options.journal history old.journal new.journal
   -- at 1 and 11 too; or it is as handed in or was only opened, and there is no history
   pub journal_so_far : IsOneOf (1 ∷ 11 ∷ []) status → JournalSoFar options.journal history old.journal new.journal
-  -- at 12 it wasn't opened, or broke off: by one worker in the last record, or in a commit after all of the history
+  -- at 12 it wasn't opened, or broke off in its first line, and there is no history; or in an event: by one worker in the last record, or in a commit after
+  -- all of the history
   pub journal_broken : status ≡ 12 → JournalBroken options.jobs options.journal history old.journal new.journal
   -- at the others it and the gates are as handed in, and there is no history
-  pub not_reached : IsOneOf (3 ∷ 5 ∷ 6 ∷ 7 ∷ 9 ∷ 10 ∷ []) status → NotReached history old new
+  pub not_reached : ¬ IsOneOf (0 ∷ 1 ∷ 4 ∷ 8 ∷ 11 ∷ 12 ∷ []) status → NotReached history old new
   -- the history can be read back of its bytes, and no other history has them
   pub readable : IsHistory history
   pub only : (other : History) → IsHistory other → journal_text other ≡ journal_text history → other ≡ history

@@ -114,14 +114,14 @@ module _ (options : ReduceOptions) (history : History) (old new : World) where
   is_unparsed (unparsed trees mode read files untouched put) is = (trees, mode, read)
   is_unparsed _ is = absurd (cc is)
 
-  is_early : {status : ℕ} → Ends status → IsOneOf (3 ∷ 5 ∷ 6 ∷ 7 ∷ 9 ∷ 10 ∷ []) status → NotReached history old new
-  is_early (unread file reached failed same untouched put) is = untouched
-  is_early (faulty trees text mode read files untouched put) is = untouched
-  is_early (no_token trees fault mode uncut read files untouched put) is = untouched
-  is_early (unparsed trees mode read files untouched put) is = untouched
-  is_early (keep_missing index read files untouched put) is = untouched
-  is_early (too_long file reached longer files untouched put) is = untouched
-  is_early _ is = absurd (false≢true is)
+  is_early : {status : ℕ} → Ends status → ¬ IsOneOf (0 ∷ 1 ∷ 4 ∷ 8 ∷ 11 ∷ 12 ∷ []) status → NotReached history old new
+  is_early (unread file reached failed same untouched put) other = untouched
+  is_early (faulty trees text mode read files untouched put) other = untouched
+  is_early (no_token trees fault mode uncut read files untouched put) other = untouched
+  is_early (unparsed trees mode read files untouched put) other = untouched
+  is_early (keep_missing index read files untouched put) other = untouched
+  is_early (too_long file reached longer files untouched put) other = untouched
+  is_early _ other = absurd (other refl)
 
   same_others : {status : ℕ} → Ends status → SameOthers old.files.shown new.files.shown options.output
   same_others (done report writes put) = writes.others

@@ -51,7 +51,7 @@ pub record ReduceMeans (options : ReduceOptions) (history : History) (old new : 
   pub journal : status ≡ 12 → CallFailed old.journal new.journal × JournalBroken options.jobs options.journal history old.journal new.journal
   pub whole : IsOneOf (0 ∷ 4 ∷ 8 ∷ []) status → JournalWhole options.journal history old.journal new.journal
   pub so_far : status ≡ 1 → JournalSoFar options.journal history old.journal new.journal
-  pub early : IsOneOf (3 ∷ 5 ∷ 6 ∷ 7 ∷ 9 ∷ 10 ∷ []) status → NotReached history old new
+  pub early : ¬ IsOneOf (0 ∷ 1 ∷ 4 ∷ 8 ∷ 11 ∷ 12 ∷ []) status → NotReached history old new
   pub others : SameOthers old.files.shown new.files.shown options.output
   pub unwritten : status ≢ 0 → status ≢ 4 → SameFiles old.files.shown new.files.shown
   pub line : IsOneOf (1 ∷ 3 ∷ 7 ∷ 8 ∷ 10 ∷ 12 ∷ []) status → PutsItsLine options.mode old.files old.out new.out status

@@ -32,7 +32,8 @@ pub data JournalSoFar (name : List ℕ) (history : History) (old new : SeenJourn
   untouched : JournalUntouched history old new → JournalSoFar name history old new
   empty : JournalEmpty name history old new → JournalSoFar name history old new
 
--- A call of it failed. It wasn't opened, and shows what it did; or it was, and broke off: in its first line, or in an event. With one worker that is the last record of the history, or a commit that would come next.
+-- It wasn't opened, and shows what it did; or it was, and broke off: in its first line, or in an event. With one worker that is the last record of the history,
+-- or a commit after all of it.
 pub data JournalBroken (workers : ℕ) (name : List ℕ) (history : History) (old new : SeenJournal) : Type 0 where
   unopened : history ≡ [] → new.shown ≡ old.shown → JournalBroken workers name history old new
   broke_off : HasPartBy workers history (opened_as name old.shown) new.shown → JournalBroken workers name history old new

@@ -35,7 +35,8 @@ RoseAtIndex (count ∷ counts) (count' ∷ counts') (suc index) = RoseAtIndex co
 abbrev pub RoseAt : ℕ → List ℕ → List ℕ → Type 0
 RoseAt worker counts counts' = (index : ℕ) × (worker ≡ suc index) × RoseAtIndex counts counts' index
 
--- It broke off: its bytes are those of the events before the one whose put failed, and a part of that one's. With one worker that is the last record, or a commit that would come next.
+-- It broke off: its bytes are those of the events before the one whose put failed, and a part of that one's. With one worker that is the last record,
+-- or a commit after all of it.
 abbrev pub BrokeBy : ℕ → History → List ℕ → Type 0
 BrokeBy workers history bytes = (workers ≡ 1 → BrokeAtEnd history bytes) × (workers ≢ 1 → BrokeOff history bytes)
 

@@ -44,7 +44,7 @@ abbrev pub units_of : Problem → ℕ
 units_of (Problem.of_lines start) = length (numbered_lines start)
 units_of (Problem.of_tree mode input) = weight input.whole
 
--- the text may be asked: it has some of the start's lines, or is printed of some of its tokens, is in the grammar's language, and each keep text occurs in it
+-- the text may be asked: it has some of the start's lines, or is printed of some of its tokens and is in the grammar's language; and it is admitted
 abbrev pub IsCandidateOf : List (List ℕ) → Problem → List ℕ → Type 0
 IsCandidateOf keeps (Problem.of_lines start) text = IsLineCandidate (keeps_admit keeps) start text
 IsCandidateOf keeps (Problem.of_tree mode input) text = IsCandidate input text

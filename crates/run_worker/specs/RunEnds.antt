@@ -55,6 +55,6 @@ pub record BrokeInCommit (history : History) (bytes : List ℕ) : Type 0 where
   pub part : ℕ
   pub written : bytes ≡ journal_text history ++ take part (event_text (Committed number))
 
--- it broke off in the last record, or in a commit that would come next
+-- it broke off in the last record, or in a commit after all of the history
 abbrev pub BrokeAtEnd : History → List ℕ → Type 0
 BrokeAtEnd history bytes = BrokeInRecord history bytes ⊎ BrokeInCommit history bytes
