@@ -1,3 +1,3 @@
 unsigned int hash_type; stirred( )
-{ entry->hash >> 33 ;
+{ hash >> 33 ;
 }

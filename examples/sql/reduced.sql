@@ -1,6 +1,5 @@
 CREATE TABLE articles (
     article ,
-    name ,
     price
 );
 CREATE TABLE order_lines (
@@ -10,10 +9,10 @@ CREATE TABLE order_lines (
 WITH sold AS (
     SELECT article
 ), wanted AS (
-    SELECT article, name
+    SELECT article
 FROM articles
 )
-SELECT wanted.name , price
+SELECT price
 FROM wanted
     JOIN articles
 JOIN order_lines ;

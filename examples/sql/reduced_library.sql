@@ -3,6 +3,6 @@ CREATE TABLE loan (
     note
 );
 CREATE VIEW lent_out AS
-    SELECT copy , note
+    SELECT note
     FROM loan ;
 ALTER TABLE loan DROP note;

@@ -10,8 +10,10 @@
 
 mod build;
 mod laws;
+mod nullable;
 mod row;
 mod search;
+mod stars;
 mod table;
 
 pub use build::compat;

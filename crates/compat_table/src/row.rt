@@ -65,6 +65,18 @@ impl Row {
         Ok(())
     }
 
+    /// Adds a symbol, also where it is one of these.
+    pub(crate) fn push(&mut self, symbol: Sym) -> Result<(), Memory>
+        ensures { OnOk result (IsGrown (symbol ∷ []) (symbols_of self.old) (symbols_of self.new)) }
+    {
+        match symbol {
+            Sym::Kind(kind) => self.kinds.push(kind)?,
+            Sym::Set(set) => self.sets.push(set)?,
+            Sym::Rule(rule) => self.rules.push(rule)?,
+        }
+        Ok(())
+    }
+
     /// Adds symbols.
     pub(crate) fn add(
         &mut self,

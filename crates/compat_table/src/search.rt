@@ -1,12 +1,14 @@
-//! Searches along alternatives that are one symbol alone.
+//! Searches along the symbols that can be alone in an alternative, and those of pluses.
 
-ghost use Rattle.std.specs.Prelude.{◌≡◌, ◌+◌, ◌<◌, ◌^◌, ◌++◌, IfOk, OnOk, length, map, option_to_list};
-ghost use Rattle.std.specs.List.{All, filter_map};
+ghost use Rattle.std.specs.Prelude.{◌≡◌, ◌+◌, ◌<◌, ◌^◌, [], ◌∷◌, ◌++◌, IfOk, OnOk, length, map, nat_eq};
+ghost use Rattle.std.specs.List.{All, flat_map};
+ghost use Rattle.grammar_check_tables.specs.Flags.{flag};
 ghost use Rattle.normal_form.specs.View.{alts_form, rule_form};
-ghost use Rattle.compat_table.specs.inner.Rows.{IsRowOf, lone_symbol, lone_symbols};
+ghost use Rattle.compat_table.specs.inner.Rows.{IsRowOf, lone_symbols, need as need_of, needed as needed_of, next_symbols};
 ghost use Rattle.compat_table.specs.inner.View.{edges_of, symbols_of};
 ghost use Rattle.compat_table.specs.inner.Table.{AreRowsOf, IsClosed, IsSortedRow};
 
+use crate::nullable::is_nullable;
 use crate::row::Row;
 use faults::Memory;
 use normal_form::{NormalRule, Sym};
@@ -15,46 +17,106 @@ use std::alloc::Global;
 /// How many symbols may be found for all rules together, each as often as it is found.
 const SYMBOLS: usize = 1 << 24;
 
-/// Adds the symbol of an alternative that is one symbol alone.
-fn push_lone(symbols: &mut Vec<Sym>, alt: &[Sym]) -> Result<(), Memory>
-    ensures { OnOk result (symbols.new.items ≡ symbols.old.items ++ option_to_list (lone_symbol alt.now)) }
+/// 0 for a symbol that derives the empty list, where the table says which rules do, and 1 for others.
+fn need(symbol: Sym, flags: &[bool]) -> usize
+    ensures { result ≡ need_of (flag flags.now) symbol }
 {
-    if alt.len() == 1 {
-        symbols.push(alt[0])?;
+    if is_nullable(symbol, flags) { 0 } else { 1 }
+}
+
+/// How many of the symbols don't derive the empty list.
+fn count_needed(symbols: &[Sym], flags: &[bool]) -> usize
+    ensures { result ≡ needed_of (flag flags.now) symbols.now }
+{
+    let mut count = 0;
+    for symbol in symbols {
+        count += need(*symbol, flags);
+    }
+    count
+}
+
+/// Whether the symbol can be alone in an alternative of which so many symbols don't derive the empty list.
+fn is_lone(symbol: Sym, flags: &[bool], needed: usize) -> bool
+    ensures { result ≡ nat_eq (need_of (flag flags.now) symbol) needed }
+{
+    need(symbol, flags) == needed
+}
+
+/// Adds the symbols that can be alone in an alternative. It takes time linear in the alternative.
+fn push_lone(symbols: &mut Vec<Sym>, alt: &[Sym], flags: &[bool]) -> Result<(), Memory>
+    ensures { OnOk result (symbols.new.items ≡ symbols.old.items ++ lone_symbols (flag flags.now) alt.now) }
+{
+    let needed = count_needed(alt, flags);
+    for symbol in alt {
+        if is_lone(*symbol, flags, needed) {
+            symbols.push(*symbol)?;
+        }
     }
     Ok(())
 }
 
-/// The symbols that are alternatives, each of them alone.
-fn lone_among(alloc: Global, alts: &[Vec<Sym>]) -> Result<Vec<Sym>, Memory>
-    ensures { IfOk result (λ symbols. symbols.items ≡ filter_map lone_symbol (alts_form alts.now)) }
+/// The symbols that can be alone in one of the alternatives.
+fn lone_among(alloc: Global, alts: &[Vec<Sym>], flags: &[bool]) -> Result<Vec<Sym>, Memory>
+    ensures { IfOk result (λ symbols. symbols.items ≡ flat_map (lone_symbols (flag flags.now)) (alts_form alts.now)) }
 {
     let mut symbols = Vec::new(alloc);
     for alt in alts {
-        push_lone(&mut symbols, alt)?;
+        push_lone(&mut symbols, alt, flags)?;
     }
     Ok(symbols)
 }
 
-/// The symbols that are alternatives of the rule, each of them alone.
-fn lone_of(alloc: Global, rule: &NormalRule) -> Result<Vec<Sym>, Memory>
-    ensures { IfOk result (λ symbols. symbols.items ≡ lone_symbols (rule_form rule.now)) }
+/// One symbol alone.
+fn only(alloc: Global, symbol: Sym) -> Result<Vec<Sym>, Memory>
+    ensures { IfOk result (λ symbols. symbols.items ≡ symbol ∷ []) }
+{
+    let mut symbols = Vec::new(alloc);
+    symbols.push(symbol)?;
+    Ok(symbols)
+}
+
+/// The symbols for which what fits them fits the rule.
+fn next_of(alloc: Global, rule: &NormalRule, flags: &[bool]) -> Result<Vec<Sym>, Memory>
+    ensures { IfOk result (λ symbols. symbols.items ≡ next_symbols (flag flags.now) (rule_form rule.now)) }
 {
     match rule {
-        NormalRule::Regular(alts) => lone_among(alloc, alts),
+        NormalRule::Regular(alts) => lone_among(alloc, alts, flags),
+        NormalRule::Plus(symbol) => only(alloc, *symbol),
         _ => Ok(Vec::new(alloc)),
     }
 }
 
-/// For each rule the symbols that are alternatives of it, each of them alone.
-pub(crate) fn edges(alloc: Global, rules: &[NormalRule]) -> Result<Vec<Vec<Sym>>, Memory>
-    ensures { IfOk result (λ edges. edges_of edges.items ≡ map lone_symbols (map rule_form rules.now)) }
+/// For each rule the symbols for which what fits them fits the rule. It takes time linear in the
+/// rules' size.
+pub(crate) fn edges(
+    alloc: Global,
+    rules: &[NormalRule],
+    flags: &[bool],
+) -> Result<Vec<Vec<Sym>>, Memory>
+    ensures { IfOk result (λ edges. edges_of edges.items ≡ map (next_symbols (flag flags.now)) (map rule_form rules.now)) }
 {
     let mut edges = Vec::new(alloc);
     for rule in rules {
-        edges.push(lone_of(alloc, rule)?)?;
+        edges.push(next_of(alloc, rule, flags)?)?;
     }
     Ok(edges)
+}
+
+/// How many symbols the edges of a rule lead to.
+fn edges_at(edges: &[Vec<Sym>], rule: u32) -> usize {
+    match edges.get(rule as usize) {
+        Some(symbols) => symbols.len(),
+        None => 0,
+    }
+}
+
+/// How many symbols the edges of a rule and of these others lead to, each as often as an edge does.
+fn count_found(edges: &[Vec<Sym>], rule: u32, others: &[u32]) -> usize {
+    let mut count = edges_at(edges, rule);
+    for other in others {
+        count = count.saturating_add(edges_at(edges, *other));
+    }
+    count
 }
 
 /// The symbols that the rule leads to; `found` grows by how many were found, each as often as it was.
@@ -83,15 +145,12 @@ fn row_of(
         row.add(&edges[next as usize], marks, rule + 1)?;
         done += 1;
     }
-    *found = found
-        .saturating_add(row.kinds.len())
-        .saturating_add(row.sets.len())
-        .saturating_add(row.rules.len());
+    *found = found.saturating_add(count_found(edges, rule, &row.rules));
     Ok(row.sorted())
 }
 
 /// For each rule the symbols that it leads to. It is out of memory where more than 16,777,216 symbols
-/// are found, so that a long chain of rules ends soon.
+/// are found, each as often as it is, so that a long chain of rules ends soon.
 pub(crate) fn rows(alloc: Global, edges: &[Vec<Sym>]) -> Result<Vec<Row>, Memory>
     requires closed { IsClosed (edges_of edges.now) }
     requires few { length edges.now < 2 ^ 32 }

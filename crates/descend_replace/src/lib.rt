@@ -10,4 +10,4 @@ mod laws;
 
 pub use descend::{compatible, level_order};
 pub use faults::Memory;
-pub use laws::{fits_in_decides, fits_is_decided, levels_are_children};
+pub use laws::{fits_in_decides, fits_is_decided, levels_are_children, nullable_in_decides};

@@ -193,10 +193,10 @@ ends 2 'perses: bad command line'
 # A generated program is reduced in memory, in both modes: no file, folder or journal comes of it.
 ls > before
 summary() {
-    printf 'units: 14788 -> %s\nbytes: 39139 -> %s\nrounds: 2\nused: 28\nint f107( ) {\nQ = %s;\n}' "$@"
+    printf 'units: 14788 -> %s\nbytes: 39139 -> %s\nrounds: 2\nused: %s\nint f107( ) {\nQ = %s;\n}' "$@"
 }
-ends 0 "$(summary 10 26 '"Z" ')" selftest --number 0 --size 300
-ends 0 "$(summary 19 38 'f0(a, (b + "Z"))')" selftest --mode=hdd --size=300 --number=0
+ends 0 "$(summary 10 26 33 '"Z" ')" selftest --number 0 --size 300
+ends 0 "$(summary 19 38 28 'f0(a, (b + "Z"))')" selftest --mode=hdd --size=300 --number=0
 puts_nothing selftest --number 0 --size 1
 ls | cmp - before
 

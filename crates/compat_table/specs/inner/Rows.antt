@@ -1,24 +1,32 @@
 -- What is kept of the symbols that fit each rule, and how it is found.
-use Rattle.std.specs.Prelude.{◌≡◌, ◌⊎◌, ℕ, ◌+◌, ◌<◌, ◌≤◌, if◌then◌else◌, nat_eq, List, [], ◌∷◌, Option, Some, None, length, slice_get, slice_index, sum_by}
-use Rattle.std.specs.List.{Contains, filter_map}
+use Rattle.std.specs.Prelude.{◌≡◌, ◌↔◌, ◌⊎◌, ℕ, ◌+◌, ◌<◌, ◌≤◌, if◌then◌else◌, nat_eq, Bool, List, [], ◌∷◌, Some, length, slice_get, slice_index, sum_by}
+use Rattle.std.specs.List.{Contains, filter, flat_map}
 use Rattle.normal_form.specs.declared.normal.Sym.{Sym}
 use Rattle.normal_form.specs.declared.normal.Sym.TheVariants.{Kind, Set, Rule}
 use Rattle.normal_form.specs.Form.{RuleForm}
+use Rattle.compat_table.specs.Nullable.{is_nullable}
 
--- the symbol of an alternative that is one symbol alone
-abbrev pub lone_symbol : List Sym → Option Sym
-lone_symbol [] = None
-lone_symbol (s ∷ []) = Some s
-lone_symbol (s ∷ t ∷ ss) = None
+-- 0 for a symbol that derives the empty list, where this says which rules do, and 1 for others
+abbrev pub need : (ℕ → Bool) → Sym → ℕ
+need nulls s = if is_nullable nulls s then 0 else 1
 
--- the symbols that are alternatives of the rule, each of them alone
-abbrev pub lone_symbols : RuleForm → List Sym
-lone_symbols (RuleForm.regular alts) = filter_map lone_symbol alts
-lone_symbols (RuleForm.star s) = []
-lone_symbols (RuleForm.plus s) = []
-lone_symbols (RuleForm.opt s) = []
+-- how many of the symbols don't derive the empty list
+abbrev pub needed : (ℕ → Bool) → List Sym → ℕ
+needed nulls [] = 0
+needed nulls (s ∷ ss) = need nulls s + needed nulls ss
 
--- The symbol is alone in an alternative of the rule r.
+-- the symbols of an alternative that can be alone in it: those beside which all others derive the empty list
+abbrev pub lone_symbols : (ℕ → Bool) → List Sym → List Sym
+lone_symbols nulls alt = filter (λ s. nat_eq (need nulls s) (needed nulls alt)) alt
+
+-- the symbols for which what fits them fits the rule: those that can be alone in an alternative of it, and the symbol of a plus
+abbrev pub next_symbols : (ℕ → Bool) → RuleForm → List Sym
+next_symbols nulls (RuleForm.regular alts) = flat_map (lone_symbols nulls) alts
+next_symbols nulls (RuleForm.star s) = []
+next_symbols nulls (RuleForm.plus s) = s ∷ []
+next_symbols nulls (RuleForm.opt s) = []
+
+-- The symbol is one of those of the rule r.
 abbrev pub HasEdge : List (List Sym) → ℕ → Sym → Type 0
 HasEdge edges r t = (symbols : List Sym) × (slice_get edges r ≡ Some symbols) × Contains symbols t
 
@@ -66,3 +74,11 @@ pub record IsSearched (edges : List (List Sym)) (r : ℕ) (row : Symbols) (done 
   pub sound : (t : Sym) → IsAmong row t → LeadsTo edges r t
   pub began : (t : Sym) → HasEdge edges r t → IsAmong row t
   pub closed : (k : ℕ) (t : Sym) → k < done → HasEdge edges (slice_index row.rules k) t → IsAmong row t
+
+-- The rule r is a star of the symbol, or one of these others is.
+abbrev pub HasStar : List RuleForm → ℕ → List ℕ → Sym → Type 0
+HasStar rules r others t = (q : ℕ) × ((q ≡ r) ⊎ Contains others q) × (slice_get rules q ≡ Some (RuleForm.star t))
+
+-- Of the stars among the rule r and these others these are exactly the symbols.
+abbrev pub AreStars : List RuleForm → ℕ → List ℕ → Symbols → Type 0
+AreStars rules r others stars = (t : Sym) → IsAmong stars t ↔ HasStar rules r others t

@@ -9,7 +9,7 @@ fn reduces_programs_to_what_is_left_of_the_target_line(rt: HostRuntime) -> Resul
     let rows = [
         (
             (0, 1, TreeMode::Perses),
-            "units: 70 -> 10\nbytes: 158 -> 24\nrounds: 2\nused: 17\nint f0( ) {\nQ = \"Z\" ;\n}\n",
+            "units: 70 -> 10\nbytes: 158 -> 24\nrounds: 2\nused: 22\nint f0( ) {\nQ = \"Z\" ;\n}\n",
         ),
         (
             (0, 1, TreeMode::Hdd),
@@ -17,7 +17,7 @@ fn reduces_programs_to_what_is_left_of_the_target_line(rt: HostRuntime) -> Resul
         ),
         (
             (1, 10, TreeMode::Perses),
-            "units: 519 -> 10\nbytes: 1334 -> 24\nrounds: 2\nused: 24\nint f4( ) {\nQ = \"Z\" ;\n}\n",
+            "units: 519 -> 10\nbytes: 1334 -> 24\nrounds: 2\nused: 29\nint f4( ) {\nQ = \"Z\" ;\n}\n",
         ),
         (
             (1, 10, TreeMode::Hdd),
