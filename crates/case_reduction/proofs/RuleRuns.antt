@@ -1,27 +1,31 @@
 -- A run of a program over the rule ends with its summary, or out of memory.
-use Rattle.std.proofs.Common.{arith, ◌≡◌, ◌∙◌, ◌≤◌, inl, inr, ℕ, zero, suc, List, [], ◌∷◌, ◌++◌, Result, Ok, Err, map, refl, sym, ap, subst}
+use Rattle.std.proofs.Common.{arith, ◌≡◌, ◌∙◌, ◌≤◌, inl, inr, ℕ, zero, suc, List, [], ◌∷◌, ◌++◌, Option, Result, Ok, Err, refl, sym, ap, subst}
 use Rattle.std.specs.Prelude.{IfOk}
 use Rattle.std.proofs.lemmas.Result.{IfOk-weaker}
 use Rattle.std.specs.List.{AllByRecursion}
 use Rattle.std.proofs.lemmas.List.Elements.{recursion_from_All}
 use Rattle.faults.specs.Count.{Rose}
 use Rattle.script_gate_trait.specs.declared.gate.Verdict.TheVariants.{Yes, No}
+use Rattle.script_gate_trait.specs.declared.log.Log.{Log}
 use Rattle.script_gate_trait.specs.Rule.{rule_verdict}
 use Rattle.verdict_table.specs.declared.record.Record.{Record}
 use Rattle.verdict_table.specs.TableState.{verdict_in}
 use Rattle.reduce_journal.specs.History.{History, records_of}
 use Rattle.reduce_journal.specs.declared.counts.Counts.{Counts}
+use Rattle.run_gated.specs.Seen.{SeenGate, fault_counts_of, seen_gates}
+use Rattle.run_gated.specs.Run.{Run}
 use Rattle.run_gated.specs.Records.{FirstIs}
 use Rattle.run_gated.specs.Workers.{RoseAtIndex}
 use Rattle.run_gated.specs.declared.fault.RunFault.{RunFault}
 use Rattle.run_gated.specs.declared.ran.Reduced.{Reduced}
-use Rattle.run_gated.specs.declared.fault.RunFault.TheVariants as run
+use Rattle.run_gated.specs.declared.fault.RunFault.TheVariants as run_fault
 use Rattle.reduce_step.specs.declared.mode.TreeMode.{TreeMode}
 use Rattle.run_problem.specs.Problem.{IsReductionOf, Problem, counts_of, start_of}
 use Rattle.run_problem.specs.Laws.{ProblemsReduceAlike}
-use Rattle.run_problem.specs.Ends.{ProblemEnds, ReducesFrom, RunFails}
+use Rattle.run_problem.specs.Ends.{IsRunOf, ProblemEnds, ReducesFrom, RunFails}
 use Rattle.run_problem.specs.Read.{IsReadAs}
 use Rattle.run_problem.specs.declared.problem.ReadProblem.{ReadProblem}
+use Rattle.worker_pool.specs.declared.worker.Worker.{Worker}
 use Rattle.case_language.specs.Laws.{CasesGetYes}
 use Rattle.reduce_journal.specs.Report.{first_lines}
 use Rattle.case_reduction.specs.Summary.{IsCaseProblem, IsSummary}
@@ -33,15 +37,12 @@ never_rose : (count : ℕ) → Rose count 0 → ⊥
 never_rose count (inl less) = omega (arith, less)
 never_rose count (inr full) = omega (arith, full)
 
--- the counts of workers whose gates never fail
-abbrev pub no_faults : {X : Type 0} → List X → List ℕ
-no_faults workers = map (λ w. 0) workers
-
-none_rose : {X : Type 0} (gates : List ℕ) (workers : List X) (index : ℕ) → RoseAtIndex gates (no_faults workers) index → ⊥
-none_rose [] workers index rose = rose
-none_rose (count ∷ gates) [] index rose = rose
-none_rose (count ∷ gates) (w ∷ workers) zero rose = never_rose count rose
-none_rose (count ∷ gates) (w ∷ workers) (suc index) rose = none_rose gates workers index rose
+-- of workers whose gates never fail
+none_rose : {G : Type 0} (counts : List ℕ) (log : G → Option Log) (workers : List (Worker G)) (index : ℕ) → RoseAtIndex counts (fault_counts_of (seen_gates log (λ _. 0) workers)) index → ⊥
+none_rose [] log workers index rose = rose
+none_rose (count ∷ counts) log [] index rose = rose
+none_rose (count ∷ counts) log (w ∷ workers) zero rose = never_rose count rose
+none_rose (count ∷ counts) log (w ∷ workers) (suc index) rose = none_rose counts log workers index rose
 
 -- the rule doesn't refuse a text that it says yes to
 not_refused : (records : List Record) → AllByRecursion (λ (r : Record). r.verdict ≡ rule_verdict 23121 r.text) records → (start : List ℕ) → rule_verdict 23121 start ≡ Yes → FirstIs start No records → ⊥
@@ -50,19 +51,23 @@ not_refused (r ∷ records) by start is first =
     let no : No ≡ Yes = sym first.1 ∙ by.0 ∙ ap (rule_verdict 23121) first.0 ∙ is in
     cc
 
-module _ (mode : TreeMode) (number size : ℕ) (problem : Problem) (of : IsCaseProblem mode number size problem) {X : Type 0} (count : ℕ) (gates : List ℕ) (workers : List X) (history : History) (by : BySaid (records_of history)) where
+module _ (mode : TreeMode) (number size : ℕ) (problem : Problem) (of : IsCaseProblem mode number size problem) (run : Run) (by : BySaid (records_of run.history)) where
   -- it fails only where memory runs out
-  pub only_memory : CasesGetYes → 1 ≤ size → (fault : RunFault) → RunFails count [] problem history gates (no_faults workers) 0 0 fault → fault ≡ run.Memory
-  only_memory get_yes some run.NotInteresting why =
-      absurd (not_refused (records_of history) (recursion_from_All _ (records_of history) by) (start_of problem) (ap (rule_verdict 23121) (begins_with_case mode number size problem of) ∙ get_yes number size some) why.0.first)
-  only_memory get_yes some (run.Script worker) why = absurd (none_rose gates workers why.0.0 why.0.2)
-  only_memory get_yes some run.Journal why = absurd (never_rose 0 why.0)
-  only_memory get_yes some run.Memory why = refl
+  pub only_memory : {G : Type 0} (log : G → Option Log) (workers : List (Worker G)) → run.after.gates ≡ seen_gates log (λ _. 0) workers → run.after.journal.faults ≡ 0
+      → CasesGetYes → 1 ≤ size → (fault : RunFault) → RunFails [] problem run fault → fault ≡ run_fault.Memory
+  only_memory log workers gates quiet get_yes some run_fault.NotInteresting why =
+      absurd (not_refused (records_of run.history) (recursion_from_All _ (records_of run.history) by) (start_of problem) (ap (rule_verdict 23121) (begins_with_case mode number size problem of) ∙ get_yes number size some) why.0.first)
+  only_memory log workers gates quiet get_yes some (run_fault.Script worker) why =
+      let counts = fault_counts_of run.before.gates in
+      absurd (none_rose counts log workers why.0.0 (subst (λ (after : List SeenGate). RoseAtIndex counts (fault_counts_of after) why.0.0) gates why.0.2))
+  only_memory log workers gates quiet get_yes some run_fault.Journal why =
+      absurd (never_rose run.before.journal.faults (subst (λ (count : ℕ). Rose run.before.journal.faults count) quiet why.0))
+  only_memory log workers gates quiet get_yes some run_fault.Memory why = refl
 
   -- the report's first lines and the text are the summary
-  pub is_summary : ProblemsReduceAlike → (text : List ℕ) (counts : Counts) → ReducesFrom count [] problem history text counts → IsSummary mode number size (first_lines counts ++ text)
+  pub is_summary : ProblemsReduceAlike → (text : List ℕ) (counts : Counts) → ReducesFrom run.workers [] problem run.history text counts → IsSummary mode number size (first_lines counts ++ text)
   is_summary alike text counts came =
-      let records : List Record = records_of history in
+      let records : List Record = records_of run.history in
       let reduced : IsReductionOf [] (verdict_in records) (Problem.of_tree mode of.input) text = subst (λ (p : Problem). IsReductionOf [] (verdict_in records) p text) of.is_problem came.reduced in
       let is_counts : counts ≡ counts_of [] (Problem.of_tree mode of.input) records = came.is_counts ∙ ap (λ (p : Problem). counts_of [] p records) of.is_problem in
       record {
@@ -74,17 +79,18 @@ module _ (mode : TreeMode) (number size : ℕ) (problem : Problem) (of : IsCaseP
 
 -- A run of what was read of the program, without keep texts.
 module _ (mode : TreeMode) (number size : ℕ) (read : ReadProblem) (of : (problem : Problem) × IsReadAs [] read problem × IsCaseProblem mode number size problem) (keeps : List (List ℕ)) (none : keeps ≡ [])
-    {X : Type 0} (count : ℕ) (gates : List ℕ) (workers : List X) (history : History) (by : BySaid (records_of history)) (outcome : Result Reduced RunFault) (ends : (one : Problem) → IsReadAs keeps read one → ProblemEnds count keeps one history gates (no_faults workers) 0 0 outcome) where
-  its_end : ProblemEnds count [] of.0 history gates (no_faults workers) 0 0 outcome
-  its_end = subst (λ (k : List (List ℕ)). ProblemEnds count k of.0 history gates (no_faults workers) 0 0 outcome) none (ends of.0 (subst (λ (k : List (List ℕ)). IsReadAs k read of.0) (sym none) of.1))
+    (run : Run) (by : BySaid (records_of run.history)) (ran : (one : Problem) → IsReadAs keeps read one → IsRunOf keeps one run) where
+  its_end : ProblemEnds [] of.0 run run.outcome
+  its_end = subst (λ (k : List (List ℕ)). ProblemEnds k of.0 run run.outcome) none (ran of.0 (subst (λ (k : List (List ℕ)). IsReadAs k read of.0) (sym none) of.1)).ends
 
-  pub ends_with_summary : ProblemsReduceAlike → (reduced : Reduced) → outcome ≡ Ok reduced → IsSummary mode number size (first_lines reduced.counts ++ reduced.text.items)
+  pub ends_with_summary : ProblemsReduceAlike → (reduced : Reduced) → run.outcome ≡ Ok reduced → IsSummary mode number size (first_lines reduced.counts ++ reduced.text.items)
   ends_with_summary alike reduced is =
-      let end = subst (ProblemEnds count [] of.0 history gates (no_faults workers) 0 0) is its_end in
-      is_summary mode number size of.0 of.2 count gates workers history by alike reduced.text.items reduced.counts end.0
+      let end = subst (ProblemEnds [] of.0 run) is its_end in
+      is_summary mode number size of.0 of.2 run by alike reduced.text.items reduced.counts end.0
 
-  pub ends_in_memory : CasesGetYes → 1 ≤ size → (fault : RunFault) → outcome ≡ Err fault → fault ≡ run.Memory
-  ends_in_memory get_yes some fault is = only_memory mode number size of.0 of.2 count gates workers history by get_yes some fault (subst (ProblemEnds count [] of.0 history gates (no_faults workers) 0 0) is its_end)
+  pub ends_in_memory : {G : Type 0} (log : G → Option Log) (workers : List (Worker G)) → run.after.gates ≡ seen_gates log (λ _. 0) workers → run.after.journal.faults ≡ 0
+      → CasesGetYes → 1 ≤ size → (fault : RunFault) → run.outcome ≡ Err fault → fault ≡ run_fault.Memory
+  ends_in_memory log workers gates quiet get_yes some fault is = only_memory mode number size of.0 of.2 run by log workers gates quiet get_yes some fault (subst (ProblemEnds [] of.0 run) is its_end)
 
 -- a text that is answered is this one
 pub answered : {X E : Type 0} (answer : Result X E) (items : X → List ℕ) (text : List ℕ) (P : List ℕ → Type 0) → IfOk answer (λ x. items x ≡ text) → P text → IfOk answer (λ x. P (items x))

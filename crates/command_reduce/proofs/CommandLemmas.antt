@@ -10,7 +10,7 @@ use Rattle.reduce_trees_input.specs.Laws.{InputFaultOnce, InputsAreInLanguage}
 use Rattle.command_ends.specs.declared.status.Refusal.{Refusal}
 use Rattle.command_ends.specs.declared.status.Refusal.TheVariants.{Memory, CannotRead, CannotWrite, Grammar, KeepMissing, NoParse, TooLong, Uncut}
 use Rattle.run_problem.specs.Problem.{Problem, start_of}
-use Rattle.run_problem.specs.Ends.{AreOf, IsRefused, IsUnfinished, ProblemEnds, ReducesFrom, RunFails}
+use Rattle.run_problem.specs.Ends.{AreOf, IsRefused, IsRunOf, IsUnfinished, ProblemEnds, ReducesFrom, RunFails}
 use Rattle.run_problem.specs.Read.{IsReadAs, start_read}
 use Rattle.run_problem.specs.declared.problem.ReadProblem.{ReadProblem}
 use Rattle.reduce_journal.specs.History.{History, records_of}
@@ -18,21 +18,22 @@ use Rattle.reduce_journal.specs.Report.{report_text}
 use Rattle.reduce_journal.specs.declared.counts.Counts.{Counts}
 use Rattle.run_gated.specs.declared.ran.Reduced.{Reduced}
 use Rattle.run_gated.specs.Faults.{fault_of}
-use Rattle.run_gated.specs.RunEnds.{NoneFailed}
+use Rattle.run_gated.specs.Seen.{NoneFailed}
+use Rattle.run_gated.specs.Run.{Run}
 use Rattle.script_gate_trait.specs.declared.gate.GateFault.{GateFault}
 use Rattle.script_gate_trait.specs.declared.gate.GateFault.TheVariants.{Failed as GateFailed, Memory as GateMemory}
 use Rattle.command_reduce.specs.Reduce.{GateUnopened, IsHistoryOfInput, ProblemAccepted, ProblemRead, RecordsAreSound, ReduceEnds, Reduces, ReducesTo}
 use Rattle.command_reduce.specs.inner.Reduce.{Inside, ProblemFails, ReduceFails, ReduceReports, ReduceSteps, beside}
 use Rattle.command_reduce_calls.specs.Journal.{JournalSoFar, JournalWhole}
 use Rattle.command_reduce.specs.inner.Read.{AcceptFails, KeepRefused}
-use Rattle.command_reduce.specs.inner.Run.{JournalAfter, StartLeaves, Unopened}
+use Rattle.command_reduce.specs.inner.Run.{IsSoundStarted, JournalAfter, StartLeaves, Unopened}
 use Rattle.command_reduce_calls.specs.Calls.{WriteEnds}
 use Rattle.command_reduce.specs.Reduce.ReduceEnds.{done, memory, unread, unwritten, faulty, no_token, unparsed, uninteresting, unput, keep_missing, too_long, script, journal}
 use Rattle.run_gated.specs.declared.fault.RunFault.{RunFault}
-use Rattle.run_gated.specs.declared.fault.RunFault.TheVariants as run
+use Rattle.run_gated.specs.declared.fault.RunFault.TheVariants as run_fault
 use Rattle.command_ends.specs.Status.{EndsRefused, EndsWithAnswer, ending_of, ending_of_run}
 use Rattle.command_words.specs.Commands.{ReduceOptions}
-use Rattle.command_ends.specs.World.{AreQuiet, FilesKept, counts_of, logs_of, IsQuiet, PutsLine, NotReached, SeenFiles, SeenOut}
+use Rattle.command_ends.specs.World.{AreQuiet, FilesKept, fault_counts_of, logs_of, IsQuiet, PutsLine, NotReached, SeenFiles, SeenGate, SeenOut}
 use Rattle.command_reduce.proofs.MustEndLemmas.{must_end}
 use Rattle.command_reduce.proofs.ProblemLemmas.{accepted_as, any_problem, problem_map}
 use Rattle.command_reduce.proofs.UsedLemmas.{none_sound}
@@ -53,7 +54,7 @@ module _ (options : ReduceOptions) (may_say : List ℕ → Verdict → Type 0) (
   untouched out out' = record { no_history = none; gates = same_gates; journal = same_journal }
 
   gates_quiet : AreQuiet old.gates new.gates
-  gates_quiet = ap counts_of same_gates
+  gates_quiet = ap fault_counts_of same_gates
 
   so_far : JournalSoFar options.journal history old.journal new.journal
   so_far = JournalSoFar.untouched (record { no_history = none; same = same_journal })
@@ -87,9 +88,19 @@ module _ (options : ReduceOptions) (may_say : List ℕ → Verdict → Type 0) (
     ends = ⊎_elim (λ problem. problem_at refusal problem) (λ keep. keep_at keep.0 refusal keep.1) why;
   }
 
--- a problem was accepted, and its run ended, which used the gates of these logs and counts
-module _ (options : ReduceOptions) (may_say : List ℕ → Verdict → Type 0) (history : History) (old new : Inside) (logs logs' : List (Option Log)) (counts counts' : List ℕ) (first : AreFirst options logs logs' counts counts' old.gates new.gates)
-    (sound : RecordsAreSound options may_say (records_of history) logs logs' old.journal new.journal) (are : ProblemAccepted options old.files (λ problem. AreOf options.jobs options.keeps problem history)) where
+-- a problem was accepted, and its run ended, which used these gates
+module _ (options : ReduceOptions) (may_say : List ℕ → Verdict → Type 0) (history : History) (old new : Inside) (part part' : List SeenGate) (first : AreFirst options part part' old.gates new.gates)
+    (sound : RecordsAreSound options may_say (records_of history) (logs_of part) (logs_of part') old.journal new.journal) (are : ProblemAccepted options old.files (λ problem. AreOf options.jobs options.keeps problem history)) where
+  -- the run, by what it answered
+  abbrev run_to : Result Reduced RunFault → Run
+  run_to outcome = record {
+    workers = options.jobs;
+    before = record { gates = part; journal = old.journal };
+    after = record { gates = part'; journal = new.journal };
+    history = history;
+    outcome = outcome;
+  }
+
   some : (P : Problem → Type 0) → ProblemAccepted options old.files P → (problem : Problem) × ((holds_all options.keeps (start_of problem) ≡ true) × P problem)
   some P read = any_problem options old.files (λ problem. (holds_all options.keeps (start_of problem) ≡ true) × P problem) read
 
@@ -99,7 +110,7 @@ module _ (options : ReduceOptions) (may_say : List ℕ → Verdict → Type 0) (
       (λ problem is. (is.0, then problem is.1)) read
 
   abbrev Fails : RunFault → Problem → Type 0
-  Fails fault problem = RunFails options.jobs options.keeps problem history counts counts' old.journal.faults new.journal.faults fault
+  Fails fault problem = RunFails options.keeps problem (run_to (Err fault)) fault
 
   -- it ends with this status and this line, whatever becomes of the line
   abbrev EndsBy : ℕ × List ℕ → Type 0
@@ -114,20 +125,20 @@ module _ (options : ReduceOptions) (may_say : List ℕ → Verdict → Type 0) (
 
   -- without a reduction
   fault_at : (fault : RunFault) → FilesKept old.files new.files → ProblemAccepted options old.files (Fails fault) → JournalAfter {A = Reduced} options.jobs options.journal history old.journal new.journal (Err fault) → EndsBy (ending_of_run fault)
-  fault_at run.Memory kept why ends = λ out out' put. memory kept (λ alone. all_quiet first ((some (Fails run.Memory) why).1.1.1 alone)) ends put
-  fault_at run.NotInteresting kept why ends = λ out out' put.
-      uninteresting (but (Fails run.NotInteresting) (λ problem. IsRefused options.jobs options.keeps problem history) (λ problem is. is.0) why) kept (all_quiet first (some (Fails run.NotInteresting) why).1.1.1.0) ends put
-  fault_at (run.Script worker) kept why ends = λ out out' put.
-      let failed = one_failed first worker (some (Fails (run.Script worker)) why).1.1.0 in
-      script worker failed.0 failed.1 (but (Fails (run.Script worker)) Waits (λ problem is. is.2) why) kept (inl ends) put
-  fault_at run.Journal kept why ends = λ out out' put. journal (some (Fails run.Journal) why).1.1.0 are ends (λ alone. all_quiet first ((some (Fails run.Journal) why).1.1.1 alone)) kept put
+  fault_at run_fault.Memory kept why ends = λ out out' put. memory kept (λ alone. all_quiet first ((some (Fails run_fault.Memory) why).1.1.1 alone)) ends put
+  fault_at run_fault.NotInteresting kept why ends = λ out out' put.
+      uninteresting (but (Fails run_fault.NotInteresting) (λ problem. IsRefused options.jobs options.keeps problem history) (λ problem is. is.0) why) kept (all_quiet first (some (Fails run_fault.NotInteresting) why).1.1.1.gates) ends put
+  fault_at (run_fault.Script worker) kept why ends = λ out out' put.
+      let failed = one_failed first worker (some (Fails (run_fault.Script worker)) why).1.1.0 in
+      script worker failed.0 failed.1 (but (Fails (run_fault.Script worker)) Waits (λ problem is. is.2) why) kept (inl ends) put
+  fault_at run_fault.Journal kept why ends = λ out out' put. journal (some (Fails run_fault.Journal) why).1.1.0 are ends (λ alone. all_quiet first ((some (Fails run_fault.Journal) why).1.1.1 alone)) kept put
 
   -- without an opened gate
-  unopened_at : (worker : ℕ) (fault : GateFault) → FilesKept old.files new.files → ProblemAccepted options old.files (Fails (fault_of worker fault)) → GateUnopened options history worker logs logs' old.journal new.journal → EndsBy (ending_of_run (fault_of worker fault))
+  unopened_at : (worker : ℕ) (fault : GateFault) → FilesKept old.files new.files → ProblemAccepted options old.files (Fails (fault_of worker fault)) → GateUnopened options history worker (logs_of part) (logs_of part') old.journal new.journal → EndsBy (ending_of_run (fault_of worker fault))
   unopened_at worker GateFailed kept why un = λ out out' put.
-      let failed = one_failed first worker (some (Fails (run.Script worker)) why).1.1.0 in
-      script worker failed.0 failed.1 (but (Fails (run.Script worker)) Waits (λ problem is. is.2) why) kept (inr (one_unopened first history worker old.journal new.journal failed.0 un)) put
-  unopened_at worker GateMemory kept why un = λ out out' put. memory kept (λ alone. all_quiet first ((some (Fails run.Memory) why).1.1.1 alone)) (JournalSoFar.untouched un.untouched) put
+      let failed = one_failed first worker (some (Fails (run_fault.Script worker)) why).1.1.0 in
+      script worker failed.0 failed.1 (but (Fails (run_fault.Script worker)) Waits (λ problem is. is.2) why) kept (inr (one_unopened first history worker old.journal new.journal failed.0 un)) put
+  unopened_at worker GateMemory kept why un = λ out out' put. memory kept (λ alone. all_quiet first ((some (Fails run_fault.Memory) why).1.1.1 alone)) (JournalSoFar.untouched un.untouched) put
 
   all_sound : RecordsAreSound options may_say (records_of history) (logs_of old.gates) (logs_of new.gates) old.journal new.journal
   all_sound = sound_among first may_say (records_of history) old.journal new.journal sound
@@ -167,13 +178,13 @@ module _ (options : ReduceOptions) (may_say : List ℕ → Verdict → Type 0) (
   -- whatever the run came to
   pub stops_ran : (read : SeenFiles) → SameFiles old.files.shown read.shown → IsQuiet old.files read → (ran : Result Reduced RunFault)
       → ProblemAccepted options old.files
-      (λ problem. AreOf options.jobs options.keeps problem history × ProblemEnds options.jobs options.keeps problem history counts counts' old.journal.faults new.journal.faults ran)
+      (λ problem. AreOf options.jobs options.keeps problem history × ProblemEnds options.keeps problem (run_to ran) ran)
       → JournalAfter options.jobs options.journal history old.journal new.journal ran → (outcome : Result (Vec ℕ) Refusal) → WriteEnds options.output read new.files ran outcome → ReduceSteps options may_say history old new outcome
   stops_ran read same quiet (Ok reduced) ends whole outcome writes =
       let P : Problem → Type 0 =
       λ problem. AreOf options.jobs options.keeps problem history
-      × (ReducesFrom options.jobs options.keeps problem history reduced.text.items reduced.counts × NoneFailed counts counts' old.journal.faults new.journal.faults) in
-      stops_write read reduced same quiet (all_quiet first (some P ends).1.1.1.1.0) whole (but P (Comes reduced) (λ problem is. (is.0, is.1.0)) ends) outcome writes
+      × (ReducesFrom options.jobs options.keeps problem history reduced.text.items reduced.counts × NoneFailed (run_to (Ok reduced)).before (run_to (Ok reduced)).after) in
+      stops_write read reduced same quiet (all_quiet first (some P ends).1.1.1.1.gates) whole (but P (Comes reduced) (λ problem is. (is.0, is.1.0)) ends) outcome writes
   stops_ran read same quiet (Err fault) ends after outcome writes =
       subst (λ (o : Result (Vec ℕ) Refusal). ReduceSteps options may_say history old new o) (sym writes.0.1)
       (stops_run fault writes.0.0 writes.0.2 (subst (FilesKept old.files) (sym writes.1) (record { same = same; quiet = quiet }))
@@ -181,12 +192,12 @@ module _ (options : ReduceOptions) (may_say : List ℕ → Verdict → Type 0) (
 
   -- a gate wasn't opened
   pub stops_unopened : (read : SeenFiles) → SameFiles old.files.shown read.shown → IsQuiet old.files read → (ran : Result Reduced RunFault)
-      → ProblemAccepted options old.files (λ problem. ProblemEnds options.jobs options.keeps problem history counts counts' old.journal.faults new.journal.faults ran)
-      → Unopened options history logs logs' old.journal new.journal ran → (outcome : Result (Vec ℕ) Refusal) → WriteEnds options.output read new.files ran outcome → ReduceSteps options may_say history old new outcome
+      → ProblemAccepted options old.files (λ problem. ProblemEnds options.keeps problem (run_to ran) ran)
+      → Unopened options history (logs_of part) (logs_of part') old.journal new.journal ran → (outcome : Result (Vec ℕ) Refusal) → WriteEnds options.output read new.files ran outcome → ReduceSteps options may_say history old new outcome
   stops_unopened read same quiet ran ends un outcome writes =
       let answer : Result Reduced RunFault = Err (fault_of un.worker un.fault) in
       let why : ProblemAccepted options old.files (Fails (fault_of un.worker un.fault)) =
-      subst (λ (r : Result Reduced RunFault). ProblemAccepted options old.files (λ problem. ProblemEnds options.jobs options.keeps problem history counts counts' old.journal.faults new.journal.faults r)) un.answer ends in
+      subst (λ (r : Result Reduced RunFault). ProblemAccepted options old.files (λ problem. ProblemEnds options.keeps problem (run_to ran) r)) un.answer ends in
       let wrote : WriteEnds options.output read new.files answer outcome = subst (λ (r : Result Reduced RunFault). WriteEnds options.output read new.files r outcome) un.answer writes in
       subst (λ (o : Result (Vec ℕ) Refusal). ReduceSteps options may_say history old new o) (sym wrote.0.1) (record {
         sound = all_sound;
@@ -195,32 +206,29 @@ module _ (options : ReduceOptions) (may_say : List ℕ → Verdict → Type 0) (
         ends = subst EndsBy (sym wrote.0.2) (unopened_at un.worker un.fault (subst (FilesKept old.files) (sym wrote.1) (record { same = same; quiet = quiet })) why un.left);
       })
 
--- the steps of a problem that was read and accepted, with these keep texts and so many workers
-pub steps_end : (options : ReduceOptions) (may_say : List ℕ → Verdict → Type 0) (history : History) (old new : Inside) (logs logs' : List (Option Log)) (counts counts' : List ℕ) (read : SeenFiles) (problem : ReadProblem) (keeps : List (List ℕ)) (workers : ℕ) (ran : Result Reduced RunFault)
-    (outcome : Result (Vec ℕ) Refusal)
-    → AreFirst options logs logs' counts counts' old.gates new.gates
-    → options.jobs ≡ workers → ProblemRead options old.files (IsReadAs options.keeps problem) → keeps ≡ options.keeps → holds_all keeps (start_read problem) ≡ true → SameFiles old.files.shown read.shown → IsQuiet old.files read
-    → RecordsAreSound options may_say (records_of history) logs logs' old.journal new.journal
-    → ((one : Problem) → IsReadAs keeps problem one → AreOf workers keeps one history)
-    → ((one : Problem) → IsReadAs keeps problem one → ProblemEnds workers keeps one history counts counts' old.journal.faults new.journal.faults ran)
-    → StartLeaves workers options history logs logs' old.journal new.journal ran → WriteEnds options.output read new.files ran outcome
-    → ReduceSteps options may_say history old new outcome
-steps_end options may_say history old new logs logs' counts counts' read problem keeps workers ran outcome first jobs was these holds same quiet sound are ends written writes =
+-- the steps of a problem that was read and accepted, with these keep texts, and whose run is this
+pub steps_end : (options : ReduceOptions) (may_say : List ℕ → Verdict → Type 0) (run : Run) (files files' : SeenFiles) (gates gates' : List SeenGate) (read : SeenFiles) (problem : ReadProblem) (keeps : List (List ℕ)) (outcome : Result (Vec ℕ) Refusal)
+    → AreFirst options run.before.gates run.after.gates gates gates' → options.jobs ≡ run.workers
+    → ProblemRead options files (IsReadAs options.keeps problem) → keeps ≡ options.keeps → holds_all keeps (start_read problem) ≡ true → SameFiles files.shown read.shown → IsQuiet files read
+    → IsSoundStarted options may_say run → ((one : Problem) → IsReadAs keeps problem one → IsRunOf keeps one run) → WriteEnds options.output read files' run.outcome outcome
+    → ReduceSteps options may_say run.history (record { files = files; gates = gates; journal = run.before.journal }) (record { files = files'; gates = gates'; journal = run.after.journal }) outcome
+steps_end options may_say run files files' gates gates' read problem keeps outcome first jobs was these holds same quiet sound runs writes =
+    let old : Inside = record { files = files; gates = gates; journal = run.before.journal } in
+    let new : Inside = record { files = files'; gates = gates'; journal = run.after.journal } in
+    let lent : Run = record run { workers = options.jobs } in
     let all : holds_all options.keeps (start_read problem) ≡ true = subst (λ (k : List (List ℕ)). holds_all k (start_read problem) ≡ true) these holds in
-    let Of : Problem → Type 0 = λ one. AreOf options.jobs options.keeps one history in
-    let Ends : Problem → Type 0 = λ one. ProblemEnds options.jobs options.keeps one history counts counts' old.journal.faults new.journal.faults ran in
-    let all_are : (one : Problem) → IsReadAs options.keeps problem one → Of one =
-    subst (λ (n : ℕ). (one : Problem) → IsReadAs options.keeps problem one → AreOf n options.keeps one history) (sym jobs)
-    (subst (λ (k : List (List ℕ)). (one : Problem) → IsReadAs k problem one → AreOf workers k one history) these are) in
-    let all_end : (one : Problem) → IsReadAs options.keeps problem one → Ends one =
-    subst (λ (n : ℕ). (one : Problem) → IsReadAs options.keeps problem one → ProblemEnds n options.keeps one history counts counts' old.journal.faults new.journal.faults ran) (sym jobs)
-    (subst (λ (k : List (List ℕ)). (one : Problem) → IsReadAs k problem one → ProblemEnds workers k one history counts counts' old.journal.faults new.journal.faults ran) these ends) in
-    let left : StartLeaves options.jobs options history logs logs' old.journal new.journal ran = subst (λ (n : ℕ). StartLeaves n options history logs logs' old.journal new.journal ran) (sym jobs) written in
-    let accepted : ProblemAccepted options old.files Of = accepted_as options old.files problem Of all all_are was in
-    let ended : ProblemAccepted options old.files Ends = accepted_as options old.files problem Ends all all_end was in
-    let both : ProblemAccepted options old.files (λ one. Of one × Ends one) = accepted_as options old.files problem (λ one. Of one × Ends one) all (λ one is. (all_are one is, all_end one is)) was in
-    ⊎_elim (λ after. stops_ran options may_say history old new logs logs' counts counts' first sound accepted read same quiet ran both after outcome writes)
-    (λ un. stops_unopened options may_say history old new logs logs' counts counts' first sound accepted read same quiet ran ended un outcome writes) left
+    let all_run : (one : Problem) → IsReadAs options.keeps problem one → IsRunOf options.keeps one lent =
+    subst (λ (n : ℕ). (one : Problem) → IsReadAs options.keeps problem one → IsRunOf options.keeps one (record run { workers = n })) (sym jobs)
+    (subst (λ (k : List (List ℕ)). (one : Problem) → IsReadAs k problem one → IsRunOf k one run) these runs) in
+    let Of : Problem → Type 0 = λ one. AreOf options.jobs options.keeps one run.history in
+    let Ends : Problem → Type 0 = λ one. ProblemEnds options.keeps one lent run.outcome in
+    let left : StartLeaves options.jobs options run.history (logs_of run.before.gates) (logs_of run.after.gates) run.before.journal run.after.journal run.outcome =
+    subst (λ (n : ℕ). StartLeaves n options run.history (logs_of run.before.gates) (logs_of run.after.gates) run.before.journal run.after.journal run.outcome) (sym jobs) sound.journal in
+    let accepted : ProblemAccepted options files Of = accepted_as options files problem Of all (λ one is. (all_run one is).history) was in
+    let ended : ProblemAccepted options files Ends = accepted_as options files problem Ends all (λ one is. (all_run one is).ends) was in
+    let both : ProblemAccepted options files (λ one. Of one × Ends one) = accepted_as options files problem (λ one. Of one × Ends one) all (λ one is. ((all_run one is).history, (all_run one is).ends)) was in
+    ⊎_elim (λ after. stops_ran options may_say run.history old new run.before.gates run.after.gates first sound.records accepted read same quiet run.outcome both after outcome writes)
+    (λ un. stops_unopened options may_say run.history old new run.before.gates run.after.gates first sound.records accepted read same quiet run.outcome ended un outcome writes) left
 
 -- the end of the command
 pub reduce_ends : InputFaultOnce → InputsAreInLanguage → (options : ReduceOptions) (may_say : List ℕ → Verdict → Type 0) (history : History) (old new : Inside) (out out' : SeenOut) (outcome : Result (Vec ℕ) Refusal) (status : ℕ)

@@ -9,10 +9,10 @@ use Rattle.verdict_table.specs.declared.record.Record.{Record}
 use Rattle.verdict_table.specs.TableState.{texts_of}
 use Rattle.reduce_journal.specs.History.{History}
 use Rattle.run_worker.specs.RunHistory.{with_all_asked}
-use Rattle.run_gated.specs.Workers.{AreIdle, RoseAt, RoseAtIndex, worker_faults, worker_logs}
+use Rattle.run_gated.specs.Workers.{AreIdle, RoseAtIndex}
 use Rattle.worker_pool.specs.declared.worker.Worker.{Worker}
 use Rattle.command_words.specs.Commands.{ReduceOptions}
-use Rattle.command_ends.specs.World.{AreQuiet, GateFailed, SeenGate, SeenJournal, counts_of, logs_of, seen, seen_gates}
+use Rattle.command_ends.specs.World.{AreQuiet, GateFailed, SeenGate, SeenJournal, fault_counts_of, logs_of, seen, seen_gates}
 use Rattle.command_reduce_calls.specs.Openings.{opened_from, opened_log}
 use Rattle.command_reduce.specs.Reduce.{GatesWereAsked, GatesWereOpened, GatesWereUsed, GateUnopened, RecordsAreSound, used_from}
 
@@ -48,80 +48,95 @@ take_range a (suc n) (suc k) within = ap (λ (ns : List ℕ). a ∷ ns) (take_ra
 
 -- ---- the gates of a run among all
 
--- The gates that show these logs and counts are the first of all, one for each worker; the others are as before.
-pub record AreFirst (options : ReduceOptions) (logs logs' : List (Option Log)) (counts counts' : List ℕ) (old new : List SeenGate) : Type 0 where
+-- The gates are the first of all, one for each worker; the others are as before.
+pub record AreFirst (options : ReduceOptions) (part part' old new : List SeenGate) : Type 0 where
   pub rest : List SeenGate
-  pub logs_many : length logs ≡ options.jobs
-  pub counts_many : length counts ≡ options.jobs
-  pub logs_old : logs_of old ≡ logs ++ logs_of rest
-  pub logs_new : logs_of new ≡ logs' ++ logs_of rest
-  pub counts_old : counts_of old ≡ counts ++ counts_of rest
-  pub counts_new : counts_of new ≡ counts' ++ counts_of rest
+  pub many : length part ≡ options.jobs
+  pub is_old : old ≡ part ++ rest
+  pub is_new : new ≡ part' ++ rest
   pub others : drop options.jobs new ≡ drop options.jobs old
 
-module _ {options : ReduceOptions} {logs logs' : List (Option Log)} {counts counts' : List ℕ} {old new : List SeenGate} (are : AreFirst options logs logs' counts counts' old new) where
+logs_apart : (part rest : List SeenGate) → logs_of (part ++ rest) ≡ logs_of part ++ logs_of rest
+logs_apart part rest = map-append (λ (gate : SeenGate). gate.shown) part rest
+
+counts_apart : (part rest : List SeenGate) → fault_counts_of (part ++ rest) ≡ fault_counts_of part ++ fault_counts_of rest
+counts_apart part rest = map-append (λ (gate : SeenGate). gate.faults) part rest
+
+module _ {options : ReduceOptions} {part part' old new : List SeenGate} (are : AreFirst options part part' old new) where
+  logs_many : length (logs_of part) ≡ options.jobs
+  logs_many = length-map part (λ (gate : SeenGate). gate.shown) ∙ are.many
+
+  logs_old : logs_of old ≡ logs_of part ++ logs_of are.rest
+  logs_old = ap logs_of are.is_old ∙ logs_apart part are.rest
+
+  logs_new : logs_of new ≡ logs_of part' ++ logs_of are.rest
+  logs_new = ap logs_of are.is_new ∙ logs_apart part' are.rest
+
+  counts_many : length (fault_counts_of part) ≡ options.jobs
+  counts_many = length-map part (λ (gate : SeenGate). gate.faults) ∙ are.many
+
+  counts_old : fault_counts_of old ≡ fault_counts_of part ++ fault_counts_of are.rest
+  counts_old = ap fault_counts_of are.is_old ∙ counts_apart part are.rest
+
+  counts_new : fault_counts_of new ≡ fault_counts_of part' ++ fault_counts_of are.rest
+  counts_new = ap fault_counts_of are.is_new ∙ counts_apart part' are.rest
+
   -- none failed
-  pub all_quiet : counts' ≡ counts → AreQuiet old new
-  all_quiet same = are.counts_new ∙ ap (λ (cs : List ℕ). cs ++ counts_of are.rest) same ∙ sym are.counts_old
+  pub all_quiet : AreQuiet part part' → AreQuiet old new
+  all_quiet same = counts_new ∙ ap (λ (cs : List ℕ). cs ++ fault_counts_of are.rest) same ∙ sym counts_old
 
   -- one failed
-  pub one_failed : (worker : ℕ) → RoseAt worker counts counts' → (worker ≤ options.jobs) × GateFailed worker old new
+  pub one_failed : (worker : ℕ) → GateFailed worker part part' → (worker ≤ options.jobs) × GateFailed worker old new
   one_failed worker rose =
-      let within = rose_within counts counts' rose.0 rose.2 in
+      let within = rose_within (fault_counts_of part) (fault_counts_of part') rose.0 rose.2 in
       let is = rose.1 in
-      let many = are.counts_many in
-      let more : RoseAtIndex (counts ++ counts_of are.rest) (counts' ++ counts_of are.rest) rose.0 = rose_more counts counts' (counts_of are.rest) rose.0 rose.2 in
-      (omega (arith, within, is, many), (rose.0, rose.1, subst (λ (cs : List ℕ). RoseAtIndex cs (counts_of new) rose.0) (sym are.counts_old) (subst (λ (cs : List ℕ). RoseAtIndex (counts ++ counts_of are.rest) cs rose.0) (sym are.counts_new) more)))
+      let many = counts_many in
+      let more : RoseAtIndex (fault_counts_of part ++ fault_counts_of are.rest) (fault_counts_of part' ++ fault_counts_of are.rest) rose.0 =
+      rose_more (fault_counts_of part) (fault_counts_of part') (fault_counts_of are.rest) rose.0 rose.2 in (
+        omega (arith, within, is, many),
+        (
+          rose.0,
+          rose.1,
+          subst (λ (cs : List ℕ). RoseAtIndex cs (fault_counts_of new) rose.0) (sym counts_old)
+              (subst (λ (cs : List ℕ). RoseAtIndex (fault_counts_of part ++ fault_counts_of are.rest) cs rose.0) (sym counts_new) more),
+        ),
+      )
 
   -- so many were opened
-  opened_among : (opened : ℕ) → opened ≤ options.jobs → logs' ≡ opened_from options 1 opened logs → logs_of new ≡ opened_from options 1 opened (logs_of old)
+  opened_among : (opened : ℕ) → opened ≤ options.jobs → logs_of part' ≡ opened_from options 1 opened (logs_of part) → logs_of new ≡ opened_from options 1 opened (logs_of old)
   opened_among opened within is =
-      let many = are.logs_many in
-      are.logs_new ∙ ap (λ (ls : List (Option Log)). ls ++ logs_of are.rest) is ∙ sym (opened_more options 1 opened logs (logs_of are.rest) (omega (arith, within, many))) ∙ ap (opened_from options 1 opened) (sym are.logs_old)
+      let many = logs_many in
+      logs_new ∙ ap (λ (ls : List (Option Log)). ls ++ logs_of are.rest) is ∙ sym (opened_more options 1 opened (logs_of part) (logs_of are.rest) (omega (arith, within, many)))
+      ∙ ap (opened_from options 1 opened) (sym logs_old)
 
   -- one wasn't
-  pub one_unopened : (history : History) (worker : ℕ) (before after : SeenJournal) → worker ≤ options.jobs → GateUnopened options history worker logs logs' before after → GateUnopened options history worker (logs_of old) (logs_of new) before after
+  pub one_unopened : (history : History) (worker : ℕ) (before after : SeenJournal) → worker ≤ options.jobs → GateUnopened options history worker (logs_of part) (logs_of part') before after → GateUnopened options history worker (logs_of old) (logs_of new) before after
   one_unopened history worker before after one_of un =
       record { opened = un.opened; at = un.at; before = let is = un.at in opened_among un.opened (omega (arith, is, one_of)) un.before; untouched = un.untouched }
 
-  used_among : (texts : List (List ℕ)) (before after : SeenJournal) → GatesWereUsed options texts logs logs' before after → GatesWereUsed options texts (logs_of old) (logs_of new) before after
+  used_among : (texts : List (List ℕ)) (before after : SeenJournal) → GatesWereUsed options texts (logs_of part) (logs_of part') before after → GatesWereUsed options texts (logs_of old) (logs_of new) before after
   used_among texts before after used =
-      ⊎_elim (λ none. inl (none.0, are.logs_new ∙ ap (λ (ls : List (Option Log)). ls ++ logs_of are.rest) none.1 ∙ sym are.logs_old, none.2))
-      (λ some. ⊎_elim (λ part. inr (inl (opened_part part))) (λ whole. inr (inr (asked_whole whole))) some) used
+      ⊎_elim (λ none. inl (none.0, logs_new ∙ ap (λ (ls : List (Option Log)). ls ++ logs_of are.rest) none.1 ∙ sym logs_old, none.2))
+      (λ some. ⊎_elim (λ few. inr (inl (opened_part few))) (λ whole. inr (inr (asked_whole whole))) some) used
     where
-      opened_part : GatesWereOpened options texts logs logs' before after → GatesWereOpened options texts (logs_of old) (logs_of new) before after
-      opened_part part = record { opened = part.opened; not_all = part.not_all; none = part.none; logs = let less = part.not_all in opened_among (suc part.opened) (omega (arith, less)) part.logs; journal = part.journal }
+      opened_part : GatesWereOpened options texts (logs_of part) (logs_of part') before after → GatesWereOpened options texts (logs_of old) (logs_of new) before after
+      opened_part few = record { opened = few.opened; not_all = few.not_all; none = few.none; logs = let less = few.not_all in opened_among (suc few.opened) (omega (arith, less)) few.logs; journal = few.journal }
 
-      asked_whole : GatesWereAsked options texts logs logs' → GatesWereAsked options texts (logs_of old) (logs_of new)
+      asked_whole : GatesWereAsked options texts (logs_of part) (logs_of part') → GatesWereAsked options texts (logs_of old) (logs_of new)
       asked_whole whole = record {
         shares = whole.shares;
         one_each = whole.one_each;
         total = whole.total;
         alone = whole.alone;
-        used = let many = are.logs_many in let each = whole.one_each in
-            are.logs_new ∙ ap (λ (ls : List (Option Log)). ls ++ logs_of are.rest) whole.used ∙ sym (used_more options 1 whole.shares logs (logs_of are.rest) (omega (arith, many, each))) ∙ ap (used_from options 1 whole.shares) (sym are.logs_old);
+        used = let many = logs_many in let each = whole.one_each in
+            logs_new ∙ ap (λ (ls : List (Option Log)). ls ++ logs_of are.rest) whole.used ∙ sym (used_more options 1 whole.shares (logs_of part) (logs_of are.rest) (omega (arith, many, each))) ∙ ap (used_from options 1 whole.shares) (sym logs_old);
       }
 
   -- the records are sound, as all gates see them
-  pub sound_among : (may_say : List ℕ → Verdict → Type 0) (records : List Record) (before after : SeenJournal) → RecordsAreSound options may_say records logs logs' before after → RecordsAreSound options may_say records (logs_of old) (logs_of new) before after
+  pub sound_among : (may_say : List ℕ → Verdict → Type 0) (records : List Record) (before after : SeenJournal) → RecordsAreSound options may_say records (logs_of part) (logs_of part') before after → RecordsAreSound options may_say records (logs_of old) (logs_of new) before after
   sound_among may_say records before after sound = record { distinct = sound.distinct; said = sound.said; used = used_among (texts_of records) before after sound.used }
 
 -- ---- the first of the workers are lent
-
-module _ {G : Type 0} (log : G → Option Log) (faults : G → ℕ) where
-  logs_seen : (workers : List (Worker G)) → logs_of (seen_gates log faults workers) ≡ worker_logs log workers
-  logs_seen [] = refl
-  logs_seen (worker ∷ workers) = ap (λ (ls : List (Option Log)). log worker.gate ∷ ls) (logs_seen workers)
-
-  counts_seen : (workers : List (Worker G)) → counts_of (seen_gates log faults workers) ≡ worker_faults faults workers
-  counts_seen [] = refl
-  counts_seen (worker ∷ workers) = ap (λ (cs : List ℕ). faults worker.gate ∷ cs) (counts_seen workers)
-
-  logs_apart : (part rest : List (Worker G)) → logs_of (seen_gates log faults (part ++ rest)) ≡ worker_logs log part ++ logs_of (seen_gates log faults rest)
-  logs_apart part rest = logs_seen (part ++ rest) ∙ map-append (λ (w : Worker G). log w.gate) part rest ∙ ap (λ (ls : List (Option Log)). worker_logs log part ++ ls) (sym (logs_seen rest))
-
-  counts_apart : (part rest : List (Worker G)) → counts_of (seen_gates log faults (part ++ rest)) ≡ worker_faults faults part ++ counts_of (seen_gates log faults rest)
-  counts_apart part rest = counts_seen (part ++ rest) ∙ map-append (λ (w : Worker G). faults w.gate) part rest ∙ ap (λ (cs : List ℕ). worker_faults faults part ++ cs) (sym (counts_seen rest))
 
 drop_part : {A : Type 0} (part rest : List A) (n : ℕ) → length part ≡ n → drop n (part ++ rest) ≡ rest
 drop_part {A = A} part rest n is = subst (λ (m : ℕ). drop m (part ++ rest) ≡ rest) is (at part)
@@ -166,18 +181,15 @@ module _ {G : Type 0} (workers : List (Worker G)) (jobs : ℕ) (idle : AreIdle w
     }
 
     pub lent_first : (options : ReduceOptions) → options.jobs ≡ jobs → (log : G → Option Log) (faults : G → ℕ) →
-        AreFirst options (worker_logs log (take jobs workers)) (worker_logs log part) (worker_faults faults (take jobs workers)) (worker_faults faults part) (seen_gates log faults workers) (seen_gates log faults (part ++ drop jobs workers))
+        AreFirst options (seen_gates log faults (take jobs workers)) (seen_gates log faults part) (seen_gates log faults workers) (seen_gates log faults (part ++ drop jobs workers))
     lent_first options same log faults =
-        let whole : take jobs workers ++ drop jobs workers ≡ workers = take-append-drop jobs workers in
+        let gate : Worker G → SeenGate = λ w. seen log faults w.gate in
         let beyond : seen_gates log faults (drop jobs workers) ≡ drop options.jobs (seen_gates log faults workers) =
-        sym (drop-map (λ (w : Worker G). seen log faults w.gate) jobs workers) ∙ ap (λ (n : ℕ). drop n (seen_gates log faults workers)) (sym same) in
+        sym (drop-map gate jobs workers) ∙ ap (λ (n : ℕ). drop n (seen_gates log faults workers)) (sym same) in
         record {
           rest = seen_gates log faults (drop jobs workers);
-          logs_many = length-map (take jobs workers) (λ (w : Worker G). log w.gate) ∙ lent_many ∙ sym same;
-          counts_many = length-map (take jobs workers) (λ (w : Worker G). faults w.gate) ∙ lent_many ∙ sym same;
-          logs_old = ap (λ (ws : List (Worker G)). logs_of (seen_gates log faults ws)) (sym whole) ∙ logs_apart log faults (take jobs workers) (drop jobs workers);
-          logs_new = logs_apart log faults part (drop jobs workers);
-          counts_old = ap (λ (ws : List (Worker G)). counts_of (seen_gates log faults ws)) (sym whole) ∙ counts_apart log faults (take jobs workers) (drop jobs workers);
-          counts_new = counts_apart log faults part (drop jobs workers);
-          others = drop-map (λ (w : Worker G). seen log faults w.gate) options.jobs (part ++ drop jobs workers) ∙ ap (seen_gates log faults) (drop_part part (drop jobs workers) options.jobs (part_many ∙ sym same)) ∙ beyond;
+          many = length-map (take jobs workers) gate ∙ lent_many ∙ sym same;
+          is_old = ap (seen_gates log faults) (sym (take-append-drop jobs workers)) ∙ map-append gate (take jobs workers) (drop jobs workers);
+          is_new = map-append gate part (drop jobs workers);
+          others = drop-map gate options.jobs (part ++ drop jobs workers) ∙ ap (seen_gates log faults) (drop_part part (drop jobs workers) options.jobs (part_many ∙ sym same)) ∙ beyond;
         }

@@ -1,6 +1,7 @@
 mod ProblemLemmas
 mod ReadLemmas
 mod StartLemmas
+mod OpenedLemmas
 mod MustEndLemmas
 mod CommandLemmas
 mod ReduceByStatusLemmas

@@ -22,7 +22,7 @@ use Rattle.command_reduce.specs.Reduce.{InputHas, IsShownFault, IsShownProblem, 
 use Rattle.command_reduce.specs.Reduce.ReduceEnds.{done, memory, unread, unwritten, unput, faulty, no_token, unparsed, uninteresting, keep_missing, too_long, script, journal}
 use Rattle.command_ends.specs.Status.{IsUncut}
 use Rattle.command_words.specs.Commands.{GrammarOptions, GrammarSource, ModeOptions, ReduceOptions}
-use Rattle.command_ends.specs.World.{IsQuiet, IsShownWithin, SeenJournal, counts_of, WasRead, World, grammar_limit, input_limit}
+use Rattle.command_ends.specs.World.{IsQuiet, IsShownWithin, SeenJournal, fault_counts_of, WasRead, World, grammar_limit, input_limit}
 use Rattle.command_ends.proofs.Lent.{longer_not_missing, not_longer, read_not_missing, read_not_over}
 use Rattle.command_reduce.proofs.ProblemLemmas.{any_problem, fault_is, fault_not_shown, faulty_not_shown, grammar_not_faulty, grammar_not_missing, grammar_not_over, input_read, long_grammar, long_grammar_not_shown, long_input_no_fault, long_input_not_shown, no_fault, no_grammar, not_faulty, parse_caused, reached_grammar, read_and_shown, shown_not_faulty, shown_not_long, uncut_caused}
 
@@ -169,8 +169,8 @@ module _ (faults : InputFaultOnce) (languages : InputsAreInLanguage) (options : 
     first_no = λ first_no. absurd (none_no records (ap records_of untouched.no_history) first_no);
     first_no_alone = λ alone first_no. absurd (none_no records (ap records_of untouched.no_history) first_no);
     files_failed = λ failed. refl;
-    gate_failed = λ failed. absurd (failed (ap counts_of untouched.gates));
-    gate_failed_alone = λ alone failed. absurd (failed (ap counts_of untouched.gates));
+    gate_failed = λ failed. absurd (failed (ap fault_counts_of untouched.gates));
+    gate_failed_alone = λ alone failed. absurd (failed (ap fault_counts_of untouched.gates));
     journal_failed = λ failed. absurd (failed (ap (λ (j : SeenJournal). j.faults) untouched.journal));
     out_failed = λ failed is. cc is;
   }
@@ -209,8 +209,8 @@ module _ (faults : InputFaultOnce) (languages : InputsAreInLanguage) (options : 
     first_no = λ first_no. absurd (none_no records (ap records_of untouched.no_history) first_no);
     first_no_alone = λ alone first_no. absurd (none_no records (ap records_of untouched.no_history) first_no);
     files_failed = λ failed. absurd (failed files.quiet);
-    gate_failed = λ failed. absurd (failed (ap counts_of untouched.gates));
-    gate_failed_alone = λ alone failed. absurd (failed (ap counts_of untouched.gates));
+    gate_failed = λ failed. absurd (failed (ap fault_counts_of untouched.gates));
+    gate_failed_alone = λ alone failed. absurd (failed (ap fault_counts_of untouched.gates));
     journal_failed = λ failed. absurd (failed (ap (λ (j : SeenJournal). j.faults) untouched.journal));
     out_failed = λ failed is. cc is;
   }
@@ -229,8 +229,8 @@ module _ (faults : InputFaultOnce) (languages : InputsAreInLanguage) (options : 
     first_no = λ first_no. absurd (none_no records (ap records_of untouched.no_history) first_no);
     first_no_alone = λ alone first_no. absurd (none_no records (ap records_of untouched.no_history) first_no);
     files_failed = λ failed. absurd (failed files.quiet);
-    gate_failed = λ failed. absurd (failed (ap counts_of untouched.gates));
-    gate_failed_alone = λ alone failed. absurd (failed (ap counts_of untouched.gates));
+    gate_failed = λ failed. absurd (failed (ap fault_counts_of untouched.gates));
+    gate_failed_alone = λ alone failed. absurd (failed (ap fault_counts_of untouched.gates));
     journal_failed = λ failed. absurd (failed (ap (λ (j : SeenJournal). j.faults) untouched.journal));
     out_failed = λ failed is. cc is;
   }
@@ -249,8 +249,8 @@ module _ (faults : InputFaultOnce) (languages : InputsAreInLanguage) (options : 
     first_no = λ first_no. absurd (none_no records (ap records_of untouched.no_history) first_no);
     first_no_alone = λ alone first_no. absurd (none_no records (ap records_of untouched.no_history) first_no);
     files_failed = λ failed. absurd (failed files.quiet);
-    gate_failed = λ failed. absurd (failed (ap counts_of untouched.gates));
-    gate_failed_alone = λ alone failed. absurd (failed (ap counts_of untouched.gates));
+    gate_failed = λ failed. absurd (failed (ap fault_counts_of untouched.gates));
+    gate_failed_alone = λ alone failed. absurd (failed (ap fault_counts_of untouched.gates));
     journal_failed = λ failed. absurd (failed (ap (λ (j : SeenJournal). j.faults) untouched.journal));
     out_failed = λ failed is. cc is;
   }
@@ -289,8 +289,8 @@ module _ (faults : InputFaultOnce) (languages : InputsAreInLanguage) (options : 
     first_no = λ first_no. absurd (none_no records (ap records_of untouched.no_history) first_no);
     first_no_alone = λ alone first_no. absurd (none_no records (ap records_of untouched.no_history) first_no);
     files_failed = λ failed. absurd (failed files.quiet);
-    gate_failed = λ failed. absurd (failed (ap counts_of untouched.gates));
-    gate_failed_alone = λ alone failed. absurd (failed (ap counts_of untouched.gates));
+    gate_failed = λ failed. absurd (failed (ap fault_counts_of untouched.gates));
+    gate_failed_alone = λ alone failed. absurd (failed (ap fault_counts_of untouched.gates));
     journal_failed = λ failed. absurd (failed (ap (λ (j : SeenJournal). j.faults) untouched.journal));
     out_failed = λ failed is. cc is;
   }
@@ -309,8 +309,8 @@ module _ (faults : InputFaultOnce) (languages : InputsAreInLanguage) (options : 
     first_no = λ first_no. absurd (none_no records (ap records_of untouched.no_history) first_no);
     first_no_alone = λ alone first_no. absurd (none_no records (ap records_of untouched.no_history) first_no);
     files_failed = λ failed. absurd (failed files.quiet);
-    gate_failed = λ failed. absurd (failed (ap counts_of untouched.gates));
-    gate_failed_alone = λ alone failed. absurd (failed (ap counts_of untouched.gates));
+    gate_failed = λ failed. absurd (failed (ap fault_counts_of untouched.gates));
+    gate_failed_alone = λ alone failed. absurd (failed (ap fault_counts_of untouched.gates));
     journal_failed = λ failed. absurd (failed (ap (λ (j : SeenJournal). j.faults) untouched.journal));
     out_failed = λ failed is. cc is;
   }
@@ -329,8 +329,8 @@ module _ (faults : InputFaultOnce) (languages : InputsAreInLanguage) (options : 
     first_no = λ first_no. absurd (none_no records (ap records_of untouched.no_history) first_no);
     first_no_alone = λ alone first_no. absurd (none_no records (ap records_of untouched.no_history) first_no);
     files_failed = λ failed. absurd (failed files.quiet);
-    gate_failed = λ failed. absurd (failed (ap counts_of untouched.gates));
-    gate_failed_alone = λ alone failed. absurd (failed (ap counts_of untouched.gates));
+    gate_failed = λ failed. absurd (failed (ap fault_counts_of untouched.gates));
+    gate_failed_alone = λ alone failed. absurd (failed (ap fault_counts_of untouched.gates));
     journal_failed = λ failed. absurd (failed (ap (λ (j : SeenJournal). j.faults) untouched.journal));
     out_failed = λ failed is. cc is;
   }

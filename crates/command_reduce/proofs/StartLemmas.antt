@@ -1,25 +1,49 @@
 -- Why there is no reduction where a gate wasn't opened.
-use Rattle.std.proofs.Common.{◌≡◌, ℕ, List, [], refl, sym, subst, Result, Err}
+use Rattle.std.proofs.Common.{◌≡◌, ◌∙◌, ℕ, List, [], Result, Ok, Err, sym, subst}
 use Rattle.script_gate_trait.specs.declared.gate.GateFault.{GateFault}
 use Rattle.script_gate_trait.specs.declared.gate.GateFault.TheVariants.{Failed as GateFailed, Memory as GateMemory}
-use Rattle.reduce_journal.specs.History.{History}
 use Rattle.run_gated.specs.Faults.{fault_of}
-use Rattle.run_gated.specs.declared.ran.Reduced.{Reduced}
+use Rattle.run_gated.specs.Run.{Run}
+use Rattle.run_gated.specs.Seen.{AreQuiet, IsQuiet, NoneFailed, SeenGate, fault_counts_of}
+use Rattle.run_gated.specs.Workers.{RoseAt}
 use Rattle.run_gated.specs.declared.fault.RunFault.{RunFault}
+use Rattle.run_gated.specs.declared.fault.RunFault.TheVariants as run_fault
+use Rattle.run_gated.specs.declared.ran.Reduced.{Reduced}
 use Rattle.run_problem.specs.Problem.{Problem}
-use Rattle.run_problem.specs.Ends.{IsUnfinished, ProblemEnds, RunFails}
-use Rattle.run_problem.proofs.Lent.{unfinished_without}
+use Rattle.run_problem.specs.Ends.{IsRunOf, IsUnfinished, ProblemEnds, RunFails}
+use Rattle.run_problem.proofs.Lent.{none_of, unfinished_without}
 use Rattle.command_reduce_calls.specs.Openings.{OpenFailed}
 
-module _ (workers : ℕ) (keeps : List (List ℕ)) (problem : Problem) (history : History) (counts counts' : List ℕ) where
+module _ (keeps : List (List ℕ)) (problem : Problem) (run : Run) (none : run.history ≡ []) (quiet : IsQuiet run.before.journal run.after.journal) where
   -- why a gate wasn't opened is why there is no reduction
-  run_open : (journal worker : ℕ) (fault : GateFault) → history ≡ [] → OpenFailed fault worker counts counts' → RunFails workers keeps problem history counts counts' journal journal (fault_of worker fault)
-  run_open journal worker GateMemory none why = (refl, λ _. why)
-  run_open journal worker GateFailed none why = (why, refl, λ _. subst (IsUnfinished keeps problem) (sym none) (unfinished_without keeps problem))
+  run_open : (worker : ℕ) (fault : GateFault) → OpenFailed fault worker run.before.gates run.after.gates → RunFails keeps problem run (fault_of worker fault)
+  run_open worker GateMemory why = (quiet, λ _. why)
+  run_open worker GateFailed why = (why, quiet, λ _. subst (IsUnfinished keeps problem) (sym none) (unfinished_without keeps problem))
 
   -- and that is what is answered
-  pub unopened_ends : (journal journal' worker : ℕ) (fault : GateFault) (result : Result Reduced RunFault) → history ≡ [] → journal' ≡ journal → result ≡ Err (fault_of worker fault) → OpenFailed fault worker counts counts'
-      → ProblemEnds workers keeps problem history counts counts' journal journal' result
-  unopened_ends journal journal' worker fault result none same is why =
-      subst (ProblemEnds workers keeps problem history counts counts' journal journal') (sym is)
-      (subst (λ (j : ℕ). RunFails workers keeps problem history counts counts' journal j (fault_of worker fault)) (sym same) (run_open journal worker fault none why))
+  pub unopened_of : (worker : ℕ) (fault : GateFault) → run.outcome ≡ Err (fault_of worker fault) → OpenFailed fault worker run.before.gates run.after.gates → IsRunOf keeps problem run
+  unopened_of worker fault is why = record {
+    history = none_of run.workers keeps problem run.history none;
+    ends = subst (ProblemEnds keeps problem run) (sym is) (run_open worker fault why);
+  }
+
+-- a run whose gates were opened first is one from before that, by as many workers
+module _ (keeps : List (List ℕ)) (problem : Problem) (run : Run) (workers : ℕ) (gates : List SeenGate) (as_many : run.workers ≡ workers) (quiet : AreQuiet gates run.before.gates) where
+  abbrev begun : ℕ → Run
+  begun n = record run { workers = n; before = record run.before { gates = gates } }
+
+  none_failed : NoneFailed run.before run.after → NoneFailed (begun run.workers).before run.after
+  none_failed none = record { gates = none.gates ∙ quiet; journal = none.journal }
+
+  fails_since : (fault : RunFault) → RunFails keeps problem run fault → RunFails keeps problem (begun run.workers) fault
+  fails_since run_fault.NotInteresting why = (why.0, none_failed why.1)
+  fails_since (run_fault.Script worker) why = (subst (λ (counts : List ℕ). RoseAt worker counts (fault_counts_of run.after.gates)) quiet why.0, why.1, why.2)
+  fails_since run_fault.Journal why = (why.0, λ alone. why.1 alone ∙ quiet)
+  fails_since run_fault.Memory why = (why.0, λ alone. why.1 alone ∙ quiet)
+
+  ends_since : (outcome : Result Reduced RunFault) → ProblemEnds keeps problem run outcome → ProblemEnds keeps problem (begun run.workers) outcome
+  ends_since (Ok reduced) ends = (ends.0, none_failed ends.1)
+  ends_since (Err fault) why = fails_since fault why
+
+  pub started_of : IsRunOf keeps problem run → IsRunOf keeps problem (begun workers)
+  started_of ran = subst (λ (n : ℕ). IsRunOf keeps problem (begun n)) as_many (record { history = ran.history; ends = ends_since run.outcome ran.ends })

@@ -1,15 +1,18 @@
 -- What the gates of several workers show once they were opened, and then asked.
 use Rattle.std.proofs.Common.{◌≡◌, ◌∙◌, arith, inl, inr, ℕ, zero, suc, List, [], ◌∷◌, Option, length, option_map, refl, sym, ap, subst}
+use Rattle.std.proofs.lemmas.List.{length-map}
 use Rattle.std.proofs.lemmas.List.Elements.{All-nil}
 use Rattle.std.specs.List.{IsDistinct}
 use Rattle.script_gate_trait.specs.declared.gate.Verdict.{Verdict}
 use Rattle.script_gate_trait.specs.declared.log.Log.{Log}
 use Rattle.verdict_table.specs.declared.record.Record.{Record}
 use Rattle.verdict_table.specs.TableState.{texts_of}
+use Rattle.reduce_journal.specs.History.{records_of}
+use Rattle.run_gated.specs.Run.{Run}
 use Rattle.run_gated.specs.Records.{AreAnswers, AreAsked, all_asked}
 use Rattle.run_worker.specs.RunHistory.{with_all_asked}
 use Rattle.command_words.specs.Commands.{ReduceOptions}
-use Rattle.command_ends.specs.World.{SeenJournal}
+use Rattle.command_ends.specs.World.{SeenGate, SeenJournal, logs_of}
 use Rattle.command_reduce_calls.specs.Openings.{GateRefused, opened_from, opened_log}
 use Rattle.command_reduce_calls.specs.declared.openings.OpeningFault.{OpeningFault}
 use Rattle.command_reduce.specs.Reduce.{GatesWereAsked, GatesWereUsed, RecordsAreSound, used_from}
@@ -44,11 +47,13 @@ module _ (options : ReduceOptions) (may_say : List ℕ → Verdict → Type 0) w
   none_sound records logs logs' before after none same same_journal = without_records records logs logs' before after none (inl (refl, same, same_journal))
 
   -- some gate wasn't opened
-  pub refused_sound : (records : List Record) (logs logs' : List (Option Log)) (counts counts' : List ℕ) (before after : SeenJournal) (refused : OpeningFault) → records ≡ [] → length logs ≡ options.jobs → GateRefused options logs logs' counts counts' refused → after ≡ before
-      → RecordsAreSound options may_say records logs logs' before after
-  refused_sound records logs logs' counts counts' before after refused none jobs why same_journal = without_records records logs logs' before after none (at why.opened why.at why.before)
+  pub refused_sound : (run : Run) (refused : OpeningFault) → run.history ≡ [] → length run.before.gates ≡ options.jobs → GateRefused options run.before.gates run.after.gates refused → run.after.journal ≡ run.before.journal
+      → RecordsAreSound options may_say (records_of run.history) (logs_of run.before.gates) (logs_of run.after.gates) run.before.journal run.after.journal
+  refused_sound run refused none jobs why same_journal =
+      without_records (records_of run.history) (logs_of run.before.gates) (logs_of run.after.gates) run.before.journal run.after.journal (ap records_of none) (at why.opened why.at why.before)
     where
-      at : (opened : ℕ) → refused.worker ≡ suc opened → logs' ≡ opened_from options 1 opened logs → GatesWereUsed options [] logs logs' before after
+      at : (opened : ℕ) → refused.worker ≡ suc opened → logs_of run.after.gates ≡ opened_from options 1 opened (logs_of run.before.gates)
+          → GatesWereUsed options [] (logs_of run.before.gates) (logs_of run.after.gates) run.before.journal run.after.journal
       at zero is opened_so = inl (refl, opened_so, same_journal)
       at (suc more) is opened_so = inr (inl (record {
         opened = more;
@@ -58,11 +63,12 @@ module _ (options : ReduceOptions) (may_say : List ℕ → Verdict → Type 0) w
         journal = same_journal;
       }))
 
-  -- the gates were opened, and then asked for the records' texts
-  pub asked_sound : (records : List Record) (logs opened logs' : List (Option Log)) (before after : SeenJournal) → length opened ≡ options.jobs → opened ≡ opened_from options 1 options.jobs logs → AreAnswers may_say opened logs' records
-      → RecordsAreSound options may_say records logs logs' before after
-  asked_sound records logs opened logs' before after jobs is_open answers = record {
+  -- the gates that showed these logs were opened, and then asked for the records' texts
+  pub asked_sound : (run : Run) (logs : List (Option Log)) → length run.before.gates ≡ options.jobs → logs_of run.before.gates ≡ opened_from options 1 options.jobs logs → AreAnswers may_say run
+      → RecordsAreSound options may_say (records_of run.history) logs (logs_of run.after.gates) run.before.journal run.after.journal
+  asked_sound run logs jobs is_open answers = record {
     distinct = answers.distinct;
     said = answers.said;
-    used = inr (inr (were_asked options (texts_of records) logs opened logs' jobs is_open answers.asked));
+    used = inr (inr (were_asked options (texts_of (records_of run.history)) logs (logs_of run.before.gates) (logs_of run.after.gates)
+        (length-map run.before.gates (λ (gate : SeenGate). gate.shown) ∙ jobs) is_open answers.asked));
   }

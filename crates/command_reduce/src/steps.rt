@@ -3,16 +3,15 @@
 ghost use Rattle.std.specs.Prelude.{◌≡◌, ◌≤◌, true, IfErr, IfOk, OnOk, length};
 ghost use Rattle.edge_io.specs.Files.{SameFiles};
 ghost use Rattle.keep_guard.specs.Keep.{holds_all};
-ghost use Rattle.reduce_journal.specs.History.{records_of};
-ghost use Rattle.run_gated.specs.Records.{AreAnswers};
-ghost use Rattle.run_gated.specs.Workers.{AreIdle, worker_faults, worker_logs};
+ghost use Rattle.run_gated.specs.Run.{run_of};
+ghost use Rattle.run_gated.specs.Workers.{AreIdle};
 ghost use Rattle.run_problem.specs.Problem.{Problem};
 ghost use Rattle.run_problem.specs.Read.{IsReadAs, IsReady, start_read};
-ghost use Rattle.run_problem.specs.Ends.{AreOf, ProblemEnds};
-ghost use Rattle.command_reduce.specs.Reduce.{ProblemRead, RecordsAreSound, Reduces};
+ghost use Rattle.run_problem.specs.Ends.{IsRunOf};
+ghost use Rattle.command_reduce.specs.Reduce.{ProblemRead, Reduces};
 ghost use Rattle.command_reduce.specs.inner.Reduce.{ReduceSteps};
 ghost use Rattle.command_reduce.specs.inner.Read.{AcceptFails};
-ghost use Rattle.command_reduce.specs.inner.Run.{JournalAfter, StartLeaves};
+ghost use Rattle.command_reduce.specs.inner.Run.{IsSoundOpened, IsSoundStarted};
 ghost use Rattle.command_words.specs.Lines.{reduce_read};
 ghost use Rattle.command_ends.specs.World.{IsQuiet, seen, seen_gates};
 
@@ -47,11 +46,8 @@ fn run_opened<G: Gate + Send, J: Sink + Drop + Send, W: Threads + Wait + Sync>(
     requires idle { AreIdle workers.old }
     ensures idle { AreIdle workers.new }
     ensures as_many { length workers.new ≡ length workers.old }
-    ensures answers { AreAnswers G.may_say (worker_logs G.log workers.old) (worker_logs G.log workers.new) (records_of result.events.items) }
-    ensures of_problem { (one : Problem) → IsReadAs guard.entry problem one → AreOf (length workers.old) guard.entry one result.events.items }
-    ensures ends { (one : Problem) → IsReadAs guard.entry problem one
-        → ProblemEnds (length workers.old) guard.entry one result.events.items (worker_faults G.faults workers.old) (worker_faults G.faults workers.new) (J.faults journal) (J.faults result.journal) result.outcome }
-    ensures journal { JournalAfter (length workers.old) ((reduce_read line.now).journal) result.events.items (seen J.put_so_far J.faults journal) (seen J.put_so_far J.faults result.journal) result.outcome }
+    ensures sound { IsSoundOpened ((reduce_read line.now).journal) G.may_say (run_of G.log G.faults J.put_so_far J.faults workers.old workers.new journal result) }
+    ensures problem { (one : Problem) → IsReadAs guard.entry problem one → IsRunOf guard.entry one (run_of G.log G.faults J.put_so_far J.faults workers.old workers.new journal result) }
 {
     let mut journal = journal;
     match open_journal(alloc, &mut journal, line) {
@@ -77,11 +73,8 @@ fn reduce_start<G: Gate + Send, J: Sink + Drop + Send, W: Threads + Wait + Sync>
     requires jobs { length workers.old ≡ line.now.jobs }
     ensures idle { AreIdle workers.new }
     ensures as_many { length workers.new ≡ length workers.old }
-    ensures sound { RecordsAreSound (reduce_read line.now) G.may_say (records_of result.events.items) (worker_logs G.log workers.old) (worker_logs G.log workers.new) (seen J.put_so_far J.faults journal) (seen J.put_so_far J.faults result.journal) }
-    ensures of_problem { (one : Problem) → IsReadAs guard.entry problem one → AreOf (length workers.old) guard.entry one result.events.items }
-    ensures ends { (one : Problem) → IsReadAs guard.entry problem one
-        → ProblemEnds (length workers.old) guard.entry one result.events.items (worker_faults G.faults workers.old) (worker_faults G.faults workers.new) (J.faults journal) (J.faults result.journal) result.outcome }
-    ensures journal { StartLeaves (length workers.old) (reduce_read line.now) result.events.items (worker_logs G.log workers.old) (worker_logs G.log workers.new) (seen J.put_so_far J.faults journal) (seen J.put_so_far J.faults result.journal) result.outcome }
+    ensures sound { IsSoundStarted (reduce_read line.now) G.may_say (run_of G.log G.faults J.put_so_far J.faults workers.old workers.new journal result) }
+    ensures problem { (one : Problem) → IsReadAs guard.entry problem one → IsRunOf guard.entry one (run_of G.log G.faults J.put_so_far J.faults workers.old workers.new journal result) }
 {
     match open_gates(workers, line) {
         Ok(()) => run_opened(rt, alloc, line, problem, guard, workers, journal),

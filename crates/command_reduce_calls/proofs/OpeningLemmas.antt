@@ -10,7 +10,9 @@ use Rattle.script_gate_trait.specs.declared.gate.GateFault.{GateFault}
 use Rattle.script_gate_trait.specs.declared.gate.GateFault.TheVariants.{Failed, Memory}
 use Rattle.script_gate_trait.specs.declared.log.Log.{Log}
 use Rattle.command_words.specs.Commands.{ReduceOptions}
-use Rattle.run_gated.specs.Workers.{AreIdle, RoseAtIndex, worker_faults, worker_logs}
+use Rattle.run_gated.specs.Seen.{AreQuiet, fault_counts_of, logs_of, seen, seen_gates}
+use Rattle.run_gated.specs.Workers.{AreIdle, RoseAtIndex}
+use Rattle.run_gated.proofs.Lent.{counts_seen, logs_seen, worker_faults, worker_logs}
 use Rattle.worker_pool.specs.declared.worker.Worker.{Worker}
 use Rattle.command_reduce_calls.specs.inner.Calls.{OpenFails}
 use Rattle.command_reduce_calls.specs.Openings.{GateRefused, OpenFailed, opened_from, opened_log}
@@ -92,24 +94,39 @@ module _ {G : Type 0} (log : G → Option Log) (faults : G → ℕ) (options : R
   pub refused_idle : (old new : List (Worker G)) (i : ℕ) (d worker : Worker G) → AreOpened i old new → i < length new → worker.number ≡ (get_or new i d).number → worker.seat ≡ (get_or new i d).seat → AreIdle (set new i worker)
   refused_idle old new i d worker are less number seat = same_idle new i d worker are.idle less number seat
 
+  -- what the gates show that were opened
+  pub opened_seen : (old new : List (Worker G)) (opened : ℕ) → worker_logs log new ≡ opened_from options 1 opened (worker_logs log old)
+      → logs_of (seen_gates log faults new) ≡ opened_from options 1 opened (logs_of (seen_gates log faults old))
+  opened_seen old new opened is = logs_seen log faults new ∙ is ∙ ap (opened_from options 1 opened) (sym (logs_seen log faults old))
+
+  pub quiet_seen : (old new : List (Worker G)) → worker_faults faults new ≡ worker_faults faults old → AreQuiet (seen_gates log faults old) (seen_gates log faults new)
+  quiet_seen old new is = counts_seen log faults new ∙ is ∙ sym (counts_seen log faults old)
+
   pub gate_refused : (old new : List (Worker G)) (i : ℕ) (d worker : Worker G) (number : ℕ) (fault : GateFault) → AreOpened i old new → i < length new → number ≡ (get_or new i d).number
       → log worker.gate ≡ log (get_or new i d).gate → OpenFails (faults (get_or new i d).gate) (faults worker.gate) fault
-      → GateRefused options (worker_logs log old) (worker_logs log (set new i worker)) (worker_faults faults old) (worker_faults faults (set new i worker)) (record { worker = number; fault = fault })
+      → GateRefused options (seen_gates log faults old) (seen_gates log faults (set new i worker)) (record { worker = number; fault = fault })
   gate_refused old new i d worker number fault are less same kept why = record {
     opened = i;
     at = is_next;
-    one_of = let len = length-map old (λ (w : Worker G). log w.gate) in let many = are.as_many in let is = is_next in omega (arith, less, len, many, is);
-    before = map-set_same (λ (w : Worker G). log w.gate) new i worker d kept ∙ are.logs;
+    one_of = let len = length-map old (λ (w : Worker G). seen log faults w.gate) in let many = are.as_many in let is = is_next in omega (arith, less, len, many, is);
+    before = opened_seen old (set new i worker) i (map-set_same (λ (w : Worker G). log w.gate) new i worker d kept ∙ are.logs);
     fault = at fault why;
   }
     where
       is_next : number ≡ suc i
       is_next = same ∙ number_at new i d are.idle less
 
-      at : (fault : GateFault) → OpenFails (faults (get_or new i d).gate) (faults worker.gate) fault → OpenFailed fault number (worker_faults faults old) (worker_faults faults (set new i worker))
-      at Memory why = map-set_same count new i worker d why ∙ are.quiet
+      at : (fault : GateFault) → OpenFails (faults (get_or new i d).gate) (faults worker.gate) fault → OpenFailed fault number (seen_gates log faults old) (seen_gates log faults (set new i worker))
+      at Memory why = quiet_seen old (set new i worker) (map-set_same count new i worker d why ∙ are.quiet)
       at Failed why =
           let within : i < length (worker_faults faults old) = let len = length-map old count in let many = are.as_many in omega (arith, less, len, many) in
           let is : faults (get_or new i d).gate ≡ get_or (worker_faults faults old) i (count d) = sym (get_or-map count new i d (count d) less) ∙ ap (λ (cs : List ℕ). get_or cs i (count d)) are.quiet in
-          let changed : worker_faults faults (set new i worker) ≡ set (worker_faults faults old) i (count worker) = map-set count new i worker ∙ ap (λ (cs : List ℕ). set cs i (count worker)) are.quiet in
-          (i, is_next, subst (λ (cs : List ℕ). RoseAtIndex (worker_faults faults old) cs i) (sym changed) (rose_at_set (worker_faults faults old) i (count worker) (count d) within (subst (λ (c : ℕ). Rose c (count worker)) is why)))
+          let changed : fault_counts_of (seen_gates log faults (set new i worker)) ≡ set (worker_faults faults old) i (count worker) =
+          counts_seen log faults (set new i worker) ∙ map-set count new i worker ∙ ap (λ (cs : List ℕ). set cs i (count worker)) are.quiet in
+          let rose : RoseAtIndex (worker_faults faults old) (set (worker_faults faults old) i (count worker)) i =
+          rose_at_set (worker_faults faults old) i (count worker) (count d) within (subst (λ (c : ℕ). Rose c (count worker)) is why) in (
+            i,
+            is_next,
+            subst (λ (cs : List ℕ). RoseAtIndex cs (fault_counts_of (seen_gates log faults (set new i worker))) i) (sym (counts_seen log faults old))
+                (subst (λ (cs : List ℕ). RoseAtIndex (worker_faults faults old) cs i) (sym changed) rose),
+          )

@@ -5,7 +5,7 @@ use Rattle.script_gate_trait.specs.declared.gate.GateFault.TheVariants.{Failed, 
 use Rattle.script_gate_trait.specs.declared.log.Log.{Log}
 use Rattle.script_gate_trait.specs.declared.log.Opening.{Opening}
 use Rattle.command_words.specs.Commands.{ReduceOptions}
-use Rattle.run_gated.specs.Workers.{RoseAt}
+use Rattle.run_gated.specs.Seen.{AreQuiet, GateFailed, SeenGate, logs_of}
 use Rattle.command_reduce_calls.specs.FileName.{file_name_of}
 use Rattle.command_reduce_calls.specs.declared.openings.OpeningFault.{OpeningFault}
 
@@ -23,15 +23,15 @@ opened_from options number zero logs = logs
 opened_from options number (suc more) [] = []
 opened_from options number (suc more) (log ∷ logs) = opened_log options number log ∷ opened_from options (suc number) more logs
 
--- the gate of this worker failed, or none did; the counts of all are those before and after
-abbrev pub OpenFailed : GateFault → ℕ → List ℕ → List ℕ → Type 0
-OpenFailed Failed worker counts counts' = RoseAt worker counts counts'
-OpenFailed Memory worker counts counts' = counts' ≡ counts
+-- the gate of this worker failed, or none did
+abbrev pub OpenFailed : GateFault → ℕ → List SeenGate → List SeenGate → Type 0
+OpenFailed Failed worker old new = GateFailed worker old new
+OpenFailed Memory worker old new = AreQuiet old new
 
 -- Why the gates weren't all opened: that of this worker wasn't, those of the workers before it were, and the others are as before.
-pub record GateRefused (options : ReduceOptions) (logs logs' : List (Option Log)) (counts counts' : List ℕ) (refused : OpeningFault) : Type 0 where
+pub record GateRefused (options : ReduceOptions) (old new : List SeenGate) (refused : OpeningFault) : Type 0 where
   pub opened : ℕ
   pub at : refused.worker ≡ suc opened
-  pub one_of : refused.worker ≤ length logs
-  pub before : logs' ≡ opened_from options 1 opened logs
-  pub fault : OpenFailed refused.fault refused.worker counts counts'
+  pub one_of : refused.worker ≤ length old
+  pub before : logs_of new ≡ opened_from options 1 opened (logs_of old)
+  pub fault : OpenFailed refused.fault refused.worker old new

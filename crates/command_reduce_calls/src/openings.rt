@@ -2,7 +2,8 @@
 
 ghost use Rattle.std.specs.Prelude.{◌≡◌, [], Err, IfErr, OnErr, OnOk, length};
 ghost use Rattle.command_reduce_calls.specs.Openings.{GateRefused, opened_from, opened_log};
-ghost use Rattle.run_gated.specs.Workers.{AreIdle, worker_faults, worker_logs};
+ghost use Rattle.run_gated.specs.Seen.{AreQuiet, logs_of, seen_gates};
+ghost use Rattle.run_gated.specs.Workers.{AreIdle};
 ghost use Rattle.run_gated.specs.Faults.{fault_of};
 ghost use Rattle.command_reduce_calls.specs.Journal.{opened_as};
 ghost use Rattle.command_reduce_calls.specs.Calls.{OpeningFails};
@@ -47,9 +48,9 @@ pub fn open_gates<G: Gate>(
     requires idle { AreIdle workers.old }
     ensures idle { AreIdle workers.new }
     ensures as_many { length workers.new ≡ length workers.old }
-    ensures opened { OnOk result (worker_logs G.log workers.new ≡ opened_from (reduce_read line.now) 1 (length workers.old) (worker_logs G.log workers.old)) }
-    ensures quiet { OnOk result (worker_faults G.faults workers.new ≡ worker_faults G.faults workers.old) }
-    ensures refused { IfErr result (GateRefused (reduce_read line.now) (worker_logs G.log workers.old) (worker_logs G.log workers.new) (worker_faults G.faults workers.old) (worker_faults G.faults workers.new)) }
+    ensures opened { OnOk result (logs_of (seen_gates G.log G.faults workers.new) ≡ opened_from (reduce_read line.now) 1 (length workers.old) (logs_of (seen_gates G.log G.faults workers.old))) }
+    ensures quiet { OnOk result (AreQuiet (seen_gates G.log G.faults workers.old) (seen_gates G.log G.faults workers.new)) }
+    ensures refused { IfErr result (GateRefused (reduce_read line.now) (seen_gates G.log G.faults workers.old) (seen_gates G.log G.faults workers.new)) }
 {
     for worker in workers.iter_mut() {
         let number = worker.number;

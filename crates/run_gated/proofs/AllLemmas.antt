@@ -1,7 +1,6 @@
 -- What a run of all workers is to its caller: of one worker, or of several.
 use Rattle.std.proofs.Common.{arith, ◌≡◌, ◌≢◌, ◌≤◌, ◌<◌, ◌++◌, inl, inr, ℕ, suc, List, [], ◌∷◌, Option, Some, None, IfSome, length, map, option_map, slice_index_or, sum, refl, sym, ap, ◌∙◌, subst}
 use Rattle.std.specs.List.{range_with_len}
-use Rattle.faults.specs.Count.{Rose}
 use Rattle.edge_io.specs.Sink.{Put}
 use Rattle.script_gate_trait.specs.declared.gate.Verdict.{Verdict}
 use Rattle.script_gate_trait.specs.declared.log.Log.{Log}
@@ -25,7 +24,8 @@ use Rattle.worker_pool.specs.declared.worker.Worker.{Worker}
 use Rattle.worker_pool.specs.Ends.{AreDone, IsOfOne, IsOutcome}
 use Rattle.worker_pool.specs.Runs.{members}
 use Rattle.run_gated.specs.Records.{AreAsked, all_asked}
-use Rattle.run_gated.specs.Workers.{AreIdle, BrokeBy, RoseAt, worker_faults, worker_logs}
+use Rattle.run_gated.specs.Seen.{AreQuiet, CallFailed, GateFailed, IsQuiet, Reached, SeenGate, logs_of, reached, seen, seen_gates}
+use Rattle.run_gated.specs.Workers.{AreIdle, BrokeBy}
 use Rattle.run_gated.specs.inner.Workers.{IsCausedBy, IsQuietBut, IsRunBy, JournalLeft, WaitsAt}
 use Rattle.run_gated.proofs.ShareLemmas.{all_quiet}
 use Rattle.run_gated.proofs.PoolLemmas.{named_failed, none_failed, several_asked}
@@ -66,25 +66,25 @@ waits_at : (fault : BoardFault) (first : Plan) → WaitsAt (Some (board_fault fa
 waits_at board.Journal first = tt
 waits_at board.Memory first = tt
 
-quiet_but : (fault : BoardFault) (gates : List ℕ) → IsQuietBut (Some (board_fault fault)) gates gates
+quiet_but : (fault : BoardFault) (gates : List SeenGate) → IsQuietBut (Some (board_fault fault)) gates gates
 quiet_but board.Journal gates = refl
 quiet_but board.Memory gates = refl
 
-nothing_ran : (workers : ℕ) (may_say : List ℕ → Verdict → Type 0) (first last : Plan) (fault : BoardFault) (logs : List (Option Log)) (gates : List ℕ) → IsRunBy workers may_say first last (Some (board_fault fault)) [] logs logs gates gates
-nothing_ran workers may_say first last fault logs gates = record {
+nothing_ran : (workers : ℕ) (may_say : List ℕ → Verdict → Type 0) (first last : Plan) (fault : BoardFault) (gates : List SeenGate) → IsRunBy workers may_say first last (Some (board_fault fault)) [] gates gates
+nothing_ran workers may_say first last fault gates = record {
   history_of = none_history may_say first [] refl;
   start = λ _. (tt, tt);
-  asked = nothing_asked logs;
+  asked = nothing_asked (logs_of gates);
   ended = λ none. absurd (cc none);
   alone = λ _. record { sequential = none_sequential fault first (Some (board_fault fault)) [] refl refl; waits = waits_at fault first; quiet = quiet_but fault gates };
 }
 
 -- a run without a board
-pub refused_ran : (workers : ℕ) (may_say : List ℕ → Verdict → Type 0) (first last : Plan) (refused : BoardFault) (fault : Option PoolFault) (history : History) (logs : List (Option Log)) (gates : List ℕ) → fault ≡ Some (board_fault refused) → history ≡ []
-    → IsRunBy workers may_say first last fault history logs logs gates gates
-refused_ran workers may_say first last refused fault history logs gates is none =
-    subst (λ (f : Option PoolFault). IsRunBy workers may_say first last f history logs logs gates gates) (sym is)
-    (subst (λ (h : History). IsRunBy workers may_say first last (Some (board_fault refused)) h logs logs gates gates) (sym none) (nothing_ran workers may_say first last refused logs gates))
+pub refused_ran : (workers : ℕ) (may_say : List ℕ → Verdict → Type 0) (first last : Plan) (refused : BoardFault) (fault : Option PoolFault) (history : History) (gates : List SeenGate) → fault ≡ Some (board_fault refused) → history ≡ []
+    → IsRunBy workers may_say first last fault history gates gates
+refused_ran workers may_say first last refused fault history gates is none =
+    subst (λ (f : Option PoolFault). IsRunBy workers may_say first last f history gates gates) (sym is)
+    (subst (λ (h : History). IsRunBy workers may_say first last (Some (board_fault refused)) h gates gates) (sym none) (nothing_ran workers may_say first last refused gates))
 
 -- the journal, which was empty, has the whole history
 written : (history : History) (old new : Option Put) → HasSameName old new → IfSome old (λ put. put.bytes ≡ []) → IfSome new (λ put. put.bytes ≡ journal_text history) → HasWritten history old new
@@ -114,12 +114,12 @@ several_left workers (Some Journal) history old new several same empty bytes = (
 several_left workers (Some Memory) history old new several same empty bytes = inl (written history old new same empty bytes)
 
 -- why several ended
-several_caused : (fault : Option PoolFault) (gates gates' : List ℕ) (journal journal' : ℕ) → (fault ≡ None → gates' ≡ gates) → ((worker : ℕ) → fault ≡ Some (Script worker) → RoseAt worker gates gates')
-    → (fault ≡ Some Journal → Rose journal journal') → (fault ≢ Some Journal → journal' ≡ journal) → IsCausedBy fault gates gates' journal journal'
-several_caused None gates gates' journal journal' none named rose quiet = (none refl, quiet (λ is. cc is))
-several_caused (Some (Script worker)) gates gates' journal journal' none named rose quiet = (named worker refl, quiet (λ is. cc is))
-several_caused (Some Journal) gates gates' journal journal' none named rose quiet = rose refl
-several_caused (Some Memory) gates gates' journal journal' none named rose quiet = quiet (λ is. cc is)
+several_caused : (fault : Option PoolFault) (old new : Reached) → (fault ≡ None → AreQuiet old.gates new.gates) → ((worker : ℕ) → fault ≡ Some (Script worker) → GateFailed worker old.gates new.gates)
+    → (fault ≡ Some Journal → CallFailed old.journal new.journal) → (fault ≢ Some Journal → IsQuiet old.journal new.journal) → IsCausedBy fault old new
+several_caused None old new none named rose quiet = record { gates = none refl; journal = quiet (λ is. cc is) }
+several_caused (Some (Script worker)) old new none named rose quiet = (named worker refl, quiet (λ is. cc is))
+several_caused (Some Journal) old new none named rose quiet = rose refl
+several_caused (Some Memory) old new none named rose quiet = quiet (λ is. cc is)
 
 module _ {S J G : Type 0} (plan first : S → Plan) (may_say : List ℕ → Verdict → Type 0) (put_so_far : J → Option Put) (journal_faults : J → ℕ) (log : G → Option Log) (faults : G → ℕ) (made : BoardState S J) (outcome : Outcome S J) where
   -- what one worker comes to, where there is one
@@ -133,13 +133,13 @@ module _ {S J G : Type 0} (plan first : S → Plan) (may_say : List ℕ → Verd
   ByEach old new = AreDone log faults outcome.fault outcome.events.items old new
 
   all_ran : (old new : List (Worker G)) → 1 ≤ length old → OfAll old → ByEach old new → OfOne old new
-      → IsRunBy (length old) may_say (first made.front) (plan outcome.front) outcome.fault outcome.events.items (worker_logs log old) (worker_logs log new) (worker_faults faults old) (worker_faults faults new)
+      → IsRunBy (length old) may_say (first made.front) (plan outcome.front) outcome.fault outcome.events.items (seen_gates log faults old) (seen_gates log faults new)
   all_ran [] new some is done one = absurd (omega (arith, some))
   all_ran (x ∷ []) [] some is done one = let lengths = done.lengths in absurd (omega (arith, lengths))
   all_ran (x ∷ []) (y ∷ y' ∷ new) some is done one = let lengths = done.lengths in absurd (omega (arith, lengths))
   all_ran (x ∷ []) (y ∷ []) some is done one =
       let alone = one refl x in
-      one_ran may_say (first made.front) (plan outcome.front) outcome.fault outcome.events.items (log x.gate) (log y.gate) (faults x.gate) (faults y.gate) (journal_faults made.journal) (journal_faults outcome.journal) is.history alone.sequential alone.begun alone.one alone.asked alone.ended is.replayed alone.caused
+      one_ran may_say (first made.front) (plan outcome.front) outcome.fault outcome.events.items (seen log faults x.gate) (seen log faults y.gate) (journal_faults made.journal) (journal_faults outcome.journal) is.history alone.sequential alone.begun alone.one alone.asked alone.ended is.replayed alone.caused
   all_ran (x ∷ x' ∷ old) new some is done one = record {
     history_of = is.history;
     start = is.start;
@@ -148,14 +148,18 @@ module _ {S J G : Type 0} (plan first : S → Plan) (may_say : List ℕ → Verd
     alone = λ e. absurd (omega (arith, e));
   }
 
-  all_caused : (old new : List (Worker G)) → 1 ≤ length old → OfAll old → ByEach old new → OfOne old new
-      → IsCausedBy outcome.fault (worker_faults faults old) (worker_faults faults new) (journal_faults made.journal) (journal_faults outcome.journal)
-  all_caused [] new some is done one = absurd (omega (arith, some))
-  all_caused (x ∷ []) [] some is done one = let lengths = done.lengths in absurd (omega (arith, lengths))
-  all_caused (x ∷ []) (y ∷ y' ∷ new) some is done one = let lengths = done.lengths in absurd (omega (arith, lengths))
-  all_caused (x ∷ []) (y ∷ []) some is done one = let alone = one refl x in caused_by outcome.fault (faults x.gate) (faults y.gate) (journal_faults made.journal) (journal_faults outcome.journal) alone.caused
-  all_caused (x ∷ x' ∷ old) new some is done one =
-      several_caused outcome.fault (worker_faults faults (x ∷ x' ∷ old)) (worker_faults faults new) (journal_faults made.journal) (journal_faults outcome.journal)
+  all_caused : (shown : Option Put) (old new : List (Worker G)) → 1 ≤ length old → OfAll old → ByEach old new → OfOne old new
+      → IsCausedBy outcome.fault (record { gates = seen_gates log faults old; journal = record { shown = shown; faults = journal_faults made.journal } })
+      (reached log faults put_so_far journal_faults new outcome.journal)
+  all_caused shown [] new some is done one = absurd (omega (arith, some))
+  all_caused shown (x ∷ []) [] some is done one = let lengths = done.lengths in absurd (omega (arith, lengths))
+  all_caused shown (x ∷ []) (y ∷ y' ∷ new) some is done one = let lengths = done.lengths in absurd (omega (arith, lengths))
+  all_caused shown (x ∷ []) (y ∷ []) some is done one =
+      let alone = one refl x in
+      caused_by outcome.fault (seen log faults x.gate) (seen log faults y.gate) (record { shown = shown; faults = journal_faults made.journal }) (seen put_so_far journal_faults outcome.journal) alone.caused
+  all_caused shown (x ∷ x' ∷ old) new some is done one =
+      several_caused outcome.fault (record { gates = seen_gates log faults (x ∷ x' ∷ old); journal = record { shown = shown; faults = journal_faults made.journal } })
+      (reached log faults put_so_far journal_faults new outcome.journal)
       (none_failed log faults outcome.fault outcome.events.items (x ∷ x' ∷ old) new done) (λ worker by. named_failed log faults outcome.fault outcome.events.items (x ∷ x' ∷ old) new done worker by x) is.rose is.quiet
 
   all_left : (old new : List (Worker G)) → 1 ≤ length old → OfAll old → ByEach old new → OfOne old new → (put : Option Put) → HasSameName put (put_so_far made.journal) → IfSome put (λ p. p.bytes ≡ []) → JournalLeft (length old) outcome.fault outcome.events.items put (put_so_far outcome.journal)
@@ -180,11 +184,14 @@ module _ {S J G : Type 0} (plan first : S → Plan) (may_say : List ℕ → Verd
 
   -- of a reducer that the board was made over, and a journal that it began
   module _ (front : S) (same : made.front ≡ front) (old new : List (Worker G)) (idle : AreIdle old) (is : OfAll old) (done : ByEach old new) (one : OfOne old new) where
-    pub ran : IsRunBy (length old) may_say (first front) (plan outcome.front) outcome.fault outcome.events.items (worker_logs log old) (worker_logs log new) (worker_faults faults old) (worker_faults faults new)
-    ran = run_from (length old) may_say (first made.front) (first front) (plan outcome.front) outcome.fault outcome.events.items (worker_logs log old) (worker_logs log new) (worker_faults faults old) (worker_faults faults new) (ap first same) (all_ran old new idle.some is done one)
+    pub ran : IsRunBy (length old) may_say (first front) (plan outcome.front) outcome.fault outcome.events.items (seen_gates log faults old) (seen_gates log faults new)
+    ran = run_from (length old) may_say (first made.front) (first front) (plan outcome.front) outcome.fault outcome.events.items (seen_gates log faults old) (seen_gates log faults new) (ap first same) (all_ran old new idle.some is done one)
 
-    pub caused : (journal : ℕ) → journal_faults made.journal ≡ journal → IsCausedBy outcome.fault (worker_faults faults old) (worker_faults faults new) journal (journal_faults outcome.journal)
-    caused journal quiet = subst (λ (n : ℕ). IsCausedBy outcome.fault (worker_faults faults old) (worker_faults faults new) n (journal_faults outcome.journal)) quiet (all_caused old new idle.some is done one)
+    pub caused : (shown : Option Put) (count : ℕ) → journal_faults made.journal ≡ count
+        → IsCausedBy outcome.fault (record { gates = seen_gates log faults old; journal = record { shown = shown; faults = count } }) (reached log faults put_so_far journal_faults new outcome.journal)
+    caused shown count quiet =
+        subst (λ (n : ℕ). IsCausedBy outcome.fault (record { gates = seen_gates log faults old; journal = record { shown = shown; faults = n } }) (reached log faults put_so_far journal_faults new outcome.journal)) quiet
+        (all_caused shown old new idle.some is done one)
 
     pub left : (put : Option Put) → HasSameName put (put_so_far made.journal) → IfSome put (λ p. p.bytes ≡ []) → JournalLeft (length old) outcome.fault outcome.events.items put (put_so_far outcome.journal)
     left put named empty = all_left old new idle.some is done one put named empty

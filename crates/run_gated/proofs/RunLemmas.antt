@@ -28,12 +28,14 @@ use Rattle.run_worker.specs.inner.RunEnds.{HasPart, JournalEnds}
 use Rattle.run_worker.proofs.Lent.{has_beginning}
 use Rattle.run_gated.specs.Faults.{fault_kept}
 use Rattle.run_gated.specs.Records.{AreAsked, AreOfMode, BeginsAt, FirstIs, FirstIsNo, OnlyNo}
+use Rattle.run_gated.specs.Seen.{NoneFailed, SeenGate, SeenJournal}
+use Rattle.run_gated.specs.Run.{Run}
 use Rattle.run_gated.specs.Workers.{BrokeBy, HasPartBy}
 use Rattle.run_gated.specs.inner.Workers.{IsCausedBy, IsQuietBut, IsRunBy, JournalLeft, WaitsAt}
-use Rattle.run_gated.specs.RunEnds.{IsDefinedOver, IsUnfinishedIn, JournalHas, NoneFailed, ReducesIn, RunEndsIn, reduction_over}
+use Rattle.run_gated.specs.RunEnds.{IsDefinedOver, IsUnfinishedIn, JournalHas, ReducesIn, RunEndsIn, reduction_over}
 use Rattle.run_gated.specs.inner.RunEnds.{AnswersFor}
 use Rattle.run_gated.specs.declared.fault.RunFault.{RunFault}
-use Rattle.run_gated.specs.declared.fault.RunFault.TheVariants as run
+use Rattle.run_gated.specs.declared.fault.RunFault.TheVariants as run_fault
 use Rattle.run_gated.specs.declared.ran.Reduced.{Reduced}
 
 first_known : (start : List ℕ) (r : Record) (records : List Record) → r.text ≡ start → verdict_in (r ∷ records) start ≡ Some r.verdict
@@ -81,9 +83,10 @@ module _ {T : Type 0} (mode : RoundMode T) where
   unfolding reduction
   start_known V has = has.0
 
-  module _ (workers : ℕ) (may_say : List ℕ → Verdict → Type 0) (last : Plan) (fault : Option PoolFault) (history : History) (logs logs' : List (Option Log)) (gates gates' : List ℕ) (ran : IsRunBy workers may_say (plan_first mode) last fault history logs logs' gates gates') where
+  module _ (run : Run) (may_say : List ℕ → Verdict → Type 0) (last : Plan) (fault : Option PoolFault)
+      (ran : IsRunBy run.workers may_say (plan_first mode) last fault run.history run.before.gates run.after.gates) where
     abbrev records : List Record
-    records = records_of history
+    records = records_of run.history
 
     begins : BeginsAt (mode.text mode.start) records
     begins = begins_at records (ran.start refused_ends).0
@@ -92,7 +95,7 @@ module _ {T : Type 0} (mode : RoundMode T) where
     one = (ran.start refused_ends).1
 
     -- what may be asked of a listed start is the text of a state that is kept
-    pub are_of_mode : (Kept : T → Type 0) → AsksCandidates mode Kept → Keeps mode Kept → mode.is_listed mode.start ≡ true → AreOfMode workers mode Kept history
+    pub are_of_mode : (Kept : T → Type 0) → AsksCandidates mode Kept → Keeps mode Kept → mode.is_listed mode.start ≡ true → AreOfMode run.workers mode Kept run.history
     are_of_mode Kept law keeps listed =
         record {
           legal = ran.history_of.legal;
@@ -100,15 +103,16 @@ module _ {T : Type 0} (mode : RoundMode T) where
           candidates = All-weaker (λ (r : Record). MayAsk (plan_first mode) r.text) (λ (r : Record). IsTextOf mode Kept r.text) (λ r may_ask. law keeps listed r.text may_ask) records ran.history_of.may_ask;
           first = begins;
           ends_at_no = only_no records one;
-          sequential = λ alone. has_beginning fault (plan_first mode) history (ran.alone alone).sequential;
+          sequential = λ alone. has_beginning fault (plan_first mode) run.history (ran.alone alone).sequential;
         }
 
     module _ (follows : (V : List ℕ → Option Verdict) → IsTheReduction (plan_first mode) (recursion_of mode) V) (refuses : RefusesAtNo (plan_first mode) (recursion_of mode)) where
-      module _ (result : StepResult) (ended : HasEnded last) (followed : last ≡ follow (verdict_in records) (plan_first mode)) (replayed : last ≡ replay (plan_first mode) history) (found : last ≡ End result) (whole : workers ≡ 1 → history ≡ own_history (plan_first mode) history) where
+      module _ (result : StepResult) (ended : HasEnded last) (followed : last ≡ follow (verdict_in records) (plan_first mode)) (replayed : last ≡ replay (plan_first mode) run.history) (found : last ≡ End result)
+          (whole : run.workers ≡ 1 → run.history ≡ own_history (plan_first mode) run.history) where
         has : IsDefinedOver mode records
         has = (follows (verdict_in records)).defined (subst HasEnded followed ended)
 
-        committed : HasEnded (replay (plan_first mode) history)
+        committed : HasEnded (replay (plan_first mode) run.history)
         committed = subst HasEnded replayed ended
 
         found_is : result ≡ result_of (recursion_of mode) (reduction_over mode records)
@@ -132,7 +136,7 @@ module _ {T : Type 0} (mode : RoundMode T) where
             (by_verdict (verdict_in records (mode.text mode.start)) (start_known (verdict_in records) has))
 
         -- the reducer's result is that of the reduction, unless it refused the start
-        reduces_in : (Kept : T → Type 0) → EndsMinimal mode Kept (λ state other. IsTriedAtNo (mode.round state) other) → result.refused ≡ false → ReducesIn workers mode Kept history result
+        reduces_in : (Kept : T → Type 0) → EndsMinimal mode Kept (λ state other. IsTriedAtNo (mode.round state) other) → result.refused ≡ false → ReducesIn run.workers mode Kept run.history result
         reduces_in Kept minimal stays =
             let interesting : (reduction_over mode records).refused ≡ false = sym refused_is ∙ stays in
             record {
@@ -146,15 +150,15 @@ module _ {T : Type 0} (mode : RoundMode T) where
             }
 
         -- how it ends without a fault
-        without_fault : (Kept : T → Type 0) → EndsMinimal mode Kept (λ state other. IsTriedAtNo (mode.round state) other) → (journal journal' : ℕ) → NoneFailed gates gates' journal journal'
-            → (answer : Result Reduced RunFault) → AnswersFor None result (mode.size mode.start) (length (mode.text mode.start)) (length records) answer → RunEndsIn workers mode Kept history gates gates' journal journal' answer
-        without_fault Kept minimal journal journal' quiet (Ok reduced) is = ((result, is.1, is.2, reduces_in Kept minimal is.0), quiet)
-        without_fault Kept minimal journal journal' quiet (Err run.NotInteresting) is =
+        without_fault : (Kept : T → Type 0) → EndsMinimal mode Kept (λ state other. IsTriedAtNo (mode.round state) other) → NoneFailed run.before run.after
+            → (answer : Result Reduced RunFault) → AnswersFor None result (mode.size mode.start) (length (mode.text mode.start)) (length records) answer → RunEndsIn mode Kept run answer
+        without_fault Kept minimal quiet (Ok reduced) is = ((result, is.1, is.2, reduces_in Kept minimal is.0), quiet)
+        without_fault Kept minimal quiet (Err run_fault.NotInteresting) is =
             let first = first_no is in
             (first, only_no records one (no_is_first (mode.text mode.start) records first), quiet, whole, committed)
-        without_fault Kept minimal journal journal' quiet (Err run.Memory) is = (quiet.1, λ alone. quiet.0)
-        without_fault Kept minimal journal journal' quiet (Err (run.Script worker)) is = absurd is
-        without_fault Kept minimal journal journal' quiet (Err run.Journal) is = absurd is
+        without_fault Kept minimal quiet (Err run_fault.Memory) is = (quiet.journal, λ alone. quiet.gates)
+        without_fault Kept minimal quiet (Err (run_fault.Script worker)) is = absurd is
+        without_fault Kept minimal quiet (Err run_fault.Journal) is = absurd is
 
       -- a text that is asked has no record, where the gate failed
       unanswered : IsSome (asked (follow (verdict_in records) (plan_first mode))) → (¬ FirstIsNo records) × (¬ IsDefinedOver mode records)
@@ -163,57 +167,57 @@ module _ {T : Type 0} (mode : RoundMode T) where
         λ has. not_ended (follow (verdict_in records) (plan_first mode)) waiting (ap asked ((follows (verdict_in records)).ends has)),
       )
 
-      unfinished : WaitsAt (Some (pool.Script 1)) (plan_first mode) history → history ≡ own_history (plan_first mode) history → IsUnfinishedIn mode history
+      unfinished : WaitsAt (Some (pool.Script 1)) (plan_first mode) run.history → run.history ≡ own_history (plan_first mode) run.history → IsUnfinishedIn mode run.history
       unfinished waits whole = let both = unanswered waits in (both.0, both.1, whole)
 
 -- how a run ends with a fault
-with_fault : {T : Type 0} (mode : RoundMode T) → ((V : List ℕ → Option Verdict) → IsTheReduction (plan_first mode) (recursion_of mode) V) → RefusesAtNo (plan_first mode) (recursion_of mode) → (Kept : T → Type 0) (workers : ℕ) (may_say : List ℕ → Verdict → Type 0) (last : Plan) (fault : PoolFault) (history : History) (logs logs' : List (Option Log)) (gates gates' : List ℕ) (journal journal' : ℕ)
-    → IsRunBy workers may_say (plan_first mode) last (Some fault) history logs logs' gates gates' → IsCausedBy (Some fault) gates gates' journal journal' → RunEndsIn workers mode Kept history gates gates' journal journal' (Err (fault_kept fault))
-with_fault mode follows refuses Kept workers may_say last (pool.Script worker) history logs logs' gates gates' journal journal' ran caused =
-    (caused.0, caused.1, λ alone. unfinished mode workers may_say last (Some (pool.Script worker)) history logs logs' gates gates' ran follows refuses (ran.alone alone).waits (ran.alone alone).sequential)
-with_fault mode follows refuses Kept workers may_say last pool.Journal history logs logs' gates gates' journal journal' ran caused = (caused, λ alone. (ran.alone alone).quiet)
-with_fault mode follows refuses Kept workers may_say last pool.Memory history logs logs' gates gates' journal journal' ran caused = (caused, λ alone. (ran.alone alone).quiet)
+with_fault : {T : Type 0} (mode : RoundMode T) → ((V : List ℕ → Option Verdict) → IsTheReduction (plan_first mode) (recursion_of mode) V) → RefusesAtNo (plan_first mode) (recursion_of mode) → (Kept : T → Type 0) (run : Run) (may_say : List ℕ → Verdict → Type 0) (last : Plan) (fault : PoolFault)
+    → IsRunBy run.workers may_say (plan_first mode) last (Some fault) run.history run.before.gates run.after.gates → IsCausedBy (Some fault) run.before run.after → RunEndsIn mode Kept run (Err (fault_kept fault))
+with_fault mode follows refuses Kept run may_say last (pool.Script worker) ran caused =
+    (caused.0, caused.1, λ alone. unfinished mode run may_say last (Some (pool.Script worker)) ran follows refuses (ran.alone alone).waits (ran.alone alone).sequential)
+with_fault mode follows refuses Kept run may_say last pool.Journal ran caused = (caused, λ alone. (ran.alone alone).quiet)
+with_fault mode follows refuses Kept run may_say last pool.Memory ran caused = (caused, λ alone. (ran.alone alone).quiet)
 
 -- how a run ends
 pub run_ends : {T : Type 0} (mode : RoundMode T) → ((V : List ℕ → Option Verdict) → IsTheReduction (plan_first mode) (recursion_of mode) V) → RefusesAtNo (plan_first mode) (recursion_of mode) → (Kept : T → Type 0) → EndsMinimal mode Kept (λ state other. IsTriedAtNo (mode.round state) other)
-    → (workers : ℕ) (may_say : List ℕ → Verdict → Type 0) (last : Plan) (fault : Option PoolFault) (history : History) (logs logs' : List (Option Log)) (gates gates' : List ℕ) (journal journal' : ℕ) (result : StepResult) (answer : Result Reduced RunFault)
-    → IsRunBy workers may_say (plan_first mode) last fault history logs logs' gates gates' → (fault ≡ None → HasEnded last → last ≡ End result) → IsCausedBy fault gates gates' journal journal'
-    → AnswersFor fault result (mode.size mode.start) (length (mode.text mode.start)) (length (records_of history)) answer → RunEndsIn workers mode Kept history gates gates' journal journal' answer
-run_ends mode follows refuses Kept minimal workers may_say last (Some fault) history logs logs' gates gates' journal journal' result answer ran found caused is =
-    subst (RunEndsIn workers mode Kept history gates gates' journal journal') (sym is) (with_fault mode follows refuses Kept workers may_say last fault history logs logs' gates gates' journal journal' ran caused)
-run_ends mode follows refuses Kept minimal workers may_say last None history logs logs' gates gates' journal journal' result answer ran found caused is =
+    → (run : Run) (may_say : List ℕ → Verdict → Type 0) (last : Plan) (fault : Option PoolFault) (result : StepResult) (answer : Result Reduced RunFault)
+    → IsRunBy run.workers may_say (plan_first mode) last fault run.history run.before.gates run.after.gates → (fault ≡ None → HasEnded last → last ≡ End result) → IsCausedBy fault run.before run.after
+    → AnswersFor fault result (mode.size mode.start) (length (mode.text mode.start)) (length (records_of run.history)) answer → RunEndsIn mode Kept run answer
+run_ends mode follows refuses Kept minimal run may_say last (Some fault) result answer ran found caused is =
+    subst (RunEndsIn mode Kept run) (sym is) (with_fault mode follows refuses Kept run may_say last fault ran caused)
+run_ends mode follows refuses Kept minimal run may_say last None result answer ran found caused is =
     let ended = ran.ended refl in
-    without_fault mode workers may_say last None history logs logs' gates gates' ran follows refuses result ended.0 ended.1 ended.2 (found refl ended.0) (λ alone. (ran.alone alone).sequential)
-    Kept minimal journal journal' caused answer is
+    without_fault mode run may_say last None ran follows refuses result ended.0 ended.1 ended.2 (found refl ended.0) (λ alone. (ran.alone alone).sequential) Kept minimal caused answer is
 
 -- the same run by another name of what was done first
-pub run_from : (workers : ℕ) (may_say : List ℕ → Verdict → Type 0) (first first' last : Plan) (fault : Option PoolFault) (history : History) (logs logs' : List (Option Log)) (gates gates' : List ℕ)
-    → first ≡ first' → IsRunBy workers may_say first last fault history logs logs' gates gates' → IsRunBy workers may_say first' last fault history logs logs' gates gates'
-run_from workers may_say first first' last fault history logs logs' gates gates' same ran = subst (λ (p : Plan). IsRunBy workers may_say p last fault history logs logs' gates gates') same ran
+pub run_from : (workers : ℕ) (may_say : List ℕ → Verdict → Type 0) (first first' last : Plan) (fault : Option PoolFault) (history : History) (old new : List SeenGate)
+    → first ≡ first' → IsRunBy workers may_say first last fault history old new → IsRunBy workers may_say first' last fault history old new
+run_from workers may_say first first' last fault history old new same ran = subst (λ (p : Plan). IsRunBy workers may_say p last fault history old new) same ran
 
 -- what the journal has, by the fault, by what is answered
-pub journal_has : (workers : ℕ) (fault : Option PoolFault) (result : StepResult) (units bytes record_count : ℕ) (history : History) (old new : Option Put) (gates gates' : List ℕ) (count count' : ℕ) (answer : Result Reduced RunFault) → AnswersFor fault result units bytes record_count answer → JournalLeft workers fault history old new
-    → IsCausedBy fault gates gates' count count' → JournalHas workers history old new count count' answer
-journal_has workers None result units bytes record_count history old new gates gates' count count' (Ok reduced) is ends caused = (ends, caused.1)
-journal_has workers None result units bytes record_count history old new gates gates' count count' (Err run.NotInteresting) is ends caused = (ends, caused.1)
-journal_has workers None result units bytes record_count history old new gates gates' count count' (Err run.Memory) is ends caused = (inl ends, caused.1)
-journal_has workers None result units bytes record_count history old new gates gates' count count' (Err (run.Script worker)) is ends caused = absurd is
-journal_has workers None result units bytes record_count history old new gates gates' count count' (Err run.Journal) is ends caused = absurd is
-journal_has workers (Some (pool.Script worker)) result units bytes record_count history old new gates gates' count count' answer is ends caused = subst (JournalHas workers history old new count count') (sym is) (ends, caused.1)
-journal_has workers (Some pool.Journal) result units bytes record_count history old new gates gates' count count' answer is ends caused = subst (JournalHas workers history old new count count') (sym is) (ends, caused)
-journal_has workers (Some pool.Memory) result units bytes record_count history old new gates gates' count count' answer is ends caused = subst (JournalHas workers history old new count count') (sym is) (ends, caused)
+pub journal_has : (run : Run) (fault : Option PoolFault) (result : StepResult) (units bytes record_count : ℕ) (answer : Result Reduced RunFault) → AnswersFor fault result units bytes record_count answer
+    → JournalLeft run.workers fault run.history run.before.journal.shown run.after.journal.shown → IsCausedBy fault run.before run.after → JournalHas run answer
+journal_has run None result units bytes record_count (Ok reduced) is ends caused = (ends, caused.journal)
+journal_has run None result units bytes record_count (Err run_fault.NotInteresting) is ends caused = (ends, caused.journal)
+journal_has run None result units bytes record_count (Err run_fault.Memory) is ends caused = (inl ends, caused.journal)
+journal_has run None result units bytes record_count (Err (run_fault.Script worker)) is ends caused = absurd is
+journal_has run None result units bytes record_count (Err run_fault.Journal) is ends caused = absurd is
+journal_has run (Some (pool.Script worker)) result units bytes record_count answer is ends caused = subst (JournalHas run) (sym is) (ends, caused.1)
+journal_has run (Some pool.Journal) result units bytes record_count answer is ends caused = subst (JournalHas run) (sym is) (ends, caused)
+journal_has run (Some pool.Memory) result units bytes record_count answer is ends caused = subst (JournalHas run) (sym is) (ends, caused)
 
 -- a run of one worker is one by so many workers
 one_asked : (texts : List (List ℕ)) (log log' : Option Log) → log' ≡ option_map (with_all_asked texts) log → AreAsked texts (log ∷ []) (log' ∷ [])
 one_asked texts log log' is = record { shares = texts ∷ []; one_each = refl; total = omega arith; alone = λ _. refl; asked = ap (λ (l : Option Log). l ∷ []) is }
 
-pub caused_by : (fault : Option PoolFault) (gate gate' journal journal' : ℕ) → IsCaused fault gate gate' journal journal' → IsCausedBy fault (gate ∷ []) (gate' ∷ []) journal journal'
-caused_by None gate gate' journal journal' caused = (ap (λ (n : ℕ). n ∷ []) caused.0, caused.1)
+pub caused_by : (fault : Option PoolFault) (gate gate' : SeenGate) (journal journal' : SeenJournal) → IsCaused fault gate.faults gate'.faults journal.faults journal'.faults
+    → IsCausedBy fault (record { gates = gate ∷ []; journal = journal }) (record { gates = gate' ∷ []; journal = journal' })
+caused_by None gate gate' journal journal' caused = record { gates = ap (λ (n : ℕ). n ∷ []) caused.0; journal = caused.1 }
 caused_by (Some (pool.Script worker)) gate gate' journal journal' caused = ((0, caused.0, caused.1), caused.2)
 caused_by (Some pool.Journal) gate gate' journal journal' caused = caused.1
 caused_by (Some pool.Memory) gate gate' journal journal' caused = caused.1
 
-quiet_but : (fault : Option PoolFault) (gate gate' journal journal' : ℕ) → IsCaused fault gate gate' journal journal' → IsQuietBut fault (gate ∷ []) (gate' ∷ [])
+quiet_but : (fault : Option PoolFault) (gate gate' : SeenGate) (journal journal' : ℕ) → IsCaused fault gate.faults gate'.faults journal journal' → IsQuietBut fault (gate ∷ []) (gate' ∷ [])
 quiet_but None gate gate' journal journal' caused = ap (λ (n : ℕ). n ∷ []) caused.0
 quiet_but (Some (pool.Script worker)) gate gate' journal journal' caused = tt
 quiet_but (Some pool.Journal) gate gate' journal journal' caused = ap (λ (n : ℕ). n ∷ []) caused.0
@@ -229,13 +233,14 @@ has_ended : (fault : Option PoolFault) (first last : Plan) (history : History) �
 has_ended None first last history ends replayed none = (ends.0, ends.1, replayed none)
 has_ended (Some fault) first last history ends replayed none = absurd (cc none)
 
-pub one_ran : (may_say : List ℕ → Verdict → Type 0) (first last : Plan) (fault : Option PoolFault) (history : History) (log log' : Option Log) (gate gate' journal journal' : ℕ) → IsHistoryOf may_say first history → IsSequential fault first history → BeginsWith first (records_of history) → EndsAtFirst first (records_of history)
-    → log' ≡ option_map (with_all_asked (texts_of (records_of history))) log → ReducerEnds fault first last (records_of history) → (fault ≡ None → last ≡ replay first history) → IsCaused fault gate gate' journal journal' → IsRunBy 1 may_say first last fault history (log ∷ []) (log' ∷ []) (gate ∷ []) (gate' ∷ [])
-one_ran may_say first last fault history log log' gate gate' journal journal' of sequential begun one asked ends replayed caused =
+pub one_ran : (may_say : List ℕ → Verdict → Type 0) (first last : Plan) (fault : Option PoolFault) (history : History) (gate gate' : SeenGate) (journal journal' : ℕ) → IsHistoryOf may_say first history → IsSequential fault first history → BeginsWith first (records_of history) → EndsAtFirst first (records_of history)
+    → gate'.shown ≡ option_map (with_all_asked (texts_of (records_of history))) gate.shown → ReducerEnds fault first last (records_of history) → (fault ≡ None → last ≡ replay first history) → IsCaused fault gate.faults gate'.faults journal journal'
+    → IsRunBy 1 may_say first last fault history (gate ∷ []) (gate' ∷ [])
+one_ran may_say first last fault history gate gate' journal journal' of sequential begun one asked ends replayed caused =
     record {
       history_of = of;
       start = λ _. (begun, one);
-      asked = one_asked (texts_of (records_of history)) log log' asked;
+      asked = one_asked (texts_of (records_of history)) gate.shown gate'.shown asked;
       ended = has_ended fault first last history ends replayed;
       alone = λ _. record { sequential = sequential; waits = waits_at fault first last history ends; quiet = quiet_but fault gate gate' journal journal' caused };
     }

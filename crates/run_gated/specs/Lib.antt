@@ -1,6 +1,8 @@
 pub use Rattle.reduce_rounds.specs as ReduceRounds
 pub use Rattle.run_worker.specs as RunWorker
 pub use Rattle.worker_pool.specs as WorkerPool
+pub mod Seen
+pub mod Run
 pub mod Faults
 pub mod Records
 pub mod Workers

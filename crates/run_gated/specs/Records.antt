@@ -13,6 +13,8 @@ use Rattle.run_worker.specs.RunHistory.{IsBeginning, own_history, with_all_asked
 use Rattle.reduce_journal.specs.History.{History, IsHistory, records_of}
 use Rattle.ordered_commit_moves.specs.Replay.{IsLegal}
 use Rattle.reduce_rounds.specs.RoundsPlan.{plan_first}
+use Rattle.run_gated.specs.Seen.{logs_of}
+use Rattle.run_gated.specs.Run.{Run}
 
 -- the first record is of this text, with this verdict
 abbrev pub FirstIs : List ℕ → Verdict → List Record → Type 0
@@ -49,10 +51,10 @@ pub record AreAsked (texts : List (List ℕ)) (old new : List (Option Log)) : Ty
   pub asked : new ≡ all_asked shares old
 
 -- Whatever was reduced: no text is there twice, each verdict is a gate's, and the gates were asked as often as there are records.
-pub record AreAnswers (may_say : List ℕ → Verdict → Type 0) (old new : List (Option Log)) (records : List Record) : Type 0 where
-  pub distinct : IsDistinct bytes_eq (texts_of records)
-  pub said : All (λ r. may_say r.text r.verdict) records
-  pub asked : AreAsked (texts_of records) old new
+pub record AreAnswers (may_say : List ℕ → Verdict → Type 0) (run : Run) : Type 0 where
+  pub distinct : IsDistinct bytes_eq (texts_of (records_of run.history))
+  pub said : All (λ r. may_say r.text r.verdict) (records_of run.history)
+  pub asked : AreAsked (texts_of (records_of run.history)) (logs_of run.before.gates) (logs_of run.after.gates)
 
 -- The history is one that the reducer of the mode can have, and that can be read back; each text is that of a listed state that is kept; the first is the start's, and after its no nothing was asked. With one worker the history is a beginning of what one thread does over its records.
 pub record AreOfMode {T : Type 0} (workers : ℕ) (mode : RoundMode T) (Kept : T → Type 0) (history : History) : Type 0 where

@@ -2,20 +2,12 @@
 use Rattle.std.specs.Prelude.{◌≡◌, ◌≢◌, ◌≤◌, ◌⊎◌, ℕ, zero, suc, All, length, map, List, [], ◌∷◌, Option, None, IfSome}
 use Rattle.faults.specs.Count.{Rose}
 use Rattle.edge_io.specs.Sink.{GrewByPrefix, Put}
-use Rattle.script_gate_trait.specs.declared.log.Log.{Log}
 use Rattle.reduce_journal.specs.History.{History}
 use Rattle.reduce_journal.specs.Journal.{head}
 use Rattle.ordered_commit.specs.Kept.{BrokeOff}
 use Rattle.std.specs.List.{range_with_len}
 use Rattle.worker_pool.specs.declared.worker.Worker.{Worker}
 use Rattle.run_worker.specs.RunEnds.{BrokeAtEnd, HasSameName}
-
--- what the gates of these workers show, and how many of their calls failed
-abbrev pub worker_logs : {G : Type 0} → (G → Option Log) → List (Worker G) → List (Option Log)
-worker_logs log workers = map (λ w. log w.gate) workers
-
-abbrev pub worker_faults : {G : Type 0} → (G → ℕ) → List (Worker G) → List ℕ
-worker_faults faults workers = map (λ w. faults w.gate) workers
 
 -- The workers are numbered from 1 in order, there are 1 to 16, and none has a seat.
 pub record AreIdle {G : Type 0} (workers : List (Worker G)) : Type 0 where

@@ -1,13 +1,12 @@
 //! The run.
 
-ghost use Rattle.std.specs.Prelude.{◌≡◌, [], ◌∷◌, true, IfSome, None, length};
+ghost use Rattle.std.specs.Prelude.{◌≡◌, [], ◌∷◌, IfSome, None, length};
 ghost use Rattle.reduce_journal.specs.History.{records_of};
-ghost use Rattle.reduce_rounds.specs.Mode.{Keeps};
-ghost use Rattle.reduce_rounds.specs.RoundsPlan.{IsStart, plan_first};
-ghost use Rattle.run_gated.specs.Records.{AreAnswers, AreOfMode};
+ghost use Rattle.reduce_rounds.specs.RoundsPlan.{plan_first};
 ghost use Rattle.reduce_step.specs.Plan.{End, HasEnded};
-ghost use Rattle.run_gated.specs.Workers.{AreIdle, worker_faults, worker_logs};
-ghost use Rattle.run_gated.specs.RunEnds.{JournalHas, RunEndsIn};
+ghost use Rattle.run_gated.specs.Run.{run_of};
+ghost use Rattle.run_gated.specs.Workers.{AreIdle};
+ghost use Rattle.run_gated.specs.RunEnds.{IsRunIn, IsSound};
 ghost use Rattle.run_gated.specs.inner.RunEnds.{AnswersFor};
 
 use crate::fault::RunFault;
@@ -96,12 +95,9 @@ pub fn run_to_text<
     requires idle { AreIdle workers.old }
     ensures idle { AreIdle workers.new }
     ensures as_many { length workers.new ≡ length workers.old }
-    ensures answers { AreAnswers G.may_say (worker_logs G.log workers.old) (worker_logs G.log workers.new) (records_of result.events.items) }
-    ensures of_mode { (input : R.Input) → ⟦<Rounds<R> as Step>⟧.first reducer ≡ plan_first (R.mode input) → Keeps (R.mode input) (R.Kept input) → (R.mode input).is_listed (R.mode input).start ≡ true
-        → AreOfMode (length workers.old) (R.mode input) (R.Kept input) result.events.items }
-    ensures ends { (input : R.Input) → ⟦<Rounds<R> as Step>⟧.first reducer ≡ plan_first (R.mode input) → IsStart (R.mode input) (⟦<Rounds<R> as ReducerStep>⟧.so_far reducer)
-        → RunEndsIn (length workers.old) (R.mode input) (R.Kept input) result.events.items (worker_faults G.faults workers.old) (worker_faults G.faults workers.new) (J.faults journal) (J.faults result.journal) result.outcome }
-    ensures journal { JournalHas (length workers.old) result.events.items (J.put_so_far journal) (J.put_so_far result.journal) (J.faults journal) (J.faults result.journal) result.outcome }
+    ensures sound { IsSound G.may_say (run_of G.log G.faults J.put_so_far J.faults workers.old workers.new journal result) }
+    ensures in_mode { (input : R.Input) → ⟦<Rounds<R> as Step>⟧.first reducer ≡ plan_first (R.mode input)
+        → IsRunIn (R.mode input) (R.Kept input) (⟦<Rounds<R> as ReducerStep>⟧.so_far reducer) (run_of G.log G.faults J.put_so_far J.faults workers.old workers.new journal result) }
 {
     follows_reduction::<R>();
     refuses_at_no::<R>();

@@ -2,7 +2,8 @@
 
 ghost use Rattle.std.specs.Prelude.{◌≡◌, [], IfSome, Some, length};
 ghost use Rattle.ordered_commit.specs.Faults.{board_fault};
-ghost use Rattle.run_gated.specs.Workers.{AreIdle, worker_faults, worker_logs};
+ghost use Rattle.run_gated.specs.Seen.{reached, seen_gates};
+ghost use Rattle.run_gated.specs.Workers.{AreIdle};
 ghost use Rattle.run_gated.specs.inner.Workers.{IsCausedBy, IsRunBy, JournalLeft};
 
 use edge_io::Sink;
@@ -47,8 +48,8 @@ pub(crate) fn run_all<
     ensures idle { AreIdle workers.new }
     ensures as_many { length workers.new ≡ length workers.old }
     ensures first { S.first result.front ≡ S.first front }
-    ensures ran { IsRunBy (length workers.old) G.may_say (S.first front) (S.plan result.front) result.fault result.events.items (worker_logs G.log workers.old) (worker_logs G.log workers.new) (worker_faults G.faults workers.old) (worker_faults G.faults workers.new) }
-    ensures caused { IsCausedBy result.fault (worker_faults G.faults workers.old) (worker_faults G.faults workers.new) (J.faults journal) (J.faults result.journal) }
+    ensures ran { IsRunBy (length workers.old) G.may_say (S.first front) (S.plan result.front) result.fault result.events.items (seen_gates G.log G.faults workers.old) (seen_gates G.log G.faults workers.new) }
+    ensures caused { IsCausedBy result.fault (reached G.log G.faults J.put_so_far J.faults workers.old journal) (reached G.log G.faults J.put_so_far J.faults workers.new result.journal) }
     ensures journal { JournalLeft (length workers.old) result.fault result.events.items (J.put_so_far journal) (J.put_so_far result.journal) }
 {
     match Board::<S, G, J>::new(alloc, front, journal, workers.len() as u32) {

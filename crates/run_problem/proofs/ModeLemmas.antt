@@ -1,15 +1,15 @@
 -- What a run of a reducer says, in the words of the reduction of lines and of that of trees.
-use Rattle.std.proofs.Common.{◌≡◌, ◌≤◌, arith, ℕ, Bool, List, [], ◌∷◌, length, Option, IsSome, true, false, refl, sym, ap, ◌∙◌, subst, Result, Ok, Err}
+use Rattle.std.proofs.Common.{◌≡◌, ◌≤◌, arith, ℕ, Bool, List, [], ◌∷◌, All, length, Option, IsSome, true, false, refl, sym, ap, ◌∙◌, subst, inr, Result, Ok, Err}
 use Rattle.std.proofs.lemmas.Bool.{false≢true}
 use Rattle.std.proofs.lemmas.List.{length-append}
 use Rattle.std.specs.List.{IsDistinct}
+use Rattle.std.specs.Str.{bytes_eq}
 use Rattle.std.proofs.lemmas.List.Elements.{All-nil, All-weaker}
 use Rattle.script_gate_trait.specs.declared.gate.Verdict.{Verdict}
 use Rattle.script_gate_trait.specs.declared.gate.Verdict.TheVariants.{Yes, No}
-use Rattle.script_gate_trait.specs.declared.log.Log.{Log}
 use Rattle.verdict_table.specs.declared.record.Record.{Record}
 use Rattle.reduce_step.specs.Plan.{StepResult}
-use Rattle.verdict_table.specs.TableState.{verdict_in}
+use Rattle.verdict_table.specs.TableState.{texts_of, verdict_in}
 use Rattle.keep_guard.specs.Keep.{holds_all, keeps_admit}
 use Rattle.reduce_rounds.specs.ByTrials as trials
 use Rattle.reduce_rounds.specs.Reduction.{Recursion, Reduction, reduction}
@@ -17,17 +17,19 @@ use Rattle.reduce_rounds.specs.Trials.{IsTriedAtNo}
 use Rattle.reduce_rounds.specs.Laws.{EndsWell, IsTextOf, result_of}
 use Rattle.reduce_rounds.specs.Verdicts.{HasVerdicts, says_yes}
 use Rattle.reduce_rounds.specs.Mode.{RoundMode}
-use Rattle.reduce_rounds.specs.RoundsPlan.{plan_first}
+use Rattle.reduce_rounds.specs.RoundsPlan.{IsStart, plan_first}
 use Rattle.run_gated.specs.declared.fault.RunFault.{RunFault}
-use Rattle.run_gated.specs.declared.fault.RunFault.TheVariants as run
+use Rattle.run_gated.specs.declared.fault.RunFault.TheVariants as run_fault
 use Rattle.run_gated.specs.declared.ran.Reduced.{Reduced}
 use Rattle.reduce_journal.specs.History.{History, records_of}
 use Rattle.reduce_journal.specs.declared.counts.Counts.{Counts}
 use Rattle.ordered_commit_moves.specs.Replay.{IsLegal}
-use Rattle.run_gated.specs.Records.{AreAnswers, AreOfMode, BeginsAt, FirstIs}
+use Rattle.run_gated.specs.Seen.{Reached, SeenGate, fault_counts_of, logs_of}
+use Rattle.run_gated.specs.Run.{Run}
+use Rattle.run_gated.specs.Records.{AreAnswers, AreAsked, AreOfMode, BeginsAt, FirstIs}
 use Rattle.run_gated.proofs.Lent.{nothing_asked}
 use Rattle.run_gated.specs.RunEnds as ends
-use Rattle.run_gated.specs.RunEnds.{ReducesIn, RunEndsIn, RunFailsIn, reduction_over}
+use Rattle.run_gated.specs.RunEnds.{IsRunIn, IsSound, JournalHas, ReducesIn, RunEndsIn, RunFailsIn, reduction_over}
 use Rattle.reduce_core.specs.declared.lines.Line.{Line}
 use Rattle.reduce_core.specs.Laws.{LinesAreRecursions, LinesEndMinimal}
 use Rattle.reduce_core.specs.LineMode.{AreOfStart, LineInput, line_mode}
@@ -48,16 +50,23 @@ use Rattle.run_problem.specs.Committed.{IsPrefix, questions_over, thread_history
 use Rattle.run_problem.specs.Laws.{GoesByQuestions, HistoriesGoByQuestions}
 use Rattle.run_problem.specs.Reducer.{reducer_of, round_of}
 use Rattle.run_problem.specs.inner.Walks.{IsTreeMode}
-use Rattle.run_problem.specs.Ends.{AreOf, IsUnfinished, ProblemEnds, ReducesFrom, RunFails}
+use Rattle.run_problem.specs.Ends.{AreOf, IsRunOf, IsUnfinished, ProblemEnds, ReducesFrom, RunFails}
+
+no_texts : IsDistinct bytes_eq []
+unfolding IsDistinct
+no_texts = tt
 
 -- no record was made, and no gate was asked
-pub none_answers : (may_say : List ℕ → Verdict → Type 0) (records : List Record) (logs : List (Option Log)) → records ≡ [] → AreAnswers may_say logs logs records
-unfolding IsDistinct
-none_answers may_say records logs none = subst (AreAnswers may_say logs logs) (sym none) (record {
-  distinct = tt;
-  said = All-nil _;
-  asked = nothing_asked logs;
-})
+pub none_answers : (may_say : List ℕ → Verdict → Type 0) (run : Run) → run.history ≡ [] → run.after.gates ≡ run.before.gates → AreAnswers may_say run
+none_answers may_say run none same = record {
+  distinct = subst (λ (rs : List Record). IsDistinct bytes_eq (texts_of rs)) (sym no_records) no_texts;
+  said = subst (λ (rs : List Record). All (λ r. may_say r.text r.verdict) rs) (sym no_records) (All-nil _);
+  asked = subst (λ (gates : List SeenGate). AreAsked (texts_of (records_of run.history)) (logs_of run.before.gates) (logs_of gates)) (sym same)
+      (subst (λ (rs : List Record). AreAsked (texts_of rs) (logs_of run.before.gates) (logs_of run.before.gates)) (sym no_records) (nothing_asked (logs_of run.before.gates)));
+}
+  where
+    no_records : records_of run.history ≡ []
+    no_records = ap records_of none
 
 module _ (keeps : List (List ℕ)) where
   -- the input of mode lines
@@ -106,12 +115,12 @@ module _ (keeps : List (List ℕ)) where
         ends_at_no = of.ends_at_no;
       }
 
-  module _ (workers : ℕ) (recursions : LinesAreRecursions) (by : HistoriesGoByQuestions) (start : List ℕ) (history : History) (legal : IsLegal (reducer_of keeps (Problem.of_lines start)) history) where
+  module _ (recursions : LinesAreRecursions) (by : HistoriesGoByQuestions) (start : List ℕ) (run : Run) (legal : IsLegal (reducer_of keeps (Problem.of_lines start)) run.history) where
     abbrev records : List Record
-    records = records_of history
+    records = records_of run.history
 
-    goes : GoesByQuestions keeps (Problem.of_lines start) history
-    goes = by keeps (Problem.of_lines start) tt history
+    goes : GoesByQuestions keeps (Problem.of_lines start) run.history
+    goes = by keeps (Problem.of_lines start) tt run.history
 
     abbrev R : Reduction (List Line)
     R = reduction (line_recursion (keeps_admit keeps) start) (says_yes (verdict_in records))
@@ -123,8 +132,8 @@ module _ (keeps : List (List ℕ)) where
     first_text verdict first = subst (λ (text : List ℕ). FirstIs text verdict records) (text-numbered_lines start) first
 
     -- the start is reduced to the text of the result
-    reduces : LinesEndMinimal → holds_all keeps start ≡ true → (result : StepResult) (counts : Counts) → counts ≡ ends.counts_of (length (numbered_lines start)) (length (text_of (numbered_lines start))) result (length records)
-        → ReducesIn workers (line_mode (lines_of start)) (AreOfStart (lines_of start)) history result → ReducesFrom workers keeps (Problem.of_lines start) history result.text counts
+    reduces : LinesEndMinimal → holds_all keeps start ≡ true → (result : StepResult) (counts : Counts) → counts ≡ ends.counts_of_result (length (numbered_lines start)) (length (text_of (numbered_lines start))) result (length records)
+        → ReducesIn run.workers (line_mode (lines_of start)) (AreOfStart (lines_of start)) run.history result → ReducesFrom run.workers keeps (Problem.of_lines start) run.history result.text counts
     reduces minimal kept result counts are_counts it =
         let V = verdict_in records in
         let defined : HasVerdicts V R.questions = subst (λ (r : Reduction (List Line)). HasVerdicts V r.questions) same_reduction it.defined in
@@ -145,33 +154,32 @@ module _ (keeps : List (List ℕ)) where
                 minimal = well.minimal;
               };
           is_counts = are_counts
-              ∙ ap (λ (r : StepResult). ends.counts_of (length (numbered_lines start)) (length (text_of (numbered_lines start))) r (length records))
+              ∙ ap (λ (r : StepResult). ends.counts_of_result (length (numbered_lines start)) (length (text_of (numbered_lines start))) r (length records))
               (it.is_result ∙ ap (result_of (trials.recursion_of (line_mode (lines_of start)))) same_reduction)
-              ∙ ap (λ (text : List ℕ). ends.counts_of (length (numbered_lines start)) (length text) (result_of (trials.recursion_of (line_mode (lines_of start))) R) (length records)) (text-numbered_lines start);
+              ∙ ap (λ (text : List ℕ). ends.counts_of_result (length (numbered_lines start)) (length text) (result_of (trials.recursion_of (line_mode (lines_of start))) R) (length records)) (text-numbered_lines start);
           whole = λ alone. it.whole alone ∙ goes.alone;
           committed = goes.answered legal it.committed;
         }
 
     -- why the start has no reduction
-    fails : (gates gates' : List ℕ) (journal journal' : ℕ) (fault : RunFault) → RunFailsIn workers (line_mode (lines_of start)) history gates gates' journal journal' fault → RunFails workers keeps (Problem.of_lines start) history gates gates' journal journal' fault
-    fails gates gates' journal journal' run.NotInteresting why =
+    fails : (fault : RunFault) → RunFailsIn (line_mode (lines_of start)) run fault → RunFails keeps (Problem.of_lines start) run fault
+    fails run_fault.NotInteresting why =
         (record { first = first_text No why.0; only = why.1; whole = λ alone. why.3 alone ∙ goes.alone; committed = goes.answered legal why.4 }, why.2)
-    fails gates gates' journal journal' (run.Script worker) why = (
+    fails (run_fault.Script worker) why = (
       why.0,
       why.1,
       λ alone.
           let waits = why.2 alone in
           record { waits = λ has. waits.1 (subst (λ (r : Reduction (List Line)). HasVerdicts (verdict_in records) r.questions) (sym same_reduction) has); not_no = waits.0; whole = waits.2 ∙ goes.alone },
     )
-    fails gates gates' journal journal' run.Journal why = why
-    fails gates gates' journal journal' run.Memory why = why
+    fails run_fault.Journal why = why
+    fails run_fault.Memory why = why
 
     -- how the run of the start's lines ends
-    pub lines_end : LinesEndMinimal → holds_all keeps start ≡ true → (gates gates' : List ℕ) (journal journal' : ℕ) (result : Result Reduced RunFault) → RunEndsIn workers (line_mode (lines_of start)) (AreOfStart (lines_of start)) history gates gates' journal journal' result
-        → ProblemEnds workers keeps (Problem.of_lines start) history gates gates' journal journal' result
-    lines_end minimal kept gates gates' journal journal' (Ok reduced) came =
-        (subst (λ (text : List ℕ). ReducesFrom workers keeps (Problem.of_lines start) history text reduced.counts) (sym came.0.1) (reduces minimal kept came.0.0 reduced.counts came.0.2 came.0.3), came.1)
-    lines_end minimal kept gates gates' journal journal' (Err fault) came = fails gates gates' journal journal' fault came
+    pub lines_end : LinesEndMinimal → holds_all keeps start ≡ true → (result : Result Reduced RunFault) → RunEndsIn (line_mode (lines_of start)) (AreOfStart (lines_of start)) run result → ProblemEnds keeps (Problem.of_lines start) run result
+    lines_end minimal kept (Ok reduced) came =
+        (subst (λ (text : List ℕ). ReducesFrom run.workers keeps (Problem.of_lines start) run.history text reduced.counts) (sym came.0.1) (reduces minimal kept came.0.0 reduced.counts came.0.2 came.0.3), came.1)
+    lines_end minimal kept (Err fault) came = fails fault came
 
 -- nothing was asked of a problem
 none_answered : (questions : List (List ℕ)) → thread_history (verdict_in []) questions ≡ []
@@ -194,6 +202,20 @@ none_of workers keeps problem history none = subst (AreOf workers keeps problem)
   ends_at_no = λ first_no. first_no;
 })
 
+-- where memory ran out before anything was asked
+module _ (run : Run) (none : run.history ≡ []) (out : run.outcome ≡ Err run_fault.Memory) (same : run.after ≡ run.before) where
+  pub refused_sound : (may_say : List ℕ → Verdict → Type 0) → IsSound may_say run
+  refused_sound may_say = record {
+    answers = none_answers may_say run none (ap (λ (r : Reached). r.gates) same);
+    journal = subst (JournalHas run) (sym out) (inr (none, ap (λ (r : Reached). r.journal.shown) same), ap (λ (r : Reached). r.journal.faults) same);
+  }
+
+  pub refused_of : (keeps : List (List ℕ)) (problem : Problem) → IsRunOf keeps problem run
+  refused_of keeps problem = record {
+    history = none_of run.workers keeps problem run.history none;
+    ends = subst (ProblemEnds keeps problem run) (sym out) (ap (λ (r : Reached). r.journal.faults) same, λ _. ap (λ (r : Reached). fault_counts_of r.gates) same);
+  }
+
 -- the start is asked first, so without a record the reduction waits for its verdict
 start_known : {T : Type 0} (V : List ℕ → Option Verdict) (recursion : Recursion T) → HasVerdicts V (reduction recursion (says_yes V)).questions → IsSome (V (recursion.text recursion.start))
 unfolding reduction
@@ -206,9 +228,9 @@ pub unfinished_without : (keeps : List (List ℕ)) (problem : Problem) → IsUnf
 unfinished_without keeps problem = record { waits = none_waits keeps problem; not_no = λ first_no. first_no; whole = sym (none_own keeps problem) }
 
 -- What a run of a reducer of trees says, in the words of the reduction of trees.
-module _ (workers : ℕ) (mode : TreeMode) (laws : IsTreeMode (round_of mode) (IsEditBy mode)) (recursions : WalksAreRecursions mode (round_of mode)) (by : HistoriesGoByQuestions) (input : TreeInput) (is : IsInput input) (admitted : AdmitsStart input) (history : History) where
+module _ (mode : TreeMode) (laws : IsTreeMode (round_of mode) (IsEditBy mode)) (recursions : WalksAreRecursions mode (round_of mode)) (by : HistoriesGoByQuestions) (input : TreeInput) (is : IsInput input) (admitted : AdmitsStart input) (run : Run) where
   abbrev tree_records : List Record
-  tree_records = records_of history
+  tree_records = records_of run.history
 
   abbrev trees : RoundMode TreeState
   trees = walk_mode (round_of mode) input
@@ -223,17 +245,17 @@ module _ (workers : ℕ) (mode : TreeMode) (laws : IsTreeMode (round_of mode) (I
   begins : BeginsWith trees input.start
   begins = laws.begins input is admitted
 
-  goes_on : (keeps : List (List ℕ)) → GoesByQuestions keeps (Problem.of_tree mode input) history
-  goes_on keeps = by keeps (Problem.of_tree mode input) is history
+  goes_on : (keeps : List (List ℕ)) → GoesByQuestions keeps (Problem.of_tree mode input) run.history
+  goes_on keeps = by keeps (Problem.of_tree mode input) is run.history
 
   -- the history is one of trees
-  pub are_of_tree : (keeps : List (List ℕ)) → AreOfMode workers trees (IsKept input) history → AreOf workers keeps (Problem.of_tree mode input) history
+  are_of_tree : (keeps : List (List ℕ)) → AreOfMode run.workers trees (IsKept input) run.history → AreOf run.workers keeps (Problem.of_tree mode input) run.history
   are_of_tree keeps of =
       record {
         distinct = of.legal.distinct;
         legal = (goes_on keeps).answers of.legal;
         readable = of.readable;
-        sequential = λ alone. subst (IsPrefix history) (goes_on keeps).alone (of.sequential alone);
+        sequential = λ alone. subst (IsPrefix run.history) (goes_on keeps).alone (of.sequential alone);
         candidates = All-weaker (λ (r : Record). IsTextOf trees (IsKept input) r.text) (λ (r : Record). IsCandidate input r.text) (λ r one. laws.asks input r.text is one) tree_records of.candidates;
         short = All-weaker (λ (r : Record). IsTextOf trees (IsKept input) r.text) (λ (r : Record). length r.text ≤ length input.start)
             (λ r one. subst (λ (text : List ℕ). length text ≤ length input.start) (sym one.same) (laws.no_longer input one.state is one.kept)) tree_records of.candidates;
@@ -242,8 +264,8 @@ module _ (workers : ℕ) (mode : TreeMode) (laws : IsTreeMode (round_of mode) (I
       }
 
   -- the tree is reduced to the text of the result
-  tree_reduces : (keeps : List (List ℕ)) → IsLegal (plan_first trees) history → input.admits ≡ keeps_admit keeps → (result : StepResult) (counts : Counts) → counts ≡ ends.counts_of (trees.size trees.start) (length (trees.text trees.start)) result (length tree_records)
-      → ReducesIn workers trees (IsKept input) history result → ReducesFrom workers keeps (Problem.of_tree mode input) history result.text counts
+  tree_reduces : (keeps : List (List ℕ)) → IsLegal (plan_first trees) run.history → input.admits ≡ keeps_admit keeps → (result : StepResult) (counts : Counts) → counts ≡ ends.counts_of_result (trees.size trees.start) (length (trees.text trees.start)) result (length tree_records)
+      → ReducesIn run.workers trees (IsKept input) run.history result → ReducesFrom run.workers keeps (Problem.of_tree mode input) run.history result.text counts
   tree_reduces keeps legal admits result counts are_counts it =
       let V = verdict_in tree_records in
       let R = over_records keeps in
@@ -266,16 +288,16 @@ module _ (workers : ℕ) (mode : TreeMode) (laws : IsTreeMode (round_of mode) (I
               minimal = end.minimal;
             };
         is_counts = are_counts
-            ∙ ap (λ (r : StepResult). ends.counts_of (trees.size trees.start) (length (trees.text trees.start)) r (length tree_records))
+            ∙ ap (λ (r : StepResult). ends.counts_of_result (trees.size trees.start) (length (trees.text trees.start)) r (length tree_records))
             (it.is_result ∙ ap (result_of (trials.recursion_of trees)) same)
-            ∙ ap (λ (text : List ℕ). ends.counts_of (trees.size trees.start) (length text) (result_of (trials.recursion_of trees) R) (length tree_records)) begins.text;
+            ∙ ap (λ (text : List ℕ). ends.counts_of_result (trees.size trees.start) (length text) (result_of (trials.recursion_of trees) R) (length tree_records)) begins.text;
         whole = λ alone. it.whole alone ∙ (goes_on keeps).alone;
         committed = (goes_on keeps).answered legal it.committed;
       }
 
   -- why the tree has no reduction
-  tree_fails : (keeps : List (List ℕ)) → IsLegal (plan_first trees) history → (gates gates' : List ℕ) (journal journal' : ℕ) (fault : RunFault) → RunFailsIn workers trees history gates gates' journal journal' fault → RunFails workers keeps (Problem.of_tree mode input) history gates gates' journal journal' fault
-  tree_fails keeps legal gates gates' journal journal' run.NotInteresting why = (
+  tree_fails : (keeps : List (List ℕ)) → IsLegal (plan_first trees) run.history → (fault : RunFault) → RunFailsIn trees run fault → RunFails keeps (Problem.of_tree mode input) run fault
+  tree_fails keeps legal run_fault.NotInteresting why = (
     record {
       first = subst (λ (start : List ℕ). FirstIs start No tree_records) begins.text why.0;
       only = why.1;
@@ -284,19 +306,24 @@ module _ (workers : ℕ) (mode : TreeMode) (laws : IsTreeMode (round_of mode) (I
     },
     why.2,
   )
-  tree_fails keeps legal gates gates' journal journal' (run.Script worker) why = (
+  tree_fails keeps legal (run_fault.Script worker) why = (
     why.0,
     why.1,
     λ alone.
         let waits = why.2 alone in
         record { waits = λ has. waits.1 (subst (λ (r : Reduction TreeState). HasVerdicts (verdict_in tree_records) r.questions) (sym (same_trees keeps)) has); not_no = waits.0; whole = waits.2 ∙ (goes_on keeps).alone },
   )
-  tree_fails keeps legal gates gates' journal journal' run.Journal why = why
-  tree_fails keeps legal gates gates' journal journal' run.Memory why = why
+  tree_fails keeps legal run_fault.Journal why = why
+  tree_fails keeps legal run_fault.Memory why = why
 
   -- how the run of the tree ends
-  pub tree_ends : (keeps : List (List ℕ)) → IsLegal (plan_first trees) history → input.admits ≡ keeps_admit keeps → (gates gates' : List ℕ) (journal journal' : ℕ) (result : Result Reduced RunFault) → RunEndsIn workers trees (IsKept input) history gates gates' journal journal' result
-      → ProblemEnds workers keeps (Problem.of_tree mode input) history gates gates' journal journal' result
-  tree_ends keeps legal admits gates gates' journal journal' (Ok reduced) came =
-      (subst (λ (text : List ℕ). ReducesFrom workers keeps (Problem.of_tree mode input) history text reduced.counts) (sym came.0.1) (tree_reduces keeps legal admits came.0.0 reduced.counts came.0.2 came.0.3), came.1)
-  tree_ends keeps legal admits gates gates' journal journal' (Err fault) came = tree_fails keeps legal gates gates' journal journal' fault came
+  tree_ends : (keeps : List (List ℕ)) → IsLegal (plan_first trees) run.history → input.admits ≡ keeps_admit keeps → (result : Result Reduced RunFault) → RunEndsIn trees (IsKept input) run result → ProblemEnds keeps (Problem.of_tree mode input) run result
+  tree_ends keeps legal admits (Ok reduced) came =
+      (subst (λ (text : List ℕ). ReducesFrom run.workers keeps (Problem.of_tree mode input) run.history text reduced.counts) (sym came.0.1) (tree_reduces keeps legal admits came.0.0 reduced.counts came.0.2 came.0.3), came.1)
+  tree_ends keeps legal admits (Err fault) came = tree_fails keeps legal fault came
+
+  -- what the run of the tree comes to, with the keep texts that say what is admitted
+  pub tree_run : (keeps : List (List ℕ)) → input.admits ≡ keeps_admit keeps → (so_far : StepResult) → IsStart trees so_far → IsRunIn trees (IsKept input) so_far run → IsRunOf keeps (Problem.of_tree mode input) run
+  tree_run keeps admits so_far start ran =
+      let of = ran.history (laws.lawful input is).keeps begins.listed in
+      record { history = are_of_tree keeps of; ends = tree_ends keeps of.legal admits run.outcome (ran.ends start) }

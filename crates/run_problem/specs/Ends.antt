@@ -2,15 +2,14 @@
 use Rattle.std.specs.Prelude.{◌≡◌, ◌≤◌, ℕ, List, All, length, Result, Ok, Err}
 use Rattle.std.specs.List.{IsDistinct}
 use Rattle.std.specs.Str.{bytes_eq}
-use Rattle.faults.specs.Count.{Rose}
 use Rattle.script_gate_trait.specs.declared.gate.Verdict.TheVariants.{Yes, No}
 use Rattle.verdict_table.specs.TableState.{texts_of, verdict_in}
 use Rattle.reduce_journal.specs.History.{History, IsHistory, records_of}
 use Rattle.reduce_journal.specs.declared.counts.Counts.{Counts}
 use Rattle.reduce_rounds.specs.Verdicts.{HasVerdicts}
 use Rattle.run_gated.specs.Records.{BeginsAt, FirstIs, FirstIsNo, OnlyNo}
-use Rattle.run_gated.specs.RunEnds.{NoneFailed}
-use Rattle.run_gated.specs.Workers.{RoseAt}
+use Rattle.run_gated.specs.Seen.{AreQuiet, CallFailed, GateFailed, IsQuiet, NoneFailed}
+use Rattle.run_gated.specs.Run.{Run}
 use Rattle.run_gated.specs.declared.fault.RunFault.{RunFault}
 use Rattle.run_gated.specs.declared.fault.RunFault.TheVariants.{NotInteresting, Script, Journal, Memory}
 use Rattle.run_gated.specs.declared.ran.Reduced.{Reduced}
@@ -60,14 +59,22 @@ pub record IsRefused (workers : ℕ) (keeps : List (List ℕ)) (problem : Proble
   pub whole : workers ≡ 1 → IsWhole keeps problem history
   pub committed : IsAnswered keeps problem history
 
--- Why a problem has no reduction: a gate said no to its start; or a call failed of the gate of the worker that is named, and with one worker the reduction wasn't finished; or a call of the journal failed; or out of memory. Of the gates and of the journal these are the counts before and after. After a no, no call failed; and with one worker no call failed but the one that is the cause.
-abbrev pub RunFails : ℕ → List (List ℕ) → Problem → History → List ℕ → List ℕ → ℕ → ℕ → RunFault → Type 0
-RunFails workers keeps problem history gates gates' journal journal' NotInteresting = IsRefused workers keeps problem history × NoneFailed gates gates' journal journal'
-RunFails workers keeps problem history gates gates' journal journal' (Script worker) = RoseAt worker gates gates' × (journal' ≡ journal) × (workers ≡ 1 → IsUnfinished keeps problem history)
-RunFails workers keeps problem history gates gates' journal journal' Journal = Rose journal journal' × (workers ≡ 1 → gates' ≡ gates)
-RunFails workers keeps problem history gates gates' journal journal' Memory = (journal' ≡ journal) × (workers ≡ 1 → gates' ≡ gates)
+-- Why a problem has no reduction: a gate said no to its start; or a call failed of the gate of the worker that is named, and with one worker the reduction wasn't finished; or a call of the journal failed; or out of memory. After a no, no call failed; and with one worker no call failed but the one that is the cause.
+abbrev pub RunFails : List (List ℕ) → Problem → Run → RunFault → Type 0
+RunFails keeps problem run NotInteresting = IsRefused run.workers keeps problem run.history × NoneFailed run.before run.after
+RunFails keeps problem run (Script worker) =
+    GateFailed worker run.before.gates run.after.gates × IsQuiet run.before.journal run.after.journal
+    × (run.workers ≡ 1 → IsUnfinished keeps problem run.history)
+RunFails keeps problem run Journal = CallFailed run.before.journal run.after.journal × (run.workers ≡ 1 → AreQuiet run.before.gates run.after.gates)
+RunFails keeps problem run Memory = IsQuiet run.before.journal run.after.journal × (run.workers ≡ 1 → AreQuiet run.before.gates run.after.gates)
 
 -- how the run ended: with the text that the problem reduces to and what the report says, or why there is none
-abbrev pub ProblemEnds : ℕ → List (List ℕ) → Problem → History → List ℕ → List ℕ → ℕ → ℕ → Result Reduced RunFault → Type 0
-ProblemEnds workers keeps problem history gates gates' journal journal' (Ok reduced) = ReducesFrom workers keeps problem history reduced.text.items reduced.counts × NoneFailed gates gates' journal journal'
-ProblemEnds workers keeps problem history gates gates' journal journal' (Err fault) = RunFails workers keeps problem history gates gates' journal journal' fault
+abbrev pub ProblemEnds : List (List ℕ) → Problem → Run → Result Reduced RunFault → Type 0
+ProblemEnds keeps problem run (Ok reduced) =
+    ReducesFrom run.workers keeps problem run.history reduced.text.items reduced.counts × NoneFailed run.before run.after
+ProblemEnds keeps problem run (Err fault) = RunFails keeps problem run fault
+
+-- What the run of a problem comes to: its history, and its end.
+pub record IsRunOf (keeps : List (List ℕ)) (problem : Problem) (run : Run) : Type 0 where
+  pub history : AreOf run.workers keeps problem run.history
+  pub ends : ProblemEnds keeps problem run run.outcome

@@ -2,20 +2,20 @@
 
 ghost use Rattle.std.specs.Prelude.{◌≡◌, ◌≤◌, [], ℕ, List, true, IfOk, IfSome, length};
 ghost use Rattle.reduce_step.specs.Limits.{text_limit};
-ghost use Rattle.reduce_journal.specs.History.{records_of};
 ghost use Rattle.keep_guard.specs.Keep.{holds_all, keeps_admit};
 ghost use Rattle.grammar_tree.specs.Faults.{IsWellFormed};
 ghost use Rattle.reduce_trees_input.specs.Parsed.{tree_input};
 ghost use Rattle.reduce_trees.specs.Ends.{AdmitsStart};
-ghost use Rattle.reduce_rounds.specs.RoundsPlan.{IsStart, plan_first};
+ghost use Rattle.reduce_rounds.specs.RoundsPlan.{plan_first};
 ghost use Rattle.reduce_trees.specs.WalkMode.{walk_mode};
+ghost use Rattle.reduce_trees_mode.specs.Input.{TreeInput};
 ghost use Rattle.reduce_trees_mode.specs.Listed.{IsKept};
-ghost use Rattle.run_gated.specs.Records.{AreAnswers, AreOfMode};
-ghost use Rattle.run_gated.specs.Workers.{AreIdle, worker_faults, worker_logs};
-ghost use Rattle.run_gated.specs.RunEnds.{JournalHas, RunEndsIn};
+ghost use Rattle.run_gated.specs.Run.{run_of};
+ghost use Rattle.run_gated.specs.Workers.{AreIdle};
+ghost use Rattle.run_gated.specs.RunEnds.{IsRunIn, IsSound};
 ghost use Rattle.run_problem.specs.Problem.{Problem};
 ghost use Rattle.run_problem.specs.Read.{IsFoundIn, IsReadAs, IsReady, start_read};
-ghost use Rattle.run_problem.specs.Ends.{AreOf, ProblemEnds};
+ghost use Rattle.run_problem.specs.Ends.{IsRunOf};
 ghost use Rattle.run_problem.specs.inner.Walks.{IsTreeMode};
 
 use crate::laws::histories_go_by_questions;
@@ -59,10 +59,8 @@ fn lines_result<G: Gate + Send, J: Sink + Drop + Send, T: Threads + Wait + Sync>
     requires empty { IfSome (J.put_so_far journal) (λ put. put.bytes ≡ []) }
     ensures idle { AreIdle workers.new }
     ensures as_many { length workers.new ≡ length workers.old }
-    ensures answers { AreAnswers G.may_say (worker_logs G.log workers.old) (worker_logs G.log workers.new) (records_of result.events.items) }
-    ensures of_problem { AreOf (length workers.old) guard.now (Problem.of_lines start.now) result.events.items }
-    ensures ends { ProblemEnds (length workers.old) guard.now (Problem.of_lines start.now) result.events.items (worker_faults G.faults workers.old) (worker_faults G.faults workers.new) (J.faults journal) (J.faults result.journal) result.outcome }
-    ensures journal { JournalHas (length workers.old) result.events.items (J.put_so_far journal) (J.put_so_far result.journal) (J.faults journal) (J.faults result.journal) result.outcome }
+    ensures sound { IsSound G.may_say (run_of G.log G.faults J.put_so_far J.faults workers.old workers.new journal result) }
+    ensures problem { IsRunOf guard.now (Problem.of_lines start.now) (run_of G.log G.faults J.put_so_far J.faults workers.old workers.new journal result) }
 {
     lines_are_recursions();
     lines_end_minimal();
@@ -106,7 +104,7 @@ fn walk_laws<W: TreeWalk>()
     walks_end_minimal::<W>();
 }
 
-/// The text that a tree reduces to, by a reducer of it in the mode of a walk.
+/// The text that a reducer of a tree comes to, in the mode of a walk.
 fn walk_result<
     'p,
     'a,
@@ -117,26 +115,19 @@ fn walk_result<
 >(
     rt: &T,
     alloc: Global,
-    parts: &'p TreeParts<KeepTexts<'a>>,
     reducer: TreeReducer<'p, KeepTexts<'a>, W>,
     workers: &mut [Worker<G>],
     journal: J,
 ) -> Ran<J>
-    requires kept { AdmitsStart (⟦<TreeParts<KeepTexts<'a>> as HasInput>⟧.input parts.now) }
-    requires plan { ⟦<Rounds<TreeRound<'p, KeepTexts<'a>, W>> as Step>⟧.plan reducer ≡ plan_first (walk_mode W.round (⟦<TreeParts<KeepTexts<'a>> as HasInput>⟧.input parts.now)) }
-    requires first { ⟦<Rounds<TreeRound<'p, KeepTexts<'a>, W>> as Step>⟧.first reducer ≡ plan_first (walk_mode W.round (⟦<TreeParts<KeepTexts<'a>> as HasInput>⟧.input parts.now)) }
-    requires start { IsStart (walk_mode W.round (⟦<TreeParts<KeepTexts<'a>> as HasInput>⟧.input parts.now)) (⟦<Rounds<TreeRound<'p, KeepTexts<'a>, W>> as ReducerStep>⟧.so_far reducer) }
+    requires new { ⟦<Rounds<TreeRound<'p, KeepTexts<'a>, W>> as Step>⟧.first reducer ≡ ⟦<Rounds<TreeRound<'p, KeepTexts<'a>, W>> as Step>⟧.plan reducer }
     requires idle { AreIdle workers.old }
     requires empty { IfSome (J.put_so_far journal) (λ put. put.bytes ≡ []) }
     ensures idle { AreIdle workers.new }
     ensures as_many { length workers.new ≡ length workers.old }
-    ensures answers { AreAnswers G.may_say (worker_logs G.log workers.old) (worker_logs G.log workers.new) (records_of result.events.items) }
-    ensures of_mode { AreOfMode (length workers.old) (walk_mode W.round (⟦<TreeParts<KeepTexts<'a>> as HasInput>⟧.input parts.now)) (IsKept (⟦<TreeParts<KeepTexts<'a>> as HasInput>⟧.input parts.now)) result.events.items }
-    ensures ends { RunEndsIn (length workers.old) (walk_mode W.round (⟦<TreeParts<KeepTexts<'a>> as HasInput>⟧.input parts.now)) (IsKept (⟦<TreeParts<KeepTexts<'a>> as HasInput>⟧.input parts.now)) result.events.items (worker_faults G.faults workers.old) (worker_faults G.faults workers.new) (J.faults journal) (J.faults result.journal) result.outcome }
-    ensures journal { JournalHas (length workers.old) result.events.items (J.put_so_far journal) (J.put_so_far result.journal) (J.faults journal) (J.faults result.journal) result.outcome }
+    ensures sound { IsSound G.may_say (run_of G.log G.faults J.put_so_far J.faults workers.old workers.new journal result) }
+    ensures in_mode { (input : TreeInput) → ⟦<Rounds<TreeRound<'p, KeepTexts<'a>, W>> as Step>⟧.first reducer.entry ≡ plan_first (walk_mode W.round input)
+        → IsRunIn (walk_mode W.round input) (IsKept input) (⟦<Rounds<TreeRound<'p, KeepTexts<'a>, W>> as ReducerStep>⟧.so_far reducer.entry) (run_of G.log G.faults J.put_so_far J.faults workers.old workers.new journal result) }
 {
-    walk_laws::<W>();
-    parts.is_input();
     run_to_text(rt, alloc, reducer, workers, journal)
 }
 
@@ -154,11 +145,9 @@ fn tree_result<'a, G: Gate + Send, J: Sink + Drop + Send, T: Threads + Wait + Sy
     requires empty { IfSome (J.put_so_far journal) (λ put. put.bytes ≡ []) }
     ensures idle { AreIdle workers.new }
     ensures as_many { length workers.new ≡ length workers.old }
-    ensures answers { AreAnswers G.may_say (worker_logs G.log workers.old) (worker_logs G.log workers.new) (records_of result.events.items) }
-    ensures of_problem { (keeps : List (List ℕ)) → AreOf (length workers.old) keeps (Problem.of_tree mode (⟦<TreeParts<KeepTexts<'a>> as HasInput>⟧.input parts.now)) result.events.items }
-    ensures ends { (keeps : List (List ℕ)) → (⟦<TreeParts<KeepTexts<'a>> as HasInput>⟧.input parts.now).admits ≡ keeps_admit keeps
-        → ProblemEnds (length workers.old) keeps (Problem.of_tree mode (⟦<TreeParts<KeepTexts<'a>> as HasInput>⟧.input parts.now)) result.events.items (worker_faults G.faults workers.old) (worker_faults G.faults workers.new) (J.faults journal) (J.faults result.journal) result.outcome }
-    ensures journal { JournalHas (length workers.old) result.events.items (J.put_so_far journal) (J.put_so_far result.journal) (J.faults journal) (J.faults result.journal) result.outcome }
+    ensures sound { IsSound G.may_say (run_of G.log G.faults J.put_so_far J.faults workers.old workers.new journal result) }
+    ensures problem { (keeps : List (List ℕ)) → (⟦<TreeParts<KeepTexts<'a>> as HasInput>⟧.input parts.now).admits ≡ keeps_admit keeps
+        → IsRunOf keeps (Problem.of_tree mode (⟦<TreeParts<KeepTexts<'a>> as HasInput>⟧.input parts.now)) (run_of G.log G.faults J.put_so_far J.faults workers.old workers.new journal result) }
 {
     parts.is_input();
     histories_go_by_questions();
@@ -167,7 +156,7 @@ fn tree_result<'a, G: Gate + Send, J: Sink + Drop + Send, T: Threads + Wait + Sy
             walk_laws::<TreeVisits>();
             perses_is_its_recursion();
             match perses_reducer(alloc, parts) {
-                Ok(reducer) => walk_result(rt, alloc, parts, reducer, workers, journal),
+                Ok(reducer) => walk_result(rt, alloc, reducer, workers, journal),
                 Err(_) => Ran::refused(alloc, journal, RunFault::Memory),
             }
         }
@@ -175,7 +164,7 @@ fn tree_result<'a, G: Gate + Send, J: Sink + Drop + Send, T: Threads + Wait + Sy
             walk_laws::<TreeLevels>();
             hdd_is_its_recursion();
             match hdd_reducer(alloc, parts) {
-                Ok(reducer) => walk_result(rt, alloc, parts, reducer, workers, journal),
+                Ok(reducer) => walk_result(rt, alloc, reducer, workers, journal),
                 Err(_) => Ran::refused(alloc, journal, RunFault::Memory),
             }
         }
@@ -202,10 +191,8 @@ pub fn run_problem<G: Gate + Send, J: Sink + Drop + Send, T: Threads + Wait + Sy
     requires empty { IfSome (J.put_so_far journal) (λ put. put.bytes ≡ []) }
     ensures idle { AreIdle workers.new }
     ensures as_many { length workers.new ≡ length workers.old }
-    ensures answers { AreAnswers G.may_say (worker_logs G.log workers.old) (worker_logs G.log workers.new) (records_of result.events.items) }
-    ensures of_problem { (one : Problem) → IsReadAs guard.entry problem one → AreOf (length workers.old) guard.entry one result.events.items }
-    ensures ends { (one : Problem) → IsReadAs guard.entry problem one → ProblemEnds (length workers.old) guard.entry one result.events.items (worker_faults G.faults workers.old) (worker_faults G.faults workers.new) (J.faults journal) (J.faults result.journal) result.outcome }
-    ensures journal { JournalHas (length workers.old) result.events.items (J.put_so_far journal) (J.put_so_far result.journal) (J.faults journal) (J.faults result.journal) result.outcome }
+    ensures sound { IsSound G.may_say (run_of G.log G.faults J.put_so_far J.faults workers.old workers.new journal result) }
+    ensures problem { (one : Problem) → IsReadAs guard.entry problem one → IsRunOf guard.entry one (run_of G.log G.faults J.put_so_far J.faults workers.old workers.new journal result) }
 {
     match problem {
         ReadProblem::Lines(start) => lines_result(rt, alloc, &start, &guard, workers, journal),

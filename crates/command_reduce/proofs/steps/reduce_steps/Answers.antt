@@ -1,8 +1,8 @@
-use Rattle.std.proofs.Common.{◌++◌, drop, length, refl, sym, take}
+use Rattle.std.proofs.Common.{◌++◌, drop, refl, sym, take}
 use Rattle.command_reduce.specs.inner.Reduce.{Inside}
 use Rattle.command_words.specs.Lines.{reduce_read}
 use Rattle.command_ends.specs.World.{seen, seen_gates}
-use Rattle.run_gated.specs.Workers.{worker_faults, worker_logs}
+use Rattle.run_gated.specs.Run.{Run, run_of}
 use Rattle.command_reduce.proofs.CommandLemmas.{steps_end, stops_accept}
 use Rattle.command_reduce.proofs.LentLemmas.{back_idle, back_many, lent_first, lent_idle, lent_many}
 use Rattle.command_reduce.proofs.steps.reduce_steps.Goals as goal
@@ -31,15 +31,10 @@ returns-in-Ok-clause-steps g c =
     let jobs = c.args.line.now.jobs in
     let workers = c.args.workers.now in
     let ran = c.reduce_start-journal in
-    let old : Inside =
-    record { files = seen g.F.Files.content g.F.Files.faults c.args.files.now; gates = seen_gates g.G.Gate.log g.G.Gate.faults workers; journal = seen g.J.Sink.put_so_far g.J.Sink.faults c.args.journal } in
-    let new : Inside = record {
-      files = seen g.F.Files.content g.F.Files.faults c.write_result-outcome.new.files;
-      gates = seen_gates g.G.Gate.log g.G.Gate.faults (ran.new.workers ++ drop jobs workers);
-      journal = seen g.J.Sink.put_so_far g.J.Sink.faults ran.result.journal;
-    } in
-    steps_end (reduce_read c.args.line.now) g.G.Gate.may_say ran.result.events.items old new (worker_logs g.G.Gate.log (take jobs workers)) (worker_logs g.G.Gate.log ran.new.workers) (worker_faults g.G.Gate.faults (take jobs workers)) (worker_faults g.G.Gate.faults ran.new.workers)
-    (seen g.F.Files.content g.F.Files.faults c.accept.new.files) c.in-Ok.problem c.in-Ok.guard (length (take jobs workers)) ran.result.outcome c.write_result-outcome.result
+    let run : Run = run_of g.G.Gate.log g.G.Gate.faults g.J.Sink.put_so_far g.J.Sink.faults (take jobs workers) ran.new.workers c.args.journal ran.result in
+    steps_end (reduce_read c.args.line.now) g.G.Gate.may_say run (seen g.F.Files.content g.F.Files.faults c.args.files.now) (seen g.F.Files.content g.F.Files.faults c.write_result-outcome.new.files)
+    (seen_gates g.G.Gate.log g.G.Gate.faults workers) (seen_gates g.G.Gate.log g.G.Gate.faults (ran.new.workers ++ drop jobs workers))
+    (seen g.F.Files.content g.F.Files.faults c.accept.new.files) c.in-Ok.problem c.in-Ok.guard c.write_result-outcome.result
     (lent_first workers jobs c.requires.idle c.requires.enough ran.new.workers ran.ensures.as_many (reduce_read c.args.line.now) refl g.G.Gate.log g.G.Gate.faults)
-    (sym (lent_many workers jobs c.requires.idle c.requires.enough)) c.in-Ok.ensures.problem c.in-Ok.ensures.guard c.in-Ok.ensures.kept c.accept.ensures.same c.in-Ok.ensures.quiet ran.ensures.sound ran.ensures.of_problem ran.ensures.ends ran.ensures.journal
+    (sym (lent_many workers jobs c.requires.idle c.requires.enough)) c.in-Ok.ensures.problem c.in-Ok.ensures.guard c.in-Ok.ensures.kept c.accept.ensures.same c.in-Ok.ensures.quiet ran.ensures.sound ran.ensures.problem
     c.write_result-outcome.ensures

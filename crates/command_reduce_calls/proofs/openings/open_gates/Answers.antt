@@ -1,9 +1,9 @@
 use Rattle.std.proofs.Common.{◌≡◌, ◌≤◌, ◌<◌, ◌∙◌, ℕ, arith, ap, length, refl}
 use Rattle.std.proofs.lemmas.List.{length-map}
 use Rattle.command_words.specs.Lines.{reduce_read}
-use Rattle.run_gated.specs.Workers.{worker_logs}
+use Rattle.run_gated.proofs.Lent.{worker_logs}
 use Rattle.command_reduce_calls.specs.Openings.{opened_from}
-use Rattle.command_reduce_calls.proofs.OpeningLemmas.{all_opened, gate_refused, none_opened, one_opened, refused_idle}
+use Rattle.command_reduce_calls.proofs.OpeningLemmas.{all_opened, gate_refused, none_opened, one_opened, opened_seen, quiet_seen, refused_idle}
 use Rattle.command_reduce_calls.proofs.openings.open_gates.Goals as goal
 
 pub loop-worker-init : goal.loop-worker-init
@@ -38,7 +38,8 @@ returns-clause-opened g c =
     let logs = worker_logs g.G.Gate.log c.args.workers.now in
     let many : length logs ≡ length c.args.workers.now = length-map c.args.workers.now (λ w. g.G.Gate.log w.gate) in
     let over : length logs ≤ at.worker-index = let test = c.loop-worker-test.false in let same = at.invariant.as_many in omega (arith, test, same, many) in
-    at.invariant.logs ∙ all_opened (reduce_read c.args.line.now) 1 at.worker-index logs over ∙ ap (λ (n : ℕ). opened_from (reduce_read c.args.line.now) 1 n logs) many
+    opened_seen g.G.Gate.log g.G.Gate.faults (reduce_read c.args.line.now) c.args.workers.now at.workers (length c.args.workers.now)
+    (at.invariant.logs ∙ all_opened (reduce_read c.args.line.now) 1 at.worker-index logs over ∙ ap (λ (n : ℕ). opened_from (reduce_read c.args.line.now) 1 n logs) many)
 
 pub returns-clause-quiet : goal.returns-clause-quiet
-returns-clause-quiet g c = c.loop-worker.invariant.quiet
+returns-clause-quiet g c = quiet_seen g.G.Gate.log g.G.Gate.faults (reduce_read c.args.line.now) c.args.workers.now c.loop-worker.workers c.loop-worker.invariant.quiet
