@@ -171,28 +171,54 @@ fn by_rule(alloc: Global, count: u32) -> Result<Vec<Worker<RuleGate<98>>>, Fail>
     Ok(workers)
 }
 
+/// How many texts the gates of these workers were asked about.
+fn asked_by_rule(workers: &[Worker<RuleGate<98>>]) -> u64 {
+    let mut asked: u64 = 0;
+    for worker in workers {
+        if let Some(log) = worker.gate.log() {
+            asked = asked.saturating_add(log.asked.len() as u64);
+        }
+    }
+    asked
+}
+
+/// Whether a run has come to the result without a fault, its reducer was given these answers, and its
+/// journal and its events fit together.
+fn is_whole(alloc: Global, came: &Came, answers: &[u8]) -> Result<bool, Fail> {
+    let given = answers_of(alloc, &came.events)?;
+    Ok(
+        came.fault == None
+            && came.text.as_slice() == RESULT
+            && given.as_slice() == answers
+            && are_records(&came.events)
+            && is_journal(alloc, came),
+    )
+}
+
+/// Whether so many workers come to the same with these answers, and each record is of one ask.
+fn comes_to_the_same<W: Threads + Wait + Sync>(
+    rt: &W,
+    alloc: Global,
+    count: u32,
+    answers: &[u8],
+) -> Result<bool, Fail> {
+    let mut workers = by_rule(alloc, count)?;
+    let came = run_of(rt, alloc, &mut workers, &[])?;
+    let records = record_count(&came.events, None);
+    Ok(is_whole(alloc, &came, answers)? && records == asked_by_rule(&workers))
+}
+
+/// The answers that the reducer is given by one worker.
+fn answers_alone<W: Threads + Wait + Sync>(rt: &W, alloc: Global) -> Result<Vec<u8>, Fail> {
+    let alone = run_of(rt, alloc, &mut by_rule(alloc, 1)?, &[])?;
+    answers_of(alloc, &alone.events)
+}
+
 #[test]
 fn comes_to_the_same_with_any_number_of_workers(rt: HostRuntime) -> Result<(), Fail> {
-    let alone = run_of(&rt, rt.alloc(), &mut by_rule(rt.alloc(), 1)?, &[])?;
-    let answers = answers_of(rt.alloc(), &alone.events)?;
+    let answers = answers_alone(&rt, rt.alloc())?;
     for count in [1, 2, 4, 16] {
-        let mut workers = by_rule(rt.alloc(), count)?;
-        let came = run_of(&rt, rt.alloc(), &mut workers, &[])?;
-        assert_eq!(rt; came.fault, None);
-        assert_eq!(rt; came.text.as_slice(), RESULT);
-        assert_eq!(rt;
-            answers_of(rt.alloc(), &came.events)?.as_slice(),
-            answers.as_slice()
-        );
-        assert!(rt; are_records(&came.events));
-        assert!(rt; is_journal(rt.alloc(), &came));
-        let mut asked: u64 = 0;
-        for worker in &workers {
-            if let Some(log) = worker.gate.log() {
-                asked = asked.saturating_add(log.asked.len() as u64);
-            }
-        }
-        assert_eq!(rt; record_count(&came.events, None), asked);
+        assert!(rt; comes_to_the_same(&rt, rt.alloc(), count, &answers)?);
     }
     Ok(())
 }
@@ -212,8 +238,7 @@ fn held<W: Threads + Wait + Sync>(rt: &W, alloc: Global, width: u32) -> Result<C
 fn runs_two_and_four_scripts_at_once(rt: HostRuntime) -> Result<(), Fail> {
     for width in [2, 4] {
         let came = held(&rt, rt.alloc(), width)?;
-        assert_eq!(rt; came.fault, None);
-        assert_eq!(rt; came.text.as_slice(), RESULT);
+        assert!(rt; came.fault == None && came.text.as_slice() == RESULT);
     }
     Ok(())
 }
@@ -235,50 +260,81 @@ fn faulty<W: Threads + Wait + Sync>(rt: &W, alloc: Global, fault: GateFault) -> 
     run_of(rt, alloc, &mut workers, &[])
 }
 
+/// Whether that run keeps this fault, and its journal is whole.
+fn keeps<W: Threads + Wait + Sync>(
+    rt: &W,
+    alloc: Global,
+    fault: GateFault,
+    kept: PoolFault,
+) -> Result<bool, Fail> {
+    let came = faulty(rt, alloc, fault)?;
+    Ok(came.fault == Some(kept) && is_journal(alloc, &came))
+}
+
 #[test]
 fn keeps_the_fault_of_one_worker(rt: HostRuntime) -> Result<(), Fail> {
-    let faults = [
-        (GateFault::Failed, PoolFault::Script { worker: 3 }),
-        (GateFault::Memory, PoolFault::Memory),
-    ];
-    for (fault, kept) in faults {
-        let came = faulty(&rt, rt.alloc(), fault)?;
-        assert_eq!(rt; came.fault, Some(kept));
-        assert!(rt; is_journal(rt.alloc(), &came));
-    }
+    let failed = PoolFault::Script { worker: 3 };
+    assert!(rt; keeps(&rt, rt.alloc(), GateFault::Failed, failed)?);
+    assert!(rt; keeps(&rt, rt.alloc(), GateFault::Memory, PoolFault::Memory)?);
     Ok(())
 }
 
-/// The third worker's script fails at its second ask, if it has one: the others go on with what they ask.
-#[test]
-fn stops_where_a_script_fails_now_and_then(rt: HostRuntime) -> Result<(), Fail> {
-    let alloc = rt.alloc();
+/// Four workers, whose gates say yes and then no; but the third one's fails at its second ask, if it has
+/// one.
+fn failing_later(alloc: Global) -> Result<Vec<Worker<ListGate>>, Fail> {
     let mut workers = Vec::new(alloc);
     for number in 1..5 {
         let later = if number == 3 { Said::Fail } else { Said::No };
         let answers = Vec::from_slice(alloc, &[Said::Yes])?;
         workers.push(Worker::new(ListGate::new(alloc, answers, later), number))?;
     }
-    let came = run_of(&rt, alloc, &mut workers, &[])?;
-    let failed = Some(PoolFault::Script { worker: 3 });
-    assert!(rt; came.fault == None || came.fault == failed);
-    assert!(rt; are_records(&came.events));
-    assert!(rt; is_journal(alloc, &came));
+    Ok(workers)
+}
+
+/// How many texts the gates of these workers were asked about.
+fn asked_in_order(workers: &[Worker<ListGate>]) -> u64 {
     let mut asked: u64 = 0;
-    for worker in &workers {
+    for worker in workers {
         asked = asked.saturating_add(worker.gate.log().asked.len() as u64);
     }
-    assert_eq!(rt; record_count(&came.events, None), asked);
+    asked
+}
+
+/// Whether these workers come to no fault or to that of the third one's script, and their records are
+/// those of their asks.
+fn stops_or_ends<W: Threads + Wait + Sync>(rt: &W, alloc: Global) -> Result<bool, Fail> {
+    let mut workers = failing_later(alloc)?;
+    let came = run_of(rt, alloc, &mut workers, &[])?;
+    let failed = Some(PoolFault::Script { worker: 3 });
+    Ok(
+        (came.fault == None || came.fault == failed)
+            && are_records(&came.events)
+            && is_journal(alloc, &came)
+            && record_count(&came.events, None) == asked_in_order(&workers),
+    )
+}
+
+/// The others go on with what they ask.
+#[test]
+fn stops_where_a_script_fails_now_and_then(rt: HostRuntime) -> Result<(), Fail> {
+    assert!(rt; stops_or_ends(&rt, rt.alloc())?);
     Ok(())
+}
+
+/// Whether so many workers stop with a journal that can be read, where its seventh put fails.
+fn stops_with_the_journal<W: Threads + Wait + Sync>(
+    rt: &W,
+    alloc: Global,
+    count: u32,
+) -> Result<bool, Fail> {
+    let came = run_of(rt, alloc, &mut by_rule(alloc, count)?, &[7])?;
+    Ok(came.fault == Some(PoolFault::Journal) && read_journal(alloc, &came.journal).is_ok())
 }
 
 #[test]
 fn stops_where_the_journal_breaks_off(rt: HostRuntime) -> Result<(), Fail> {
     for count in [1, 2, 4, 16] {
-        let mut workers = by_rule(rt.alloc(), count)?;
-        let came = run_of(&rt, rt.alloc(), &mut workers, &[7])?;
-        assert_eq!(rt; came.fault, Some(PoolFault::Journal));
-        assert_eq!(rt; read_journal(rt.alloc(), &came.journal).is_ok(), true);
+        assert!(rt; stops_with_the_journal(&rt, rt.alloc(), count)?);
     }
     Ok(())
 }

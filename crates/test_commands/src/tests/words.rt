@@ -1,6 +1,8 @@
 //! What words ask for, as one text.
 
-use command_words::{CommandLine, ModeLine, ReduceLine, journal_name, read_words};
+use command_words::{
+    CommandLine, ModeLine, NamedGrammar, ReduceLine, SelftestLine, journal_name, read_words,
+};
 use reduce_step::TreeMode;
 use std::alloc::Global;
 use std::test::Fail;
@@ -47,21 +49,31 @@ fn reduce_text(alloc: Global, line: &ReduceLine<'_>) -> Result<String, Fail> {
     Ok(text)
 }
 
+fn normal_text(alloc: Global, grammar: NamedGrammar<'_>) -> Result<String, Fail> {
+    let start = grammar.start.unwrap_or("-");
+    Ok(format!(in alloc; "normal {} from {start}", grammar.path)?)
+}
+
+fn selftest_text(alloc: Global, line: SelftestLine) -> Result<String, Fail> {
+    let mode = mode_name(line.mode);
+    Ok(format!(in alloc; "selftest {} {} {mode}", line.number, line.size)?)
+}
+
 /// What a line asks for, as one text; `usage` where it is no command line.
 fn asked(alloc: Global, line: &str) -> Result<String, Fail> {
     let words = words_of(alloc, line)?;
     match read_words(alloc, words.as_slice())? {
         None => Ok(String::from_str(alloc, "usage")?),
         Some(CommandLine::Reduce(line)) => reduce_text(alloc, &line),
-        Some(CommandLine::Normal(grammar)) => {
-            let start = grammar.start.unwrap_or("-");
-            Ok(format!(in alloc; "normal {} from {start}", grammar.path)?)
-        }
-        Some(CommandLine::Selftest(line)) => {
-            let mode = mode_name(line.mode);
-            Ok(format!(in alloc; "selftest {} {} {mode}", line.number, line.size)?)
-        }
+        Some(CommandLine::Normal(grammar)) => normal_text(alloc, grammar),
+        Some(CommandLine::Selftest(line)) => selftest_text(alloc, line),
     }
+}
+
+/// Whether the line asks for this.
+fn is_asked(alloc: Global, line: &str, wanted: &str) -> Result<bool, Fail> {
+    let text = asked(alloc, line)?;
+    Ok(text.as_str() == wanted)
 }
 
 const LINES: &str = "lines: i to o asking s, o.journal, perses-work, 1";
@@ -126,12 +138,19 @@ const ACCEPTED: [(&str, &str); 18] = [
     ("p normal --grammar input", "normal input from -"),
 ];
 
+/// The first of these lines that asks for something else.
+fn first_other(alloc: Global) -> Result<Option<&'static str>, Fail> {
+    for (line, wanted) in ACCEPTED {
+        if !is_asked(alloc, line, wanted)? {
+            return Ok(Some(line));
+        }
+    }
+    Ok(None)
+}
+
 #[test]
 fn reads_command_lines_in_any_order(rt: HostRuntime) -> Result<(), Fail> {
-    for (line, wanted) in ACCEPTED {
-        let text = asked(rt.alloc(), line)?;
-        assert_eq!(rt; text.as_str(), wanted);
-    }
+    assert_eq!(rt; first_other(rt.alloc())?, None);
     Ok(())
 }
 
@@ -203,17 +222,28 @@ const REFUSED: [&str; 36] = [
     "perses selftest --jobs 1 --number 0 --size 300",
 ];
 
+/// The first of these lines, after this beginning, that is a command line.
+fn first_accepted(
+    alloc: Global,
+    begin: &str,
+    lines: &[&'static str],
+) -> Result<Option<&'static str>, Fail> {
+    for line in lines {
+        let whole = format!(in alloc; "{begin}{line}")?;
+        if !is_asked(alloc, whole.as_str(), "usage")? {
+            return Ok(Some(*line));
+        }
+    }
+    Ok(None)
+}
+
 #[test]
 fn refuses_other_words(rt: HostRuntime) -> Result<(), Fail> {
-    for line in REFUSED {
-        let text = asked(rt.alloc(), line)?;
-        assert_eq!(rt; text.as_str(), "usage", "{line}");
-    }
-    let lines = "perses reduce --mode lines --input i --output o --script s";
-    for more in REFUSED_AFTER_LINES {
-        let line = format!(in rt.alloc(); "{lines} {more}")?;
-        let text = asked(rt.alloc(), line.as_str())?;
-        assert_eq!(rt; text.as_str(), "usage", "{line}");
-    }
+    assert_eq!(rt; first_accepted(rt.alloc(), "", &REFUSED)?, None);
+    let lines = "perses reduce --mode lines --input i --output o --script s ";
+    assert_eq!(rt;
+        first_accepted(rt.alloc(), lines, &REFUSED_AFTER_LINES)?,
+        None
+    );
     Ok(())
 }

@@ -30,69 +30,92 @@ fn in_mode_hdd(alloc: Global, text: &str, ahead: Ahead<'_>) -> Result<bool, Fail
     Ok(looks_ahead_so(&mut reducer, ahead)?)
 }
 
+/// Of statements, in both modes.
+const OF_STATEMENTS: Ahead<'static> = Ahead {
+    at_first: &[b"a=1;b=2;c=3;"],
+    after_yes: &[b"", b"a=1;\n", b"b=2;c=3;", b"b=2;c=3;", b"a=1;\n"],
+    first_two: &[b"", b"a=1;\n"],
+};
+
+/// Of nested blocks, in mode `perses`.
+const BY_PERSES: Ahead<'static> = Ahead {
+    at_first: &[b"{{a=1;}}"],
+    after_yes: &[b"", b"{a=1;}\n", b"a=1;\n", b"{ }", b"{ a=1; }"],
+    first_two: &[b"", b"{a=1;}\n"],
+};
+
+/// Of nested blocks, in mode `hdd`: three deletions.
+const BY_HDD: Ahead<'static> = Ahead {
+    at_first: &[b"{{a=1;}}"],
+    after_yes: &[b"", b"{ }", b"{{ }}"],
+    first_two: &[b"", b"{ }"],
+};
+
 /// Of statements the same texts are ahead in both modes; of nested blocks only three deletions in mode
 /// `hdd`.
 #[test]
 fn looks_ahead_in_modes_of_trees(rt: HostRuntime) -> Result<(), Fail> {
-    let of_statements = Ahead {
-        at_first: &[b"a=1;b=2;c=3;"],
-        after_yes: &[b"", b"a=1;\n", b"b=2;c=3;", b"b=2;c=3;", b"a=1;\n"],
-        first_two: &[b"", b"a=1;\n"],
-    };
-    assert!(rt; in_mode_perses(rt.alloc(), "a=1;b=2;c=3;", of_statements)?);
-    assert!(rt; in_mode_hdd(rt.alloc(), "a=1;b=2;c=3;", of_statements)?);
-    let by_perses = Ahead {
-        at_first: &[b"{{a=1;}}"],
-        after_yes: &[b"", b"{a=1;}\n", b"a=1;\n", b"{ }", b"{ a=1; }"],
-        first_two: &[b"", b"{a=1;}\n"],
-    };
-    assert!(rt; in_mode_perses(rt.alloc(), "{{a=1;}}", by_perses)?);
-    let by_hdd = Ahead {
-        at_first: &[b"{{a=1;}}"],
-        after_yes: &[b"", b"{ }", b"{{ }}"],
-        first_two: &[b"", b"{ }"],
-    };
-    assert!(rt; in_mode_hdd(rt.alloc(), "{{a=1;}}", by_hdd)?);
+    assert!(rt; in_mode_perses(rt.alloc(), "a=1;b=2;c=3;", OF_STATEMENTS)?);
+    assert!(rt; in_mode_hdd(rt.alloc(), "a=1;b=2;c=3;", OF_STATEMENTS)?);
+    assert!(rt; in_mode_perses(rt.alloc(), "{{a=1;}}", BY_PERSES)?);
+    assert!(rt; in_mode_hdd(rt.alloc(), "{{a=1;}}", BY_HDD)?);
     Ok(())
+}
+
+const OF_LINES: Ahead<'static> = Ahead {
+    at_first: &[b"a\nb\nc\n"],
+    after_yes: &[b"", b"a\n", b"b\nc\n", b"b\nc\n", b"a\n"],
+    first_two: &[b"", b"a\n"],
+};
+
+/// Whether that is ahead of three lines' reducer.
+fn in_mode_lines(alloc: Global) -> Result<bool, Fail> {
+    let guard = Guard::new(KeepTexts::new(alloc));
+    let mut reducer = line_reducer(alloc, b"a\nb\nc\n", &guard)?;
+    Ok(looks_ahead_so(&mut reducer, OF_LINES)?)
 }
 
 #[test]
 fn looks_ahead_in_mode_lines(rt: HostRuntime) -> Result<(), Fail> {
-    let guard = Guard::new(KeepTexts::new(rt.alloc()));
-    let mut reducer = line_reducer(rt.alloc(), b"a\nb\nc\n", &guard)?;
-    let of_lines = Ahead {
-        at_first: &[b"a\nb\nc\n"],
-        after_yes: &[b"", b"a\n", b"b\nc\n", b"b\nc\n", b"a\n"],
-        first_two: &[b"", b"a\n"],
-    };
-    assert!(rt; looks_ahead_so(&mut reducer, of_lines)?);
+    assert!(rt; in_mode_lines(rt.alloc())?);
     Ok(())
+}
+
+const FIRST_ANSWERS: [Verdict; 4] = [Verdict::Yes, Verdict::No, Verdict::No, Verdict::Yes];
+
+const OVER_ROUNDS: [&[u8]; 9] = [
+    b"b\n", b"c\n", b"c\n", b"b\n", b"", b"b\n", b"c\n", b"c\n", b"b\n",
+];
+
+/// Whether that is ahead of three lines' reducer after these answers.
+fn over_rounds(alloc: Global) -> Result<bool, Fail> {
+    let guard = Guard::new(KeepTexts::new(alloc));
+    let mut reducer = line_reducer(alloc, b"a\nb\nc\n", &guard)?;
+    answer_all(&mut reducer, &FIRST_ANSWERS)?;
+    Ok(looks_ahead(&reducer, 20, &OVER_ROUNDS)?)
 }
 
 /// In the second half the second round begins, which asks the empty text again.
 #[test]
 fn looks_ahead_over_rounds(rt: HostRuntime) -> Result<(), Fail> {
-    let guard = Guard::new(KeepTexts::new(rt.alloc()));
-    let mut reducer = line_reducer(rt.alloc(), b"a\nb\nc\n", &guard)?;
-    answer_all(
-        &mut reducer,
-        &[Verdict::Yes, Verdict::No, Verdict::No, Verdict::Yes],
-    )?;
-    let b = b"b\n".as_slice();
-    let c = b"c\n".as_slice();
-    assert!(rt; looks_ahead(&reducer, 20, &[b, c, c, b, b"", b, c, c, b])?);
+    assert!(rt; over_rounds(rt.alloc())?);
     Ok(())
+}
+
+const OF_BYTES: Ahead<'static> = Ahead {
+    at_first: &[&[1, 5, 6, 5]],
+    after_yes: &[&[9, 5, 6, 5], &[1, 6, 5], &[1, 5, 5], &[1, 5, 6]],
+    first_two: &[&[9, 5, 6, 5], &[1, 6, 5]],
+};
+
+fn in_the_mode_of_bytes(alloc: Global) -> Result<bool, Fail> {
+    let mut reducer = byte_reducer(alloc, &[1, 5, 6, 5])?;
+    Ok(looks_ahead_so(&mut reducer, OF_BYTES)?)
 }
 
 /// The opening of a mode is ahead of its rounds.
 #[test]
 fn looks_ahead_before_rounds(rt: HostRuntime) -> Result<(), Fail> {
-    let mut reducer = byte_reducer(rt.alloc(), &[1, 5, 6, 5])?;
-    let of_bytes = Ahead {
-        at_first: &[&[1, 5, 6, 5]],
-        after_yes: &[&[9, 5, 6, 5], &[1, 6, 5], &[1, 5, 5], &[1, 5, 6]],
-        first_two: &[&[9, 5, 6, 5], &[1, 6, 5]],
-    };
-    assert!(rt; looks_ahead_so(&mut reducer, of_bytes)?);
+    assert!(rt; in_the_mode_of_bytes(rt.alloc())?);
     Ok(())
 }

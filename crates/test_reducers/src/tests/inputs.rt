@@ -1,9 +1,10 @@
 //! The inputs of reductions of trees: what is found in texts, and why other bytes have no input.
 
 use normal_form::Sym;
-use reduce_trees_input::parsed_input;
+use reduce_trees_input::{ParsedInput, parsed_input};
 use std::alloc::Global;
 use std::test::Fail;
+use syntax_tree::Tree;
 use test_grammars::checked;
 use test_grammars::grammars::{MINI, STATEMENTS};
 
@@ -18,6 +19,22 @@ NUMBER : '-'? [0-9]+ ('.' [0-9]+)? ;
 WS : [ \t\n\r]+ -> skip ;
 "##;
 
+/// How many of the tree's leaves are a token.
+fn leaf_count(tree: &Tree) -> usize {
+    let leaves = tree
+        .nodes()
+        .iter()
+        .filter(|node| matches!(node.sym, Sym::Kind(_)));
+    leaves.count()
+}
+
+/// What is said of the tokens and the tree of an input.
+fn said(alloc: Global, input: &ParsedInput) -> Result<String, Fail> {
+    let tokens = input.tokens.items.len();
+    let leaves = leaf_count(&input.tree);
+    Ok(format!(in alloc; "{tokens} tokens, {leaves} leaves")?)
+}
+
 /// What the bytes give: the fault that is printed, or how many tokens there are, and how many of the
 /// tree's leaves are one of them.
 fn answer(alloc: Global, grammar: &str, bytes: &[u8]) -> Result<String, Fail> {
@@ -26,15 +43,7 @@ fn answer(alloc: Global, grammar: &str, bytes: &[u8]) -> Result<String, Fail> {
         return Ok(String::from_str(alloc, "the text is too long")?);
     }
     match parsed_input(alloc, &grammar, bytes) {
-        Ok(input) => {
-            let leaves = input
-                .tree
-                .nodes()
-                .iter()
-                .filter(|node| matches!(node.sym, Sym::Kind(_)));
-            let tokens = input.tokens.items.len();
-            Ok(format!(in alloc; "{tokens} tokens, {} leaves", leaves.count())?)
-        }
+        Ok(input) => said(alloc, &input),
         Err(fault) => Ok(format!(in alloc; "{fault}")?),
     }
 }

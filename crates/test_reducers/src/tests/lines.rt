@@ -25,7 +25,7 @@ fn reducer_of<'a, F: Relation>(
 
 /// A run of few bytes: the start; the texts that are asked, each with whether the answer is yes; what
 /// remains; and its units, how many texts were used, the rounds, and whether the start was refused.
-#[derive(Drop)]
+#[derive(Clone, Copy)]
 struct Run<'a>(
     &'a str,
     &'a [(&'a str, bool)],
@@ -35,89 +35,106 @@ struct Run<'a>(
 
 /// Whether the reducer with this guard runs so.
 fn runs_so<F: Relation>(alloc: Global, run: &Run<'_>, guard: &Guard<F>) -> Result<bool, Memory> {
-    let Run(start, texts, remaining, counts) = run;
+    let Run(start, texts, remaining, counts) = *run;
     let Some(mut reducer) = reducer_of(alloc, start.as_bytes(), guard)? else {
         return Ok(false);
     };
-    for (text, yes) in *texts {
+    for (text, yes) in texts {
         let verdict = if *yes { Verdict::Yes } else { Verdict::No };
         if !answers(&mut reducer, text.as_bytes(), verdict)? {
             return Ok(false);
         }
     }
-    Ok(has_ended_with(&reducer, remaining.as_bytes(), *counts))
+    Ok(has_ended_with(&reducer, remaining.as_bytes(), counts))
 }
 
-/// The number of the first run, from 0, that isn't so without keep texts.
-fn first_other(alloc: Global, runs: &[Run<'_>]) -> Result<Option<usize>, Memory> {
-    for (number, run) in runs.iter().enumerate() {
-        if !runs_so(alloc, run, &guard_of(alloc, &[])?)? {
+/// Whether a run is so with these keep texts.
+fn runs_with(alloc: Global, run: &Run<'_>, keeps: &[&'static [u8]]) -> Result<bool, Memory> {
+    let guard = guard_of(alloc, keeps)?;
+    runs_so(alloc, run, &guard)
+}
+
+/// Runs without keep texts. In the first one line is needed; the second start is empty; the third has no
+/// newline; and the fourth is refused.
+const RUNS: [Run<'static>; 4] = [
+    Run(
+        "a\nb\nc\n",
+        &[
+            ("a\nb\nc\n", true),
+            ("", false),
+            ("a\n", false),
+            ("b\nc\n", true),
+            ("b\n", true),
+            ("", false),
+        ],
+        "b\n",
+        (1, 6, 2, false),
+    ),
+    Run("", &[("", true)], "", (0, 1, 1, false)),
+    Run("a", &[("a", true), ("", true)], "", (0, 2, 2, false)),
+    Run("a\n", &[("a\n", false)], "a\n", (1, 1, 0, true)),
+];
+
+/// The number of the first run without keep texts, from 0, that isn't so.
+fn first_other_run(alloc: Global) -> Result<Option<usize>, Memory> {
+    for (number, run) in RUNS.iter().enumerate() {
+        if !runs_with(alloc, run, &[])? {
             return Ok(Some(number));
         }
     }
     Ok(None)
 }
 
-/// The number of the first run without keep texts, from 0, that isn't so.
-fn first_other_run(alloc: Global) -> Result<Option<usize>, Memory> {
-    let asked = [
+const KEEPS_C: Run<'static> = Run(
+    "a\nb\nc\n",
+    &[
         ("a\nb\nc\n", true),
-        ("", false),
-        ("a\n", false),
         ("b\nc\n", true),
-        ("b\n", true),
-        ("", false),
-    ];
-    let one_line_needed = Run("a\nb\nc\n", &asked, "b\n", (1, 6, 2, false));
-    let empty_start = Run("", &[("", true)], "", (0, 1, 1, false));
-    let no_newline = Run("a", &[("a", true), ("", true)], "", (0, 2, 2, false));
-    let refused_start = Run("a\n", &[("a\n", false)], "a\n", (1, 1, 0, true));
-    let runs = [one_line_needed, empty_start, no_newline, refused_start];
-    first_other(alloc, &runs)
-}
+        ("c\n", false),
+        ("c\n", false),
+        ("c\n", false),
+        ("c\n", false),
+    ],
+    "b\nc\n",
+    (2, 6, 2, false),
+);
+
+const KEEPS_ALL: Run<'static> = Run(
+    "a\nb\nc\n",
+    &[("a\nb\nc\n", true)],
+    "a\nb\nc\n",
+    (3, 1, 1, false),
+);
 
 /// Whether a reducer asks only what keep texts admit.
 fn asks_what_keep_texts_admit(alloc: Global) -> Result<bool, Memory> {
-    let start = "a\nb\nc\n";
-    let asked = [
-        (start, true),
-        ("b\nc\n", true),
-        ("c\n", false),
-        ("c\n", false),
-        ("c\n", false),
-        ("c\n", false),
-    ];
-    let keeps_c = Run(start, &asked, "b\nc\n", (2, 6, 2, false));
-    let keeps_all = Run(start, &[(start, true)], start, (3, 1, 1, false));
-    Ok(
-        runs_so(alloc, &keeps_c, &guard_of(alloc, &[b"c"])?)?
-            && runs_so(alloc, &keeps_all, &guard_of(alloc, &[start.as_bytes()])?)?,
-    )
+    Ok(runs_with(alloc, &KEEPS_C, &[b"c"])? && runs_with(alloc, &KEEPS_ALL, &[b"a\nb\nc\n"])?)
 }
 
-/// Whether, in the second round too, a line is named to the guard by its number in the start.
-fn names_lines_by_their_numbers_in_the_start(alloc: Global) -> Result<bool, Memory> {
-    let start = "a\nb\nc\nd\n";
-    let asked = [
-        (start, true),
+const KEEPS_D: Run<'static> = Run(
+    "a\nb\nc\nd\n",
+    &[
+        ("a\nb\nc\nd\n", true),
         ("c\nd\n", true),
         ("d\n", false),
         ("d\n", false),
         ("d\n", false),
         ("d\n", false),
-    ];
-    let keeps_d = Run(start, &asked, "c\nd\n", (2, 6, 2, false));
-    runs_so(alloc, &keeps_d, &Guard::new(KeepsLine(3)))
+    ],
+    "c\nd\n",
+    (2, 6, 2, false),
+);
+
+/// Whether, in the second round too, a line is named to the guard by its number in the start.
+fn names_lines_by_their_numbers_in_the_start(alloc: Global) -> Result<bool, Memory> {
+    runs_so(alloc, &KEEPS_D, &Guard::new(KeepsLine(3)))
 }
 
 #[test]
 fn asks_and_ends_as_worked_out_by_hand(rt: HostRuntime) -> Result<(), Fail> {
     let alloc = rt.alloc();
     assert_eq!(rt; first_other_run(alloc)?, None);
-    assert!(rt; asks_what_keep_texts_admit(alloc)?, "keep texts");
-    assert!(rt;
-        names_lines_by_their_numbers_in_the_start(alloc)?,
-        "numbers of lines"
-    );
+    assert!(rt; asks_what_keep_texts_admit(alloc)?);
+    assert!(rt; names_lines_by_their_numbers_in_the_start(alloc)?);
     Ok(())
 }

@@ -1,11 +1,12 @@
 //! What workers do by hand, row after row.
 
 use super::hands::{Got, Hand, are_free, commits, record_for, seats_of, take_for};
+use super::outcomes::has_come_to;
 use crate::small_step::SmallStep;
 use edge_io::MemSink;
 use faults::Memory;
 use gate_permits::Texts;
-use ordered_commit::{Board, Outcome, Seat};
+use ordered_commit::{Board, Outcome, PoolFault, Seat};
 use script_gate_trait::{Gate, RuleGate};
 use std::alloc::Global;
 use std::sync::Wait;
@@ -152,6 +153,21 @@ fn outcome_of<G: Gate>(
     Ok(board.end(seats))
 }
 
+/// What the board comes to by the rows, of which each is to go as it says.
+fn outcome_after<'a, G: Gate + Drop, W: Wait>(
+    rt: &W,
+    alloc: Global,
+    texts: &'a Texts,
+    mut board: Board<SmallStep, G, MemSink>,
+    mut hands: Vec<Hand<'a, G>>,
+    rows: &[Row],
+) -> Result<Outcome<SmallStep, MemSink>, Other> {
+    match first_other(rt, texts, &mut board, &mut hands, rows) {
+        Some(index) => Err(Other::Row(index)),
+        None => outcome_of(alloc, board, &hands),
+    }
+}
+
 /// What a board of two workers with these gates comes to by the rows, of which each is to go as it says.
 /// The puts of these numbers into its journal fail, from 1.
 pub(crate) fn outcome_by<G: Gate + Drop, W: Wait>(
@@ -165,22 +181,26 @@ pub(crate) fn outcome_by<G: Gate + Drop, W: Wait>(
     let Ok(texts) = Texts::new(alloc) else {
         return Err(Other::Memory);
     };
-    let (mut board, seats) = new_board(alloc, fail)?;
-    let mut hands = hands_of(alloc, &seats, first, second)?;
-    match first_other(rt, &texts, &mut board, &mut hands, rows) {
-        Some(index) => Err(Other::Row(index)),
-        None => outcome_of(alloc, board, &hands),
-    }
+    let (board, seats) = new_board(alloc, fail)?;
+    let hands = hands_of(alloc, &seats, first, second)?;
+    outcome_after(rt, alloc, &texts, board, hands, rows)
 }
 
-/// The same, where each gate says yes to what has a `b`.
-pub(crate) fn outcome_with_b<W: Wait>(
+/// Whether that comes to this fault, or to none; with so many events; and with this journal; where each
+/// gate says yes to what has a `b`.
+pub(crate) fn comes_to_with_b<W: Wait>(
     rt: &W,
     alloc: Global,
-    fail: Vec<u64>,
+    fail: &[u64],
     rows: &[Row],
-) -> Result<Outcome<SmallStep, MemSink>, Other> {
+    wanted: (Option<PoolFault>, usize, &[u8]),
+) -> Result<bool, Other> {
     let first = RuleGate::<98>::new(alloc, false);
     let second = RuleGate::<98>::new(alloc, false);
-    outcome_by(rt, alloc, fail, first, second, rows)
+    let Ok(fail) = Vec::from_slice(alloc, fail) else {
+        return Err(Other::Memory);
+    };
+    let outcome = outcome_by(rt, alloc, fail, first, second, rows)?;
+    let (fault, events, journal) = wanted;
+    Ok(has_come_to(&outcome, fault, events, journal))
 }

@@ -2,13 +2,14 @@
 
 use super::hands::Got;
 use super::outcomes::has_come_to;
-use super::rows::{Row, outcome_by, outcome_with_b};
+use super::rows::{Row, comes_to_with_b, outcome_by};
 use crate::small_step::SmallStep;
 use edge_io::MemSink;
 use faults::Memory;
 use ordered_commit::{Board, BoardFault, PoolFault};
 use script_gate_trait::{ListGate, RuleGate, Said};
 use std::alloc::Global;
+use std::sync::Wait;
 use std::test::Fail;
 
 /// While the second worker has a claim the script of the first one fails: the second one's record is
@@ -25,33 +26,35 @@ const FAILS: [Row; 9] = [
     Row::Gets(1, Got::Stopped),
 ];
 
-#[test]
-fn keeps_the_fault_of_a_script(rt: HostRuntime) -> Result<(), Fail> {
-    let alloc = rt.alloc();
-    let mut answers = Vec::new(alloc);
-    answers.push(Said::Yes)?;
-    let first = ListGate::new(alloc, answers, Said::Fail);
+/// Whether that comes to the fault, with these events and this journal.
+fn comes_to_the_fault<W: Wait>(rt: &W, alloc: Global) -> Result<bool, Fail> {
+    let first = ListGate::new(alloc, Vec::from_slice(alloc, &[Said::Yes])?, Said::Fail);
     let second = ListGate::new(alloc, Vec::new(alloc), Said::No);
-    let outcome = outcome_by(&rt, alloc, Vec::new(alloc), first, second, &FAILS)?;
+    let outcome = outcome_by(rt, alloc, Vec::new(alloc), first, second, &FAILS)?;
     let journal = b"perses-journal 1\nR y 12\na=1;b=2;c=3;\nC 1\nR n 0\n\n".as_slice();
     let fault = PoolFault::Script { worker: 1 };
-    assert!(rt; has_come_to(&outcome, Some(fault), 3, journal));
+    Ok(has_come_to(&outcome, Some(fault), 3, journal))
+}
+
+#[test]
+fn keeps_the_fault_of_a_script(rt: HostRuntime) -> Result<(), Fail> {
+    assert!(rt; comes_to_the_fault(&rt, rt.alloc())?);
     Ok(())
 }
 
 /// The text of the first record can't be put: the record is made, and nothing is committed.
+const UNWRITTEN: [Row; 4] = [
+    Row::Works(0, b"a=1;b=2;c=3;"),
+    Row::Unwritten(0, 1),
+    Row::Commits(0),
+    Row::Gets(1, Got::Stopped),
+];
+
 #[test]
 fn makes_a_record_that_cannot_be_written(rt: HostRuntime) -> Result<(), Fail> {
-    let rows = [
-        Row::Works(0, b"a=1;b=2;c=3;"),
-        Row::Unwritten(0, 1),
-        Row::Commits(0),
-        Row::Gets(1, Got::Stopped),
-    ];
-    let fail = Vec::from_slice(rt.alloc(), &[3])?;
-    let outcome = outcome_with_b(&rt, rt.alloc(), fail, &rows)?;
     let journal = b"perses-journal 1\nR y 12\n".as_slice();
-    assert!(rt; has_come_to(&outcome, Some(PoolFault::Journal), 1, journal));
+    let wanted = (Some(PoolFault::Journal), 1, journal);
+    assert!(rt; comes_to_with_b(&rt, rt.alloc(), &[3], &UNWRITTEN, wanted)?);
     Ok(())
 }
 

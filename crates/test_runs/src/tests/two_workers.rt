@@ -1,8 +1,7 @@
 //! Two workers by hand, whose gates say yes where there is a `b`.
 
 use super::hands::Got;
-use super::outcomes::has_come_to;
-use super::rows::{Row, outcome_with_b};
+use super::rows::{Row, comes_to_with_b};
 use std::test::Fail;
 
 /// The journal that the run below leaves.
@@ -32,7 +31,6 @@ const ROWS: [Row; 17] = [
 
 #[test]
 fn commits_in_the_order_of_the_front(rt: HostRuntime) -> Result<(), Fail> {
-    let outcome = outcome_with_b(&rt, rt.alloc(), Vec::new(rt.alloc()), &ROWS)?;
-    assert!(rt; has_come_to(&outcome, None, 11, JOURNAL));
+    assert!(rt; comes_to_with_b(&rt, rt.alloc(), &[], &ROWS, (None, 11, JOURNAL))?);
     Ok(())
 }

@@ -62,57 +62,71 @@ fn is_opened(log: &Log, work: &str, script: &str, name: &str, number: u32) -> bo
     }
 }
 
+/// A gate's first answers, and the last one again.
+const IN_ORDER: [Call<'static>; 6] = [
+    Call::Open("work", "test.sh", "input", 1, Ok(())),
+    Call::Ask("a", NO),
+    Call::Ask("b", FAILED),
+    Call::Ask("c", YES),
+    Call::Ask("d", NO),
+    Call::Ask("e", NO),
+];
+
+/// The number of the first call that isn't answered so; and whether the log has the asks that didn't fail.
+fn other_in_order(alloc: Global) -> Result<(Option<usize>, bool), Fail> {
+    let answers = Vec::from_slice(alloc, &[Said::No, Said::Fail, Said::Yes])?;
+    let mut gate = ListGate::new(alloc, answers, Said::No);
+    let other = first_other(&mut gate, &IN_ORDER);
+    Ok((other, is_log_of(gate.log(), &["a", "c", "d", "e"])))
+}
+
 #[test]
 fn answers_in_order_and_then_by_the_last_answer(rt: HostRuntime) -> Result<(), Fail> {
-    let answers = vec![in rt.alloc(); Said::No, Said::Fail, Said::Yes]?;
-    let mut gate = ListGate::new(rt.alloc(), answers, Said::No);
-    let calls = [
-        Call::Open("work", "test.sh", "input", 1, Ok(())),
-        Call::Ask("a", NO),
-        Call::Ask("b", FAILED),
-        Call::Ask("c", YES),
-        Call::Ask("d", NO),
-        Call::Ask("e", NO),
-    ];
-    assert_eq!(rt; first_other(&mut gate, &calls), None);
-    assert!(rt;
-        is_log_of(gate.log(), &["a", "c", "d", "e"]),
-        "a failed ask isn't in the log"
-    );
+    assert_eq!(rt; other_in_order(rt.alloc())?, (None, true));
     Ok(())
 }
 
-fn by_rule<const R: u64>(alloc: Global, calls: &[Call<'_>]) -> Option<usize> {
+fn by_rule<const R: u64>(alloc: Global, calls: &[Call<'static>]) -> Option<usize> {
     first_other(&mut RuleGate::<R>::new(alloc, true), calls)
+}
+
+/// What a gate answers by the rule 0, which is always yes.
+const ALWAYS: [Call<'static>; 2] = [Call::Ask("", YES), Call::Ask("any", YES)];
+
+/// By the rule 255, which is always no.
+const NEVER: [Call<'static>; 2] = [Call::Ask("", NO), Call::Ask("any \u{e9}\u{10ffff}", NO)];
+
+/// By the rule 97, which is yes where there is an a.
+const WITH_A: [Call<'static>; 2] = [Call::Ask("bca", YES), Call::Ask("bcd", NO)];
+
+/// By the rule 98, which is yes where there is a b.
+const WITH_B: [Call<'static>; 2] = [Call::Ask("bca", YES), Call::Ask("aca", NO)];
+
+/// By the rule 30769, which is yes where there are a 1 and an x.
+const WITH_1_AND_X: [Call<'static>; 3] = [
+    Call::Ask("x = 1;", YES),
+    Call::Ask("x = 2;", NO),
+    Call::Ask("y = 1;", NO),
+];
+
+/// By the rule 23121, which is yes where there are a Q and a Z.
+const WITH_Q_AND_Z: [Call<'static>; 2] = [Call::Ask("ZQ", YES), Call::Ask("QQ", NO)];
+
+/// For each rule the number of the first call that isn't answered so.
+fn others_by_rule(alloc: Global) -> [Option<usize>; 6] {
+    [
+        by_rule::<0>(alloc, &ALWAYS),
+        by_rule::<255>(alloc, &NEVER),
+        by_rule::<97>(alloc, &WITH_A),
+        by_rule::<98>(alloc, &WITH_B),
+        by_rule::<30769>(alloc, &WITH_1_AND_X),
+        by_rule::<23121>(alloc, &WITH_Q_AND_Z),
+    ]
 }
 
 #[test]
 fn a_rule_asks_for_its_bytes(rt: HostRuntime) {
-    let alloc = rt.alloc();
-    let all = [Call::Ask("", YES), Call::Ask("any", YES)];
-    assert_eq!(rt; by_rule::<0>(alloc, &all), None, "0 is always yes");
-    let none = [Call::Ask("", NO), Call::Ask("any \u{e9}\u{10ffff}", NO)];
-    assert_eq!(rt; by_rule::<255>(alloc, &none), None, "255 is always no");
-    let with_a = [Call::Ask("bca", YES), Call::Ask("bcd", NO)];
-    assert_eq!(rt; by_rule::<97>(alloc, &with_a), None, "97 is yes where a");
-    let with_b = [Call::Ask("bca", YES), Call::Ask("aca", NO)];
-    assert_eq!(rt; by_rule::<98>(alloc, &with_b), None, "98 is yes where b");
-    let both = [
-        Call::Ask("x = 1;", YES),
-        Call::Ask("x = 2;", NO),
-        Call::Ask("y = 1;", NO),
-    ];
-    assert_eq!(rt;
-        by_rule::<30769>(alloc, &both),
-        None,
-        "30769 is yes where 1 and x"
-    );
-    let letters = [Call::Ask("ZQ", YES), Call::Ask("QQ", NO)];
-    assert_eq!(rt;
-        by_rule::<23121>(alloc, &letters),
-        None,
-        "23121 is yes where Q and Z"
-    );
+    assert_eq!(rt; others_by_rule(rt.alloc()), [None; 6]);
 }
 
 fn logs_opening_and_asks(gate: &RuleGate<97>) -> bool {
@@ -122,43 +136,72 @@ fn logs_opening_and_asks(gate: &RuleGate<97>) -> bool {
     }
 }
 
+const LOGGED: [Call<'static>; 3] = [
+    Call::Open("work", "test.sh", "input", 3, Ok(())),
+    Call::Ask("a", YES),
+    Call::Ask("b", NO),
+];
+
+fn other_logged(alloc: Global) -> (Option<usize>, bool) {
+    let mut gate = RuleGate::<97>::new(alloc, true);
+    let other = first_other(&mut gate, &LOGGED);
+    (other, logs_opening_and_asks(&gate))
+}
+
 #[test]
 fn logs_its_opening_and_its_asks(rt: HostRuntime) {
-    let mut gate = RuleGate::<97>::new(rt.alloc(), true);
-    let calls = [
-        Call::Open("work", "test.sh", "input", 3, Ok(())),
-        Call::Ask("a", YES),
-        Call::Ask("b", NO),
-    ];
-    assert_eq!(rt; first_other(&mut gate, &calls), None);
-    assert!(rt; logs_opening_and_asks(&gate));
+    assert_eq!(rt; other_logged(rt.alloc()), (None, true));
 }
 
 // The shell is the script, and each candidate a program for it. The first worker has the number of the
 // process, so that a candidate can compare its path and the script's parent.
+const BY_A_SHELL: [Call<'static>; 7] = [
+    Call::Ask("true\n", YES),
+    Call::Ask("false\n", NO),
+    Call::Ask("exit 3\n", NO),
+    Call::Ask("kill -9 $$\n", NO),
+    Call::Ask("test $# = 0 && test -s \"$0\"\n", YES),
+    Call::Ask("test \"$0\" = scripts/$PPID/candidate\n", YES),
+    Call::Ask("test -z \"$(cat)\"\n", YES),
+];
+
+const WITHOUT_A_SCRIPT: [Call<'static>; 4] = [
+    Call::Open("scripts", "/no/such/script", "candidate", 7, Ok(())),
+    Call::Ask("true\n", FAILED),
+    Call::Open("scripts", "no-such-script", "candidate", 7, Ok(())),
+    Call::Ask("true\n", FAILED),
+];
+
+/// Whether the first worker is opened, and the numbers of the first calls that aren't answered so.
+fn other_scripts(rt: HostRuntime, alloc: Global) -> (bool, Option<usize>, Option<usize>) {
+    let process = process::id(rt.process());
+    let mut gate = ProcessGate::new(rt, alloc);
+    let is_open = gate.open("scripts", "/bin/sh", "candidate", process) == Ok(());
+    (
+        is_open,
+        first_other(&mut gate, &BY_A_SHELL),
+        first_other(&mut gate, &WITHOUT_A_SCRIPT),
+    )
+}
+
 #[test]
 fn judges_by_the_status_of_the_script(rt: HostRuntime) -> Result<(), Fail> {
-    let process = process::id(rt.process());
-    let mut gate = ProcessGate::new(rt.clone()?, rt.alloc());
-    let calls = [
-        Call::Open("scripts", "/bin/sh", "candidate", process, Ok(())),
-        Call::Ask("true\n", YES),
-        Call::Ask("false\n", NO),
-        Call::Ask("exit 3\n", NO),
-        Call::Ask("kill -9 $$\n", NO),
-        Call::Ask("test $# = 0 && test -s \"$0\"\n", YES),
-        Call::Ask("test \"$0\" = scripts/$PPID/candidate\n", YES),
-        Call::Ask("test -z \"$(cat)\"\n", YES),
-        Call::Open("scripts", "/no/such/script", "candidate", 7, Ok(())),
-        Call::Ask("true\n", FAILED),
-        Call::Open("scripts", "no-such-script", "candidate", 7, Ok(())),
-        Call::Ask("true\n", FAILED),
-    ];
-    assert_eq!(rt; first_other(&mut gate, &calls), None);
+    assert_eq!(rt; other_scripts(rt.clone()?, rt.alloc()), (true, None, None));
     let candidate = fs::read_to_string(&rt, "scripts/7/candidate")?;
     assert_eq!(rt; candidate.as_str(), "true\n");
     fs::remove_dir_all(&rt, "scripts")?;
     Ok(())
+}
+
+const ON_A_FULL_DEVICE: [Call<'static>; 2] = [Call::Ask("text", FAILED), Call::Ask("", YES)];
+
+/// Whether a gate is opened whose candidate is this file, and the number of the first call that isn't
+/// answered so.
+fn other_on_a_full_device(rt: HostRuntime, alloc: Global, entry: &str) -> (bool, Option<usize>) {
+    let process = process::id(rt.process());
+    let mut gate = ProcessGate::new(rt, alloc);
+    let is_open = gate.open("/proc", "/bin/true", entry, process) == Ok(());
+    (is_open, first_other(&mut gate, &ON_A_FULL_DEVICE))
 }
 
 // The file of a candidate is removed before it is written, and the entry of an open file can't be:
@@ -167,13 +210,7 @@ fn judges_by_the_status_of_the_script(rt: HostRuntime) -> Result<(), Fail> {
 fn a_full_device_is_a_failed_ask(rt: HostRuntime) -> Result<(), Fail> {
     let device = fs::create(&rt, "/dev/full")?;
     let entry = format!(in rt.alloc(); "fd/{}", device.as_raw_fd())?;
-    let process = process::id(rt.process());
-    let mut gate = ProcessGate::new(rt.clone()?, rt.alloc());
-    let calls = [
-        Call::Open("/proc", "/bin/true", entry.as_str(), process, Ok(())),
-        Call::Ask("text", FAILED),
-        Call::Ask("", YES),
-    ];
-    assert_eq!(rt; first_other(&mut gate, &calls), None);
+    let other = other_on_a_full_device(rt.clone()?, rt.alloc(), &entry);
+    assert_eq!(rt; other, (true, None));
     Ok(())
 }

@@ -1,39 +1,42 @@
 //! What a permit is spent for.
 
 use gate_permits::{Permit, Texts, ask_once};
-use script_gate_trait::{Bytes, GateFault, ListGate, RuleGate, Said, Verdict};
+use script_gate_trait::{Bytes, Gate, GateFault, ListGate, RuleGate, Said, Verdict};
+use std::alloc::Global;
+use std::sync::Wait;
 use std::test::Fail;
+
+/// What a permit of this number gives for this text: the verdict, or what it was spent for where the gate
+/// gives none. Nothing where the text has no token.
+fn spent<G: Gate, W: Wait>(
+    rt: &W,
+    alloc: Global,
+    gate: &mut G,
+    number: u64,
+    text: &[u8],
+) -> Result<Option<Result<Verdict, (u64, GateFault)>>, Fail> {
+    let texts = Texts::new(alloc)?;
+    let Ok(token) = texts.push_shown(rt, Bytes::from_slice(alloc, text)?) else {
+        return Ok(None);
+    };
+    match ask_once(gate, &texts, Permit::new(number, token)) {
+        Ok(answer) => Ok(Some(Ok(answer.verdict()))),
+        Err(unasked) => Ok(Some(Err(unasked.spend()))),
+    }
+}
 
 #[test]
 fn answers_where_the_gate_does(rt: HostRuntime) -> Result<(), Fail> {
     let mut gate = RuleGate::<98>::new(rt.alloc(), true);
-    let texts = Texts::new(rt.alloc())?;
-    let text = Bytes::from_slice(rt.alloc(), b"a=1;b=2;")?;
-    let Ok(token) = texts.push_shown(&rt, text) else {
-        return Err("a text")?;
-    };
-    let answer = match ask_once(&mut gate, &texts, Permit::new(7, token)) {
-        Ok(answer) => answer,
-        Err(unasked) => {
-            let _ = unasked.spend();
-            return Err("the gate answers")?;
-        }
-    };
-    assert_eq!(rt; answer.verdict(), Verdict::Yes);
+    let came = spent(&rt, rt.alloc(), &mut gate, 7, b"a=1;b=2;")?;
+    assert_eq!(rt; came, Some(Ok(Verdict::Yes)));
     Ok(())
 }
 
 #[test]
 fn gives_the_permit_back_where_the_gate_fails(rt: HostRuntime) -> Result<(), Fail> {
     let mut gate = ListGate::new(rt.alloc(), Vec::new(rt.alloc()), Said::Fail);
-    let texts = Texts::new(rt.alloc())?;
-    let text = Bytes::from_slice(rt.alloc(), b"a")?;
-    let Ok(token) = texts.push_shown(&rt, text) else {
-        return Err("a text")?;
-    };
-    let Err(unasked) = ask_once(&mut gate, &texts, Permit::new(3, token)) else {
-        return Err("the gate fails")?;
-    };
-    assert_eq!(rt; unasked.spend(), (3, GateFault::Failed));
+    let came = spent(&rt, rt.alloc(), &mut gate, 3, b"a")?;
+    assert_eq!(rt; came, Some(Err((3, GateFault::Failed))));
     Ok(())
 }

@@ -1,17 +1,22 @@
 //! Texts with their verdicts, as they come.
 
+use faults::Memory;
 use script_gate_trait::{Bytes, Verdict};
+use std::alloc::Global;
 use std::test::Fail;
 use verdict_table::{Found, Record, Records, Table};
 
-/// Whether the table has these at their texts.
-fn has_found(table: &Table, wanted: &[(&[u8], Found)]) -> bool {
-    for (text, found) in wanted {
-        if table.find(text) != *found {
-            return false;
-        }
+/// Whether the table has these at the texts `one` and `two`, and nothing at `tw`.
+fn has_found(table: &Table, one: Found, two: Found) -> bool {
+    table.find(b"one") == one && table.find(b"two") == two && table.find(b"tw") == Found::Absent
+}
+
+fn filled(claim: u64, number: u64, verdict: Verdict) -> Found {
+    Found::Filled {
+        claim,
+        number,
+        verdict,
     }
-    true
 }
 
 /// Whether these are the records' texts, in their order.
@@ -24,45 +29,29 @@ fn has_texts(records: &Records, wanted: &[&[u8]]) -> bool {
     records.len() == wanted.len()
 }
 
+/// Claims two texts and fills the claims in the other order: whether the table has what it should at
+/// first, with one claim, with two, with one filled and with two filled; and the records then.
+fn two_filled(alloc: Global) -> Result<([bool; 5], Records), Memory> {
+    let mut table = Table::new(alloc);
+    let at_first = has_found(&table, Found::Absent, Found::Absent);
+    let one = table.claim(Bytes::from_slice(alloc, b"one")?)?;
+    let with_one = has_found(&table, Found::Claimed(one), Found::Absent);
+    let two = table.claim(Bytes::from_slice(alloc, b"two")?)?;
+    let with_two = has_found(&table, Found::Claimed(one), Found::Claimed(two));
+    let is_first = table.fill(two, Verdict::No) == 1;
+    let of_two = filled(two, 1, Verdict::No);
+    let with_half = is_first && has_found(&table, Found::Claimed(one), of_two);
+    let is_second = table.fill(one, Verdict::Yes) == 2;
+    let with_all = is_second && has_found(&table, filled(one, 2, Verdict::Yes), of_two);
+    let seen = [at_first, with_one, with_two, with_half, with_all];
+    Ok((seen, table.into_records()))
+}
+
 #[test]
 fn fills_two_claims_in_the_other_order(rt: HostRuntime) -> Result<(), Fail> {
-    let mut table = Table::new(rt.alloc());
-    let empty = [(b"one".as_slice(), Found::Absent)];
-    assert!(rt; has_found(&table, &empty));
-    let one = table.claim(Bytes::from_slice(rt.alloc(), b"one")?)?;
-    let only_one = [
-        (b"one".as_slice(), Found::Claimed(one)),
-        (b"two", Found::Absent),
-    ];
-    assert!(rt; has_found(&table, &only_one));
-    let two = table.claim(Bytes::from_slice(rt.alloc(), b"two")?)?;
-    let both = [
-        (b"one".as_slice(), Found::Claimed(one)),
-        (b"two", Found::Claimed(two)),
-    ];
-    assert!(rt; has_found(&table, &both));
-
-    assert_eq!(rt; table.fill(two, Verdict::No), 1);
-    let of_two = Found::Filled {
-        claim: two,
-        number: 1,
-        verdict: Verdict::No,
-    };
-    let half = [(b"one".as_slice(), Found::Claimed(one)), (b"two", of_two)];
-    assert!(rt; has_found(&table, &half));
-    assert_eq!(rt; table.fill(one, Verdict::Yes), 2);
-    let of_one = Found::Filled {
-        claim: one,
-        number: 2,
-        verdict: Verdict::Yes,
-    };
-    let whole = [
-        (b"two".as_slice(), of_two),
-        (b"one", of_one),
-        (b"tw", Found::Absent),
-    ];
-    assert!(rt; has_found(&table, &whole));
-    assert!(rt; has_texts(&table.into_records(), &[b"two", b"one"]));
+    let (seen, records) = two_filled(rt.alloc())?;
+    assert_eq!(rt; seen, [true; 5]);
+    assert!(rt; has_texts(&records, &[b"two", b"one"]));
     Ok(())
 }
 
