@@ -38,7 +38,8 @@ fn parsed(
     times: u32,
 ) -> std::result::Result<Option<Tree>, Memory>
     requires { length kinds.now < 2 ^ 32 }
-    ensures { let start = Rule normal.now.start in IfOk result (λ answer. MatchOption answer (¬ NormalDerives normal.now start kinds.now) (IsParse normal.now start kinds.now)) }
+    ensures { let start = Rule normal.now.start in
+        IfOk result (λ answer. MatchOption answer (¬ NormalDerives normal.now start kinds.now) (IsParse normal.now start kinds.now)) }
 {
     let start = Sym::Rule(normal.start());
     for _ in 1..times {
@@ -56,7 +57,8 @@ fn beginning(
     times: u32,
 ) -> std::result::Result<Option<LongestPrefix>, Memory>
     requires { length kinds.now < 2 ^ 32 }
-    ensures { let start = Rule normal.now.start in IfOk result (λ answer. MatchOption answer ((w : List ℕ) → ¬ NormalDerives normal.now start w) (IsLongestPrefix normal.now start kinds.now)) }
+    ensures { let start = Rule normal.now.start in
+        IfOk result (λ answer. MatchOption answer ((w : List ℕ) → ¬ NormalDerives normal.now start w) (IsLongestPrefix normal.now start kinds.now)) }
 {
     let start = Sym::Rule(normal.start());
     for _ in 1..times {

@@ -56,7 +56,9 @@ either_first : (j k : ℕ) → Gives (either j k) (j ∷ [])
 either_first j k = Derives.by_block _ (j ∷ []) (DerivesAlts.by_first (next (Term.kind j) last) _ (j ∷ []) (kind_last j))
 
 either_second : (j k : ℕ) → Gives (either j k) (k ∷ [])
-either_second j k = Derives.by_block _ (k ∷ []) (DerivesAlts.by_later (next (Term.kind j) last) _ (k ∷ []) (DerivesAlts.by_first (next (Term.kind k) last) Alts.none (k ∷ []) (kind_last k)))
+either_second j k =
+    Derives.by_block _ (k ∷ []) (DerivesAlts.by_later (next (Term.kind j) last) _ (k ∷ [])
+    (DerivesAlts.by_first (next (Term.kind k) last) Alts.none (k ∷ []) (kind_last k)))
 
 abbrev IsExpr : List ℕ → Type 0
 IsExpr = Gives (Term.rule 6)
@@ -109,7 +111,9 @@ module _ (u v : List ℕ) (m : IsExpr u) (n : IsExpr v) where
       (DerivesMany.by_end more_args))
 
   both : Spells args (u ++ (((2 ∷ (v ++ [])) ++ []) ++ []))
-  both = term_next (Term.rule 6) (next (Term.star more_args) last) u (((2 ∷ (v ++ [])) ++ []) ++ []) m (term_next (Term.star more_args) last ((2 ∷ (v ++ [])) ++ []) [] second DerivesSeq.by_done)
+  both =
+      term_next (Term.rule 6) (next (Term.star more_args) last) u (((2 ∷ (v ++ [])) ++ []) ++ []) m
+      (term_next (Term.star more_args) last ((2 ∷ (v ++ [])) ++ []) [] second DerivesSeq.by_done)
 
   call : IsExpr (17 ∷ 0 ∷ ((u ++ (((2 ∷ (v ++ [])) ++ []) ++ [])) ++ (1 ∷ [])))
   call =
@@ -133,7 +137,8 @@ declares u m =
     let value : Term = Term.block (Alts.or set Alts.none) in
     let w : List ℕ = 7 ∷ (u ++ []) in
     by_rule_alt 5 0 stmt_alts (3 ∷ 17 ∷ (w ++ (8 ∷ []))) refl refl
-    (term_next (Term.rule 3) (next (Term.kind 17) (next (Term.opt value) (next (Term.kind 8) last))) (3 ∷ []) (17 ∷ (w ++ (8 ∷ []))) (by_rule_alt 3 0 type_alts (3 ∷ []) refl refl (kind_last 3))
+    (term_next (Term.rule 3) (next (Term.kind 17) (next (Term.opt value) (next (Term.kind 8) last))) (3 ∷ []) (17 ∷ (w ++ (8 ∷ [])))
+    (by_rule_alt 3 0 type_alts (3 ∷ []) refl refl (kind_last 3))
     (kind_next 17 (next (Term.opt value) (next (Term.kind 8) last)) (w ++ (8 ∷ []))
     (term_next (Term.opt value) (next (Term.kind 8) last) w (8 ∷ [])
     (Derives.by_present value w (one_block set w (kind_next 7 (next (Term.rule 6) last) (u ++ []) (term_next (Term.rule 6) last u [] m DerivesSeq.by_done))))
@@ -172,13 +177,15 @@ chooses u v w m n o =
     let else_part : Term = Term.block (Alts.or other Alts.none) in
     let x : List ℕ = 10 ∷ (w ++ []) in
     by_rule_alt 5 2 stmt_alts (9 ∷ 0 ∷ (u ++ (1 ∷ (v ++ (x ++ []))))) refl refl
-    (kind_next 9 (next (Term.kind 0) (next (Term.rule 6) (next (Term.kind 1) (next (Term.rule 4) (next (Term.opt else_part) last))))) (0 ∷ (u ++ (1 ∷ (v ++ (x ++ [])))))
+    (kind_next 9 (next (Term.kind 0) (next (Term.rule 6) (next (Term.kind 1) (next (Term.rule 4) (next (Term.opt else_part) last)))))
+    (0 ∷ (u ++ (1 ∷ (v ++ (x ++ [])))))
     (kind_next 0 (next (Term.rule 6) (next (Term.kind 1) (next (Term.rule 4) (next (Term.opt else_part) last)))) (u ++ (1 ∷ (v ++ (x ++ []))))
     (term_next (Term.rule 6) (next (Term.kind 1) (next (Term.rule 4) (next (Term.opt else_part) last))) u (1 ∷ (v ++ (x ++ []))) m
     (kind_next 1 (next (Term.rule 4) (next (Term.opt else_part) last)) (v ++ (x ++ []))
     (term_next (Term.rule 4) (next (Term.opt else_part) last) v (x ++ []) n
     (term_next (Term.opt else_part) last x []
-    (Derives.by_present else_part x (one_block other x (kind_next 10 (next (Term.rule 4) last) (w ++ []) (term_next (Term.rule 4) last w [] o DerivesSeq.by_done))))
+    (Derives.by_present else_part x (one_block other x
+    (kind_next 10 (next (Term.rule 4) last) (w ++ []) (term_next (Term.rule 4) last w [] o DerivesSeq.by_done))))
     DerivesSeq.by_done))))))
 
 -- `while ( u ) v`
@@ -206,7 +213,8 @@ pub third_form : IsStmt (11 ∷ 0 ∷ 17 ∷ 16 ∷ 18 ∷ 1 ∷ 5 ∷ 17 ∷ 7 
 third_form =
     repeats (17 ∷ 16 ∷ 18 ∷ []) (5 ∷ 17 ∷ 7 ∷ 0 ∷ 17 ∷ 15 ∷ 17 ∷ 1 ∷ 14 ∷ 18 ∷ 8 ∷ 6 ∷ []) (sum (17 ∷ []) (18 ∷ []) id int 16 (either_second 15 16))
     (block_of_one (17 ∷ 7 ∷ 0 ∷ 17 ∷ 15 ∷ 17 ∷ 1 ∷ 14 ∷ 18 ∷ 8 ∷ []) (assigns (0 ∷ 17 ∷ 15 ∷ 17 ∷ 1 ∷ 14 ∷ 18 ∷ [])
-    (product (0 ∷ 17 ∷ 15 ∷ 17 ∷ 1 ∷ []) (18 ∷ []) (in_brackets (17 ∷ 15 ∷ 17 ∷ []) (sum (17 ∷ []) (17 ∷ []) id id 15 (either_first 15 16))) int 14 (either_second 13 14))))
+    (product (0 ∷ 17 ∷ 15 ∷ 17 ∷ 1 ∷ []) (18 ∷ []) (in_brackets (17 ∷ 15 ∷ 17 ∷ []) (sum (17 ∷ []) (17 ∷ []) id id 15 (either_first 15 16))) int 14
+    (either_second 13 14))))
 
 -- `return "s" + a;`
 pub fourth_form : IsStmt (12 ∷ 19 ∷ 15 ∷ 17 ∷ 8 ∷ [])
@@ -228,21 +236,26 @@ function u m =
     let second : Gives (Term.star more_params) (2 ∷ 4 ∷ 17 ∷ []) =
     Derives.by_star more_params (2 ∷ 4 ∷ 17 ∷ [])
     (DerivesMany.by_more more_params (2 ∷ 4 ∷ 17 ∷ []) []
-    (one_block more (2 ∷ 4 ∷ 17 ∷ []) (kind_next 2 (next (Term.rule 3) (next (Term.kind 17) last)) (4 ∷ 17 ∷ []) (term_next (Term.rule 3) (next (Term.kind 17) last) (4 ∷ []) (17 ∷ []) b_type (kind_last 17))))
+    (one_block more (2 ∷ 4 ∷ 17 ∷ []) (kind_next 2 (next (Term.rule 3) (next (Term.kind 17) last)) (4 ∷ 17 ∷ [])
+    (term_next (Term.rule 3) (next (Term.kind 17) last) (4 ∷ []) (17 ∷ []) b_type (kind_last 17))))
     (DerivesMany.by_end more_params)) in
     let params : Gives (Term.rule 2) (3 ∷ 17 ∷ 2 ∷ 4 ∷ 17 ∷ []) =
     by_rule_alt 2 0 params_alts (3 ∷ 17 ∷ 2 ∷ 4 ∷ 17 ∷ []) refl refl
     (term_next (Term.rule 3) (next (Term.kind 17) (next (Term.star more_params) last)) (3 ∷ []) (17 ∷ 2 ∷ 4 ∷ 17 ∷ []) a_type
-    (kind_next 17 (next (Term.star more_params) last) (2 ∷ 4 ∷ 17 ∷ []) (term_next (Term.star more_params) last (2 ∷ 4 ∷ 17 ∷ []) [] second DerivesSeq.by_done))) in
+    (kind_next 17 (next (Term.star more_params) last) (2 ∷ 4 ∷ 17 ∷ [])
+    (term_next (Term.star more_params) last (2 ∷ 4 ∷ 17 ∷ []) [] second DerivesSeq.by_done))) in
     by_rule_alt 1 0 func_alts (3 ∷ 17 ∷ 0 ∷ 3 ∷ 17 ∷ 2 ∷ 4 ∷ 17 ∷ 1 ∷ (u ++ [])) refl refl
-    (term_next (Term.rule 3) (next (Term.kind 17) (next (Term.kind 0) (next (Term.opt (Term.rule 2)) (next (Term.kind 1) (next (Term.rule 4) last))))) (3 ∷ []) (17 ∷ 0 ∷ 3 ∷ 17 ∷ 2 ∷ 4 ∷ 17 ∷ 1 ∷ (u ++ [])) a_type
+    (term_next (Term.rule 3) (next (Term.kind 17) (next (Term.kind 0) (next (Term.opt (Term.rule 2)) (next (Term.kind 1) (next (Term.rule 4) last))))) (3 ∷ [])
+    (17 ∷ 0 ∷ 3 ∷ 17 ∷ 2 ∷ 4 ∷ 17 ∷ 1 ∷ (u ++ [])) a_type
     (kind_next 17 (next (Term.kind 0) (next (Term.opt (Term.rule 2)) (next (Term.kind 1) (next (Term.rule 4) last)))) (0 ∷ 3 ∷ 17 ∷ 2 ∷ 4 ∷ 17 ∷ 1 ∷ (u ++ []))
     (kind_next 0 (next (Term.opt (Term.rule 2)) (next (Term.kind 1) (next (Term.rule 4) last))) (3 ∷ 17 ∷ 2 ∷ 4 ∷ 17 ∷ 1 ∷ (u ++ []))
-    (term_next (Term.opt (Term.rule 2)) (next (Term.kind 1) (next (Term.rule 4) last)) (3 ∷ 17 ∷ 2 ∷ 4 ∷ 17 ∷ []) (1 ∷ (u ++ [])) (Derives.by_present (Term.rule 2) (3 ∷ 17 ∷ 2 ∷ 4 ∷ 17 ∷ []) params)
+    (term_next (Term.opt (Term.rule 2)) (next (Term.kind 1) (next (Term.rule 4) last)) (3 ∷ 17 ∷ 2 ∷ 4 ∷ 17 ∷ []) (1 ∷ (u ++ []))
+    (Derives.by_present (Term.rule 2) (3 ∷ 17 ∷ 2 ∷ 4 ∷ 17 ∷ []) params)
     (kind_next 1 (next (Term.rule 4) last) (u ++ []) (term_next (Term.rule 4) last u [] m DerivesSeq.by_done))))))
 
 -- a file of some functions
 pub file : (u : List ℕ) → DerivesMany mini_bodies (Term.rule 1) u → Gives (Term.rule 0) (u ++ [])
 file u m =
     by_rule_alt 0 0 file_alts (u ++ []) refl refl
-    (term_next (Term.star (Term.rule 1)) (next Term.eof last) u [] (Derives.by_star (Term.rule 1) u m) (term_next Term.eof last [] [] Derives.by_eof DerivesSeq.by_done))
+    (term_next (Term.star (Term.rule 1)) (next Term.eof last) u [] (Derives.by_star (Term.rule 1) u m)
+    (term_next Term.eof last [] [] Derives.by_eof DerivesSeq.by_done))

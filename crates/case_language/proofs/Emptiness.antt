@@ -1,5 +1,6 @@
 -- Which terms of parser rules may be empty, and which rules may be first in them, by tests.
-use Rattle.std.proofs.Common.{◌≡◌, inl, inr, ℕ, zero, suc, ◌<◌, Bool, true, false, ◌&&◌, ◌||◌, not, nat_lt, List, [], ◌∷◌, Some, slice_get, refl, sym, ap, ◌∙◌, subst, true≢false}
+use Rattle.std.proofs.Common.{◌≡◌, inl, inr, ℕ, zero, suc, ◌<◌, Bool, true, false, ◌&&◌, ◌||◌, not, nat_lt, List, []}
+use Rattle.std.proofs.Common.{◌∷◌, Some, slice_get, refl, sym, ap, ◌∙◌, subst, true≢false}
 use Rattle.std.proofs.lemmas.Bool.{and_parts, and_from, ltb-true}
 use Rattle.grammar_tree.specs.Derives.{Alts, Seq, Term, Derives, DerivesAlts, DerivesSeq}
 use Rattle.grammar_tree.specs.Corners.{Begins, BeginsAlts, BeginsSeq, HasEmptyLoop, HasEmptyLoopAlts, HasEmptyLoopSeq, bases, rests}
@@ -43,7 +44,8 @@ pub implied : (b e : Bool) → implies b e ≡ true → b ≡ true → e ≡ tru
 implied true e h f = h
 implied false e h f = absurd (true≢false (sym f))
 
-flag_of : (E es : List Bool) (G : List Alts) (r : ℕ) (a : Alts) → flags_hold E es G ≡ true → slice_get G r ≡ Some a → may_empty_alts E a ≡ true → flag_at es r ≡ true
+flag_of : (E es : List Bool) (G : List Alts) (r : ℕ) (a : Alts) → flags_hold E es G ≡ true → slice_get G r ≡ Some a → may_empty_alts E a ≡ true
+    → flag_at es r ≡ true
 flag_of E es [] r a h is m = cc is
 flag_of E [] (b ∷ G) r a h is m = refl
 flag_of E (e ∷ es) (b ∷ G) zero a h is m =
@@ -154,7 +156,8 @@ module _ (E : List Bool) (G : List Alts) (holds : flags_hold E E G ≡ true) (ra
     below_seq Seq.done h b = absurd b
     below_seq (Seq.next t s) h (inl b) = below t (and_parts (first_below E rank n t) (implies (may_empty E t) (first_below_seq E rank n s)) h).0 b
     below_seq (Seq.next t s) h (inr (m, b)) =
-        below_seq s (implied (may_empty E t) (first_below_seq E rank n s) (and_parts (first_below E rank n t) (implies (may_empty E t) (first_below_seq E rank n s)) h).1 (empty_term E G holds t [] m refl)) b
+        below_seq s (implied (may_empty E t) (first_below_seq E rank n s)
+        (and_parts (first_below E rank n t) (implies (may_empty E t) (first_below_seq E rank n s)) h).1 (empty_term E G holds t [] m refl)) b
 
     pub below_alts : (a : Alts) → first_below_alts E rank n a ≡ true → BeginsAlts G q a → rank q < n
     below_alts Alts.none h b = absurd b
@@ -167,7 +170,10 @@ some_alts (Alts.or s a) = true
 
 -- What a rule needs: some base, loops that fill, no rest that may be empty, bases that may not be empty where there is a rest, and left corners of lower rank.
 abbrev pub rule_fits : List Bool → (ℕ → ℕ) → ℕ → Alts → Bool
-rule_fits E rank r a = some_alts (bases r a) && (loops_fill_alts E a && (not (may_empty_alts E (rests r a)) && (first_below_alts E rank (rank r) (bases r a) && implies (may_empty_alts E (bases r a)) (first_below_alts E rank (rank r) (rests r a)))))
+rule_fits E rank r a =
+    some_alts (bases r a) && (loops_fill_alts E a &&
+    (not (may_empty_alts E (rests r a)) && (first_below_alts E rank (rank r) (bases r a) && implies (may_empty_alts E (bases r a))
+    (first_below_alts E rank (rank r) (rests r a)))))
 
 abbrev pub rules_fit : List Bool → (ℕ → ℕ) → ℕ → List Alts → Bool
 rules_fit E rank r [] = true

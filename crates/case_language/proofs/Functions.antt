@@ -1,5 +1,6 @@
 -- The pieces of a program, its text, and the kinds of its tokens.
-use Rattle.std.proofs.Common.{◌≡◌, ℕ, zero, suc, ◌+◌, ◌<◌, ◌≤◌, ◌%◌, ◌^◌, Bool, true, false, cond, nat_eq, List, [], ◌∷◌, ◌++◌, map, slice_get, codes, decimal, refl, sym, ap, ◌∙◌, subst, arith, append_assoc, append-nil}
+use Rattle.std.proofs.Common.{◌≡◌, ℕ, zero, suc, ◌+◌, ◌<◌, ◌≤◌, ◌%◌, ◌^◌, Bool, true, false, cond, nat_eq, List, [], ◌∷◌, ◌++◌, map}
+use Rattle.std.proofs.Common.{slice_get, codes, decimal, refl, sym, ap, ◌∙◌, subst, arith, append_assoc, append-nil}
 use Rattle.std.specs.Prelude.{encode_utf8_all, length}
 use Rattle.std.specs.List.{flat_map, range_with_len}
 use Rattle.std.specs.Option.{option_map_or}
@@ -11,7 +12,8 @@ use Rattle.case_language.specs.Mini.{mini}
 use Rattle.case_language.proofs.MiniKinds.{kinds_mini, mini_bodies, mini_kinds}
 use Rattle.case_language.proofs.Derivations.{block_of, file, first_form, fourth_form, function, second_form, target, third_form}
 use Rattle.case_language.proofs.Names.{name_reads}
-use Rattle.case_language.proofs.Pieces.{Line, after_name, after_reads, before_name, before_reads, end_pieces, end_reads, last_reads, line_pieces, line_reads, newline, newline_reads, of_kind, reads_on, texts}
+use Rattle.case_language.proofs.Pieces.{Line, after_name, after_reads, before_name, before_reads, end_pieces, end_reads, last_reads}
+use Rattle.case_language.proofs.Pieces.{line_pieces, line_reads, newline, newline_reads, of_kind, reads_on, texts}
 
 texts-append : (ps qs : List Piece) → texts (ps ++ qs) ≡ texts ps ++ texts qs
 texts-append [] qs = refl
@@ -63,7 +65,8 @@ lines_text index is_target w =
     let three : List ℕ = form_line ((index + 2) % 4) in
     let last : List ℕ = flat_map line_text (cond is_target (Line.target ∷ []) []) in
     append_assoc one (two ++ (three ++ last)) w
-    ∙ ap (λ x. one ++ x) (append_assoc two (three ++ last) w ∙ ap (λ x. two ++ x) (append_assoc three last w ∙ ap (λ x. three ++ x) (ap (λ x. x ++ w) (pick is_target))))
+    ∙ ap (λ x. one ++ x) (append_assoc two (three ++ last) w
+    ∙ ap (λ x. two ++ x) (append_assoc three last w ∙ ap (λ x. three ++ x) (ap (λ x. x ++ w) (pick is_target))))
   where
     pick : (b : Bool) → flat_map line_text (cond b (Line.target ∷ []) []) ≡ cond b target_line []
     pick true = append-nil target_line
@@ -73,7 +76,8 @@ lines_text index is_target w =
 same_text : (index : ℕ) (is_target : Bool) → texts (function_pieces index (lines_of index is_target)) ≡ function_text index is_target
 same_text index is_target = whole
   where
-    ending : texts (body_pieces (lines_of index is_target) ++ (newline ∷ [])) ≡ 10 ∷ (form_line (index % 4) ++ (form_line ((index + 1) % 4) ++ (form_line ((index + 2) % 4) ++ (cond is_target target_line [] ++ codes "}\n"))))
+    ending : texts (body_pieces (lines_of index is_target) ++ (newline ∷ []))
+        ≡ 10 ∷ (form_line (index % 4) ++ (form_line ((index + 1) % 4) ++ (form_line ((index + 2) % 4) ++ (cond is_target target_line [] ++ codes "}\n"))))
     ending =
         texts-append (body_pieces (lines_of index is_target)) (newline ∷ [])
         ∙ ap (λ x. x ++ codes "\n") (texts-append (lines_pieces (lines_of index is_target)) end_pieces)
@@ -81,7 +85,8 @@ same_text index is_target = whole
         ∙ all_shifted (lines_of index is_target) (codes "}\n")
         ∙ ap (λ x. 10 ∷ x) (lines_text index is_target (codes "}\n"))
 
-    after : texts (after_name ++ (body_pieces (lines_of index is_target) ++ (newline ∷ []))) ≡ codes "(int a, char b) {\n" ++ (form_line (index % 4) ++ (form_line ((index + 1) % 4) ++ (form_line ((index + 2) % 4) ++ (cond is_target target_line [] ++ codes "}\n"))))
+    after : texts (after_name ++ (body_pieces (lines_of index is_target) ++ (newline ∷ []))) ≡ codes "(int a, char b) {\n"
+        ++ (form_line (index % 4) ++ (form_line ((index + 1) % 4) ++ (form_line ((index + 2) % 4) ++ (cond is_target target_line [] ++ codes "}\n"))))
     after = texts-append after_name (body_pieces (lines_of index is_target) ++ (newline ∷ [])) ∙ ap (λ x. texts after_name ++ x) ending
 
     whole : texts (function_pieces index (lines_of index is_target)) ≡ function_text index is_target
@@ -94,7 +99,9 @@ lines_read (line ∷ lines) more =
     let P : List ℕ → Type 0 = λ x. LexesTo mini x (line_pieces line ++ lines_pieces lines) (10 ∷ more) in
     let later : List ℕ = flat_map line_text lines ++ more in
     let Q : List ℕ → Type 0 = λ x. LexesTo mini x (lines_pieces lines) (10 ∷ more) in
-    subst P (ap (λ x. texts (line_pieces line) ++ x) (sym (all_shifted lines more)) ∙ sym (append_assoc (texts (line_pieces line)) (texts (lines_pieces lines)) (10 ∷ more)) ∙ ap (λ x. x ++ (10 ∷ more)) (sym (texts-append (line_pieces line) (lines_pieces lines))))
+    subst P (ap (λ x. texts (line_pieces line) ++ x) (sym (all_shifted lines more))
+    ∙ sym (append_assoc (texts (line_pieces line)) (texts (lines_pieces lines)) (10 ∷ more))
+    ∙ ap (λ x. x ++ (10 ∷ more)) (sym (texts-append (line_pieces line) (lines_pieces lines))))
     (reads_on (line_reads line later) (subst Q (all_shifted lines more) (lines_read lines more)))
 
 -- from the first line on, a function's text goes on so
@@ -135,7 +142,8 @@ all_read lines first (suc n) small =
     let others : List Piece = all_pieces lines (first + 1) n in
     let P : List ℕ → Type 0 = λ x. LexesTo mini x (function_pieces first (lines first) ++ others) [] in
     subst P (sym (texts-append (function_pieces first (lines first)) others))
-    (reads_on (function_reads first (lines first) (texts others) (omega (arith, small)) (newline_between lines (first + 1) n)) (all_read lines (first + 1) n (omega (arith, small))))
+    (reads_on (function_reads first (lines first) (texts others) (omega (arith, small)) (newline_between lines (first + 1) n))
+    (all_read lines (first + 1) n (omega (arith, small))))
 
 -- the lines of the functions of a program
 abbrev case_lines : ℕ → ℕ → ℕ → List Line
@@ -145,7 +153,8 @@ case_lines number size index = lines_of index (nat_eq index (target_of number si
 abbrev pub case_pieces : ℕ → ℕ → List Piece
 case_pieces number size = all_pieces (case_lines number size) 0 size
 
-same_texts : (number size first n : ℕ) → texts (all_pieces (case_lines number size) first n) ≡ flat_map (λ index. function_text index (nat_eq index (target_of number size))) (range_with_len first n)
+same_texts : (number size first n : ℕ) → texts (all_pieces (case_lines number size) first n) ≡ flat_map
+    (λ index. function_text index (nat_eq index (target_of number size))) (range_with_len first n)
 same_texts number size first zero = refl
 same_texts number size first (suc n) =
     let is_target : Bool = nat_eq first (target_of number size) in
@@ -172,7 +181,8 @@ seen-append : (ps qs : List Piece) → seen (ps ++ qs) ≡ seen ps ++ seen qs
 seen-append [] qs = refl
 seen-append (q ∷ ps) qs = pick (is_gap q.kind) (seen-append ps qs)
   where
-    pick : (b : Bool) → seen (ps ++ qs) ≡ seen ps ++ seen qs → cond b (seen (ps ++ qs)) (q.kind ∷ seen (ps ++ qs)) ≡ cond b (seen ps) (q.kind ∷ seen ps) ++ seen qs
+    pick : (b : Bool) → seen (ps ++ qs) ≡ seen ps ++ seen qs
+        → cond b (seen (ps ++ qs)) (q.kind ∷ seen (ps ++ qs)) ≡ cond b (seen ps) (q.kind ∷ seen ps) ++ seen qs
     pick true e = e
     pick false e = ap (λ x. q.kind ∷ x) e
 
@@ -184,7 +194,8 @@ placed_kinds at (q ∷ ps) =
     pick (is_gap_kind mini q.kind) (is_gap q.kind) gap next (placed_kinds next ps)
   where
     pick : (b c : Bool) → b ≡ c → (next : ℕ) → map (λ (t : PlacedToken). t.kind) (placed_tokens mini next ps) ≡ seen ps
-        → map (λ (t : PlacedToken). t.kind) (cond b (placed_tokens mini next ps) (record { kind = q.kind; start = at; end = next } ∷ placed_tokens mini next ps)) ≡ cond c (seen ps) (q.kind ∷ seen ps)
+        → map (λ (t : PlacedToken). t.kind) (cond b (placed_tokens mini next ps)
+        (record { kind = q.kind; start = at; end = next } ∷ placed_tokens mini next ps)) ≡ cond c (seen ps) (q.kind ∷ seen ps)
     pick true true same next e = e
     pick false false same next e = ap (λ x. q.kind ∷ x) e
     pick true false same next e = cc same
@@ -201,7 +212,8 @@ lines_derive : (lines : List Line) → DerivesMany mini_bodies (Term.rule 5) (se
 lines_derive [] = DerivesMany.by_end (Term.rule 5)
 lines_derive (line ∷ lines) =
     let P : List ℕ → Type 0 = λ x. DerivesMany mini_bodies (Term.rule 5) x in
-    subst P (sym (seen-append (line_pieces line) (lines_pieces lines))) (DerivesMany.by_more (Term.rule 5) (seen (line_pieces line)) (seen (lines_pieces lines)) (line_derives line) (lines_derive lines))
+    subst P (sym (seen-append (line_pieces line) (lines_pieces lines)))
+    (DerivesMany.by_more (Term.rule 5) (seen (line_pieces line)) (seen (lines_pieces lines)) (line_derives line) (lines_derive lines))
 
 function_derives : (index : ℕ) (lines : List Line) → Derives mini_bodies (Term.rule 1) (seen (function_pieces index lines))
 function_derives index lines =
@@ -218,9 +230,11 @@ all_derive lines first (suc n) =
     let others : List Piece = all_pieces lines (first + 1) n in
     let P : List ℕ → Type 0 = λ x. DerivesMany mini_bodies (Term.rule 1) x in
     subst P (sym (seen-append (function_pieces first (lines first)) others))
-    (DerivesMany.by_more (Term.rule 1) (seen (function_pieces first (lines first))) (seen others) (function_derives first (lines first)) (all_derive lines (first + 1) n))
+    (DerivesMany.by_more (Term.rule 1) (seen (function_pieces first (lines first))) (seen others) (function_derives first (lines first))
+    (all_derive lines (first + 1) n))
 
-pub case_derives : (number size at : ℕ) → Derives mini_bodies (Term.rule 0) (map (λ (t : PlacedToken). t.kind) (placed_tokens mini at (case_pieces number size)))
+pub case_derives : (number size at : ℕ) → Derives mini_bodies (Term.rule 0)
+    (map (λ (t : PlacedToken). t.kind) (placed_tokens mini at (case_pieces number size)))
 case_derives number size at =
     let u : List ℕ = seen (case_pieces number size) in
     let P : List ℕ → Type 0 = λ x. Derives mini_bodies (Term.rule 0) x in

@@ -1,5 +1,6 @@
 -- Each program is in the language of Mini.
-use Rattle.std.proofs.Common.{◌≡◌, ℕ, suc, zero, ◌+◌, ◌<◌, ◌≤◌, ◌%◌, ◌^◌, Bool, true, false, ◌&&◌, cond, nat_eq, nat_lt, List, [], ◌∷◌, ◌++◌, map, codes, decimal, IsAscii, chars, refl, sym, subst, arith}
+use Rattle.std.proofs.Common.{◌≡◌, ℕ, suc, zero, ◌+◌, ◌<◌, ◌≤◌, ◌%◌, ◌^◌, Bool, true, false, ◌&&◌, cond, nat_eq, nat_lt, List}
+use Rattle.std.proofs.Common.{[], ◌∷◌, ◌++◌, map, codes, decimal, IsAscii, chars, refl, sym, subst, arith}
 use Rattle.std.specs.List.{flat_map, range_with_len}
 use Rattle.std.proofs.lemmas.Bool.{and_parts, ltb-true}
 use Rattle.std.proofs.lemmas.Fmt.{IsAscii-decimal}
@@ -54,12 +55,14 @@ function_ascii index is_target small =
 all_are_ascii : (f : ℕ → List ℕ) (first n : ℕ) → ((index : ℕ) → index < first + n → IsAscii (f index)) → IsAscii (flat_map f (range_with_len first n))
 all_are_ascii f first zero each = ascii [] refl
 all_are_ascii f first (suc n) each =
-    IsAscii-append (f first) (flat_map f (range_with_len (first + 1) n)) (each first (omega arith)) (all_are_ascii f (first + 1) n (λ index h. each index (omega (arith, h))))
+    IsAscii-append (f first) (flat_map f (range_with_len (first + 1) n)) (each first (omega arith))
+    (all_are_ascii f (first + 1) n (λ index h. each index (omega (arith, h))))
 
 pub case_ascii : (number size : ℕ) → size ≤ 1500 → IsAscii (case_text number size)
 unfolding case_text
 case_ascii number size small =
-    all_are_ascii (λ index. function_text index (nat_eq index (target_of number size))) 0 size (λ index h. function_ascii index (nat_eq index (target_of number size)) (omega (arith, h, small)))
+    all_are_ascii (λ index. function_text index (nat_eq index (target_of number size))) 0 size
+    (λ index h. function_ascii index (nat_eq index (target_of number size)) (omega (arith, h, small)))
 
 -- The grammar is Mini, and its start is the first rule.
 pub record IsMini (grammar : CheckedGrammar) : Type 0 where
@@ -71,7 +74,8 @@ in_language grammar number size is small =
     let text : List ℕ = case_text number size in
     let tokens : List PlacedToken = placed_tokens mini 0 (case_pieces number size) in
     let same : chars text ≡ text = chars-IsAscii text (case_ascii number size small) in
-    let found : HasTokens mini (chars text) tokens = subst (λ x. HasTokens mini x tokens) (sym same) (case_pieces number size, case_reads number size small, refl) in
+    let found : HasTokens mini (chars text) tokens =
+    subst (λ x. HasTokens mini x tokens) (sym same) (case_pieces number size, case_reads number size small, refl) in
     let derived : RuleDerives mini 0 (map (λ (t : PlacedToken). t.kind) tokens) =
     subst (λ (x : List Alts). Derives x (Term.rule 0) (map (λ (t : PlacedToken). t.kind) tokens)) (sym bodies_mini) (case_derives number size 0) in
     record {
@@ -81,7 +85,8 @@ in_language grammar number size is small =
       derived = start_derives is tokens derived;
     }
   where
-    start_derives : IsMini grammar → (tokens : List PlacedToken) → RuleDerives mini 0 (map (λ (t : PlacedToken). t.kind) tokens) → StartDerives grammar (map (λ (t : PlacedToken). t.kind) tokens)
+    start_derives : IsMini grammar → (tokens : List PlacedToken) → RuleDerives mini 0 (map (λ (t : PlacedToken). t.kind) tokens)
+        → StartDerives grammar (map (λ (t : PlacedToken). t.kind) tokens)
     start_derives is tokens derived =
         let w : List ℕ = map (λ (t : PlacedToken). t.kind) tokens in
         let P : WrittenGrammar → Type 0 = λ G. RuleDerives G (number_at G grammar.start) w in

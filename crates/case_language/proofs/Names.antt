@@ -22,7 +22,9 @@ digit_is_part d h =
 
 -- each digit of a number may be part of a name
 pub digits_are_parts : (n : ℕ) → n < 2 ^ 64 → all_in letters_digits (decimal n) ≡ true
-digits_are_parts = decimal_by_steps (λ n ds. all_in letters_digits ds ≡ true) (λ n h. and_from (has letters_digits (48 + n)) true (digit_is_part n h) refl) (λ n ds h more. one_more ds (48 + n % 10) more (digit_is_part (n % 10) (mod-lt n (omega arith))))
+digits_are_parts =
+    decimal_by_steps (λ n ds. all_in letters_digits ds ≡ true) (λ n h. and_from (has letters_digits (48 + n)) true (digit_is_part n h) refl)
+    (λ n ds h more. one_more ds (48 + n % 10) more (digit_is_part (n % 10) (mod-lt n (omega arith))))
   where
     one_more : (ds : List ℕ) (c : ℕ) → all_in letters_digits ds ≡ true → has letters_digits c ≡ true → all_in letters_digits (ds ++ (c ∷ [])) ≡ true
     one_more [] c all h = and_from (has letters_digits c) true h refl

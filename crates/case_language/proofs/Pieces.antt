@@ -1,5 +1,6 @@
 -- The pieces of the programs' lines, and how they are read.
-use Rattle.std.proofs.Common.{◌≡◌, ◌≢◌, ℕ, zero, suc, Bool, true, false, ◌&&◌, cond, nat_eq, List, [], ◌∷◌, ◌++◌, Option, Some, None, slice_get, codes, refl, sym, subst, append_assoc, true≢false}
+use Rattle.std.proofs.Common.{◌≡◌, ◌≢◌, ℕ, zero, suc, Bool, true, false, ◌&&◌, cond, nat_eq, List, [], ◌∷◌, ◌++◌, Option}
+use Rattle.std.proofs.Common.{Some, None, slice_get, codes, refl, sym, subst, append_assoc, true≢false}
 use Rattle.std.proofs.lemmas.Bool.{and_parts, eqb-true}
 use Rattle.std.proofs.lemmas.Slice.Eq.{bytes_eq-Decides}
 use Rattle.regex_class.specs.Ranges.{in_range, in_ranges}
@@ -48,17 +49,22 @@ pub data Line : Type 0 where
   target : Line
 
 abbrev pub line_pieces : Line → List Piece
-line_pieces (Line.form zero) = indent ∷ literal 3 ∷ space ∷ id (codes "c") ∷ space ∷ literal 7 ∷ space ∷ id (codes "a") ∷ space ∷ literal 13 ∷ space ∷ int (codes "2") ∷ literal 8 ∷ []
+line_pieces (Line.form zero) =
+    indent ∷ literal 3 ∷ space ∷ id (codes "c") ∷ space ∷ literal 7 ∷ space ∷ id (codes "a") ∷ space ∷ literal 13 ∷ space ∷ int (codes "2") ∷ literal 8 ∷ []
 line_pieces (Line.form (suc zero)) =
-    indent ∷ literal 9 ∷ space ∷ literal 0 ∷ id (codes "a") ∷ literal 1 ∷ space ∷ literal 5 ∷ space ∷ id (codes "b") ∷ space ∷ literal 7 ∷ space ∷ id (codes "f0") ∷ literal 0 ∷ id (codes "a") ∷ literal 2 ∷ space ∷ int (codes "1") ∷ literal 1 ∷ literal 8
+    indent ∷ literal 9 ∷ space ∷ literal 0 ∷ id (codes "a") ∷ literal 1 ∷ space ∷ literal 5 ∷ space ∷ id (codes "b") ∷ space ∷ literal 7 ∷ space ∷ id
+    (codes "f0") ∷ literal 0 ∷ id (codes "a") ∷ literal 2 ∷ space ∷ int (codes "1") ∷ literal 1 ∷ literal 8
     ∷ space ∷ literal 6 ∷ space ∷ literal 10 ∷ space ∷ literal 5 ∷ space ∷ literal 12 ∷ space ∷ id (codes "b") ∷ literal 8 ∷ space ∷ literal 6 ∷ []
 line_pieces (Line.form (suc (suc zero))) =
-    indent ∷ literal 11 ∷ space ∷ literal 0 ∷ id (codes "b") ∷ space ∷ literal 16 ∷ space ∷ int (codes "1") ∷ literal 1 ∷ space ∷ literal 5 ∷ space ∷ id (codes "b") ∷ space ∷ literal 7 ∷ space ∷ literal 0 ∷ id (codes "a") ∷ space ∷ literal 15 ∷ space ∷ id (codes "b")
+    indent ∷ literal 11 ∷ space ∷ literal 0 ∷ id (codes "b") ∷ space ∷ literal 16 ∷ space ∷ int (codes "1") ∷ literal 1 ∷ space ∷ literal 5 ∷ space ∷ id
+    (codes "b") ∷ space ∷ literal 7 ∷ space ∷ literal 0 ∷ id (codes "a") ∷ space ∷ literal 15 ∷ space ∷ id (codes "b")
     ∷ literal 1 ∷ space ∷ literal 14 ∷ space ∷ int (codes "3") ∷ literal 8 ∷ space ∷ literal 6 ∷ space ∷ of_kind 21 (codes "// loop") ∷ []
 line_pieces (Line.form (suc (suc (suc n)))) =
-    indent ∷ of_kind 20 (codes "/* note */") ∷ space ∷ literal 12 ∷ space ∷ of_kind 19 (codes "\"s\"") ∷ space ∷ literal 15 ∷ space ∷ id (codes "a") ∷ literal 8 ∷ []
+    indent ∷ of_kind 20 (codes "/* note */") ∷ space ∷ literal 12 ∷ space ∷ of_kind 19 (codes "\"s\"") ∷ space ∷ literal 15 ∷ space ∷ id
+    (codes "a") ∷ literal 8 ∷ []
 line_pieces Line.target =
-    indent ∷ id (codes "Q") ∷ space ∷ literal 7 ∷ space ∷ id (codes "f0") ∷ literal 0 ∷ id (codes "a") ∷ literal 2 ∷ space ∷ literal 0 ∷ id (codes "b") ∷ space ∷ literal 15 ∷ space ∷ of_kind 19 (codes "\"Z\"") ∷ literal 1 ∷ literal 1 ∷ literal 8 ∷ []
+    indent ∷ id (codes "Q") ∷ space ∷ literal 7 ∷ space ∷ id (codes "f0") ∷ literal 0 ∷ id (codes "a") ∷ literal 2 ∷ space ∷ literal 0 ∷ id
+    (codes "b") ∷ space ∷ literal 15 ∷ space ∷ of_kind 19 (codes "\"Z\"") ∷ literal 1 ∷ literal 1 ∷ literal 8 ∷ []
 
 -- before a function's number, and after it
 abbrev pub before_name : List Piece
@@ -96,7 +102,8 @@ abbrev are_next : List Piece → ℕ → Bool
 are_next [] c = true
 are_next (q ∷ ps) c = is_next q.kind q.text (first (texts ps) c) && are_next ps c
 
-none_goes_on : (k : ℕ) (w : List ℕ) (c : ℕ) → spelled k w ≡ true → ends k c (states mini mini_kinds w) ≡ true → (other : ℕ) (more : List ℕ) → KindMatches mini other (w ++ (c ∷ more)) → ⊥
+none_goes_on : (k : ℕ) (w : List ℕ) (c : ℕ) → spelled k w ≡ true → ends k c (states mini mini_kinds w) ≡ true → (other : ℕ) (more : List ℕ)
+    → KindMatches mini other (w ++ (c ∷ more)) → ⊥
 none_goes_on k w c s h other more m = pick (nat_eq k 20) refl h
   where
     pick : (b : Bool) → nat_eq k 20 ≡ b → cond b (others_end 20 c (states mini mini_kinds w)) (all_end c (states mini mini_kinds w)) ≡ true → ⊥
@@ -104,7 +111,8 @@ none_goes_on k w c s h other more m = pick (nat_eq k 20) refl h
     pick true e h =
         let is : k ≡ 20 = eqb-true k 20 e in
         let note : w ≡ codes "/* note */" = (bytes_eq-Decides w (codes "/* note */")).0 (subst (λ x. spelled x w ≡ true) is s) in
-        ends_but mini mini_kinds kinds_mini mini_nameless 20 w c h (λ more m. note_ends c more (subst (λ x. KindMatches mini 20 (x ++ (c ∷ more))) note m)) other more m
+        ends_but mini mini_kinds kinds_mini mini_nameless 20 w c h
+        (λ more m. note_ends c more (subst (λ x. KindMatches mini 20 (x ++ (c ∷ more))) note m)) other more m
 
 next_piece : (k : ℕ) (w : List ℕ) (c : ℕ) (more : List ℕ) → is_next k w c ≡ true → IsNext mini (w ++ (c ∷ more)) k w (c ∷ more)
 next_piece k w c more h =
@@ -114,7 +122,8 @@ next_piece k w c more h =
     next_before mini mini_kinds kinds_mini mini_nameless k w c more (some_cons w cons) (spelled_matches k w s) below (none_goes_on k w c s ending)
 
 -- the same where other pieces come before the character
-next_among : (k : ℕ) (w later : List ℕ) (c : ℕ) (more : List ℕ) → is_next k w (first later c) ≡ true → IsNext mini (w ++ (later ++ (c ∷ more))) k w (later ++ (c ∷ more))
+next_among : (k : ℕ) (w later : List ℕ) (c : ℕ) (more : List ℕ) → is_next k w (first later c) ≡ true
+    → IsNext mini (w ++ (later ++ (c ∷ more))) k w (later ++ (c ∷ more))
 next_among k w [] c more h = next_piece k w c more h
 next_among k w (d ∷ later) c more h = next_piece k w d (later ++ (c ∷ more)) h
 
@@ -125,10 +134,12 @@ reads (q ∷ ps) c more h =
     let (one, others) = and_parts (is_next q.kind q.text (first (texts ps) c)) (are_next ps c) h in
     let P : List ℕ → Type 0 = λ x. LexesTo mini x (q ∷ ps) (c ∷ more) in
     subst P (sym (append_assoc q.text (texts ps) (c ∷ more)))
-    (LexesTo.by_piece (q.text ++ (texts ps ++ (c ∷ more))) q.kind q.text (texts ps ++ (c ∷ more)) (c ∷ more) ps (next_among q.kind q.text (texts ps) c more one) (reads ps c more others))
+    (LexesTo.by_piece (q.text ++ (texts ps ++ (c ∷ more))) q.kind q.text (texts ps ++ (c ∷ more)) (c ∷ more) ps (next_among q.kind q.text (texts ps) c more one)
+    (reads ps c more others))
 
 -- first these pieces, then those
-pub reads_on : {text between left : List ℕ} {ps qs : List Piece} → LexesTo mini text ps between → LexesTo mini between qs left → LexesTo mini text (ps ++ qs) left
+pub reads_on : {text between left : List ℕ} {ps qs : List Piece} → LexesTo mini text ps between → LexesTo mini between qs left
+    → LexesTo mini text (ps ++ qs) left
 reads_on (LexesTo.by_end text) n = n
 reads_on (LexesTo.by_piece text kind piece rest left pieces next more) n = LexesTo.by_piece text kind piece rest _ _ next (reads_on more n)
 

@@ -16,7 +16,8 @@ use Rattle.grammar_reader_machine.specs.Machine.{AtEnd, AtStart}
 use Rattle.grammar_reader_laws.specs.WordByWord.{run}
 use Rattle.grammar_reader_laws.proofs.Lent.{Goes, Rest, accepts, run_complete}
 use Rattle.case_maker.specs.Mini.{mini_text}
-use Rattle.case_language.specs.Mini.{all_chars, blank_of, comment_of, digits, grammar_with, id_of, int_of, letters, letters_digits, line_chars, line_of, mini, plain_chars, str_of}
+use Rattle.case_language.specs.Mini.{all_chars, blank_of, comment_of, digits, grammar_with, id_of, int_of, letters}
+use Rattle.case_language.specs.Mini.{letters_digits, line_chars, line_of, mini, plain_chars, str_of}
 use Rattle.case_language.specs.Laws.{CasesAreInLanguage, MiniIsSpelled}
 use Rattle.case_language.proofs.Language.{ascii, in_language}
 use Rattle.case_language.proofs.Sets.{all_are, blanks_are, digits_are, letters_are, letters_digits_are, line_are, plain_are}
@@ -92,7 +93,12 @@ is_spelled =
     record {
       only = record { text = is_profile; only = λ G it. sym (is_only G it) };
       grammar = record { grammar = mini; kinds = kinds_of mini; start = 0 };
-      spelled = record { text = is_profile; start = refl; checked = record { well_formed = well_formed; numbered = refl; small = omega (arith, profile_fits is_profile, mini_length) } };
+      spelled =
+          record {
+            text = is_profile;
+            start = refl;
+            checked = record { well_formed = well_formed; numbered = refl; small = omega (arith, profile_fits is_profile, mini_length) };
+          };
     }
 
 -- the first rule is the start
@@ -102,4 +108,5 @@ start_is n e = cc
 pub all_in_language : CasesAreInLanguage
 all_in_language grammar number size it small =
     let same : grammar.grammar ≡ mini = is_only grammar.grammar it.text in
-    in_language grammar number size (record { same = same; start = start_is grammar.start (subst (λ G. start_of G None ≡ Some grammar.start) same it.start) }) small
+    in_language grammar number size (record { same = same; start = start_is grammar.start (subst (λ G. start_of G None ≡ Some grammar.start) same it.start) })
+    small

@@ -1,5 +1,6 @@
 -- What comes next in a text, by the threads of all kinds.
-use Rattle.std.proofs.Common.{◌≡◌, ◌≢◌, ◌⊎◌, inl, inr, ℕ, zero, suc, ◌≤◌, Bool, true, false, ◌&&◌, not, List, [], ◌∷◌, ◌++◌, Option, Some, None, slice_get, length, refl, sym, ap, ◌∙◌, subst, arith, append-nil, length-append, true≢false}
+use Rattle.std.proofs.Common.{◌≡◌, ◌≢◌, ◌⊎◌, inl, inr, ℕ, zero, suc, ◌≤◌, Bool, true, false, ◌&&◌, not, List, [], ◌∷◌, ◌++◌, Option, Some, None}
+use Rattle.std.proofs.Common.{slice_get, length, refl, sym, ap, ◌∙◌, subst, arith, append-nil, length-append, true≢false}
 use Rattle.std.proofs.lemmas.Bool.{and_parts}
 use Rattle.grammar_tree.specs.Written.{LexerTerm, LexerSeq, LexerAlts, LexerRule, WrittenRule, WrittenGrammar, Source, TokenKind}
 use Rattle.grammar_tree.specs.Kinds.{kinds_of, lexer_rules}
@@ -60,7 +61,8 @@ pub rule_any : (R : List LexerRule) (a : LexerAlts) (w : List ℕ) → MatchesRu
 rule_any R _ _ (MatchesRule.by_first s a w m) = Any.here s (threads a) w m.greedily
 rule_any R _ _ (MatchesRule.by_later s a w m) = Any.there s (threads a) w (rule_any R a w m)
 
-source_any : (G : WrittenGrammar) (source : Source) (name w : List ℕ) → SourceMatches G source name w → Any (lexer_rules G.rules) (threads (alts_of G source name)) w
+source_any : (G : WrittenGrammar) (source : Source) (name w : List ℕ) → SourceMatches G source name w
+    → Any (lexer_rules G.rules) (threads (alts_of G source name)) w
 source_any G Source.implicit name w e =
     let R : List LexerRule = lexer_rules G.rules in
     let s : LexerSeq = LexerSeq.next (LexerTerm.literal name) LexerSeq.done in
@@ -76,15 +78,18 @@ ended_none : (R : List LexerRule) (ks : List LexerSeq) (w : List ℕ) → ended 
 ended_none R [] w e a = elim a [ ]
 ended_none R (k ∷ ks) w e a = true≢false (sym e)
 
-end_of : (G : WrittenGrammar) (kinds : List TokenKind) (c : ℕ) (w : List ℕ) (i : ℕ) (kind : TokenKind) → slice_get kinds i ≡ Some kind → all_end c (states G kinds w) ≡ true → ended (moved c (run (kind_threads G kind) w)) ≡ true
+end_of : (G : WrittenGrammar) (kinds : List TokenKind) (c : ℕ) (w : List ℕ) (i : ℕ) (kind : TokenKind) → slice_get kinds i ≡ Some kind
+    → all_end c (states G kinds w) ≡ true → ended (moved c (run (kind_threads G kind) w)) ≡ true
 end_of G [] c w i kind is h = cc is
 end_of G (k ∷ kinds) c w zero kind is h =
     let same : k ≡ kind = cc in
     let P : TokenKind → Type 0 = λ x. ended (moved c (run (kind_threads G x) w)) ≡ true in
     subst P same (and_parts (ended (moved c (run (kind_threads G k) w))) (all_end c (states G kinds w)) h).0
-end_of G (k ∷ kinds) c w (suc i) kind is h = end_of G kinds c w i kind is (and_parts (ended (moved c (run (kind_threads G k) w))) (all_end c (states G kinds w)) h).1
+end_of G (k ∷ kinds) c w (suc i) kind is h =
+    end_of G kinds c w i kind is (and_parts (ended (moved c (run (kind_threads G k) w))) (all_end c (states G kinds w)) h).1
 
-end_of_other : (G : WrittenGrammar) (kinds : List TokenKind) (k c : ℕ) (w : List ℕ) (i : ℕ) (kind : TokenKind) → slice_get kinds i ≡ Some kind → others_end k c (states G kinds w) ≡ true
+end_of_other : (G : WrittenGrammar) (kinds : List TokenKind) (k c : ℕ) (w : List ℕ) (i : ℕ) (kind : TokenKind) → slice_get kinds i ≡ Some kind
+    → others_end k c (states G kinds w) ≡ true
     → (i ≡ k) ⊎ (ended (moved c (run (kind_threads G kind) w)) ≡ true)
 end_of_other G [] k c w i kind is h = cc is
 end_of_other G (x ∷ kinds) zero c w zero kind is h = inl refl
@@ -99,18 +104,21 @@ end_of_other G (x ∷ kinds) (suc k) c w (suc i) kind is h =
       | inr e ↦ inr e
     ]
 
-least_of : (G : WrittenGrammar) (kinds : List TokenKind) (k : ℕ) (w : List ℕ) (i : ℕ) (kind : TokenKind) → slice_get kinds i ≡ Some kind → none_below k (states G kinds w) ≡ true
+least_of : (G : WrittenGrammar) (kinds : List TokenKind) (k : ℕ) (w : List ℕ) (i : ℕ) (kind : TokenKind) → slice_get kinds i ≡ Some kind
+    → none_below k (states G kinds w) ≡ true
     → accepts (run (kind_threads G kind) w) ≡ true → k ≤ i
 least_of G [] k w i kind is h a = cc is
 least_of G (x ∷ kinds) zero w i kind is h a = omega arith
 least_of G (x ∷ kinds) (suc k) w zero kind is h a =
     let same : kind ≡ x = cc in
     let P : TokenKind → Type 0 = λ y. accepts (run (kind_threads G y) w) ≡ true in
-    absurd (not_both (accepts (run (kind_threads G x) w)) (and_parts (not (accepts (run (kind_threads G x) w))) (none_below k (states G kinds w)) h).0 (subst P same a))
+    absurd (not_both (accepts (run (kind_threads G x) w)) (and_parts (not (accepts (run (kind_threads G x) w))) (none_below k (states G kinds w)) h).0
+    (subst P same a))
 least_of G (x ∷ kinds) (suc k) w (suc i) kind is h a =
     omega (arith, least_of G kinds k w i kind is (and_parts (not (accepts (run (kind_threads G x) w))) (none_below k (states G kinds w)) h).1 a)
 
-nameless_of : (G : WrittenGrammar) (kinds : List TokenKind) (i : ℕ) (kind : TokenKind) → slice_get kinds i ≡ Some kind → kinds_nameless G kinds ≡ true → all_nameless (kind_threads G kind) ≡ true
+nameless_of : (G : WrittenGrammar) (kinds : List TokenKind) (i : ℕ) (kind : TokenKind) → slice_get kinds i ≡ Some kind → kinds_nameless G kinds ≡ true
+    → all_nameless (kind_threads G kind) ≡ true
 nameless_of G [] i kind is h = cc is
 nameless_of G (x ∷ kinds) zero kind is h =
     let same : x ≡ kind = cc in
@@ -119,7 +127,8 @@ nameless_of G (x ∷ kinds) zero kind is h =
 nameless_of G (x ∷ kinds) (suc i) kind is h = nameless_of G kinds i kind is (and_parts (all_nameless (kind_threads G x)) (kinds_nameless G kinds) h).1
 
 -- a beginning of a text is no longer than a piece, or goes on after it
-cut_at : (piece front back : List ℕ) (c : ℕ) (w : List ℕ) → piece ++ (c ∷ w) ≡ front ++ back → (length front ≤ length piece) ⊎ ((more : List ℕ) × (front ≡ piece ++ (c ∷ more)))
+cut_at : (piece front back : List ℕ) (c : ℕ) (w : List ℕ) → piece ++ (c ∷ w) ≡ front ++ back → (length front ≤ length piece)
+    ⊎ ((more : List ℕ) × (front ≡ piece ++ (c ∷ more)))
 cut_at [] [] back c w e = inl (omega arith)
 cut_at [] (d ∷ front) back c w e = let same : d ≡ c = cc in inr (front, ap (λ x. x ∷ front) same)
 cut_at (a ∷ piece) [] back c w e = inl (omega arith)
@@ -144,20 +153,23 @@ module _ (G : WrittenGrammar) (kinds : List TokenKind) (numbered : kinds_of G �
   found : (k : ℕ) (w : List ℕ) → KindMatches G k w → Found k w
   found k w (kind, is, m) = record { kind = kind; is = ap (λ l. slice_get l k) (sym numbered) ∙ is; any = source_any G kind.source kind.name w m }
 
-  no_more : (kind : TokenKind) (i : ℕ) (piece : List ℕ) (c : ℕ) (more : List ℕ) → slice_get kinds i ≡ Some kind → ended (moved c (run (kind_threads G kind) piece)) ≡ true → Any R (kind_threads G kind) (piece ++ (c ∷ more)) → ⊥
+  no_more : (kind : TokenKind) (i : ℕ) (piece : List ℕ) (c : ℕ) (more : List ℕ) → slice_get kinds i ≡ Some kind
+      → ended (moved c (run (kind_threads G kind) piece)) ≡ true → Any R (kind_threads G kind) (piece ++ (c ∷ more)) → ⊥
   no_more kind i piece c more is e a =
       let p : all_nameless (kind_threads G kind) ≡ true = nameless_of G kinds i kind is nameless in
       ended_none R (moved c (run (kind_threads G kind) piece)) more e
       (any_moved R (run (kind_threads G kind) piece) c more (run_nameless (kind_threads G kind) piece p) (any_run R (kind_threads G kind) piece (c ∷ more) p a))
 
   -- where all end, no kind matches more
-  pub ends_all : (piece : List ℕ) (c : ℕ) → all_end c (states G kinds piece) ≡ true → (other : ℕ) (more : List ℕ) → KindMatches G other (piece ++ (c ∷ more)) → ⊥
+  pub ends_all : (piece : List ℕ) (c : ℕ) → all_end c (states G kinds piece) ≡ true → (other : ℕ) (more : List ℕ) → KindMatches G other (piece ++ (c ∷ more))
+      → ⊥
   ends_all piece c h other more m =
       let it : Found other (piece ++ (c ∷ more)) = found other (piece ++ (c ∷ more)) m in
       no_more it.kind other piece c more it.is (end_of G kinds c piece other it.kind it.is h) it.any
 
   -- where all others end, only that kind can match more
-  pub ends_but : (k : ℕ) (piece : List ℕ) (c : ℕ) → others_end k c (states G kinds piece) ≡ true → ((more : List ℕ) → KindMatches G k (piece ++ (c ∷ more)) → ⊥) → (other : ℕ) (more : List ℕ) → KindMatches G other (piece ++ (c ∷ more)) → ⊥
+  pub ends_but : (k : ℕ) (piece : List ℕ) (c : ℕ) → others_end k c (states G kinds piece) ≡ true → ((more : List ℕ) → KindMatches G k (piece ++ (c ∷ more)) → ⊥)
+      → (other : ℕ) (more : List ℕ) → KindMatches G other (piece ++ (c ∷ more)) → ⊥
   ends_but k piece c h own other more m =
       let it : Found other (piece ++ (c ∷ more)) = found other (piece ++ (c ∷ more)) m in
       elim (end_of_other G kinds k c piece other it.kind it.is h) [

@@ -1,5 +1,6 @@
 -- Texts that are matched by the kinds of Mini, by a test for each.
-use Rattle.std.proofs.Common.{◌≡◌, ◌⊎◌, inl, inr, ℕ, Bool, true, false, ◌&&◌, ◌||◌, not, cond, nat_eq, List, [], ◌∷◌, ◌++◌, Option, Some, None, slice_get, codes, bytes_eq, refl, sym, ap, ◌∙◌, subst, append-nil, true≢false}
+use Rattle.std.proofs.Common.{◌≡◌, ◌⊎◌, inl, inr, ℕ, Bool, true, false, ◌&&◌, ◌||◌, not, cond, nat_eq, List, [], ◌∷◌, ◌++◌, Option, Some}
+use Rattle.std.proofs.Common.{None, slice_get, codes, bytes_eq, refl, sym, ap, ◌∙◌, subst, append-nil, true≢false}
 use Rattle.std.proofs.lemmas.Bool.{and_parts, eqb-true}
 use Rattle.std.proofs.lemmas.Slice.Eq.{bytes_eq-Decides}
 use Rattle.regex_class.specs.Ranges.{in_range, in_ranges}
@@ -9,7 +10,8 @@ use Rattle.grammar_tree.specs.Kinds.{lexer_rules}
 use Rattle.grammar_tree.specs.Faults.{AtLexerRule}
 use Rattle.grammar_tree.specs.Matches.{Matches, MatchesAlternative, MatchesAlts, MatchesMany, MatchesRule, MatchesSeq, is_short}
 use Rattle.grammar_tree.specs.Lexes.{KindMatches, SourceMatches}
-use Rattle.case_language.specs.Mini.{all_chars, blank_token, blanks, comment_token, digits, id_token, int_token, letters, letters_digits, line_chars, line_token, mini, plain_chars, str_token}
+use Rattle.case_language.specs.Mini.{all_chars, blank_token, blanks, comment_token, digits, id_token, int_token, letters}
+use Rattle.case_language.specs.Mini.{letters_digits, line_chars, line_token, mini, plain_chars, str_token}
 use Rattle.case_language.specs.inner.Mini.{string_part}
 use Rattle.case_language.proofs.Tests.{not_both, or_parts}
 use Rattle.case_language.proofs.Threads.{Any, accepts, any_accepts, any_run, moved, run, run_nameless}
@@ -110,10 +112,12 @@ string_of : (c : ℕ) → has plain_chars c ≡ true → MatchesRule R str_token
 string_of c h =
     let quote : LexerTerm = LexerTerm.literal (codes "\"") in
     let part : Matches R string_part (c ∷ []) =
-    Matches.by_block _ (c ∷ []) (MatchesAlts.by_first (LexerSeq.next (LexerTerm.set plain_chars) LexerSeq.done) _ (c ∷ []) (last_term (LexerTerm.set plain_chars) (c ∷ []) (Matches.by_set plain_chars c h))) in
+    Matches.by_block _ (c ∷ []) (MatchesAlts.by_first (LexerSeq.next (LexerTerm.set plain_chars) LexerSeq.done) _ (c ∷ [])
+    (last_term (LexerTerm.set plain_chars) (c ∷ []) (Matches.by_set plain_chars c h))) in
     let parts : MatchesMany R string_part (c ∷ []) = MatchesMany.by_more string_part (c ∷ []) [] part (MatchesMany.by_end string_part) in
     plainly _ (34 ∷ c ∷ 34 ∷ []) refl
-    (MatchesSeq.by_next quote (LexerSeq.next (LexerTerm.star string_part) (LexerSeq.next quote LexerSeq.done)) (34 ∷ []) (c ∷ 34 ∷ []) (Matches.by_literal (34 ∷ []))
+    (MatchesSeq.by_next quote (LexerSeq.next (LexerTerm.star string_part) (LexerSeq.next quote LexerSeq.done)) (34 ∷ []) (c ∷ 34 ∷ [])
+    (Matches.by_literal (34 ∷ []))
     (MatchesSeq.by_next (LexerTerm.star string_part) (LexerSeq.next quote LexerSeq.done) (c ∷ []) (34 ∷ []) (Matches.by_star string_part (c ∷ []) parts)
     (last_term quote (34 ∷ []) (Matches.by_literal (34 ∷ [])))))
 
@@ -143,7 +147,8 @@ never_early ks [] c v h a = not_both (accepts ks) (and_parts (not (accepts ks)) 
 never_early ks (d ∷ u) c v h a = never_early (moved d ks) u c v (and_parts (not (accepts ks)) (no_early (moved d ks) (u ++ (c ∷ v))) h).1 a
 
 abbrev comment_seq : LexerSeq
-comment_seq = LexerSeq.next (LexerTerm.literal (codes "/*")) (LexerSeq.next (LexerTerm.short all_chars) (LexerSeq.next (LexerTerm.literal (codes "*/")) LexerSeq.done))
+comment_seq =
+    LexerSeq.next (LexerTerm.literal (codes "/*")) (LexerSeq.next (LexerTerm.short all_chars) (LexerSeq.next (LexerTerm.literal (codes "*/")) LexerSeq.done))
 
 note_is_short : no_early (comment_seq ∷ []) note ≡ true
 unfolding in_ranges in_range
@@ -156,8 +161,10 @@ note_inside = refl
 note_seq : MatchesSeq R comment_seq note
 note_seq =
     let inner : LexerSeq = LexerSeq.next (LexerTerm.literal (codes "*/")) LexerSeq.done in
-    MatchesSeq.by_next (LexerTerm.literal (codes "/*")) (LexerSeq.next (LexerTerm.short all_chars) inner) (codes "/*") (codes " note */") (Matches.by_literal (codes "/*"))
-    (MatchesSeq.by_next (LexerTerm.short all_chars) inner (codes " note ") (codes "*/") (Matches.by_short all_chars (codes " note ") (many all_chars (codes " note ") note_inside))
+    MatchesSeq.by_next (LexerTerm.literal (codes "/*")) (LexerSeq.next (LexerTerm.short all_chars) inner) (codes "/*") (codes " note */")
+    (Matches.by_literal (codes "/*"))
+    (MatchesSeq.by_next (LexerTerm.short all_chars) inner (codes " note ") (codes "*/")
+    (Matches.by_short all_chars (codes " note ") (many all_chars (codes " note ") note_inside))
     (last_term (LexerTerm.literal (codes "*/")) (codes "*/") (Matches.by_literal (codes "*/"))))
 
 note_matches : MatchesRule R comment_token.alts note

@@ -1,5 +1,6 @@
 -- A lexer rule is matched character by character: what is left to match is a list of sequences, the threads.
-use Rattle.std.proofs.Common.{◌≡◌, ℕ, Bool, true, false, ◌&&◌, ◌||◌, cond, nat_eq, List, [], ◌∷◌, ◌++◌, refl, sym, ap, ◌∙◌, subst, append_assoc, append-nil, true≢false}
+use Rattle.std.proofs.Common.{◌≡◌, ℕ, Bool, true, false, ◌&&◌, ◌||◌, cond, nat_eq, List, [], ◌∷◌, ◌++◌, refl}
+use Rattle.std.proofs.Common.{sym, ap, ◌∙◌, subst, append_assoc, append-nil, true≢false}
 use Rattle.std.proofs.lemmas.Bool.{and_parts, and_from, eq-eqb}
 use Rattle.grammar_tree.specs.Chars.{has}
 use Rattle.grammar_tree.specs.Written.{LexerTerm, LexerSeq, LexerAlts, LexerRule}
@@ -82,7 +83,8 @@ all_nameless (k ∷ ks) = nameless_seq k && all_nameless ks
 both_nameless : (ks others : List LexerSeq) → all_nameless ks ≡ true → all_nameless others ≡ true → all_nameless (ks ++ others) ≡ true
 both_nameless [] others p q = q
 both_nameless (k ∷ ks) others p q =
-    let (one, other) = and_parts (nameless_seq k) (all_nameless ks) p in and_from (nameless_seq k) (all_nameless (ks ++ others)) one (both_nameless ks others other q)
+    let (one, other) =
+    and_parts (nameless_seq k) (all_nameless ks) p in and_from (nameless_seq k) (all_nameless (ks ++ others)) one (both_nameless ks others other q)
 
 choice_nameless : (b : Bool) (k : LexerSeq) → nameless_seq k ≡ true → all_nameless (cond b (k ∷ []) []) ≡ true
 choice_nameless true k p = and_from (nameless_seq k) true p refl
@@ -190,7 +192,8 @@ module _ (R : List LexerRule) where
     pub empty_found_seq : (s : LexerSeq) (u : List ℕ) → MatchesSeq R s u → nameless_seq s ≡ true → u ≡ [] → empty_seq s ≡ true
     empty_found_seq _ _ MatchesSeq.by_done p e = refl
     empty_found_seq _ _ (MatchesSeq.by_next t s [] v m ms) p e =
-        let (one, other) = and_parts (nameless t) (nameless_seq s) p in and_from (empty t) (empty_seq s) (empty_found t [] m one refl) (empty_found_seq s v ms other e)
+        let (one, other) =
+        and_parts (nameless t) (nameless_seq s) p in and_from (empty t) (empty_seq s) (empty_found t [] m one refl) (empty_found_seq s v ms other e)
     empty_found_seq _ _ (MatchesSeq.by_next t s (c ∷ u) v m ms) p e = cc e
 
     empty_found_alts : (a : LexerAlts) (u : List ℕ) → MatchesAlts R a u → nameless_alts a ≡ true → u ≡ [] → empty_alts a ≡ true
@@ -201,13 +204,15 @@ module _ (R : List LexerRule) where
 
   -- a character further
   mutual
-    pub stepped : (t : LexerTerm) (k : LexerSeq) (u : List ℕ) (c : ℕ) (w v : List ℕ) → Matches R t u → nameless t ≡ true → u ≡ c ∷ w → MatchesSeq R k v → Any (after c t k) (w ++ v)
+    pub stepped : (t : LexerTerm) (k : LexerSeq) (u : List ℕ) (c : ℕ) (w v : List ℕ) → Matches R t u → nameless t ≡ true → u ≡ c ∷ w → MatchesSeq R k v
+        → Any (after c t k) (w ++ v)
     stepped _ k _ c w v (Matches.by_literal []) p e n = cc e
     stepped _ k _ c w v (Matches.by_literal (d ∷ t)) p e n =
         let same : d ≡ c = cc in
         let rest : t ≡ w = cc in
         let P : List ℕ → Type 0 = λ x. MatchesSeq R (LexerSeq.next (LexerTerm.literal t) k) (x ++ v) in
-        chosen (nat_eq c d) (LexerSeq.next (LexerTerm.literal t) k) (w ++ v) (eq-eqb c d (sym same)) (subst P rest (MatchesSeq.by_next (LexerTerm.literal t) k t v (Matches.by_literal t) n))
+        chosen (nat_eq c d) (LexerSeq.next (LexerTerm.literal t) k) (w ++ v) (eq-eqb c d (sym same))
+        (subst P rest (MatchesSeq.by_next (LexerTerm.literal t) k t v (Matches.by_literal t) n))
     stepped _ k _ c w v (Matches.by_set s d h) p e n =
         let same : d ≡ c = cc in
         let rest : [] ≡ w = cc in
@@ -224,10 +229,12 @@ module _ (R : List LexerRule) where
         let rest : u1 ++ u2 ≡ w = cc in
         let P : List ℕ → Type 0 = λ x. Any (after c t (LexerSeq.next (LexerTerm.star t) k)) x in
         subst P (sym (append_assoc u1 u2 v) ∙ ap (λ x. x ++ v) rest)
-        (stepped t (LexerSeq.next (LexerTerm.star t) k) (d ∷ u1) c u1 (u2 ++ v) m p (ap (λ x. x ∷ u1) same) (MatchesSeq.by_next (LexerTerm.star t) k u2 v (Matches.by_star t u2 ms) n))
+        (stepped t (LexerSeq.next (LexerTerm.star t) k) (d ∷ u1) c u1 (u2 ++ v) m p (ap (λ x. x ∷ u1) same)
+        (MatchesSeq.by_next (LexerTerm.star t) k u2 v (Matches.by_star t u2 ms) n))
     stepped _ k _ c w v (Matches.by_short s u m) p e n = stepped_short s k u c w v m e n
 
-    stepped_many : (t : LexerTerm) (k : LexerSeq) (u : List ℕ) (c : ℕ) (w v : List ℕ) → MatchesMany R t u → nameless t ≡ true → u ≡ c ∷ w → MatchesSeq R k v → Any (after c t (LexerSeq.next (LexerTerm.star t) k)) (w ++ v)
+    stepped_many : (t : LexerTerm) (k : LexerSeq) (u : List ℕ) (c : ℕ) (w v : List ℕ) → MatchesMany R t u → nameless t ≡ true → u ≡ c ∷ w → MatchesSeq R k v
+        → Any (after c t (LexerSeq.next (LexerTerm.star t) k)) (w ++ v)
     stepped_many _ k _ c w v (MatchesMany.by_end t) p e n = cc e
     stepped_many _ k _ c w v (MatchesMany.by_more t [] u2 m ms) p e n = stepped_many t k u2 c w v ms p e n
     stepped_many _ k _ c w v (MatchesMany.by_more t (d ∷ u1) u2 m ms) p e n =
@@ -235,9 +242,11 @@ module _ (R : List LexerRule) where
         let rest : u1 ++ u2 ≡ w = cc in
         let P : List ℕ → Type 0 = λ x. Any (after c t (LexerSeq.next (LexerTerm.star t) k)) x in
         subst P (sym (append_assoc u1 u2 v) ∙ ap (λ x. x ++ v) rest)
-        (stepped t (LexerSeq.next (LexerTerm.star t) k) (d ∷ u1) c u1 (u2 ++ v) m p (ap (λ x. x ∷ u1) same) (MatchesSeq.by_next (LexerTerm.star t) k u2 v (Matches.by_star t u2 ms) n))
+        (stepped t (LexerSeq.next (LexerTerm.star t) k) (d ∷ u1) c u1 (u2 ++ v) m p
+        (ap (λ x. x ∷ u1) same) (MatchesSeq.by_next (LexerTerm.star t) k u2 v (Matches.by_star t u2 ms) n))
 
-    stepped_short : (s : List (ℕ × ℕ)) (k : LexerSeq) (u : List ℕ) (c : ℕ) (w v : List ℕ) → MatchesMany R (LexerTerm.set s) u → u ≡ c ∷ w → MatchesSeq R k v → Any (after c (LexerTerm.short s) k) (w ++ v)
+    stepped_short : (s : List (ℕ × ℕ)) (k : LexerSeq) (u : List ℕ) (c : ℕ) (w v : List ℕ) → MatchesMany R (LexerTerm.set s) u → u ≡ c ∷ w → MatchesSeq R k v
+        → Any (after c (LexerTerm.short s) k) (w ++ v)
     stepped_short s k _ c w v (MatchesMany.by_end _) e n = cc e
     stepped_short s k _ c w v (MatchesMany.by_more _ u1 u2 m ms) e n =
         let (d, is, h) = ((by_form R).set s u1).0 m in
@@ -245,9 +254,11 @@ module _ (R : List LexerRule) where
         let same : d ≡ c = cc in
         let rest : u2 ≡ w = cc in
         let P : List ℕ → Type 0 = λ x. MatchesSeq R (LexerSeq.next (LexerTerm.short s) k) (x ++ v) in
-        chosen (has s c) (LexerSeq.next (LexerTerm.short s) k) (w ++ v) (ap (has s) (sym same) ∙ h) (subst P rest (MatchesSeq.by_next (LexerTerm.short s) k u2 v (Matches.by_short s u2 ms) n))
+        chosen (has s c) (LexerSeq.next (LexerTerm.short s) k) (w ++ v) (ap (has s) (sym same) ∙ h)
+        (subst P rest (MatchesSeq.by_next (LexerTerm.short s) k u2 v (Matches.by_short s u2 ms) n))
 
-    pub stepped_seq : (s k : LexerSeq) (u : List ℕ) (c : ℕ) (w v : List ℕ) → MatchesSeq R s u → nameless_seq s ≡ true → u ≡ c ∷ w → MatchesSeq R k v → Any (after_seq c s k) (w ++ v)
+    pub stepped_seq : (s k : LexerSeq) (u : List ℕ) (c : ℕ) (w v : List ℕ) → MatchesSeq R s u → nameless_seq s ≡ true → u ≡ c ∷ w → MatchesSeq R k v
+        → Any (after_seq c s k) (w ++ v)
     stepped_seq _ k _ c w v MatchesSeq.by_done p e n = cc e
     stepped_seq _ k _ c w v (MatchesSeq.by_next t s [] u2 m ms) p e n =
         let (one, other) = and_parts (nameless t) (nameless_seq s) p in
@@ -263,11 +274,14 @@ module _ (R : List LexerRule) where
         (subst P (sym (append_assoc u1 u2 v) ∙ ap (λ x. x ++ v) rest)
         (stepped t (joined s k) (d ∷ u1) c u1 (u2 ++ v) m one (ap (λ x. x ∷ u1) same) (joined_match s k u2 v ms n)))
 
-    stepped_alts : (a : LexerAlts) (k : LexerSeq) (u : List ℕ) (c : ℕ) (w v : List ℕ) → MatchesAlts R a u → nameless_alts a ≡ true → u ≡ c ∷ w → MatchesSeq R k v → Any (after_alts c a k) (w ++ v)
+    stepped_alts : (a : LexerAlts) (k : LexerSeq) (u : List ℕ) (c : ℕ) (w v : List ℕ) → MatchesAlts R a u → nameless_alts a ≡ true → u ≡ c ∷ w
+        → MatchesSeq R k v → Any (after_alts c a k) (w ++ v)
     stepped_alts _ k _ c w v (MatchesAlts.by_first s a u m) p e n =
-        let (one, other) = and_parts (nameless_seq s) (nameless_alts a) p in left_any (after_seq c s k) (after_alts c a k) (w ++ v) (stepped_seq s k u c w v m one e n)
+        let (one, other) =
+        and_parts (nameless_seq s) (nameless_alts a) p in left_any (after_seq c s k) (after_alts c a k) (w ++ v) (stepped_seq s k u c w v m one e n)
     stepped_alts _ k _ c w v (MatchesAlts.by_later s a u m) p e n =
-        let (one, other) = and_parts (nameless_seq s) (nameless_alts a) p in right_any (after_seq c s k) (after_alts c a k) (w ++ v) (stepped_alts a k u c w v m other e n)
+        let (one, other) =
+        and_parts (nameless_seq s) (nameless_alts a) p in right_any (after_seq c s k) (after_alts c a k) (w ++ v) (stepped_alts a k u c w v m other e n)
 
   -- what a thread matches is matched by a thread after its first character, and so on
   pub any_moved : (ks : List LexerSeq) (c : ℕ) (w : List ℕ) → all_nameless ks ≡ true → Any ks (c ∷ w) → Any (moved c ks) w

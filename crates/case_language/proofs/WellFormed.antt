@@ -1,5 +1,6 @@
 -- Mini is well-formed.
-use Rattle.std.proofs.Common.{◌≡◌, inl, inr, ℕ, zero, suc, ◌+◌, ◌<◌, ◌≤◌, Bool, true, false, ◌&&◌, ◌||◌, not, cond, List, [], ◌∷◌, map, filter, Some, slice_get, refl, sym, ap, ◌∙◌, subst, arith, true≢false}
+use Rattle.std.proofs.Common.{◌≡◌, inl, inr, ℕ, zero, suc, ◌+◌, ◌<◌, ◌≤◌, Bool, true, false, ◌&&◌, ◌||◌, not, cond, List, [], ◌∷◌}
+use Rattle.std.proofs.Common.{map, filter, Some, slice_get, refl, sym, ap, ◌∙◌, subst, arith, true≢false}
 use Rattle.std.specs.Prelude.{count_by}
 use Rattle.std.specs.List.{Contains}
 use Rattle.std.proofs.lemmas.Bool.{and_parts}
@@ -10,14 +11,17 @@ use Rattle.grammar_tree.specs.Kinds.{lexer_rules, parser_rules, rule_name, same_
 use Rattle.grammar_tree.specs.Matches.{Matches}
 use Rattle.grammar_tree.specs.Derives.{Alts, DerivesAlts, resolved_alts}
 use Rattle.grammar_tree.specs.Corners.{HasEmptyLoopAlts, IsLeftCorner, LeadsTo, bases, normal_count, rests}
-use Rattle.grammar_tree.specs.Faults.{EmptyLoop, EmptyToken, EofPlace, FragmentLoop, IsUnknown, IsWellFormed, LeftRecursion, LexerHasEmptyLoop, LexerHasEmptyLoopAlts, LexerHasEmptyLoopSeq, NameUse, NoBase, NoRule, ShortUse, TooManyRules, TwoRules, Uses, UsesThrough, any_has_eof, is_misplaced, name_uses, number_at, used_names}
+use Rattle.grammar_tree.specs.Faults.{EmptyLoop, EmptyToken, EofPlace, FragmentLoop, IsUnknown, IsWellFormed, LeftRecursion, LexerHasEmptyLoop}
+use Rattle.grammar_tree.specs.Faults.{LexerHasEmptyLoopAlts, LexerHasEmptyLoopSeq, NameUse, NoBase, NoRule, ShortUse, TooManyRules, TwoRules, Uses}
+use Rattle.grammar_tree.specs.Faults.{UsesThrough, any_has_eof, is_misplaced, name_uses, number_at, used_names}
 use Rattle.grammar_tree.proofs.Lent.{contains_at, contains_later, lexer_places, numbers}
 use Rattle.case_language.specs.Mini.{mini}
 use Rattle.case_language.proofs.Tests.{neither, not_both, not_false, or_parts}
 use Rattle.case_language.proofs.Threads.{accepts, all_nameless, any_accepts, empty, empty_found, nameless}
 use Rattle.case_language.proofs.Scan.{rule_any, threads}
 use Rattle.case_language.proofs.MiniKinds.{bodies_mini, mini_bodies}
-use Rattle.case_language.proofs.Emptiness.{below_alts, empty_alts as empties, first_below_alts, flags_hold, implied, implies, loops_fill_alts, may_empty_alts, no_loop_alts, rule_fits, rules_fit, some_alts}
+use Rattle.case_language.proofs.Emptiness.{below_alts, empty_alts as empties, first_below_alts, flags_hold, implied, implies}
+use Rattle.case_language.proofs.Emptiness.{loops_fill_alts, may_empty_alts, no_loop_alts, rule_fits, rules_fit, some_alts}
 
 abbrev R : List LexerRule
 R = lexer_rules mini.rules
@@ -62,8 +66,10 @@ fits_at [] first i r a e h is = cc is
 fits_at (b ∷ G) first zero r a e h is =
     let same : b ≡ a = cc in
     let number : first ≡ r = omega (arith, e) in
-    fits r a (subst (λ x. rule_fits flags rank r x ≡ true) same (subst (λ x. rule_fits flags rank x b ≡ true) number (and_parts (rule_fits flags rank first b) (rules_fit flags rank (suc first) G) h).0))
-fits_at (b ∷ G) first (suc i) r a e h is = fits_at G (suc first) i r a (omega (arith, e)) (and_parts (rule_fits flags rank first b) (rules_fit flags rank (suc first) G) h).1 is
+    fits r a (subst (λ x. rule_fits flags rank r x ≡ true) same
+    (subst (λ x. rule_fits flags rank x b ≡ true) number (and_parts (rule_fits flags rank first b) (rules_fit flags rank (suc first) G) h).0))
+fits_at (b ∷ G) first (suc i) r a e h is =
+    fits_at G (suc first) i r a (omega (arith, e)) (and_parts (rule_fits flags rank first b) (rules_fit flags rank (suc first) G) h).1 is
 
 -- a body of a parser rule, and what fits of it
 record Body (i : ℕ) (rule : ParserRule) : Type 0 where
@@ -80,11 +86,13 @@ has_bases : (i : ℕ) → ¬ NoBase mini i
 has_bases i (rule, is, none) = true≢false (sym (body i rule is).it.base ∙ ap some_alts none)
 
 corner : (r q : ℕ) → IsLeftCorner mini_bodies r q → rank q < rank r
-corner r q (IsLeftCorner.in_base a is b) = below_alts flags mini_bodies holds rank (rank r) q (bases r a) (fits_at mini_bodies 0 r r a (omega arith) fit is).first b
+corner r q (IsLeftCorner.in_base a is b) =
+    below_alts flags mini_bodies holds rank (rank r) q (bases r a) (fits_at mini_bodies 0 r r a (omega arith) fit is).first b
 corner r q (IsLeftCorner.in_rest a is m b) =
     let it : Fits r a = fits_at mini_bodies 0 r r a (omega arith) fit is in
     let empty : may_empty_alts flags (bases r a) ≡ true = empties flags mini_bodies holds (bases r a) [] m refl in
-    below_alts flags mini_bodies holds rank (rank r) q (rests r a) (implied (may_empty_alts flags (bases r a)) (first_below_alts flags rank (rank r) (rests r a)) it.later empty) b
+    below_alts flags mini_bodies holds rank (rank r) q (rests r a)
+    (implied (may_empty_alts flags (bases r a)) (first_below_alts flags rank (rank r) (rests r a)) it.later empty) b
 
 corners : (r q : ℕ) → LeadsTo mini_bodies r q → rank q < rank r
 corners _ _ (LeadsTo.by_corner r q c) = corner r q c
@@ -184,11 +192,13 @@ token_at i rule is =
 
 no_empty_loop : (i : ℕ) → ¬ EmptyLoop mini i
 no_empty_loop i (inl (rule, is, inl l)) =
-    no_loop_alts flags mini_bodies holds (resolved_alts mini rule.alts) (body i rule is).it.loops (subst (λ x. HasEmptyLoopAlts x (resolved_alts mini rule.alts)) bodies_mini l)
+    no_loop_alts flags mini_bodies holds (resolved_alts mini rule.alts) (body i rule is).it.loops
+    (subst (λ x. HasEmptyLoopAlts x (resolved_alts mini rule.alts)) bodies_mini l)
 no_empty_loop i (inl (rule, is, inr m)) =
     let n : ℕ = number_at mini i in
     let a : Alts = resolved_alts mini rule.alts in
-    not_both (may_empty_alts flags (rests n a)) (body i rule is).it.rest (empties flags mini_bodies holds (rests n a) [] (subst (λ x. DerivesAlts x (rests n a) []) bodies_mini m) refl)
+    not_both (may_empty_alts flags (rests n a)) (body i rule is).it.rest
+    (empties flags mini_bodies holds (rests n a) [] (subst (λ x. DerivesAlts x (rests n a) []) bodies_mini m) refl)
 no_empty_loop i (inr (rule, is, l)) = no_lex_loop_alts rule.alts (token_at i rule is).loops l
 
 no_empty_token : (i : ℕ) → ¬ EmptyToken mini i
@@ -219,7 +229,8 @@ without_eof [] = true
 without_eof (WrittenRule.parser_rule r ∷ rules) = not (any_has_eof r.alts) && without_eof rules
 without_eof (WrittenRule.lexer_rule r ∷ rules) = without_eof rules
 
-eof_at : (rules : List WrittenRule) (i : ℕ) (r : ParserRule) → without_eof rules ≡ true → slice_get rules i ≡ Some (WrittenRule.parser_rule r) → not (any_has_eof r.alts) ≡ true
+eof_at : (rules : List WrittenRule) (i : ℕ) (r : ParserRule) → without_eof rules ≡ true → slice_get rules i ≡ Some (WrittenRule.parser_rule r)
+    → not (any_has_eof r.alts) ≡ true
 eof_at [] i r h is = cc is
 eof_at (WrittenRule.parser_rule s ∷ rules) zero r h is =
     let same : r ≡ s = cc in ap (λ (x : ParserRule). not (any_has_eof x.alts)) same ∙ (and_parts (not (any_has_eof s.alts)) (without_eof rules) h).0
@@ -297,7 +308,8 @@ count_none name (r ∷ rules) h =
 
 count_one : (name : List ℕ) (rules : List WrittenRule) → distinct rules ≡ true → count_by (is_named name) rules ≤ 1
 count_one name [] h = omega arith
-count_one name (r ∷ rules) h = pick (is_named name r) refl (count_one name rules (and_parts (not (among (rule_name r) (map rule_name rules))) (distinct rules) h).1)
+count_one name (r ∷ rules) h =
+    pick (is_named name r) refl (count_one name rules (and_parts (not (among (rule_name r) (map rule_name rules))) (distinct rules) h).1)
   where
     apart : not (among (rule_name r) (map rule_name rules)) ≡ true
     apart = (and_parts (not (among (rule_name r) (map rule_name rules))) (distinct rules) h).0
@@ -305,7 +317,8 @@ count_one name (r ∷ rules) h = pick (is_named name r) refl (count_one name rul
     pick : (b : Bool) → is_named name r ≡ b → count_by (is_named name) rules ≤ 1 → count_by (is_named name) (r ∷ rules) ≤ 1
     pick true e few =
         let same : rule_name r ≡ name = (bytes_eq-Decides (rule_name r) name).0 e in
-        let others : among name (map rule_name rules) ≡ false = ap (λ n. among n (map rule_name rules)) (sym same) ∙ not_false (among (rule_name r) (map rule_name rules)) apart in
+        let others : among name (map rule_name rules) ≡ false =
+        ap (λ n. among n (map rule_name rules)) (sym same) ∙ not_false (among (rule_name r) (map rule_name rules)) apart in
         let first : weight name r ≡ 1 = ap (λ b. cond b 1 0) e in
         omega (arith, sum_by-cons (weight name) r rules, first, count_none name rules others)
     pick false e few =

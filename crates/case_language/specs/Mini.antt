@@ -31,7 +31,8 @@ file_rule = rule (codes "file") ((WrittenTerm.star (name (codes "func")) ∷ Wri
 -- func : type ID '(' params? ')' block ;
 abbrev func_rule : WrittenRule
 func_rule =
-    rule (codes "func") ((name (codes "type") ∷ id ∷ literal (codes "(") ∷ WrittenTerm.opt (name (codes "params")) ∷ literal (codes ")") ∷ name (codes "block") ∷ []) ∷ [])
+    rule (codes "func")
+    ((name (codes "type") ∷ id ∷ literal (codes "(") ∷ WrittenTerm.opt (name (codes "params")) ∷ literal (codes ")") ∷ name (codes "block") ∷ []) ∷ [])
 
 -- params : type ID (',' type ID)* ;
 abbrev params_rule : WrittenRule
@@ -54,7 +55,8 @@ stmt_rule =
     -- ID '=' expr ';'
     ∷ (id ∷ literal (codes "=") ∷ expr ∷ literal (codes ";") ∷ [])
     -- 'if' '(' expr ')' block ('else' block)?
-    ∷ (literal (codes "if") ∷ literal (codes "(") ∷ expr ∷ literal (codes ")") ∷ name (codes "block") ∷ WrittenTerm.opt (block ((literal (codes "else") ∷ name (codes "block") ∷ []) ∷ [])) ∷ [])
+    ∷ (literal (codes "if") ∷ literal (codes "(") ∷ expr ∷ literal (codes ")") ∷ name (codes "block") ∷ WrittenTerm.opt
+    (block ((literal (codes "else") ∷ name (codes "block") ∷ []) ∷ [])) ∷ [])
     -- 'while' '(' expr ')' block
     ∷ (literal (codes "while") ∷ literal (codes "(") ∷ expr ∷ literal (codes ")") ∷ name (codes "block") ∷ [])
     -- 'return' expr? ';'
@@ -71,7 +73,8 @@ expr_rule =
     -- expr ('+' | '-') expr
     ∷ (expr ∷ block ((literal (codes "+") ∷ []) ∷ (literal (codes "-") ∷ []) ∷ []) ∷ expr ∷ [])
     -- ID '(' (expr (',' expr)*)? ')'
-    ∷ (id ∷ literal (codes "(") ∷ WrittenTerm.opt (block ((expr ∷ WrittenTerm.star (block ((literal (codes ",") ∷ expr ∷ []) ∷ [])) ∷ []) ∷ [])) ∷ literal (codes ")") ∷ [])
+    ∷ (id ∷ literal (codes "(") ∷ WrittenTerm.opt (block ((expr ∷ WrittenTerm.star (block ((literal (codes ",") ∷ expr ∷ []) ∷ [])) ∷ []) ∷ [])) ∷ literal
+    (codes ")") ∷ [])
     -- '(' expr ')'
     ∷ (literal (codes "(") ∷ expr ∷ literal (codes ")") ∷ [])
     ∷ (id ∷ [])

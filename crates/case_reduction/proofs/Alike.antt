@@ -1,5 +1,6 @@
 -- A reduction over records that a rule made is the reduction over the rule.
-use Rattle.std.proofs.Common.{◌≡◌, ◌∙◌, ℕ, Bool, true, false, List, [], ◌∷◌, ◌++◌, All, Option, Some, None, IsSome, refl, sym, ap, subst, bytes_eq, length, if◌then◌else◌}
+use Rattle.std.proofs.Common.{◌≡◌, ◌∙◌, ℕ, Bool, true, false, List, [], ◌∷◌, ◌++◌, All, Option, Some, None}
+use Rattle.std.proofs.Common.{IsSome, refl, sym, ap, subst, bytes_eq, length, if◌then◌else◌}
 use Rattle.std.specs.List.{AllByRecursion}
 use Rattle.std.proofs.lemmas.List.Elements.{recursion_from_All}
 use Rattle.std.proofs.lemmas.Slice.Eq.{bytes_eq-Decides}
@@ -28,11 +29,13 @@ abbrev pub BySaid : List Record → Type 0
 BySaid records = All (λ (r : Record). r.verdict ≡ rule_verdict 23121 r.text) records
 
 -- what such records say is what the rule says
-said : (records : List Record) → AllByRecursion (λ (r : Record). r.verdict ≡ rule_verdict 23121 r.text) records → (text : List ℕ) (v : Verdict) → verdict_in records text ≡ Some v → v ≡ rule_verdict 23121 text
+said : (records : List Record) → AllByRecursion (λ (r : Record). r.verdict ≡ rule_verdict 23121 r.text) records → (text : List ℕ) (v : Verdict)
+    → verdict_in records text ≡ Some v → v ≡ rule_verdict 23121 text
 said [] by text v is = absurd (cc is)
 said (r ∷ records) by text v is = go (bytes_eq text r.text) refl is (said records by.1 text v)
   where
-    go : (b : Bool) → bytes_eq text r.text ≡ b → (if b then Some r.verdict else verdict_in records text) ≡ Some v → (verdict_in records text ≡ Some v → v ≡ rule_verdict 23121 text) → v ≡ rule_verdict 23121 text
+    go : (b : Bool) → bytes_eq text r.text ≡ b → (if b then Some r.verdict else verdict_in records text) ≡ Some v
+        → (verdict_in records text ≡ Some v → v ≡ rule_verdict 23121 text) → v ≡ rule_verdict 23121 text
     go true same is later =
         let one : r.verdict ≡ v = cc is in
         sym one ∙ by.0 ∙ sym (ap (rule_verdict 23121) ((bytes_eq-Decides text r.text).0 same))
@@ -61,15 +64,18 @@ module _ (mode : TreeMode) (input : TreeInput) where
   -- the summary of a reduction
   abbrev summary_of : rounds.Reduction TreeState → List ℕ
   summary_of r =
-      four_lines (weight input.whole) (weight r.state.tree) (length input.start) (length (text_of_state input r.state)) (capped_count r.rounds) (capped_count (length r.questions))
+      four_lines (weight input.whole) (weight r.state.tree) (length input.start) (length (text_of_state input r.state)) (capped_count r.rounds)
+      (capped_count (length r.questions))
       ++ text_of_state input r.state
 
   module _ (alike : AgreeingMapsReduceAlike (recursion_of [] problem)) where
     -- the reduction over a map that agrees with the rule is that over the rule
-    same_reduction : (V : List ℕ → Option Verdict) → Agree V rule_map → HasVerdicts V (questions_of [] problem V) → reduction_of [] problem V ≡ reduction_of [] problem rule_map
+    same_reduction : (V : List ℕ → Option Verdict) → Agree V rule_map → HasVerdicts V (questions_of [] problem V)
+        → reduction_of [] problem V ≡ reduction_of [] problem rule_map
     same_reduction V agrees defined = alike V rule_map agrees defined (rule_says (questions_of [] problem rule_map))
 
-    same_summary : (V : List ℕ → Option Verdict) → Agree V rule_map → HasVerdicts V (questions_of [] problem V) → summary_text problem V ≡ summary_text problem rule_map
+    same_summary : (V : List ℕ → Option Verdict) → Agree V rule_map → HasVerdicts V (questions_of [] problem V)
+        → summary_text problem V ≡ summary_text problem rule_map
     same_summary V agrees defined = ap summary_of (same_reduction V agrees defined)
 
     module _ (records : List Record) (by : BySaid records) where
@@ -88,7 +94,8 @@ module _ (mode : TreeMode) (input : TreeInput) where
             candidate = subst (λ (t : List ℕ). IsCandidate input t) ends is.candidate;
             minimal = λ other edit lists.
                 rule_too records by (text_of_state input other) No
-                (is.minimal other (subst (λ (r : rounds.Reduction TreeState). IsEditIn (IsEditBy mode input.form input.symbol) r.state other) (sym one) edit) lists);
+                (is.minimal other (subst (λ (r : rounds.Reduction TreeState). IsEditIn (IsEditBy mode input.form input.symbol) r.state other) (sym one) edit)
+                lists);
           }
 
       -- the lines and the text are the summary over each map that agrees with the rule

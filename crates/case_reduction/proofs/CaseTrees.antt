@@ -24,7 +24,9 @@ module _ (grammar : CheckedGrammar) (text : List ℕ) (found : ParsedInput) (is 
   pub found_in : MakesInputOf grammar text found → length text ≤ text_limit → IsFoundIn found
   found_in makes short = record {
     checked = checked;
-    parsed = subst (λ (t : List ℕ). IsParsed found.lexer t found) (sym parsed.same_text) (subst (λ (g : CheckedGrammar). IsParsed g text found) (sym parsed.same_grammar) parsed);
+    parsed =
+        subst (λ (t : List ℕ). IsParsed found.lexer t found) (sym parsed.same_text)
+        (subst (λ (g : CheckedGrammar). IsParsed g text found) (sym parsed.same_grammar) parsed);
     kinds = (makes checked.well_formed (λ kept text. true) false).is_input.kinds_are;
     short = subst (λ (t : List ℕ). length t ≤ text_limit) (sym parsed.same_text) short;
   }
@@ -34,7 +36,8 @@ pub short : (text : List ℕ) (size : ℕ) → size ≤ 1500 → length text ≤
 short text size most within = omega (arith, most, within)
 
 -- what is found in a program is its problem
-pub is_case : (mode : TreeMode) (number size : ℕ) (grammar : CheckedGrammar) (found : ParsedInput) → Spells mini_text None grammar → IsParsed grammar (case_text number size) found → MakesInputOf grammar (case_text number size) found
+pub is_case : (mode : TreeMode) (number size : ℕ) (grammar : CheckedGrammar) (found : ParsedInput) → Spells mini_text None grammar
+    → IsParsed grammar (case_text number size) found → MakesInputOf grammar (case_text number size) found
     → (problem : Problem) × IsReadAs [] (read.Tree found mode false) problem × IsCaseProblem mode number size problem
 is_case mode number size grammar found spelled parsed makes =
     let formed : IsWellFormed found.lexer.grammar found.lexer.start = (checked grammar (case_text number size) found spelled.checked parsed).well_formed in
@@ -53,5 +56,6 @@ is_case mode number size grammar found spelled parsed makes =
     )
 
 -- the problem begins with the program
-pub begins_with_case : (mode : TreeMode) (number size : ℕ) (problem : Problem) → IsCaseProblem mode number size problem → start_of problem ≡ case_text number size
+pub begins_with_case : (mode : TreeMode) (number size : ℕ) (problem : Problem) → IsCaseProblem mode number size problem
+    → start_of problem ≡ case_text number size
 begins_with_case mode number size problem of = ap start_of of.is_problem ∙ of.of_case.same_text

@@ -32,16 +32,19 @@ spelled_once only one other spells also =
     ∙ ap (made other.grammar other.kinds) start
 
 -- a program has one problem in a mode
-problem_once : SpellsOnly mini_text mini → InputsAreOne → (mode : TreeMode) (number size : ℕ) (one other : Problem) → IsCaseProblem mode number size one → IsCaseProblem mode number size other → one ≡ other
+problem_once : SpellsOnly mini_text mini → InputsAreOne → (mode : TreeMode) (number size : ℕ) (one other : Problem) → IsCaseProblem mode number size one
+    → IsCaseProblem mode number size other → one ≡ other
 problem_once only inputs mode number size one other of also =
     let same : of.grammar ≡ also.grammar = spelled_once only of.grammar also.grammar of.spelled also.spelled in
     let moved = subst (λ (g : CheckedGrammar). IsInputOf g (case_text number size) of.input) same of.of_case in
-    let input : of.input ≡ also.input = inputs also.grammar (case_text number size) of.input also.input moved also.of_case (of.admits ∙ sym also.admits) (of.plain ∙ sym also.plain) in
+    let input : of.input ≡ also.input =
+    inputs also.grammar (case_text number size) of.input also.input moved also.of_case (of.admits ∙ sym also.admits) (of.plain ∙ sym also.plain) in
     of.is_problem ∙ ap (λ (i : TreeInput). Problem.of_tree mode i) input ∙ sym also.is_problem
 
 pub summaries_are_one : SpellsOnly mini_text mini → InputsAreOne → SummariesAreOne
 summaries_are_one only inputs mode number size one other of also =
-    over of ∙ ap (λ (p : Problem). summary_text p rule_map) (problem_once only inputs mode number size of.problem also.problem of.of_case also.of_case) ∙ sym (over also)
+    over of ∙ ap (λ (p : Problem). summary_text p rule_map) (problem_once only inputs mode number size of.problem also.problem of.of_case also.of_case)
+    ∙ sym (over also)
   where
     over : {text : List ℕ} (is : IsSummary mode number size text) → text ≡ summary_text is.problem rule_map
     over is = is.is_summary rule_map (λ t here there. refl) (rule_says (questions_of [] is.problem rule_map))

@@ -38,25 +38,30 @@ never_rose count (inl less) = omega (arith, less)
 never_rose count (inr full) = omega (arith, full)
 
 -- of workers whose gates never fail
-none_rose : {G : Type 0} (counts : List ℕ) (log : G → Option Log) (workers : List (Worker G)) (index : ℕ) → RoseAtIndex counts (fault_counts_of (seen_gates log (λ _. 0) workers)) index → ⊥
+none_rose : {G : Type 0} (counts : List ℕ) (log : G → Option Log) (workers : List (Worker G)) (index : ℕ)
+    → RoseAtIndex counts (fault_counts_of (seen_gates log (λ _. 0) workers)) index → ⊥
 none_rose [] log workers index rose = rose
 none_rose (count ∷ counts) log [] index rose = rose
 none_rose (count ∷ counts) log (w ∷ workers) zero rose = never_rose count rose
 none_rose (count ∷ counts) log (w ∷ workers) (suc index) rose = none_rose counts log workers index rose
 
 -- the rule doesn't refuse a text that it says yes to
-not_refused : (records : List Record) → AllByRecursion (λ (r : Record). r.verdict ≡ rule_verdict 23121 r.text) records → (start : List ℕ) → rule_verdict 23121 start ≡ Yes → FirstIs start No records → ⊥
+not_refused : (records : List Record) → AllByRecursion (λ (r : Record). r.verdict ≡ rule_verdict 23121 r.text) records → (start : List ℕ)
+    → rule_verdict 23121 start ≡ Yes → FirstIs start No records → ⊥
 not_refused [] by start is first = first
 not_refused (r ∷ records) by start is first =
     let no : No ≡ Yes = sym first.1 ∙ by.0 ∙ ap (rule_verdict 23121) first.0 ∙ is in
     cc
 
-module _ (mode : TreeMode) (number size : ℕ) (problem : Problem) (of : IsCaseProblem mode number size problem) (run : Run) (by : BySaid (records_of run.history)) where
+module _ (mode : TreeMode) (number size : ℕ) (problem : Problem) (of : IsCaseProblem mode number size problem) (run : Run)
+    (by : BySaid (records_of run.history)) where
   -- it fails only where memory runs out
-  pub only_memory : {G : Type 0} (log : G → Option Log) (workers : List (Worker G)) → run.after.gates ≡ seen_gates log (λ _. 0) workers → run.after.journal.faults ≡ 0
+  pub only_memory : {G : Type 0} (log : G → Option Log) (workers : List (Worker G)) → run.after.gates ≡ seen_gates log (λ _. 0) workers
+      → run.after.journal.faults ≡ 0
       → CasesGetYes → 1 ≤ size → (fault : RunFault) → RunFails [] problem run fault → fault ≡ run_fault.Memory
   only_memory log workers gates quiet get_yes some run_fault.NotInteresting why =
-      absurd (not_refused (records_of run.history) (recursion_from_All _ (records_of run.history) by) (start_of problem) (ap (rule_verdict 23121) (begins_with_case mode number size problem of) ∙ get_yes number size some) why.0.first)
+      absurd (not_refused (records_of run.history) (recursion_from_All _ (records_of run.history) by) (start_of problem)
+      (ap (rule_verdict 23121) (begins_with_case mode number size problem of) ∙ get_yes number size some) why.0.first)
   only_memory log workers gates quiet get_yes some (run_fault.Script worker) why =
       let counts = fault_counts_of run.before.gates in
       absurd (none_rose counts log workers why.0.0 (subst (λ (after : List SeenGate). RoseAtIndex counts (fault_counts_of after) why.0.0) gates why.0.2))
@@ -65,11 +70,14 @@ module _ (mode : TreeMode) (number size : ℕ) (problem : Problem) (of : IsCaseP
   only_memory log workers gates quiet get_yes some run_fault.Memory why = refl
 
   -- the report's first lines and the text are the summary
-  pub is_summary : ProblemsReduceAlike → (text : List ℕ) (counts : Counts) → ReducesFrom run.workers [] problem run.history text counts → IsSummary mode number size (first_lines counts ++ text)
+  pub is_summary : ProblemsReduceAlike → (text : List ℕ) (counts : Counts) → ReducesFrom run.workers [] problem run.history text counts
+      → IsSummary mode number size (first_lines counts ++ text)
   is_summary alike text counts came =
       let records : List Record = records_of run.history in
-      let reduced : IsReductionOf [] (verdict_in records) (Problem.of_tree mode of.input) text = subst (λ (p : Problem). IsReductionOf [] (verdict_in records) p text) of.is_problem came.reduced in
-      let is_counts : counts ≡ counts_of [] (Problem.of_tree mode of.input) records = came.is_counts ∙ ap (λ (p : Problem). counts_of [] p records) of.is_problem in
+      let reduced : IsReductionOf [] (verdict_in records) (Problem.of_tree mode of.input) text =
+      subst (λ (p : Problem). IsReductionOf [] (verdict_in records) p text) of.is_problem came.reduced in
+      let is_counts : counts ≡ counts_of [] (Problem.of_tree mode of.input) records =
+      came.is_counts ∙ ap (λ (p : Problem). counts_of [] p records) of.is_problem in
       record {
         problem = Problem.of_tree mode of.input;
         of_case = subst (IsCaseProblem mode number size) of.is_problem of;
@@ -78,20 +86,27 @@ module _ (mode : TreeMode) (number size : ℕ) (problem : Problem) (of : IsCaseP
       }
 
 -- A run of what was read of the program, without keep texts.
-module _ (mode : TreeMode) (number size : ℕ) (read : ReadProblem) (of : (problem : Problem) × IsReadAs [] read problem × IsCaseProblem mode number size problem) (keeps : List (List ℕ)) (none : keeps ≡ [])
+module _ (mode : TreeMode) (number size : ℕ) (read : ReadProblem) (of : (problem : Problem) × IsReadAs [] read problem × IsCaseProblem mode number size problem)
+    (keeps : List (List ℕ)) (none : keeps ≡ [])
     (run : Run) (by : BySaid (records_of run.history)) (ran : (one : Problem) → IsReadAs keeps read one → IsRunOf keeps one run) where
   its_end : ProblemEnds [] of.0 run run.outcome
-  its_end = subst (λ (k : List (List ℕ)). ProblemEnds k of.0 run run.outcome) none (ran of.0 (subst (λ (k : List (List ℕ)). IsReadAs k read of.0) (sym none) of.1)).ends
+  its_end =
+      subst (λ (k : List (List ℕ)). ProblemEnds k of.0 run run.outcome) none
+      (ran of.0 (subst (λ (k : List (List ℕ)). IsReadAs k read of.0) (sym none) of.1)).ends
 
-  pub ends_with_summary : ProblemsReduceAlike → (reduced : Reduced) → run.outcome ≡ Ok reduced → IsSummary mode number size (first_lines reduced.counts ++ reduced.text.items)
+  pub ends_with_summary : ProblemsReduceAlike → (reduced : Reduced) → run.outcome ≡ Ok reduced
+      → IsSummary mode number size (first_lines reduced.counts ++ reduced.text.items)
   ends_with_summary alike reduced is =
       let end = subst (ProblemEnds [] of.0 run) is its_end in
       is_summary mode number size of.0 of.2 run by alike reduced.text.items reduced.counts end.0
 
-  pub ends_in_memory : {G : Type 0} (log : G → Option Log) (workers : List (Worker G)) → run.after.gates ≡ seen_gates log (λ _. 0) workers → run.after.journal.faults ≡ 0
+  pub ends_in_memory : {G : Type 0} (log : G → Option Log) (workers : List (Worker G)) → run.after.gates ≡ seen_gates log (λ _. 0) workers
+      → run.after.journal.faults ≡ 0
       → CasesGetYes → 1 ≤ size → (fault : RunFault) → run.outcome ≡ Err fault → fault ≡ run_fault.Memory
-  ends_in_memory log workers gates quiet get_yes some fault is = only_memory mode number size of.0 of.2 run by log workers gates quiet get_yes some fault (subst (ProblemEnds [] of.0 run) is its_end)
+  ends_in_memory log workers gates quiet get_yes some fault is =
+      only_memory mode number size of.0 of.2 run by log workers gates quiet get_yes some fault (subst (ProblemEnds [] of.0 run) is its_end)
 
 -- a text that is answered is this one
-pub answered : {X E : Type 0} (answer : Result X E) (items : X → List ℕ) (text : List ℕ) (P : List ℕ → Type 0) → IfOk answer (λ x. items x ≡ text) → P text → IfOk answer (λ x. P (items x))
+pub answered : {X E : Type 0} (answer : Result X E) (items : X → List ℕ) (text : List ℕ) (P : List ℕ → Type 0) → IfOk answer (λ x. items x ≡ text) → P text
+    → IfOk answer (λ x. P (items x))
 answered answer items text P is holds = IfOk-weaker answer (λ x. items x ≡ text) (λ x. P (items x)) (λ x same. subst P (sym same) holds) is

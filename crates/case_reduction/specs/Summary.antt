@@ -19,7 +19,8 @@ use Rattle.run_problem.specs.Problem.{IsReductionOf, Problem, questions_of, redu
 abbrev pub rule_map : List ℕ → Option Verdict
 rule_map text = Some (rule_verdict 23121 text)
 
--- The problem is the tree of the program of this number and size by the grammar that the text of Mini spells, in this mode: all texts in the language are admitted, and the squeezed text isn't tried.
+-- The problem is the tree of the program of this number and size by the grammar that the text of Mini
+-- spells, in this mode: all texts in the language are admitted, and the squeezed text isn't tried.
 pub record IsCaseProblem (mode : TreeMode) (number size : ℕ) (problem : Problem) : Type 0 where
   pub grammar : CheckedGrammar
   pub spelled : Spells mini_text None grammar
@@ -36,7 +37,8 @@ summary_text problem V =
     (capped_count (rounds_of [] problem V)) (capped_count (length (questions_of [] problem V)))
     ++ reduced_text [] problem V
 
--- The text is the summary of the reduction of the program over the rule, which ends at a text that the rule says yes to, in the language, and minimal. It is that over each map that agrees with the rule and has a verdict for each text that its own reduction asks; one of these is the rule's.
+-- The text is the summary of the reduction of the program over the rule, which ends at a text that the rule says yes to, in the language, and minimal. It
+-- is that over each map that agrees with the rule and has a verdict for each text that its own reduction asks; one of these is the rule's.
 pub record IsSummary (mode : TreeMode) (number size : ℕ) (text : List ℕ) : Type 0 where
   pub problem : Problem
   pub of_case : IsCaseProblem mode number size problem

@@ -77,7 +77,8 @@ impl Language {
 
     /// The preferred tree of a text; None where the start rule doesn't derive its kinds.
     pub fn tree(&self, alloc: Global, text: &str) -> Result<Option<Tree>, TreeFault>
-        ensures tree { IfOk result (λ answer. (kinds : List ℕ) × HasKinds self.now.lexer.grammar (chars text.now) kinds × IsStartTree self.now.normal kinds answer) }
+        ensures tree { IfOk result (λ answer. (kinds : List ℕ) × HasKinds self.now.lexer.grammar (chars text.now) kinds
+            × IsStartTree self.now.normal kinds answer) }
         ensures fault { IfErr result (IsTextFault self.now.lexer.grammar text.now) }
     {
         let kinds = self.kinds(alloc, text)?;

@@ -24,4 +24,5 @@ pub record IsBelowOf (tree : SyntaxTree) (t : PlainTree) (q : ℕ) (found : Belo
   pub node : PlainTree
   pub node_is : subtree q t ≡ Some node
   pub all : found.all.items ≡ map number_of (below_in_level_order node)
-  pub compatible_are : (fits : Sym → Sym → Bool) (s : Sym) → DecidesFits tree.form fits → slot_at tree.form tree.start q t ≡ Some s → found.compatible.items ≡ map number_of (compatible fits s node)
+  pub compatible_are : (fits : Sym → Sym → Bool) (s : Sym) → DecidesFits tree.form fits → slot_at tree.form tree.start q t ≡ Some s
+      → found.compatible.items ≡ map number_of (compatible fits s node)

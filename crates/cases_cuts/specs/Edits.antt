@@ -7,7 +7,8 @@ use Rattle.syntax_tree_cut.specs.Cuts.{CanDelete, CanEmpty, CanReplace, CutForm,
 use Rattle.cases_cuts.specs.declared.edit.Edit.{Edit}
 use Rattle.cases_cuts.specs.declared.edit.Edit.TheVariants.{Delete, Empty, Replace}
 
--- The edit can be made of the tree t, which is left of a parsed one: of a list that can lose this element, a present optional, or a regular node and one below it that fits its slot.
+-- The edit can be made of the tree t, which is left of a parsed one: of a list that can lose this
+-- element, a present optional, or a regular node and one below it that fits its slot.
 abbrev pub CanMake : SyntaxTree → PlainTree → Edit → Type 0
 CanMake tree t (Delete list element) = CanDelete tree.form t list element
 CanMake tree t (Empty node) = CanEmpty tree.form t node

@@ -26,7 +26,8 @@ impl<'a> Case<'a> {
     pub(crate) fn nodes_below(&self, cut: &Cut, node: u32) -> Result<Option<Below>, Memory>
         requires of { IsCutOf self.now.tree cut.now }
         requires compat { self.now.compat ≡ self.now.tree.form }
-        ensures { IfOk result (λ found. MatchOption found (subtree node (cut_tree self.now.tree cut.now) ≡ None) (IsBelowOf self.now.tree (cut_tree self.now.tree cut.now) node)) }
+        ensures { IfOk result (λ found. MatchOption found (subtree node (cut_tree self.now.tree cut.now) ≡ None)
+            (IsBelowOf self.now.tree (cut_tree self.now.tree cut.now) node)) }
     {
         let tree = &self.tree;
         if !cut.is_left(tree, node) {

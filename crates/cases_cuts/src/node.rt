@@ -47,7 +47,8 @@ impl<'a> Case<'a> {
     /// of asking whether the node is left.
     pub(crate) fn describe(&self, cut: &Cut, node: u32) -> Result<Option<Description>, Memory>
         requires { IsCutOf self.now.tree cut.now }
-        ensures { IfOk result (λ found. MatchOption found (subtree node (cut_tree self.now.tree cut.now) ≡ None) (IsDescriptionOf self.now.tree (cut_tree self.now.tree cut.now) node)) }
+        ensures { IfOk result (λ found. MatchOption found (subtree node (cut_tree self.now.tree cut.now) ≡ None)
+            (IsDescriptionOf self.now.tree (cut_tree self.now.tree cut.now) node)) }
     {
         let tree = &self.tree;
         if !cut.is_left(tree, node) {

@@ -14,7 +14,8 @@ pub if_ok : {A E : Type 0} (r : Result A E) (P Q : A → Type 0) → ((a : A) �
 if_ok (Ok x) P Q f p = f x p
 if_ok (Err e) P Q f p = tt
 
-pub asked_one : (q : ℕ) (stack : List Asked) (xs : List Part) (p : Part) → (stack ++ below q p ∷ []) ++ reverse (map (below q) xs) ≡ stack ++ reverse (map (below q) (xs ++ p ∷ []))
+pub asked_one : (q : ℕ) (stack : List Asked) (xs : List Part) (p : Part)
+    → (stack ++ below q p ∷ []) ++ reverse (map (below q) xs) ≡ stack ++ reverse (map (below q) (xs ++ p ∷ []))
 asked_one q stack xs p =
     append_assoc stack (below q p ∷ []) (reverse (map (below q) xs))
     ∙ ap (λ (l : List Asked). stack ++ l) (sym (ap reverse (map-append (below q) xs (p ∷ [])) ∙ reverse-append (map (below q) xs) (below q p ∷ [])))

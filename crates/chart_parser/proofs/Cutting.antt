@@ -1,5 +1,6 @@
 -- How an alternative is cut into its parts.
-use Rattle.std.proofs.Common.{◌≡◌, ℕ, zero, suc, ◌+◌, ◌-◌, ◌<◌, ◌≤◌, ◌⊎◌, ◌↔◌, inl, inr, true, false, is_some, List, [], ◌∷◌, ◌++◌, Option, Some, None, length, get_or, take, drop, refl, sym, ap, ◌∙◌, subst, arith, length-append, append_assoc}
+use Rattle.std.proofs.Common.{◌≡◌, ℕ, zero, suc, ◌+◌, ◌-◌, ◌<◌, ◌≤◌, ◌⊎◌, ◌↔◌, inl, inr, true, false, is_some, List, [], ◌∷◌, ◌++◌, Option, Some}
+use Rattle.std.proofs.Common.{None, length, get_or, take, drop, refl, sym, ap, ◌∙◌, subst, arith, length-append, append_assoc}
 use Rattle.std.proofs.lemmas.List.{drop_more, drop_all, get_or_append_left, take_more, get_or_push, get_or-take, length-take, append-nil}
 use Rattle.std.proofs.lemmas.Bool.{cases_lt}
 use Rattle.std.proofs.lemmas.Grind.{get_or_default_zero}
@@ -83,7 +84,8 @@ module _ (N : NormalForm) (K : List ℕ) where
 
   -- One more position was gone on from.
   pub next_more : (s : Sym) (positions : List ℕ) (n j : ℕ) (old new : List ℕ) → n < length positions → HasAll (EndsFrom N K s (take n positions) j) old →
-      IsGrown (EndsUpTo N K s (get_or positions n 0) j) old new → HasAll (EndsUpTo N K s (get_or positions n 0) j) new → HasAll (EndsFrom N K s (take (n + 1) positions) j) new
+      IsGrown (EndsUpTo N K s (get_or positions n 0) j) old new → HasAll (EndsUpTo N K s (get_or positions n 0) j) new
+      → HasAll (EndsFrom N K s (take (n + 1) positions) j) new
   next_more s positions n j old new l has grown all x (p, c, d, within) = by (taken positions n p l c)
     where
       by : Contains (take n positions) p ⊎ (get_or positions n 0 ≡ p) → Contains new x
@@ -91,20 +93,26 @@ module _ (N : NormalForm) (K : List ℕ) where
       by (inr e) = all x (subst (λ (q : ℕ). DerivesSpan N K s q x) (sym e) d, within)
 
   -- symbols and the one after them
-  before_and_one : (ss : List Sym) (n i j : ℕ) (s : Sym) → n < length ss → get_or ss n s ≡ s → DerivesSpanSeq N K (take (n + 1) ss) i j ↔ ((m : ℕ) × DerivesSpanSeq N K (take n ss) i m × DerivesSpan N K s m j)
+  before_and_one : (ss : List Sym) (n i j : ℕ) (s : Sym) → n < length ss → get_or ss n s ≡ s → DerivesSpanSeq N K (take (n + 1) ss) i j
+      ↔ ((m : ℕ) × DerivesSpanSeq N K (take n ss) i m × DerivesSpan N K s m j)
   before_and_one ss n i j s l e = (to, back)
     where
       more : take (n + 1) ss ≡ take n ss ++ s ∷ []
       more = take_more ss n s l ∙ ap (λ (x : Sym). take n ss ++ x ∷ []) e
 
       to : DerivesSpanSeq N K (take (n + 1) ss) i j → (m : ℕ) × DerivesSpanSeq N K (take n ss) i m × DerivesSpan N K s m j
-      to d = let (m, front, last) = ((joins N K).append (take n ss) (s ∷ []) i j).0 (subst (λ (x : List Sym). DerivesSpanSeq N K x i j) more d) in (m, front, ((joins N K).one s m j).0 last)
+      to d = let (m, front, last) =
+          ((joins N K).append (take n ss) (s ∷ []) i j).0 (subst (λ (x : List Sym). DerivesSpanSeq N K x i j) more d) in
+          (m, front, ((joins N K).one s m j).0 last)
 
       back : ((m : ℕ) × DerivesSpanSeq N K (take n ss) i m × DerivesSpan N K s m j) → DerivesSpanSeq N K (take (n + 1) ss) i j
-      back (m, front, last) = subst (λ (x : List Sym). DerivesSpanSeq N K x i j) (sym more) (((joins N K).append (take n ss) (s ∷ []) i j).1 (m, front, ((joins N K).one s m j).1 last))
+      back (m, front, last) =
+          subst (λ (x : List Sym). DerivesSpanSeq N K x i j) (sym more)
+          (((joins N K).append (take n ss) (s ∷ []) i j).1 (m, front, ((joins N K).one s m j).1 last))
 
   -- a symbol and those after it
-  one_and_rest : (ss : List Sym) (n i j : ℕ) (s : Sym) → n < length ss → get_or ss n s ≡ s → DerivesSpanSeq N K (drop n ss) i j ↔ ((m : ℕ) × DerivesSpan N K s i m × DerivesSpanSeq N K (drop (n + 1) ss) m j)
+  one_and_rest : (ss : List Sym) (n i j : ℕ) (s : Sym) → n < length ss → get_or ss n s ≡ s → DerivesSpanSeq N K (drop n ss) i j
+      ↔ ((m : ℕ) × DerivesSpan N K s i m × DerivesSpanSeq N K (drop (n + 1) ss) m j)
   one_and_rest ss n i j s l e = (to, back)
     where
       more : drop n ss ≡ s ∷ drop (n + 1) ss
@@ -118,14 +126,16 @@ module _ (N : NormalForm) (K : List ℕ) where
 
   -- Before any symbol, the position where they begin is reached.
   pub first_reached : (ss : List Sym) (i j : ℕ) (v : Vec ℕ) → v.items ≡ i ∷ [] → AreReached N K ss i j 1 (v ∷ [])
-  first_reached ss i j v e zero l = record { rising = subst IsStrictlyIncreasing (sym e) (one_rises i); all = λ x d w. subst (λ (l : List ℕ). Contains l x) (sym e) (all x d) }
+  first_reached ss i j v e zero l =
+      record { rising = subst IsStrictlyIncreasing (sym e) (one_rises i); all = λ x d w. subst (λ (l : List ℕ). Contains l x) (sym e) (all x d) }
     where
       all : (x : ℕ) → DerivesSpanSeq N K (take 0 ss) i x → Contains (i ∷ []) x
       all x d = (0, omega arith, (((spans N K).done i x).0 d).0)
   first_reached ss i j v e (suc k) l = absurd (omega (arith, l))
 
   -- One more list of positions is reached.
-  pub one_more_reached : (ss : List Sym) (n i j : ℕ) (s : Sym) (sets : List (Vec ℕ)) (next : Vec ℕ) → n < length ss → get_or ss n s ≡ s → length sets ≡ n + 1 → AreReached N K ss i j (n + 1) sets →
+  pub one_more_reached : (ss : List Sym) (n i j : ℕ) (s : Sym) (sets : List (Vec ℕ)) (next : Vec ℕ) → n < length ss → get_or ss n s ≡ s → length sets ≡ n + 1
+      → AreReached N K ss i j (n + 1) sets →
       IsStrictlyIncreasing next.items → HasAll (EndsFrom N K s (set_at sets n) j) next.items → AreReached N K ss i j (n + 2) (sets ++ next ∷ [])
   one_more_reached ss n i j s sets next l e len reached rising all k h = by (k_is k h)
     where
@@ -169,12 +179,21 @@ module _ (N : NormalForm) (K : List ℕ) where
 
   -- Of no positions there is none.
   pub meets_none : (s : Sym) (later kept : List ℕ) → kept ≡ [] → HasExactly (Meets N K s [] later) kept
-  meets_none s later kept e = subst (HasExactly (Meets N K s [] later)) (sym e) (record { rising = λ k h. absurd (omega (arith, h)); only = λ x (k, l, f). absurd (omega (arith, l)); all = λ x ((k, l, f), m). absurd (omega (arith, l)) })
+  meets_none s later kept e =
+      subst (HasExactly (Meets N K s [] later)) (sym e)
+      (record {
+        rising = λ k h. absurd (omega (arith, h));
+        only = λ x (k, l, f). absurd (omega (arith, l));
+        all = λ x ((k, l, f), m). absurd (omega (arith, l));
+      })
 
   -- From one more position the symbol can end at one of the later ones.
-  pub meets_more : (s : Sym) (positions later kept : List ℕ) (n : ℕ) (found : Option ℕ) (e : ℕ) → n < length positions → IsStrictlyIncreasing positions → HasExactly (Meets N K s (take n positions) later) kept →
-      IsLastAmong (DerivesSpan N K s (get_or positions n 0)) later found → found ≡ Some e → HasExactly (Meets N K s (take (n + 1) positions) later) (kept ++ get_or positions n 0 ∷ [])
-  meets_more s positions later kept n found e l rising h last is = record { rising = push_rises kept p h.rising (λ x c. taken_below positions n x rising l (h.only x c).0); only = only; all = all }
+  pub meets_more : (s : Sym) (positions later kept : List ℕ) (n : ℕ) (found : Option ℕ) (e : ℕ) → n < length positions → IsStrictlyIncreasing positions
+      → HasExactly (Meets N K s (take n positions) later) kept →
+      IsLastAmong (DerivesSpan N K s (get_or positions n 0)) later found → found ≡ Some e
+      → HasExactly (Meets N K s (take (n + 1) positions) later) (kept ++ get_or positions n 0 ∷ [])
+  meets_more s positions later kept n found e l rising h last is =
+      record { rising = push_rises kept p h.rising (λ x c. taken_below positions n x rising l (h.only x c).0); only = only; all = all }
     where
       p : ℕ
       p = get_or positions n 0
@@ -195,9 +214,11 @@ module _ (N : NormalForm) (K : List ℕ) where
       ]
 
   -- From one more position it can't.
-  pub meets_same : (s : Sym) (positions later kept : List ℕ) (n : ℕ) (found : Option ℕ) → n < length positions → HasExactly (Meets N K s (take n positions) later) kept →
+  pub meets_same : (s : Sym) (positions later kept : List ℕ) (n : ℕ) (found : Option ℕ) → n < length positions
+      → HasExactly (Meets N K s (take n positions) later) kept →
       IsLastAmong (DerivesSpan N K s (get_or positions n 0)) later found → found ≡ None → HasExactly (Meets N K s (take (n + 1) positions) later) kept
-  meets_same s positions later kept n found l h last is = record { rising = h.rising; only = λ x c. (let m = h.only x c in (taken_before positions n x l m.0, m.1)); all = all }
+  meets_same s positions later kept n found l h last is =
+      record { rising = h.rising; only = λ x c. (let m = h.only x c in (taken_before positions n x l m.0, m.1)); all = all }
     where
       none : (x : ℕ) → Contains later x → DerivesSpan N K s (get_or positions n 0) x → ⊥
       none = subst (IsLastAmong (DerivesSpan N K s (get_or positions n 0)) later) is last
@@ -209,12 +230,14 @@ module _ (N : NormalForm) (K : List ℕ) where
       ]
 
   -- At the end of the span no symbol remains.
-  pub last_going_on : (ss : List Sym) (i j : ℕ) (sets : List (Vec ℕ)) (v : Vec ℕ) → length sets ≡ length ss → v.items ≡ j ∷ [] → j ≤ length K → AreGoingOn N K ss i j (length ss) (sets ++ v ∷ [])
+  pub last_going_on : (ss : List Sym) (i j : ℕ) (sets : List (Vec ℕ)) (v : Vec ℕ) → length sets ≡ length ss → v.items ≡ j ∷ [] → j ≤ length K
+      → AreGoingOn N K ss i j (length ss) (sets ++ v ∷ [])
   last_going_on ss i j sets v len e w k l m =
       let same : set_at (sets ++ v ∷ []) k ≡ j ∷ [] = set_at_push sets v k (omega (arith, l, m, len)) ∙ e in
       let none : drop k ss ≡ [] = drop_all k ss l in
       subst (λ (x : List ℕ). HasGoingOn N K (drop k ss) j (DerivesSpanSeq N K (take k ss) i) x) (sym same)
-      (subst (λ (x : List Sym). HasGoingOn N K x j (DerivesSpanSeq N K (take k ss) i) (j ∷ [])) (sym none) (record { rising = one_rises j; only = only; all = all }))
+      (subst (λ (x : List Sym). HasGoingOn N K x j (DerivesSpanSeq N K (take k ss) i) (j ∷ [])) (sym none)
+      (record { rising = one_rises j; only = only; all = all }))
     where
       only : (x : ℕ) → Contains (j ∷ []) x → DerivesSpanSeq N K [] x j
       only x c = subst (λ (y : ℕ). DerivesSpanSeq N K [] y j) (sym (contains_one j x c)) (DerivesSpanSeq.of_done j w)
@@ -223,7 +246,8 @@ module _ (N : NormalForm) (K : List ℕ) where
       all x p d = (0, omega arith, sym (((spans N K).done x j).0 d).0)
 
   -- One list more has only the positions from which the rest goes on.
-  pub one_more_going_on : (ss : List Sym) (n i j : ℕ) (s : Sym) (sets : List (Vec ℕ)) (kept : Vec ℕ) → n < length ss → get_or ss n s ≡ s → n < length sets → HasReached N K (take n ss) i j (set_at sets n) →
+  pub one_more_going_on : (ss : List Sym) (n i j : ℕ) (s : Sym) (sets : List (Vec ℕ)) (kept : Vec ℕ) → n < length ss → get_or ss n s ≡ s → n < length sets
+      → HasReached N K (take n ss) i j (set_at sets n) →
       AreGoingOn N K ss i j (n + 1) sets → HasExactly (Meets N K s (set_at sets n) (set_at sets (n + 1))) kept.items → AreGoingOn N K ss i j n (set sets n kept)
   one_more_going_on ss n i j s sets kept l e len reached later h k a b = by (cases_lt n k)
     where
@@ -239,17 +263,24 @@ module _ (N : NormalForm) (K : List ℕ) where
           h.all x (reached.all x p (seq_within N K (drop n ss) x j d).0, (m, next.all m ((before_and_one ss n i m s l e).1 (x, p, one)) rest, one))
 
       by : (n < k) ⊎ (k ≤ n) → HasGoingOn N K (drop k ss) j (DerivesSpanSeq N K (take k ss) i) (set_at (set sets n kept) k)
-      by (inl c) = subst (HasGoingOn N K (drop k ss) j (DerivesSpanSeq N K (take k ss) i)) (sym (set_at_set_other sets kept n k (λ f. omega (arith, f, c)))) (later k (omega (arith, c)) b)
+      by (inl c) =
+          subst (HasGoingOn N K (drop k ss) j (DerivesSpanSeq N K (take k ss) i)) (sym (set_at_set_other sets kept n k (λ f. omega (arith, f, c))))
+          (later k (omega (arith, c)) b)
       by (inr c) =
           let same : k ≡ n = omega (arith, a, c) in
           let at : set_at (set sets n kept) k ≡ kept.items = ap (set_at (set sets n kept)) same ∙ set_at_set_same sets kept n len in
-          subst (HasGoingOn N K (drop k ss) j (DerivesSpanSeq N K (take k ss) i)) (sym at) (subst (λ (m : ℕ). HasGoingOn N K (drop m ss) j (DerivesSpanSeq N K (take m ss) i) kept.items) (sym same) (record { rising = h.rising; only = only; all = all }))
+          subst (HasGoingOn N K (drop k ss) j (DerivesSpanSeq N K (take k ss) i)) (sym at)
+          (subst (λ (m : ℕ). HasGoingOn N K (drop m ss) j (DerivesSpanSeq N K (take m ss) i) kept.items) (sym same)
+          (record { rising = h.rising; only = only; all = all }))
 
   -- The lists before one that is put in are as they were.
-  pub still_reached : (ss : List Sym) (n i j : ℕ) (sets : List (Vec ℕ)) (kept : Vec ℕ) → AreReached N K ss i j (n + 1) sets → AreReached N K ss i j n (set sets n kept)
-  still_reached ss n i j sets kept reached k l = subst (HasReached N K (take k ss) i j) (sym (set_at_set_other sets kept n k (λ f. omega (arith, f, l)))) (reached k (omega (arith, l)))
+  pub still_reached : (ss : List Sym) (n i j : ℕ) (sets : List (Vec ℕ)) (kept : Vec ℕ) → AreReached N K ss i j (n + 1) sets
+      → AreReached N K ss i j n (set sets n kept)
+  still_reached ss n i j sets kept reached k l =
+      subst (HasReached N K (take k ss) i j) (sym (set_at_set_other sets kept n k (λ f. omega (arith, f, l)))) (reached k (omega (arith, l)))
 
-  pub push_reached : (ss : List Sym) (n i j : ℕ) (sets : List (Vec ℕ)) (v : Vec ℕ) → n ≤ length sets → AreReached N K ss i j n sets → AreReached N K ss i j n (sets ++ v ∷ [])
+  pub push_reached : (ss : List Sym) (n i j : ℕ) (sets : List (Vec ℕ)) (v : Vec ℕ) → n ≤ length sets → AreReached N K ss i j n sets
+      → AreReached N K ss i j n (sets ++ v ∷ [])
   push_reached ss n i j sets v len reached k l = subst (HasReached N K (take k ss) i j) (sym (set_at_push_other sets v k (omega (arith, l, len)))) (reached k l)
 
   -- Where the parts of the first symbols are cut off: the position p, which the first n symbols reach, and from which the rest goes on if there are any.
@@ -268,13 +299,17 @@ module _ (N : NormalForm) (K : List ℕ) where
   }
 
   -- The part of one more symbol, which ends at the greatest of the positions from which the rest goes on.
-  pub cut_more : (ss : List Sym) (n i j p e : ℕ) (s : Sym) (sets : List (Vec ℕ)) (parts : List Part) (found : Option ℕ) (part : Part) → n < length ss → get_or ss n s ≡ s → AreGoingOn N K ss i j 1 sets → IsCutAt ss i j n p parts →
-      IsLastAmong (DerivesSpan N K s p) (set_at sets (n + 1)) found → found ≡ Some e → part.slot ≡ s → part.first ≡ p → part.end ≡ e → IsCutAt ss i j (n + 1) e (parts ++ part ∷ [])
+  pub cut_more : (ss : List Sym) (n i j p e : ℕ) (s : Sym) (sets : List (Vec ℕ)) (parts : List Part) (found : Option ℕ) (part : Part) → n < length ss
+      → get_or ss n s ≡ s → AreGoingOn N K ss i j 1 sets → IsCutAt ss i j n p parts →
+      IsLastAmong (DerivesSpan N K s p) (set_at sets (n + 1)) found → found ≡ Some e → part.slot ≡ s → part.first ≡ p → part.end ≡ e
+      → IsCutAt ss i j (n + 1) e (parts ++ part ∷ [])
   cut_more ss n i j p e s sets parts found part l read later cut last is slot first end = record {
     reached = (before_and_one ss n i e s l read).1 (p, cut.reached, greatest.holds);
     begins = λ f. absurd (omega (arith, f));
     goes_on = λ _. next.only e greatest.has;
-    parts_are = λ more are. subst (λ (ps : List Part). AreParts N K ss i j ps) (sym (append_assoc parts (part ∷ []) more)) (cut.parts_are (part ∷ more) (with_part more are));
+    parts_are =
+        λ more are. subst (λ (ps : List Part). AreParts N K ss i j ps) (sym (append_assoc parts (part ∷ []) more))
+        (cut.parts_are (part ∷ more) (with_part more are));
   }
     where
       greatest : IsGreatest (DerivesSpan N K s p) (set_at sets (n + 1)) e
@@ -299,10 +334,12 @@ module _ (N : NormalForm) (K : List ℕ) where
       with_part : (more : List Part) → AreParts N K (drop (n + 1) ss) e j more → AreParts N K (drop n ss) p j (part ∷ more)
       with_part more are =
           let split : drop n ss ≡ s ∷ drop (n + 1) ss = drop_more ss n s l ∙ ap (λ (x : Sym). x ∷ drop (n + 1) ss) read in
-          subst (λ (x : List Sym). AreParts N K x p j (part ∷ more)) (sym split) (is_part, subst (λ (m : ℕ). AreParts N K (drop (n + 1) ss) m j more) (sym end) are)
+          subst (λ (x : List Sym). AreParts N K x p j (part ∷ more)) (sym split)
+          (is_part, subst (λ (m : ℕ). AreParts N K (drop (n + 1) ss) m j more) (sym end) are)
 
   -- Where the symbol can end at none of these positions, the symbols don't derive the span.
-  pub not_cut : (ss : List Sym) (n i j p : ℕ) (s : Sym) (sets : List (Vec ℕ)) (parts : List Part) (found : Option ℕ) → n < length ss → get_or ss n s ≡ s → AreGoingOn N K ss i j 1 sets → IsCutAt ss i j n p parts →
+  pub not_cut : (ss : List Sym) (n i j p : ℕ) (s : Sym) (sets : List (Vec ℕ)) (parts : List Part) (found : Option ℕ) → n < length ss → get_or ss n s ≡ s
+      → AreGoingOn N K ss i j 1 sets → IsCutAt ss i j n p parts →
       IsLastAmong (DerivesSpan N K s p) (set_at sets (n + 1)) found → found ≡ None → DerivesSpanSeq N K ss i j → ⊥
   not_cut ss n i j p s sets parts found l read later cut last is whole = by n refl
     where
@@ -313,10 +350,13 @@ module _ (N : NormalForm) (K : List ℕ) where
       next = later (n + 1) (omega arith) (omega (arith, l))
 
       not_here : DerivesSpanSeq N K (drop n ss) p j → ⊥
-      not_here d = let (m, one, rest) = (one_and_rest ss n p j s l read).0 d in none m (next.all m ((before_and_one ss n i m s l read).1 (p, cut.reached, one)) rest) one
+      not_here d = let (m, one, rest) =
+          (one_and_rest ss n p j s l read).0 d in none m (next.all m ((before_and_one ss n i m s l read).1 (p, cut.reached, one)) rest) one
 
       by : (m : ℕ) → m ≡ n → ⊥
-      by zero e = not_here (subst (λ (q : ℕ). DerivesSpanSeq N K (drop n ss) q j) (sym (cut.begins (sym e))) (subst (λ (m : ℕ). DerivesSpanSeq N K (drop m ss) i j) e whole))
+      by zero e =
+          not_here (subst (λ (q : ℕ). DerivesSpanSeq N K (drop n ss) q j) (sym (cut.begins (sym e)))
+          (subst (λ (m : ℕ). DerivesSpanSeq N K (drop m ss) i j) e whole))
       by (suc m) e = not_here (cut.goes_on (omega (arith, e)))
 
   -- After all symbols the parts are cut.
@@ -328,18 +368,24 @@ module _ (N : NormalForm) (K : List ℕ) where
       subst (λ (ps : List Part). AreParts N K ss i j ps) (append-nil parts) are
 
 -- The same where the chart is still the one that there was at first.
-pub reach_step : (now start : ChartInput) (ss : List Sym) (n i j : ℕ) (s : Sym) (sets : List (Vec ℕ)) (v next : Vec ℕ) (positions : List ℕ) → now ≡ start → n < length ss → get_or ss n s ≡ s → length sets ≡ n + 1 → AreReached start.normal start.kinds ss i j (n + 1) sets →
-    v ≡ get_or sets n v → positions ≡ v.items → IsStrictlyIncreasing next.items → HasAll (EndsFrom now.normal now.kinds s positions j) next.items → AreReached start.normal start.kinds ss i j (n + 1 + 1) (sets ++ next ∷ [])
+pub reach_step : (now start : ChartInput) (ss : List Sym) (n i j : ℕ) (s : Sym) (sets : List (Vec ℕ)) (v next : Vec ℕ) (positions : List ℕ) → now ≡ start
+    → n < length ss → get_or ss n s ≡ s → length sets ≡ n + 1 → AreReached start.normal start.kinds ss i j (n + 1) sets →
+    v ≡ get_or sets n v → positions ≡ v.items → IsStrictlyIncreasing next.items → HasAll (EndsFrom now.normal now.kinds s positions j) next.items
+    → AreReached start.normal start.kinds ss i j (n + 1 + 1) (sets ++ next ∷ [])
 reach_step now start ss n i j s sets v next positions same l read len reached at value rising all =
     let place : positions ≡ set_at sets n = value ∙ set_at_read sets n v (omega (arith, len)) at in
     let from-start = subst (λ (x : ChartInput). HasAll (EndsFrom x.normal x.kinds s positions j) next.items) same all in
     let from-set = subst (λ (l : List ℕ). HasAll (EndsFrom start.normal start.kinds s l j) next.items) place from-start in
     let e : n + 2 ≡ n + 1 + 1 = omega arith in
-    subst (λ (m : ℕ). AreReached start.normal start.kinds ss i j m (sets ++ next ∷ [])) e (one_more_reached start.normal start.kinds ss n i j s sets next l read len reached rising from-set)
+    subst (λ (m : ℕ). AreReached start.normal start.kinds ss i j m (sets ++ next ∷ [])) e
+    (one_more_reached start.normal start.kinds ss n i j s sets next l read len reached rising from-set)
 
-pub going_on_step : (now start : ChartInput) (ss : List Sym) (index i j : ℕ) (s : Sym) (sets : List (Vec ℕ)) (v w kept : Vec ℕ) (positions later : List ℕ) → now ≡ start → 1 < index → index ≤ length ss → length sets ≡ length ss + 1 →
-    AreReached start.normal start.kinds ss i j index sets → AreGoingOn start.normal start.kinds ss i j index sets → get_or ss (index - 1) s ≡ s → v ≡ get_or sets (index - 1) v → positions ≡ v.items → w ≡ get_or sets (index - 1 + 1) w → later ≡ w.items →
-    HasExactly (Meets now.normal now.kinds s positions later) kept.items → AreReached start.normal start.kinds ss i j (index - 1) (set sets (index - 1) kept) × AreGoingOn start.normal start.kinds ss i j (index - 1) (set sets (index - 1) kept)
+pub going_on_step : (now start : ChartInput) (ss : List Sym) (index i j : ℕ) (s : Sym) (sets : List (Vec ℕ)) (v w kept : Vec ℕ) (positions later : List ℕ)
+    → now ≡ start → 1 < index → index ≤ length ss → length sets ≡ length ss + 1 →
+    AreReached start.normal start.kinds ss i j index sets → AreGoingOn start.normal start.kinds ss i j index sets → get_or ss (index - 1) s ≡ s
+    → v ≡ get_or sets (index - 1) v → positions ≡ v.items → w ≡ get_or sets (index - 1 + 1) w → later ≡ w.items →
+    HasExactly (Meets now.normal now.kinds s positions later) kept.items → AreReached start.normal start.kinds ss i j (index - 1) (set sets (index - 1) kept)
+    × AreGoingOn start.normal start.kinds ss i j (index - 1) (set sets (index - 1) kept)
 going_on_step now start ss index i j s sets v w kept positions later same low high len reached going read at value at-next value-next h =
     let N = start.normal in
     let K = start.kinds in
@@ -351,26 +397,35 @@ going_on_step now start ss index i j s sets v w kept positions later same low hi
     let from-set = subst (λ (l : List ℕ). HasExactly (Meets N K s l later) kept.items) place from-start in
     let from-sets = subst (λ (l : List ℕ). HasExactly (Meets N K s (set_at sets m) l) kept.items) place-next from-set in
     let reached-more = subst (λ (x : ℕ). AreReached N K ss i j x sets) e reached in
-    let going-more = subst (λ (x : ℕ). AreGoingOn N K ss i j x sets) e going in
-    (still_reached N K ss m i j sets kept reached-more, one_more_going_on N K ss m i j s sets kept (omega (arith, high, low)) read (omega (arith, len, high)) (reached-more m (omega arith)) going-more from-sets)
+    let going-more = subst (λ (x : ℕ). AreGoingOn N K ss i j x sets) e going in (
+      still_reached N K ss m i j sets kept reached-more,
+      one_more_going_on N K ss m i j s sets kept (omega (arith, high, low)) read (omega (arith, len, high)) (reached-more m (omega arith)) going-more from-sets,
+    )
 
-pub cut_step : (now start : ChartInput) (ss : List Sym) (n i j p e : ℕ) (s : Sym) (sets : List (Vec ℕ)) (w : Vec ℕ) (among : List ℕ) (parts : List Part) (found : Option ℕ) (part : Part) → now ≡ start → n < length ss → get_or ss n s ≡ s → length sets ≡ length ss + 1 →
-    AreGoingOn start.normal start.kinds ss i j 1 sets → IsCutAt start.normal start.kinds ss i j n p parts → w ≡ get_or sets (n + 1) w → among ≡ w.items → IsLastAmong (DerivesSpan now.normal now.kinds s p) among found → found ≡ Some e →
+pub cut_step : (now start : ChartInput) (ss : List Sym) (n i j p e : ℕ) (s : Sym) (sets : List (Vec ℕ)) (w : Vec ℕ) (among : List ℕ) (parts : List Part)
+    (found : Option ℕ) (part : Part) → now ≡ start → n < length ss → get_or ss n s ≡ s → length sets ≡ length ss + 1 →
+    AreGoingOn start.normal start.kinds ss i j 1 sets → IsCutAt start.normal start.kinds ss i j n p parts → w ≡ get_or sets (n + 1) w → among ≡ w.items
+    → IsLastAmong (DerivesSpan now.normal now.kinds s p) among found → found ≡ Some e →
     part.slot ≡ s → part.first ≡ p → part.end ≡ e → IsCutAt start.normal start.kinds ss i j (n + 1) e (parts ++ part ∷ [])
 cut_step now start ss n i j p e s sets w among parts found part same l read len going cut at value last is slot first end =
     let place : among ≡ set_at sets (n + 1) = value ∙ set_at_read sets (n + 1) w (omega (arith, len, l)) at in
     let from-start = subst (λ (x : ChartInput). IsLastAmong (DerivesSpan x.normal x.kinds s p) among found) same last in
-    cut_more start.normal start.kinds ss n i j p e s sets parts found part l read going cut (subst (λ (a : List ℕ). IsLastAmong (DerivesSpan start.normal start.kinds s p) a found) place from-start) is slot first end
+    cut_more start.normal start.kinds ss n i j p e s sets parts found part l read going cut
+    (subst (λ (a : List ℕ). IsLastAmong (DerivesSpan start.normal start.kinds s p) a found) place from-start) is slot first end
 
-pub no_cut_step : (now start : ChartInput) (ss : List Sym) (n i j p : ℕ) (s : Sym) (sets : List (Vec ℕ)) (w : Vec ℕ) (among : List ℕ) (parts : List Part) (found : Option ℕ) → now ≡ start → n < length ss → get_or ss n s ≡ s → length sets ≡ length ss + 1 →
-    AreGoingOn start.normal start.kinds ss i j 1 sets → IsCutAt start.normal start.kinds ss i j n p parts → w ≡ get_or sets (n + 1) w → among ≡ w.items → IsLastAmong (DerivesSpan now.normal now.kinds s p) among found → found ≡ None → DerivesSpanSeq start.normal start.kinds ss i j → ⊥
+pub no_cut_step : (now start : ChartInput) (ss : List Sym) (n i j p : ℕ) (s : Sym) (sets : List (Vec ℕ)) (w : Vec ℕ) (among : List ℕ) (parts : List Part)
+    (found : Option ℕ) → now ≡ start → n < length ss → get_or ss n s ≡ s → length sets ≡ length ss + 1 →
+    AreGoingOn start.normal start.kinds ss i j 1 sets → IsCutAt start.normal start.kinds ss i j n p parts → w ≡ get_or sets (n + 1) w → among ≡ w.items
+    → IsLastAmong (DerivesSpan now.normal now.kinds s p) among found → found ≡ None → DerivesSpanSeq start.normal start.kinds ss i j → ⊥
 no_cut_step now start ss n i j p s sets w among parts found same l read len going cut at value last is d =
     let place : among ≡ set_at sets (n + 1) = value ∙ set_at_read sets (n + 1) w (omega (arith, len, l)) at in
     let from-start = subst (λ (x : ChartInput). IsLastAmong (DerivesSpan x.normal x.kinds s p) among found) same last in
-    not_cut start.normal start.kinds ss n i j p s sets parts found l read going cut (subst (λ (a : List ℕ). IsLastAmong (DerivesSpan start.normal start.kinds s p) a found) place from-start) is d
+    not_cut start.normal start.kinds ss n i j p s sets parts found l read going cut
+    (subst (λ (a : List ℕ). IsLastAmong (DerivesSpan start.normal start.kinds s p) a found) place from-start) is d
 
 -- no symbols derive no kinds
-pub no_symbols : (N : NormalForm) (K : List ℕ) (ss : List Sym) (i j : ℕ) (parts : List Part) → length ss ≡ 0 → parts ≡ [] → i ≤ length K → i ≡ j → AreParts N K ss i j parts
+pub no_symbols : (N : NormalForm) (K : List ℕ) (ss : List Sym) (i j : ℕ) (parts : List Part) → length ss ≡ 0 → parts ≡ [] → i ≤ length K → i ≡ j
+    → AreParts N K ss i j parts
 no_symbols N K [] i j parts len none w e = subst (AreParts N K [] i j) (sym none) (e, w)
 no_symbols N K (s ∷ ss) i j parts len none w e = absurd (omega (arith, len))
 

@@ -1,5 +1,6 @@
 -- How a star or plus is cut into its elements.
-use Rattle.std.proofs.Common.{◌≡◌, ℕ, zero, suc, ◌+◌, ◌-◌, ◌<◌, ◌≤◌, ◌⊎◌, inl, inr, List, [], ◌∷◌, ◌++◌, Option, Some, None, length, get_or, drop, refl, sym, ap, ◌∙◌, subst, arith, append_assoc}
+use Rattle.std.proofs.Common.{◌≡◌, ℕ, zero, suc, ◌+◌, ◌-◌, ◌<◌, ◌≤◌, ◌⊎◌, inl, inr, List, [], ◌∷◌, ◌++◌, Option, Some, None}
+use Rattle.std.proofs.Common.{length, get_or, drop, refl, sym, ap, ◌∙◌, subst, arith, append_assoc}
 use Rattle.std.proofs.lemmas.Bool.{cases_lt}
 use Rattle.std.proofs.lemmas.Grind.{get_or_default_zero}
 use Rattle.std.proofs.lemmas.List.{append-nil, drop_all, drop_at, drop_more, drop-set, get_or_append_left, get_or-set_other, length-set, length_push}
@@ -46,11 +47,13 @@ contains_none x (k, l, e) = omega (arith, l)
 cons_rises : (y : ℕ) (xs : List ℕ) → IsStrictlyIncreasing xs → ((x : ℕ) → Contains xs x → y < x) → IsStrictlyIncreasing (y ∷ xs)
 cons_rises y [] rising above k h = absurd (omega (arith, h))
 cons_rises y (x ∷ xs) rising above zero h = above x (cons_first x xs)
-cons_rises y (x ∷ xs) rising above (suc k) h = let e : suc (k + 1) ≡ suc k + 1 = omega arith in subst (λ (m : ℕ). get_or (y ∷ x ∷ xs) (suc k) 0 < get_or (y ∷ x ∷ xs) m 0) e (rising k (omega (arith, h)))
+cons_rises y (x ∷ xs) rising above (suc k) h = let e : suc (k + 1) ≡ suc k + 1 =
+    omega arith in subst (λ (m : ℕ). get_or (y ∷ x ∷ xs) (suc k) 0 < get_or (y ∷ x ∷ xs) m 0) e (rising k (omega (arith, h)))
 
 -- what is after a position of a rising list is greater, and what is greater is after it
 later_is_greater : (xs : List ℕ) (n x : ℕ) → IsStrictlyIncreasing xs → Contains (drop (n + 1) xs) x → get_or xs n 0 < x
-later_is_greater xs n x rising c = let (k, a, b, e) = from_later (n + 1) xs x c in omega (arith, AllPairs-from_increasing xs rising n k 0 (omega (arith, a)) b, e)
+later_is_greater xs n x rising c = let (k, a, b, e) =
+    from_later (n + 1) xs x c in omega (arith, AllPairs-from_increasing xs rising n k 0 (omega (arith, a)) b, e)
 
 greater_is_later : (xs : List ℕ) (n x : ℕ) → IsStrictlyIncreasing xs → n < length xs → Contains xs x → get_or xs n 0 < x → Contains (drop (n + 1) xs) x
 greater_is_later xs n x rising l h lt = in_later (n + 1) xs x h (by (cases_lt n h.0) (cases_lt h.0 n))
@@ -102,14 +105,18 @@ module _ (N : NormalForm) (K : List ℕ) (s : Sym) where
       all x (inr a, d) = subst (Contains (j ∷ [])) (sym a) (cons_first j [])
 
   -- From one position more elements go on.
-  pub moved_more : (before : List ℕ) (j n m from last p : ℕ) (positions : List ℕ) (found : Option ℕ) (e : ℕ) → n ≡ m + 1 → from ≡ last + 1 → m < length before → IsStrictlyIncreasing before → ((x : ℕ) → Contains before x → x < j) →
-      AreMoved before j n from positions → p ≡ get_or positions m 0 → IsLastAmong (DerivesSpan N K s p) (drop from positions) found → found ≡ Some e → AreMoved before j m last (set positions last p)
+  pub moved_more : (before : List ℕ) (j n m from last p : ℕ) (positions : List ℕ) (found : Option ℕ) (e : ℕ) → n ≡ m + 1 → from ≡ last + 1 → m < length before
+      → IsStrictlyIncreasing before → ((x : ℕ) → Contains before x → x < j) →
+      AreMoved before j n from positions → p ≡ get_or positions m 0 → IsLastAmong (DerivesSpan N K s p) (drop from positions) found → found ≡ Some e
+      → AreMoved before j m last (set positions last p)
   moved_more before j n m from last p positions found e en ef l rising below moved at is-last is = record {
     ordered = omega (arith, moved.ordered, en, ef);
     within = omega (arith, moved.within, ef, length-set positions last p);
     length_is = length-set positions last p ∙ moved.length_is;
     earlier = earlier;
-    exactly = subst (HasExactly (ElementsGoOn N K s j (drop m before))) (sym dropped) (record { rising = cons_rises p (drop from positions) moved.exactly.rising above; only = only; all = all });
+    exactly =
+        subst (HasExactly (ElementsGoOn N K s j (drop m before))) (sym dropped)
+        (record { rising = cons_rises p (drop from positions) moved.exactly.rising above; only = only; all = all });
   }
     where
       p_is : p ≡ get_or before m 0
@@ -160,8 +167,10 @@ module _ (N : NormalForm) (K : List ℕ) (s : Sym) where
       all x (inr a, d) = cons_later p (drop from positions) x (moved.exactly.all x (inr a, d))
 
   -- From one position more they don't.
-  pub moved_same : (before : List ℕ) (j n m from p : ℕ) (positions : List ℕ) (found : Option ℕ) → n ≡ m + 1 → m < length before → IsStrictlyIncreasing before → ((x : ℕ) → Contains before x → x < j) → IsClosedBefore N K s j before → MovesOn N K s → j ≤ length K →
-      AreMoved before j n from positions → p ≡ get_or positions m 0 → IsLastAmong (DerivesSpan N K s p) (drop from positions) found → found ≡ None → AreMoved before j m from positions
+  pub moved_same : (before : List ℕ) (j n m from p : ℕ) (positions : List ℕ) (found : Option ℕ) → n ≡ m + 1 → m < length before → IsStrictlyIncreasing before
+      → ((x : ℕ) → Contains before x → x < j) → IsClosedBefore N K s j before → MovesOn N K s → j ≤ length K →
+      AreMoved before j n from positions → p ≡ get_or positions m 0 → IsLastAmong (DerivesSpan N K s p) (drop from positions) found → found ≡ None
+      → AreMoved before j m from positions
   moved_same before j n m from p positions found en l rising below closed moves w moved at is-last is = record {
     ordered = omega (arith, moved.ordered, en);
     within = moved.within;
@@ -211,7 +220,8 @@ module _ (N : NormalForm) (K : List ℕ) (s : Sym) where
           by (inr b) = absurd (stops (subst (λ (y : ℕ). DerivesSpanMany N K s y j) b d))
       all x (inr a, d) = moved.exactly.all x (inr a, d)
 
-  module _ (list : Sym) (i j : ℕ) (is_list : IsListOf N K list s i) (lt : i < j) (positions : List ℕ) (grown : IsGrown (EndsUpTo N K list i (j - 1)) [] positions) (all : HasAll (EndsUpTo N K list i (j - 1)) positions) where
+  module _ (list : Sym) (i j : ℕ) (is_list : IsListOf N K list s i) (lt : i < j) (positions : List ℕ)
+      (grown : IsGrown (EndsUpTo N K list i (j - 1)) [] positions) (all : HasAll (EndsUpTo N K list i (j - 1)) positions) where
     end_of : (x : ℕ) → Contains positions x → EndsUpTo N K list i (j - 1) x
     end_of x c = elim (grown.only x c) [ inl a ↦ absurd (contains_none x a) | inr a ↦ a ]
 
@@ -228,13 +238,16 @@ module _ (N : NormalForm) (K : List ℕ) (s : Sym) where
       where
         by : DerivesSpan N K list i p → (i < p) ⊎ (p ≤ i) → DerivesSpanMany N K s i p
         by e (inl a) = (is_list p a).0 e
-        by e (inr a) = let same : i ≡ p = omega (arith, a, e.rises) in subst (DerivesSpanMany N K s i) same (DerivesSpanMany.of_end i (omega (arith, same, e.within)))
+        by e (inr a) = let same : i ≡ p =
+            omega (arith, a, e.rises) in subst (DerivesSpanMany N K s i) same (DerivesSpanMany.of_end i (omega (arith, same, e.within)))
 
     pub ends_of_elements : (ends : List ℕ) → HasExactly (ElementsGoOn N K s j positions) ends → HasEndsOfElements N K s i j ends
     ends_of_elements ends h = record { rising = h.rising; only = λ x c. (h.only x c).1; all = every }
       where
         every : (x : ℕ) → i < x → DerivesSpanMany N K s i x → DerivesSpanMany N K s x j → Contains ends x
-        every x a d rest = h.all x (elim (cases_lt x j) [ inl b ↦ inl (all x ((is_list x a).1 d, omega (arith, b))) | inr b ↦ inr (omega (arith, b, (many_within x j rest).0)) ], rest)
+        every x a d rest =
+            h.all x
+            (elim (cases_lt x j) [ inl b ↦ inl (all x ((is_list x a).1 d, omega (arith, b))) | inr b ↦ inr (omega (arith, b, (many_within x j rest).0)) ], rest)
 
   -- Where the first elements are cut off: the position p.
   pub record IsCutAt (i j p : ℕ) (parts : List Part) : Type 0 where
@@ -249,7 +262,8 @@ module _ (N : NormalForm) (K : List ℕ) (s : Sym) where
     parts_are = λ more are. subst (λ (ps : List Part). AreElements N K s i j (ps ++ more)) (sym e) are;
   }
 
-  pub cut_more : (i j p e : ℕ) (ends : List ℕ) (parts : List Part) (found : Option ℕ) (part : Part) → p < j → HasEndsOfElements N K s i j ends → MovesOn N K s → IsCutAt i j p parts → IsLastAmong (DerivesSpan N K s p) ends found → found ≡ Some e →
+  pub cut_more : (i j p e : ℕ) (ends : List ℕ) (parts : List Part) (found : Option ℕ) (part : Part) → p < j → HasEndsOfElements N K s i j ends → MovesOn N K s
+      → IsCutAt i j p parts → IsLastAmong (DerivesSpan N K s p) ends found → found ≡ Some e →
       part.slot ≡ s → part.first ≡ p → part.end ≡ e → IsCutAt i j e (parts ++ part ∷ [])
   cut_more i j p e ends parts found part lt h moves cut last is slot first end = record {
     reached = (joins N K).one_more s i p e cut.reached greatest.holds;
@@ -275,7 +289,8 @@ module _ (N : NormalForm) (K : List ℕ) (s : Sym) where
       }
 
   -- From each position before the end another element goes on.
-  pub always_more : (i j p : ℕ) (ends : List ℕ) (parts : List Part) (found : Option ℕ) → p < j → HasEndsOfElements N K s i j ends → MovesOn N K s → IsCutAt i j p parts → IsLastAmong (DerivesSpan N K s p) ends found → found ≡ None → ⊥
+  pub always_more : (i j p : ℕ) (ends : List ℕ) (parts : List Part) (found : Option ℕ) → p < j → HasEndsOfElements N K s i j ends → MovesOn N K s
+      → IsCutAt i j p parts → IsLastAmong (DerivesSpan N K s p) ends found → found ≡ None → ⊥
   always_more i j p ends parts found lt h moves cut last is = by (((spans N K).many s p j).0 cut.goes_on)
     where
       none : (x : ℕ) → Contains ends x → DerivesSpan N K s p x → ⊥
@@ -283,7 +298,8 @@ module _ (N : NormalForm) (K : List ℕ) (s : Sym) where
 
       by : ((p ≡ j) × (j ≤ length K)) ⊎ ((q : ℕ) × DerivesSpan N K s p q × DerivesSpanMany N K s q j) → ⊥
       by (inl a) = omega (arith, a.0, lt)
-      by (inr (q, one, rest)) = none q (h.all q (omega (arith, (many_within i p cut.reached).0, moves p q one)) ((joins N K).one_more s i p q cut.reached one) rest) one
+      by (inr (q, one, rest)) =
+          none q (h.all q (omega (arith, (many_within i p cut.reached).0, moves p q one)) ((joins N K).one_more s i p q cut.reached one) rest) one
 
   pub cut_done : (i j p : ℕ) (parts : List Part) → j ≤ p → IsCutAt i j p parts → AreElements N K s i j parts
   cut_done i j p parts le cut =
@@ -291,7 +307,8 @@ module _ (N : NormalForm) (K : List ℕ) (s : Sym) where
       subst (λ (ps : List Part). AreElements N K s i j ps) (append-nil parts) (cut.parts_are [] (omega (arith, w.0, le), omega (arith, w.0, w.1)))
 
   -- A list of one element.
-  pub one_element : (i j : ℕ) (part : Part) (parts : List Part) → i < j → DerivesSpan N K s i j → part.slot ≡ s → part.first ≡ i → part.end ≡ j → parts ≡ part ∷ [] → AreElements N K s i j parts
+  pub one_element : (i j : ℕ) (part : Part) (parts : List Part) → i < j → DerivesSpan N K s i j → part.slot ≡ s → part.first ≡ i → part.end ≡ j
+      → parts ≡ part ∷ [] → AreElements N K s i j parts
   one_element i j part parts lt d slot first end e = subst (AreElements N K s i j) (sym e) (lt, is_part, (end, omega (arith, end, d.within)))
     where
       longest : IsLongest N K s i j (λ x. DerivesSpanMany N K s x j)
@@ -308,8 +325,10 @@ module _ (N : NormalForm) (K : List ℕ) (s : Sym) where
   pub moves_to_last : (p e : ℕ) (ends : List ℕ) (found : Option ℕ) → MovesOn N K s → IsLastAmong (DerivesSpan N K s p) ends found → found ≡ Some e → p < e
   moves_to_last p e ends found moves last is = moves p e (subst (IsLastAmong (DerivesSpan N K s p) ends) is last).holds
 
-  pub one_element_after : (i j : ℕ) (part : Part) (old parts : List Part) → i < j → DerivesSpan N K s i j → part.slot ≡ s → part.first ≡ i → part.end ≡ j → old ≡ [] → parts ≡ old ++ part ∷ [] → AreElements N K s i j parts
-  one_element_after i j part old parts lt d slot first end none e = one_element i j part parts lt d slot first end (e ∙ ap (λ (l : List Part). l ++ part ∷ []) none)
+  pub one_element_after : (i j : ℕ) (part : Part) (old parts : List Part) → i < j → DerivesSpan N K s i j → part.slot ≡ s → part.first ≡ i → part.end ≡ j
+      → old ≡ [] → parts ≡ old ++ part ∷ [] → AreElements N K s i j parts
+  one_element_after i j part old parts lt d slot first end none e =
+      one_element i j part parts lt d slot first end (e ∙ ap (λ (l : List Part). l ++ part ∷ []) none)
 
   pub no_elements : (i j : ℕ) (parts : List Part) → parts ≡ [] → i ≡ j → DerivesSpanMany N K s i j → AreElements N K s i j parts
   no_elements i j parts none e d = subst (AreElements N K s i j) (sym none) (e, omega (arith, e, (many_within i j d).1))

@@ -1,5 +1,6 @@
 -- Nodes in preorder: one more node, and what is asked for after it.
-use Rattle.std.proofs.Common.{◌≡◌, ℕ, suc, ◌+◌, List, [], ◌∷◌, ◌++◌, Some, None, length, map, slice_get, refl, sym, ap, ◌∙◌, subst, arith, append_assoc, length-append}
+use Rattle.std.proofs.Common.{◌≡◌, ℕ, suc, ◌+◌, List, [], ◌∷◌, ◌++◌, Some, None, length, map, slice_get, refl}
+use Rattle.std.proofs.Common.{sym, ap, ◌∙◌, subst, arith, append_assoc, length-append}
 use Rattle.std.proofs.lemmas.List.{append-nil}
 use Rattle.normal_form.specs.declared.normal.Sym.{Sym}
 use Rattle.normal_form.specs.declared.normal.Sym.TheVariants.{Kind, Set, Rule}
@@ -70,7 +71,8 @@ module _ (N : NormalForm) (K : List ℕ) where
   at_number m n later xs e h = subst (λ (x : ℕ). Completes N K x later xs) e h
 
   module _ (law : PreferredTreesAreValid) where
-    pub splits : (q m i j : ℕ) (ps : List Part) (later : List Asked) (xs : List Node) → Chain i j ps → Completes N K m (map (below q) ps ++ later) xs → Splits q m i j ps later xs
+    pub splits : (q m i j : ℕ) (ps : List Part) (later : List Asked) (xs : List Node) → Chain i j ps → Completes N K m (map (below q) ps ++ later) xs
+        → Splits q m i j ps later xs
     splits q m i j [] later xs c h = record {
       trees = PlainTrees.none;
       others = xs;
@@ -88,7 +90,8 @@ module _ (N : NormalForm) (K : List ℕ) where
           trees = PlainTrees.next t ts;
           others = more.others;
           preferred = (pref, more.preferred);
-          numbered = ap (λ (x : PlainTree). PlainTrees.next x (renumbered_all (m + size t) ts)) num ∙ ap (λ (x : PlainTrees). PlainTrees.next t x) more.numbered;
+          numbered =
+              ap (λ (x : PlainTree). PlainTrees.next x (renumbered_all (m + size t) ts)) num ∙ ap (λ (x : PlainTrees). PlainTrees.next t x) more.numbered;
           nodes =
               eq
               ∙ ap (λ (x : ℕ). nodes_of N p.slot (Some q) x t ++ ys) c.0
@@ -103,7 +106,8 @@ module _ (N : NormalForm) (K : List ℕ) where
     abbrev node_with : Asked → ℕ → Sym → ℕ → ℕ → Node
     node_with a alt s c e = record { sym = s; slot = a.part.slot; alt = alt; children = c; parent = a.parent; first = a.part.first; end = e }
 
-    rule_completes : (n r alt : ℕ) (a : Asked) (ps : List Part) (later : List Asked) (xs : List Node) → a.part.slot ≡ Rule r → AreOfRule N K r alt a.part.first a.part.end ps →
+    rule_completes : (n r alt : ℕ) (a : Asked) (ps : List Part) (later : List Asked) (xs : List Node) → a.part.slot ≡ Rule r
+        → AreOfRule N K r alt a.part.first a.part.end ps →
         Completes N K (n + 1) (map (below n) ps ++ later) xs → Completes N K n (a ∷ later) (rule_node a alt (length ps) ∷ xs)
     rule_completes n r alt a ps later xs slot are h =
         let i = a.part.first in
@@ -114,8 +118,10 @@ module _ (N : NormalForm) (K : List ℕ) where
         let below-it = slots_are N K r alt i j ps ts are split.preferred in
         let preferred = subst (λ (s : Sym). Preferred N K s i j t) (sym slot) (tree_of_parts N K n r alt i j ps ts are split.preferred) in
         let node : rule_node a alt (length ps) ≡ node_with a alt (Rule r) (count ts) (i + weight_all ts) =
-        ap (λ (s : Sym). node_with a alt s (length ps) j) slot ∙ ap (λ (c : ℕ). node_with a alt (Rule r) c j) (sym (count_is N K ps ts split.preferred)) ∙ ap (λ (e : ℕ). node_with a alt (Rule r) (count ts) e) (sym split.long) in
-        let children : xs ≡ nodes_of_all N (slots_of N r alt ts) (Some n) i ts ++ split.others = split.nodes ∙ ap (λ (ss : List Sym). nodes_of_all N ss (Some n) i ts ++ split.others) (sym below-it) in (
+        ap (λ (s : Sym). node_with a alt s (length ps) j) slot ∙ ap (λ (c : ℕ). node_with a alt (Rule r) c j) (sym (count_is N K ps ts split.preferred))
+        ∙ ap (λ (e : ℕ). node_with a alt (Rule r) (count ts) e) (sym split.long) in
+        let children : xs ≡ nodes_of_all N (slots_of N r alt ts) (Some n) i ts ++ split.others =
+        split.nodes ∙ ap (λ (ss : List Sym). nodes_of_all N ss (Some n) i ts ++ split.others) (sym below-it) in (
           t,
           split.others,
           preferred,
@@ -126,28 +132,36 @@ module _ (N : NormalForm) (K : List ℕ) where
 
     -- One more node, and what then is asked for: whatever completes that completes the root.
     one_more : (root a : Asked) (x : Node) (nodes : List Node) (later new : List Asked) → AreBegun N K root nodes (a ∷ later) →
-        ((xs : List Node) → Completes N K (length nodes + 1) new xs → Completes N K (length nodes) (a ∷ later) (x ∷ xs)) → AreBegun N K root (nodes ++ x ∷ []) new
+        ((xs : List Node) → Completes N K (length nodes + 1) new xs → Completes N K (length nodes) (a ∷ later) (x ∷ xs))
+        → AreBegun N K root (nodes ++ x ∷ []) new
     one_more root a x nodes later new begun step xs h =
         let at = at_number (length (nodes ++ x ∷ [])) (length nodes + 1) new xs (length-append nodes (x ∷ [])) h in
         subst (λ (l : List Node). Completes N K 0 (root ∷ []) l) (sym (append_assoc nodes (x ∷ []) xs)) (begun (x ∷ xs) (step xs at))
 
-    pub rule_begun : (root a : Asked) (r alt : ℕ) (ps : List Part) (nodes : List Node) (later : List Asked) → a.part.slot ≡ Rule r → AreOfRule N K r alt a.part.first a.part.end ps →
+    pub rule_begun : (root a : Asked) (r alt : ℕ) (ps : List Part) (nodes : List Node) (later : List Asked) → a.part.slot ≡ Rule r
+        → AreOfRule N K r alt a.part.first a.part.end ps →
         AreBegun N K root nodes (a ∷ later) → AreBegun N K root (nodes ++ rule_node a alt (length ps) ∷ []) (map (below (length nodes)) ps ++ later)
     rule_begun root a r alt ps nodes later slot are begun =
-        one_more root a (rule_node a alt (length ps)) nodes later (map (below (length nodes)) ps ++ later) begun (λ xs h. rule_completes (length nodes) r alt a ps later xs slot are h)
+        one_more root a (rule_node a alt (length ps)) nodes later (map (below (length nodes)) ps ++ later) begun
+        (λ xs h. rule_completes (length nodes) r alt a ps later xs slot are h)
 
-    leaf_completes : (n k : ℕ) (a : Asked) (later : List Asked) (xs : List Node) → Preferred N K a.part.slot a.part.first a.part.end (PlainTree.leaf n k a.part.first) → a.part.end ≡ a.part.first + 1 →
+    leaf_completes : (n k : ℕ) (a : Asked) (later : List Asked) (xs : List Node)
+        → Preferred N K a.part.slot a.part.first a.part.end (PlainTree.leaf n k a.part.first) → a.part.end ≡ a.part.first + 1 →
         Completes N K (n + 1) later xs → Completes N K n (a ∷ later) (leaf_node a k ∷ xs)
     leaf_completes n k a later xs pref e h =
-        let leaf_with : ℕ → Node = λ (e : ℕ). record { sym = Kind k; slot = a.part.slot; alt = 0; children = 0; parent = a.parent; first = a.part.first; end = e } in
+        let leaf_with : ℕ → Node =
+        λ (e : ℕ). record { sym = Kind k; slot = a.part.slot; alt = 0; children = 0; parent = a.parent; first = a.part.first; end = e } in
         (PlainTree.leaf n k a.part.first, xs, pref, refl, ap (λ (e : ℕ). leaf_with e ∷ xs) e, h)
 
-    pub leaf_begun : (root a : Asked) (k : ℕ) (nodes : List Node) (later : List Asked) → Preferred N K a.part.slot a.part.first a.part.end (PlainTree.leaf (length nodes) k a.part.first) → a.part.end ≡ a.part.first + 1 →
+    pub leaf_begun : (root a : Asked) (k : ℕ) (nodes : List Node) (later : List Asked)
+        → Preferred N K a.part.slot a.part.first a.part.end (PlainTree.leaf (length nodes) k a.part.first) → a.part.end ≡ a.part.first + 1 →
         AreBegun N K root nodes (a ∷ later) → AreBegun N K root (nodes ++ leaf_node a k ∷ []) later
-    leaf_begun root a k nodes later pref e begun = one_more root a (leaf_node a k) nodes later later begun (λ xs h. leaf_completes (length nodes) k a later xs pref e h)
+    leaf_begun root a k nodes later pref e begun =
+        one_more root a (leaf_node a k) nodes later later begun (λ xs h. leaf_completes (length nodes) k a later xs pref e h)
 
     -- Where nothing is asked for any more, the nodes are those of the preferred tree.
-    pub all_made : (start : Sym) (j : ℕ) (nodes : List Node) → AreBegun N K (record { part = record { slot = start; first = 0; end = j }; parent = None }) nodes [] →
+    pub all_made : (start : Sym) (j : ℕ) (nodes : List Node)
+        → AreBegun N K (record { part = record { slot = start; first = 0; end = j }; parent = None }) nodes [] →
         (t : PlainTree) × Preferred N K start 0 j t × AreNodesOf N start nodes t
     all_made start j nodes begun =
         let (t, others, pref, num, eq, rest) = begun [] refl in
@@ -170,8 +184,18 @@ module _ (N : NormalForm) (K : List ℕ) where
   pub token : (form : SpansByForm N K) (s : Sym) (i j : ℕ) → ((r : ℕ) → s ≡ Rule r → ⊥) → DerivesSpan N K s i j → IsToken s i j
   token form (Kind k) i j other d =
       let (at, end) = (form.kind k i j).0 d in
-      record { kind = k; at = at; end = end; leaf = λ n. subst (λ (x : ℕ). Preferred N K (Kind k) i x (PlainTree.leaf n k i)) (sym end) (Preferred.of_kind n k i at) }
+      record {
+        kind = k;
+        at = at;
+        end = end;
+        leaf = λ n. subst (λ (x : ℕ). Preferred N K (Kind k) i x (PlainTree.leaf n k i)) (sym end) (Preferred.of_kind n k i at);
+      }
   token form (Set g) i j other d =
       let (ks, k, has, c, at, end) = (form.set g i j).0 d in
-      record { kind = k; at = at; end = end; leaf = λ n. subst (λ (x : ℕ). Preferred N K (Set g) i x (PlainTree.leaf n k i)) (sym end) (Preferred.of_set n g k i ks has c at) }
+      record {
+        kind = k;
+        at = at;
+        end = end;
+        leaf = λ n. subst (λ (x : ℕ). Preferred N K (Set g) i x (PlainTree.leaf n k i)) (sym end) (Preferred.of_set n g k i ks has c at);
+      }
   token form (Rule r) i j other d = absurd (other r refl)

@@ -51,7 +51,8 @@ module _ (N : NormalForm) (K : List ℕ) where
       let one = are.1 in
       PreferredMany.of_more s i p.end j t ts are.0 (of_part s i p t one.slot one.first h.0) (many_of s p.end j ps ts are.2 h.1) one.longest
 
-  content_of : (n r i j : ℕ) (s : Sym) (ps : List Part) (ts : PlainTrees) → slice_get N.rules r ≡ Some (RuleForm.opt s) → IsContent N K s i j ps → ArePreferred ps ts → Preferred N K (Rule r) i j (PlainTree.node n r 0 ts)
+  content_of : (n r i j : ℕ) (s : Sym) (ps : List Part) (ts : PlainTrees) → slice_get N.rules r ≡ Some (RuleForm.opt s) → IsContent N K s i j ps
+      → ArePreferred ps ts → Preferred N K (Rule r) i j (PlainTree.node n r 0 ts)
   content_of n r i j s [] PlainTrees.none rule is h =
       let not = subst (λ (x : ℕ). ¬ DerivesSpan N K s i x) (sym is.0) is.2 in
       subst (λ (x : ℕ). Preferred N K (Rule r) i x (PlainTree.node n r 0 PlainTrees.none)) is.0 (Preferred.of_absent n r i s rule is.1 not)
@@ -62,24 +63,29 @@ module _ (N : NormalForm) (K : List ℕ) where
   content_of n r i j s (p ∷ []) (PlainTrees.next t (PlainTrees.next u us)) rule is h = absurd h.1
   content_of n r i j s (p ∷ q ∷ ps) ts rule is h = absurd is
 
-  plus_of : (n r i j : ℕ) (s : Sym) (ps : List Part) (ts : PlainTrees) → slice_get N.rules r ≡ Some (RuleForm.plus s) → i < j → AreElements N K s i j ps → ArePreferred ps ts → Preferred N K (Rule r) i j (PlainTree.node n r 0 ts)
+  plus_of : (n r i j : ℕ) (s : Sym) (ps : List Part) (ts : PlainTrees) → slice_get N.rules r ≡ Some (RuleForm.plus s) → i < j → AreElements N K s i j ps
+      → ArePreferred ps ts → Preferred N K (Rule r) i j (PlainTree.node n r 0 ts)
   plus_of n r i j s [] ts rule l are h = absurd (omega (arith, l, are.0))
   plus_of n r i j s (p ∷ ps) PlainTrees.none rule l are h = absurd h
   plus_of n r i j s (p ∷ ps) (PlainTrees.next t ts) rule l are h =
       let one = are.1 in
       Preferred.of_plus n r i p.end j s t ts rule (of_part s i p t one.slot one.first h.0) (many_of s p.end j ps ts are.2 h.1) one.longest
 
-  in_first : (n r i j a : ℕ) (ts : PlainTrees) → a ≡ 0 → Preferred N K (Rule r) i j (PlainTree.node n r 0 ts) → Preferred N K (Rule r) i j (PlainTree.node n r a ts)
+  in_first : (n r i j a : ℕ) (ts : PlainTrees) → a ≡ 0 → Preferred N K (Rule r) i j (PlainTree.node n r 0 ts)
+      → Preferred N K (Rule r) i j (PlainTree.node n r a ts)
   in_first n r i j a ts e h = subst (λ (x : ℕ). Preferred N K (Rule r) i j (PlainTree.node n r x ts)) (sym e) h
 
-  tree_of_form : (n r a i j : ℕ) (form : RuleForm) (ps : List Part) (ts : PlainTrees) → slice_get N.rules r ≡ Some form → AreOfForm N K form a i j ps → ArePreferred ps ts → Preferred N K (Rule r) i j (PlainTree.node n r a ts)
-  tree_of_form n r a i j (RuleForm.regular alts) ps ts rule (alt, at, least, are) h = Preferred.of_regular n r a i j alts alt ts rule at least (seq_of alt i j ps ts are h)
+  tree_of_form : (n r a i j : ℕ) (form : RuleForm) (ps : List Part) (ts : PlainTrees) → slice_get N.rules r ≡ Some form → AreOfForm N K form a i j ps
+      → ArePreferred ps ts → Preferred N K (Rule r) i j (PlainTree.node n r a ts)
+  tree_of_form n r a i j (RuleForm.regular alts) ps ts rule (alt, at, least, are) h =
+      Preferred.of_regular n r a i j alts alt ts rule at least (seq_of alt i j ps ts are h)
   tree_of_form n r a i j (RuleForm.opt s) ps ts rule are h = in_first n r i j a ts are.0 (content_of n r i j s ps ts rule are.1 h)
   tree_of_form n r a i j (RuleForm.star s) ps ts rule are h = in_first n r i j a ts are.0 (Preferred.of_star n r i j s ts rule (many_of s i j ps ts are.1 h))
   tree_of_form n r a i j (RuleForm.plus s) ps ts rule are h = in_first n r i j a ts are.0 (plus_of n r i j s ps ts rule are.1 are.2 h)
 
   -- The node with the trees of the parts is the preferred tree of the rule.
-  pub tree_of_parts : (n r a i j : ℕ) (ps : List Part) (ts : PlainTrees) → AreOfRule N K r a i j ps → ArePreferred ps ts → Preferred N K (Rule r) i j (PlainTree.node n r a ts)
+  pub tree_of_parts : (n r a i j : ℕ) (ps : List Part) (ts : PlainTrees) → AreOfRule N K r a i j ps → ArePreferred ps ts
+      → Preferred N K (Rule r) i j (PlainTree.node n r a ts)
   tree_of_parts n r a i j ps ts (form, rule, are) h = tree_of_form n r a i j form ps ts rule are h
 
   -- the symbols of parts
@@ -91,7 +97,8 @@ module _ (N : NormalForm) (K : List ℕ) where
 
   slots_of_many : (s : Sym) (i j : ℕ) (ps : List Part) → AreElements N K s i j ps → replicate (length ps) s ≡ slots ps
   slots_of_many s i j [] are = refl
-  slots_of_many s i j (p ∷ ps) are = ap (λ (x : Sym). x ∷ replicate (length ps) s) (sym are.1.slot) ∙ ap (λ (xs : List Sym). p.slot ∷ xs) (slots_of_many s p.end j ps are.2)
+  slots_of_many s i j (p ∷ ps) are =
+      ap (λ (x : Sym). x ∷ replicate (length ps) s) (sym are.1.slot) ∙ ap (λ (xs : List Sym). p.slot ∷ xs) (slots_of_many s p.end j ps are.2)
 
   slots_of_content : (s : Sym) (i j : ℕ) (ps : List Part) → IsContent N K s i j ps → replicate (length ps) s ≡ slots ps
   slots_of_content s i j [] is = refl
@@ -99,7 +106,8 @@ module _ (N : NormalForm) (K : List ℕ) where
   slots_of_content s i j (p ∷ q ∷ ps) is = absurd is
 
   by_form : (a i j : ℕ) (form : RuleForm) (ps : List Part) → AreOfForm N K form a i j ps → slots_of_form form a (length ps) ≡ slots ps
-  by_form a i j (RuleForm.regular alts) ps (alt, at, least, are) = ap (λ (o : Option (List Sym)). option_map_or (λ alt. alt) o []) at ∙ slots_of_seq alt i j ps are
+  by_form a i j (RuleForm.regular alts) ps (alt, at, least, are) =
+      ap (λ (o : Option (List Sym)). option_map_or (λ alt. alt) o []) at ∙ slots_of_seq alt i j ps are
   by_form a i j (RuleForm.opt s) ps are = slots_of_content s i j ps are.1
   by_form a i j (RuleForm.star s) ps are = slots_of_many s i j ps are.1
   by_form a i j (RuleForm.plus s) ps are = slots_of_many s i j ps are.2

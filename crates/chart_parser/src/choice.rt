@@ -26,7 +26,8 @@ fn first_alternative(
     requires few { length alternatives.now < 2 ^ 32 }
     requires first { part.first ≤ length chart.old.kinds }
     requires end { part.end ≤ length chart.old.kinds }
-    requires derived { (a : ℕ) × (alt : List Sym) × (slice_get (alts_form alternatives.now) a ≡ Some alt) × DerivesSpanSeq chart.old.normal chart.old.kinds alt part.first part.end }
+    requires derived { (a : ℕ) × (alt : List Sym) × (slice_get (alts_form alternatives.now) a ≡ Some alt)
+        × DerivesSpanSeq chart.old.normal chart.old.kinds alt part.first part.end }
     ensures same { chart.new ≡ chart.old }
     ensures parts { IfOk result (λ a. AreOfLeast chart.old.normal chart.old.kinds (alts_form alternatives.now) a part.first part.end parts.new.items) }
 {
@@ -45,7 +46,8 @@ fn add_content(
     part: Part,
     parts: &mut Vec<Part>,
 ) -> Result<(), Memory>
-    requires derived { ((part.first ≡ part.end) × (part.first ≤ length chart.old.kinds)) ⊎ DerivesSpan chart.old.normal chart.old.kinds symbol part.first part.end }
+    requires derived { ((part.first ≡ part.end) × (part.first ≤ length chart.old.kinds))
+        ⊎ DerivesSpan chart.old.normal chart.old.kinds symbol part.first part.end }
     requires none { parts.old.items ≡ [] }
     ensures same { chart.new ≡ chart.old }
     ensures content { OnOk result (IsContent chart.old.normal chart.old.kinds symbol part.first part.end parts.new.items) }

@@ -29,7 +29,8 @@ fn keep_going_on(
     requires within { end ≤ length chart.old.kinds }
     ensures same { chart.new ≡ chart.old }
     ensures within { IfOk result (λ from. from ≤ vec_len positions.new) }
-    ensures going_on { IfOk result (λ from. HasExactly (ElementsGoOn chart.old.normal chart.old.kinds symbol end positions.old.items) (drop from positions.new.items)) }
+    ensures going_on { IfOk result (λ from. HasExactly (ElementsGoOn chart.old.normal chart.old.kinds symbol end positions.old.items)
+        (drop from positions.new.items)) }
 {
     let count = positions.len();
     positions.push(end)?;

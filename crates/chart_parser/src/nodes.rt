@@ -49,7 +49,8 @@ fn add_rule_node(
     ensures same { chart.new ≡ chart.old }
     ensures count { OnOk result (vec_len nodes.new ≡ vec_len nodes.old + 1) }
     ensures derived { OnOk result (AreDerived chart.old.normal chart.old.kinds (reverse stack.new.items)) }
-    ensures begun { (root : Asked) → AreBegun chart.old.normal chart.old.kinds root nodes.old.items (asked ∷ reverse stack.old.items) → OnOk result (AreBegun chart.old.normal chart.old.kinds root nodes.new.items (reverse stack.new.items)) }
+    ensures begun { (root : Asked) → AreBegun chart.old.normal chart.old.kinds root nodes.old.items (asked ∷ reverse stack.old.items)
+        → OnOk result (AreBegun chart.old.normal chart.old.kinds root nodes.new.items (reverse stack.new.items)) }
 {
     preferred_trees_are_valid();
     let number = nodes.len() as u32;
@@ -100,7 +101,8 @@ pub(crate) fn preferred_nodes(
     requires kinds { chart.old.kinds ≡ kinds.now }
     requires few { length kinds.now < 2 ^ 32 }
     requires derived { DerivesSpan chart.old.normal chart.old.kinds start 0 (length kinds.now) }
-    ensures tree { IfOk result (λ nodes. (t : PlainTree) × Preferred chart.old.normal chart.old.kinds start 0 (length kinds.now) t × AreNodesOf chart.old.normal start nodes.items t) }
+    ensures tree { IfOk result (λ nodes. (t : PlainTree) × Preferred chart.old.normal chart.old.kinds start 0 (length kinds.now) t
+        × AreNodesOf chart.old.normal start nodes.items t) }
     ensures few { IfOk result (λ nodes. vec_len nodes < 2 ^ 32) }
 {
     preferred_trees_are_valid();

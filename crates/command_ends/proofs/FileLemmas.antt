@@ -8,13 +8,15 @@ use Rattle.command_ends.specs.World.{IsOver, IsShownWithin, WasRead}
 pub not_over : (limit : ℕ) (content : Option FileContent) (bytes : List ℕ) → Holds bytes content → length bytes ≤ limit → IsOver limit content → ⊥
 not_over limit None bytes here within over = over
 not_over limit (Some None) bytes here within over = over
-not_over limit (Some (Some held)) bytes here within over = let same : length held ≡ length bytes = ap length (same_Some held bytes here) in omega (arith, same, within, over)
+not_over limit (Some (Some held)) bytes here within over = let same : length held ≡ length bytes =
+    ap length (same_Some held bytes here) in omega (arith, same, within, over)
 
 pub read_not_over : {limit : ℕ} {content : Option FileContent} {P : List ℕ → Type 0} → WasRead limit content P → IsOver limit content → ⊥
 read_not_over {limit = limit} {content = content} read = not_over limit content read.bytes read.read read.within
 
 -- what is visible of a file within a limit isn't at odds with its bytes
-pub not_both : (limit : ℕ) (P Q : List ℕ → Type 0) → ((bytes : List ℕ) → P bytes → Q bytes → ⊥) → (content : Option FileContent) → IsShownWithin limit content P → (bytes : List ℕ) → Holds bytes content → Q bytes → ⊥
+pub not_both : (limit : ℕ) (P Q : List ℕ → Type 0) → ((bytes : List ℕ) → P bytes → Q bytes → ⊥) → (content : Option FileContent) → IsShownWithin limit content P
+    → (bytes : List ℕ) → Holds bytes content → Q bytes → ⊥
 not_both limit P Q never None holds bytes here is = holds
 not_both limit P Q never (Some None) holds bytes here is = holds
 not_both limit P Q never (Some (Some held)) holds bytes here is = never bytes (subst P (same_Some held bytes here) holds.1) is
@@ -23,7 +25,8 @@ not_both limit P Q never (Some (Some held)) holds bytes here is = never bytes (s
 pub not_longer : (limit : ℕ) (P : List ℕ → Type 0) (content : Option FileContent) → IsShownWithin limit content P → IsLonger limit content → ⊥
 not_longer limit P None within longer = within
 not_longer limit P (Some None) within longer = within
-not_longer limit P (Some (Some held)) within longer = let same : length held ≡ length longer.0 = ap length (same_Some held longer.0 longer.1) in omega (arith, same, within.0, longer.2)
+not_longer limit P (Some (Some held)) within longer = let same : length held ≡ length longer.0 =
+    ap length (same_Some held longer.0 longer.1) in omega (arith, same, within.0, longer.2)
 
 -- a file that was read, or is longer than a limit, is there
 pub not_missing : (content : Option FileContent) (bytes : List ℕ) → Holds bytes content → content ≡ Some None → ⊥

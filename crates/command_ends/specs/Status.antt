@@ -1,4 +1,5 @@
--- The refusals of the program: the status and the line of each, and which of them a step may give. The texts are also written where the ends of each command are defined, so that those can be read by themselves.
+-- The refusals of the program: the status and the line of each, and which of them a step may give. The texts are
+-- also written where the ends of each command are defined, so that those can be read by themselves.
 use Rattle.std.specs.Prelude.{◌≡◌, ◌⊎◌, ℕ, ◌==◌, List, ◌++◌, IsTrue, Option, codes, string_bytes}
 use Rattle.std.specs.List.{list_any}
 use Rattle.std.specs.Fmt.{decimal}
@@ -11,7 +12,8 @@ use Rattle.run_gated.specs.declared.fault.RunFault.TheVariants as run
 use Rattle.command_ends.specs.declared.status.NamedFile.{NamedFile}
 use Rattle.command_ends.specs.declared.status.NamedFile.TheVariants as read
 use Rattle.command_ends.specs.declared.status.Refusal.{Refusal}
-use Rattle.command_ends.specs.declared.status.Refusal.TheVariants.{Memory, Usage, CannotRead, CannotWrite, Grammar, Uncut, NoParse, NotInteresting, KeepMissing, TooLong, Script, Journal}
+use Rattle.command_ends.specs.declared.status.Refusal.TheVariants.{Memory, Usage, CannotRead, CannotWrite, Grammar, Uncut, NoParse}
+use Rattle.command_ends.specs.declared.status.Refusal.TheVariants.{NotInteresting, KeepMissing, TooLong, Script, Journal}
 use Rattle.command_ends.specs.World.{PutsPrefix, CallFailed, FilesKept, IsQuiet, Puts, PutsLine, SeenFiles, SeenOut, line_of_text}
 
 -- how a line names a file that is read

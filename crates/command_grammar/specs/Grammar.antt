@@ -51,5 +51,6 @@ GrammarFails named files files' Memory = IsQuiet files files'
 GrammarFails named files files' (CannotRead file) = (file ≡ read.Grammar) × CallFailed files files'
 GrammarFails named files files' (TooLong file) = (file ≡ read.Grammar) × IsLonger grammar_limit (files.shown named.path) × IsQuiet files files'
 GrammarFails named files files' (Grammar line) =
-    (text : List ℕ) × WasRead grammar_limit (files.shown named.path) (λ bytes. IsFaultIn named bytes text) × (string_bytes line ≡ fault_line text) × IsQuiet files files'
+    (text : List ℕ) × WasRead grammar_limit (files.shown named.path) (λ bytes. IsFaultIn named bytes text) × (string_bytes line ≡ fault_line text)
+    × IsQuiet files files'
 GrammarFails named files files' _ = ⊥

@@ -47,7 +47,8 @@ pub fn grammar_of_file<F: Files>(
 ) -> Result<Checked, Refusal>
     ensures grammar { IfOk result (λ checked. GrammarRead (grammar_read grammar.entry) (F.content files.old grammar.entry.path.now) checked) }
     ensures quiet { OnOk result (IsQuiet (seen F.content F.faults files.old) (seen F.content F.faults files.new)) }
-    ensures refused { IfErr result (λ refusal. GrammarFails (grammar_read grammar.entry) (seen F.content F.faults files.old) (seen F.content F.faults files.new) refusal) }
+    ensures refused { IfErr result (λ refusal. GrammarFails (grammar_read grammar.entry) (seen F.content F.faults files.old)
+        (seen F.content F.faults files.new) refusal) }
     ensures same { SameFiles (F.content files.old) (F.content files.new) }
 {
     let text = read_file(files, grammar.path, GRAMMAR_LIMIT, NamedFile::Grammar)?;

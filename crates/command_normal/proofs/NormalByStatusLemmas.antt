@@ -16,7 +16,8 @@ module _ (grammar : GrammarSource) (files files' : SeenFiles) (out out' : SeenOu
   abbrev Ends : ℕ → Type 0
   Ends status = NormalEnds grammar files files' out out' status
 
-  is_done : {status : ℕ} → Ends status → status ≡ 0 → (text : List ℕ) × WasRead grammar_limit (files.shown grammar.path) (λ bytes. IsNormalOf grammar bytes text) × Puts text out out'
+  is_done : {status : ℕ} → Ends status → status ≡ 0 → (text : List ℕ)
+      × WasRead grammar_limit (files.shown grammar.path) (λ bytes. IsNormalOf grammar bytes text) × Puts text out out'
   is_done (done text read quiet put) is = (text, read, put)
   is_done _ is = absurd (cc is)
 
@@ -24,11 +25,13 @@ module _ (grammar : GrammarSource) (files files' : SeenFiles) (out out' : SeenOu
   is_unread (unread failed put) is = failed
   is_unread _ is = absurd (cc is)
 
-  is_unput : {status : ℕ} → Ends status → status ≡ 4 → (text : List ℕ) × WasRead grammar_limit (files.shown grammar.path) (λ bytes. IsNormalOf grammar bytes text) × PutsPrefix text out out'
+  is_unput : {status : ℕ} → Ends status → status ≡ 4 → (text : List ℕ)
+      × WasRead grammar_limit (files.shown grammar.path) (λ bytes. IsNormalOf grammar bytes text) × PutsPrefix text out out'
   is_unput (unput text read quiet put) is = (text, read, put)
   is_unput _ is = absurd (cc is)
 
-  is_faulty : {status : ℕ} → Ends status → status ≡ 5 → (text : List ℕ) × WasRead grammar_limit (files.shown grammar.path) (λ bytes. IsFaultIn grammar bytes text) × PutsLine (fault_line text) out out'
+  is_faulty : {status : ℕ} → Ends status → status ≡ 5 → (text : List ℕ)
+      × WasRead grammar_limit (files.shown grammar.path) (λ bytes. IsFaultIn grammar bytes text) × PutsLine (fault_line text) out out'
   is_faulty (faulty text read quiet put) is = (text, read, put)
   is_faulty _ is = absurd (cc is)
 

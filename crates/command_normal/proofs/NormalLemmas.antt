@@ -16,8 +16,11 @@ use Rattle.command_ends.specs.World.{IsQuiet, PutsLine, SeenFiles, SeenOut, WasR
 use Rattle.command_ends.proofs.Lent.{not_both, not_longer, read_not_over, longer_not_missing, read_not_missing}
 
 -- the form of a grammar that was read
-pub is_formed : (named : GrammarSource) (content : Option FileContent) (grammar : CheckedGrammar) (text : List ℕ) → GrammarRead named content grammar → ((bytes : List ℕ) → Spells bytes (start_name named) grammar → IsNormalOf named bytes text) → WasRead grammar_limit content (λ bytes. IsNormalOf named bytes text)
-is_formed named content grammar text read formed = record { bytes = read.bytes; read = read.read; within = read.within; holds = formed read.bytes read.holds.spelled }
+pub is_formed : (named : GrammarSource) (content : Option FileContent) (grammar : CheckedGrammar) (text : List ℕ) → GrammarRead named content grammar
+    → ((bytes : List ℕ) → Spells bytes (start_name named) grammar → IsNormalOf named bytes text)
+    → WasRead grammar_limit content (λ bytes. IsNormalOf named bytes text)
+is_formed named content grammar text read formed =
+    record { bytes = read.bytes; read = read.read; within = read.within; holds = formed read.bytes read.holds.spelled }
 
 module _ (grammar : GrammarSource) (files files' : SeenFiles) where
   -- what gives no grammar ends the command
@@ -34,22 +37,36 @@ module _ (grammar : GrammarSource) (files files' : SeenFiles) where
 
   module _ (out out' : SeenOut) where
     -- the end of the command
-    pub normal_ends : {A : Type 0} (outcome : Result (Vec ℕ A) Refusal) (status : ℕ) → IfOk outcome (λ form. WasRead grammar_limit (files.shown grammar.path) (λ bytes. IsNormalOf grammar bytes form.items)) → OnOk outcome (IsQuiet files files')
+    pub normal_ends : {A : Type 0} (outcome : Result (Vec ℕ A) Refusal) (status : ℕ)
+        → IfOk outcome (λ form. WasRead grammar_limit (files.shown grammar.path) (λ bytes. IsNormalOf grammar bytes form.items))
+        → OnOk outcome (IsQuiet files files')
         → IfErr outcome (λ refusal. NormalFails grammar files files' refusal)
-        → MatchResult outcome (λ answer. EndsWithAnswer answer.items out out' status) (λ refusal. EndsRefused out out' status refusal) → NormalEnds grammar files files' out out' status
-    normal_ends (Ok form) status formed quiet fails (inl (is, put)) = subst (NormalEnds grammar files files' out out') (sym is) (done form.items formed quiet put)
-    normal_ends (Ok form) status formed quiet fails (inr (is, put)) = subst (NormalEnds grammar files files' out out') (sym is) (unput form.items formed quiet put)
+        → MatchResult outcome (λ answer. EndsWithAnswer answer.items out out' status) (λ refusal. EndsRefused out out' status refusal)
+        → NormalEnds grammar files files' out out' status
+    normal_ends (Ok form) status formed quiet fails (inl (is, put)) =
+        subst (NormalEnds grammar files files' out out') (sym is) (done form.items formed quiet put)
+    normal_ends (Ok form) status formed quiet fails (inr (is, put)) =
+        subst (NormalEnds grammar files files' out out') (sym is) (unput form.items formed quiet put)
     normal_ends (Err refusal) status formed quiet fails end = subst (NormalEnds grammar files files' out out') (sym end.status_is) (fails out out' end.line)
 
     is_grammar : (bytes text : List ℕ) → IsNormalOf grammar bytes text → IsGrammarText grammar bytes
-    is_grammar bytes text is = record { grammar = is.grammar.grammar; start = is.grammar.start; spelled = is.spelled.text; first = is.spelled.start; well_formed = is.spelled.checked.well_formed }
+    is_grammar bytes text is =
+        record {
+          grammar = is.grammar.grammar;
+          start = is.grammar.start;
+          spelled = is.spelled.text;
+          first = is.spelled.start;
+          well_formed = is.spelled.checked.well_formed;
+        }
 
     -- which status it has to be
     normal_must_end : {status : ℕ} → NormalEnds grammar files files' out out' status → NormalMustEnd grammar files files' out out' status
     normal_must_end (done text is quiet put) = record {
       over = λ over. absurd (read_not_over is over);
       missing = λ none. absurd (read_not_missing is none);
-      faulty = λ shown. absurd (not_both grammar_limit (λ bytes. ¬ IsGrammarText grammar bytes) (IsGrammarText grammar) (λ bytes no yes. no yes) _ shown is.bytes is.read (is_grammar is.bytes text is.holds));
+      faulty =
+          λ shown. absurd (not_both grammar_limit (λ bytes. ¬ IsGrammarText grammar bytes) (IsGrammarText grammar)
+          (λ bytes no yes. no yes) _ shown is.bytes is.read (is_grammar is.bytes text is.holds));
       complete = λ shown files_fine out_fine. inl refl;
       files_failed = λ failed. absurd (failed quiet);
       out_failed = λ failed. absurd (failed put.quiet);
@@ -73,7 +90,8 @@ module _ (grammar : GrammarSource) (files files' : SeenFiles) where
     normal_must_end (unput text is quiet put) = record {
       over = λ over. absurd (read_not_over is over);
       missing = λ none. absurd (read_not_missing is none);
-      faulty = λ shown. absurd (not_both grammar_limit (λ bytes. ¬ IsGrammarText grammar bytes) (IsGrammarText grammar) (λ bytes no yes. no yes) _ shown is.bytes is.read (is_grammar is.bytes text is.holds));
+      faulty = λ shown. absurd (not_both grammar_limit (λ bytes. ¬ IsGrammarText grammar bytes) (IsGrammarText grammar)
+          (λ bytes no yes. no yes) _ shown is.bytes is.read (is_grammar is.bytes text is.holds));
       complete = λ shown files_fine out_fine. absurd (out_fine put.failed);
       files_failed = λ failed. absurd (failed quiet);
       out_failed = λ failed is. cc is;
@@ -82,7 +100,9 @@ module _ (grammar : GrammarSource) (files files' : SeenFiles) where
       over = λ over. absurd (read_not_over is over);
       missing = λ none. absurd (read_not_missing is none);
       faulty = λ shown. inl refl;
-      complete = λ shown files_fine out_fine. absurd (not_both grammar_limit (IsGrammarText grammar) (λ bytes. ¬ IsGrammarText grammar bytes) (λ bytes yes no. no yes) _ shown is.bytes is.read is.holds.refused);
+      complete =
+          λ shown files_fine out_fine. absurd (not_both grammar_limit (IsGrammarText grammar) (λ bytes. ¬ IsGrammarText grammar bytes)
+          (λ bytes yes no. no yes) _ shown is.bytes is.read is.holds.refused);
       files_failed = λ failed. absurd (failed quiet);
       out_failed = λ failed is. cc is;
     }
@@ -95,5 +115,6 @@ module _ (grammar : GrammarSource) (files files' : SeenFiles) where
       out_failed = λ failed is. cc is;
     }
 
-    pub prints_normal : {status : ℕ} → NormalEnds grammar files files' out out' status → SameFiles files.shown files'.shown → PrintsNormal grammar files files' out out' status
+    pub prints_normal : {status : ℕ} → NormalEnds grammar files files' out out' status → SameFiles files.shown files'.shown
+        → PrintsNormal grammar files files' out out' status
     prints_normal ends same = record { ends = ends; must_end = normal_must_end ends; same = same }

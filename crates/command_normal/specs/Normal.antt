@@ -10,9 +10,11 @@ use Rattle.command_grammar.specs.Grammar.{IsFaultIn, IsGrammarText}
 use Rattle.command_ends.specs.Status.{fault_line}
 use Rattle.command_words.specs.Commands.{GrammarSource}
 use Rattle.command_grammar.specs.Grammar.{start_name}
-use Rattle.command_ends.specs.World.{PutsPrefix, CallFailed, IsOver, IsQuiet, IsShownWithin, Puts, PutsLine, PutsMessage, SeenFiles, SeenOut, WasRead, grammar_limit}
+use Rattle.command_ends.specs.World.{PutsPrefix, CallFailed, IsOver, IsQuiet, IsShownWithin, Puts, PutsLine}
+use Rattle.command_ends.specs.World.{PutsMessage, SeenFiles, SeenOut, WasRead, grammar_limit}
 
--- The text is the printed normal form of the grammar that the bytes spell, with the start rule that is named, or else its first parser rule, and the two have the same languages.
+-- The text is the printed normal form of the grammar that the bytes spell, with the start rule
+-- that is named, or else its first parser rule, and the two have the same languages.
 pub record IsNormalOf (named : GrammarSource) (bytes text : List ℕ) : Type 0 where
   pub grammar : CheckedGrammar
   pub spelled : Spells bytes (start_name named) grammar
@@ -62,7 +64,8 @@ pub record NormalMustEnd (grammar : GrammarSource) (files files' : SeenFiles) (o
   -- a faulty grammar within its limit is refused as such
   pub faulty : IsShownWithin grammar_limit (files.shown grammar.path) (λ bytes. ¬ IsGrammarText grammar bytes) → (status ≡ 5) ⊎ ((status ≡ 3) ⊎ (status ≡ 1))
   -- a well-formed grammar within its limit has its normal form put, where no call failed
-  pub complete : IsShownWithin grammar_limit (files.shown grammar.path) (λ bytes. IsGrammarText grammar bytes) → ¬ CallFailed files files' → ¬ CallFailed out out' → (status ≡ 0) ⊎ (status ≡ 1)
+  pub complete : IsShownWithin grammar_limit (files.shown grammar.path) (λ bytes. IsGrammarText grammar bytes) → ¬ CallFailed files files'
+      → ¬ CallFailed out out' → (status ≡ 0) ⊎ (status ≡ 1)
   -- where a call of the files failed, the grammar wasn't read
   pub files_failed : ¬ IsQuiet files files' → status ≡ 3
   -- where the put failed, it was that of the normal form (4) or of another status's line

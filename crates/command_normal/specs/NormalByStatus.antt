@@ -13,10 +13,14 @@ pub record NormalMeans (grammar : GrammarSource) (files files' : SeenFiles) (out
   pub known : IsOneOf (0 ∷ 1 ∷ 3 ∷ 4 ∷ 5 ∷ 10 ∷ []) status
   pub done : status ≡ 0 → (text : List ℕ) × WasRead grammar_limit (files.shown grammar.path) (λ bytes. IsNormalOf grammar bytes text) × Puts text out out'
   pub unread : status ≡ 3 → CallFailed files files'
-  pub unput : status ≡ 4 → (text : List ℕ) × WasRead grammar_limit (files.shown grammar.path) (λ bytes. IsNormalOf grammar bytes text) × PutsPrefix text out out'
-  pub fault : status ≡ 5 → (text : List ℕ) × WasRead grammar_limit (files.shown grammar.path) (λ bytes. IsFaultIn grammar bytes text) × PutsLine (fault_line text) out out'
+  pub unput : status ≡ 4 → (text : List ℕ) × WasRead grammar_limit (files.shown grammar.path) (λ bytes. IsNormalOf grammar bytes text)
+      × PutsPrefix text out out'
+  pub fault : status ≡ 5 → (text : List ℕ) × WasRead grammar_limit (files.shown grammar.path) (λ bytes. IsFaultIn grammar bytes text)
+      × PutsLine (fault_line text) out out'
   pub too_long : status ≡ 10 → IsLonger grammar_limit (files.shown grammar.path)
   pub line : IsOneOf (1 ∷ 3 ∷ 10 ∷ []) status → PutsRefusal read.Grammar out out' status
 
 abbrev pub NormalByStatus : Type 0
-NormalByStatus = (grammar : GrammarSource) (files files' : SeenFiles) (out out' : SeenOut) (status : ℕ) → NormalEnds grammar files files' out out' status → NormalMeans grammar files files' out out' status
+NormalByStatus =
+    (grammar : GrammarSource) (files files' : SeenFiles) (out out' : SeenOut) (status : ℕ) → NormalEnds grammar files files' out out' status
+    → NormalMeans grammar files files' out out' status

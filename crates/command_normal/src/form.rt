@@ -34,9 +34,11 @@ fn form_of_file<F: Files>(
     grammar: NamedGrammar<'_>,
     files: &mut F,
 ) -> Result<Vec<u8>, Refusal>
-    ensures form { IfOk result (λ form. WasRead grammar_limit (F.content files.old grammar.entry.path.now) (λ bytes. IsNormalOf (grammar_read grammar.entry) bytes form.items)) }
+    ensures form { IfOk result (λ form. WasRead grammar_limit (F.content files.old grammar.entry.path.now)
+        (λ bytes. IsNormalOf (grammar_read grammar.entry) bytes form.items)) }
     ensures quiet { OnOk result (IsQuiet (seen F.content F.faults files.old) (seen F.content F.faults files.new)) }
-    ensures refused { IfErr result (λ refusal. NormalFails (grammar_read grammar.entry) (seen F.content F.faults files.old) (seen F.content F.faults files.new) refusal) }
+    ensures refused { IfErr result (λ refusal. NormalFails (grammar_read grammar.entry) (seen F.content F.faults files.old)
+        (seen F.content F.faults files.new) refusal) }
     ensures same { SameFiles (F.content files.old) (F.content files.new) }
 {
     let checked = grammar_of_file(alloc, grammar, files)?;

@@ -30,7 +30,9 @@ module _ (may_say : List ℕ → Verdict → Type 0) (old : World) (out : SeenOu
     reduces : (options : ReduceOptions) → Reduces options may_say old new 1
     reduces options = record {
       history = [];
-      ends = ReduceEnds.memory (record { same = λ name. refl; quiet = refl }) (λ alone. refl) (JournalSoFar.untouched (record { no_history = refl; same = refl })) end.line;
+      ends =
+          ReduceEnds.memory (record { same = λ name. refl; quiet = refl }) (λ alone. refl)
+          (JournalSoFar.untouched (record { no_history = refl; same = refl })) end.line;
       must_end = record {
         grammar_over = λ g is over. refl;
         grammar_missing = λ g is none. refl;
@@ -73,30 +75,37 @@ module _ (may_say : List ℕ → Verdict → Type 0) (old : World) (out : SeenOu
       subst (λ (s : ℕ). RunsCommand may_say old new s command) (sym end.status_is) (ends_out_of_memory (record { status_is = refl; line = end.line }) command)
 
   -- how the command ends where no command line was read
-  pub runs_refused : (status : ℕ) (command : Option Command) (refusal : Refusal) → WordsFail command refusal → EndsRefused old.out out status refusal → RunsCommand may_say old new status command
+  pub runs_refused : (status : ℕ) (command : Option Command) (refusal : Refusal) → WordsFail command refusal → EndsRefused old.out out status refusal
+      → RunsCommand may_say old new status command
   runs_refused status command Memory why end = runs_out_of_memory status end command
   runs_refused status command Usage why end =
-      subst (RunsCommand may_say old new status) (sym why) (RunsCommand.usage (record { status_is = end.status_is; files = refl; untouched = untouched; line = end.line }))
+      subst (RunsCommand may_say old new status) (sym why)
+      (RunsCommand.usage (record { status_is = end.status_is; files = refl; untouched = untouched; line = end.line }))
   runs_refused status command _ why end = absurd why
 
 -- the status of bad usage is that of words that are no command line
-pub refused_usage : (out out' : SeenOut) (status : ℕ) (command : Option Command) (refusal : Refusal) → WordsFail command refusal → EndsRefused out out' status refusal → status ≡ 2 → command ≡ None
+pub refused_usage : (out out' : SeenOut) (status : ℕ) (command : Option Command) (refusal : Refusal) → WordsFail command refusal
+    → EndsRefused out out' status refusal → status ≡ 2 → command ≡ None
 refused_usage out out' status command Memory why end two = absurd (cc (sym end.status_is ∙ two))
 refused_usage out out' status command Usage why end two = why
 refused_usage out out' status command _ why end two = absurd why
 
 -- and no command line that wasn't read ends otherwise, but where memory ran out
-pub refused_status : (out out' : SeenOut) (status : ℕ) (command : Option Command) (refusal : Refusal) → WordsFail command refusal → EndsRefused out out' status refusal → (status ≡ 2) ⊎ (status ≡ 1)
+pub refused_status : (out out' : SeenOut) (status : ℕ) (command : Option Command) (refusal : Refusal) → WordsFail command refusal
+    → EndsRefused out out' status refusal → (status ≡ 2) ⊎ (status ≡ 1)
 refused_status out out' status command Memory why end = inr end.status_is
 refused_status out out' status command Usage why end = inl end.status_is
 refused_status out out' status command _ why end = absurd why
 
 -- no command ends as words do that are none
-pub reduce_not_usage : (options : ReduceOptions) (may_say : List ℕ → Verdict → Type 0) (old new : World) (status : ℕ) → Reduces options may_say old new status → status ≢ 2
+pub reduce_not_usage : (options : ReduceOptions) (may_say : List ℕ → Verdict → Type 0) (old new : World) (status : ℕ) → Reduces options may_say old new status
+    → status ≢ 2
 reduce_not_usage options may_say old new status runs two =
-    false≢true (subst (IsOneOf (0 ∷ 1 ∷ 3 ∷ 4 ∷ 5 ∷ 6 ∷ 7 ∷ 8 ∷ 9 ∷ 10 ∷ 11 ∷ 12 ∷ [])) two (reduce_by_status options runs.history old new status runs.ends).known)
+    false≢true (subst (IsOneOf (0 ∷ 1 ∷ 3 ∷ 4 ∷ 5 ∷ 6 ∷ 7 ∷ 8 ∷ 9 ∷ 10 ∷ 11 ∷ 12 ∷ [])) two
+    (reduce_by_status options runs.history old new status runs.ends).known)
 
-pub normal_not_usage : (grammar : GrammarSource) (files files' : SeenFiles) (out out' : SeenOut) (status : ℕ) → PrintsNormal grammar files files' out out' status → status ≢ 2
+pub normal_not_usage : (grammar : GrammarSource) (files files' : SeenFiles) (out out' : SeenOut) (status : ℕ)
+    → PrintsNormal grammar files files' out out' status → status ≢ 2
 normal_not_usage grammar files files' out out' status prints two =
     false≢true (subst (IsOneOf (0 ∷ 1 ∷ 3 ∷ 4 ∷ 5 ∷ 10 ∷ [])) two (normal_by_status grammar files files' out out' status prints.ends).known)
 

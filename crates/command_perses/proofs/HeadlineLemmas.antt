@@ -214,7 +214,8 @@ module _ (one_history : BytesHaveOneHistory) (bounded : AnswersAreBounded) (may_
 
 module _ (one_history : BytesHaveOneHistory) (bounded : AnswersAreBounded) (may_say : List ℕ → Verdict → Type 0) (old new : World) (status : ℕ) where
   -- of a command line of `reduce`
-  pub headline_of : {command : Option Command} → RunsCommand may_say old new status command → (options : ReduceOptions) → command ≡ Some (Command.reduce options)
+  pub headline_of : {command : Option Command} → RunsCommand may_say old new status command → (options : ReduceOptions)
+      → command ≡ Some (Command.reduce options)
       → Headline may_say options old new status
   headline_of (RunsCommand.reduce options runs) asked is =
       let same : options ≡ asked = cc is in

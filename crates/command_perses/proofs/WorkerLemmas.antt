@@ -9,20 +9,24 @@ use Rattle.command_perses.specs.Workers.{AreNumbered}
 
 range_more : (a n : ℕ) → range_with_len a (suc n) ≡ range_with_len a n ++ ((a + n) ∷ [])
 range_more a zero = let same : a ≡ a + zero = omega arith in ap (λ (b : ℕ). b ∷ []) same
-range_more a (suc n) = let same : a + 1 + n ≡ a + suc n = omega arith in ap (λ (ns : List ℕ). a ∷ ns) (range_more (a + 1) n ∙ ap (λ (b : ℕ). range_with_len (a + 1) n ++ (b ∷ [])) same)
+range_more a (suc n) = let same : a + 1 + n ≡ a + suc n =
+    omega arith in ap (λ (ns : List ℕ). a ∷ ns) (range_more (a + 1) n ∙ ap (λ (b : ℕ). range_with_len (a + 1) n ++ (b ∷ [])) same)
 
 module _ {G : Type 0} where
   pub none_numbered : AreNumbered {G = G} []
   none_numbered = record { numbered = refl; unseated = All-nil (λ (w : Worker G). w.seat ≡ None) }
 
   -- one more
-  pub one_numbered : (workers : List (Worker G)) (gate : G) (number : ℕ) → AreNumbered workers → number ≡ length workers + 1 → AreNumbered (workers ++ (record { gate = gate; number = number; seat = None }) ∷ [])
+  pub one_numbered : (workers : List (Worker G)) (gate : G) (number : ℕ) → AreNumbered workers → number ≡ length workers + 1
+      → AreNumbered (workers ++ (record { gate = gate; number = number; seat = None }) ∷ [])
   one_numbered workers gate number are is =
       let worker : Worker G = record { gate = gate; number = number; seat = None } in
       let same : number ≡ 1 + length workers = omega (arith, is) in
       let many : suc (length workers) ≡ length (workers ++ worker ∷ []) = let e = length-append workers (worker ∷ []) in omega (arith, e) in
       record {
-        numbered = map-append (λ (w : Worker G). w.number) workers (worker ∷ []) ∙ ap (λ (ns : List ℕ). ns ++ (number ∷ [])) are.numbered ∙ ap (λ (n : ℕ). range_with_len 1 (length workers) ++ (n ∷ [])) same
+        numbered =
+            map-append (λ (w : Worker G). w.number) workers (worker ∷ []) ∙ ap (λ (ns : List ℕ). ns ++ (number ∷ [])) are.numbered
+            ∙ ap (λ (n : ℕ). range_with_len 1 (length workers) ++ (n ∷ [])) same
             ∙ sym (range_more 1 (length workers)) ∙ ap (range_with_len 1) many;
         unseated = All-push (λ (w : Worker G). w.seat ≡ None) workers worker are.unseated refl;
       }

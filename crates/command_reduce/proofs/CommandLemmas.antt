@@ -28,7 +28,8 @@ use Rattle.command_reduce_calls.specs.Journal.{JournalSoFar, JournalWhole}
 use Rattle.command_reduce.specs.inner.Read.{AcceptFails, KeepRefused}
 use Rattle.command_reduce.specs.inner.Run.{IsSoundStarted, JournalAfter, StartLeaves, Unopened}
 use Rattle.command_reduce_calls.specs.Calls.{WriteEnds}
-use Rattle.command_reduce.specs.Reduce.ReduceEnds.{done, memory, unread, unwritten, faulty, no_token, unparsed, uninteresting, unput, keep_missing, too_long, script, journal}
+use Rattle.command_reduce.specs.Reduce.ReduceEnds.{done, memory, unread, unwritten, faulty, no_token, unparsed}
+use Rattle.command_reduce.specs.Reduce.ReduceEnds.{uninteresting, unput, keep_missing, too_long, script, journal}
 use Rattle.run_gated.specs.declared.fault.RunFault.{RunFault}
 use Rattle.run_gated.specs.declared.fault.RunFault.TheVariants as run_fault
 use Rattle.command_ends.specs.Status.{EndsRefused, EndsWithAnswer, ending_of, ending_of_run}
@@ -44,12 +45,14 @@ no_history : (options : ReduceOptions) (files : SeenFiles) (history : History) �
 no_history options files history none = subst (IsHistoryOfInput options files) (sym none) tt
 
 -- that of a problem that was accepted
-history_of : (options : ReduceOptions) (files : SeenFiles) (history : History) → ProblemAccepted options files (λ problem. AreOf options.jobs options.keeps problem history) → IsHistoryOfInput options files history
+history_of : (options : ReduceOptions) (files : SeenFiles) (history : History)
+    → ProblemAccepted options files (λ problem. AreOf options.jobs options.keeps problem history) → IsHistoryOfInput options files history
 history_of options files [] are = tt
 history_of options files (event ∷ history) are = are
 
 -- neither a gate nor the journal was reached
-module _ (options : ReduceOptions) (may_say : List ℕ → Verdict → Type 0) (history : History) (old new : Inside) (none : history ≡ []) (same_gates : new.gates ≡ old.gates) (same_journal : new.journal ≡ old.journal) (same : SameFiles old.files.shown new.files.shown) where
+module _ (options : ReduceOptions) (may_say : List ℕ → Verdict → Type 0) (history : History) (old new : Inside) (none : history ≡ [])
+    (same_gates : new.gates ≡ old.gates) (same_journal : new.journal ≡ old.journal) (same : SameFiles old.files.shown new.files.shown) where
   untouched : (out out' : SeenOut) → NotReached history (beside old out) (beside new out')
   untouched out out' = record { no_history = none; gates = same_gates; journal = same_journal }
 
@@ -82,15 +85,19 @@ module _ (options : ReduceOptions) (may_say : List ℕ → Verdict → Type 0) (
   -- there is no problem, or it wasn't accepted
   pub stops_accept : (refusal : Refusal) → AcceptFails options old.files new.files refusal → ReduceSteps options may_say history old new (Err refusal)
   stops_accept refusal why = record {
-    sound = none_sound options may_say (records_of history) (logs_of old.gates) (logs_of new.gates) old.journal new.journal (ap records_of none) (ap logs_of same_gates) same_journal;
+    sound =
+        none_sound options may_say (records_of history) (logs_of old.gates) (logs_of new.gates) old.journal new.journal (ap records_of none)
+        (ap logs_of same_gates) same_journal;
     of_input = no_history options old.files history none;
     others = ap (drop options.jobs) same_gates;
     ends = ⊎_elim (λ problem. problem_at refusal problem) (λ keep. keep_at keep.0 refusal keep.1) why;
   }
 
 -- a problem was accepted, and its run ended, which used these gates
-module _ (options : ReduceOptions) (may_say : List ℕ → Verdict → Type 0) (history : History) (old new : Inside) (part part' : List SeenGate) (first : AreFirst options part part' old.gates new.gates)
-    (sound : RecordsAreSound options may_say (records_of history) (logs_of part) (logs_of part') old.journal new.journal) (are : ProblemAccepted options old.files (λ problem. AreOf options.jobs options.keeps problem history)) where
+module _ (options : ReduceOptions) (may_say : List ℕ → Verdict → Type 0) (history : History) (old new : Inside) (part part' : List SeenGate)
+    (first : AreFirst options part part' old.gates new.gates)
+    (sound : RecordsAreSound options may_say (records_of history) (logs_of part) (logs_of part') old.journal new.journal)
+    (are : ProblemAccepted options old.files (λ problem. AreOf options.jobs options.keeps problem history)) where
   -- the run, by what it answered
   abbrev run_to : Result Reduced RunFault → Run
   run_to outcome = record {
@@ -106,7 +113,8 @@ module _ (options : ReduceOptions) (may_say : List ℕ → Verdict → Type 0) (
 
   but : (P Q : Problem → Type 0) → ((problem : Problem) → P problem → Q problem) → ProblemAccepted options old.files P → ProblemAccepted options old.files Q
   but P Q then read =
-      problem_map options old.files (λ problem. (holds_all options.keeps (start_of problem) ≡ true) × P problem) (λ problem. (holds_all options.keeps (start_of problem) ≡ true) × Q problem)
+      problem_map options old.files (λ problem. (holds_all options.keeps (start_of problem) ≡ true) × P problem)
+      (λ problem. (holds_all options.keeps (start_of problem) ≡ true) × Q problem)
       (λ problem is. (is.0, then problem is.1)) read
 
   abbrev Fails : RunFault → Problem → Type 0
@@ -118,37 +126,53 @@ module _ (options : ReduceOptions) (may_say : List ℕ → Verdict → Type 0) (
 
   -- the history is one of the problem, which reduces to this
   abbrev Comes : Reduced → Problem → Type 0
-  Comes reduced problem = AreOf options.jobs options.keeps problem history × ReducesFrom options.jobs options.keeps problem history reduced.text.items reduced.counts
+  Comes reduced problem =
+      AreOf options.jobs options.keeps problem history × ReducesFrom options.jobs options.keeps problem history reduced.text.items reduced.counts
 
   abbrev Waits : Problem → Type 0
   Waits problem = options.jobs ≡ 1 → IsUnfinished options.keeps problem history
 
   -- without a reduction
-  fault_at : (fault : RunFault) → FilesKept old.files new.files → ProblemAccepted options old.files (Fails fault) → JournalAfter {A = Reduced} options.jobs options.journal history old.journal new.journal (Err fault) → EndsBy (ending_of_run fault)
+  fault_at : (fault : RunFault) → FilesKept old.files new.files → ProblemAccepted options old.files (Fails fault)
+      → JournalAfter {A = Reduced} options.jobs options.journal history old.journal new.journal (Err fault) → EndsBy (ending_of_run fault)
   fault_at run_fault.Memory kept why ends = λ out out' put. memory kept (λ alone. all_quiet first ((some (Fails run_fault.Memory) why).1.1.1 alone)) ends put
   fault_at run_fault.NotInteresting kept why ends = λ out out' put.
-      uninteresting (but (Fails run_fault.NotInteresting) (λ problem. IsRefused options.jobs options.keeps problem history) (λ problem is. is.0) why) kept (all_quiet first (some (Fails run_fault.NotInteresting) why).1.1.1.gates) ends put
+      uninteresting (but (Fails run_fault.NotInteresting) (λ problem. IsRefused options.jobs options.keeps problem history) (λ problem is. is.0) why) kept
+      (all_quiet first (some (Fails run_fault.NotInteresting) why).1.1.1.gates) ends put
   fault_at (run_fault.Script worker) kept why ends = λ out out' put.
       let failed = one_failed first worker (some (Fails (run_fault.Script worker)) why).1.1.0 in
       script worker failed.0 failed.1 (but (Fails (run_fault.Script worker)) Waits (λ problem is. is.2) why) kept (inl ends) put
-  fault_at run_fault.Journal kept why ends = λ out out' put. journal (some (Fails run_fault.Journal) why).1.1.0 are ends (λ alone. all_quiet first ((some (Fails run_fault.Journal) why).1.1.1 alone)) kept put
+  fault_at run_fault.Journal kept why ends =
+      λ out out' put. journal (some (Fails run_fault.Journal) why).1.1.0 are ends
+      (λ alone. all_quiet first ((some (Fails run_fault.Journal) why).1.1.1 alone)) kept put
 
   -- without an opened gate
-  unopened_at : (worker : ℕ) (fault : GateFault) → FilesKept old.files new.files → ProblemAccepted options old.files (Fails (fault_of worker fault)) → GateUnopened options history worker (logs_of part) (logs_of part') old.journal new.journal → EndsBy (ending_of_run (fault_of worker fault))
+  unopened_at : (worker : ℕ) (fault : GateFault) → FilesKept old.files new.files → ProblemAccepted options old.files (Fails (fault_of worker fault))
+      → GateUnopened options history worker (logs_of part) (logs_of part') old.journal new.journal → EndsBy (ending_of_run (fault_of worker fault))
   unopened_at worker GateFailed kept why un = λ out out' put.
       let failed = one_failed first worker (some (Fails (run_fault.Script worker)) why).1.1.0 in
-      script worker failed.0 failed.1 (but (Fails (run_fault.Script worker)) Waits (λ problem is. is.2) why) kept (inr (one_unopened first history worker old.journal new.journal failed.0 un)) put
-  unopened_at worker GateMemory kept why un = λ out out' put. memory kept (λ alone. all_quiet first ((some (Fails run_fault.Memory) why).1.1.1 alone)) (JournalSoFar.untouched un.untouched) put
+      script worker failed.0 failed.1 (but (Fails (run_fault.Script worker)) Waits (λ problem is. is.2) why) kept
+      (inr (one_unopened first history worker old.journal new.journal failed.0 un)) put
+  unopened_at worker GateMemory kept why un =
+      λ out out' put. memory kept (λ alone. all_quiet first ((some (Fails run_fault.Memory) why).1.1.1 alone)) (JournalSoFar.untouched un.untouched) put
 
   all_sound : RecordsAreSound options may_say (records_of history) (logs_of old.gates) (logs_of new.gates) old.journal new.journal
   all_sound = sound_among first may_say (records_of history) old.journal new.journal sound
 
-  stops_run : (fault : RunFault) (refusal : Refusal) → ending_of refusal ≡ ending_of_run fault → FilesKept old.files new.files → ProblemAccepted options old.files (Fails fault) → JournalAfter {A = Reduced} options.jobs options.journal history old.journal new.journal (Err fault)
+  stops_run : (fault : RunFault) (refusal : Refusal) → ending_of refusal ≡ ending_of_run fault → FilesKept old.files new.files
+      → ProblemAccepted options old.files (Fails fault) → JournalAfter {A = Reduced} options.jobs options.journal history old.journal new.journal (Err fault)
       → ReduceSteps options may_say history old new (Err refusal)
-  stops_run fault refusal same kept why ends = record { sound = all_sound; of_input = history_of options old.files history are; others = first.others; ends = subst EndsBy (sym same) (fault_at fault kept why ends) }
+  stops_run fault refusal same kept why ends =
+      record {
+        sound = all_sound;
+        of_input = history_of options old.files history are;
+        others = first.others;
+        ends = subst EndsBy (sym same) (fault_at fault kept why ends);
+      }
 
   -- with one, whose result was written or wasn't
-  module _ (read : SeenFiles) (reduced : Reduced) (same : SameFiles old.files.shown read.shown) (quiet : IsQuiet old.files read) (gates_quiet : AreQuiet old.gates new.gates) (whole : JournalWhole options.journal history old.journal new.journal)
+  module _ (read : SeenFiles) (reduced : Reduced) (same : SameFiles old.files.shown read.shown) (quiet : IsQuiet old.files read)
+      (gates_quiet : AreQuiet old.gates new.gates) (whole : JournalWhole options.journal history old.journal new.journal)
       (reduces : ProblemAccepted options old.files (Comes reduced)) where
     reduces_to : (report : List ℕ) → report ≡ report_text reduced.counts → ReducesTo options old.files history reduced.text.items report
     reduces_to report is =
@@ -167,24 +191,32 @@ module _ (options : ReduceOptions) (may_say : List ℕ → Verdict → Type 0) (
       gates_quiet = gates_quiet;
       journal = whole;
     }
-    write_at (Err Memory) ends = λ out out' put. memory (record { same = λ name. ends.same name ∙ same name; quiet = ends.quiet ∙ quiet }) (λ alone. gates_quiet) (JournalSoFar.whole whole) put
+    write_at (Err Memory) ends =
+        λ out out' put. memory (record { same = λ name. ends.same name ∙ same name; quiet = ends.quiet ∙ quiet }) (λ alone. gates_quiet)
+        (JournalSoFar.whole whole) put
     write_at (Err CannotWrite) ends = λ out out' put.
-        unwritten (subst (λ count. Rose count new.files.faults) quiet ends.0) reduced.text.items (report_text reduced.counts) (reduces_to (report_text reduced.counts) refl) (λ name other. ends.1 name other ∙ same name) gates_quiet whole put
+        unwritten (subst (λ count. Rose count new.files.faults) quiet ends.0) reduced.text.items (report_text reduced.counts)
+        (reduces_to (report_text reduced.counts) refl) (λ name other. ends.1 name other ∙ same name) gates_quiet whole put
     write_at (Err _) ends = absurd ends
 
-    pub stops_write : (outcome : Result (Vec ℕ) Refusal) → WriteEnds options.output read new.files (Ok reduced) outcome → ReduceSteps options may_say history old new outcome
-    stops_write outcome ends = record { sound = all_sound; of_input = history_of options old.files history are; others = first.others; ends = write_at outcome ends }
+    pub stops_write : (outcome : Result (Vec ℕ) Refusal) → WriteEnds options.output read new.files (Ok reduced) outcome
+        → ReduceSteps options may_say history old new outcome
+    stops_write outcome ends =
+        record { sound = all_sound; of_input = history_of options old.files history are; others = first.others; ends = write_at outcome ends }
 
   -- whatever the run came to
   pub stops_ran : (read : SeenFiles) → SameFiles old.files.shown read.shown → IsQuiet old.files read → (ran : Result Reduced RunFault)
       → ProblemAccepted options old.files
       (λ problem. AreOf options.jobs options.keeps problem history × ProblemEnds options.keeps problem (run_to ran) ran)
-      → JournalAfter options.jobs options.journal history old.journal new.journal ran → (outcome : Result (Vec ℕ) Refusal) → WriteEnds options.output read new.files ran outcome → ReduceSteps options may_say history old new outcome
+      → JournalAfter options.jobs options.journal history old.journal new.journal ran → (outcome : Result (Vec ℕ) Refusal)
+      → WriteEnds options.output read new.files ran outcome → ReduceSteps options may_say history old new outcome
   stops_ran read same quiet (Ok reduced) ends whole outcome writes =
       let P : Problem → Type 0 =
       λ problem. AreOf options.jobs options.keeps problem history
-      × (ReducesFrom options.jobs options.keeps problem history reduced.text.items reduced.counts × NoneFailed (run_to (Ok reduced)).before (run_to (Ok reduced)).after) in
-      stops_write read reduced same quiet (all_quiet first (some P ends).1.1.1.1.gates) whole (but P (Comes reduced) (λ problem is. (is.0, is.1.0)) ends) outcome writes
+      × (ReducesFrom options.jobs options.keeps problem history reduced.text.items reduced.counts
+      × NoneFailed (run_to (Ok reduced)).before (run_to (Ok reduced)).after) in
+      stops_write read reduced same quiet (all_quiet first (some P ends).1.1.1.1.gates) whole
+      (but P (Comes reduced) (λ problem is. (is.0, is.1.0)) ends) outcome writes
   stops_ran read same quiet (Err fault) ends after outcome writes =
       subst (λ (o : Result (Vec ℕ) Refusal). ReduceSteps options may_say history old new o) (sym writes.0.1)
       (stops_run fault writes.0.0 writes.0.2 (subst (FilesKept old.files) (sym writes.1) (record { same = same; quiet = quiet }))
@@ -193,25 +225,33 @@ module _ (options : ReduceOptions) (may_say : List ℕ → Verdict → Type 0) (
   -- a gate wasn't opened
   pub stops_unopened : (read : SeenFiles) → SameFiles old.files.shown read.shown → IsQuiet old.files read → (ran : Result Reduced RunFault)
       → ProblemAccepted options old.files (λ problem. ProblemEnds options.keeps problem (run_to ran) ran)
-      → Unopened options history (logs_of part) (logs_of part') old.journal new.journal ran → (outcome : Result (Vec ℕ) Refusal) → WriteEnds options.output read new.files ran outcome → ReduceSteps options may_say history old new outcome
+      → Unopened options history (logs_of part) (logs_of part') old.journal new.journal ran → (outcome : Result (Vec ℕ) Refusal)
+      → WriteEnds options.output read new.files ran outcome → ReduceSteps options may_say history old new outcome
   stops_unopened read same quiet ran ends un outcome writes =
       let answer : Result Reduced RunFault = Err (fault_of un.worker un.fault) in
       let why : ProblemAccepted options old.files (Fails (fault_of un.worker un.fault)) =
       subst (λ (r : Result Reduced RunFault). ProblemAccepted options old.files (λ problem. ProblemEnds options.keeps problem (run_to ran) r)) un.answer ends in
-      let wrote : WriteEnds options.output read new.files answer outcome = subst (λ (r : Result Reduced RunFault). WriteEnds options.output read new.files r outcome) un.answer writes in
+      let wrote : WriteEnds options.output read new.files answer outcome =
+      subst (λ (r : Result Reduced RunFault). WriteEnds options.output read new.files r outcome) un.answer writes in
       subst (λ (o : Result (Vec ℕ) Refusal). ReduceSteps options may_say history old new o) (sym wrote.0.1) (record {
         sound = all_sound;
         of_input = history_of options old.files history are;
         others = first.others;
-        ends = subst EndsBy (sym wrote.0.2) (unopened_at un.worker un.fault (subst (FilesKept old.files) (sym wrote.1) (record { same = same; quiet = quiet })) why un.left);
+        ends =
+            subst EndsBy (sym wrote.0.2) (unopened_at un.worker un.fault
+            (subst (FilesKept old.files) (sym wrote.1) (record { same = same; quiet = quiet })) why un.left);
       })
 
 -- the steps of a problem that was read and accepted, with these keep texts, and whose run is this
-pub steps_end : (options : ReduceOptions) (may_say : List ℕ → Verdict → Type 0) (run : Run) (files files' : SeenFiles) (gates gates' : List SeenGate) (read : SeenFiles) (problem : ReadProblem) (keeps : List (List ℕ)) (outcome : Result (Vec ℕ) Refusal)
+pub steps_end : (options : ReduceOptions) (may_say : List ℕ → Verdict → Type 0) (run : Run) (files files' : SeenFiles) (gates gates' : List SeenGate)
+    (read : SeenFiles) (problem : ReadProblem) (keeps : List (List ℕ)) (outcome : Result (Vec ℕ) Refusal)
     → AreFirst options run.before.gates run.after.gates gates gates' → options.jobs ≡ run.workers
-    → ProblemRead options files (IsReadAs options.keeps problem) → keeps ≡ options.keeps → holds_all keeps (start_read problem) ≡ true → SameFiles files.shown read.shown → IsQuiet files read
-    → IsSoundStarted options may_say run → ((one : Problem) → IsReadAs keeps problem one → IsRunOf keeps one run) → WriteEnds options.output read files' run.outcome outcome
-    → ReduceSteps options may_say run.history (record { files = files; gates = gates; journal = run.before.journal }) (record { files = files'; gates = gates'; journal = run.after.journal }) outcome
+    → ProblemRead options files (IsReadAs options.keeps problem) → keeps ≡ options.keeps → holds_all keeps (start_read problem) ≡ true
+    → SameFiles files.shown read.shown → IsQuiet files read
+    → IsSoundStarted options may_say run → ((one : Problem) → IsReadAs keeps problem one → IsRunOf keeps one run)
+    → WriteEnds options.output read files' run.outcome outcome
+    → ReduceSteps options may_say run.history (record { files = files; gates = gates; journal = run.before.journal })
+    (record { files = files'; gates = gates'; journal = run.after.journal }) outcome
 steps_end options may_say run files files' gates gates' read problem keeps outcome first jobs was these holds same quiet sound runs writes =
     let old : Inside = record { files = files; gates = gates; journal = run.before.journal } in
     let new : Inside = record { files = files'; gates = gates'; journal = run.after.journal } in
@@ -222,25 +262,41 @@ steps_end options may_say run files files' gates gates' read problem keeps outco
     (subst (λ (k : List (List ℕ)). (one : Problem) → IsReadAs k problem one → IsRunOf k one run) these runs) in
     let Of : Problem → Type 0 = λ one. AreOf options.jobs options.keeps one run.history in
     let Ends : Problem → Type 0 = λ one. ProblemEnds options.keeps one lent run.outcome in
-    let left : StartLeaves options.jobs options run.history (logs_of run.before.gates) (logs_of run.after.gates) run.before.journal run.after.journal run.outcome =
-    subst (λ (n : ℕ). StartLeaves n options run.history (logs_of run.before.gates) (logs_of run.after.gates) run.before.journal run.after.journal run.outcome) (sym jobs) sound.journal in
+    let left : StartLeaves options.jobs options run.history (logs_of run.before.gates)
+    (logs_of run.after.gates) run.before.journal run.after.journal run.outcome =
+    subst (λ (n : ℕ). StartLeaves n options run.history (logs_of run.before.gates) (logs_of run.after.gates) run.before.journal run.after.journal run.outcome)
+    (sym jobs) sound.journal in
     let accepted : ProblemAccepted options files Of = accepted_as options files problem Of all (λ one is. (all_run one is).history) was in
     let ended : ProblemAccepted options files Ends = accepted_as options files problem Ends all (λ one is. (all_run one is).ends) was in
-    let both : ProblemAccepted options files (λ one. Of one × Ends one) = accepted_as options files problem (λ one. Of one × Ends one) all (λ one is. ((all_run one is).history, (all_run one is).ends)) was in
-    ⊎_elim (λ after. stops_ran options may_say run.history old new run.before.gates run.after.gates first sound.records accepted read same quiet run.outcome both after outcome writes)
-    (λ un. stops_unopened options may_say run.history old new run.before.gates run.after.gates first sound.records accepted read same quiet run.outcome ended un outcome writes) left
+    let both : ProblemAccepted options files (λ one. Of one × Ends one) =
+    accepted_as options files problem (λ one. Of one × Ends one) all (λ one is. ((all_run one is).history, (all_run one is).ends)) was in
+    ⊎_elim (λ after. stops_ran options may_say run.history old new run.before.gates run.after.gates first sound.records accepted read same quiet run.outcome
+    both after outcome writes)
+    (λ un. stops_unopened options may_say run.history old new run.before.gates run.after.gates first sound.records accepted read same quiet run.outcome ended un
+    outcome writes) left
 
 -- the end of the command
-pub reduce_ends : InputFaultOnce → InputsAreInLanguage → (options : ReduceOptions) (may_say : List ℕ → Verdict → Type 0) (history : History) (old new : Inside) (out out' : SeenOut) (outcome : Result (Vec ℕ) Refusal) (status : ℕ)
-    → ReduceSteps options may_say history old new outcome → MatchResult outcome (λ report. EndsWithAnswer report.items out out' status) (λ refusal. EndsRefused out out' status refusal)
+pub reduce_ends : InputFaultOnce → InputsAreInLanguage
+    → (options : ReduceOptions) (may_say : List ℕ → Verdict → Type 0) (history : History) (old new : Inside) (out out' : SeenOut)
+    (outcome : Result (Vec ℕ) Refusal) (status : ℕ)
+    → ReduceSteps options may_say history old new outcome
+    → MatchResult outcome (λ report. EndsWithAnswer report.items out out' status) (λ refusal. EndsRefused out out' status refusal)
     → Reduces options may_say (beside old out) (beside new out') status
 reduce_ends faults languages options may_say history old new out out' outcome status steps end =
     let ends : ReduceEnds options history (beside old out) (beside new out') status = at outcome steps.ends end in
-    record { history = history; ends = ends; must_end = must_end faults languages options history (beside old out) (beside new out') ends; sound = steps.sound; of_input = steps.of_input; others = steps.others }
+    record {
+      history = history;
+      ends = ends;
+      must_end = must_end faults languages options history (beside old out) (beside new out') ends;
+      sound = steps.sound;
+      of_input = steps.of_input;
+      others = steps.others;
+    }
   where
     at : (outcome : Result (Vec ℕ) Refusal)
         → MatchResult outcome (λ report. ReduceReports options history old new report.items) (λ refusal. ReduceFails options history old new refusal)
-        → MatchResult outcome (λ report. EndsWithAnswer report.items out out' status) (λ refusal. EndsRefused out out' status refusal) → ReduceEnds options history (beside old out) (beside new out') status
+        → MatchResult outcome (λ report. EndsWithAnswer report.items out out' status) (λ refusal. EndsRefused out out' status refusal)
+        → ReduceEnds options history (beside old out) (beside new out') status
     at (Ok report) reports end =
         ⊎_elim (λ all. subst (ReduceEnds options history (beside old out) (beside new out')) (sym all.0) (done report.items (reports out out') all.1))
         (λ part. subst (ReduceEnds options history (beside old out) (beside new out')) (sym part.0) (unput report.items (reports out out') part.1)) end

@@ -1,5 +1,6 @@
 -- A run uses the first of all workers, and the gates of the others are as before.
-use Rattle.std.proofs.Common.{◌≡◌, ◌≤◌, ◌<◌, ◌+◌, ◌++◌, ◌∙◌, arith, inl, inr, ⊎_elim, ℕ, zero, suc, List, [], ◌∷◌, None, Option, drop, length, map, option_map, take, refl, sym, ap, subst}
+use Rattle.std.proofs.Common.{◌≡◌, ◌≤◌, ◌<◌, ◌+◌, ◌++◌, ◌∙◌, arith, inl, inr, ⊎_elim, ℕ, zero, suc, List, [], ◌∷◌, None}
+use Rattle.std.proofs.Common.{Option, drop, length, map, option_map, take, refl, sym, ap, subst}
 use Rattle.std.proofs.lemmas.List.{drop-map, length-append, length-map, length-take-le, map-append, take-append-drop, take-map}
 use Rattle.std.proofs.lemmas.List.Elements.{All-append, All-drop, All-take}
 use Rattle.std.specs.List.{range_with_len}
@@ -18,16 +19,20 @@ use Rattle.command_reduce.specs.Reduce.{GatesWereAsked, GatesWereOpened, GatesWe
 
 -- ---- lists that go on with what is as before
 
-opened_more : (options : ReduceOptions) (number opened : ℕ) (logs rest : List (Option Log)) → opened ≤ length logs → opened_from options number opened (logs ++ rest) ≡ opened_from options number opened logs ++ rest
+opened_more : (options : ReduceOptions) (number opened : ℕ) (logs rest : List (Option Log)) → opened ≤ length logs
+    → opened_from options number opened (logs ++ rest) ≡ opened_from options number opened logs ++ rest
 opened_more options number zero logs rest within = refl
 opened_more options number (suc opened) [] rest within = let no : ⊥ = omega (arith, within) in absurd no
-opened_more options number (suc opened) (log ∷ logs) rest within = ap (λ (ls : List (Option Log)). opened_log options number log ∷ ls) (opened_more options (suc number) opened logs rest (omega (arith, within)))
+opened_more options number (suc opened) (log ∷ logs) rest within =
+    ap (λ (ls : List (Option Log)). opened_log options number log ∷ ls) (opened_more options (suc number) opened logs rest (omega (arith, within)))
 
-used_more : (options : ReduceOptions) (number : ℕ) (shares : List (List (List ℕ))) (logs rest : List (Option Log)) → length shares ≤ length logs → used_from options number shares (logs ++ rest) ≡ used_from options number shares logs ++ rest
+used_more : (options : ReduceOptions) (number : ℕ) (shares : List (List (List ℕ))) (logs rest : List (Option Log)) → length shares ≤ length logs
+    → used_from options number shares (logs ++ rest) ≡ used_from options number shares logs ++ rest
 used_more options number [] logs rest within = refl
 used_more options number (texts ∷ shares) [] rest within = let no : ⊥ = omega (arith, within) in absurd no
 used_more options number (texts ∷ shares) (log ∷ logs) rest within =
-    ap (λ (ls : List (Option Log)). option_map (with_all_asked texts) (opened_log options number log) ∷ ls) (used_more options (suc number) shares logs rest (omega (arith, within)))
+    ap (λ (ls : List (Option Log)). option_map (with_all_asked texts) (opened_log options number log) ∷ ls)
+    (used_more options (suc number) shares logs rest (omega (arith, within)))
 
 rose_within : (counts counts' : List ℕ) (index : ℕ) → RoseAtIndex counts counts' index → index < length counts
 rose_within [] counts' index rose = absurd rose
@@ -103,24 +108,44 @@ module _ {options : ReduceOptions} {part part' old new : List SeenGate} (are : A
       )
 
   -- so many were opened
-  opened_among : (opened : ℕ) → opened ≤ options.jobs → logs_of part' ≡ opened_from options 1 opened (logs_of part) → logs_of new ≡ opened_from options 1 opened (logs_of old)
+  opened_among : (opened : ℕ) → opened ≤ options.jobs → logs_of part' ≡ opened_from options 1 opened (logs_of part)
+      → logs_of new ≡ opened_from options 1 opened (logs_of old)
   opened_among opened within is =
       let many = logs_many in
-      logs_new ∙ ap (λ (ls : List (Option Log)). ls ++ logs_of are.rest) is ∙ sym (opened_more options 1 opened (logs_of part) (logs_of are.rest) (omega (arith, within, many)))
+      logs_new ∙ ap (λ (ls : List (Option Log)). ls ++ logs_of are.rest) is
+      ∙ sym (opened_more options 1 opened (logs_of part) (logs_of are.rest) (omega (arith, within, many)))
       ∙ ap (opened_from options 1 opened) (sym logs_old)
 
   -- one wasn't
-  pub one_unopened : (history : History) (worker : ℕ) (before after : SeenJournal) → worker ≤ options.jobs → GateUnopened options history worker (logs_of part) (logs_of part') before after → GateUnopened options history worker (logs_of old) (logs_of new) before after
+  pub one_unopened : (history : History) (worker : ℕ) (before after : SeenJournal) → worker ≤ options.jobs
+      → GateUnopened options history worker (logs_of part) (logs_of part') before after
+      → GateUnopened options history worker (logs_of old) (logs_of new) before after
   one_unopened history worker before after one_of un =
-      record { opened = un.opened; at = un.at; before = let is = un.at in opened_among un.opened (omega (arith, is, one_of)) un.before; untouched = un.untouched }
+      record {
+        opened = un.opened;
+        at = un.at;
+        before = let is = un.at in
+            opened_among un.opened (omega (arith, is, one_of)) un.before;
+        untouched = un.untouched;
+      }
 
-  used_among : (texts : List (List ℕ)) (before after : SeenJournal) → GatesWereUsed options texts (logs_of part) (logs_of part') before after → GatesWereUsed options texts (logs_of old) (logs_of new) before after
+  used_among : (texts : List (List ℕ)) (before after : SeenJournal) → GatesWereUsed options texts (logs_of part) (logs_of part') before after
+      → GatesWereUsed options texts (logs_of old) (logs_of new) before after
   used_among texts before after used =
       ⊎_elim (λ none. inl (none.0, logs_new ∙ ap (λ (ls : List (Option Log)). ls ++ logs_of are.rest) none.1 ∙ sym logs_old, none.2))
       (λ some. ⊎_elim (λ few. inr (inl (opened_part few))) (λ whole. inr (inr (asked_whole whole))) some) used
     where
-      opened_part : GatesWereOpened options texts (logs_of part) (logs_of part') before after → GatesWereOpened options texts (logs_of old) (logs_of new) before after
-      opened_part few = record { opened = few.opened; not_all = few.not_all; none = few.none; logs = let less = few.not_all in opened_among (suc few.opened) (omega (arith, less)) few.logs; journal = few.journal }
+      opened_part : GatesWereOpened options texts (logs_of part) (logs_of part') before after
+          → GatesWereOpened options texts (logs_of old) (logs_of new) before after
+      opened_part few =
+          record {
+            opened = few.opened;
+            not_all = few.not_all;
+            none = few.none;
+            logs = let less = few.not_all in
+                opened_among (suc few.opened) (omega (arith, less)) few.logs;
+            journal = few.journal;
+          }
 
       asked_whole : GatesWereAsked options texts (logs_of part) (logs_of part') → GatesWereAsked options texts (logs_of old) (logs_of new)
       asked_whole whole = record {
@@ -129,12 +154,17 @@ module _ {options : ReduceOptions} {part part' old new : List SeenGate} (are : A
         total = whole.total;
         alone = whole.alone;
         used = let many = logs_many in let each = whole.one_each in
-            logs_new ∙ ap (λ (ls : List (Option Log)). ls ++ logs_of are.rest) whole.used ∙ sym (used_more options 1 whole.shares (logs_of part) (logs_of are.rest) (omega (arith, many, each))) ∙ ap (used_from options 1 whole.shares) (sym logs_old);
+            logs_new ∙ ap (λ (ls : List (Option Log)). ls ++ logs_of are.rest) whole.used
+            ∙ sym (used_more options 1 whole.shares (logs_of part) (logs_of are.rest) (omega (arith, many, each)))
+            ∙ ap (used_from options 1 whole.shares) (sym logs_old);
       }
 
   -- the records are sound, as all gates see them
-  pub sound_among : (may_say : List ℕ → Verdict → Type 0) (records : List Record) (before after : SeenJournal) → RecordsAreSound options may_say records (logs_of part) (logs_of part') before after → RecordsAreSound options may_say records (logs_of old) (logs_of new) before after
-  sound_among may_say records before after sound = record { distinct = sound.distinct; said = sound.said; used = used_among (texts_of records) before after sound.used }
+  pub sound_among : (may_say : List ℕ → Verdict → Type 0) (records : List Record) (before after : SeenJournal)
+      → RecordsAreSound options may_say records (logs_of part) (logs_of part') before after
+      → RecordsAreSound options may_say records (logs_of old) (logs_of new) before after
+  sound_among may_say records before after sound =
+      record { distinct = sound.distinct; said = sound.said; used = used_among (texts_of records) before after sound.used }
 
 -- ---- the first of the workers are lent
 
@@ -157,7 +187,8 @@ module _ {G : Type 0} (workers : List (Worker G)) (jobs : ℕ) (idle : AreIdle w
   lent_idle least = record {
     some = let many = lent_many in omega (arith, many, least);
     few = let many = lent_many in let few = idle.few in omega (arith, many, few, enough);
-    numbered = sym (take-map number jobs workers) ∙ ap (take jobs) idle.numbered ∙ take_range 1 (length workers) jobs enough ∙ ap (range_with_len 1) (sym lent_many);
+    numbered =
+        sym (take-map number jobs workers) ∙ ap (take jobs) idle.numbered ∙ take_range 1 (length workers) jobs enough ∙ ap (range_with_len 1) (sym lent_many);
     unseated = All-take (λ (w : Worker G). w.seat ≡ None) jobs workers idle.unseated;
   }
 
@@ -166,7 +197,9 @@ module _ {G : Type 0} (workers : List (Worker G)) (jobs : ℕ) (idle : AreIdle w
     part_many = as_many ∙ lent_many
 
     pub back_many : length (part ++ drop jobs workers) ≡ length workers
-    back_many = length-append part (drop jobs workers) ∙ ap (λ (n : ℕ). n + length (drop jobs workers)) as_many ∙ sym (length-append (take jobs workers) (drop jobs workers)) ∙ ap (λ (ws : List (Worker G)). length ws) (take-append-drop jobs workers)
+    back_many =
+        length-append part (drop jobs workers) ∙ ap (λ (n : ℕ). n + length (drop jobs workers)) as_many
+        ∙ sym (length-append (take jobs workers) (drop jobs workers)) ∙ ap (λ (ws : List (Worker G)). length ws) (take-append-drop jobs workers)
 
     -- and with them all
     pub back_idle : AreIdle part → AreIdle (part ++ drop jobs workers)
@@ -174,14 +207,18 @@ module _ {G : Type 0} (workers : List (Worker G)) (jobs : ℕ) (idle : AreIdle w
       some = let many = back_many in let some = idle.some in omega (arith, many, some);
       few = let many = back_many in let few = idle.few in omega (arith, many, few);
       numbered = map-append number part (drop jobs workers)
-          ∙ ap (λ (ns : List ℕ). ns ++ map number (drop jobs workers)) (part_idle.numbered ∙ ap (range_with_len 1) part_many ∙ sym (take_range 1 (length workers) jobs enough))
+          ∙ ap (λ (ns : List ℕ). ns ++ map number (drop jobs workers))
+          (part_idle.numbered ∙ ap (range_with_len 1) part_many ∙ sym (take_range 1 (length workers) jobs enough))
           ∙ ap (λ (ns : List ℕ). take jobs (range_with_len 1 (length workers)) ++ ns) (sym (drop-map number jobs workers) ∙ ap (drop jobs) idle.numbered)
           ∙ take-append-drop jobs (range_with_len 1 (length workers)) ∙ ap (range_with_len 1) (sym back_many);
-      unseated = All-append (λ (w : Worker G). w.seat ≡ None) part (drop jobs workers) part_idle.unseated (All-drop (λ (w : Worker G). w.seat ≡ None) jobs workers idle.unseated);
+      unseated =
+          All-append (λ (w : Worker G). w.seat ≡ None) part (drop jobs workers) part_idle.unseated
+          (All-drop (λ (w : Worker G). w.seat ≡ None) jobs workers idle.unseated);
     }
 
     pub lent_first : (options : ReduceOptions) → options.jobs ≡ jobs → (log : G → Option Log) (faults : G → ℕ) →
-        AreFirst options (seen_gates log faults (take jobs workers)) (seen_gates log faults part) (seen_gates log faults workers) (seen_gates log faults (part ++ drop jobs workers))
+        AreFirst options (seen_gates log faults (take jobs workers)) (seen_gates log faults part) (seen_gates log faults workers)
+        (seen_gates log faults (part ++ drop jobs workers))
     lent_first options same log faults =
         let gate : Worker G → SeenGate = λ w. seen log faults w.gate in
         let beyond : seen_gates log faults (drop jobs workers) ≡ drop options.jobs (seen_gates log faults workers) =
@@ -191,5 +228,7 @@ module _ {G : Type 0} (workers : List (Worker G)) (jobs : ℕ) (idle : AreIdle w
           many = length-map (take jobs workers) gate ∙ lent_many ∙ sym same;
           is_old = ap (seen_gates log faults) (sym (take-append-drop jobs workers)) ∙ map-append gate (take jobs workers) (drop jobs workers);
           is_new = map-append gate part (drop jobs workers);
-          others = drop-map gate options.jobs (part ++ drop jobs workers) ∙ ap (seen_gates log faults) (drop_part part (drop jobs workers) options.jobs (part_many ∙ sym same)) ∙ beyond;
+          others =
+              drop-map gate options.jobs (part ++ drop jobs workers)
+              ∙ ap (seen_gates log faults) (drop_part part (drop jobs workers) options.jobs (part_many ∙ sym same)) ∙ beyond;
         }

@@ -19,12 +19,16 @@ use Rattle.reduce_journal.specs.Report.{report_text}
 use Rattle.reduce_journal.specs.declared.counts.Counts.{Counts}
 use Rattle.command_reduce_calls.specs.Journal.{JournalSoFar}
 use Rattle.command_reduce.specs.Reduce.{InputHas, IsShownFault, IsShownProblem, ProblemAccepted, ProblemRead, ReduceEnds, ReduceMustEnd, ReducesTo}
-use Rattle.command_reduce.specs.Reduce.ReduceEnds.{done, memory, unread, unwritten, unput, faulty, no_token, unparsed, uninteresting, keep_missing, too_long, script, journal}
+use Rattle.command_reduce.specs.Reduce.ReduceEnds.{done, memory, unread, unwritten, unput, faulty, no_token, unparsed}
+use Rattle.command_reduce.specs.Reduce.ReduceEnds.{uninteresting, keep_missing, too_long, script, journal}
 use Rattle.command_ends.specs.Status.{IsUncut}
 use Rattle.command_words.specs.Commands.{GrammarOptions, GrammarSource, ModeOptions, ReduceOptions}
 use Rattle.command_ends.specs.World.{IsQuiet, IsShownWithin, SeenJournal, fault_counts_of, WasRead, World, grammar_limit, input_limit}
 use Rattle.command_ends.proofs.Lent.{longer_not_missing, not_longer, read_not_missing, read_not_over}
-use Rattle.command_reduce.proofs.ProblemLemmas.{any_problem, fault_is, fault_not_shown, faulty_not_shown, grammar_not_faulty, grammar_not_missing, grammar_not_over, input_read, long_grammar, long_grammar_not_shown, long_input_no_fault, long_input_not_shown, no_fault, no_grammar, not_faulty, parse_caused, reached_grammar, read_and_shown, shown_not_faulty, shown_not_long, uncut_caused}
+use Rattle.command_reduce.proofs.ProblemLemmas.{any_problem, fault_is, fault_not_shown, faulty_not_shown, grammar_not_faulty, grammar_not_missing}
+use Rattle.command_reduce.proofs.ProblemLemmas.{grammar_not_over, input_read, long_grammar, long_grammar_not_shown, long_input_no_fault, long_input_not_shown}
+use Rattle.command_reduce.proofs.ProblemLemmas.{no_fault, no_grammar, not_faulty, parse_caused, reached_grammar, read_and_shown, shown_not_faulty}
+use Rattle.command_reduce.proofs.ProblemLemmas.{shown_not_long, uncut_caused}
 
 yes_no : (start : List ℕ) (records : List Record) → FirstIs start Yes records → FirstIsNo records → ⊥
 yes_no start [] first first_no = first
@@ -42,34 +46,41 @@ named_in other ModeOptions.lines = other
 named_in other (ModeOptions.by_grammar trees) = trees.grammar
 
 -- a mode has one grammar
-same_grammar : {mode : ModeOptions} {one other : GrammarOptions} → mode ≡ ModeOptions.by_grammar one → mode ≡ ModeOptions.by_grammar other → one.grammar ≡ other.grammar
+same_grammar : {mode : ModeOptions} {one other : GrammarOptions} → mode ≡ ModeOptions.by_grammar one → mode ≡ ModeOptions.by_grammar other
+    → one.grammar ≡ other.grammar
 same_grammar {one = one} is is' = ap (named_in one.grammar) (sym is ∙ is')
 
 module _ (faults : InputFaultOnce) (languages : InputsAreInLanguage) (options : ReduceOptions) (history : History) (old new : World) where
   abbrev records : List Record
   records = records_of history
 
-  keeps_all : (P : Problem → Type 0) → ProblemAccepted options old.files P → IsShownProblem options old.files (λ start. holds_all options.keeps start ≡ false) → ⊥
+  keeps_all : (P : Problem → Type 0) → ProblemAccepted options old.files P → IsShownProblem options old.files (λ start. holds_all options.keeps start ≡ false)
+      → ⊥
   keeps_all P read shown =
       let it : (problem : Problem) × ((holds_all options.keeps (start_of problem) ≡ true) × P problem) × (holds_all options.keeps (start_of problem) ≡ false) =
-      read_and_shown options old.files (λ problem. (holds_all options.keeps (start_of problem) ≡ true) × P problem) (λ start. holds_all options.keeps start ≡ false) read shown in
+      read_and_shown options old.files (λ problem. (holds_all options.keeps (start_of problem) ≡ true) × P problem)
+      (λ start. holds_all options.keeps start ≡ false) read shown in
       false≢true (sym it.2 ∙ it.1.0)
 
-  missing_keeps : (index : ℕ) → ProblemRead options old.files (λ problem. first_missing options.keeps (start_of problem) ≡ Some index) → IsShownProblem options old.files (λ start. holds_all options.keeps start ≡ true) → ⊥
+  missing_keeps : (index : ℕ) → ProblemRead options old.files (λ problem. first_missing options.keeps (start_of problem) ≡ Some index)
+      → IsShownProblem options old.files (λ start. holds_all options.keeps start ≡ true) → ⊥
   missing_keeps index read shown =
       let it : (problem : Problem) × (first_missing options.keeps (start_of problem) ≡ Some index) × (holds_all options.keeps (start_of problem) ≡ true) =
-      read_and_shown options old.files (λ problem. first_missing options.keeps (start_of problem) ≡ Some index) (λ start. holds_all options.keeps start ≡ true) read shown in
+      read_and_shown options old.files (λ problem. first_missing options.keeps (start_of problem) ≡ Some index)
+      (λ start. holds_all options.keeps start ≡ true) read shown in
       none_missing options.keeps (start_of it.0) index it.2 it.1
 
   yes_first : (text report : List ℕ) → ReducesTo options old.files history text report → FirstIsNo records → ⊥
   yes_first text report reduces first_no =
       let P : Problem → Type 0 =
-      λ problem. (counts : Counts) × ReducesFrom options.jobs options.keeps problem history text counts × (report ≡ report_text counts) × AreOf options.jobs options.keeps problem history in
+      λ problem. (counts : Counts) × ReducesFrom options.jobs options.keeps problem history text counts × (report ≡ report_text counts)
+      × AreOf options.jobs options.keeps problem history in
       let it : (problem : Problem) × ((holds_all options.keeps (start_of problem) ≡ true) × P problem) =
       any_problem options old.files (λ problem. (holds_all options.keeps (start_of problem) ≡ true) × P problem) reduces in
       yes_no (start_of it.0) records it.1.1.1.first first_no
 
-  not_no : options.jobs ≡ 1 → ProblemAccepted options old.files (λ problem. options.jobs ≡ 1 → IsUnfinished options.keeps problem history) → FirstIsNo records → ⊥
+  not_no : options.jobs ≡ 1 → ProblemAccepted options old.files (λ problem. options.jobs ≡ 1 → IsUnfinished options.keeps problem history) → FirstIsNo records
+      → ⊥
   not_no alone read first_no =
       let P : Problem → Type 0 = λ problem. options.jobs ≡ 1 → IsUnfinished options.keeps problem history in
       let it : (problem : Problem) × ((holds_all options.keeps (start_of problem) ≡ true) × P problem) =
@@ -82,14 +93,19 @@ module _ (faults : InputFaultOnce) (languages : InputsAreInLanguage) (options : 
   so_far_quiet name (JournalSoFar.empty it) = it.quiet
 
   module _ {trees g : GrammarOptions} (mode : options.mode ≡ ModeOptions.by_grammar trees) (is : options.mode ≡ ModeOptions.by_grammar g) where
-    fault_at : {text : List ℕ} → WasRead grammar_limit (old.files.shown trees.grammar.path) (λ bytes. IsFaultIn trees.grammar bytes text) → WasRead grammar_limit (old.files.shown g.grammar.path) (λ bytes. IsFaultIn g.grammar bytes text)
-    fault_at {text = text} read = subst (λ (named : GrammarSource). WasRead grammar_limit (old.files.shown named.path) (λ bytes. IsFaultIn named bytes text)) (same_grammar mode is) read
+    fault_at : {text : List ℕ} → WasRead grammar_limit (old.files.shown trees.grammar.path) (λ bytes. IsFaultIn trees.grammar bytes text)
+        → WasRead grammar_limit (old.files.shown g.grammar.path) (λ bytes. IsFaultIn g.grammar bytes text)
+    fault_at {text = text} read =
+        subst (λ (named : GrammarSource). WasRead grammar_limit (old.files.shown named.path) (λ bytes. IsFaultIn named bytes text)) (same_grammar mode is) read
 
-    faulty_no_fault : {text : List ℕ} → WasRead grammar_limit (old.files.shown trees.grammar.path) (λ bytes. IsFaultIn trees.grammar bytes text) → (Q : InputFault → Type 0) → IsShownFault g.grammar options old.files Q → ⊥
+    faulty_no_fault : {text : List ℕ} → WasRead grammar_limit (old.files.shown trees.grammar.path) (λ bytes. IsFaultIn trees.grammar bytes text)
+        → (Q : InputFault → Type 0) → IsShownFault g.grammar options old.files Q → ⊥
     faulty_no_fault {text = text} read Q shown =
-        no_grammar g.grammar (old.files.shown g.grammar.path) text (fault_at read) (λ c. IsShownWithin input_limit (old.files.shown options.input) (λ bytes. (fault : InputFault) × IsInputFault c bytes fault × Q fault)) shown
+        no_grammar g.grammar (old.files.shown g.grammar.path) text (fault_at read)
+        (λ c. IsShownWithin input_limit (old.files.shown options.input) (λ bytes. (fault : InputFault) × IsInputFault c bytes fault × Q fault)) shown
 
-    has_at : (fault : InputFault) → InputHas trees.grammar (λ c bytes. IsInputFault c bytes fault) options old.files → InputHas g.grammar (λ c bytes. IsInputFault c bytes fault) options old.files
+    has_at : (fault : InputFault) → InputHas trees.grammar (λ c bytes. IsInputFault c bytes fault) options old.files
+        → InputHas g.grammar (λ c bytes. IsInputFault c bytes fault) options old.files
     has_at fault read = subst (λ (named : GrammarSource). InputHas named (λ c bytes. IsInputFault c bytes fault) options old.files) (same_grammar mode is) read
 
   -- which status it has to be
@@ -103,7 +119,9 @@ module _ (faults : InputFaultOnce) (languages : InputsAreInLanguage) (options : 
     over = λ over. absurd (read_not_over (input_read options old.files _ writes.reduced.reduces) over);
     missing = λ none. absurd (read_not_missing (input_read options old.files _ writes.reduced.reduces) none);
     no_token = λ g is shown. absurd (no_fault options old.files _ writes.reduced.reduces g is faults languages IsUncut uncut_caused shown);
-    unparsed = λ g is shown. absurd (no_fault options old.files _ writes.reduced.reduces g is faults languages (λ fault. fault ≡ input_fault.NoParse) parse_caused shown);
+    unparsed =
+        λ g is shown. absurd (no_fault options old.files _ writes.reduced.reduces g is faults languages
+        (λ fault. fault ≡ input_fault.NoParse) parse_caused shown);
     keep_missing = λ shown. absurd (keeps_all _ writes.reduced.reduces shown);
     complete = λ shown files_fine gate_fine journal_fine out_fine. refl;
     first_no = λ first_no. absurd (yes_first _ _ writes.reduced.reduces first_no);
@@ -123,7 +141,8 @@ module _ (faults : InputFaultOnce) (languages : InputsAreInLanguage) (options : 
     over = λ over. absurd (read_not_over (input_read options old.files _ writes.reduced.reduces) over);
     missing = λ none. absurd (read_not_missing (input_read options old.files _ writes.reduced.reduces) none);
     no_token = λ g is shown. absurd (no_fault options old.files _ writes.reduced.reduces g is faults languages IsUncut uncut_caused shown);
-    unparsed = λ g is shown. absurd (no_fault options old.files _ writes.reduced.reduces g is faults languages (λ fault. fault ≡ input_fault.NoParse) parse_caused shown);
+    unparsed = λ g is shown. absurd (no_fault options old.files _ writes.reduced.reduces g is faults languages
+        (λ fault. fault ≡ input_fault.NoParse) parse_caused shown);
     keep_missing = λ shown. absurd (keeps_all _ writes.reduced.reduces shown);
     complete = λ shown files_fine gate_fine journal_fine out_fine. absurd (out_fine put.failed);
     first_no = λ first_no. absurd (yes_first _ _ writes.reduced.reduces first_no);
@@ -223,9 +242,14 @@ module _ (faults : InputFaultOnce) (languages : InputsAreInLanguage) (options : 
     over = λ over. absurd (read_not_over read.2 over);
     missing = λ none. absurd (read_not_missing read.2 none);
     no_token = λ g is shown. refl;
-    unparsed = λ g is shown. absurd (subst IsUncut (fault_is options old.files faults g fault (uncut_caused fault uncut) (has_at mode is fault read) (λ f. f ≡ input_fault.NoParse) parse_caused shown) uncut);
+    unparsed =
+        λ g is shown.
+        absurd (subst IsUncut (fault_is options old.files faults g fault (uncut_caused fault uncut) (has_at mode is fault read)
+        (λ f. f ≡ input_fault.NoParse) parse_caused shown) uncut);
     keep_missing = λ shown. absurd (fault_not_shown options old.files faults trees fault (uncut_caused fault uncut) read _ mode shown);
-    complete = λ shown files_fine gate_fine journal_fine out_fine. absurd (fault_not_shown options old.files faults trees fault (uncut_caused fault uncut) read _ mode shown);
+    complete =
+        λ shown files_fine gate_fine journal_fine out_fine.
+        absurd (fault_not_shown options old.files faults trees fault (uncut_caused fault uncut) read _ mode shown);
     first_no = λ first_no. absurd (none_no records (ap records_of untouched.no_history) first_no);
     first_no_alone = λ alone first_no. absurd (none_no records (ap records_of untouched.no_history) first_no);
     files_failed = λ failed. absurd (failed files.quiet);
@@ -242,10 +266,15 @@ module _ (faults : InputFaultOnce) (languages : InputsAreInLanguage) (options : 
     input_missing = λ fine none. absurd (read_not_missing read.2 none);
     over = λ over. absurd (read_not_over read.2 over);
     missing = λ none. absurd (read_not_missing read.2 none);
-    no_token = λ g is shown. absurd (fault_is options old.files faults g input_fault.NoParse (parse_caused input_fault.NoParse refl) (has_at mode is input_fault.NoParse read) IsUncut uncut_caused shown);
+    no_token =
+        λ g is shown. absurd (fault_is options old.files faults g input_fault.NoParse (parse_caused input_fault.NoParse refl)
+        (has_at mode is input_fault.NoParse read) IsUncut uncut_caused shown);
     unparsed = λ g is shown. refl;
-    keep_missing = λ shown. absurd (fault_not_shown options old.files faults trees input_fault.NoParse (parse_caused input_fault.NoParse refl) read _ mode shown);
-    complete = λ shown files_fine gate_fine journal_fine out_fine. absurd (fault_not_shown options old.files faults trees input_fault.NoParse (parse_caused input_fault.NoParse refl) read _ mode shown);
+    keep_missing =
+        λ shown. absurd (fault_not_shown options old.files faults trees input_fault.NoParse (parse_caused input_fault.NoParse refl) read _ mode shown);
+    complete =
+        λ shown files_fine gate_fine journal_fine out_fine.
+        absurd (fault_not_shown options old.files faults trees input_fault.NoParse (parse_caused input_fault.NoParse refl) read _ mode shown);
     first_no = λ first_no. absurd (none_no records (ap records_of untouched.no_history) first_no);
     first_no_alone = λ alone first_no. absurd (none_no records (ap records_of untouched.no_history) first_no);
     files_failed = λ failed. absurd (failed files.quiet);

@@ -19,7 +19,8 @@ use Rattle.command_reduce_calls.specs.Journal.{JournalBroken, JournalSoFar, Jour
 use Rattle.command_reduce.specs.inner.Run.{IsSoundOpened, JournalAfter}
 
 -- of a journal that showed this before it was opened under this name
-module _ (name : List ℕ) (run : Run) (earlier : SeenJournal) (opened : run.before.journal.shown ≡ opened_as name earlier.shown) (quiet : run.before.journal.faults ≡ earlier.faults) where
+module _ (name : List ℕ) (run : Run) (earlier : SeenJournal) (opened : run.before.journal.shown ≡ opened_as name earlier.shown)
+    (quiet : run.before.journal.faults ≡ earlier.faults) where
   abbrev whole_run : Run
   whole_run = record run { before = record run.before { journal = earlier } }
 
@@ -32,7 +33,8 @@ module _ (name : List ℕ) (run : Run) (earlier : SeenJournal) (opened : run.bef
   fails_since keeps problem Journal why = (subst (λ (n : ℕ). Rose n run.after.journal.faults) quiet why.0, why.1)
   fails_since keeps problem Memory why = (why.0 ∙ quiet, why.1)
 
-  ends_since : (keeps : List (List ℕ)) (problem : Problem) (outcome : Result Reduced RunFault) → ProblemEnds keeps problem run outcome → ProblemEnds keeps problem whole_run outcome
+  ends_since : (keeps : List (List ℕ)) (problem : Problem) (outcome : Result Reduced RunFault) → ProblemEnds keeps problem run outcome
+      → ProblemEnds keeps problem whole_run outcome
   ends_since keeps problem (Ok reduced) ends = (ends.0, none_failed ends.1)
   ends_since keeps problem (Err fault) why = fails_since keeps problem fault why
 
@@ -46,7 +48,8 @@ module _ (name : List ℕ) (run : Run) (earlier : SeenJournal) (opened : run.bef
   journal_since (Ok reduced) has = whole_since has
   journal_since (Err NotInteresting) has = whole_since has
   journal_since (Err (Script worker)) has = whole_since has
-  journal_since (Err Journal) has = JournalBroken.broke_off (subst (λ (put : Option Put). HasPartBy run.workers run.history put run.after.journal.shown) opened has.0)
+  journal_since (Err Journal) has =
+      JournalBroken.broke_off (subst (λ (put : Option Put). HasPartBy run.workers run.history put run.after.journal.shown) opened has.0)
   journal_since (Err Memory) has =
       ⊎_elim (λ written. JournalSoFar.whole (whole_since (written, has.1)))
       (λ nothing. JournalSoFar.empty (record { no_history = nothing.0; opened = nothing.1 ∙ opened; quiet = has.1 ∙ quiet })) has.0
@@ -58,7 +61,8 @@ module _ (name : List ℕ) (run : Run) (earlier : SeenJournal) (opened : run.bef
   }
 
 -- where it wasn't opened
-module _ (run : Run) (fault : RunFault) (none : run.history ≡ []) (out : run.outcome ≡ Err fault) (same : run.after.gates ≡ run.before.gates) (kept : run.after.journal.shown ≡ run.before.journal.shown)
+module _ (run : Run) (fault : RunFault) (none : run.history ≡ []) (out : run.outcome ≡ Err fault) (same : run.after.gates ≡ run.before.gates)
+    (kept : run.after.journal.shown ≡ run.before.journal.shown)
     (why : OpeningFails run.before.journal.faults run.after.journal.faults fault) where
   journal_unopened : (name : List ℕ) (fault : RunFault) → OpeningFails run.before.journal.faults run.after.journal.faults fault
       → JournalAfter {A = Reduced} run.workers name run.history run.before.journal run.after.journal (Err fault)
@@ -75,7 +79,8 @@ module _ (run : Run) (fault : RunFault) (none : run.history ≡ []) (out : run.o
   quiet_gates : AreQuiet run.before.gates run.after.gates
   quiet_gates = ap fault_counts_of same
 
-  fails_unopened : (keeps : List (List ℕ)) (problem : Problem) (fault : RunFault) → OpeningFails run.before.journal.faults run.after.journal.faults fault → RunFails keeps problem run fault
+  fails_unopened : (keeps : List (List ℕ)) (problem : Problem) (fault : RunFault) → OpeningFails run.before.journal.faults run.after.journal.faults fault
+      → RunFails keeps problem run fault
   fails_unopened keeps problem Journal why = (why, λ _. quiet_gates)
   fails_unopened keeps problem Memory why = (why, λ _. quiet_gates)
   fails_unopened keeps problem _ why = absurd why

@@ -17,7 +17,8 @@ use Rattle.command_ends.specs.declared.status.NamedFile.TheVariants as named
 use Rattle.command_grammar.specs.Grammar.{GrammarRead, IsFaultIn, IsGrammarText}
 use Rattle.run_problem.specs.Problem.{Problem, start_of}
 use Rattle.run_problem.specs.Read.{IsReadAs, start_read}
-use Rattle.command_reduce.specs.Reduce.{InputHas, IsReached, IsShownFault, IsShownGrammar, IsTreeProblem, ProblemAccepted, ProblemRead, ReadIn, ShownIn, grammar_in}
+use Rattle.command_reduce.specs.Reduce.{InputHas, IsReached, IsShownFault, IsShownGrammar, IsTreeProblem}
+use Rattle.command_reduce.specs.Reduce.{ProblemAccepted, ProblemRead, ReadIn, ShownIn, grammar_in}
 use Rattle.command_ends.specs.Status.{IsUncut}
 use Rattle.command_words.specs.Commands.{GrammarOptions, GrammarSource, ModeOptions, ReduceOptions}
 use Rattle.command_grammar.specs.Grammar.{start_name}
@@ -25,7 +26,8 @@ use Rattle.command_ends.specs.World.{IsOver, IsShownWithin, SeenFiles, WasRead, 
 use Rattle.command_ends.proofs.Lent.{not_longer, read_not_missing, read_not_over}
 
 -- what is visible of a file holds of the bytes that were read
-pub shown_holds : (limit : ℕ) (P : List ℕ → Type 0) (content : Option FileContent) → IsShownWithin limit content P → (bytes : List ℕ) → Holds bytes content → P bytes
+pub shown_holds : (limit : ℕ) (P : List ℕ → Type 0) (content : Option FileContent) → IsShownWithin limit content P → (bytes : List ℕ) → Holds bytes content
+    → P bytes
 shown_holds limit P None shown bytes here = absurd shown
 shown_holds limit P (Some None) shown bytes here = absurd shown
 shown_holds limit P (Some (Some held)) shown bytes here = subst P (same_Some held bytes here) shown.1
@@ -35,8 +37,10 @@ pub is_text_of : (named : GrammarSource) (bytes : List ℕ) (c : CheckedGrammar)
 is_text_of named bytes c is = record { grammar = c.grammar; start = c.start; spelled = is.text; first = is.start; well_formed = is.checked.well_formed }
 
 -- a grammar that was read isn't a faulty text
-pub not_faulty : (named : GrammarSource) (content : Option FileContent) (c : CheckedGrammar) → GrammarRead named content c → IsShownWithin grammar_limit content (λ bytes. ¬ IsGrammarText named bytes) → ⊥
-not_faulty named content c read shown = shown_holds grammar_limit (λ bytes. ¬ IsGrammarText named bytes) content shown read.bytes read.read (is_text_of named read.bytes c read.holds.spelled)
+pub not_faulty : (named : GrammarSource) (content : Option FileContent) (c : CheckedGrammar) → GrammarRead named content c
+    → IsShownWithin grammar_limit content (λ bytes. ¬ IsGrammarText named bytes) → ⊥
+not_faulty named content c read shown =
+    shown_holds grammar_limit (λ bytes. ¬ IsGrammarText named bytes) content shown read.bytes read.read (is_text_of named read.bytes c read.holds.spelled)
 
 -- and it is the one that is visible
 pub of_grammar : (named : GrammarSource) (content : Option FileContent) (c : CheckedGrammar) → GrammarRead named content c → (S : CheckedGrammar → Type 0)
@@ -47,7 +51,8 @@ of_grammar named content c read S shown =
     subst S (sym (read.holds.only it.0 it.1)) it.2
 
 -- where a fault was read, no grammar is visible
-pub no_grammar : (named : GrammarSource) (content : Option FileContent) (text : List ℕ) → WasRead grammar_limit content (λ bytes. IsFaultIn named bytes text) → (S : CheckedGrammar → Type 0)
+pub no_grammar : (named : GrammarSource) (content : Option FileContent) (text : List ℕ) → WasRead grammar_limit content (λ bytes. IsFaultIn named bytes text)
+    → (S : CheckedGrammar → Type 0)
     → IsShownWithin grammar_limit content (λ bytes. (other : CheckedGrammar) × Spells bytes (start_name named) other × S other) → ⊥
 no_grammar named content text read S shown =
     let it : (other : CheckedGrammar) × Spells read.bytes (start_name named) other × S other =
@@ -68,7 +73,8 @@ start_as keeps (read_problem.Tree found mode squeeze) problem is = ap start_of i
 
 module _ (options : ReduceOptions) (files : SeenFiles) where
   -- what holds of a problem that was read also holds of another fact
-  read_as : (mode : ModeOptions) (P Q : Problem → Type 0) → ((problem : Problem) → P problem → Q problem) → ReadIn mode options files P → ReadIn mode options files Q
+  read_as : (mode : ModeOptions) (P Q : Problem → Type 0) → ((problem : Problem) → P problem → Q problem) → ReadIn mode options files P
+      → ReadIn mode options files Q
   read_as ModeOptions.lines P Q then read = record { bytes = read.bytes; read = read.read; within = read.within; holds = then _ read.holds }
   read_as (ModeOptions.by_grammar trees) P Q then read = (
     read.0,
@@ -80,7 +86,8 @@ module _ (options : ReduceOptions) (files : SeenFiles) where
   problem_map P Q then read = read_as options.mode P Q then read
 
   -- what was read, in whose text each keep text occurs, is accepted
-  pub accepted_as : (read : ReadProblem) (Q : Problem → Type 0) → holds_all options.keeps (start_read read) ≡ true → ((problem : Problem) → IsReadAs options.keeps read problem → Q problem)
+  pub accepted_as : (read : ReadProblem) (Q : Problem → Type 0) → holds_all options.keeps (start_read read) ≡ true
+      → ((problem : Problem) → IsReadAs options.keeps read problem → Q problem)
       → ProblemRead options files (IsReadAs options.keeps read) → ProblemAccepted options files Q
   accepted_as read Q kept then was =
       problem_map (IsReadAs options.keeps read) (λ problem. (holds_all options.keeps (start_of problem) ≡ true) × Q problem)
@@ -102,17 +109,22 @@ module _ (options : ReduceOptions) (files : SeenFiles) where
   pub input_read : (P : Problem → Type 0) → ProblemRead options files P → WasRead input_limit (files.shown options.input) (λ bytes. Unit {0})
   input_read P read = input_in options.mode P read
 
-  both_in : (mode : ModeOptions) (P : Problem → Type 0) (S : List ℕ → Type 0) → ReadIn mode options files P → ShownIn mode options files S → (problem : Problem) × P problem × S (start_of problem)
-  both_in ModeOptions.lines P S read shown = (Problem.of_lines read.bytes, read.holds, shown_holds input_limit S (files.shown options.input) shown read.bytes read.read)
+  both_in : (mode : ModeOptions) (P : Problem → Type 0) (S : List ℕ → Type 0) → ReadIn mode options files P → ShownIn mode options files S → (problem : Problem)
+      × P problem × S (start_of problem)
+  both_in ModeOptions.lines P S read shown =
+      (Problem.of_lines read.bytes, read.holds, shown_holds input_limit S (files.shown options.input) shown read.bytes read.read)
   both_in (ModeOptions.by_grammar trees) P S read shown =
       let content = files.shown options.input in
       let visible : IsShownWithin input_limit content (λ text. InLanguage read.0 text × S text) =
-      of_grammar trees.grammar (files.shown trees.grammar.path) read.0 read.1 (λ c. IsShownWithin input_limit content (λ text. InLanguage c text × S text)) shown in
-      let it : InLanguage read.0 read.2.bytes × S read.2.bytes = shown_holds input_limit (λ text. InLanguage read.0 text × S text) content visible read.2.bytes read.2.read in
+      of_grammar trees.grammar (files.shown trees.grammar.path) read.0 read.1
+      (λ c. IsShownWithin input_limit content (λ text. InLanguage c text × S text)) shown in
+      let it : InLanguage read.0 read.2.bytes × S read.2.bytes =
+      shown_holds input_limit (λ text. InLanguage read.0 text × S text) content visible read.2.bytes read.2.read in
       (Problem.of_tree trees.mode read.2.holds.0, read.2.holds.2, subst S (sym read.2.holds.1.of_text.same_text) it.1)
 
   -- what is visible of a problem holds of the one that was read
-  pub read_and_shown : (P : Problem → Type 0) (S : List ℕ → Type 0) → ProblemRead options files P → ShownIn options.mode options files S → (problem : Problem) × P problem × S (start_of problem)
+  pub read_and_shown : (P : Problem → Type 0) (S : List ℕ → Type 0) → ProblemRead options files P → ShownIn options.mode options files S → (problem : Problem)
+      × P problem × S (start_of problem)
   read_and_shown P S read shown = both_in options.mode P S read shown
 
   -- the grammar was read too
@@ -130,19 +142,23 @@ module _ (options : ReduceOptions) (files : SeenFiles) where
     grammar_not_faulty shown = not_faulty trees.grammar (files.shown trees.grammar.path) grammar_read.0 grammar_read.1 shown
 
     -- and the input has no fault
-    pub no_fault : InputFaultOnce → InputsAreInLanguage → (Q : InputFault → Type 0) → ((fault : InputFault) → Q fault → fault ≢ input_fault.Memory) → IsShownFault trees.grammar options files Q → ⊥
+    pub no_fault : InputFaultOnce → InputsAreInLanguage → (Q : InputFault → Type 0) → ((fault : InputFault) → Q fault → fault ≢ input_fault.Memory)
+        → IsShownFault trees.grammar options files Q → ⊥
     no_fault faults languages Q caused shown =
         let content = files.shown options.input in
         let c : CheckedGrammar = grammar_read.0 in
-        let input : WasRead input_limit content (λ text. (input : TreeInput) × IsTreeProblem options.keeps c trees.squeeze text input × P (Problem.of_tree trees.mode input)) = grammar_read.2 in
+        let input : WasRead input_limit content (λ text. (input : TreeInput) × IsTreeProblem options.keeps c trees.squeeze text input
+        × P (Problem.of_tree trees.mode input)) = grammar_read.2 in
         let visible : IsShownWithin input_limit content (λ text. (fault : InputFault) × IsInputFault c text fault × Q fault) =
-        of_grammar trees.grammar (files.shown trees.grammar.path) c grammar_read.1 (λ c. IsShownWithin input_limit content (λ text. (fault : InputFault) × IsInputFault c text fault × Q fault)) shown in
+        of_grammar trees.grammar (files.shown trees.grammar.path) c grammar_read.1
+        (λ c. IsShownWithin input_limit content (λ text. (fault : InputFault) × IsInputFault c text fault × Q fault)) shown in
         let it : (fault : InputFault) × IsInputFault c input.bytes fault × Q fault =
         shown_holds input_limit (λ text. (fault : InputFault) × IsInputFault c text fault × Q fault) content visible input.bytes input.read in
         (faults c input.bytes).refused it.0 (caused it.0 it.2) it.1 (languages c input.bytes input.holds.0 input.holds.1.of_text)
 
   -- an input with a fault
-  module _ (faults : InputFaultOnce) (trees : GrammarOptions) (fault : InputFault) (caused : fault ≢ input_fault.Memory) (read : InputHas trees.grammar (λ c bytes. IsInputFault c bytes fault) options files) where
+  module _ (faults : InputFaultOnce) (trees : GrammarOptions) (fault : InputFault) (caused : fault ≢ input_fault.Memory)
+      (read : InputHas trees.grammar (λ c bytes. IsInputFault c bytes fault) options files) where
     content : Option FileContent
     content = files.shown options.input
 
@@ -151,19 +167,23 @@ module _ (options : ReduceOptions) (files : SeenFiles) where
     unfolding content
     fault_in mode S is shown =
         let visible : IsShownWithin input_limit content (λ text. InLanguage read.0 text × S text) =
-        of_grammar trees.grammar (files.shown trees.grammar.path) read.0 read.1 (λ c. IsShownWithin input_limit content (λ text. InLanguage c text × S text)) (subst (λ m. ShownIn m options files S) is shown) in
-        let it : InLanguage read.0 read.2.bytes × S read.2.bytes = shown_holds input_limit (λ text. InLanguage read.0 text × S text) content visible read.2.bytes read.2.read in
+        of_grammar trees.grammar (files.shown trees.grammar.path) read.0 read.1 (λ c. IsShownWithin input_limit content (λ text. InLanguage c text × S text))
+        (subst (λ m. ShownIn m options files S) is shown) in
+        let it : InLanguage read.0 read.2.bytes × S read.2.bytes =
+        shown_holds input_limit (λ text. InLanguage read.0 text × S text) content visible read.2.bytes read.2.read in
         (faults read.0 read.2.bytes).refused fault caused read.2.holds it.0
 
     pub fault_not_shown : (S : List ℕ → Type 0) → options.mode ≡ ModeOptions.by_grammar trees → ShownIn options.mode options files S → ⊥
     fault_not_shown S is shown = fault_in options.mode S is shown
 
     -- and has no other
-    pub fault_is : (Q : InputFault → Type 0) → ((fault : InputFault) → Q fault → fault ≢ input_fault.Memory) → IsShownFault trees.grammar options files Q → Q fault
+    pub fault_is : (Q : InputFault → Type 0) → ((fault : InputFault) → Q fault → fault ≢ input_fault.Memory) → IsShownFault trees.grammar options files Q
+        → Q fault
     unfolding content
     fault_is Q not_memory shown =
         let visible : IsShownWithin input_limit content (λ text. (fault : InputFault) × IsInputFault read.0 text fault × Q fault) =
-        of_grammar trees.grammar (files.shown trees.grammar.path) read.0 read.1 (λ c. IsShownWithin input_limit content (λ text. (fault : InputFault) × IsInputFault c text fault × Q fault)) shown in
+        of_grammar trees.grammar (files.shown trees.grammar.path) read.0 read.1
+        (λ c. IsShownWithin input_limit content (λ text. (fault : InputFault) × IsInputFault c text fault × Q fault)) shown in
         let it : (fault : InputFault) × IsInputFault read.0 read.2.bytes fault × Q fault =
         shown_holds input_limit (λ text. (fault : InputFault) × IsInputFault read.0 text fault × Q fault) content visible read.2.bytes read.2.read in
         subst Q (sym ((faults read.0 read.2.bytes).once fault it.0 caused (not_memory it.0 it.2) read.2.holds it.1)) it.2
@@ -172,37 +192,47 @@ module _ (options : ReduceOptions) (files : SeenFiles) where
   pub faulty_not_shown : (trees : GrammarOptions) (text : List ℕ) (S : List ℕ → Type 0) → options.mode ≡ ModeOptions.by_grammar trees
       → WasRead grammar_limit (files.shown trees.grammar.path) (λ bytes. IsFaultIn trees.grammar bytes text) → ShownIn options.mode options files S → ⊥
   faulty_not_shown trees text S is read shown =
-      no_grammar trees.grammar (files.shown trees.grammar.path) text read (λ c. IsShownWithin input_limit (files.shown options.input) (λ bytes. InLanguage c bytes × S bytes)) (subst (λ m. ShownIn m options files S) is shown)
+      no_grammar trees.grammar (files.shown trees.grammar.path) text read
+      (λ c. IsShownWithin input_limit (files.shown options.input) (λ bytes. InLanguage c bytes × S bytes)) (subst (λ m. ShownIn m options files S) is shown)
 
   -- neither is one, nor an input, that is too long
-  long_input_in : (mode : ModeOptions) (S : List ℕ → Type 0) → IsReached mode named.Input files → IsLonger input_limit (files.shown options.input) → ShownIn mode options files S → ⊥
+  long_input_in : (mode : ModeOptions) (S : List ℕ → Type 0) → IsReached mode named.Input files → IsLonger input_limit (files.shown options.input)
+      → ShownIn mode options files S → ⊥
   long_input_in ModeOptions.lines S reached longer shown = not_longer input_limit S (files.shown options.input) shown longer
   long_input_in (ModeOptions.by_grammar trees) S reached longer shown =
       not_longer input_limit (λ text. InLanguage reached.0 text × S text) (files.shown options.input)
-      (of_grammar trees.grammar (files.shown trees.grammar.path) reached.0 reached.1 (λ c. IsShownWithin input_limit (files.shown options.input) (λ text. InLanguage c text × S text)) shown) longer
+      (of_grammar trees.grammar (files.shown trees.grammar.path) reached.0 reached.1
+      (λ c. IsShownWithin input_limit (files.shown options.input) (λ text. InLanguage c text × S text)) shown) longer
 
-  pub long_input_not_shown : (S : List ℕ → Type 0) → IsReached options.mode named.Input files → IsLonger input_limit (files.shown options.input) → ShownIn options.mode options files S → ⊥
+  pub long_input_not_shown : (S : List ℕ → Type 0) → IsReached options.mode named.Input files → IsLonger input_limit (files.shown options.input)
+      → ShownIn options.mode options files S → ⊥
   long_input_not_shown S reached longer shown = long_input_in options.mode S reached longer shown
 
-  long_grammar_in : (mode : ModeOptions) (S : List ℕ → Type 0) → IsReached mode named.Grammar files → IsLonger grammar_limit (files.shown (grammar_in mode)) → ShownIn mode options files S → ⊥
+  long_grammar_in : (mode : ModeOptions) (S : List ℕ → Type 0) → IsReached mode named.Grammar files → IsLonger grammar_limit (files.shown (grammar_in mode))
+      → ShownIn mode options files S → ⊥
   long_grammar_in ModeOptions.lines S reached longer shown = reached
   long_grammar_in (ModeOptions.by_grammar trees) S reached longer shown = not_longer grammar_limit _ (files.shown trees.grammar.path) shown longer
 
-  pub long_grammar_not_shown : (S : List ℕ → Type 0) → IsReached options.mode named.Grammar files → IsLonger grammar_limit (files.shown (grammar_in options.mode)) → ShownIn options.mode options files S → ⊥
+  pub long_grammar_not_shown : (S : List ℕ → Type 0) → IsReached options.mode named.Grammar files
+      → IsLonger grammar_limit (files.shown (grammar_in options.mode)) → ShownIn options.mode options files S → ⊥
   long_grammar_not_shown S reached longer shown = long_grammar_in options.mode S reached longer shown
 
   -- a grammar that is visible and well-formed has no fault
   pub shown_not_faulty : {trees : GrammarOptions} {text : List ℕ} → options.mode ≡ ModeOptions.by_grammar trees
       → WasRead grammar_limit (files.shown trees.grammar.path) (λ bytes. IsFaultIn trees.grammar bytes text) → IsShownGrammar options.mode files → ⊥
   shown_not_faulty {trees = trees} is read shown =
-      read.holds.refused (shown_holds grammar_limit (IsGrammarText trees.grammar) (files.shown trees.grammar.path) (subst (λ m. IsShownGrammar m files) is shown) read.bytes read.read)
+      read.holds.refused (shown_holds grammar_limit (IsGrammarText trees.grammar) (files.shown trees.grammar.path)
+      (subst (λ m. IsShownGrammar m files) is shown) read.bytes read.read)
 
   -- and isn't too long
-  shown_short_in : (mode : ModeOptions) → IsShownGrammar mode files → IsReached mode named.Grammar files → IsLonger grammar_limit (files.shown (grammar_in mode)) → ⊥
+  shown_short_in : (mode : ModeOptions) → IsShownGrammar mode files → IsReached mode named.Grammar files
+      → IsLonger grammar_limit (files.shown (grammar_in mode)) → ⊥
   shown_short_in ModeOptions.lines shown reached longer = reached
-  shown_short_in (ModeOptions.by_grammar trees) shown reached longer = not_longer grammar_limit (IsGrammarText trees.grammar) (files.shown trees.grammar.path) shown longer
+  shown_short_in (ModeOptions.by_grammar trees) shown reached longer =
+      not_longer grammar_limit (IsGrammarText trees.grammar) (files.shown trees.grammar.path) shown longer
 
-  pub shown_not_long : IsShownGrammar options.mode files → IsReached options.mode named.Grammar files → IsLonger grammar_limit (files.shown (grammar_in options.mode)) → ⊥
+  pub shown_not_long : IsShownGrammar options.mode files → IsReached options.mode named.Grammar files
+      → IsLonger grammar_limit (files.shown (grammar_in options.mode)) → ⊥
   shown_not_long shown reached longer = shown_short_in options.mode shown reached longer
 
   module _ (trees : GrammarOptions) (mode : options.mode ≡ ModeOptions.by_grammar trees) where
@@ -214,8 +244,10 @@ module _ (options : ReduceOptions) (files : SeenFiles) where
     long_grammar longer = subst (λ m. IsLonger grammar_limit (files.shown (grammar_in m))) mode longer
 
     -- an input that is too long has no fault that is named
-    pub long_input_no_fault : (Q : InputFault → Type 0) → IsReached options.mode named.Input files → IsLonger input_limit (files.shown options.input) → IsShownFault trees.grammar options files Q → ⊥
+    pub long_input_no_fault : (Q : InputFault → Type 0) → IsReached options.mode named.Input files → IsLonger input_limit (files.shown options.input)
+        → IsShownFault trees.grammar options files Q → ⊥
     long_input_no_fault Q reached longer shown =
         let it : (c : CheckedGrammar) × GrammarRead trees.grammar (files.shown trees.grammar.path) c = reached_grammar reached in
         not_longer input_limit (λ text. (fault : InputFault) × IsInputFault it.0 text fault × Q fault) (files.shown options.input)
-        (of_grammar trees.grammar (files.shown trees.grammar.path) it.0 it.1 (λ c. IsShownWithin input_limit (files.shown options.input) (λ text. (fault : InputFault) × IsInputFault c text fault × Q fault)) shown) longer
+        (of_grammar trees.grammar (files.shown trees.grammar.path) it.0 it.1
+        (λ c. IsShownWithin input_limit (files.shown options.input) (λ text. (fault : InputFault) × IsInputFault c text fault × Q fault)) shown) longer

@@ -32,7 +32,8 @@ within_more : {n : ℕ} → n ≤ input_limit → n ≤ text_limit
 within_more within = omega (arith, within)
 
 -- what was found in the text that was read
-pub gives_tree : (named : GrammarSource) (grammar input : Option FileContent) (c : CheckedGrammar) (bytes : List ℕ) (found : ParsedInput) → GrammarRead named grammar c → Holds bytes input → length bytes ≤ input_limit → IsChecked c → IsParsed c bytes found
+pub gives_tree : (named : GrammarSource) (grammar input : Option FileContent) (c : CheckedGrammar) (bytes : List ℕ) (found : ParsedInput)
+    → GrammarRead named grammar c → Holds bytes input → length bytes ≤ input_limit → IsChecked c → IsParsed c bytes found
     → MakesInputOf c bytes found → GivesTree named grammar input found
 gives_tree named grammar input c bytes found spelled here within is parsed makes = record {
   checked = c;
@@ -41,19 +42,25 @@ gives_tree named grammar input c bytes found spelled here within is parsed makes
   ready =
       record {
         checked = subst IsChecked (sym parsed.same_grammar) is;
-        parsed = subst (λ (t : List ℕ). IsParsed found.lexer t found) (sym parsed.same_text) (subst (λ (g : CheckedGrammar). IsParsed g bytes found) (sym parsed.same_grammar) parsed);
+        parsed =
+            subst (λ (t : List ℕ). IsParsed found.lexer t found) (sym parsed.same_text)
+            (subst (λ (g : CheckedGrammar). IsParsed g bytes found) (sym parsed.same_grammar) parsed);
         kinds = (makes (subst IsChecked (sym parsed.same_grammar) is).well_formed (λ kept text. true) false).is_input.kinds_are;
         short = subst (λ (t : List ℕ). length t ≤ text_limit) (sym parsed.same_text) (within_more within);
       };
 }
 
-module _ (grammar : GrammarSource) (input : List ℕ) (files files' : SeenFiles) (c : CheckedGrammar) (spelled : GrammarRead grammar (files.shown grammar.path) c) where
+module _ (grammar : GrammarSource) (input : List ℕ) (files files' : SeenFiles) (c : CheckedGrammar)
+    (spelled : GrammarRead grammar (files.shown grammar.path) c) where
   -- the input has a fault
-  pub fault_fails : (bytes : List ℕ) → Holds bytes (files.shown input) → length bytes ≤ input_limit → IsQuiet files files' → (fault : InputFault) → IsInputFault c bytes fault → (refusal : Refusal)
+  pub fault_fails : (bytes : List ℕ) → Holds bytes (files.shown input) → length bytes ≤ input_limit → IsQuiet files files' → (fault : InputFault)
+      → IsInputFault c bytes fault → (refusal : Refusal)
       → IsInputRefusal fault refusal → TreeFails grammar input files files' refusal
   fault_fails bytes here within quiet fault is Memory why = quiet
-  fault_fails bytes here within quiet fault is (Uncut line) why = (fault, why.0, (c, spelled, record { bytes = bytes; read = here; within = within; holds = is }), why.1, quiet)
-  fault_fails bytes here within quiet fault is NoParse why = ((c, spelled, record { bytes = bytes; read = here; within = within; holds = subst (IsInputFault c bytes) why is }), quiet)
+  fault_fails bytes here within quiet fault is (Uncut line) why =
+      (fault, why.0, (c, spelled, record { bytes = bytes; read = here; within = within; holds = is }), why.1, quiet)
+  fault_fails bytes here within quiet fault is NoParse why =
+      ((c, spelled, record { bytes = bytes; read = here; within = within; holds = subst (IsInputFault c bytes) why is }), quiet)
   fault_fails bytes here within quiet fault is _ why = absurd why
 
 module _ (options : ReduceOptions) (files : SeenFiles) (trees : GrammarOptions) (mode : options.mode ≡ ModeOptions.by_grammar trees) where
@@ -77,7 +84,8 @@ module _ (options : ReduceOptions) (files : SeenFiles) (trees : GrammarOptions) 
               admits = refl;
               squeezes = refl;
               only = λ other of admits_so squeezes_so.
-                  one gives.checked gives.read.bytes (tree_input found formed admits trees.squeeze) other (gives.read.holds formed admits trees.squeeze) of (sym admits_so) (sym squeezes_so);
+                  one gives.checked gives.read.bytes (tree_input found formed admits trees.squeeze) other (gives.read.holds formed admits trees.squeeze) of
+                  (sym admits_so) (sym squeezes_so);
             },
             (formed, refl),
           );
@@ -85,20 +93,23 @@ module _ (options : ReduceOptions) (files : SeenFiles) (trees : GrammarOptions) 
       )
 
   -- why there is no tree
-  pub tree_fails : (files' : SeenFiles) (refusal : Refusal) → TreeFails trees.grammar options.input files files' refusal → ProblemFails options files files' refusal
+  pub tree_fails : (files' : SeenFiles) (refusal : Refusal) → TreeFails trees.grammar options.input files files' refusal
+      → ProblemFails options files files' refusal
   tree_fails files' Memory why = why
   tree_fails files' (CannotRead named.Input) why = (subst (λ (m : ModeOptions). IsReached m named.Input files) (sym mode) why.0, why.1)
   tree_fails files' (CannotRead named.Grammar) why = (subst (λ (m : ModeOptions). IsReached m named.Grammar files) (sym mode) tt, why)
   tree_fails files' (TooLong named.Input) why = (subst (λ (m : ModeOptions). IsReached m named.Input files) (sym mode) why.0, why.1, why.2)
   tree_fails files' (TooLong named.Grammar) why =
-      subst (λ (m : ModeOptions). IsReached m named.Grammar files × IsLonger grammar_limit (files.shown (grammar_in m)) × IsQuiet files files') (sym mode) (tt, why.1, why.2)
+      subst (λ (m : ModeOptions). IsReached m named.Grammar files × IsLonger grammar_limit (files.shown (grammar_in m)) × IsQuiet files files') (sym mode)
+      (tt, why.1, why.2)
   tree_fails files' (Grammar line) why = (trees, mode, why)
   tree_fails files' (Uncut line) why = (trees, why.0, mode, why.1, why.2, why.3, why.4)
   tree_fails files' NoParse why = (trees, mode, why.0, why.1)
   tree_fails files' _ why = absurd why
 
 -- a keep text that isn't in the text of what was read is missing in the problem's start
-pub keep_refused : (options : ReduceOptions) (files : SeenFiles) (problem : ReadProblem) (start : List ℕ) (refusal : Refusal) → start ≡ start_read problem → ProblemRead options files (IsReadAs options.keeps problem)
+pub keep_refused : (options : ReduceOptions) (files : SeenFiles) (problem : ReadProblem) (start : List ℕ) (refusal : Refusal) → start ≡ start_read problem
+    → ProblemRead options files (IsReadAs options.keeps problem)
     → KeepFails options.keeps start refusal → KeepRefused options files refusal
 keep_refused options files problem start Memory is was why = tt
 keep_refused options files problem start (KeepMissing line) is was why = (

@@ -18,7 +18,8 @@ use Rattle.run_problem.specs.Ends.{IsRefused}
 use Rattle.command_reduce_calls.specs.Journal.{JournalBroken, JournalSoFar, JournalWhole}
 use Rattle.command_reduce.proofs.ProblemLemmas.{any_problem}
 use Rattle.command_reduce.specs.Reduce.{InputHas, IsReached, IsReduced, ProblemRead, ReduceEnds, ReducesTo, ScriptLeaves, limit_of, name_of}
-use Rattle.command_reduce.specs.Reduce.ReduceEnds.{done, memory, unread, unwritten, unput, faulty, no_token, unparsed, uninteresting, keep_missing, too_long, script, journal}
+use Rattle.command_reduce.specs.Reduce.ReduceEnds.{done, memory, unread, unwritten, unput, faulty, no_token, unparsed}
+use Rattle.command_reduce.specs.Reduce.ReduceEnds.{uninteresting, keep_missing, too_long, script, journal}
 use Rattle.command_reduce.specs.ReduceByStatus.{PutsItsLine, ReduceByStatus}
 use Rattle.command_words.specs.Commands.{GrammarOptions, ModeOptions, ReduceOptions}
 use Rattle.command_ends.specs.Status.{IsOneOf, IsUncut, fault_line, keep_text, script_text}
@@ -58,8 +59,10 @@ module _ (options : ReduceOptions) (history : History) (old new : World) where
   is_unread _ is = absurd (cc is)
 
   is_unwritten : {status : ℕ} → Ends status → status ≡ 4
-      → (CallFailed old.files new.files × PutsItsLine options.mode old.files old.out new.out status) ⊎ ((report : List ℕ) × IsReduced options old.files new.files history report × PutsPrefix report old.out new.out)
-  is_unwritten (unwritten failed text report reduces others gates_quiet kept put) is = inl (failed, ((file_of options.mode old.files).0, (file_of options.mode old.files).1, (CannotWrite, tt, refl, put)))
+      → (CallFailed old.files new.files × PutsItsLine options.mode old.files old.out new.out status)
+      ⊎ ((report : List ℕ) × IsReduced options old.files new.files history report × PutsPrefix report old.out new.out)
+  is_unwritten (unwritten failed text report reduces others gates_quiet kept put) is =
+      inl (failed, ((file_of options.mode old.files).0, (file_of options.mode old.files).1, (CannotWrite, tt, refl, put)))
   is_unwritten (unput report writes put) is = inr (report, writes.reduced, put)
   is_unwritten _ is = absurd (cc is)
 
@@ -69,10 +72,13 @@ module _ (options : ReduceOptions) (history : History) (old new : World) where
   is_tried _ is = absurd (cc is)
 
   is_uninteresting : {status : ℕ} → Ends status → status ≡ 8 → OnlyNo (records_of history)
-  is_uninteresting (uninteresting read files gates_quiet kept put) is = (any_problem options old.files (λ problem. (holds_all options.keeps (start_of problem) ≡ true) × IsRefused options.jobs options.keeps problem history) read).1.1.only
+  is_uninteresting (uninteresting read files gates_quiet kept put) is =
+      (any_problem options old.files (λ problem. (holds_all options.keeps (start_of problem) ≡ true) × IsRefused options.jobs options.keeps problem history)
+      read).1.1.only
   is_uninteresting _ is = absurd (cc is)
 
-  is_journal : {status : ℕ} → Ends status → status ≡ 12 → CallFailed old.journal new.journal × JournalBroken options.jobs options.journal history old.journal new.journal
+  is_journal : {status : ℕ} → Ends status → status ≡ 12 → CallFailed old.journal new.journal
+      × JournalBroken options.jobs options.journal history old.journal new.journal
   is_journal (journal failed read broken gates_quiet files put) is = (failed, broken)
   is_journal _ is = absurd (cc is)
 
@@ -87,30 +93,37 @@ module _ (options : ReduceOptions) (history : History) (old new : World) where
   is_so_far (memory files gates_quiet kept put) is = kept
   is_so_far _ is = absurd (cc is)
 
-  is_too_long : {status : ℕ} → Ends status → status ≡ 10 → (file : NamedFile) × IsReached options.mode file old.files × IsLonger (limit_of file) (old.files.shown (name_of options file))
+  is_too_long : {status : ℕ} → Ends status → status ≡ 10 → (file : NamedFile) × IsReached options.mode file old.files
+      × IsLonger (limit_of file) (old.files.shown (name_of options file))
   is_too_long (too_long file reached longer files untouched put) is = (file, reached, longer)
   is_too_long _ is = absurd (cc is)
 
-  is_script : {status : ℕ} → Ends status → status ≡ 11 → (worker : ℕ) × (worker ≤ options.jobs) × GateFailed worker old.gates new.gates × ScriptLeaves options history worker old new × PutsMessage (script_text worker) old.out new.out
+  is_script : {status : ℕ} → Ends status → status ≡ 11 → (worker : ℕ) × (worker ≤ options.jobs) × GateFailed worker old.gates new.gates
+      × ScriptLeaves options history worker old new × PutsMessage (script_text worker) old.out new.out
   is_script (script worker one_of failed read files kept put) is = (worker, one_of, failed, kept, put)
   is_script _ is = absurd (cc is)
 
-  is_keep_missing : {status : ℕ} → Ends status → status ≡ 9 → (index : ℕ) × ProblemRead options old.files (λ problem. first_missing options.keeps (start_of problem) ≡ Some index) × PutsMessage (keep_text (index + 1)) old.out new.out
+  is_keep_missing : {status : ℕ} → Ends status → status ≡ 9 → (index : ℕ)
+      × ProblemRead options old.files (λ problem. first_missing options.keeps (start_of problem) ≡ Some index)
+      × PutsMessage (keep_text (index + 1)) old.out new.out
   is_keep_missing (keep_missing index read files untouched put) is = (index, read, put)
   is_keep_missing _ is = absurd (cc is)
 
   is_fault : {status : ℕ} → Ends status → status ≡ 5
-      → (trees : GrammarOptions) × (text : List ℕ) × (options.mode ≡ ModeOptions.by_grammar trees) × WasRead grammar_limit (old.files.shown trees.grammar.path) (λ bytes. IsFaultIn trees.grammar bytes text) × PutsLine (fault_line text) old.out new.out
+      → (trees : GrammarOptions) × (text : List ℕ) × (options.mode ≡ ModeOptions.by_grammar trees)
+      × WasRead grammar_limit (old.files.shown trees.grammar.path) (λ bytes. IsFaultIn trees.grammar bytes text) × PutsLine (fault_line text) old.out new.out
   is_fault (faulty trees text mode read files untouched put) is = (trees, text, mode, read, put)
   is_fault _ is = absurd (cc is)
 
   is_no_token : {status : ℕ} → Ends status → status ≡ 6
-      → (trees : GrammarOptions) × (fault : InputFault) × (options.mode ≡ ModeOptions.by_grammar trees) × IsUncut fault × InputHas trees.grammar (λ c bytes. IsInputFault c bytes fault) options old.files × PutsMessage (input_fault_text fault) old.out new.out
+      → (trees : GrammarOptions) × (fault : InputFault) × (options.mode ≡ ModeOptions.by_grammar trees) × IsUncut fault
+      × InputHas trees.grammar (λ c bytes. IsInputFault c bytes fault) options old.files × PutsMessage (input_fault_text fault) old.out new.out
   is_no_token (no_token trees fault mode uncut read files untouched put) is = (trees, fault, mode, uncut, read, put)
   is_no_token _ is = absurd (cc is)
 
   is_unparsed : {status : ℕ} → Ends status → status ≡ 7
-      → (trees : GrammarOptions) × (options.mode ≡ ModeOptions.by_grammar trees) × InputHas trees.grammar (λ c bytes. IsInputFault c bytes input_fault.NoParse) options old.files
+      → (trees : GrammarOptions) × (options.mode ≡ ModeOptions.by_grammar trees)
+      × InputHas trees.grammar (λ c bytes. IsInputFault c bytes input_fault.NoParse) options old.files
   is_unparsed (unparsed trees mode read files untouched put) is = (trees, mode, read)
   is_unparsed _ is = absurd (cc is)
 
@@ -171,10 +184,13 @@ module _ (options : ReduceOptions) (history : History) (old new : World) where
   puts_line : {status : ℕ} → Ends status → IsOneOf (1 ∷ 3 ∷ 7 ∷ 8 ∷ 10 ∷ 12 ∷ []) status → PutsItsLine options.mode old.files old.out new.out status
   puts_line (memory files gates_quiet kept put) is = ((file_of options.mode old.files).0, (file_of options.mode old.files).1, (Memory, tt, refl, put))
   puts_line (unread file reached failed same untouched put) is = (file, reached, (CannotRead file, refl, refl, put))
-  puts_line (unparsed trees mode read files untouched put) is = ((file_of options.mode old.files).0, (file_of options.mode old.files).1, (NoParse, tt, refl, put))
-  puts_line (uninteresting read files gates_quiet kept put) is = ((file_of options.mode old.files).0, (file_of options.mode old.files).1, (NotInteresting, tt, refl, put))
+  puts_line (unparsed trees mode read files untouched put) is =
+      ((file_of options.mode old.files).0, (file_of options.mode old.files).1, (NoParse, tt, refl, put))
+  puts_line (uninteresting read files gates_quiet kept put) is =
+      ((file_of options.mode old.files).0, (file_of options.mode old.files).1, (NotInteresting, tt, refl, put))
   puts_line (too_long file reached longer files untouched put) is = (file, reached, (TooLong file, refl, refl, put))
-  puts_line (journal failed read broken gates_quiet files put) is = ((file_of options.mode old.files).0, (file_of options.mode old.files).1, (Journal, tt, refl, put))
+  puts_line (journal failed read broken gates_quiet files put) is =
+      ((file_of options.mode old.files).0, (file_of options.mode old.files).1, (Journal, tt, refl, put))
   puts_line _ is = absurd (false≢true is)
 
 pub reduce_by_status : ReduceByStatus

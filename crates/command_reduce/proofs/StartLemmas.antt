@@ -21,14 +21,16 @@ module _ (keeps : List (List ℕ)) (problem : Problem) (run : Run) (none : run.h
   run_open worker GateFailed why = (why, quiet, λ _. subst (IsUnfinished keeps problem) (sym none) (unfinished_without keeps problem))
 
   -- and that is what is answered
-  pub unopened_of : (worker : ℕ) (fault : GateFault) → run.outcome ≡ Err (fault_of worker fault) → OpenFailed fault worker run.before.gates run.after.gates → IsRunOf keeps problem run
+  pub unopened_of : (worker : ℕ) (fault : GateFault) → run.outcome ≡ Err (fault_of worker fault) → OpenFailed fault worker run.before.gates run.after.gates
+      → IsRunOf keeps problem run
   unopened_of worker fault is why = record {
     history = none_of run.workers keeps problem run.history none;
     ends = subst (ProblemEnds keeps problem run) (sym is) (run_open worker fault why);
   }
 
 -- a run whose gates were opened first is one from before that, by as many workers
-module _ (keeps : List (List ℕ)) (problem : Problem) (run : Run) (workers : ℕ) (gates : List SeenGate) (as_many : run.workers ≡ workers) (quiet : AreQuiet gates run.before.gates) where
+module _ (keeps : List (List ℕ)) (problem : Problem) (run : Run) (workers : ℕ) (gates : List SeenGate) (as_many : run.workers ≡ workers)
+    (quiet : AreQuiet gates run.before.gates) where
   abbrev begun : ℕ → Run
   begun n = record run { workers = n; before = record run.before { gates = gates } }
 

@@ -18,23 +18,29 @@ use Rattle.command_reduce_calls.specs.declared.openings.OpeningFault.{OpeningFau
 use Rattle.command_reduce.specs.Reduce.{GatesWereAsked, GatesWereUsed, RecordsAreSound, used_from}
 
 -- all of them
-used_all : (options : ReduceOptions) (number : ℕ) (shares : List (List (List ℕ))) (logs : List (Option Log)) → all_asked shares (opened_from options number (length shares) logs) ≡ used_from options number shares logs
+used_all : (options : ReduceOptions) (number : ℕ) (shares : List (List (List ℕ))) (logs : List (Option Log))
+    → all_asked shares (opened_from options number (length shares) logs) ≡ used_from options number shares logs
 used_all options number [] logs = refl
 used_all options number (texts ∷ shares) [] = refl
-used_all options number (texts ∷ shares) (log ∷ logs) = ap (λ (ls : List (Option Log)). option_map (with_all_asked texts) (opened_log options number log) ∷ ls) (used_all options (suc number) shares logs)
+used_all options number (texts ∷ shares) (log ∷ logs) =
+    ap (λ (ls : List (Option Log)). option_map (with_all_asked texts) (opened_log options number log) ∷ ls) (used_all options (suc number) shares logs)
 
 -- The gates of all workers were opened, and then asked as often as there are texts.
-were_asked : (options : ReduceOptions) (texts : List (List ℕ)) (old opened new : List (Option Log)) → length opened ≡ options.jobs → opened ≡ opened_from options 1 options.jobs old → AreAsked texts opened new → GatesWereAsked options texts old new
+were_asked : (options : ReduceOptions) (texts : List (List ℕ)) (old opened new : List (Option Log)) → length opened ≡ options.jobs
+    → opened ≡ opened_from options 1 options.jobs old → AreAsked texts opened new → GatesWereAsked options texts old new
 were_asked options texts old opened new jobs is_open are = record {
   shares = are.shares;
   one_each = are.one_each ∙ jobs;
   total = are.total;
   alone = λ alone. are.alone (jobs ∙ alone);
-  used = are.asked ∙ ap (all_asked are.shares) (is_open ∙ ap (λ (n : ℕ). opened_from options 1 n old) (sym jobs ∙ sym are.one_each)) ∙ used_all options 1 are.shares old;
+  used =
+      are.asked ∙ ap (all_asked are.shares) (is_open ∙ ap (λ (n : ℕ). opened_from options 1 n old) (sym jobs ∙ sym are.one_each))
+      ∙ used_all options 1 are.shares old;
 }
 
 module _ (options : ReduceOptions) (may_say : List ℕ → Verdict → Type 0) where
-  without_records : (records : List Record) (logs logs' : List (Option Log)) (before after : SeenJournal) → records ≡ [] → GatesWereUsed options [] logs logs' before after → RecordsAreSound options may_say records logs logs' before after
+  without_records : (records : List Record) (logs logs' : List (Option Log)) (before after : SeenJournal) → records ≡ []
+      → GatesWereUsed options [] logs logs' before after → RecordsAreSound options may_say records logs logs' before after
   unfolding IsDistinct
   without_records records logs logs' before after none used = subst (λ rs. RecordsAreSound options may_say rs logs logs' before after) (sym none) (record {
     distinct = tt;
@@ -43,14 +49,17 @@ module _ (options : ReduceOptions) (may_say : List ℕ → Verdict → Type 0) w
   })
 
   -- no record was made, and the gates and the journal show what they did
-  pub none_sound : (records : List Record) (logs logs' : List (Option Log)) (before after : SeenJournal) → records ≡ [] → logs' ≡ logs → after ≡ before → RecordsAreSound options may_say records logs logs' before after
+  pub none_sound : (records : List Record) (logs logs' : List (Option Log)) (before after : SeenJournal) → records ≡ [] → logs' ≡ logs → after ≡ before
+      → RecordsAreSound options may_say records logs logs' before after
   none_sound records logs logs' before after none same same_journal = without_records records logs logs' before after none (inl (refl, same, same_journal))
 
   -- some gate wasn't opened
-  pub refused_sound : (run : Run) (refused : OpeningFault) → run.history ≡ [] → length run.before.gates ≡ options.jobs → GateRefused options run.before.gates run.after.gates refused → run.after.journal ≡ run.before.journal
+  pub refused_sound : (run : Run) (refused : OpeningFault) → run.history ≡ [] → length run.before.gates ≡ options.jobs
+      → GateRefused options run.before.gates run.after.gates refused → run.after.journal ≡ run.before.journal
       → RecordsAreSound options may_say (records_of run.history) (logs_of run.before.gates) (logs_of run.after.gates) run.before.journal run.after.journal
   refused_sound run refused none jobs why same_journal =
-      without_records (records_of run.history) (logs_of run.before.gates) (logs_of run.after.gates) run.before.journal run.after.journal (ap records_of none) (at why.opened why.at why.before)
+      without_records (records_of run.history) (logs_of run.before.gates) (logs_of run.after.gates) run.before.journal run.after.journal (ap records_of none)
+      (at why.opened why.at why.before)
     where
       at : (opened : ℕ) → refused.worker ≡ suc opened → logs_of run.after.gates ≡ opened_from options 1 opened (logs_of run.before.gates)
           → GatesWereUsed options [] (logs_of run.before.gates) (logs_of run.after.gates) run.before.journal run.after.journal
@@ -64,7 +73,8 @@ module _ (options : ReduceOptions) (may_say : List ℕ → Verdict → Type 0) w
       }))
 
   -- the gates that showed these logs were opened, and then asked for the records' texts
-  pub asked_sound : (run : Run) (logs : List (Option Log)) → length run.before.gates ≡ options.jobs → logs_of run.before.gates ≡ opened_from options 1 options.jobs logs → AreAnswers may_say run
+  pub asked_sound : (run : Run) (logs : List (Option Log)) → length run.before.gates ≡ options.jobs
+      → logs_of run.before.gates ≡ opened_from options 1 options.jobs logs → AreAnswers may_say run
       → RecordsAreSound options may_say (records_of run.history) logs (logs_of run.after.gates) run.before.journal run.after.journal
   asked_sound run logs jobs is_open answers = record {
     distinct = answers.distinct;

@@ -1,5 +1,6 @@
 -- The command `reduce`: how it ends, by its status, and what its history and its records are.
-use Rattle.std.specs.Prelude.{◌≡◌, ◌≢◌, ◌<◌, ◌≤◌, ◌⊎◌, ℕ, suc, ◌+◌, drop, length, map, sum, Bool, List, [], ◌∷◌, ◌++◌, true, false, Option, Some, None, All, codes, option_map}
+use Rattle.std.specs.Prelude.{◌≡◌, ◌≢◌, ◌<◌, ◌≤◌, ◌⊎◌, ℕ, suc, ◌+◌, drop, length, map, sum, Bool, List, [], ◌∷◌}
+use Rattle.std.specs.Prelude.{◌++◌, true, false, Option, Some, None, All, codes, option_map}
 use Rattle.std.specs.List.{IsDistinct}
 use Rattle.std.specs.Str.{bytes_eq}
 use Rattle.script_gate_trait.specs.declared.gate.Verdict.{Verdict}
@@ -32,7 +33,8 @@ use Rattle.command_words.specs.Commands.{GrammarOptions, GrammarSource, ModeOpti
 use Rattle.run_worker.specs.RunHistory.{with_all_asked}
 use Rattle.command_reduce_calls.specs.Openings.{opened_from, opened_log}
 use Rattle.command_grammar.specs.Grammar.{start_name}
-use Rattle.command_ends.specs.World.{AnyGateFailed, AreQuiet, CallFailed, GateFailed, logs_of, FilesKept, IsOver, IsQuiet, IsShownWithin, NotReached, Puts, PutsLine, PutsMessage, PutsPrefix, SeenFiles, SeenJournal, WasRead, World, grammar_limit, input_limit}
+use Rattle.command_ends.specs.World.{AnyGateFailed, AreQuiet, CallFailed, GateFailed, logs_of, FilesKept, IsOver, IsQuiet, IsShownWithin, NotReached, Puts}
+use Rattle.command_ends.specs.World.{PutsLine, PutsMessage, PutsPrefix, SeenFiles, SeenJournal, WasRead, World, grammar_limit, input_limit}
 
 -- The input is made of this text by this grammar, what is admitted is what has each keep text, and the squeezed text of the whole is tried or not; there is
 -- no other such input.

@@ -15,7 +15,8 @@ use Rattle.run_problem.specs.Problem.{start_of}
 use Rattle.command_reduce.specs.Reduce.{InputHas, IsReached, IsReduced, ProblemRead, ReduceEnds, ReducesTo, ScriptLeaves, limit_of, name_of}
 use Rattle.command_ends.specs.Status.{IsOneOf, IsUncut, PutsRefusal, fault_line, keep_text, script_text}
 use Rattle.command_words.specs.Commands.{GrammarOptions, ModeOptions, ReduceOptions}
-use Rattle.command_ends.specs.World.{CallFailed, GateFailed, NotReached, Puts, PutsLine, PutsMessage, PutsPrefix, SeenFiles, SeenOut, WasRead, World, grammar_limit}
+use Rattle.command_ends.specs.World.{CallFailed, GateFailed, NotReached, Puts, PutsLine, PutsMessage, PutsPrefix}
+use Rattle.command_ends.specs.World.{SeenFiles, SeenOut, WasRead, World, grammar_limit}
 
 -- the line was put of a refusal that has this status, and names a file that is read if it names one
 abbrev pub PutsItsLine : ModeOptions → SeenFiles → SeenOut → SeenOut → ℕ → Type 0

@@ -46,8 +46,10 @@ fn run_opened<G: Gate + Send, J: Sink + Drop + Send, W: Threads + Wait + Sync>(
     requires idle { AreIdle workers.old }
     ensures idle { AreIdle workers.new }
     ensures as_many { length workers.new ≡ length workers.old }
-    ensures sound { IsSoundOpened ((reduce_read line.now).journal) G.may_say (run_of G.log G.faults J.put_so_far J.faults workers.old workers.new journal result) }
-    ensures problem { (one : Problem) → IsReadAs guard.entry problem one → IsRunOf guard.entry one (run_of G.log G.faults J.put_so_far J.faults workers.old workers.new journal result) }
+    ensures sound { IsSoundOpened ((reduce_read line.now).journal) G.may_say
+        (run_of G.log G.faults J.put_so_far J.faults workers.old workers.new journal result) }
+    ensures problem { (one : Problem) → IsReadAs guard.entry problem one
+        → IsRunOf guard.entry one (run_of G.log G.faults J.put_so_far J.faults workers.old workers.new journal result) }
 {
     let mut journal = journal;
     match open_journal(alloc, &mut journal, line) {
@@ -74,7 +76,8 @@ fn reduce_start<G: Gate + Send, J: Sink + Drop + Send, W: Threads + Wait + Sync>
     ensures idle { AreIdle workers.new }
     ensures as_many { length workers.new ≡ length workers.old }
     ensures sound { IsSoundStarted (reduce_read line.now) G.may_say (run_of G.log G.faults J.put_so_far J.faults workers.old workers.new journal result) }
-    ensures problem { (one : Problem) → IsReadAs guard.entry problem one → IsRunOf guard.entry one (run_of G.log G.faults J.put_so_far J.faults workers.old workers.new journal result) }
+    ensures problem { (one : Problem) → IsReadAs guard.entry problem one → IsRunOf guard.entry one
+        (run_of G.log G.faults J.put_so_far J.faults workers.old workers.new journal result) }
 {
     match open_gates(workers, line) {
         Ok(()) => run_opened(rt, alloc, line, problem, guard, workers, journal),
@@ -88,13 +91,15 @@ fn accept<'a, F: Files>(
     line: &ReduceLine<'a>,
     files: &mut F,
 ) -> Result<(ReadProblem, Guard<KeepTexts<'a>>), Refusal>
-    ensures problem { IfOk result (λ accepted. ProblemRead (reduce_read line.now) (seen F.content F.faults files.old) (IsReadAs (reduce_read line.now).keeps accepted.0)) }
+    ensures problem { IfOk result (λ accepted. ProblemRead (reduce_read line.now) (seen F.content F.faults files.old)
+        (IsReadAs (reduce_read line.now).keeps accepted.0)) }
     ensures ready { IfOk result (λ accepted. IsReady accepted.0) }
     ensures guard { IfOk result (λ accepted. accepted.1 ≡ (reduce_read line.now).keeps) }
     ensures kept { IfOk result (λ accepted. holds_all accepted.1 (start_read accepted.0) ≡ true) }
     ensures quiet { OnOk result (IsQuiet (seen F.content F.faults files.old) (seen F.content F.faults files.new)) }
     ensures same { SameFiles (F.content files.old) (F.content files.new) }
-    ensures refused { IfErr result (λ refusal. AcceptFails (reduce_read line.now) (seen F.content F.faults files.old) (seen F.content F.faults files.new) refusal) }
+    ensures refused { IfErr result (λ refusal. AcceptFails (reduce_read line.now) (seen F.content F.faults files.old)
+        (seen F.content F.faults files.new) refusal) }
 {
     let problem = read_problem(alloc, line, files)?;
     let guard = guard_of(alloc, line, problem.start())?;
@@ -126,7 +131,11 @@ fn reduce_steps<F: Files, G: Gate + Send, J: Sink + Drop + Send, W: Threads + Wa
     ensures as_many { length workers.new ≡ length workers.old }
     ensures steps { ReduceSteps (reduce_read line.now) G.may_say result.events.items
         (record { files = seen F.content F.faults files.old; gates = seen_gates G.log G.faults workers.old; journal = seen J.put_so_far J.faults journal })
-        (record { files = seen F.content F.faults files.new; gates = seen_gates G.log G.faults workers.new; journal = seen J.put_so_far J.faults result.journal })
+        (record {
+          files = seen F.content F.faults files.new;
+          gates = seen_gates G.log G.faults workers.new;
+          journal = seen J.put_so_far J.faults result.journal;
+        })
         result.outcome }
 {
     match accept(alloc, line, files) {
@@ -180,8 +189,18 @@ pub fn reduce<F: Files, G: Gate + Send, J: Sink + Drop + Send, O: Sink, W: Threa
     ensures idle { AreIdle workers.new }
     ensures as_many { length workers.new ≡ length workers.old }
     ensures reduces { Reduces (reduce_read line.now) G.may_say
-        (record { files = seen F.content F.faults files.old; gates = seen_gates G.log G.faults workers.old; journal = seen J.put_so_far J.faults journal; out = seen O.put_so_far O.faults out.old })
-        (record { files = seen F.content F.faults files.new; gates = seen_gates G.log G.faults workers.new; journal = seen J.put_so_far J.faults result.journal; out = seen O.put_so_far O.faults out.new })
+        (record {
+          files = seen F.content F.faults files.old;
+          gates = seen_gates G.log G.faults workers.old;
+          journal = seen J.put_so_far J.faults journal;
+          out = seen O.put_so_far O.faults out.old;
+        })
+        (record {
+          files = seen F.content F.faults files.new;
+          gates = seen_gates G.log G.faults workers.new;
+          journal = seen J.put_so_far J.faults result.journal;
+          out = seen O.put_so_far O.faults out.new;
+        })
         result.status }
 {
     input_fault_once();

@@ -1,5 +1,6 @@
 -- The name at the end of a path.
-use Rattle.std.proofs.Common.{◌≡◌, ◌≢◌, ◌<◌, ℕ, suc, Bool, true, false, cond, List, [], ◌∷◌, ◌++◌, Some, None, length, get_or, take, drop, refl, sym, ap, ◌∙◌, arith}
+use Rattle.std.proofs.Common.{◌≡◌, ◌≢◌, ◌<◌, ℕ, suc, Bool, true, false, cond, List, [], ◌∷◌, ◌++◌, Some, None}
+use Rattle.std.proofs.Common.{length, get_or, take, drop, refl, sym, ap, ◌∙◌, arith}
 use Rattle.std.proofs.lemmas.Bool.{eqb-true}
 use Rattle.std.proofs.lemmas.List.{take-append-drop}
 use Rattle.std.proofs.lemmas.Str.Pattern.{NoCharPasses-char, drop_at_char}
@@ -41,7 +42,8 @@ name_whole : (path : List ℕ) → HasNoSlash path → file_name_of path ≡ pat
 unfolding HasNoSlash
 name_whole [] none = refl
 name_whole (byte ∷ path) none =
-    rw (no_slash path (λ k within is. none (suc k) (omega arith) is)) (first_differs (byte == 47) (byte ∷ path) path (λ is. none 0 (omega arith) (eqb-true byte 47 is)))
+    rw (no_slash path (λ k within is. none (suc k) (omega arith) is))
+    (first_differs (byte == 47) (byte ∷ path) path (λ is. none 0 (omega arith) (eqb-true byte 47 is)))
 
 -- what is split off at the last slash is the name
 pub name-split : (path front back : List ℕ) (i j : ℕ) → RFindsChar 47 path (Some (i, j)) → back ≡ drop j path → back ≡ file_name_of path

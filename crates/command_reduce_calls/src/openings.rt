@@ -48,7 +48,8 @@ pub fn open_gates<G: Gate>(
     requires idle { AreIdle workers.old }
     ensures idle { AreIdle workers.new }
     ensures as_many { length workers.new ≡ length workers.old }
-    ensures opened { OnOk result (logs_of (seen_gates G.log G.faults workers.new) ≡ opened_from (reduce_read line.now) 1 (length workers.old) (logs_of (seen_gates G.log G.faults workers.old))) }
+    ensures opened { OnOk result (logs_of (seen_gates G.log G.faults workers.new) ≡ opened_from (reduce_read line.now) 1 (length workers.old)
+        (logs_of (seen_gates G.log G.faults workers.old))) }
     ensures quiet { OnOk result (AreQuiet (seen_gates G.log G.faults workers.old) (seen_gates G.log G.faults workers.new)) }
     ensures refused { IfErr result (GateRefused (reduce_read line.now) (seen_gates G.log G.faults workers.old) (seen_gates G.log G.faults workers.new)) }
 {

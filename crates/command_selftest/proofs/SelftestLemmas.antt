@@ -17,7 +17,8 @@ module _ (options : SelftestOptions) (out out' : SeenOut) where
   fails _ why put = absurd why
 
   ends_by : (outcome : Result (Vec ℕ) Refusal) (status : ℕ) → IfOk outcome (λ text. SummarizesCase options text.items) → IfErr outcome SelftestFails
-      → MatchResult outcome (λ answer. EndsWithAnswer answer.items out out' status) (λ refusal. EndsRefused out out' status refusal) → SelftestEnds options out out' status
+      → MatchResult outcome (λ answer. EndsWithAnswer answer.items out out' status) (λ refusal. EndsRefused out out' status refusal)
+      → SelftestEnds options out out' status
   ends_by (Ok text) status summary why (inl (is, put)) = subst (SelftestEnds options out out') (sym is) (done text.items summary put)
   ends_by (Ok text) status summary why (inr (is, put)) = subst (SelftestEnds options out out') (sym is) (unput text.items summary put)
   ends_by (Err refusal) status summary why end = subst (SelftestEnds options out out') (sym end.status_is) (fails refusal why end.line)
@@ -33,5 +34,6 @@ module _ (options : SelftestOptions) (out out' : SeenOut) where
 
   -- the end of the command
   pub runs_selftest : (outcome : Result (Vec ℕ) Refusal) (status : ℕ) → IfOk outcome (λ text. SummarizesCase options text.items) → IfErr outcome SelftestFails
-      → MatchResult outcome (λ answer. EndsWithAnswer answer.items out out' status) (λ refusal. EndsRefused out out' status refusal) → RunsSelftest options out out' status
+      → MatchResult outcome (λ answer. EndsWithAnswer answer.items out out' status) (λ refusal. EndsRefused out out' status refusal)
+      → RunsSelftest options out out' status
   runs_selftest outcome status summary why end = selftest_ends (ends_by outcome status summary why end)

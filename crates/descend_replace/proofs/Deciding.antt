@@ -1,5 +1,7 @@
--- The plain functions say of each rule whether it derives the empty list, and of each symbol whether it fits a slot. Rules are let in one after another, as in Warshall's algorithm.
-use Rattle.std.proofs.Common.{◌≡◌, ◌⊎◌, inl, inr, ℕ, zero, suc, ◌<◌, Bool, true, false, ◌&&◌, ◌||◌, List, [], ◌∷◌, ◌++◌, Option, Some, None, length, slice_get, refl, sym, ap, ◌∙◌, subst, arith, true≢false, eq-eqb}
+-- The plain functions say of each rule whether it derives the empty list, and of each symbol
+-- whether it fits a slot. Rules are let in one after another, as in Warshall's algorithm.
+use Rattle.std.proofs.Common.{◌≡◌, ◌⊎◌, inl, inr, ℕ, zero, suc, ◌<◌, Bool, true, false, ◌&&◌, ◌||◌, List, [], ◌∷◌, ◌++◌, Option, Some}
+use Rattle.std.proofs.Common.{None, length, slice_get, refl, sym, ap, ◌∙◌, subst, arith, true≢false, eq-eqb}
 use Rattle.std.specs.Prelude.{nat_eq}
 use Rattle.std.specs.Bool.{Decides}
 use Rattle.std.specs.List.{Contains, list_all, list_any}
@@ -16,7 +18,8 @@ use Rattle.compat_table.specs.Fits.{Fits, itself, in_set, by_alternative, by_plu
 use Rattle.compat_table.specs.Nullable.{form_is_nullable, is_nullable, numbered_is_nullable}
 use Rattle.compat_table.proofs.Lent.{all_exact, and_both, from_first, from_second, is_exact, numbered_derives, one_passes, or_one, Passes, pass_on}
 use Rattle.descend_replace.specs.Compatible.{FitsIsDecided, FitsOrNot}
-use Rattle.descend_replace.specs.FitsIn.{FitsInDecides, NullableInDecides, are_plus_and_star, fits_at_once, fits_by, fits_in, has_kind, is_in_set, is_in_star, is_same, nullable_by, nullable_in, passes_alone, passes_in_rule, with_rule}
+use Rattle.descend_replace.specs.FitsIn.{FitsInDecides, NullableInDecides, are_plus_and_star, fits_at_once, fits_by, fits_in, has_kind, is_in_set}
+use Rattle.descend_replace.specs.FitsIn.{is_in_star, is_same, nullable_by, nullable_in, passes_alone, passes_in_rule, with_rule}
 
 never : {A : Type 0} → (¬ A) → Decides false A
 never none = (λ e. absurd (true≢false (sym e)), λ x. absurd (none x))
@@ -46,7 +49,8 @@ module _ (N : NormalForm) where
   -- what is known stays
   known_stays : (n : ℕ) (known : ℕ → Bool) (r : ℕ) → known r ≡ true → nullable_by n N known r ≡ true
   known_stays zero known r e = e
-  known_stays (suc n) known r e = known_stays n (with_rule n (numbered_is_nullable N (nullable_by n N known) n) known) r (stays (numbered_is_nullable N (nullable_by n N known) n))
+  known_stays (suc n) known r e =
+      known_stays n (with_rule n (numbered_is_nullable N (nullable_by n N known) n) known) r (stays (numbered_is_nullable N (nullable_by n N known) n))
     where
       stays : (b : Bool) → with_rule n b known r ≡ true
       stays true = from_second (nat_eq r n) (known r) e
@@ -66,10 +70,12 @@ module _ (N : NormalForm) where
   sound_by zero known sound = sound
   sound_by (suc n) known sound =
       let test = numbered_is_nullable N (nullable_by n N known) n in
-      sound_by n (with_rule n test known) (with_sound n known test (λ h. numbered_derives N (nullable_by n N known) (sound_by n known sound) n (slice_get N.rules n) refl h) sound)
+      sound_by n (with_rule n test known) (with_sound n known test
+      (λ h. numbered_derives N (nullable_by n N known) (sound_by n known sound) n (slice_get N.rules n) refl h) sound)
 
   -- the rule that is let in last
-  last_closed : (n : ℕ) (known : ℕ → Bool) (b : Bool) → b ≡ numbered_is_nullable N (nullable_by n N known) n → numbered_is_nullable N (nullable_by n N (with_rule n b known)) n ≡ true → nullable_by n N (with_rule n b known) n ≡ true
+  last_closed : (n : ℕ) (known : ℕ → Bool) (b : Bool) → b ≡ numbered_is_nullable N (nullable_by n N known) n
+      → numbered_is_nullable N (nullable_by n N (with_rule n b known)) n ≡ true → nullable_by n N (with_rule n b known) n ≡ true
   last_closed n known true e h = known_stays n (with_rule n true known) n (from_first (nat_eq n n) (known n) (eq-eqb n n refl))
   last_closed n known false e h = absurd (true≢false (sym h ∙ sym e))
 
@@ -79,7 +85,8 @@ module _ (N : NormalForm) where
       let test = numbered_is_nullable N (nullable_by n N known) n in
       let nulls : ℕ → Bool = nullable_by n N (with_rule n test known) in
       elim (cases_eq r n) [
-        | inl same ↦ subst (λ (m : ℕ). nulls m ≡ true) (sym same) (last_closed n known test refl (subst (λ (m : ℕ). numbered_is_nullable N nulls m ≡ true) same e))
+        | inl same ↦ subst (λ (m : ℕ). nulls m ≡ true) (sym same)
+            (last_closed n known test refl (subst (λ (m : ℕ). numbered_is_nullable N nulls m ≡ true) same e))
         | inr other ↦ closed_by n (with_rule n test known) r (omega (arith, lt, other)) e
       ]
 
@@ -89,7 +96,8 @@ nullable_decides N r =
     let nulls : ℕ → Bool = nullable_by (length N.rules) N (λ q. false) in (
       sound_by N (length N.rules) (λ q. false) (λ q e. absurd (true≢false (sym e))) r,
       λ d. one_passes N nulls
-          (λ q form at h. closed_by N (length N.rules) (λ p. false) q (slice_get_within N.rules q form at) (ap (λ (o : Option RuleForm). option_map_or (form_is_nullable nulls) o false) at ∙ h)) d refl,
+          (λ q form at h. closed_by N (length N.rules) (λ p. false) q (slice_get_within N.rules q form at)
+          (ap (λ (o : Option RuleForm). option_map_or (form_is_nullable nulls) o false) at ∙ h)) d refl,
     )
 
 -- The symbol fits the slot by steps from rules below the bound to their symbols, and then at once.
@@ -104,7 +112,9 @@ abbrev InSet : NormalForm → Sym → Sym → Type 0
 InSet N s t = (k : ℕ) × (i : ℕ) × (ks : List ℕ) × (s ≡ Kind k) × (t ≡ Set i) × (slice_get N.sets i ≡ Some ks) × Contains ks k
 
 abbrev InStar : NormalForm → Sym → Sym → Type 0
-InStar N s t = (p : ℕ) × (r : ℕ) × (u : Sym) × (s ≡ Rule p) × (t ≡ Rule r) × (slice_get N.rules p ≡ Some (RuleForm.plus u)) × (slice_get N.rules r ≡ Some (RuleForm.star u))
+InStar N s t =
+    (p : ℕ) × (r : ℕ) × (u : Sym) × (s ≡ Rule p) × (t ≡ Rule r) × (slice_get N.rules p ≡ Some (RuleForm.plus u))
+    × (slice_get N.rules r ≡ Some (RuleForm.star u))
 
 -- without a step
 abbrev Once : NormalForm → Sym → Sym → Type 0
@@ -113,8 +123,10 @@ Once N s t = (s ≡ t) ⊎ (InSet N s t ⊎ InStar N s t)
 module _ (N : NormalForm) where
   once_fits : (s t : Sym) → Once N s t → Fits N s t
   once_fits s t (inl same) = subst (λ (x : Sym). Fits N s x) same (itself s)
-  once_fits s t (inr (inl (k, i, ks, e, f, at, has))) = subst (λ (x : Sym). Fits N x t) (sym e) (subst (λ (y : Sym). Fits N (Kind k) y) (sym f) (in_set k i ks at has))
-  once_fits s t (inr (inr (p, r, u, e, f, plus, star))) = subst (λ (x : Sym). Fits N x t) (sym e) (subst (λ (y : Sym). Fits N (Rule p) y) (sym f) (in_star u p r plus star))
+  once_fits s t (inr (inl (k, i, ks, e, f, at, has))) =
+      subst (λ (x : Sym). Fits N x t) (sym e) (subst (λ (y : Sym). Fits N (Kind k) y) (sym f) (in_set k i ks at has))
+  once_fits s t (inr (inr (p, r, u, e, f, plus, star))) =
+      subst (λ (x : Sym). Fits N x t) (sym e) (subst (λ (y : Sym). Fits N (Rule p) y) (sym f) (in_star u p r plus star))
 
   from_below : (bound : ℕ) (s t : Sym) → FitsBelow N (Once N) bound s t → Fits N s t
   from_below bound s t (at_once s' t' once) = once_fits s t once
@@ -123,7 +135,8 @@ module _ (N : NormalForm) where
   to_below : (s t : Sym) → Fits N s t → FitsBelow N (Once N) (length N.rules) s t
   to_below s t (itself s') = at_once s s (inl refl)
   to_below s t (in_set k i ks at has) = at_once (Kind k) (Set i) (inr (inl (k, i, ks, refl, refl, at, has)))
-  to_below s t (by_alternative s' u r alts at alone f) = by_rule s u r (slice_get_within N.rules r (RuleForm.regular alts) at) (inl (alts, at, alone)) (to_below s u f)
+  to_below s t (by_alternative s' u r alts at alone f) =
+      by_rule s u r (slice_get_within N.rules r (RuleForm.regular alts) at) (inl (alts, at, alone)) (to_below s u f)
   to_below s t (by_plus s' u r at f) = by_rule s u r (slice_get_within N.rules r (RuleForm.plus u) at) (inr at) (to_below s u f)
   to_below s t (in_star u p r plus star) = at_once (Rule p) (Rule r) (inr (inr (p, r, u, refl, refl, plus, star)))
 
@@ -172,7 +185,8 @@ module _ (N : NormalForm) where
 
   join : (AtOnce : Sym → Sym → Type 0) (bound : ℕ) (s t : Sym) → Split AtOnce bound s t → FitsBelow N AtOnce (suc bound) s t
   join AtOnce bound s t (inl f) = more AtOnce bound s t f
-  join AtOnce bound s t (inr (g, by)) = through AtOnce (suc bound) s (Rule bound) t (by_rule s by.0 bound (omega arith) by.1 (more AtOnce bound s by.0 by.2)) (more Same bound (Rule bound) t g)
+  join AtOnce bound s t (inr (g, by)) =
+      through AtOnce (suc bound) s (Rule bound) t (by_rule s by.0 bound (omega arith) by.1 (more AtOnce bound s by.0 by.2)) (more Same bound (Rule bound) t g)
 
   -- Without a step: the symbol itself, the kinds of a set, and the pluses of a star.
   in_set_at : (k i : ℕ) (o : Option (List ℕ)) → slice_get N.sets i ≡ o → Decides (option_map_or (has_kind k) o false) (InSet N (Kind k) (Set i))
@@ -195,21 +209,31 @@ module _ (N : NormalForm) where
   set_decides (Rule r) t = never (λ (k, i', ks, e, f, at, has). cc)
 
   -- the forms of the two rules
-  forms_there : (p r : ℕ) → InStar N (Rule p) (Rule r) → (u : Sym) × (slice_get N.rules p ≡ Some (RuleForm.plus u)) × (slice_get N.rules r ≡ Some (RuleForm.star u))
+  forms_there : (p r : ℕ) → InStar N (Rule p) (Rule r) → (u : Sym) × (slice_get N.rules p ≡ Some (RuleForm.plus u))
+      × (slice_get N.rules r ≡ Some (RuleForm.star u))
   forms_there p r (p', r', u, e, f, plus, star) =
       let first : p' ≡ p = cc in
-      let second : r' ≡ r = cc in
-      (u, subst (λ (x : ℕ). slice_get N.rules x ≡ Some (RuleForm.plus u)) first plus, subst (λ (x : ℕ). slice_get N.rules x ≡ Some (RuleForm.star u)) second star)
+      let second : r' ≡ r = cc in (
+        u,
+        subst (λ (x : ℕ). slice_get N.rules x ≡ Some (RuleForm.plus u)) first plus,
+        subst (λ (x : ℕ). slice_get N.rules x ≡ Some (RuleForm.star u)) second star,
+      )
 
   star_at : (p r : ℕ) (o q : Option RuleForm) → slice_get N.rules p ≡ o → slice_get N.rules r ≡ q → Decides (are_plus_and_star o q) (InStar N (Rule p) (Rule r))
   star_at p r None q e f = never (λ it. let (u, plus, star) = forms_there p r it in none-some (RuleForm.plus u) (sym e ∙ plus))
-  star_at p r (Some (RuleForm.regular alts)) q e f = never (λ it. let (u, plus, star) = forms_there p r it in let both : Some (RuleForm.regular alts) ≡ Some (RuleForm.plus u) = sym e ∙ plus in cc)
-  star_at p r (Some (RuleForm.star x)) q e f = never (λ it. let (u, plus, star) = forms_there p r it in let both : Some (RuleForm.star x) ≡ Some (RuleForm.plus u) = sym e ∙ plus in cc)
-  star_at p r (Some (RuleForm.opt x)) q e f = never (λ it. let (u, plus, star) = forms_there p r it in let both : Some (RuleForm.opt x) ≡ Some (RuleForm.plus u) = sym e ∙ plus in cc)
+  star_at p r (Some (RuleForm.regular alts)) q e f =
+      never (λ it. let (u, plus, star) = forms_there p r it in let both : Some (RuleForm.regular alts) ≡ Some (RuleForm.plus u) = sym e ∙ plus in cc)
+  star_at p r (Some (RuleForm.star x)) q e f =
+      never (λ it. let (u, plus, star) = forms_there p r it in let both : Some (RuleForm.star x) ≡ Some (RuleForm.plus u) = sym e ∙ plus in cc)
+  star_at p r (Some (RuleForm.opt x)) q e f =
+      never (λ it. let (u, plus, star) = forms_there p r it in let both : Some (RuleForm.opt x) ≡ Some (RuleForm.plus u) = sym e ∙ plus in cc)
   star_at p r (Some (RuleForm.plus x)) None e f = never (λ it. let (u, plus, star) = forms_there p r it in none-some (RuleForm.star u) (sym f ∙ star))
-  star_at p r (Some (RuleForm.plus x)) (Some (RuleForm.regular alts)) e f = never (λ it. let (u, plus, star) = forms_there p r it in let both : Some (RuleForm.regular alts) ≡ Some (RuleForm.star u) = sym f ∙ star in cc)
-  star_at p r (Some (RuleForm.plus x)) (Some (RuleForm.plus y)) e f = never (λ it. let (u, plus, star) = forms_there p r it in let both : Some (RuleForm.plus y) ≡ Some (RuleForm.star u) = sym f ∙ star in cc)
-  star_at p r (Some (RuleForm.plus x)) (Some (RuleForm.opt y)) e f = never (λ it. let (u, plus, star) = forms_there p r it in let both : Some (RuleForm.opt y) ≡ Some (RuleForm.star u) = sym f ∙ star in cc)
+  star_at p r (Some (RuleForm.plus x)) (Some (RuleForm.regular alts)) e f =
+      never (λ it. let (u, plus, star) = forms_there p r it in let both : Some (RuleForm.regular alts) ≡ Some (RuleForm.star u) = sym f ∙ star in cc)
+  star_at p r (Some (RuleForm.plus x)) (Some (RuleForm.plus y)) e f =
+      never (λ it. let (u, plus, star) = forms_there p r it in let both : Some (RuleForm.plus y) ≡ Some (RuleForm.star u) = sym f ∙ star in cc)
+  star_at p r (Some (RuleForm.plus x)) (Some (RuleForm.opt y)) e f =
+      never (λ it. let (u, plus, star) = forms_there p r it in let both : Some (RuleForm.opt y) ≡ Some (RuleForm.star u) = sym f ∙ star in cc)
   star_at p r (Some (RuleForm.plus x)) (Some (RuleForm.star y)) e f = Decides-like (is_same x y) there back (same_decides x y)
     where
       there : x ≡ y → InStar N (Rule p) (Rule r)
@@ -230,7 +254,9 @@ module _ (N : NormalForm) where
   star_decides (Set i) t = never (λ (p, r, u, e, f, plus, star). cc)
 
   once_decides : (s t : Sym) → Decides (fits_at_once N s t) (Once N s t)
-  once_decides s t = Decides-or (is_same s t) (is_in_set N s t || is_in_star N s t) (same_decides s t) (Decides-or (is_in_set N s t) (is_in_star N s t) (set_decides s t) (star_decides s t))
+  once_decides s t =
+      Decides-or (is_same s t) (is_in_set N s t || is_in_star N s t) (same_decides s t)
+      (Decides-or (is_in_set N s t) (is_in_star N s t) (set_decides s t) (star_decides s t))
 
   -- whether a symbol derives the empty list
   abbrev empty : Sym → Bool
@@ -239,7 +265,9 @@ module _ (N : NormalForm) where
   module _ (AtOnce : Sym → Sym → Type 0) (bound : ℕ) (s : Sym) (test : Sym → Bool) (known : (t : Sym) → Decides (test t) (FitsBelow N AtOnce bound s t)) where
     -- The symbol fits one of the sequence, while all others there derive the empty list.
     abbrev FitsAlone : List Sym → Type 0
-    FitsAlone alt = (t : Sym) × (before : List Sym) × (after : List Sym) × (alt ≡ before ++ t ∷ after) × NormalDerivesSeq N before [] × NormalDerivesSeq N after [] × FitsBelow N AtOnce bound s t
+    FitsAlone alt =
+        (t : Sym) × (before : List Sym) × (after : List Sym) × (alt ≡ before ++ t ∷ after) × NormalDerivesSeq N before [] × NormalDerivesSeq N after []
+        × FitsBelow N AtOnce bound s t
 
     alone_decides : (alt : List Sym) → Decides (passes_alone empty test alt) (FitsAlone alt)
     alone_decides [] = never none
@@ -249,7 +277,8 @@ module _ (N : NormalForm) where
         none (t, x ∷ before, after, e, b, a, f) = cc
     alone_decides (u ∷ us) =
         Decides-like (passes_alone empty test (u ∷ us)) there back
-        (Decides-or (test u && list_all empty us) (empty u && passes_alone empty test us) (Decides-and (test u) (list_all empty us) (known u) (all_exact N (nullable_in N) (nullable_decides N) us))
+        (Decides-or (test u && list_all empty us) (empty u && passes_alone empty test us)
+        (Decides-and (test u) (list_all empty us) (known u) (all_exact N (nullable_in N) (nullable_decides N) us))
         (Decides-and (empty u) (passes_alone empty test us) (is_exact N (nullable_in N) (nullable_decides N) u) (alone_decides us)))
       where
         there : (FitsBelow N AtOnce bound s u × NormalDerivesSeq N us []) ⊎ (NormalDerives N u [] × FitsAlone us) → FitsAlone (u ∷ us)
@@ -277,7 +306,9 @@ module _ (N : NormalForm) where
 
     one_decides : (alts : List (List Sym)) → Decides (list_any (passes_alone empty test) alts) (FitsOne alts)
     one_decides [] = never (λ (alt, has, it). contains_none alt has)
-    one_decides (alt ∷ alts) = Decides-like (list_any (passes_alone empty test) (alt ∷ alts)) there back (Decides-or (passes_alone empty test alt) (list_any (passes_alone empty test) alts) (alone_decides alt) (one_decides alts))
+    one_decides (alt ∷ alts) =
+        Decides-like (list_any (passes_alone empty test) (alt ∷ alts)) there back
+        (Decides-or (passes_alone empty test alt) (list_any (passes_alone empty test) alts) (alone_decides alt) (one_decides alts))
       where
         there : FitsAlone alt ⊎ FitsOne alts → FitsOne (alt ∷ alts)
         there (inl it) = (alt, contains_first alt alts alt refl, it)
@@ -286,18 +317,35 @@ module _ (N : NormalForm) where
         back : FitsOne (alt ∷ alts) → FitsAlone alt ⊎ FitsOne alts
         back (other, has, it) = elim (contains_cases alt alts other has) [ inl same ↦ inl (subst FitsAlone (sym same) it) | inr later ↦ inr (other, later, it) ]
 
-    regular_decides : (r : ℕ) (alts : List (List Sym)) → slice_get N.rules r ≡ Some (RuleForm.regular alts) → Decides (list_any (passes_alone empty test) alts) (ByRule AtOnce bound r s)
+    regular_decides : (r : ℕ) (alts : List (List Sym)) → slice_get N.rules r ≡ Some (RuleForm.regular alts)
+        → Decides (list_any (passes_alone empty test) alts) (ByRule AtOnce bound r s)
     regular_decides r alts e = Decides-like (list_any (passes_alone empty test) alts) there back (one_decides alts)
       where
         there : FitsOne alts → ByRule AtOnce bound r s
-        there (alt, has, (t, before, after, same, b, a, f)) =
-            (t, inl (alts, e, record { before = before; after = after; there = subst (λ (l : List Sym). Contains alts l) same has; nothing_before = b; nothing_after = a }), f)
+        there (alt, has, (t, before, after, same, b, a, f)) = (
+          t,
+          inl (
+            alts,
+            e,
+            record {
+              before = before;
+              after = after;
+              there = subst (λ (l : List Sym). Contains alts l) same has;
+              nothing_before = b;
+              nothing_after = a;
+            },
+          ),
+          f,
+        )
 
         back : ByRule AtOnce bound r s → FitsOne alts
         back (t, inl (alts', at, alone), f) =
             let both : Some (RuleForm.regular alts) ≡ Some (RuleForm.regular alts') = sym e ∙ at in
-            let same : alts' ≡ alts = cc in
-            (alone.before ++ t ∷ alone.after, subst (λ (l : List (List Sym)). Contains l (alone.before ++ t ∷ alone.after)) same alone.there, (t, alone.before, alone.after, refl, alone.nothing_before, alone.nothing_after, f))
+            let same : alts' ≡ alts = cc in (
+              alone.before ++ t ∷ alone.after,
+              subst (λ (l : List (List Sym)). Contains l (alone.before ++ t ∷ alone.after)) same alone.there,
+              (t, alone.before, alone.after, refl, alone.nothing_before, alone.nothing_after, f),
+            )
         back (t, inr at, f) = absurd (let both : Some (RuleForm.regular alts) ≡ Some (RuleForm.plus t) = sym e ∙ at in cc)
 
     plus_decides : (r : ℕ) (u : Sym) → slice_get N.rules r ≡ Some (RuleForm.plus u) → Decides (test u) (ByRule AtOnce bound r s)
@@ -311,7 +359,8 @@ module _ (N : NormalForm) where
             subst (λ (x : Sym). FitsBelow N AtOnce bound s x) same f
 
     -- no step from a rule of another form
-    no_step : (r : ℕ) (o : Option RuleForm) → slice_get N.rules r ≡ o → ((alts : List (List Sym)) → o ≡ Some (RuleForm.regular alts) → ⊥) → ((u : Sym) → o ≡ Some (RuleForm.plus u) → ⊥) → ByRule AtOnce bound r s → ⊥
+    no_step : (r : ℕ) (o : Option RuleForm) → slice_get N.rules r ≡ o → ((alts : List (List Sym)) → o ≡ Some (RuleForm.regular alts) → ⊥)
+        → ((u : Sym) → o ≡ Some (RuleForm.plus u) → ⊥) → ByRule AtOnce bound r s → ⊥
     no_step r o e regular plus (t, inl (alts, at, alone), f) = regular alts (sym e ∙ at)
     no_step r o e regular plus (t, inr at, f) = plus t (sym e ∙ at)
 
@@ -319,10 +368,15 @@ module _ (N : NormalForm) where
     by_form r None e = never (no_step r None e (λ alts f. none-some (RuleForm.regular alts) f) (λ u f. none-some (RuleForm.plus u) f))
     by_form r (Some (RuleForm.regular alts)) e = regular_decides r alts e
     by_form r (Some (RuleForm.plus u)) e = plus_decides r u e
-    by_form r (Some (RuleForm.star x)) e = never (no_step r (Some (RuleForm.star x)) e (λ alts (f : Some (RuleForm.star x) ≡ Some (RuleForm.regular alts)). cc) (λ u (f : Some (RuleForm.star x) ≡ Some (RuleForm.plus u)). cc))
-    by_form r (Some (RuleForm.opt x)) e = never (no_step r (Some (RuleForm.opt x)) e (λ alts (f : Some (RuleForm.opt x) ≡ Some (RuleForm.regular alts)). cc) (λ u (f : Some (RuleForm.opt x) ≡ Some (RuleForm.plus u)). cc))
+    by_form r (Some (RuleForm.star x)) e =
+        never (no_step r (Some (RuleForm.star x)) e (λ alts (f : Some (RuleForm.star x) ≡ Some (RuleForm.regular alts)). cc)
+        (λ u (f : Some (RuleForm.star x) ≡ Some (RuleForm.plus u)). cc))
+    by_form r (Some (RuleForm.opt x)) e =
+        never (no_step r (Some (RuleForm.opt x)) e (λ alts (f : Some (RuleForm.opt x) ≡ Some (RuleForm.regular alts)). cc)
+        (λ u (f : Some (RuleForm.opt x) ≡ Some (RuleForm.plus u)). cc))
 
-  below_decides : (AtOnce : Sym → Sym → Type 0) (test : Sym → Sym → Bool) → ((s t : Sym) → Decides (test s t) (AtOnce s t)) → (bound : ℕ) (s t : Sym) → Decides (fits_by test bound N s t) (FitsBelow N AtOnce bound s t)
+  below_decides : (AtOnce : Sym → Sym → Type 0) (test : Sym → Sym → Bool) → ((s t : Sym) → Decides (test s t) (AtOnce s t)) → (bound : ℕ) (s t : Sym)
+      → Decides (fits_by test bound N s t) (FitsBelow N AtOnce bound s t)
   below_decides AtOnce test decided zero s t = Decides-like (test s t) (λ once. at_once s t once) (plainly AtOnce s t) (decided s t)
   below_decides AtOnce test decided (suc bound) s t =
       let rule : Bool = passes_in_rule empty (fits_by test bound N s) (slice_get N.rules bound) in
@@ -333,7 +387,9 @@ module _ (N : NormalForm) where
 
 pub decides : FitsInDecides
 unfolding fits_in
-decides N s t = Decides-like (fits_by (fits_at_once N) (length N.rules) N s t) (from_below N (length N.rules) s t) (to_below N s t) (below_decides N (Once N) (fits_at_once N) (once_decides N) (length N.rules) s t)
+decides N s t =
+    Decides-like (fits_by (fits_at_once N) (length N.rules) N s t) (from_below N (length N.rules) s t) (to_below N s t)
+    (below_decides N (Once N) (fits_at_once N) (once_decides N) (length N.rules) s t)
 
 pub decided : FitsIsDecided
 decided N s t = step (fits_in N s t) (decides N s t)

@@ -1,5 +1,6 @@
 -- A queue of trees, in which each tree is followed by its children at the end, has them level by level.
-use Rattle.std.proofs.Common.{◌≡◌, ℕ, zero, suc, ◌+◌, ◌<◌, ◌≤◌, List, [], ◌∷◌, ◌++◌, length, get_or, map, refl, sym, ap, ◌∙◌, subst, arith, append_assoc, length-append}
+use Rattle.std.proofs.Common.{◌≡◌, ℕ, zero, suc, ◌+◌, ◌<◌, ◌≤◌, List, [], ◌∷◌, ◌++◌, length, get_or, map, refl}
+use Rattle.std.proofs.Common.{sym, ap, ◌∙◌, subst, arith, append_assoc, length-append}
 use Rattle.std.specs.Prelude.{max}
 use Rattle.std.specs.List.{Contains, flat_map, range_with_len}
 use Rattle.std.proofs.Math.Nat.{le-max_left, le-max_right}
@@ -71,14 +72,17 @@ level_is : (t : PlainTree) (d : ℕ) → at_depth (suc d) t ≡ level_after d (f
 level_is t zero = one_down t
 level_is t (suc d) = next_level t (suc d) ∙ ap children_of_each (level_is t d) ∙ sym (after_children d (first_below t))
 
-levels_from : (f : ℕ → List PlainTree) (n a : ℕ) (ts : List PlainTree) → ((d e : ℕ) → e ≡ a + d → f e ≡ level_after d ts) → flat_map f (range_with_len a n) ≡ levels n ts
+levels_from : (f : ℕ → List PlainTree) (n a : ℕ) (ts : List PlainTree) → ((d e : ℕ) → e ≡ a + d → f e ≡ level_after d ts)
+    → flat_map f (range_with_len a n) ≡ levels n ts
 levels_from f zero a ts each = refl
 levels_from f (suc n) a ts each =
     ap (λ (l : List PlainTree). l ++ flat_map f (range_with_len (a + 1) n)) (each 0 a (omega arith))
     ∙ ap (λ (l : List PlainTree). ts ++ l) (levels_from f n (a + 1) (children_of_each ts) (λ d e is. each (suc d) e (omega (arith, is))))
 
 order_is : (t : PlainTree) → below_in_level_order t ≡ levels (depth t) (first_below t)
-order_is t = levels_from (λ d. at_depth (suc d) t) (depth t) 0 (first_below t) (λ d e is. ap (λ (x : ℕ). at_depth (suc x) t) (let same : e ≡ d = omega (arith, is) in same) ∙ level_is t d)
+order_is t =
+    levels_from (λ d. at_depth (suc d) t) (depth t) 0 (first_below t)
+    (λ d e is. ap (λ (x : ℕ). at_depth (suc x) t) (let same : e ≡ d = omega (arith, is) in same) ∙ level_is t d)
 
 no_more : (t : PlainTree) → level_after (depth t) (first_below t) ≡ []
 no_more t = sym (level_is t (depth t)) ∙ no_level (suc (depth t)) t (omega arith)
@@ -128,9 +132,12 @@ pub record HasNext (v : PlainTree) (done : ℕ) (found : List ℕ) : Type 0 wher
   pub ends : level_after deeper (following ++ children_of_each (tree ∷ current)) ≡ []
 
 -- the next level begins
-next_begins : (v : PlainTree) (done : ℕ) (found : List ℕ) (visited following : List PlainTree) (deeper : ℕ) → found ≡ map number_of (visited ++ following) → length visited ≡ done →
+next_begins : (v : PlainTree) (done : ℕ) (found : List ℕ) (visited following : List PlainTree) (deeper : ℕ) → found ≡ map number_of (visited ++ following)
+    → length visited ≡ done →
     visited ++ levels deeper (following ++ []) ≡ below_in_level_order v → level_after deeper (following ++ []) ≡ [] → done < length found → HasNext v done found
-next_begins v done found visited [] deeper numbers count whole ends lt = absurd (let same = ap length numbers in let all = length-map (visited ++ []) number_of in let both = length-append visited [] in omega (arith, same, all, both, count, lt))
+next_begins v done found visited [] deeper numbers count whole ends lt =
+    absurd (let same = ap length numbers in let all = length-map (visited ++ []) number_of in let both = length-append visited [] in
+    omega (arith, same, all, both, count, lt))
 next_begins v done found visited (t ∷ ts) zero numbers count whole ends lt = absurd (let none : t ∷ (ts ++ []) ≡ [] = ends in cc)
 next_begins v done found visited (t ∷ ts) (suc n) numbers count whole ends lt =
     let all : (t ∷ ts) ++ [] ≡ t ∷ ts = append-nil (t ∷ ts) in
@@ -146,21 +153,35 @@ next_begins v done found visited (t ∷ ts) (suc n) numbers count whole ends lt 
       ends = ap (level_after (suc n)) (sym all) ∙ ends;
     }
 
-has_next : (v : PlainTree) (done : ℕ) (found : List ℕ) (visited current following : List PlainTree) (deeper : ℕ) → found ≡ map number_of (visited ++ (current ++ following)) → length visited ≡ done →
-    visited ++ (current ++ levels deeper (following ++ children_of_each current)) ≡ below_in_level_order v → level_after deeper (following ++ children_of_each current) ≡ [] → done < length found → HasNext v done found
+has_next : (v : PlainTree) (done : ℕ) (found : List ℕ) (visited current following : List PlainTree) (deeper : ℕ)
+    → found ≡ map number_of (visited ++ (current ++ following)) → length visited ≡ done →
+    visited ++ (current ++ levels deeper (following ++ children_of_each current)) ≡ below_in_level_order v
+    → level_after deeper (following ++ children_of_each current) ≡ [] → done < length found → HasNext v done found
 has_next v done found visited [] following deeper numbers count whole ends lt = next_begins v done found visited following deeper numbers count whole ends lt
 has_next v done found visited (t ∷ current) following deeper numbers count whole ends lt =
-    record { tree = t; visited = visited; current = current; following = following; deeper = deeper; numbers = numbers; count = count; whole = whole; ends = ends }
+    record {
+      tree = t;
+      visited = visited;
+      current = current;
+      following = following;
+      deeper = deeper;
+      numbers = numbers;
+      count = count;
+      whole = whole;
+      ends = ends;
+    }
 
 pub next_of : (v : PlainTree) (done : ℕ) (found : List ℕ) → IsQueue v done found → done < length found → HasNext v done found
 next_of v done found q lt = has_next v done found q.visited q.current q.following q.deeper q.numbers q.count q.whole q.ends lt
 
 -- with the next tree's children found
-pub queue_goes_on : (v : PlainTree) (done : ℕ) (found more : List ℕ) (next : HasNext v done found) → more ≡ found ++ roots (children_of next.tree) → IsQueue v (done + 1) more
+pub queue_goes_on : (v : PlainTree) (done : ℕ) (found more : List ℕ) (next : HasNext v done found) → more ≡ found ++ roots (children_of next.tree)
+    → IsQueue v (done + 1) more
 queue_goes_on v done found more next e =
     let t = next.tree in
     let below = first_below next.tree in
-    let pushed : (next.following ++ below) ++ children_of_each next.current ≡ next.following ++ children_of_each (next.tree ∷ next.current) = append_assoc next.following below (children_of_each next.current) in
+    let pushed : (next.following ++ below) ++ children_of_each next.current ≡ next.following ++ children_of_each (next.tree ∷ next.current) =
+    append_assoc next.following below (children_of_each next.current) in
     record {
       visited = next.visited ++ next.tree ∷ [];
       current = next.current;
@@ -183,11 +204,15 @@ queue_goes_on v done found more next e =
     regroup : (t : PlainTree) (a b c d : List PlainTree) → (a ++ ((t ∷ b) ++ c)) ++ d ≡ (a ++ t ∷ []) ++ (b ++ (c ++ d))
     regroup t a b c d = simp append_assoc
 
-over : (found : List ℕ) (done : ℕ) (visited current following : List PlainTree) → found ≡ map number_of (visited ++ (current ++ following)) → length visited ≡ done → length found ≤ done → (current ≡ []) × (following ≡ [])
+over : (found : List ℕ) (done : ℕ) (visited current following : List PlainTree) → found ≡ map number_of (visited ++ (current ++ following))
+    → length visited ≡ done → length found ≤ done → (current ≡ []) × (following ≡ [])
 over found done visited [] [] numbers count le = (refl, refl)
-over found done visited [] (t ∷ ts) numbers count le = absurd (let same = ap length numbers in let all = length-map (visited ++ t ∷ ts) number_of in let both = length-append visited (t ∷ ts) in omega (arith, same, all, both, count, le))
+over found done visited [] (t ∷ ts) numbers count le =
+    absurd (let same = ap length numbers in let all = length-map (visited ++ t ∷ ts) number_of in let both = length-append visited (t ∷ ts) in
+    omega (arith, same, all, both, count, le))
 over found done visited (t ∷ ts) us numbers count le =
-    absurd (let same = ap length numbers in let all = length-map (visited ++ ((t ∷ ts) ++ us)) number_of in let both = length-append visited ((t ∷ ts) ++ us) in omega (arith, same, all, both, count, le))
+    absurd (let same = ap length numbers in let all = length-map (visited ++ ((t ∷ ts) ++ us)) number_of in let both = length-append visited ((t ∷ ts) ++ us) in
+    omega (arith, same, all, both, count, le))
 
 -- Where all trees of the queue were visited, it has all that is below.
 pub queue_ends : (v : PlainTree) (done : ℕ) (found : List ℕ) → IsQueue v done found → length found ≤ done → found ≡ map number_of (below_in_level_order v)
@@ -204,7 +229,8 @@ queue_ends v done found q le =
 pub next_is_below : (v : PlainTree) (done : ℕ) (found : List ℕ) (next : HasNext v done found) → Contains (below_in_level_order v) next.tree
 next_is_below v done found next =
     subst (λ (l : List PlainTree). Contains l next.tree) next.whole
-    (Contains-append_right next.visited ((next.tree ∷ next.current) ++ levels next.deeper (next.following ++ children_of_each (next.tree ∷ next.current))) next.tree (zero, omega arith, refl))
+    (Contains-append_right next.visited ((next.tree ∷ next.current) ++ levels next.deeper (next.following ++ children_of_each (next.tree ∷ next.current)))
+    next.tree (zero, omega arith, refl))
 
 pub next_is_before : (v : PlainTree) (done : ℕ) (found : List ℕ) (next : HasNext v done found) → done < length (below_in_level_order v)
 next_is_before v done found next =
@@ -216,7 +242,8 @@ next_is_before v done found next =
 pub next_number : (v : PlainTree) (done : ℕ) (found : List ℕ) (next : HasNext v done found) (d : ℕ) → get_or found done d ≡ number_of next.tree
 next_number v done found next d =
     ap (λ (l : List ℕ). get_or l done d) (next.numbers ∙ map-append number_of next.visited ((next.tree ∷ next.current) ++ next.following))
-    ∙ at_middle (map number_of next.visited) (number_of next.tree) (map number_of (next.current ++ next.following)) done (length-map next.visited number_of ∙ next.count)
+    ∙ at_middle (map number_of next.visited) (number_of next.tree) (map number_of (next.current ++ next.following)) done
+    (length-map next.visited number_of ∙ next.count)
   where
     at_middle : (xs : List ℕ) (y : ℕ) (ys : List ℕ) (i : ℕ) → length xs ≡ i → get_or (xs ++ y ∷ ys) i d ≡ y
     at_middle [] y ys zero e = refl

@@ -15,7 +15,8 @@ DecidesFits N fits = (s t : Sym) → IsTrue (fits s t) ↔ Fits N s t
 abbrev pub is_compatible : (Sym → Sym → Bool) → Sym → PlainTree → PlainTree → Bool
 is_compatible fits s v u = fits (symbol_of u) s && nat_lt (weight u) (weight v)
 
--- the compatible descendants of the tree v, which is in the slot s: those below it that fit the slot and have fewer leaves, level by level, each level from left to right
+-- the compatible descendants of the tree v, which is in the slot s: those below it that fit
+-- the slot and have fewer leaves, level by level, each level from left to right
 abbrev pub compatible : (Sym → Sym → Bool) → Sym → PlainTree → List PlainTree
 compatible fits s v = filter (is_compatible fits s v) (below_in_level_order v)
 

@@ -12,7 +12,8 @@ use Rattle.descend_replace.specs.Compatible.{DecidesFits}
 abbrev pub with_rule : ℕ → Bool → (ℕ → Bool) → ℕ → Bool
 with_rule n passes known = if passes then (λ r. nat_eq r n || known r) else known
 
--- Whether the rule derives the empty list by the first n rules, where these others are known to. A rule is tested by the rules before it, and is known to those after it.
+-- Whether the rule derives the empty list by the first n rules, where these others are known
+-- to. A rule is tested by the rules before it, and is known to those after it.
 abbrev pub nullable_by : ℕ → NormalForm → (ℕ → Bool) → ℕ → Bool
 nullable_by zero N known = known
 nullable_by (suc n) N known = nullable_by n N (with_rule n (numbered_is_nullable N (nullable_by n N known) n) known)
@@ -67,10 +68,12 @@ passes_in_rule empty test (Some (RuleForm.regular alts)) = list_any (passes_alon
 passes_in_rule empty test (Some (RuleForm.plus t)) = test t
 passes_in_rule empty test form = false
 
--- Whether the symbol fits the slot by steps from the first n rules to their symbols, and then at once. From a slot to the rule n the steps alone lead: what fits a rule at once need not fit the slot.
+-- Whether the symbol fits the slot by steps from the first n rules to their symbols, and then at once. From
+-- a slot to the rule n the steps alone lead: what fits a rule at once need not fit the slot.
 abbrev pub fits_by : (Sym → Sym → Bool) → ℕ → NormalForm → Sym → Sym → Bool
 fits_by at_once zero N s t = at_once s t
-fits_by at_once (suc n) N s t = fits_by at_once n N s t || (fits_by is_same n N (Rule n) t && passes_in_rule (is_nullable (nullable_in N)) (fits_by at_once n N s) (slice_get N.rules n))
+fits_by at_once (suc n) N s t =
+    fits_by at_once n N s t || (fits_by is_same n N (Rule n) t && passes_in_rule (is_nullable (nullable_in N)) (fits_by at_once n N s) (slice_get N.rules n))
 
 -- whether the symbol fits the slot
 unfoldable pub fits_in : NormalForm → Sym → Sym → Bool

@@ -32,7 +32,9 @@ pub fn compatible(
     requires of { IsCutOf tree.now cut.now }
     requires compat { compat.now ≡ tree.now.form }
     requires left { IsSome (subtree node (cut_tree tree.now cut.now)) }
-    ensures { IfOk result (λ found. (fits : Symbol → Symbol → Bool) (s : Symbol) (v : PlainTree) → DecidesFits tree.now.form fits → slot_at tree.now.form tree.now.start node (cut_tree tree.now cut.now) ≡ Some s → subtree node (cut_tree tree.now cut.now) ≡ Some v → found.items ≡ map number_of (compatible_trees fits s v)) }
+    ensures { IfOk result (λ found. (fits : Symbol → Symbol → Bool) (s : Symbol) (v : PlainTree) → DecidesFits tree.now.form fits
+        → slot_at tree.now.form tree.now.start node (cut_tree tree.now cut.now) ≡ Some s → subtree node (cut_tree tree.now cut.now) ≡ Some v
+        → found.items ≡ map number_of (compatible_trees fits s v)) }
 {
     let _nodes = tree.nodes();
     let slot = cut.slot(tree, node);
@@ -53,7 +55,8 @@ pub fn compatible(
 pub fn level_order(alloc: Global, tree: &Tree, cut: &Cut, node: u32) -> Result<Vec<u32>, Memory>
     requires of { IsCutOf tree.now cut.now }
     requires left { IsSome (subtree node (cut_tree tree.now cut.now)) }
-    ensures { IfOk result (λ found. (v : PlainTree) → subtree node (cut_tree tree.now cut.now) ≡ Some v → found.items ≡ map number_of (below_in_level_order v)) }
+    ensures { IfOk result (λ found. (v : PlainTree) → subtree node (cut_tree tree.now cut.now) ≡ Some v
+        → found.items ≡ map number_of (below_in_level_order v)) }
 {
     let _nodes = tree.nodes();
     let mut found = cut.children(alloc, tree, node)?;
@@ -71,7 +74,8 @@ fn can_take(tree: &Tree, cut: &Cut, compat: &Compat, slot: Sym, tokens: u32, nod
     requires of { IsCutOf tree.now cut.now }
     requires compat { compat.now ≡ tree.now.form }
     requires left { IsSome (subtree node (cut_tree tree.now cut.now)) }
-    ensures { (u : PlainTree) → subtree node (cut_tree tree.now cut.now) ≡ Some u → IsTrue result ↔ (Fits tree.now.form (symbol_of u) slot × (weight u < tokens)) }
+    ensures { (u : PlainTree) → subtree node (cut_tree tree.now cut.now) ≡ Some u → IsTrue result
+        ↔ (Fits tree.now.form (symbol_of u) slot × (weight u < tokens)) }
 {
     let symbol = tree.nodes()[node as usize].sym;
     compat.fits(symbol, slot) && cut.weight(tree, node) < tokens

@@ -1,5 +1,6 @@
 -- Levels of a tree, one after another.
-use Rattle.std.proofs.Common.{◌≡◌, inl, inr, ℕ, zero, suc, ◌+◌, ◌<◌, ◌≤◌, List, Some, None, Bool, true, false, length, map, refl, sym, ap, ◌∙◌, subst, arith, length-append}
+use Rattle.std.proofs.Common.{◌≡◌, inl, inr, ℕ, zero, suc, ◌+◌, ◌<◌, ◌≤◌, List, Some, None, Bool, true, false}
+use Rattle.std.proofs.Common.{length, map, refl, sym, ap, ◌∙◌, subst, arith, length-append}
 use Rattle.std.specs.Prelude.{if◌then◌else◌, max}
 use Rattle.std.specs.List.{All, flat_map, list_all}
 use Rattle.std.proofs.Math.Nat.{le-max_left, le-max_right}
@@ -63,25 +64,30 @@ mutual
       ]
 
 -- the numbers of what is one level lower
-pub lower_numbers : (d : ℕ) (t : PlainTree) (found : List ℕ) → found ≡ map number_of (children_of_each (at_depth d t)) → found ≡ map number_of (at_depth (suc d) t)
+pub lower_numbers : (d : ℕ) (t : PlainTree) (found : List ℕ) → found ≡ map number_of (children_of_each (at_depth d t))
+    → found ≡ map number_of (at_depth (suc d) t)
 lower_numbers d t found e = e ∙ ap (map number_of) (sym (levels_are_children t d))
 
 pub is_deep : (d : ℕ) (t : PlainTree) (found : List ℕ) → found ≡ map number_of (at_depth d t) → 0 < length found → is_so_deep d t ≡ true
-is_deep d t found e some = le-leb d (depth t) (deep_from d t (let same = ap length e in let long = length-map (at_depth d t) number_of in omega (arith, same, long, some)))
+is_deep d t found e some =
+    le-leb d (depth t) (deep_from d t (let same = ap length e in let long = length-map (at_depth d t) number_of in omega (arith, same, long, some)))
 
 pub not_deep : (d : ℕ) (t : PlainTree) (found : List ℕ) → found ≡ map number_of (at_depth d t) → length found ≡ 0 → is_so_deep d t ≡ false
 not_deep d t found e none =
     elim (cases_lt (depth t) d) [
       | inl less ↦ lt-leb d (depth t) less
-      | inr deep ↦ absurd (let some = some_at d t deep in let same = ap length e in let long = length-map (at_depth d t) number_of in omega (arith, same, long, some, none))
+      | inr deep ↦ absurd (let some = some_at d t deep in let same = ap length e in let long = length-map (at_depth d t) number_of in
+          omega (arith, same, long, some, none))
     ]
 
 -- the nodes of a depth are found
-pub depth_nodes : (d low high : ℕ) (t : PlainTree) → Rises low high t → (numbers : List ℕ) → numbers ≡ map number_of (at_depth d t) → AreNodesIn t numbers (at_depth d t)
+pub depth_nodes : (d low high : ℕ) (t : PlainTree) → Rises low high t → (numbers : List ℕ) → numbers ≡ map number_of (at_depth d t)
+    → AreNodesIn t numbers (at_depth d t)
 depth_nodes d low high t h numbers e = record { numbers = e; found = λ u has. in_found low high t h u (depth_in d t u has) }
 
 -- the level below them
-pub next_level : (N : NormalForm) (d : ℕ) (t : PlainTree) (l : LevelForm) (numbers below : List ℕ) → numbers ≡ map number_of (at_depth d t) → l.parents ≡ Some numbers → l.nodes ≡ map number_of (flat_map (deletable_children N) (at_depth d t)) →
+pub next_level : (N : NormalForm) (d : ℕ) (t : PlainTree) (l : LevelForm) (numbers below : List ℕ) → numbers ≡ map number_of (at_depth d t)
+    → l.parents ≡ Some numbers → l.nodes ≡ map number_of (flat_map (deletable_children N) (at_depth d t)) →
     l.pluses ≡ pluses_of N 0 (at_depth d t) → below ≡ map number_of (children_of_each (at_depth d t)) → 0 < length below → IsLevelAt N t (suc d) l
 next_level N d t l numbers below are parents nodes pluses lower some = record {
   deep = is_deep (suc d) t below (lower_numbers d t below lower) some;
@@ -101,20 +107,26 @@ module _ (N : NormalForm) (s : Sym) (t : PlainTree) (high : ℕ) (h : Rises 0 hi
           let long = ap length nodes ∙ length-map (flat_map (deletable_children N) (at_depth d t)) number_of in
           pluses_within N 0 (length keep) (at_depth d t) (omega (arith, long, each))
 
-  pub fills_are : (d : ℕ) (l : LevelForm) → IsLevelAt N t d l → length keep ≡ length l.nodes → list_all (keeps_element keep) l.pluses ≡ fills_pluses N (without_nodes (dropped l.nodes keep) t)
+  pub fills_are : (d : ℕ) (l : LevelForm) → IsLevelAt N t d l → length keep ≡ length l.nodes
+      → list_all (keeps_element keep) l.pluses ≡ fills_pluses N (without_nodes (dropped l.nodes keep) t)
   fills_are d l at each =
-      ap (list_all (keeps_element keep)) at.pluses ∙ by_depth d (ap length at.nodes) ∙ ap (λ (qs : List ℕ). fills_pluses N (without_nodes (dropped qs keep) t)) (sym at.nodes)
+      ap (list_all (keeps_element keep)) at.pluses ∙ by_depth d (ap length at.nodes)
+      ∙ ap (λ (qs : List ℕ). fills_pluses N (without_nodes (dropped qs keep) t)) (sym at.nodes)
     where
-      by_depth : (d : ℕ) → length l.nodes ≡ length (level N d t) → list_all (keeps_element keep) (pluses_at N d t) ≡ fills_pluses N (without_nodes (dropped (level N d t) keep) t)
+      by_depth : (d : ℕ) → length l.nodes ≡ length (level N d t)
+          → list_all (keeps_element keep) (pluses_at N d t) ≡ fills_pluses N (without_nodes (dropped (level N d t) keep) t)
       by_depth zero long = sym (ap (fills_pluses N) (nothing_out t) ∙ fills_valid N s t valid)
       by_depth (suc d) long = level_fills N d high t keep h (fills_valid N s t valid) (omega (arith, long, each))
 
-  pub can_drop : (d : ℕ) (l : LevelForm) → IsLevelAt N t d l → fills_pluses N (without_nodes (dropped l.nodes keep) t) ≡ true → CanDrop N s t (dropped l.nodes keep)
+  pub can_drop : (d : ℕ) (l : LevelForm) → IsLevelAt N t d l → fills_pluses N (without_nodes (dropped l.nodes keep) t) ≡ true
+      → CanDrop N s t (dropped l.nodes keep)
   can_drop d l at fills =
       subst (λ (qs : List ℕ). CanDrop N s t (dropped qs keep)) (sym at.nodes) (record {
         apart = dropped_apart t (level N d t) keep (level_apart N d 0 high t h);
         elements = elements;
-        valid = valid_without N (dropped (level N d t) keep) s t valid elements (subst (λ (qs : List ℕ). fills_pluses N (without_nodes (dropped qs keep) t) ≡ true) at.nodes fills);
+        valid =
+            valid_without N (dropped (level N d t) keep) s t valid elements
+            (subst (λ (qs : List ℕ). fills_pluses N (without_nodes (dropped qs keep) t) ≡ true) at.nodes fills);
       })
     where
       elements : AreElements N (dropped (level N d t) keep) t
@@ -126,7 +138,8 @@ above_is zero t items e = absurd (none-some items (sym e))
 above_is (suc d) t items e = (d, refl, same_Some items (map number_of (at_depth d t)) e)
 
 -- what is left of a level, by what was found of its pluses
-pub kept_by : (N : NormalForm) (nodes : List ℕ) (keep : List Bool) (t : PlainTree) (b : Bool) → fills_pluses N (without_nodes (dropped nodes keep) t) ≡ b → kept_only N nodes keep t ≡ (if b then Some (without_nodes (dropped nodes keep) t) else None)
+pub kept_by : (N : NormalForm) (nodes : List ℕ) (keep : List Bool) (t : PlainTree) (b : Bool) → fills_pluses N (without_nodes (dropped nodes keep) t) ≡ b
+    → kept_only N nodes keep t ≡ (if b then Some (without_nodes (dropped nodes keep) t) else None)
 kept_by N nodes keep t b e = ap (λ (x : Bool). if x then Some (without_nodes (dropped nodes keep) t) else None) e
 
 pub some_long : (n m : ℕ) → (n ≡ 0 → ⊥) → n ≡ m → 0 < m

@@ -1,5 +1,6 @@
 -- Which nodes of a tree are in a level, and in which order.
-use Rattle.std.proofs.Common.{◌≡◌, inl, inr, ℕ, zero, suc, ◌+◌, ◌<◌, ◌≤◌, List, [], ◌∷◌, ◌++◌, Some, None, Bool, true, false, map, refl, sym, ap, ◌∙◌, subst, arith}
+use Rattle.std.proofs.Common.{◌≡◌, inl, inr, ℕ, zero, suc, ◌+◌, ◌<◌, ◌≤◌, List, [], ◌∷◌, ◌++◌, Some, None}
+use Rattle.std.proofs.Common.{Bool, true, false, map, refl, sym, ap, ◌∙◌, subst, arith}
 use Rattle.std.specs.Prelude.{nat_lt}
 use Rattle.std.specs.List.{Contains, flat_map}
 use Rattle.std.proofs.lemmas.Bool.{cases_Bool, cond-false, cond-true, ltb-true}
@@ -15,7 +16,8 @@ use Rattle.syntax_tree.specs.Numbered.{NumbersRise, number_of, subtree}
 use Rattle.syntax_tree.proofs.Lent.{AreWithin, IsWithin, within_from}
 use Rattle.syntax_tree.specs.Levels.{at_depth, at_depth_all}
 use Rattle.syntax_tree_cut.specs.WithoutNodes.{AreApart, dropped, is_among, loses_children}
-use Rattle.syntax_tree_cut.proofs.Lent.{Rises, RiseAll, bounds_rise, found_among_within, found_within, not_found, number_within, rises_wider, subtree_below, subtree_within, deeper_found, in_found, in_some_found}
+use Rattle.syntax_tree_cut.proofs.Lent.{Rises, RiseAll, bounds_rise, found_among_within, found_within, not_found, number_within}
+use Rattle.syntax_tree_cut.proofs.Lent.{rises_wider, subtree_below, subtree_within, deeper_found, in_found, in_some_found}
 use Rattle.hdd_levels.specs.Levels.{deletable_at, deletable_children, level, with_leaves}
 
 -- The numbers of the trees, and of what is below them, rise from tree to tree.
@@ -39,20 +41,24 @@ mutual
   pub depth_spread : (d low high : ℕ) (t : PlainTree) → Rises low high t → Spread low high (at_depth d t)
   depth_spread zero low high t h = (high, h, omega arith)
   depth_spread (suc d) low high (PlainTree.leaf n k i) h = omega (arith, h)
-  depth_spread (suc d) low high (PlainTree.node n r a ts) h = spread_from (n + 1) low high (at_depth_all d ts) (omega (arith, h.0)) (depth_spread_all d (n + 1) high ts h.1)
+  depth_spread (suc d) low high (PlainTree.node n r a ts) h =
+      spread_from (n + 1) low high (at_depth_all d ts) (omega (arith, h.0)) (depth_spread_all d (n + 1) high ts h.1)
 
   pub depth_spread_all : (d low high : ℕ) (ts : PlainTrees) → RiseAll low high ts → Spread low high (at_depth_all d ts)
   depth_spread_all d low high PlainTrees.none h = h
-  depth_spread_all d low high (PlainTrees.next t ts) h = spread_append low h.0 high (at_depth d t) (at_depth_all d ts) (depth_spread d low h.0 t h.1) (depth_spread_all d h.0 high ts h.2)
+  depth_spread_all d low high (PlainTrees.next t ts) h =
+      spread_append low h.0 high (at_depth d t) (at_depth_all d ts) (depth_spread d low h.0 t h.1) (depth_spread_all d h.0 high ts h.2)
 
 pub leaves_spread : (low high : ℕ) (ts : PlainTrees) → RiseAll low high ts → Spread low high (with_leaves ts)
 leaves_spread low high PlainTrees.none h = h
 leaves_spread low high (PlainTrees.next t ts) h =
     elim (cases_Bool (nat_lt 0 (weight t))) [
-      | inl some ↦ subst (λ l. Spread low high l) (sym (cond-true (nat_lt 0 (weight t)) (t ∷ with_leaves ts) (with_leaves ts) some)) (h.0, h.1, leaves_spread h.0 high ts h.2)
+      | inl some ↦ subst (λ l. Spread low high l) (sym (cond-true (nat_lt 0 (weight t)) (t ∷ with_leaves ts) (with_leaves ts) some))
+          (h.0, h.1, leaves_spread h.0 high ts h.2)
       | inr none ↦
           let own = number_within low h.0 t h.1 in
-          subst (λ l. Spread low high l) (sym (cond-false (nat_lt 0 (weight t)) (t ∷ with_leaves ts) (with_leaves ts) none)) (spread_from h.0 low high (with_leaves ts) (omega (arith, own)) (leaves_spread h.0 high ts h.2))
+          subst (λ l. Spread low high l) (sym (cond-false (nat_lt 0 (weight t)) (t ∷ with_leaves ts) (with_leaves ts) none))
+          (spread_from h.0 low high (with_leaves ts) (omega (arith, own)) (leaves_spread h.0 high ts h.2))
     ]
 
 module _ (N : NormalForm) where
@@ -62,13 +68,15 @@ module _ (N : NormalForm) where
       let rest = bounds_rise (n + 1) high ts h.1 in
       let le : low ≤ high = omega (arith, rest, h.0) in
       elim (cases_Bool (loses_children N r)) [
-        | inl some ↦ subst (λ l. Spread low high l) (sym (cond-true (loses_children N r) (with_leaves ts) [] some)) (spread_from (n + 1) low high (with_leaves ts) (omega (arith, h.0)) (leaves_spread (n + 1) high ts h.1))
+        | inl some ↦ subst (λ l. Spread low high l) (sym (cond-true (loses_children N r) (with_leaves ts) [] some))
+            (spread_from (n + 1) low high (with_leaves ts) (omega (arith, h.0)) (leaves_spread (n + 1) high ts h.1))
         | inr none ↦ subst (λ l. Spread low high l) (sym (cond-false (loses_children N r) (with_leaves ts) [] none)) le
       ]
 
   pub each_spread : (low high : ℕ) (ts : List PlainTree) → Spread low high ts → Spread low high (flat_map (deletable_children N) ts)
   each_spread low high [] s = s
-  each_spread low high (t ∷ ts) s = spread_append low s.0 high (deletable_children N t) (flat_map (deletable_children N) ts) (children_spread low s.0 t s.1) (each_spread s.0 high ts s.2)
+  each_spread low high (t ∷ ts) s =
+      spread_append low s.0 high (deletable_children N t) (flat_map (deletable_children N) ts) (children_spread low s.0 t s.1) (each_spread s.0 high ts s.2)
 
   pub level_spread : (d low high : ℕ) (t : PlainTree) → Rises low high t → Spread low high (deletable_at N d t)
   level_spread zero low high t h = let own = number_within low high t h in omega (arith, own)
@@ -77,7 +85,8 @@ module _ (N : NormalForm) where
 -- a number of the trees is within their bounds
 pub number_spread : (low high : ℕ) (ts : List PlainTree) (q : ℕ) → Spread low high ts → Contains (map number_of ts) q → (low ≤ q) × (q < high)
 number_spread low high [] q s has = absurd (contains_none q has)
-number_spread low high (t ∷ ts) q s (zero, lt, e) = let own = number_within low s.0 t s.1 in let rest = spread_bounds s.0 high ts s.2 in (omega (arith, own, e), omega (arith, own, e, rest))
+number_spread low high (t ∷ ts) q s (zero, lt, e) = let own = number_within low s.0 t s.1 in let rest =
+    spread_bounds s.0 high ts s.2 in (omega (arith, own, e), omega (arith, own, e, rest))
 number_spread low high (t ∷ ts) q s (suc k, lt, e) =
     let own = number_within low s.0 t s.1 in
     let rest = number_spread s.0 high ts q s.2 (k, omega (arith, lt), e) in
@@ -109,16 +118,20 @@ mutual
 in_later_too : (t : PlainTree) (ts : PlainTrees) (u : PlainTree) → IsInSome u ts × (0 < weight u) → IsInSome u (PlainTrees.next t ts) × (0 < weight u)
 in_later_too t ts u more = (trees.in_later u t ts more.0, more.1)
 
-in_first_or : (t : PlainTree) (ts : PlainTrees) (u : PlainTree) → nat_lt 0 (weight t) ≡ true → (Contains (with_leaves ts) u → IsInSome u ts × (0 < weight u)) → Contains (t ∷ with_leaves ts) u → IsInSome u (PlainTrees.next t ts) × (0 < weight u)
-in_first_or t ts u some rest (zero, lt, e) = subst (λ v. IsInSome v (PlainTrees.next t ts) × (0 < weight v)) e (trees.in_first t t ts (trees.itself t), ltb-true 0 (weight t) some)
+in_first_or : (t : PlainTree) (ts : PlainTrees) (u : PlainTree) → nat_lt 0 (weight t) ≡ true → (Contains (with_leaves ts) u → IsInSome u ts × (0 < weight u))
+    → Contains (t ∷ with_leaves ts) u → IsInSome u (PlainTrees.next t ts) × (0 < weight u)
+in_first_or t ts u some rest (zero, lt, e) =
+    subst (λ v. IsInSome v (PlainTrees.next t ts) × (0 < weight v)) e (trees.in_first t t ts (trees.itself t), ltb-true 0 (weight t) some)
 in_first_or t ts u some rest (suc k, lt, e) = in_later_too t ts u (rest (k, omega (arith, lt), e))
 
 pub leaves_in : (ts : PlainTrees) (u : PlainTree) → Contains (with_leaves ts) u → IsInSome u ts × (0 < weight u)
 leaves_in PlainTrees.none u has = absurd (contains_none u has)
 leaves_in (PlainTrees.next t ts) u has =
     elim (cases_Bool (nat_lt 0 (weight t))) [
-      | inl some ↦ in_first_or t ts u some (λ h. leaves_in ts u h) (subst (λ l. Contains l u) (cond-true (nat_lt 0 (weight t)) (t ∷ with_leaves ts) (with_leaves ts) some) has)
-      | inr none ↦ in_later_too t ts u (leaves_in ts u (subst (λ l. Contains l u) (cond-false (nat_lt 0 (weight t)) (t ∷ with_leaves ts) (with_leaves ts) none) has))
+      | inl some ↦ in_first_or t ts u some (λ h. leaves_in ts u h)
+          (subst (λ l. Contains l u) (cond-true (nat_lt 0 (weight t)) (t ∷ with_leaves ts) (with_leaves ts) some) has)
+      | inr none ↦ in_later_too t ts u (leaves_in ts u
+          (subst (λ l. Contains l u) (cond-false (nat_lt 0 (weight t)) (t ∷ with_leaves ts) (with_leaves ts) none) has))
     ]
 
 pub children_in : (N : NormalForm) (t u : PlainTree) → Contains (deletable_children N t) u → IsBelow u t × (0 < weight u)
@@ -129,7 +142,8 @@ children_in N (PlainTree.node n r a ts) u has =
       | inr none ↦ absurd (contains_none u (subst (λ l. Contains l u) (cond-false (loses_children N r) (with_leaves ts) [] none) has))
     ]
 
-pub of_each : (N : NormalForm) (ts : List PlainTree) (u : PlainTree) → Contains (flat_map (deletable_children N) ts) u → (p : PlainTree) × Contains ts p × Contains (deletable_children N p) u
+pub of_each : (N : NormalForm) (ts : List PlainTree) (u : PlainTree) → Contains (flat_map (deletable_children N) ts) u → (p : PlainTree) × Contains ts p
+    × Contains (deletable_children N p) u
 of_each N [] u has = absurd (contains_none u has)
 of_each N (t ∷ ts) u has =
     elim (Contains-append_cases (deletable_children N t) (flat_map (deletable_children N) ts) u has) [
@@ -146,7 +160,8 @@ below_found low high (PlainTree.node n r a ts) u h is =
     (subtree_below (number_of u) n r a ts (λ (e : n ≡ number_of u). omega (arith, e, within)) ∙ deeper, omega (arith, within))
 
 -- each node of a level is below the root, and has a leaf
-pub level_found : (N : NormalForm) (d low high : ℕ) (t u : PlainTree) → Rises low high t → Contains (deletable_at N d t) u → (subtree (number_of u) t ≡ Some u) × (number_of t < number_of u) × (0 < weight u)
+pub level_found : (N : NormalForm) (d low high : ℕ) (t u : PlainTree) → Rises low high t → Contains (deletable_at N d t) u → (subtree (number_of u) t ≡ Some u)
+    × (number_of t < number_of u) × (0 < weight u)
 level_found N zero low high t u h has = absurd (contains_none u has)
 level_found N (suc d) low high t u h has =
     let parent = of_each N (at_depth d t) u has in
@@ -163,15 +178,19 @@ level_found N (suc d) low high t u h has =
     least_number low high (PlainTree.node n r a ts) h q v e = (found_within n high (PlainTree.node n r a ts) (omega arith, h.1) q v e).0
 
 -- trees that are found and spread are apart
-pub spread_apart : (t : PlainTree) (low high : ℕ) (us : List PlainTree) → Spread low high us → ((u : PlainTree) → Contains us u → (subtree (number_of u) t ≡ Some u) × (number_of t < number_of u) × (0 < weight u)) → AreApart t (map number_of us)
+pub spread_apart : (t : PlainTree) (low high : ℕ) (us : List PlainTree) → Spread low high us
+    → ((u : PlainTree) → Contains us u → (subtree (number_of u) t ≡ Some u) × (number_of t < number_of u) × (0 < weight u)) → AreApart t (map number_of us)
 spread_apart t low high [] s found = tt
 spread_apart t low high (u ∷ us) s found =
     let own = found u (zero, omega arith, refl) in (
       record { node = u; node_is = own.0; below = λ (e : number_of t ≡ number_of u). (let less = own.1 in omega (arith, e, less)); leaf = own.2 },
       λ q has.
           let within = number_within low s.0 u s.1 in
-          let later = number_spread s.0 high us q s.2 has in
-          (omega (arith, within, later), λ v e. subst (λ (w : PlainTree). subtree q w ≡ None) (same_Some u v (sym own.0 ∙ e)) (not_found low s.0 u s.1 q (inr later.0))),
+          let later = number_spread s.0 high us q s.2 has in (
+            omega (arith, within, later),
+            λ v e. subst (λ (w : PlainTree). subtree q w ≡ None) (same_Some u v (sym own.0 ∙ e))
+                (not_found low s.0 u s.1 q (inr later.0)),
+          ),
       spread_apart t s.0 high us s.2 (λ v has. found v (suc has.0, (let in_it = has.1 in omega (arith, in_it)), has.2)),
     )
 

@@ -35,7 +35,8 @@ all_but count k = slice_set (replicate count true) k false
 abbrev pub SingleDeletionsAreOfLevels : Type 0
 SingleDeletionsAreOfLevels = (N : NormalForm) (s : Sym) (t u : PlainTree) → IsTreeFor N s t → NumbersRise t →
     IsSingleDeletion N t u
-    ↔ ((d : ℕ) × (k : ℕ) × (d ≤ depth t) × (k < length (level N d t)) × (u ≡ kept_tree (level N d t) (all_but (length (level N d t)) k) t) × (fills_pluses N u ≡ true))
+    ↔ ((d : ℕ) × (k : ℕ) × (d ≤ depth t) × (k < length (level N d t)) × (u ≡ kept_tree (level N d t) (all_but (length (level N d t)) k) t)
+    × (fills_pluses N u ≡ true))
 
 -- Where nodes of a level are deleted, the nodes of the depths above it stay.
 abbrev pub HigherNodesStay : Type 0

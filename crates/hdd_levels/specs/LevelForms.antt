@@ -7,7 +7,8 @@ use Rattle.syntax_tree.specs.Levels.{at_depth}
 use Rattle.hdd_levels.specs.declared.level_nodes.Elements.{Elements}
 use Rattle.hdd_levels.specs.Levels.{deletable_children, is_plus, is_so_deep, level}
 
--- What a level has: the nodes and leaves one level higher, where there is one; the deletable nodes; and of each plus whose elements are all among these, which of them they are.
+-- What a level has: the nodes and leaves one level higher, where there is one; the deletable
+-- nodes; and of each plus whose elements are all among these, which of them they are.
 pub record LevelForm : Type 0 where
   pub parents : Option (List ℕ)
   pub nodes : List ℕ
@@ -29,7 +30,8 @@ elements_if test from end = if test then record { from = from; end = end } ∷ [
 
 -- the elements of a plus that are all deletable, where the first of them has the index `from`
 abbrev pub plus_of : NormalForm → ℕ → PlainTree → List Elements
-plus_of N from t = elements_if (is_plus_node N t && nat_eq (length (deletable_children N t)) (count (children_of t))) from (from + length (deletable_children N t))
+plus_of N from t =
+    elements_if (is_plus_node N t && nat_eq (length (deletable_children N t)) (count (children_of t))) from (from + length (deletable_children N t))
 
 -- those of several trees, one after another
 abbrev pub pluses_of : NormalForm → ℕ → List PlainTree → List Elements

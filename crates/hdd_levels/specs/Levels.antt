@@ -18,7 +18,8 @@ abbrev pub deletable_children : NormalForm → PlainTree → List PlainTree
 deletable_children N (PlainTree.leaf n k i) = []
 deletable_children N (PlainTree.node n r a ts) = if loses_children N r then with_leaves ts else []
 
--- The deletable nodes and leaves of a depth, from left to right. The root has depth 0 and isn't deletable; those of each other depth are among the children of what is one level higher.
+-- The deletable nodes and leaves of a depth, from left to right. The root has depth 0 and isn't
+-- deletable; those of each other depth are among the children of what is one level higher.
 abbrev pub deletable_at : NormalForm → ℕ → PlainTree → List PlainTree
 deletable_at N zero t = []
 deletable_at N (suc d) t = flat_map (deletable_children N) (at_depth d t)

@@ -1,7 +1,8 @@
 //! What follows of levels. Each law is a function that does nothing: a caller calls it so that its
 //! proof has the law.
 
-ghost use Rattle.hdd_levels.specs.Laws.{HigherNodesStay, KeepingAllKeepsTree, KeptTreesAreLeft, KeptTreesAreTrees, SingleDeletionsAreOfLevels, ValidTreesFillPluses};
+ghost use Rattle.hdd_levels.specs.Laws.{HigherNodesStay, KeepingAllKeepsTree, KeptTreesAreLeft, KeptTreesAreTrees};
+ghost use Rattle.hdd_levels.specs.Laws.{SingleDeletionsAreOfLevels, ValidTreesFillPluses};
 
 /// Where all nodes are kept the tree is the same.
 pub fn keeping_all_keeps_tree()

@@ -84,7 +84,8 @@ impl LevelNodes {
     pub fn next(&self, alloc: Global, tree: &Tree, cut: &Cut) -> Result<Option<LevelNodes>, Memory>
         requires of { IsCutOf tree.now cut.now }
         requires parents { (d : ℕ) × (self.now.parents ≡ parents_at d (cut_tree tree.now cut.now)) }
-        ensures { IfOk result (λ next. (d : ℕ) → self.now.parents ≡ parents_at d (cut_tree tree.now cut.now) → IsLevelIfDeep tree.now.form (cut_tree tree.now cut.now) (suc d) next) }
+        ensures { IfOk result (λ next. (d : ℕ) → self.now.parents ≡ parents_at d (cut_tree tree.now cut.now)
+            → IsLevelIfDeep tree.now.form (cut_tree tree.now cut.now) (suc d) next) }
     {
         let _nodes = tree.nodes();
         let parents = self.own_nodes(alloc, tree, cut)?;
@@ -113,7 +114,8 @@ impl LevelNodes {
     fn own_nodes(&self, alloc: Global, tree: &Tree, cut: &Cut) -> Result<Vec<u32>, Memory>
         requires of { IsCutOf tree.now cut.now }
         requires parents { (d : ℕ) × (self.now.parents ≡ parents_at d (cut_tree tree.now cut.now)) }
-        ensures { IfOk result (λ nodes. (d : ℕ) → self.now.parents ≡ parents_at d (cut_tree tree.now cut.now) → nodes.items ≡ map number_of (at_depth d (cut_tree tree.now cut.now))) }
+        ensures { IfOk result (λ nodes. (d : ℕ) → self.now.parents ≡ parents_at d (cut_tree tree.now cut.now)
+            → nodes.items ≡ map number_of (at_depth d (cut_tree tree.now cut.now))) }
     {
         let _nodes = tree.nodes();
         match &self.parents {
@@ -133,8 +135,10 @@ impl LevelNodes {
         requires of { IsCutOf tree.now cut.now }
         requires parents { (ts : List PlainTree) × AreNodesIn (cut_tree tree.now cut.now) parents.items ts }
         ensures parents { IfOk result (λ l. l.parents ≡ Some parents.items) }
-        ensures nodes { IfOk result (λ l. (ts : List PlainTree) → AreNodesIn (cut_tree tree.now cut.now) parents.items ts → l.nodes ≡ map number_of (flat_map (deletable_children tree.now.form) ts)) }
-        ensures pluses { IfOk result (λ l. (ts : List PlainTree) → AreNodesIn (cut_tree tree.now cut.now) parents.items ts → l.pluses ≡ pluses_of tree.now.form 0 ts) }
+        ensures nodes { IfOk result (λ l. (ts : List PlainTree) → AreNodesIn (cut_tree tree.now cut.now) parents.items ts
+            → l.nodes ≡ map number_of (flat_map (deletable_children tree.now.form) ts)) }
+        ensures pluses { IfOk result (λ l. (ts : List PlainTree) → AreNodesIn (cut_tree tree.now cut.now) parents.items ts
+            → l.pluses ≡ pluses_of tree.now.form 0 ts) }
     {
         let mut nodes = Vec::new(alloc);
         let mut pluses = Vec::new(alloc);

@@ -24,7 +24,8 @@ pub(crate) fn children_of_nodes(
 ) -> Result<Vec<u32>, Memory>
     requires of { IsCutOf tree.now cut.now }
     requires nodes { (ts : List PlainTree) × AreNodesIn (cut_tree tree.now cut.now) nodes.now ts }
-    ensures { IfOk result (λ found. (ts : List PlainTree) → AreNodesIn (cut_tree tree.now cut.now) nodes.now ts → found.items ≡ map number_of (children_of_each ts)) }
+    ensures { IfOk result (λ found. (ts : List PlainTree) → AreNodesIn (cut_tree tree.now cut.now) nodes.now ts
+        → found.items ≡ map number_of (children_of_each ts)) }
 {
     let mut found = Vec::new(alloc);
     for node in nodes {
@@ -45,8 +46,10 @@ pub(crate) fn push_deletable(
 ) -> Result<(), Memory>
     requires of { IsCutOf tree.now cut.now }
     requires left { IsSome (subtree node (cut_tree tree.now cut.now)) }
-    ensures nodes { OnOk result ((u : PlainTree) → subtree node (cut_tree tree.now cut.now) ≡ Some u → into.new.items ≡ into.old.items ++ map number_of (deletable_children tree.now.form u)) }
-    ensures pluses { OnOk result ((u : PlainTree) → subtree node (cut_tree tree.now cut.now) ≡ Some u → pluses.new.items ≡ pluses.old.items ++ plus_of tree.now.form (length into.old.items) u) }
+    ensures nodes { OnOk result ((u : PlainTree) → subtree node (cut_tree tree.now cut.now) ≡ Some u
+        → into.new.items ≡ into.old.items ++ map number_of (deletable_children tree.now.form u)) }
+    ensures pluses { OnOk result ((u : PlainTree) → subtree node (cut_tree tree.now cut.now) ≡ Some u
+        → pluses.new.items ≡ pluses.old.items ++ plus_of tree.now.form (length into.old.items) u) }
 {
     let _nodes = tree.nodes();
     let shape = cut.shape(tree, node);
@@ -76,7 +79,8 @@ fn push_with_tokens(
 ) -> Result<(), Memory>
     requires of { IsCutOf tree.now cut.now }
     requires nodes { (ts : List PlainTree) × AreNodesIn (cut_tree tree.now cut.now) nodes.now ts }
-    ensures { OnOk result ((ts : List PlainTree) → AreNodesIn (cut_tree tree.now cut.now) nodes.now ts → into.new.items ≡ into.old.items ++ map number_of (with_leaves_in ts)) }
+    ensures { OnOk result ((ts : List PlainTree) → AreNodesIn (cut_tree tree.now cut.now) nodes.now ts
+        → into.new.items ≡ into.old.items ++ map number_of (with_leaves_in ts)) }
 {
     for node in nodes {
         if has_token(tree, cut, *node) {

@@ -44,4 +44,6 @@ without gone stay tree = filter (λ (node : LeftNode). is_among stay node.number
 
 -- the node with this number has the position of another one: it is below the same node, in the same slot
 abbrev pub put_at : LeftNode → ℕ → LeftNode → LeftNode
-put_at position number node = if nat_eq node.number number then record { number = node.number; symbol = node.symbol; slot = position.slot; parent = position.parent; token = node.token } else node
+put_at position number node =
+    if nat_eq node.number number then record { number = node.number; symbol = node.symbol; slot = position.slot; parent = position.parent; token = node.token }
+    else node

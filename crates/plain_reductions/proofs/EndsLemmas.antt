@@ -16,8 +16,10 @@ use Rattle.plain_reductions.specs.Found.{IsFound}
 use Rattle.plain_reductions.specs.RoundsOf.{rounds_of}
 use Rattle.plain_reductions.specs.Ends.{EndsAs}
 
-ends_as : (grammar : CheckedGrammar) (text : List ℕ) (mode : Mode) (squeezes : Bool) (verdicts : List ℕ → Option Verdict) (result : StepResult) (found : ParsedInput) (input : TreeInput)
-    → IsFound found → MakesInputOf grammar text found → ((formed : IsWellFormed found.lexer.grammar found.lexer.start) → input ≡ tree_input found formed (keeps_admit []) squeezes)
+ends_as : (grammar : CheckedGrammar) (text : List ℕ) (mode : Mode) (squeezes : Bool) (verdicts : List ℕ → Option Verdict) (result : StepResult)
+    (found : ParsedInput) (input : TreeInput)
+    → IsFound found → MakesInputOf grammar text found
+    → ((formed : IsWellFormed found.lexer.grammar found.lexer.start) → input ≡ tree_input found formed (keeps_admit []) squeezes)
     → follow verdicts (plan_first (rounds_of mode input)) ≡ End result → EndsAs grammar text mode squeezes verdicts result
 ends_as grammar text mode squeezes verdicts result found input is makes made ends =
     let formed = is.checked.well_formed in
@@ -30,9 +32,13 @@ ends_as grammar text mode squeezes verdicts result found input is makes made end
     }
 
 -- where both reducers agree in the mode, it ends so
-pub agreed : {E : Type 0} (grammar : CheckedGrammar) (text : List ℕ) (mode : Mode) (squeezes : Bool) (verdicts : List ℕ → Option Verdict) (result : StepResult) (found : ParsedInput) (input : TreeInput) (answer : Result Bool E)
-    → IsFound found → MakesInputOf grammar text found → ((formed : IsWellFormed found.lexer.grammar found.lexer.start) → input ≡ tree_input found formed (keeps_admit []) squeezes)
-    → IfOk answer (λ same. IsTrue same → follow verdicts (plan_first (rounds_of mode input)) ≡ End result) → IfOk answer (λ same. IsTrue same → EndsAs grammar text mode squeezes verdicts result)
+pub agreed : {E : Type 0} (grammar : CheckedGrammar) (text : List ℕ) (mode : Mode) (squeezes : Bool) (verdicts : List ℕ → Option Verdict) (result : StepResult)
+    (found : ParsedInput) (input : TreeInput) (answer : Result Bool E)
+    → IsFound found → MakesInputOf grammar text
+    found → ((formed : IsWellFormed found.lexer.grammar found.lexer.start) → input ≡ tree_input found formed (keeps_admit []) squeezes)
+    → IfOk answer (λ same. IsTrue same → follow verdicts (plan_first (rounds_of mode input)) ≡ End result)
+    → IfOk answer (λ same. IsTrue same → EndsAs grammar text mode squeezes verdicts result)
 agreed grammar text mode squeezes verdicts result found input answer is makes made ends =
-    IfOk-weaker answer (λ same. IsTrue same → follow verdicts (plan_first (rounds_of mode input)) ≡ End result) (λ same. IsTrue same → EndsAs grammar text mode squeezes verdicts result)
+    IfOk-weaker answer (λ same. IsTrue same → follow verdicts (plan_first (rounds_of mode input)) ≡ End result)
+    (λ same. IsTrue same → EndsAs grammar text mode squeezes verdicts result)
     (λ same at_yes yes. ends_as grammar text mode squeezes verdicts result found input is makes made (at_yes yes)) ends

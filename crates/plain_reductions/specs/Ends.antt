@@ -11,7 +11,8 @@ use Rattle.plain_reducer.specs.declared.reduction.Mode.{Mode}
 use Rattle.plain_reductions.specs.RoundsOf.{rounds_of}
 
 -- The reduction of this text by this grammar in this mode, where each candidate is admitted, ends so over these verdicts.
-pub record EndsAs (grammar : CheckedGrammar) (text : List ℕ) (mode : Mode) (squeezes : Bool) (verdicts : List ℕ → Option Verdict) (result : StepResult) : Type 0 where
+pub record EndsAs (grammar : CheckedGrammar) (text : List ℕ) (mode : Mode) (squeezes : Bool) (verdicts : List ℕ → Option Verdict)
+    (result : StepResult) : Type 0 where
   pub input : TreeInput
   pub of_text : IsInputOf grammar text input
   pub all_admitted : input.admits ≡ keeps_admit []

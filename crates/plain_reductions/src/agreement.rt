@@ -62,7 +62,9 @@ fn is_perses<F: Relation>(
     rule: VerdictRule,
     plain: &Reduction,
 ) -> Result<bool, Memory>
-    ensures { IfOk result (λ same. IsTrue same → follow (verdicts_by rule.entry.start.now rule.entry.seed) (plan_first (perses_mode (⟦<TreeParts<F> as HasInput>⟧.input parts.now))) ≡ End (result_of plain.now)) }
+    ensures { IfOk result (λ same. IsTrue same
+        → follow (verdicts_by rule.entry.start.now rule.entry.seed) (plan_first (perses_mode (⟦<TreeParts<F> as HasInput>⟧.input parts.now))) ≡ End
+        (result_of plain.now)) }
 {
     let mut reducer = perses_reducer(alloc, parts)?;
     goes_the_same(&mut reducer, rule, plain)
@@ -75,7 +77,9 @@ fn is_hdd<F: Relation>(
     rule: VerdictRule,
     plain: &Reduction,
 ) -> Result<bool, Memory>
-    ensures { IfOk result (λ same. IsTrue same → follow (verdicts_by rule.entry.start.now rule.entry.seed) (plan_first (hdd_mode (⟦<TreeParts<F> as HasInput>⟧.input parts.now))) ≡ End (result_of plain.now)) }
+    ensures { IfOk result (λ same. IsTrue same
+        → follow (verdicts_by rule.entry.start.now rule.entry.seed) (plan_first (hdd_mode (⟦<TreeParts<F> as HasInput>⟧.input parts.now))) ≡ End
+        (result_of plain.now)) }
 {
     let mut reducer = hdd_reducer(alloc, parts)?;
     goes_the_same(&mut reducer, rule, plain)
@@ -90,7 +94,9 @@ pub fn agrees_with_plain<F: Relation>(
     rule: VerdictRule,
     plain: &Reduction,
 ) -> Result<bool, Memory>
-    ensures { IfOk result (λ same. IsTrue same → follow (verdicts_by rule.entry.start.now rule.entry.seed) (plan_first (rounds_of mode (⟦<TreeParts<F> as HasInput>⟧.input parts.now))) ≡ End (result_of plain.now)) }
+    ensures { IfOk result (λ same. IsTrue same
+        → follow (verdicts_by rule.entry.start.now rule.entry.seed) (plan_first (rounds_of mode (⟦<TreeParts<F> as HasInput>⟧.input parts.now))) ≡ End
+        (result_of plain.now)) }
 {
     match mode {
         Mode::Perses => is_perses(alloc, parts, rule, plain),

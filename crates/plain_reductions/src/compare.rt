@@ -64,7 +64,9 @@ fn plain_reduction(
 
 /// Whether the reducer does what the plain one did.
 fn agrees(alloc: Global, case: Case, rule: VerdictRule, plain: &Reduction) -> Result<bool, Memory>
-    ensures { IfOk result (λ same. IsTrue same → EndsAs case.entry.grammar.now case.entry.start.now case.entry.mode case.entry.squeezes (verdicts_by rule.entry.start.now rule.entry.seed) (result_of plain.now)) }
+    ensures { IfOk result (λ same. IsTrue same
+        → EndsAs case.entry.grammar.now case.entry.start.now case.entry.mode case.entry.squeezes (verdicts_by rule.entry.start.now rule.entry.seed)
+        (result_of plain.now)) }
 {
     let Some(found) = found(alloc, case.grammar, case.start)? else {
         return Ok(false);

@@ -26,15 +26,18 @@ use test_grammars::checked;
 
 /// Statements with nested blocks and expressions.
 const STATEMENTS: &str =
-    "grammar Statements; file : stmt* EOF ; stmt : ID '=' expr ';' | '{' stmt* '}' ; expr : expr '+' expr | '(' expr ')' | ID | INT ; ID : [a-z]+ ; INT : [0-9]+ ; WS : [ \\n]+ -> skip ;";
+    "grammar Statements; file : stmt* EOF ; stmt : ID '=' expr ';' | '{' stmt* '}' ; expr : expr '+' expr | '(' expr ')' | ID | INT ; ID : [a-z]+ ; INT : \
+    [0-9]+ ; WS : [ \\n]+ -> skip ;";
 
 /// Lists with optional parts.
 const LISTS: &str =
-    "grammar Lists; file : list EOF ; list : '[' body? ']' ; body : item? (',' item?)* ; item : list | ID | NUM ; ID : [a-z]+ ; NUM : [0-9]+ ; WS : [ \\n]+ -> skip ;";
+    "grammar Lists; file : list EOF ; list : '[' body? ']' ; body : item? (',' item?)* ; item : list | ID | NUM ; ID : [a-z]+ ; NUM : [0-9]+ ; WS : [ \\n]+ \
+    -> skip ;";
 
 /// Sets of kinds, lists of at least one, and rules of one symbol alone.
 const SETS: &str =
-    "grammar Sets; file : row+ EOF ; row : '<' cell+ '>' | 'if' row ('else' row)? | value ';' ; cell : ~('<' | '>' | ';' | '(' | ')') | '(' cell+ ')' | pair ; pair : value ':' value ; value : '[' value+ ']' | atom ; atom : ID | NUM ; ID : [a-z]+ ; NUM : [0-9]+ ; WS : [ \\n]+ -> skip ;";
+    "grammar Sets; file : row+ EOF ; row : '<' cell+ '>' | 'if' row ('else' row)? | value ';' ; cell : ~('<' | '>' | ';' | '(' | ')') | '(' cell+ ')' | pair \
+    ; pair : value ':' value ; value : '[' value+ ']' | atom ; atom : ID | NUM ; ID : [a-z]+ ; NUM : [0-9]+ ; WS : [ \\n]+ -> skip ;";
 
 /// The grammar of this name.
 fn grammar_named(name: &str) -> Option<&'static str> {

@@ -54,7 +54,8 @@ pub(crate) fn tree_parts<'a>(
     squeezes: bool,
 ) -> Result<TreeParts<KeepTexts<'a>>, Memory>
     requires { IsFound found }
-    ensures { IfOk result (λ parts. (formed : IsWellFormed found.lexer.grammar found.lexer.start) → ⟦<TreeParts<KeepTexts<'a>> as HasInput>⟧.input parts ≡ tree_input found formed (keeps_admit []) squeezes) }
+    ensures { IfOk result (λ parts. (formed : IsWellFormed found.lexer.grammar found.lexer.start)
+        → ⟦<TreeParts<KeepTexts<'a>> as HasInput>⟧.input parts ≡ tree_input found formed (keeps_admit []) squeezes) }
 {
     let compat = compat(alloc, found.tree.normal())?;
     let guard = Guard::new(KeepTexts::new(alloc));

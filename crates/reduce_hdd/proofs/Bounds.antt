@@ -7,7 +7,8 @@ use Rattle.std.proofs.lemmas.List.Concat.{flat_map-append}
 use Rattle.normal_form.specs.Form.{NormalForm}
 use Rattle.syntax_tree.specs.Trees.{PlainTree, PlainTrees, children_of, size, size_all, weight}
 use Rattle.syntax_tree.specs.Numbered.{number_of}
-use Rattle.syntax_tree.specs.Left.{AreRemaindersOf, IsRemainderOf, IsRemainderOfSome, below_left, kept, leaf_left, left_out, node_left, none_left, of_first, of_later}
+use Rattle.syntax_tree.specs.Left.{AreRemaindersOf, IsRemainderOf, IsRemainderOfSome, below_left, kept}
+use Rattle.syntax_tree.specs.Left.{leaf_left, left_out, node_left, none_left, of_first, of_later}
 use Rattle.syntax_tree.specs.Nodes.{AreNodesOf, SyntaxTree, whole}
 use Rattle.syntax_tree.specs.Levels.{at_depth, at_depth_all, depth, height}
 use Rattle.syntax_tree.proofs.Lent.{as_many}
@@ -69,7 +70,8 @@ module _ (N : NormalForm) where
     few_at zero (PlainTree.leaf n k i) = omega arith
     few_at zero (PlainTree.node n r a ts) =
         let few = few_children (PlainTree.node n r a ts) in
-        let same : length (deletable_children N (PlainTree.node n r a ts) ++ []) ≡ length (deletable_children N (PlainTree.node n r a ts)) + 0 = length-append (deletable_children N (PlainTree.node n r a ts)) [] in
+        let same : length (deletable_children N (PlainTree.node n r a ts) ++ []) ≡ length (deletable_children N (PlainTree.node n r a ts)) + 0 =
+        length-append (deletable_children N (PlainTree.node n r a ts)) [] in
         omega (arith, few, same)
     few_at (suc d) (PlainTree.leaf n k i) = omega arith
     few_at (suc d) (PlainTree.node n r a ts) = let few = few_at_all d ts in omega (arith, few)
@@ -79,7 +81,9 @@ module _ (N : NormalForm) where
     few_at_all d (PlainTrees.next t ts) =
         let one = few_at d t in
         let more = few_at_all d ts in
-        let both = ap length (flat_map-append (deletable_children N) (at_depth d t) (at_depth_all d ts)) ∙ length-append (flat_map (deletable_children N) (at_depth d t)) (flat_map (deletable_children N) (at_depth_all d ts)) in
+        let both =
+        ap length (flat_map-append (deletable_children N) (at_depth d t) (at_depth_all d ts))
+        ∙ length-append (flat_map (deletable_children N) (at_depth d t)) (flat_map (deletable_children N) (at_depth_all d ts)) in
         omega (arith, one, more, both)
 
   few_deletable : (d : ℕ) (t : PlainTree) → length (deletable_at N d t) ≤ size t
@@ -94,7 +98,8 @@ module _ (N : NormalForm) where
       omega (arith, few, less, same)
 
 -- the parsed tree has fewer nodes than numbers of 32 bits
-module _ (tree : SyntaxTree) (are : AreNodesOf tree.form tree.start tree.nodes (whole tree)) (c : CutForm) (of : IsCutOf tree c) (few : length tree.nodes < 2 ^ 32) where
+module _ (tree : SyntaxTree) (are : AreNodesOf tree.form tree.start tree.nodes (whole tree)) (c : CutForm) (of : IsCutOf tree c)
+    (few : length tree.nodes < 2 ^ 32) where
   nodes_size : length tree.nodes ≡ size (whole tree)
   nodes_size = ap length are.are ∙ as_many tree.form tree.start None 0 (whole tree) are.whole.valid
 

@@ -32,15 +32,18 @@ pub nothing_deeper : (N : NormalForm) (t : PlainTree) (d : ℕ) → is_so_deep d
 nothing_deeper N t d e =
     ap (allowed_trials (fills_pluses N)) (goes_by_levels N d t ∙ cond-false (is_so_deep d t) (level_tried (λ u. levels_from N (suc d) u) N d t) Done e)
 
-pub descent_ends : (N : NormalForm) (t : PlainTree) (from d : ℕ) (above : LevelForm) → IsDescending N t from above d → is_so_deep (suc d) t ≡ false → Done ≡ levels_below N (suc from) t
+pub descent_ends : (N : NormalForm) (t : PlainTree) (from d : ℕ) (above : LevelForm) → IsDescending N t from above d → is_so_deep (suc d) t ≡ false
+    → Done ≡ levels_below N (suc from) t
 descent_ends N t from d above so e = sym (nothing_deeper N t (suc d) e) ∙ so.rest
 
-module _ (all : KeepingAllKeepsTree) (valid : ValidTreesFillPluses) (N : NormalForm) (symbol : Sym) (t : PlainTree) (fits : IsValid N symbol t) (d : ℕ) (l : LevelForm) (is : IsLevelAt N t d l) where
+module _ (all : KeepingAllKeepsTree) (valid : ValidTreesFillPluses) (N : NormalForm) (symbol : Sym) (t : PlainTree) (fits : IsValid N symbol t) (d : ℕ)
+    (l : LevelForm) (is : IsLevelAt N t d l) where
   -- the list step of a level, with the levels below
   begun_trials : allowed_from N t l.nodes (λ u. levels_from N (suc d) u) (start (length l.nodes) true) ≡ levels_below N d t
   begun_trials =
       ap (λ nodes. allowed_from N t nodes (λ u. levels_from N (suc d) u) (start (length nodes) true)) is.nodes
-      ∙ sym (ap (allowed_trials (fills_pluses N)) (goes_by_levels N d t ∙ cond-true (is_so_deep d t) (level_tried (λ u. levels_from N (suc d) u) N d t) Done is.deep))
+      ∙ sym (ap (allowed_trials (fills_pluses N))
+      (goes_by_levels N d t ∙ cond-true (is_so_deep d t) (level_tried (λ u. levels_from N (suc d) u) N d t) Done is.deep))
 
   module _ (step : State) (asking : Bool) (so : HasPassed N t l.nodes (start (length l.nodes) true) step asking) where
     -- nothing is deleted yet
@@ -72,21 +75,26 @@ pub root_rest : KeepingAllKeepsTree → (N : NormalForm) (t : PlainTree) → lev
 root_rest all N t =
     ap (levels_below N 1) (sym (all [] t))
     ∙ sym (goes_on_at_end N t [] (λ u. levels_from N 1 u) (start 0 true) refl)
-    ∙ sym (ap (allowed_trials (fills_pluses N)) (goes_by_levels N 0 t ∙ cond-true (is_so_deep 0 t) (level_tried (λ u. levels_from N 1 u) N 0 t) Done (le-leb 0 (depth t) (omega arith))))
+    ∙ sym (ap (allowed_trials (fills_pluses N))
+    (goes_by_levels N 0 t ∙ cond-true (is_so_deep 0 t) (level_tried (λ u. levels_from N 1 u) N 0 t) Done (le-leb 0 (depth t) (omega arith))))
 
 -- the next level, as it is found
-pub at_next : (N : NormalForm) (t : PlainTree) (d : ℕ) (found : Option LevelForm) (l : LevelForm) → IsLevelIfDeep N t (suc d) found → found ≡ Some l → IsLevelAt N t (d + 1) l
+pub at_next : (N : NormalForm) (t : PlainTree) (d : ℕ) (found : Option LevelForm) (l : LevelForm) → IsLevelIfDeep N t (suc d) found → found ≡ Some l
+    → IsLevelAt N t (d + 1) l
 at_next N t d found l next is = let one : suc d ≡ d + 1 = omega arith in subst (λ (n : ℕ). IsLevelAt N t n l) one (subst (IsLevelIfDeep N t (suc d)) is next)
 
-pub none_next : (N : NormalForm) (t : PlainTree) (d : ℕ) (found : Option LevelForm) → IsLevelIfDeep N t (suc d) found → found ≡ None → is_so_deep (suc d) t ≡ false
+pub none_next : (N : NormalForm) (t : PlainTree) (d : ℕ) (found : Option LevelForm) → IsLevelIfDeep N t (suc d) found → found ≡ None
+    → is_so_deep (suc d) t ≡ false
 none_next N t d found next is = subst (IsLevelIfDeep N t (suc d)) is next
 
 -- the levels from the next one on
-pub next_rest : (N : NormalForm) (t : PlainTree) (from d : ℕ) (above : LevelForm) → IsDescending N t from above d → levels_below N (d + 1) t ≡ levels_below N (suc from) t
+pub next_rest : (N : NormalForm) (t : PlainTree) (from d : ℕ) (above : LevelForm) → IsDescending N t from above d
+    → levels_below N (d + 1) t ≡ levels_below N (suc from) t
 next_rest N t from d above so = let one : d + 1 ≡ suc d = omega arith in ap (λ n. levels_below N n t) one ∙ so.rest
 
 -- they go on below one that asks nothing
-pub descent_goes_on : (N : NormalForm) (t : PlainTree) (from d : ℕ) (above l : LevelForm) → IsDescending N t from above d → IsLevelAt N t (d + 1) l → levels_below N (suc (d + 1)) t ≡ levels_below N (d + 1) t → IsDescending N t from l (d + 1)
+pub descent_goes_on : (N : NormalForm) (t : PlainTree) (from d : ℕ) (above l : LevelForm) → IsDescending N t from above d → IsLevelAt N t (d + 1) l
+    → levels_below N (suc (d + 1)) t ≡ levels_below N (d + 1) t → IsDescending N t from l (d + 1)
 descent_goes_on N t from d above l so is same = record { parents = is.parents; rest = same ∙ next_rest N t from d above so }
 
 -- fewer levels are below

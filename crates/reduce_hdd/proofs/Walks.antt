@@ -17,14 +17,16 @@ use Rattle.reduce_hdd.specs.inner.Walking.{AreLevels, IsWalking, trials_within}
 use Rattle.reduce_hdd.proofs.Steps.{not_done, tried_kept}
 
 -- whether nothing more is tried
-pub over_is : (N : NormalForm) (t : PlainTree) (step : Option LevelStep) (over : Bool) → IsWalking N t step → is_some step ≡ not over → over ≡ is_done (trials_within N t step)
+pub over_is : (N : NormalForm) (t : PlainTree) (step : Option LevelStep) (over : Bool) → IsWalking N t step → is_some step ≡ not over
+    → over ≡ is_done (trials_within N t step)
 over_is N t None true is e = refl
 over_is N t None false is e = absurd (let no : false ≡ true = e in cc)
 over_is N t (Some s) true is e = absurd (let no : true ≡ false = e in cc)
 over_is N t (Some s) false is e = sym (not_done N t s is)
 
 -- what is tried is kept
-pub walks_keep : KeptTreesAreTrees → KeptTreesAreLeft → LeftIsTransitive → (tree : SyntaxTree) (cut : CutForm) (step : Option LevelStep) → AreLevels tree cut step → NumbersRise (cut_tree tree cut) →
+pub walks_keep : KeptTreesAreTrees → KeptTreesAreLeft → LeftIsTransitive → (tree : SyntaxTree) (cut : CutForm) (step : Option LevelStep)
+    → AreLevels tree cut step → NumbersRise (cut_tree tree cut) →
     (u : PlainTree) → tried_state (trials_within tree.form (cut_tree tree cut) step) ≡ Some u → IsTreeFor tree.form tree.start u × IsRemainderOf (whole tree) u
 walks_keep trees left both tree cut None are rise u e = absurd (none-some u e)
 walks_keep trees left both tree cut (Some s) are rise u e =

@@ -29,7 +29,8 @@ pub(crate) fn descend(
 ) -> Result<Option<LevelStep>, Memory>
     requires of { IsCutOf tree.now cut.now }
     requires above { above.parents ≡ parents_at depth (cut_tree tree.now cut.now) }
-    ensures rest { IfOk result (λ next. trials_within tree.now.form (cut_tree tree.now cut.now) next ≡ levels_below tree.now.form (suc depth) (cut_tree tree.now cut.now)) }
+    ensures rest { IfOk result (λ next. trials_within tree.now.form (cut_tree tree.now cut.now) next ≡ levels_below tree.now.form (suc depth)
+        (cut_tree tree.now cut.now)) }
     ensures left { IfOk result (λ next. tree_left (cut_tree tree.now cut.now) next ≡ cut_tree tree.now cut.now) }
     ensures walking { IfOk result (λ next. IsWalking tree.now.form (cut_tree tree.now cut.now) next) }
 {
@@ -76,8 +77,10 @@ pub(crate) fn after_answer(
     requires of { IsCutOf tree.now cut.old }
     requires step { IsAskingStep tree.now.form (cut_tree tree.now cut.old) step }
     ensures of { IsCutOf tree.now cut.new }
-    ensures rest { IfOk result (λ next. trials_within tree.now.form (cut_tree tree.now cut.new) next ≡ trials_after (step_trials tree.now.form (cut_tree tree.now cut.old) step) yes) }
-    ensures left { IfOk result (λ next. tree_left (cut_tree tree.now cut.new) next ≡ state_after (step_left (cut_tree tree.now cut.old) step) (step_trials tree.now.form (cut_tree tree.now cut.old) step) yes) }
+    ensures rest { IfOk result (λ next. trials_within tree.now.form (cut_tree tree.now cut.new) next ≡ trials_after
+        (step_trials tree.now.form (cut_tree tree.now cut.old) step) yes) }
+    ensures left { IfOk result (λ next. tree_left (cut_tree tree.now cut.new) next ≡ state_after (step_left (cut_tree tree.now cut.old) step)
+        (step_trials tree.now.form (cut_tree tree.now cut.old) step) yes) }
     ensures walking { IfOk result (λ next. IsWalking tree.now.form (cut_tree tree.now cut.new) next) }
 {
     let _nodes = tree.nodes();

@@ -11,7 +11,8 @@ use Rattle.reduce_rounds.specs.ByTrials.{trials_end}
 use Rattle.reduce_list_trials.specs.ListTrials.{list_trials}
 use Rattle.reduce_list_trials.specs.Selections.{IsRemainder, IsSelection}
 use Rattle.reduce_list_trials.specs.inner.Selections.{IsRemainderAt, IsSelectionAt}
-use Rattle.reduce_list_trials.proofs.Lent.{at_end, at_question, by_steps, kept_at_no, kept_at_yes, remainder-after, remainder-start, selection-after, selection-asked, selection-start}
+use Rattle.reduce_list_trials.proofs.Lent.{at_end, at_question, by_steps, kept_at_no, kept_at_yes, remainder-after}
+use Rattle.reduce_list_trials.proofs.Lent.{remainder-start, selection-after, selection-asked, selection-start}
 use Rattle.reduce_hdd_trials.specs.Allowed.{allowed_trials}
 use Rattle.reduce_hdd_trials.specs.Followed.{with_allowed}
 
@@ -39,7 +40,8 @@ module _ {T : Type 0} (test : T → Bool) where
       let at_no = allowed_tried z state is later in
       by_test (test other) at_no
     where
-      by_test : (b : Bool) → IsTriedAtNo (allowed_trials test z) state → IsTriedAtNo (cond b (Try other (allowed_trials test y) (allowed_trials test z)) (allowed_trials test z)) state
+      by_test : (b : Bool) → IsTriedAtNo (allowed_trials test z) state
+          → IsTriedAtNo (cond b (Try other (allowed_trials test y) (allowed_trials test z)) (allowed_trials test z)) state
       by_test true at_no = inr at_no
       by_test false at_no = at_no
 
@@ -48,20 +50,25 @@ module _ {T : Type 0} (test : T → Bool) where
       trials_end texts verdict state (allowed_trials test trials) ≡ trials_end (with_allowed test texts) verdict state trials
   allowed_end texts verdict state Done = refl
   allowed_end texts verdict state (Try other y z) =
-      let at_yes : trials_end texts verdict other (allowed_trials test y) ≡ trials_end (with_allowed test texts) verdict other y = allowed_end texts verdict other y in
-      let at_no : trials_end texts verdict state (allowed_trials test z) ≡ trials_end (with_allowed test texts) verdict state z = allowed_end texts verdict state z in
+      let at_yes : trials_end texts verdict other (allowed_trials test y) ≡ trials_end (with_allowed test texts) verdict other y =
+      allowed_end texts verdict other y in
+      let at_no : trials_end texts verdict state (allowed_trials test z) ≡ trials_end (with_allowed test texts) verdict state z =
+      allowed_end texts verdict state z in
       by_listed (test other)
-      (λ i. cond (texts.is_listed other) (after_question (texts.text other) (cond (verdict (texts.text other)) (after_yes (at_yes i)) (at_no i))) (at_no i)) at_no
+      (λ i. cond (texts.is_listed other) (after_question (texts.text other) (cond (verdict (texts.text other)) (after_yes (at_yes i)) (at_no i))) (at_no i))
+      at_no
     where
       by_listed : (b : Bool) →
           trials_end texts verdict state (Try other (allowed_trials test y) (allowed_trials test z))
           ≡ cond (texts.is_listed other)
-          (after_question (texts.text other) (cond (verdict (texts.text other)) (after_yes (trials_end (with_allowed test texts) verdict other y)) (trials_end (with_allowed test texts) verdict state z)))
+          (after_question (texts.text other) (cond (verdict (texts.text other)) (after_yes (trials_end (with_allowed test texts) verdict other y))
+          (trials_end (with_allowed test texts) verdict state z)))
           (trials_end (with_allowed test texts) verdict state z) →
           trials_end texts verdict state (allowed_trials test z) ≡ trials_end (with_allowed test texts) verdict state z →
           trials_end texts verdict state (cond b (Try other (allowed_trials test y) (allowed_trials test z)) (allowed_trials test z))
           ≡ cond (b && texts.is_listed other)
-          (after_question (texts.text other) (cond (verdict (texts.text other)) (after_yes (trials_end (with_allowed test texts) verdict other y)) (trials_end (with_allowed test texts) verdict state z)))
+          (after_question (texts.text other) (cond (verdict (texts.text other))
+          (after_yes (trials_end (with_allowed test texts) verdict other y)) (trials_end (with_allowed test texts) verdict state z)))
           (trials_end (with_allowed test texts) verdict state z)
       by_listed true first second = first
       by_listed false first second = second
@@ -70,12 +77,15 @@ module _ {T : Type 0} (test : T → Bool) where
   module _ (state_of : List Bool → T) (next : List Bool → Trials T) where
     pub allowed_question : (step : State) (question : List Bool) → IsSound step → asks step ≡ Some question → test (state_of question) ≡ true →
         allowed_trials test (list_trials state_of next step)
-        ≡ Try (state_of question) (allowed_trials test (list_trials state_of next (after step true))) (allowed_trials test (list_trials state_of next (after step false)))
-    allowed_question step question sound is may = ap (allowed_trials test) (at_question state_of next step question sound is) ∙ cond-true (test (state_of question)) _ _ may
+        ≡ Try (state_of question) (allowed_trials test (list_trials state_of next (after step true)))
+        (allowed_trials test (list_trials state_of next (after step false)))
+    allowed_question step question sound is may =
+        ap (allowed_trials test) (at_question state_of next step question sound is) ∙ cond-true (test (state_of question)) _ _ may
 
     pub passed_question : (step : State) (question : List Bool) → IsSound step → asks step ≡ Some question → test (state_of question) ≡ false →
         allowed_trials test (list_trials state_of next step) ≡ allowed_trials test (list_trials state_of next (after step false))
-    passed_question step question sound is not_may = ap (allowed_trials test) (at_question state_of next step question sound is) ∙ cond-false (test (state_of question)) _ _ not_may
+    passed_question step question sound is not_may =
+        ap (allowed_trials test) (at_question state_of next step question sound is) ∙ cond-false (test (state_of question)) _ _ not_may
 
   -- What may be tried of a list step has P, where the states of selections have it that may be tried, and all that is tried from remainders that may.
   module _ (P : T → Type 0) (state_of : List Bool → T) (next : List Bool → Trials T) where
@@ -88,19 +98,24 @@ module _ {T : Type 0} (test : T → Bool) where
     allowed_from =
         by_steps AllowedFrom
         (λ step sound none. record {
-          all = λ tried ends may. subst (λ trials. AllTried P (allowed_trials test trials)) (sym (at_end state_of next step none)) (ends (kept step) (inl refl) may);
+          all =
+              λ tried ends may. subst (λ trials. AllTried P (allowed_trials test trials)) (sym (at_end state_of next step none))
+              (ends (kept step) (inl refl) may);
         })
         (λ step question sound is at_yes at_no. record {
           all = λ tried ends may.
               let no = at_no.all
-              (λ keep less. tried keep (selection-after step question sound is false keep less)) (λ keep rest. ends keep (remainder-after step question sound is false keep rest))
+              (λ keep less. tried keep (selection-after step question sound is false keep less))
+              (λ keep rest. ends keep (remainder-after step question sound is false keep rest))
               (subst (λ keep. test (state_of keep) ≡ true) (sym (kept_at_no step question sound is)) may) in
               elim (cases_Bool (test (state_of question))) [
                 | inl allowed ↦
                     let y = at_yes.all
-                    (λ keep less. tried keep (selection-after step question sound is true keep less)) (λ keep rest. ends keep (remainder-after step question sound is true keep rest))
+                    (λ keep less. tried keep (selection-after step question sound is true keep less))
+                    (λ keep rest. ends keep (remainder-after step question sound is true keep rest))
                     (subst (λ keep. test (state_of keep) ≡ true) (sym (kept_at_yes step question sound is)) allowed) in
-                    subst (AllTried P) (sym (allowed_question state_of next step question sound is allowed)) (tried question (selection-asked step question sound is) allowed, (y, no))
+                    subst (AllTried P) (sym (allowed_question state_of next step question sound is allowed))
+                    (tried question (selection-asked step question sound is) allowed, (y, no))
                 | inr passed ↦ subst (AllTried P) (sym (passed_question state_of next step question sound is passed)) no
               ];
         })

@@ -35,13 +35,15 @@ others_in ps [] q has = absurd (contains_none q has)
 others_in ps (p ∷ qs) q has =
     elim (cases_Bool (is_among ps p)) [
       | inl is ↦ later (others_in ps qs q (subst (λ (l : List ℕ). Contains l q) (cond-true (is_among ps p) (others ps qs) (p ∷ others ps qs) is) has))
-      | inr not_is ↦ either not_is (λ one. others_in ps qs q one) (subst (λ (l : List ℕ). Contains l q) (cond-false (is_among ps p) (others ps qs) (p ∷ others ps qs) not_is) has)
+      | inr not_is ↦ either not_is (λ one. others_in ps qs q one)
+          (subst (λ (l : List ℕ). Contains l q) (cond-false (is_among ps p) (others ps qs) (p ∷ others ps qs) not_is) has)
     ]
   where
     later : Contains qs q × (is_among ps q ≡ false) → Contains (p ∷ qs) q × (is_among ps q ≡ false)
     later ((k, lt, e), stays) = ((suc k, omega (arith, lt), e), stays)
 
-    either : is_among ps p ≡ false → (Contains (others ps qs) q → Contains qs q × (is_among ps q ≡ false)) → Contains (p ∷ others ps qs) q → Contains (p ∷ qs) q × (is_among ps q ≡ false)
+    either : is_among ps p ≡ false → (Contains (others ps qs) q → Contains qs q × (is_among ps q ≡ false)) → Contains (p ∷ others ps qs) q → Contains (p ∷ qs) q
+        × (is_among ps q ≡ false)
     either not_is rest (zero, lt, e) = ((zero, omega arith, e), ap (is_among ps) (sym e) ∙ not_is)
     either not_is rest (suc k, lt, e) = later (rest (k, omega (arith, lt), e))
 
@@ -50,8 +52,10 @@ or_others : (ps qs : List ℕ) (n : ℕ) → (is_among ps n || is_among (others 
 or_others ps [] n = refl
 or_others ps (q ∷ qs) n =
     elim (cases_Bool (is_among ps q)) [
-      | inl is ↦ ap (λ (l : List ℕ). is_among ps n || is_among l n) (cond-true (is_among ps q) (others ps qs) (q ∷ others ps qs) is) ∙ or_others ps qs n ∙ seen is
-      | inr not_is ↦ ap (λ (l : List ℕ). is_among ps n || is_among l n) (cond-false (is_among ps q) (others ps qs) (q ∷ others ps qs) not_is) ∙ in_between (is_among ps n) (nat_eq n q) (is_among (others ps qs) n) (is_among qs n) (or_others ps qs n)
+      | inl is ↦ ap (λ (l : List ℕ). is_among ps n || is_among l n) (cond-true (is_among ps q) (others ps qs) (q ∷ others ps qs) is) ∙ or_others ps qs n
+          ∙ seen is
+      | inr not_is ↦ ap (λ (l : List ℕ). is_among ps n || is_among l n) (cond-false (is_among ps q) (others ps qs) (q ∷ others ps qs) not_is)
+          ∙ in_between (is_among ps n) (nat_eq n q) (is_among (others ps qs) n) (is_among qs n) (or_others ps qs n)
     ]
   where
     in_between : (a b c d : Bool) → (a || c) ≡ (a || d) → (a || (b || c)) ≡ (a || (b || d))
@@ -69,7 +73,8 @@ or_others ps (q ∷ qs) n =
         ]
 
 -- of some nodes, those that more flags don't keep are among those that fewer don't keep
-both_dropped : (nodes : List ℕ) (fewer keep : List Bool) → KeepsOnlyOf fewer keep → (n : ℕ) → (is_among (dropped nodes keep) n || is_among (dropped nodes fewer) n) ≡ is_among (dropped nodes fewer) n
+both_dropped : (nodes : List ℕ) (fewer keep : List Bool) → KeepsOnlyOf fewer keep → (n : ℕ)
+    → (is_among (dropped nodes keep) n || is_among (dropped nodes fewer) n) ≡ is_among (dropped nodes fewer) n
 both_dropped [] fewer keep only n = refl
 both_dropped (q ∷ nodes) [] [] only n = twice (is_among (q ∷ dropped nodes []) n)
   where
@@ -80,13 +85,15 @@ both_dropped (q ∷ nodes) [] (k ∷ keep) only n = absurd only
 both_dropped (q ∷ nodes) (f ∷ fewer) [] only n = absurd only
 both_dropped (q ∷ nodes) (true ∷ fewer) (true ∷ keep) only n = both_dropped nodes fewer keep only.1 n
 both_dropped (q ∷ nodes) (true ∷ fewer) (false ∷ keep) only n = absurd (false≢true (only.0 refl))
-both_dropped (q ∷ nodes) (false ∷ fewer) (true ∷ keep) only n = one (is_among (dropped nodes keep) n) (nat_eq n q) (is_among (dropped nodes fewer) n) (both_dropped nodes fewer keep only.1 n)
+both_dropped (q ∷ nodes) (false ∷ fewer) (true ∷ keep) only n =
+    one (is_among (dropped nodes keep) n) (nat_eq n q) (is_among (dropped nodes fewer) n) (both_dropped nodes fewer keep only.1 n)
   where
     one : (a b d : Bool) → (a || d) ≡ d → (a || (b || d)) ≡ (b || d)
     one true true d e = refl
     one false true d e = refl
     one a false d e = e
-both_dropped (q ∷ nodes) (false ∷ fewer) (false ∷ keep) only n = both (nat_eq n q) (is_among (dropped nodes keep) n) (is_among (dropped nodes fewer) n) (both_dropped nodes fewer keep only.1 n)
+both_dropped (q ∷ nodes) (false ∷ fewer) (false ∷ keep) only n =
+    both (nat_eq n q) (is_among (dropped nodes keep) n) (is_among (dropped nodes fewer) n) (both_dropped nodes fewer keep only.1 n)
   where
     both : (b a d : Bool) → (a || d) ≡ d → ((b || a) || (b || d)) ≡ (b || d)
     both true a d e = refl
@@ -101,10 +108,12 @@ module _ (ps qs : List ℕ) (same : (n : ℕ) → is_among ps n ≡ is_among qs 
 
     without_same_all : (ts : PlainTrees) → without_nodes_all ps ts ≡ without_nodes_all qs ts
     without_same_all PlainTrees.none = refl
-    without_same_all (PlainTrees.next t ts) = λ i. if same (number_of t) i then without_same_all ts i else PlainTrees.next (without_same t i) (without_same_all ts i)
+    without_same_all (PlainTrees.next t ts) =
+        λ i. if same (number_of t) i then without_same_all ts i else PlainTrees.next (without_same t i) (without_same_all ts i)
 
 -- where fewer of a level's nodes are kept, nodes of the level that is left are deleted
-deletes : (N : NormalForm) (d : ℕ) (t : PlainTree) (fewer keep : List Bool) → NumbersRise t → KeepsFewer fewer keep → DeletesInLevel N (kept_tree (level N d t) keep t) (kept_tree (level N d t) fewer t)
+deletes : (N : NormalForm) (d : ℕ) (t : PlainTree) (fewer keep : List Bool) → NumbersRise t → KeepsFewer fewer keep
+    → DeletesInLevel N (kept_tree (level N d t) keep t) (kept_tree (level N d t) fewer t)
 deletes N d t fewer keep rise less =
     let nodes : List ℕ = level N d t in
     let ps : List ℕ = dropped nodes keep in
@@ -119,9 +128,11 @@ deletes N d t fewer keep rise less =
     }
 
 -- what follows does so too where only some states may be tried
-allowed_follows : {T : Type 0} (test : T → Bool) (R : T → T → Type 0) (state : T) (trials : Trials T) → EachFollows R state trials → EachFollows R state (allowed_trials test trials)
+allowed_follows : {T : Type 0} (test : T → Bool) (R : T → T → Type 0) (state : T) (trials : Trials T) → EachFollows R state trials
+    → EachFollows R state (allowed_trials test trials)
 allowed_follows test R state Done follows = tt
-allowed_follows test R state (Try other y z) follows = by_test (test other) follows.0 (allowed_follows test R other y follows.1.0) (allowed_follows test R state z follows.1.1)
+allowed_follows test R state (Try other y z) follows =
+    by_test (test other) follows.0 (allowed_follows test R other y follows.1.0) (allowed_follows test R state z follows.1.1)
   where
     by_test : (b : Bool) → R state other → EachFollows R other (allowed_trials test y) → EachFollows R state (allowed_trials test z) →
         EachFollows R state (cond b (Try other (allowed_trials test y) (allowed_trials test z)) (allowed_trials test z))
@@ -147,4 +158,5 @@ module _ (all : KeepingAllKeepsTree) (left : KeptTreesAreLeft) (part : LeftIsPar
 
 pub tries_level_deletions : KeepingAllKeepsTree → KeptTreesAreLeft → LeftIsPart → TriesLevelDeletions
 tries_level_deletions all left part N t rise =
-    allowed_follows (fills_pluses N) (DeletesInLevel N) t (levels_within N (suc (depth t) - 0) 0 t) (within_follows all left part N (suc (depth t) - 0) 0 t rise)
+    allowed_follows (fills_pluses N) (DeletesInLevel N) t (levels_within N (suc (depth t) - 0) 0 t)
+    (within_follows all left part N (suc (depth t) - 0) 0 t rise)

@@ -12,10 +12,12 @@ use Rattle.reduce_hdd_trials.specs.Laws.{GoesByLevels}
 use Rattle.reduce_hdd_trials.proofs.KeptDepth.{kept_no_deeper}
 
 -- Levels are the same that go on in the same way.
-pub same_level : (go go' : PlainTree → Trials PlainTree) (N : NormalForm) (d : ℕ) (t : PlainTree) → ((u : PlainTree) → depth u ≤ depth t → go u ≡ go' u) → level_tried go N d t ≡ level_tried go' N d t
+pub same_level : (go go' : PlainTree → Trials PlainTree) (N : NormalForm) (d : ℕ) (t : PlainTree) → ((u : PlainTree) → depth u ≤ depth t → go u ≡ go' u)
+    → level_tried go N d t ≡ level_tried go' N d t
 same_level go go' N d t same =
     let nodes : List ℕ = level N d t in
-    same_by_keep_lists (λ keep. kept_tree nodes keep t) (λ keep. kept_tree nodes keep t) (λ keep. go (kept_tree nodes keep t)) (λ keep. go' (kept_tree nodes keep t)) (length nodes) true
+    same_by_keep_lists (λ keep. kept_tree nodes keep t) (λ keep. kept_tree nodes keep t) (λ keep. go (kept_tree nodes keep t))
+    (λ keep. go' (kept_tree nodes keep t)) (length nodes) true
     (λ keep some. refl) (λ keep rest. same (kept_tree nodes keep t) (kept_no_deeper nodes keep t))
 
 module _ (N : NormalForm) where
@@ -29,7 +31,9 @@ module _ (N : NormalForm) where
   same_times zero (suc k) d t few few' = sym (over d t (level_tried (λ u. levels_within N k (suc d) u) N d t) (omega (arith, few)))
   same_times (suc m) zero d t few few' = over d t (level_tried (λ u. levels_within N m (suc d) u) N d t) (omega (arith, few'))
   same_times (suc m) (suc k) d t few few' =
-      let same = same_level (λ u. levels_within N m (suc d) u) (λ u. levels_within N k (suc d) u) N d t (λ u low. same_times m k (suc d) u (omega (arith, low, few)) (omega (arith, low, few'))) in
+      let same =
+      same_level (λ u. levels_within N m (suc d) u) (λ u. levels_within N k (suc d) u) N d t
+      (λ u low. same_times m k (suc d) u (omega (arith, low, few)) (omega (arith, low, few'))) in
       λ i. cond (is_so_deep d t) (same i) Done
 
   within_next : (m d : ℕ) (t : PlainTree) → levels_within N (suc m) d t ≡ cond (is_so_deep d t) (level_tried (λ u. levels_within N m (suc d) u) N d t) Done

@@ -76,7 +76,8 @@ module _ (counts : WeightsCountLeaves) where
       let u : PlainTree = without_nodes (p ∷ []) t in
       let same : AreSameIn t u qs = λ q has.
       let it : HasLeafBelow t q = leaf_in t qs q apart.2 has in
-      later_stays p q own.node it.node (apart.1 q has).0 ((apart.1 q has).1 own.node own.node_is) 0 high t rises own.below own.node_is it.node_is ∙ sym it.node_is in
+      later_stays p q own.node it.node (apart.1 q has).0 ((apart.1 q has).1 own.node own.node_is) 0 high t rises own.below own.node_is it.node_is
+      ∙ sym it.node_is in
       let later = weighs high u qs (without_rises (p ∷ []) 0 high t rises) (apart_same t u qs (number_without (p ∷ []) t) same apart.2) in
       let rest = weights_same t u qs same in
       let both = ap weight (without_both (p ∷ []) qs t) in
@@ -89,7 +90,8 @@ same_rest keep qs long = omega (arith, long)
 
 -- of nodes that have leaves, more have more
 module _ (t : PlainTree) where
-  more_weigh : (qs : List ℕ) (fewer keep : List Bool) → AreApart t qs → length keep ≡ length qs → KeepsOnlyOf fewer keep → weights_at t (dropped qs keep) + kept_count keep ≤ weights_at t (dropped qs fewer) + kept_count fewer
+  more_weigh : (qs : List ℕ) (fewer keep : List Bool) → AreApart t qs → length keep ≡ length qs → KeepsOnlyOf fewer keep
+      → weights_at t (dropped qs keep) + kept_count keep ≤ weights_at t (dropped qs fewer) + kept_count fewer
   more_weigh qs [] [] apart long only = omega arith
   more_weigh qs [] (b ∷ keep) apart long only = absurd only
   more_weigh qs (f ∷ fewer) [] apart long only = absurd only

@@ -26,7 +26,8 @@ use Rattle.reduce_hdd_trials.specs.Laws.{EndsByLevels, FewerNodesAreLighter, Los
 use Rattle.reduce_hdd_trials.proofs.AllowedTrials.{allowed_end, allowed_selections, allowed_smaller, allowed_tried}
 
 -- Only trees for the slot that are left of the whole tree are tried.
-module _ (all : KeepingAllKeepsTree) (valid : ValidTreesFillPluses) (left : KeptTreesAreLeft) (trees : KeptTreesAreTrees) (both : LeftIsTransitive) (part : LeftIsPart) (N : NormalForm) (s : Sym) (whole : PlainTree) where
+module _ (all : KeepingAllKeepsTree) (valid : ValidTreesFillPluses) (left : KeptTreesAreLeft) (trees : KeptTreesAreTrees) (both : LeftIsTransitive)
+    (part : LeftIsPart) (N : NormalForm) (s : Sym) (whole : PlainTree) where
   abbrev IsKept : PlainTree → Type 0
   IsKept u = IsTreeFor N s u × IsRemainderOf whole u
 
@@ -38,9 +39,11 @@ module _ (all : KeepingAllKeepsTree) (valid : ValidTreesFillPluses) (left : Kept
       let goes : (keep : List Bool) → fills_pluses N (kept_tree nodes keep t) ≡ true → IsKept (kept_tree nodes keep t) = λ keep may.
       (trees N s t d keep kept.0 rise may, both whole t (kept_tree nodes keep t) kept.1 (left nodes keep t)) in
       by_deep (is_so_deep d t)
-      (allowed_selections (fills_pluses N) IsKept (λ keep. kept_tree nodes keep t) (λ keep. levels_within N times (suc d) (kept_tree nodes keep t)) (length nodes) true
+      (allowed_selections (fills_pluses N) IsKept (λ keep. kept_tree nodes keep t) (λ keep. levels_within N times (suc d) (kept_tree nodes keep t))
+      (length nodes) true
       (λ keep some may. goes keep may)
-      (λ keep rest may. within_kept times (suc d) (kept_tree nodes keep t) ((part t (kept_tree nodes keep t) (left nodes keep t)).numbers_rise rise) (goes keep may))
+      (λ keep rest may. within_kept times (suc d) (kept_tree nodes keep t) ((part t (kept_tree nodes keep t) (left nodes keep t)).numbers_rise rise)
+      (goes keep may))
       (ap (fills_pluses N) (all nodes t) ∙ valid N s t kept.0.valid))
     where
       by_deep : (b : Bool) → AllTried IsKept (allowed_trials (fills_pluses N) (level_tried (λ u. levels_within N times (suc d) u) N d t)) →
@@ -75,12 +78,14 @@ loses_leaves all left part lighter N t rise =
     allowed_smaller (fills_pluses N) weight (weight t) _ (within_smaller all left part lighter N (suc (depth t) - 0) 0 t rise)
 
 -- Each single deletion is tried at no.
-module _ (all : KeepingAllKeepsTree) (N : NormalForm) (t u : PlainTree) (d k : ℕ) (deep : d ≤ depth t) (low : k < length (level N d t)) (same : u ≡ kept_tree (level N d t) (all_but (length (level N d t)) k) t) where
+module _ (all : KeepingAllKeepsTree) (N : NormalForm) (t u : PlainTree) (d k : ℕ) (deep : d ≤ depth t) (low : k < length (level N d t))
+    (same : u ≡ kept_tree (level N d t) (all_but (length (level N d t)) k) t) where
   here_tried : (go : PlainTree → Trials PlainTree) → IsTriedAtNo (level_tried go N d t) u
   here_tried go =
       let nodes : List ℕ = level N d t in
       subst (λ (w : PlainTree). IsTriedAtNo (level_tried go N d t) w) (sym same)
-      ((lists.tries_deletions (λ keep. kept_tree nodes keep t) (λ keep. go (kept_tree nodes keep t)) (length nodes) true).0 k low (λ no. absurd (false≢true (sym no))))
+      ((lists.tries_deletions (λ keep. kept_tree nodes keep t) (λ keep. go (kept_tree nodes keep t)) (length nodes) true).0 k low
+      (λ no. absurd (false≢true (sym no))))
 
   later_tried : (go : PlainTree → Trials PlainTree) (e : ℕ) → IsTriedAtNo (go t) u → IsTriedAtNo (level_tried go N e t) u
   later_tried go e tried =
@@ -92,9 +97,11 @@ module _ (all : KeepingAllKeepsTree) (N : NormalForm) (t u : PlainTree) (d k : �
   unfolding levels_within
   within_tried zero e up few = absurd (omega (arith, up, few))
   within_tried (suc times) e up few =
-      subst (λ trials. IsTriedAtNo trials u) (sym (cond-true (is_so_deep e t) (level_tried (λ w. levels_within N times (suc e) w) N e t) Done (le-leb e (depth t) (omega (arith, up, deep)))))
+      subst (λ trials. IsTriedAtNo trials u) (sym
+      (cond-true (is_so_deep e t) (level_tried (λ w. levels_within N times (suc e) w) N e t) Done (le-leb e (depth t) (omega (arith, up, deep)))))
       (elim (cases_eq e d) [
-        | inl is ↦ subst (λ (f : ℕ). IsTriedAtNo (level_tried (λ w. levels_within N times (suc e) w) N f t) u) (sym is) (here_tried (λ w. levels_within N times (suc e) w))
+        | inl is ↦ subst (λ (f : ℕ). IsTriedAtNo (level_tried (λ w. levels_within N times (suc e) w) N f t) u) (sym is)
+            (here_tried (λ w. levels_within N times (suc e) w))
         | inr other ↦ later_tried (λ w. levels_within N times (suc e) w) e (within_tried times (suc e) (below e d up other) (omega (arith, few)))
       ])
     where
@@ -117,12 +124,14 @@ module _ (all : KeepingAllKeepsTree) (N : NormalForm) (texts : StateTexts PlainT
       let state_of : List Bool → PlainTree = λ keep. kept_tree nodes keep t in
       let outcome : Outcome = list_step (λ keep. keep_verdict texts verdict state_of keep) (length nodes) true in
       by_deep (is_so_deep d t)
-      (subst (λ (u : PlainTree). trials_end texts verdict u (level_tried (λ w. levels_within N times (suc d) w) N d t) ≡ level_followed texts verdict (λ w. levels_followed texts verdict N times (suc d) w) N d t) (all nodes t)
+      (subst (λ (u : PlainTree). trials_end texts verdict u (level_tried (λ w. levels_within N times (suc d) w) N d t) ≡ level_followed texts verdict
+      (λ w. levels_followed texts verdict N times (suc d) w) N d t) (all nodes t)
       (ends_as_list_step texts verdict (λ keep. kept_tree nodes keep t) (λ keep. levels_within N times (suc d) (kept_tree nodes keep t)) (length nodes) true
       ∙ ap (after_texts _ _) (within_end times (suc d) (kept_tree nodes outcome.result t))))
     where
       by_deep : (b : Bool) →
-          trials_end texts verdict t (level_tried (λ w. levels_within N times (suc d) w) N d t) ≡ level_followed texts verdict (λ w. levels_followed texts verdict N times (suc d) w) N d t →
+          trials_end texts verdict t (level_tried (λ w. levels_within N times (suc d) w) N d t) ≡ level_followed texts verdict
+          (λ w. levels_followed texts verdict N times (suc d) w) N d t →
           trials_end texts verdict t (cond b (level_tried (λ w. levels_within N times (suc d) w) N d t) Done)
           ≡ cond b (level_followed texts verdict (λ w. levels_followed texts verdict N times (suc d) w) N d t) (end_at t)
       by_deep true same = same

@@ -13,7 +13,8 @@ use Rattle.reduce_hdd_trials.specs.Round.{level_tried, levels_within}
 use Rattle.reduce_hdd_trials.specs.Worked.{BlocksStay, PlusKeepsOne, StatementsGo}
 
 -- one level of a round, and no more; one question, and the end, of a list step
-level_next : (N : NormalForm) (times d : ℕ) (t : PlainTree) → levels_within N (suc times) d t ≡ cond (is_so_deep d t) (level_tried (λ u. levels_within N times (suc d) u) N d t) Done
+level_next : (N : NormalForm) (times d : ℕ) (t : PlainTree)
+    → levels_within N (suc times) d t ≡ cond (is_so_deep d t) (level_tried (λ u. levels_within N times (suc d) u) N d t) Done
 unfolding levels_within
 level_next N times d t = refl
 
@@ -22,7 +23,8 @@ unfolding levels_within
 level_none N d t = refl
 
 list_next : {T : Type 0} (state_of : List Bool → T) (next : List Bool → Trials T) (n : ℕ) (step : State) →
-    list_within state_of next (suc n) step ≡ by_question state_of (next (kept step)) (asks step) (list_within state_of next n (after step true)) (list_within state_of next n (after step false))
+    list_within state_of next (suc n) step ≡ by_question state_of (next (kept step)) (asks step) (list_within state_of next n (after step true))
+    (list_within state_of next n (after step false))
 unfolding list_within
 list_next state_of next n step = refl
 
@@ -31,7 +33,8 @@ unfolding list_within
 list_none state_of next step = refl
 
 -- a level without deletable nodes
-worked_empty : (times d : ℕ) (t : PlainTree) → levels_within worked_form (suc times) d t ≡ cond (is_so_deep d t) (level_tried (λ u. levels_within worked_form times (suc d) u) worked_form d t) Done
+worked_empty : (times d : ℕ) (t : PlainTree)
+    → levels_within worked_form (suc times) d t ≡ cond (is_so_deep d t) (level_tried (λ u. levels_within worked_form times (suc d) u) worked_form d t) Done
 worked_empty times d t = level_next worked_form times d t
 
 abbrev worked : Trials PlainTree → Trials PlainTree
@@ -67,7 +70,9 @@ statements_go = (
           _,
           ap worked (list_next _ _ 37 _),
           refl,
-          ap worked (list_next _ _ 36 _ ∙ (worked_empty 2 3 _ ∙ (list_none _ _ _ ∙ (worked_empty 1 4 _ ∙ (list_none _ _ _ ∙ (worked_empty 0 5 _ ∙ (list_none _ _ _ ∙ level_none worked_form 6 _))))))),
+          ap worked
+              (list_next _ _ 36 _ ∙ (worked_empty 2 3 _
+              ∙ (list_none _ _ _ ∙ (worked_empty 1 4 _ ∙ (list_none _ _ _ ∙ (worked_empty 0 5 _ ∙ (list_none _ _ _ ∙ level_none worked_form 6 _))))))),
         ),
       ),
     ),
@@ -78,7 +83,9 @@ statements_go = (
     _,
     ap worked (worked_empty 5 0 _ ∙ (list_none _ _ _ ∙ (worked_empty 4 1 _ ∙ (list_none _ _ _ ∙ (worked_empty 3 2 _ ∙ list_next _ _ 4 _))))),
     refl,
-    ap worked (list_next _ _ 3 _ ∙ (worked_empty 2 3 _ ∙ (list_none _ _ _ ∙ (worked_empty 1 4 _ ∙ (list_none _ _ _ ∙ (worked_empty 0 5 _ ∙ (list_none _ _ _ ∙ level_none worked_form 6 _))))))),
+    ap worked
+        (list_next _ _ 3 _ ∙ (worked_empty 2 3 _
+        ∙ (list_none _ _ _ ∙ (worked_empty 1 4 _ ∙ (list_none _ _ _ ∙ (worked_empty 0 5 _ ∙ (list_none _ _ _ ∙ level_none worked_form 6 _))))))),
   ),
 )
 
@@ -102,7 +109,9 @@ blocks_stay = (
       _,
       ap worked (list_next _ _ 3 _ ∙ (worked_empty 4 5 _ ∙ (list_none _ _ _ ∙ (worked_empty 3 6 _ ∙ list_next _ _ 4 _)))),
       refl,
-      ap worked (list_next _ _ 3 _ ∙ (worked_empty 2 7 _ ∙ (list_none _ _ _ ∙ (worked_empty 1 8 _ ∙ (list_none _ _ _ ∙ (worked_empty 0 9 _ ∙ (list_none _ _ _ ∙ level_none worked_form 10 _))))))),
+      ap worked
+          (list_next _ _ 3 _ ∙ (worked_empty 2 7 _
+          ∙ (list_none _ _ _ ∙ (worked_empty 1 8 _ ∙ (list_none _ _ _ ∙ (worked_empty 0 9 _ ∙ (list_none _ _ _ ∙ level_none worked_form 10 _))))))),
     ),
   ),
 )
@@ -114,9 +123,13 @@ plus_keeps_one = (
     _,
     _,
     _,
-    ap with_plus (level_next plus_form 2 0 _ ∙ (list_none _ _ _ ∙ (level_next plus_form 1 1 _ ∙ (list_none _ _ _ ∙ (level_next plus_form 0 2 _ ∙ (list_next _ _ 40 _)))))) ∙ ap with_plus (list_next _ _ 39 _),
+    ap with_plus (level_next plus_form 2 0 _
+        ∙ (list_none _ _ _ ∙ (level_next plus_form 1 1 _ ∙ (list_none _ _ _ ∙ (level_next plus_form 0 2 _ ∙ (list_next _ _ 40 _))))))
+        ∙ ap with_plus (list_next _ _ 39 _),
     refl,
     ap with_plus (list_next _ _ 38 _ ∙ level_none plus_form 3 _),
   ),
-  ap with_plus (level_next plus_form 2 0 _ ∙ (list_none _ _ _ ∙ (level_next plus_form 1 1 _ ∙ (list_none _ _ _ ∙ (level_next plus_form 0 2 _ ∙ list_next _ _ 4 _))))) ∙ ap with_plus (list_next _ _ 3 _ ∙ level_none plus_form 3 _),
+  ap with_plus (level_next plus_form 2 0 _
+      ∙ (list_none _ _ _ ∙ (level_next plus_form 1 1 _ ∙ (list_none _ _ _ ∙ (level_next plus_form 0 2 _ ∙ list_next _ _ 4 _)))))
+      ∙ ap with_plus (list_next _ _ 3 _ ∙ level_none plus_form 3 _),
 )

@@ -31,6 +31,7 @@ module _ (texts : StateTexts PlainTree) (verdict : List ℕ → Bool) where
   levels_followed N zero d t = end_at t
   levels_followed N (suc times) d t = if is_so_deep d t then level_followed (λ u. levels_followed N times (suc d) u) N d t else end_at t
 
--- A round from the tree t: the levels from the root on, where a tree with an empty plus isn't listed, so that it counts as no and isn't asked. No tree that is left is deeper than t, so these are all.
+-- A round from the tree t: the levels from the root on, where a tree with an empty plus isn't listed, so that
+-- it counts as no and isn't asked. No tree that is left is deeper than t, so these are all.
 abbrev pub levels_end : NormalForm → StateTexts PlainTree → (List ℕ → Bool) → PlainTree → RoundEnd PlainTree
 levels_end N texts verdict t = levels_followed (with_allowed (fills_pluses N) texts) verdict N (suc (depth t)) 0 t

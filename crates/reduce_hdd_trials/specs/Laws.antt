@@ -17,12 +17,15 @@ use Rattle.reduce_hdd_trials.specs.Followed.{levels_end}
 
 -- Where fewer nodes of a level are kept, fewer leaves are left.
 abbrev pub FewerNodesAreLighter : Type 0
-FewerNodesAreLighter = (N : NormalForm) (d : ℕ) (t : PlainTree) (fewer keep : List Bool) → NumbersRise t → length keep ≡ length (level N d t) → KeepsFewer fewer keep →
+FewerNodesAreLighter =
+    (N : NormalForm) (d : ℕ) (t : PlainTree) (fewer keep : List Bool) → NumbersRise t → length keep ≡ length (level N d t) → KeepsFewer fewer keep →
     weight (kept_tree (level N d t) fewer t) < weight (kept_tree (level N d t) keep t)
 
--- From a depth on it is that level, and then the levels from the next depth on: the bound in the definition is never met. Where nothing is so deep, nothing more is tried.
+-- From a depth on it is that level, and then the levels from the next depth on: the bound in
+-- the definition is never met. Where nothing is so deep, nothing more is tried.
 abbrev pub GoesByLevels : Type 0
-GoesByLevels = (N : NormalForm) (d : ℕ) (t : PlainTree) → levels_from N d t ≡ (if is_so_deep d t then level_tried (λ u. levels_from N (suc d) u) N d t else Done)
+GoesByLevels =
+    (N : NormalForm) (d : ℕ) (t : PlainTree) → levels_from N d t ≡ (if is_so_deep d t then level_tried (λ u. levels_from N (suc d) u) N d t else Done)
 
 -- From a tree for the slot that is left of the whole tree only such trees are tried.
 abbrev pub TriesKeptTrees : Type 0
@@ -39,4 +42,6 @@ TriesSingleDeletions = (N : NormalForm) (s : Sym) (t u : PlainTree) → IsTreeFo
 
 -- Over the trees' texts and a verdict, a round comes to what its levels come to one after another.
 abbrev pub EndsByLevels : Type 0
-EndsByLevels = (N : NormalForm) (texts : StateTexts PlainTree) (verdict : List ℕ → Bool) (t : PlainTree) → trials_end texts verdict t (levels N t) ≡ levels_end N texts verdict t
+EndsByLevels =
+    (N : NormalForm) (texts : StateTexts PlainTree) (verdict : List ℕ → Bool) (t : PlainTree)
+    → trials_end texts verdict t (levels N t) ≡ levels_end N texts verdict t

@@ -1,4 +1,5 @@
--- What one round of mode `hdd` tries: hierarchical delta debugging (Misherghi and Su, "HDD: Hierarchical Delta Debugging", 2006). It goes through the levels of a tree from the root down.
+-- What one round of mode `hdd` tries: hierarchical delta debugging (Misherghi and Su, "HDD:
+-- Hierarchical Delta Debugging", 2006). It goes through the levels of a tree from the root down.
 use Rattle.std.specs.Prelude.{ℕ, zero, suc, ◌-◌, true, List, if◌then◌else◌, length}
 use Rattle.normal_form.specs.Form.{NormalForm}
 use Rattle.list_ddmin.specs.Machine.{State, start}
@@ -9,7 +10,8 @@ use Rattle.syntax_tree.specs.Levels.{depth}
 use Rattle.hdd_levels.specs.Levels.{fills_pluses, is_so_deep, kept_tree, level}
 use Rattle.reduce_hdd_trials.specs.Allowed.{allowed_trials}
 
--- From a state of the list step over these nodes of the tree t: each keep list stands for the tree without the nodes that it doesn't keep, and at the end the round goes on by `go` from the tree that is left.
+-- From a state of the list step over these nodes of the tree t: each keep list stands for the tree without the
+-- nodes that it doesn't keep, and at the end the round goes on by `go` from the tree that is left.
 abbrev pub nodes_tried : (PlainTree → Trials PlainTree) → List ℕ → PlainTree → State → Trials PlainTree
 nodes_tried go nodes t step = list_trials (λ keep. kept_tree nodes keep t) (λ keep. go (kept_tree nodes keep t)) step
 

@@ -21,7 +21,8 @@ module _ (N : NormalForm) (s : Sym) (t : PlainTree) (later : List Waiting) (n : 
   abbrev pub content : PlainTrees
   content = PlainTrees.next is.content PlainTrees.none
 
-  pub tries_without : visit_trials N s t later (Content n) ≡ Try (with_subtree n emptied t) (goes_on N s (with_subtree n emptied t) later) (goes_on N s t (with_trees content later))
+  pub tries_without : visit_trials N s t later (Content n) ≡ Try (with_subtree n emptied t) (goes_on N s (with_subtree n emptied t) later)
+      (goes_on N s t (with_trees content later))
   tries_without = ap (content_tried N s t later) is.next.node
 
   pub can_empty : CanEmpty N t n

@@ -1,5 +1,6 @@
 -- Visits of regular nodes: what is tried, by the indexes of the compatible descendants, and where the round goes on.
-use Rattle.std.proofs.Common.{◌≡◌, inr, ℕ, zero, suc, ◌+◌, ◌<◌, ◌≤◌, true, false, List, [], ◌∷◌, Option, Some, None, Result, length, map, drop, get_or, slice_get, sym, ap, ◌∙◌, subst, refl, arith}
+use Rattle.std.proofs.Common.{◌≡◌, inr, ℕ, zero, suc, ◌+◌, ◌<◌, ◌≤◌, true, false, List, [], ◌∷◌, Option, Some, None, Result}
+use Rattle.std.proofs.Common.{length, map, drop, get_or, slice_get, sym, ap, ◌∙◌, subst, refl, arith}
 use Rattle.std.specs.Prelude.{IfOk}
 use Rattle.std.specs.List.{AllByRecursion}
 use Rattle.std.proofs.lemmas.List.{drop_all, drop_more, get_or-map, get_or_default, length-map}
@@ -34,14 +35,16 @@ all_at P (x ∷ xs) zero d all lt = all.0
 all_at P (x ∷ xs) (suc k) d all lt = all_at P xs k d all.1 (omega (arith, lt))
 
 -- The same is left, and the same is tried.
-pub same_goes : {E : Type 0} (N : NormalForm) (s : Sym) (t : PlainTree) (queue : List Waiting) (left left' : PlainTree) (rest rest' : Trials PlainTree) (result : Result (Option Visit) E) →
+pub same_goes : {E : Type 0} (N : NormalForm) (s : Sym) (t : PlainTree) (queue : List Waiting) (left left' : PlainTree) (rest rest' : Trials PlainTree)
+    (result : Result (Option Visit) E) →
     left ≡ left' → rest ≡ rest' → IfOk result (GoesOnWith N s t queue left rest) → IfOk result (GoesOnWith N s t queue left' rest')
 same_goes N s t queue left left' rest rest' result same_left same_rest on =
     let P : PlainTree → Trials PlainTree → Type 0 = λ x y. IfOk result (GoesOnWith N s t queue x y) in
     subst (λ x. P x rest') same_left (subst (λ y. P left y) same_rest on)
 
 -- The round is at another tree and queue, which are equal.
-pub same_round : (N : NormalForm) (s : Sym) (t u : PlainTree) (queue waiting : List Waiting) → t ≡ u → queue ≡ waiting → IsInRound N s u waiting → IsInRound N s t queue
+pub same_round : (N : NormalForm) (s : Sym) (t u : PlainTree) (queue waiting : List Waiting) → t ≡ u → queue ≡ waiting → IsInRound N s u waiting
+    → IsInRound N s t queue
 same_round N s t u queue waiting tree waits round =
     let P : PlainTree → List Waiting → Type 0 = λ x y. IsInRound N s x y in
     subst (λ x. P x queue) (sym tree) (subst (λ y. P u y) (sym waits) round)
@@ -63,7 +66,8 @@ module _ (N : NormalForm) (s : Sym) (t : PlainTree) (later : List Waiting) (n : 
   within_trees at lt = let one = ap length are.found_are in let two = length-map trees number_of in omega (arith, lt, one, two)
 
   are_tried : (at : ℕ) → descendants_at N s t later at n ≡ each_tried (goes_on N s) t later n (drop at trees) (goes_on N s t (with_trees are.children later))
-  are_tried at = ap (λ o. descendants_tried N s t later at o (subtree n t)) are.next.slot_is ∙ ap (λ o. descendants_tried N s t later at (Some are.slot) o) are.next.node
+  are_tried at =
+      ap (λ o. descendants_tried N s t later at o (subtree n t)) are.next.slot_is ∙ ap (λ o. descendants_tried N s t later at (Some are.slot) o) are.next.node
 
   -- the visit of the node begins with the first one
   pub begins_at : descendants_at N s t later 0 n ≡ node_trials N s t later n
@@ -84,11 +88,13 @@ module _ (N : NormalForm) (s : Sym) (t : PlainTree) (later : List Waiting) (n : 
 
   module _ (at : ℕ) (lt : at < length found) where
     -- one of them is tried, and at no the next one
-    pub tries_at : descendants_at N s t later at n ≡ Try (with_subtree n (tree_at at) t) (goes_on N s (with_subtree n (tree_at at) t) (with_trees (PlainTrees.next (tree_at at) PlainTrees.none) later)) (descendants_at N s t later (at + 1) n)
+    pub tries_at : descendants_at N s t later at n ≡ Try (with_subtree n (tree_at at) t)
+        (goes_on N s (with_subtree n (tree_at at) t) (with_trees (PlainTrees.next (tree_at at) PlainTrees.none) later)) (descendants_at N s t later (at + 1) n)
     tries_at =
         are_tried at
         ∙ ap (λ us. each_tried (goes_on N s) t later n us (goes_on N s t (with_trees are.children later))) (drop_more trees at node (within_trees at lt))
-        ∙ ap (λ at_no. Try (with_subtree n (tree_at at) t) (goes_on N s (with_subtree n (tree_at at) t) (with_trees (PlainTrees.next (tree_at at) PlainTrees.none) later)) at_no) (sym (are_tried (at + 1)))
+        ∙ ap (λ at_no. Try (with_subtree n (tree_at at) t)
+        (goes_on N s (with_subtree n (tree_at at) t) (with_trees (PlainTrees.next (tree_at at) PlainTrees.none) later)) at_no) (sym (are_tried (at + 1)))
 
     compatible_at : IsCompatible N are.slot node (tree_at at)
     compatible_at = all_at (IsCompatible N are.slot node) trees at node (all_compatible N (fits_in N) (decides N) are.slot node) (within_trees at lt)
@@ -124,7 +130,8 @@ module _ (N : NormalForm) (s : Sym) (t : PlainTree) (later : List Waiting) (n : 
         let round = are.next.goes_on.nothing.round in
         let slots = have_slots N s n t node round.tree.valid round.rise are.next.node in
         let same : slots.0 ≡ are.slot = same_Some slots.0 are.slot (sym slots.1 ∙ are.next.slot_is) in
-        (local_edits N are.slot node (tree_at at) (subst (λ (x : Sym). IsValid N x node) same slots.2) (inr (by_descendant are.slot n are.rule are.alt are.children are.alternatives (tree_at at) are.is_regular compatible_at.is_below compatible_at.fits))).1
+        (local_edits N are.slot node (tree_at at) (subst (λ (x : Sym). IsValid N x node) same slots.2)
+        (inr (by_descendant are.slot n are.rule are.alt are.children are.alternatives (tree_at at) are.is_regular compatible_at.is_below compatible_at.fits))).1
 
     -- there it still has its number
     pub stays_found : (by d : ℕ) → by ≡ get_or found at d → subtree by (with_subtree n (tree_at at) t) ≡ Some (tree_at at)
@@ -144,12 +151,14 @@ module _ (N : NormalForm) (s : Sym) (t : PlainTree) (later : List Waiting) (n : 
         (at, within_trees at lt, get_or_default trees at (tree_at at) node (within_trees at lt))
 
     -- at yes it waits
-    pub goes_on_at_yes : (u : PlainTree) (queue : List Waiting) → u ≡ with_subtree n (tree_at at) t → queue ≡ with_trees (PlainTrees.next (tree_at at) PlainTrees.none) later →
+    pub goes_on_at_yes : (u : PlainTree) (queue : List Waiting) → u ≡ with_subtree n (tree_at at) t
+        → queue ≡ with_trees (PlainTrees.next (tree_at at) PlainTrees.none) later →
         GoesOnWith N s u queue (state_after t (descendants_at N s t later at n) true) (trials_after (descendants_at N s t later at n) true) None
     goes_on_at_yes u queue tree waits = record {
       left_is = tree ∙ sym (ap (λ trials. state_after t trials true) tries_at);
       rest_is = (λ i. goes_on N s (tree i) (waits i)) ∙ sym (ap (λ trials. trials_after trials true) tries_at);
-      going = same_round N s u (with_subtree n (tree_at at) t) queue (with_trees (PlainTrees.next (tree_at at) PlainTrees.none) later) tree waits goes_on_at.round;
+      going =
+          same_round N s u (with_subtree n (tree_at at) t) queue (with_trees (PlainTrees.next (tree_at at) PlainTrees.none) later) tree waits goes_on_at.round;
     }
 
     -- at no the tree stays, and the next one is tried
@@ -169,11 +178,21 @@ module _ (N : NormalForm) (s : Sym) (t : PlainTree) (later : List Waiting) (n : 
     }
 
     pub fewer_at_end : HasFewer t n later queue None
-    fewer_at_end none = let fewer = children_fewer t n are.rule are.alt are.children later are.next.goes_on.nothing.round.rise are.next.node in let same = ap (nodes_in t) waits in omega (arith, fewer, same)
+    fewer_at_end none = let fewer = children_fewer t n are.rule are.alt are.children later are.next.goes_on.nothing.round.rise are.next.node in let same =
+        ap (nodes_in t) waits in omega (arith, fewer, same)
 
 -- the descendants that were found, of a node that was taken out of the queue
 pub are_found : (N : NormalForm) (s : Sym) (t : PlainTree) (later : List Waiting) (n : ℕ) (found : List ℕ) (taken : IsTaken N s t later n) → IsRegular N t n →
     found ≡ map number_of (compatible (fits_in N) taken.slot (PlainTree.node n taken.rule taken.alt taken.children)) → AreFound N s t later n found
 are_found N s t later n found taken regular same =
     let form = regular taken.rule taken.alt taken.children taken.next.node in
-    record { rule = taken.rule; alt = taken.alt; children = taken.children; slot = taken.slot; alternatives = form.0; next = taken.next; is_regular = form.1; found_are = same }
+    record {
+      rule = taken.rule;
+      alt = taken.alt;
+      children = taken.children;
+      slot = taken.slot;
+      alternatives = form.0;
+      next = taken.next;
+      is_regular = form.1;
+      found_are = same;
+    }

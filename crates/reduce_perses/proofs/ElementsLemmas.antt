@@ -1,5 +1,6 @@
 -- The list step over the elements of a node: what it tries, what it can keep, and where the round goes on after it.
-use Rattle.std.proofs.Common.{◌≡◌, ◌⊎◌, inl, inr, ℕ, suc, ◌+◌, ◌<◌, ◌≤◌, Bool, true, false, List, [], ◌∷◌, length, replicate, Option, Some, None, slice_get, Bor, IsSome, refl, sym, ap, ◌∙◌, subst, arith}
+use Rattle.std.proofs.Common.{◌≡◌, ◌⊎◌, inl, inr, ℕ, suc, ◌+◌, ◌<◌, ◌≤◌, Bool, true, false, List, [], ◌∷◌, length, replicate}
+use Rattle.std.proofs.Common.{Option, Some, None, slice_get, Bor, IsSome, refl, sym, ap, ◌∙◌, subst, arith}
 use Rattle.std.specs.Prelude.{IfSome, is_some}
 use Rattle.std.specs.List.{Contains}
 use Rattle.std.specs.Option.{option_copied, option_map}
@@ -72,27 +73,34 @@ remainder_length len may_be_empty keep (inl all) = ap length all ∙ length-repl
 remainder_length len may_be_empty keep (inr some) = some.length
 
 -- a star keeps any of its elements, a plus at least one
-list_is : (N : NormalForm) (r len : ℕ) (may_be_empty : Bool) (x : Sym) (keep : List Bool) → slice_get N.rules r ≡ Some (list_rule may_be_empty x) → 0 < len → IsRemainder len may_be_empty keep →
+list_is : (N : NormalForm) (r len : ℕ) (may_be_empty : Bool) (x : Sym) (keep : List Bool) → slice_get N.rules r ≡ Some (list_rule may_be_empty x) → 0 < len
+    → IsRemainder len may_be_empty keep →
     (slice_get N.rules r ≡ Some (RuleForm.star x)) ⊎ ((slice_get N.rules r ≡ Some (RuleForm.plus x)) × Contains keep true)
 list_is N r len true x keep rule some remain = inl rule
-list_is N r len false x keep rule some (inl all) = inr (rule, one_kept keep (let same = ap kept_count all in let many = kept_count-all len in omega (arith, same, many, some)))
+list_is N r len false x keep rule some (inl all) =
+    inr (rule, one_kept keep (let same = ap kept_count all in let many = kept_count-all len in omega (arith, same, many, some)))
 list_is N r len false x keep rule some (inr selection) = inr (rule, one_kept keep (selection.some refl))
 
 -- the round goes on from what is kept
-pub list_goes : (N : NormalForm) (s : Sym) (t : PlainTree) (queue : List Waiting) (n r a : ℕ) (ts : PlainTrees) (slot : Sym) (may_be_empty : Bool) (x : Sym) (keep : List Bool) → IsNextVisit N (fits_in N) s t queue n r a ts slot →
-    slice_get N.rules r ≡ Some (list_rule may_be_empty x) → IsRemainder (count ts) may_be_empty keep → GoesOn N s t (with_subtree n (PlainTree.node n r a (selected_trees keep ts)) t) (with_trees (selected_trees keep ts) queue)
+pub list_goes : (N : NormalForm) (s : Sym) (t : PlainTree) (queue : List Waiting) (n r a : ℕ) (ts : PlainTrees) (slot : Sym) (may_be_empty : Bool) (x : Sym)
+    (keep : List Bool) → IsNextVisit N (fits_in N) s t queue n r a ts slot →
+    slice_get N.rules r ≡ Some (list_rule may_be_empty x) → IsRemainder (count ts) may_be_empty keep
+    → GoesOn N s t (with_subtree n (PlainTree.node n r a (selected_trees keep ts)) t) (with_trees (selected_trees keep ts) queue)
 list_goes N s t queue n r a ts slot true x keep next rule remain = next.goes_on.star x keep rule remain
 list_goes N s t queue n r a ts slot false x keep next rule remain = next.goes_on.plus x keep rule remain
 
 -- A node with some of its children is found in its own position.
-module _ (N : NormalForm) (s : Sym) (t : PlainTree) (queue : List Waiting) (n r a : ℕ) (ts : PlainTrees) (slot : Sym) (next : IsNextVisit N (fits_in N) s t queue n r a ts slot) where
-  pub selected_there : (keep : List Bool) → subtree n (with_subtree n (PlainTree.node n r a (selected_trees keep ts)) t) ≡ Some (PlainTree.node n r a (selected_trees keep ts))
+module _ (N : NormalForm) (s : Sym) (t : PlainTree) (queue : List Waiting) (n r a : ℕ) (ts : PlainTrees) (slot : Sym)
+    (next : IsNextVisit N (fits_in N) s t queue n r a ts slot) where
+  pub selected_there : (keep : List Bool) → subtree n (with_subtree n (PlainTree.node n r a (selected_trees keep ts)) t) ≡ Some
+      (PlainTree.node n r a (selected_trees keep ts))
   selected_there keep =
       let v : PlainTree = PlainTree.node n r a ts in
       let w : PlainTree = PlainTree.node n r a (selected_trees keep ts) in
       let round = next.goes_on.nothing.round in
       let itself : subtree n v ≡ Some v = root_found v in
-      let other = other_nodes N s slot n t v w round.tree.valid round.rise next.node next.slot_is (node_left n r a ts (selected_trees keep ts) (selected_left keep ts)) in
+      let other =
+      other_nodes N s slot n t v w round.tree.valid round.rise next.node next.slot_is (node_left n r a ts (selected_trees keep ts) (selected_left keep ts)) in
       other.node_in n (ap is_some itself) ∙ root_found w
 
   -- the tree in which it keeps these, and what is tried from there
@@ -110,7 +118,9 @@ module _ (N : NormalForm) (s : Sym) (t : PlainTree) (queue : List Waiting) (n r 
 
   -- with all of them it is the same tree
   pub all_kept : kept_tree (replicate (count ts) true) ≡ t
-  all_kept = ap (λ us. with_subtree n (PlainTree.node n r a us) t) (selected_all ts) ∙ same_with n t (PlainTree.node n r a ts) next.goes_on.nothing.round.rise next.node
+  all_kept =
+      ap (λ us. with_subtree n (PlainTree.node n r a us) t) (selected_all ts)
+      ∙ same_with n t (PlainTree.node n r a ts) next.goes_on.nothing.round.rise next.node
 
 -- The list step at a question.
 module _ (N : NormalForm) (s : Sym) (t : PlainTree) (queue : List Waiting) (list : ℕ) (step : State) (is : IsElements N s t queue list step) where
@@ -140,30 +150,40 @@ module _ (N : NormalForm) (s : Sym) (t : PlainTree) (queue : List Waiting) (list
   trials_of = kept_trials N s t queue list is.rule is.alt is.elements is.slot is.next
 
   -- what it asks is tried
-  pub tries : (question : List Bool) → asks step ≡ Some question → elements_tried N s t queue step (subtree list t) ≡ Try (tree_of question) (list_trials tree_of trials_of (after step true)) (list_trials tree_of trials_of (after step false))
-  tries question asked = tried_is N s t queue list is.rule is.alt is.elements is.slot is.next step ∙ at_question tree_of trials_of step question is.step_is.sound asked
+  pub tries : (question : List Bool) → asks step ≡ Some question
+      → elements_tried N s t queue step (subtree list t) ≡ Try (tree_of question) (list_trials tree_of trials_of (after step true))
+      (list_trials tree_of trials_of (after step false))
+  tries question asked =
+      tried_is N s t queue list is.rule is.alt is.elements is.slot is.next step ∙ at_question tree_of trials_of step question is.step_is.sound asked
 
-  pub tries_kept : (question : List Bool) → asks step ≡ Some question → (u : PlainTree) → HasChildren list (selected_trees question) t u → tried_state (elements_tried N s t queue step (subtree list t)) ≡ Some u
+  pub tries_kept : (question : List Bool) → asks step ≡ Some question → (u : PlainTree) → HasChildren list (selected_trees question) t u
+      → tried_state (elements_tried N s t queue step (subtree list t)) ≡ Some u
   tries_kept question asked u has = ap tried_state (tries question asked) ∙ ap (λ (v : PlainTree). Some v) (sym (has is.rule is.alt is.elements is.next.node))
 
   -- After an answer.
 
-  trials_are : (question : List Bool) → asks step ≡ Some question → (answer : Bool) → list_trials tree_of trials_of (after step answer) ≡ trials_after (elements_tried N s t queue step (subtree list t)) answer
+  trials_are : (question : List Bool) → asks step ≡ Some question → (answer : Bool)
+      → list_trials tree_of trials_of (after step answer) ≡ trials_after (elements_tried N s t queue step (subtree list t)) answer
   trials_are question asked true = sym (ap (λ trials. trials_after trials true) (tries question asked))
   trials_are question asked false = sym (ap (λ trials. trials_after trials false) (tries question asked))
 
-  tree_is : (question : List Bool) → asks step ≡ Some question → (answer : Bool) → tree_of (kept (after step answer)) ≡ state_after (with_kept t step (subtree list t)) (elements_tried N s t queue step (subtree list t)) answer
-  tree_is question asked true = ap tree_of (kept_at_yes step question is.step_is.sound asked) ∙ sym (ap (λ trials. state_after (with_kept t step (subtree list t)) trials true) (tries question asked))
+  tree_is : (question : List Bool) → asks step ≡ Some question → (answer : Bool)
+      → tree_of (kept (after step answer)) ≡ state_after (with_kept t step (subtree list t)) (elements_tried N s t queue step (subtree list t)) answer
+  tree_is question asked true =
+      ap tree_of (kept_at_yes step question is.step_is.sound asked)
+      ∙ sym (ap (λ trials. state_after (with_kept t step (subtree list t)) trials true) (tries question asked))
   tree_is question asked false =
       ap tree_of (kept_at_no step question is.step_is.sound asked)
       ∙ sym (kept_is N s t queue list is.rule is.alt is.elements is.slot is.next step)
       ∙ sym (ap (λ trials. state_after (with_kept t step (subtree list t)) trials false) (tries question asked))
 
-  remain_after : (question : List Bool) → asks step ≡ Some question → (answer : Bool) (keep : List Bool) → IsRemainderAt (after step answer) keep → IsRemainder (count is.elements) is.may_be_empty keep
+  remain_after : (question : List Bool) → asks step ≡ Some question → (answer : Bool) (keep : List Bool) → IsRemainderAt (after step answer) keep
+      → IsRemainder (count is.elements) is.may_be_empty keep
   remain_after question asked answer keep remain = is.step_is.remainders keep (remainder-after step question is.step_is.sound asked answer keep remain)
 
   -- there is one more question
-  step_after : (question : List Bool) → asks step ≡ Some question → (answer : Bool) → IsSome (asks (after step answer)) → IsElements N s t queue list (after step answer)
+  step_after : (question : List Bool) → asks step ≡ Some question → (answer : Bool) → IsSome (asks (after step answer))
+      → IsElements N s t queue list (after step answer)
   step_after question asked answer asking = record {
     rule = is.rule;
     alt = is.alt;
@@ -182,7 +202,9 @@ module _ (N : NormalForm) (s : Sym) (t : PlainTree) (queue : List Waiting) (list
   }
 
   abbrev GoesOnAfter : Bool → PlainTree → List Waiting → Option Visit → Type 0
-  GoesOnAfter answer u later = GoesOnWith N s u later (state_after (with_kept t step (subtree list t)) (elements_tried N s t queue step (subtree list t)) answer) (trials_after (elements_tried N s t queue step (subtree list t)) answer)
+  GoesOnAfter answer u later =
+      GoesOnWith N s u later (state_after (with_kept t step (subtree list t)) (elements_tried N s t queue step (subtree list t)) answer)
+      (trials_after (elements_tried N s t queue step (subtree list t)) answer)
 
   pub goes_on_asking : (answer : Bool) (new : State) → new ≡ after step answer → IsSome (asks new) → GoesOnAfter answer t queue (Some (Elements list new))
   goes_on_asking answer new new_is asking =
@@ -198,7 +220,8 @@ module _ (N : NormalForm) (s : Sym) (t : PlainTree) (queue : List Waiting) (list
   pub can_end : (answer : Bool) (keep : List Bool) → keep ≡ kept (after step answer) → CanSelect N t list keep
   can_end answer keep keep_is =
       let it = some_of (asks step) is.step_is.asking in
-      can_select keep (subst (IsRemainder (count is.elements) is.may_be_empty) (sym keep_is) (remain_after it.0 it.1 answer (kept (after step answer)) (inl refl)))
+      can_select keep (subst (IsRemainder (count is.elements) is.may_be_empty) (sym keep_is)
+      (remain_after it.0 it.1 answer (kept (after step answer)) (inl refl)))
 
   module _ (keep : List Bool) (u : PlainTree) (has : HasChildren list (selected_trees keep) t u) where
     u_is : u ≡ tree_of keep
@@ -214,7 +237,8 @@ module _ (N : NormalForm) (s : Sym) (t : PlainTree) (queue : List Waiting) (list
         → ((v : PlainTree) → subtree list u ≡ Some v → later ≡ with_trees (children_of v) queue) → GoesOnAfter answer u later None
     goes_on_ended answer keep_is over later pushed =
         let it = some_of (asks step) is.step_is.asking in
-        let later_is : later ≡ with_trees (selected_trees keep is.elements) queue = pushed (PlainTree.node list is.rule is.alt (selected_trees keep is.elements)) there in
+        let later_is : later ≡ with_trees (selected_trees keep is.elements) queue =
+        pushed (PlainTree.node list is.rule is.alt (selected_trees keep is.elements)) there in
         let remain : IsRemainder (count is.elements) is.may_be_empty keep =
         subst (IsRemainder (count is.elements) is.may_be_empty) (sym keep_is) (remain_after it.0 it.1 answer (kept (after step answer)) (inl refl)) in
         let goes = list_goes N s t queue list is.rule is.alt is.elements is.slot is.may_be_empty is.symbol keep is.next is.is_list remain in
@@ -226,11 +250,14 @@ module _ (N : NormalForm) (s : Sym) (t : PlainTree) (queue : List Waiting) (list
               ∙ ap trials_of keep_is
               ∙ sym (at_end tree_of trials_of (after step answer) over)
               ∙ trials_are it.0 it.1 answer;
-          going = subst (λ (v : PlainTree). IsInRound N s v later) (sym u_is) (subst (λ (q : List Waiting). IsInRound N s (tree_of keep) q) (sym later_is) goes.round);
+          going =
+              subst (λ (v : PlainTree). IsInRound N s v later) (sym u_is)
+              (subst (λ (q : List Waiting). IsInRound N s (tree_of keep) q) (sym later_is) goes.round);
         }
 
 -- The list step at its start.
-module _ (N : NormalForm) (s : Sym) (t : PlainTree) (queue : List Waiting) (list : ℕ) (taken : IsTaken N s t queue list) (may_be_empty : Bool) (is_list : IsList N t list may_be_empty) where
+module _ (N : NormalForm) (s : Sym) (t : PlainTree) (queue : List Waiting) (list : ℕ) (taken : IsTaken N s t queue list) (may_be_empty : Bool)
+    (is_list : IsList N t list may_be_empty) where
   abbrev tree_at : List Bool → PlainTree
   tree_at = kept_tree N s t queue list taken.rule taken.alt taken.children taken.slot taken.next
 
@@ -240,7 +267,8 @@ module _ (N : NormalForm) (s : Sym) (t : PlainTree) (queue : List Waiting) (list
   rule_is : (x : Sym) × (slice_get N.rules taken.rule ≡ Some (list_rule may_be_empty x))
   rule_is = is_list taken.rule taken.alt taken.children taken.next.node
 
-  by_form : (empty : Bool) (x : Sym) → form_visited (goes_on N s) t queue (fits_in N) (slot_at N s list t) (Some (list_rule empty x)) list taken.rule taken.alt taken.children ≡ list_visited (goes_on N s) t queue empty list taken.rule taken.alt taken.children
+  by_form : (empty : Bool) (x : Sym) → form_visited (goes_on N s) t queue (fits_in N) (slot_at N s list t)
+      (Some (list_rule empty x)) list taken.rule taken.alt taken.children ≡ list_visited (goes_on N s) t queue empty list taken.rule taken.alt taken.children
   by_form true x = refl
   by_form false x = refl
 
@@ -251,7 +279,8 @@ module _ (N : NormalForm) (s : Sym) (t : PlainTree) (queue : List Waiting) (list
       ∙ by_form may_be_empty rule_is.0
 
   all_at : tree_at (kept (start (count taken.children) may_be_empty)) ≡ t
-  all_at = ap tree_at (keeps_all_at_first (count taken.children) may_be_empty) ∙ all_kept N s t queue list taken.rule taken.alt taken.children taken.slot taken.next
+  all_at =
+      ap tree_at (keeps_all_at_first (count taken.children) may_be_empty) ∙ all_kept N s t queue list taken.rule taken.alt taken.children taken.slot taken.next
 
   begun : IsSome (asks (start (count taken.children) may_be_empty)) → IsElements N s t queue list (start (count taken.children) may_be_empty)
   begun asking = record {
@@ -271,12 +300,14 @@ module _ (N : NormalForm) (s : Sym) (t : PlainTree) (queue : List Waiting) (list
     };
   }
 
-  pub begins_asking : (step : State) → step ≡ start (count taken.children) may_be_empty → IsSome (asks step) → GoesOnWith N s t queue t (node_trials N s t queue list) (Some (Elements list step))
+  pub begins_asking : (step : State) → step ≡ start (count taken.children) may_be_empty → IsSome (asks step)
+      → GoesOnWith N s t queue t (node_trials N s t queue list) (Some (Elements list step))
   begins_asking step step_is asking =
       let P : State → Type 0 = λ (st : State). IsSome (asks st) → GoesOnWith N s t queue t (node_trials N s t queue list) (Some (Elements list st)) in
       subst P (sym step_is) (λ some. record {
         left_is = kept_is N s t queue list taken.rule taken.alt taken.children taken.slot taken.next (start (count taken.children) may_be_empty) ∙ all_at;
-        rest_is = tried_is N s t queue list taken.rule taken.alt taken.children taken.slot taken.next (start (count taken.children) may_be_empty) ∙ sym visited_is;
+        rest_is =
+            tried_is N s t queue list taken.rule taken.alt taken.children taken.slot taken.next (start (count taken.children) may_be_empty) ∙ sym visited_is;
         going = begun some;
       }) asking
 
@@ -284,10 +315,12 @@ module _ (N : NormalForm) (s : Sym) (t : PlainTree) (queue : List Waiting) (list
   all_tried : trials_at (kept (start (count taken.children) may_be_empty)) ≡ goes_on N s t (with_trees taken.children queue)
   all_tried =
       ap trials_at (keeps_all_at_first (count taken.children) may_be_empty)
-      ∙ ap (λ (u : PlainTree). goes_on N s u (with_trees (selected_trees (replicate (count taken.children) true) taken.children) queue)) (all_kept N s t queue list taken.rule taken.alt taken.children taken.slot taken.next)
+      ∙ ap (λ (u : PlainTree). goes_on N s u (with_trees (selected_trees (replicate (count taken.children) true) taken.children) queue))
+      (all_kept N s t queue list taken.rule taken.alt taken.children taken.slot taken.next)
       ∙ ap (λ (us : PlainTrees). goes_on N s t (with_trees us queue)) (selected_all taken.children)
 
-  pub begins_ended : (step : State) → step ≡ start (count taken.children) may_be_empty → asks step ≡ None → (later : List Waiting) → ((v : PlainTree) → subtree list t ≡ Some v → later ≡ with_trees (children_of v) queue) →
+  pub begins_ended : (step : State) → step ≡ start (count taken.children) may_be_empty → asks step ≡ None → (later : List Waiting)
+      → ((v : PlainTree) → subtree list t ≡ Some v → later ≡ with_trees (children_of v) queue) →
       GoesOnWith N s t later t (node_trials N s t queue list) None
   begins_ended step step_is over later pushed =
       let later_is : later ≡ with_trees taken.children queue = pushed (PlainTree.node list taken.rule taken.alt taken.children) taken.next.node in
@@ -301,16 +334,19 @@ module _ (N : NormalForm) (s : Sym) (t : PlainTree) (queue : List Waiting) (list
         going = subst (λ (q : List Waiting). IsInRound N s t q) (sym later_is) taken.next.goes_on.children.round;
       }
 
-  pub begins_fewer : (later : List Waiting) → ((v : PlainTree) → subtree list t ≡ Some v → later ≡ with_trees (children_of v) queue) → HasFewer t list queue later None
+  pub begins_fewer : (later : List Waiting) → ((v : PlainTree) → subtree list t ≡ Some v → later ≡ with_trees (children_of v) queue)
+      → HasFewer t list queue later None
   begins_fewer later pushed none =
       let later_is : later ≡ with_trees taken.children queue = pushed (PlainTree.node list taken.rule taken.alt taken.children) taken.next.node in
-      subst (λ (q : List Waiting). HasFewer t list queue q None) (sym later_is) (λ same. children_fewer t list taken.rule taken.alt taken.children queue taken.next.goes_on.nothing.round.rise taken.next.node) none
+      subst (λ (q : List Waiting). HasFewer t list queue q None) (sym later_is)
+      (λ same. children_fewer t list taken.rule taken.alt taken.children queue taken.next.goes_on.nothing.round.rise taken.next.node) none
 
 roots_count : (ts : PlainTrees) → length (roots ts) ≡ count ts
 roots_count PlainTrees.none = refl
 roots_count (PlainTrees.next t ts) = let rest = roots_count ts in omega (arith, rest)
 
-pub elements_count : (o : Option PlainTree) (numbers : List ℕ) (n r a : ℕ) (ts : PlainTrees) → option_map (λ (t : PlainTree). roots (children_of t)) o ≡ Some numbers → o ≡ Some (PlainTree.node n r a ts) → length numbers ≡ count ts
+pub elements_count : (o : Option PlainTree) (numbers : List ℕ) (n r a : ℕ) (ts : PlainTrees)
+    → option_map (λ (t : PlainTree). roots (children_of t)) o ≡ Some numbers → o ≡ Some (PlainTree.node n r a ts) → length numbers ≡ count ts
 elements_count o numbers n r a ts are e = ap length (children_are o numbers (PlainTree.node n r a ts) are e) ∙ roots_count ts
 
 -- A node of the parsed tree has fewer children than there are nodes.
@@ -319,7 +355,8 @@ own_number : (low high : ℕ) (t : PlainTree) → IsWithin low high t → low �
 own_number low high (PlainTree.leaf n k i) within = within.0
 own_number low high (PlainTree.node n r a ts) within = within.0
 
-last_number : (low high : ℕ) (t : PlainTree) (ts : PlainTrees) → AreWithin low high (PlainTrees.next t ts) → (q : ℕ) × (u : PlainTree) × (subtree_among q (PlainTrees.next t ts) ≡ Some u) × (low + count ts ≤ q)
+last_number : (low high : ℕ) (t : PlainTree) (ts : PlainTrees) → AreWithin low high (PlainTrees.next t ts) → (q : ℕ) × (u : PlainTree)
+    × (subtree_among q (PlainTrees.next t ts) ≡ Some u) × (low + count ts ≤ q)
 last_number low high t PlainTrees.none within =
     (number_of t, t, first_found (number_of t) t PlainTrees.none t (root_found t), let own = own_number low within.0 t within.1 in omega (arith, own))
 last_number low high t (PlainTrees.next v ts) within =
@@ -328,7 +365,8 @@ last_number low high t (PlainTrees.next v ts) within =
     let more = it.3 in
     (it.0, it.1, later_found low within.0 high it.0 t (PlainTrees.next v ts) it.1 within.1 within.2 it.2, omega (arith, own, more))
 
-count_bound : (nodes : ℕ) (low high : ℕ) (ts : PlainTrees) → 0 < nodes → AreWithin (low + 1) high ts → ((q : ℕ) (u : PlainTree) → subtree_among q ts ≡ Some u → q < nodes) → count ts < nodes
+count_bound : (nodes : ℕ) (low high : ℕ) (ts : PlainTrees) → 0 < nodes → AreWithin (low + 1) high ts
+    → ((q : ℕ) (u : PlainTree) → subtree_among q ts ≡ Some u → q < nodes) → count ts < nodes
 count_bound nodes low high PlainTrees.none some within below = some
 count_bound nodes low high (PlainTrees.next t ts) some within below =
     let it = last_number (low + 1) high t ts within in
@@ -336,10 +374,12 @@ count_bound nodes low high (PlainTrees.next t ts) some within below =
     let le = it.3 in
     omega (arith, lt, le)
 
-pub count_few : (tree : SyntaxTree) → AreNodesOf tree.form tree.start tree.nodes (whole tree) → (c : CutForm) → IsCutOf tree c → (n r a : ℕ) (ts : PlainTrees) → subtree n (cut_tree tree c) ≡ Some (PlainTree.node n r a ts) → count ts < length tree.nodes
+pub count_few : (tree : SyntaxTree) → AreNodesOf tree.form tree.start tree.nodes (whole tree) → (c : CutForm) → IsCutOf tree c → (n r a : ℕ) (ts : PlainTrees)
+    → subtree n (cut_tree tree c) ≡ Some (PlainTree.node n r a ts) → count ts < length tree.nodes
 count_few tree are c of n r a ts e =
     let rise = cut_rises tree are c of in
     let within = children_within n r a ts (node_rises n (cut_tree tree c) (PlainTree.node n r a ts) rise e) in
-    let there : (q : ℕ) (u : PlainTree) → subtree q (cut_tree tree c) ≡ Some u → q < length tree.nodes = λ q u f. let node = left_node tree are c of q u f in slice_get_within tree.nodes q node.0 node.1 in
+    let there : (q : ℕ) (u : PlainTree) → subtree q (cut_tree tree c) ≡ Some u → q < length tree.nodes = λ q u f. let node =
+    left_node tree are c of q u f in slice_get_within tree.nodes q node.0 node.1 in
     count_bound (length tree.nodes) n within.0 ts (let lt = there n (PlainTree.node n r a ts) e in omega (arith, lt)) within.1
     (λ q u f. there q u (node_deeper n q (cut_tree tree c) (PlainTree.node n r a ts) u rise e (child_found within.0 n r a q ts u within.1 f)))

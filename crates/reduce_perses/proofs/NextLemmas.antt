@@ -36,10 +36,12 @@ optional_rule (Some (RuleForm.plus x)) e = absurd (cc)
 optional_rule (Some (RuleForm.opt x)) e = (x, refl)
 
 -- an optional that has a leaf has one child
-one_child : (N : NormalForm) (slot : Sym) (n r a : ℕ) (ts : PlainTrees) (y : Sym) → IsValid N slot (PlainTree.node n r a ts) → slice_get N.rules r ≡ Some (RuleForm.opt y) → 0 < weight_all ts →
+one_child : (N : NormalForm) (slot : Sym) (n r a : ℕ) (ts : PlainTrees) (y : Sym) → IsValid N slot (PlainTree.node n r a ts)
+    → slice_get N.rules r ≡ Some (RuleForm.opt y) → 0 < weight_all ts →
     (u : PlainTree) × (ts ≡ PlainTrees.next u PlainTrees.none)
 one_child N slot n r a PlainTrees.none y valid rule heavy = absurd (let no : 0 < 0 = heavy in omega (arith, no))
-one_child N slot n r a (PlainTrees.next u us) y valid rule heavy = (u, ap (λ (vs : PlainTrees). PlainTrees.next u vs) (optional_form N slot n r a u us y valid rule))
+one_child N slot n r a (PlainTrees.next u us) y valid rule heavy =
+    (u, ap (λ (vs : PlainTrees). PlainTrees.next u vs) (optional_form N slot n r a u us y valid rule))
 
 module _ (N : NormalForm) (s : Sym) (t : PlainTree) where
   module _ (node : ℕ) (shape : Shape) (shape_is : option_and_then (shape_of N) (subtree node t) ≡ Some shape) where
@@ -62,7 +64,8 @@ module _ (N : NormalForm) (s : Sym) (t : PlainTree) where
             is_optional = rule;
           }
 
-      content_trials : (x : Sym) → slice_get N.rules taken.rule ≡ Some (RuleForm.opt x) → content_tried N s t queue (subtree node t) ≡ node_trials N s t queue node
+      content_trials : (x : Sym) → slice_get N.rules taken.rule ≡ Some (RuleForm.opt x)
+          → content_tried N s t queue (subtree node t) ≡ node_trials N s t queue node
       content_trials x rule =
           ap (content_tried N s t queue) taken.next.node
           ∙ sym (ap (node_visited (goes_on N s) t queue N (fits_in N) s) taken.next.node
@@ -70,7 +73,8 @@ module _ (N : NormalForm) (s : Sym) (t : PlainTree) where
 
       pub content_begins : shape ≡ Optional → GoesOnWith N s t queue t (node_trials N s t queue node) (Some (Content node))
       content_begins same =
-          let it = optional_rule (slice_get N.rules taken.rule) (rule_shape taken.rule taken.alt taken.children taken.next.node ∙ ap (λ (x : Shape). Some x) same) in
+          let it =
+          optional_rule (slice_get N.rules taken.rule) (rule_shape taken.rule taken.alt taken.children taken.next.node ∙ ap (λ (x : Shape). Some x) same) in
           record { left_is = refl; rest_is = content_trials it.0 it.1; going = content_is it.0 it.1 }
 
   -- A node was taken out of the queue: it is visited, and then the round goes on.
@@ -88,12 +92,14 @@ module _ (N : NormalForm) (s : Sym) (t : PlainTree) where
         nodes = refl;
       }
 
-  pub popped : (queue later : List Waiting) (node : ℕ) → IsInRound N s t queue → option_map (λ (w : Waiting). w.node) (slice_get queue 0) ≡ Some node → later ≡ drop 1 queue → IsPopped queue later node
+  pub popped : (queue later : List Waiting) (node : ℕ) → IsInRound N s t queue → option_map (λ (w : Waiting). w.node) (slice_get queue 0) ≡ Some node
+      → later ≡ drop 1 queue → IsPopped queue later node
   popped [] later node round first rest = absurd (none-some node first)
   popped (next ∷ queue) later node round first rest =
       let same : next.node ≡ node = same_Some next.node node first in
       let tail : queue ≡ later = sym rest in
-      subst (λ (q : ℕ). IsPopped (next ∷ queue) later q) same (subst (λ (l : List Waiting). IsPopped (next ∷ queue) l next.node) tail (popped_first next queue round))
+      subst (λ (q : ℕ). IsPopped (next ∷ queue) later q) same
+      (subst (λ (l : List Waiting). IsPopped (next ∷ queue) l next.node) tail (popped_first next queue round))
 
   -- where none waits, nothing more is tried
   pub none_popped : (queue : List Waiting) → option_map (λ (w : Waiting). w.node) (slice_get queue 0) ≡ None → goes_on N s t queue ≡ Done
@@ -116,7 +122,8 @@ none_of : {A : Type 0} (o : Option A) → is_some o ≡ false → o ≡ None
 none_of None none = refl
 none_of (Some x) none = absurd (cc)
 
-within_some : (N : NormalForm) (s : Sym) (t : PlainTree) (queue : List Waiting) (visit : Option Visit) → is_some visit ≡ true → trials_within N s t queue visit ≡ trials_from N s t queue visit
+within_some : (N : NormalForm) (s : Sym) (t : PlainTree) (queue : List Waiting) (visit : Option Visit) → is_some visit ≡ true
+    → trials_within N s t queue visit ≡ trials_from N s t queue visit
 within_some N s t queue None some = absurd (cc)
 within_some N s t queue (Some visit) some = refl
 
@@ -155,5 +162,6 @@ module _ (N : NormalForm) (s : Sym) (t : PlainTree) (first queue later : List Wa
     next_fewer none fewer = let less = fewer (none_of visit none) in let nodes = at_next.nodes in omega (arith, less, nodes)
 
 -- at its end nothing more is tried
-pub ends_at : (N : NormalForm) (s : Sym) (t : PlainTree) (first queue : List Waiting) → IsAtQueue N s t first queue → option_map (λ (w : Waiting). w.node) (slice_get queue 0) ≡ None → Done ≡ goes_on N s t first
+pub ends_at : (N : NormalForm) (s : Sym) (t : PlainTree) (first queue : List Waiting) → IsAtQueue N s t first queue
+    → option_map (λ (w : Waiting). w.node) (slice_get queue 0) ≡ None → Done ≡ goes_on N s t first
 ends_at N s t first queue at none = sym (none_popped N s t queue none) ∙ at.same

@@ -27,7 +27,9 @@ pub(crate) fn after_content(
     requires of { IsCutOf tree.now cut.old }
     requires visit { IsContent tree.now.form tree.now.start (cut_tree tree.now cut.old) queue.old node }
     ensures of { IsCutOf tree.now cut.new }
-    ensures on { IfOk result (GoesOnWith tree.now.form tree.now.start (cut_tree tree.now cut.new) queue.new (state_after (cut_tree tree.now cut.old) (visit_trials tree.now.form tree.now.start (cut_tree tree.now cut.old) queue.old (Content node)) yes) (trials_after (visit_trials tree.now.form tree.now.start (cut_tree tree.now cut.old) queue.old (Content node)) yes)) }
+    ensures on { IfOk result (GoesOnWith tree.now.form tree.now.start (cut_tree tree.now cut.new) queue.new
+        (state_after (cut_tree tree.now cut.old) (visit_trials tree.now.form tree.now.start (cut_tree tree.now cut.old) queue.old (Content node)) yes)
+        (trials_after (visit_trials tree.now.form tree.now.start (cut_tree tree.now cut.old) queue.old (Content node)) yes)) }
 {
     if yes {
         cut.delete_optional(tree, node);

@@ -28,7 +28,8 @@ pub(crate) fn begin_descendants(
     requires compat { compat.now ≡ tree.now.form }
     requires taken { IsTaken tree.now.form tree.now.start (cut_tree tree.now cut.now) queue.old node }
     requires regular { IsRegular tree.now.form (cut_tree tree.now cut.now) node }
-    ensures on { IfOk result (GoesOnWith tree.now.form tree.now.start (cut_tree tree.now cut.now) queue.new (cut_tree tree.now cut.now) (node_trials tree.now.form tree.now.start (cut_tree tree.now cut.now) queue.old node)) }
+    ensures on { IfOk result (GoesOnWith tree.now.form tree.now.start (cut_tree tree.now cut.now) queue.new (cut_tree tree.now cut.now)
+        (node_trials tree.now.form tree.now.start (cut_tree tree.now cut.now) queue.old node)) }
     ensures fewer { IfOk result (HasFewer (cut_tree tree.now cut.now) node queue.old queue.new) }
 {
     let found = compatible(alloc, tree, cut, compat, node)?;
@@ -48,7 +49,8 @@ fn descendant_at(
     requires of { IsCutOf tree.now cut.now }
     requires descendants { AreFound tree.now.form tree.now.start (cut_tree tree.now cut.now) queue.old node found.items }
     requires within { at ≤ length found.items }
-    ensures on { IfOk result (GoesOnWith tree.now.form tree.now.start (cut_tree tree.now cut.now) queue.new (cut_tree tree.now cut.now) (descendants_at tree.now.form tree.now.start (cut_tree tree.now cut.now) queue.old at node)) }
+    ensures on { IfOk result (GoesOnWith tree.now.form tree.now.start (cut_tree tree.now cut.now) queue.new (cut_tree tree.now cut.now)
+        (descendants_at tree.now.form tree.now.start (cut_tree tree.now cut.now) queue.old at node)) }
     ensures fewer { IfOk result (HasFewer (cut_tree tree.now cut.now) node queue.old queue.new) }
 {
     if at < found.len() {
@@ -72,7 +74,9 @@ pub(crate) fn after_replacement(
     requires compat { compat.now ≡ tree.now.form }
     requires visit { AreDescendants tree.now.form tree.now.start (cut_tree tree.now cut.old) queue.old node found.items at }
     ensures of { IsCutOf tree.now cut.new }
-    ensures on { IfOk result (GoesOnWith tree.now.form tree.now.start (cut_tree tree.now cut.new) queue.new (state_after (cut_tree tree.now cut.old) (descendants_at tree.now.form tree.now.start (cut_tree tree.now cut.old) queue.old at node) true) (trials_after (descendants_at tree.now.form tree.now.start (cut_tree tree.now cut.old) queue.old at node) true)) }
+    ensures on { IfOk result (GoesOnWith tree.now.form tree.now.start (cut_tree tree.now cut.new) queue.new
+        (state_after (cut_tree tree.now cut.old) (descendants_at tree.now.form tree.now.start (cut_tree tree.now cut.old) queue.old at node) true)
+        (trials_after (descendants_at tree.now.form tree.now.start (cut_tree tree.now cut.old) queue.old at node) true)) }
 {
     let by = found[at];
     cut.replace(tree, compat, node, by);
@@ -92,7 +96,9 @@ pub(crate) fn next_descendant(
 ) -> Result<Option<Visit>, Memory>
     requires of { IsCutOf tree.now cut.now }
     requires visit { AreDescendants tree.now.form tree.now.start (cut_tree tree.now cut.now) queue.old node found.items at }
-    ensures on { IfOk result (GoesOnWith tree.now.form tree.now.start (cut_tree tree.now cut.now) queue.new (state_after (cut_tree tree.now cut.now) (descendants_at tree.now.form tree.now.start (cut_tree tree.now cut.now) queue.old at node) false) (trials_after (descendants_at tree.now.form tree.now.start (cut_tree tree.now cut.now) queue.old at node) false)) }
+    ensures on { IfOk result (GoesOnWith tree.now.form tree.now.start (cut_tree tree.now cut.now) queue.new
+        (state_after (cut_tree tree.now cut.now) (descendants_at tree.now.form tree.now.start (cut_tree tree.now cut.now) queue.old at node) false)
+        (trials_after (descendants_at tree.now.form tree.now.start (cut_tree tree.now cut.now) queue.old at node) false)) }
 {
     descendant_at(alloc, tree, cut, queue, node, found, at + 1)
 }

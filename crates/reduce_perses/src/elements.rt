@@ -30,7 +30,8 @@ pub(crate) fn begin_elements(
     requires of { IsCutOf tree.now cut.now }
     requires taken { IsTaken tree.now.form tree.now.start (cut_tree tree.now cut.now) queue.old list }
     requires list { IsList tree.now.form (cut_tree tree.now cut.now) list may_be_empty }
-    ensures on { IfOk result (GoesOnWith tree.now.form tree.now.start (cut_tree tree.now cut.now) queue.new (cut_tree tree.now cut.now) (node_trials tree.now.form tree.now.start (cut_tree tree.now cut.now) queue.old list)) }
+    ensures on { IfOk result (GoesOnWith tree.now.form tree.now.start (cut_tree tree.now cut.now) queue.new (cut_tree tree.now cut.now)
+        (node_trials tree.now.form tree.now.start (cut_tree tree.now cut.now) queue.old list)) }
     ensures fewer { IfOk result (HasFewer (cut_tree tree.now cut.now) list queue.old queue.new) }
 {
     let _nodes = tree.nodes();
@@ -56,7 +57,10 @@ pub(crate) fn after_elements(
     requires of { IsCutOf tree.now cut.old }
     requires visit { IsElements tree.now.form tree.now.start (cut_tree tree.now cut.old) queue.old list step }
     ensures of { IsCutOf tree.now cut.new }
-    ensures on { IfOk result (GoesOnWith tree.now.form tree.now.start (cut_tree tree.now cut.new) queue.new (state_after (tree_within (cut_tree tree.now cut.old) (Elements list step)) (visit_trials tree.now.form tree.now.start (cut_tree tree.now cut.old) queue.old (Elements list step)) yes) (trials_after (visit_trials tree.now.form tree.now.start (cut_tree tree.now cut.old) queue.old (Elements list step)) yes)) }
+    ensures on { IfOk result (GoesOnWith tree.now.form tree.now.start (cut_tree tree.now cut.new) queue.new
+        (state_after (tree_within (cut_tree tree.now cut.old) (Elements list step))
+        (visit_trials tree.now.form tree.now.start (cut_tree tree.now cut.old) queue.old (Elements list step)) yes)
+        (trials_after (visit_trials tree.now.form tree.now.start (cut_tree tree.now cut.old) queue.old (Elements list step)) yes)) }
 {
     step.answer(yes);
     if step.asks().is_some() {

@@ -200,7 +200,8 @@ fn visit_or_next(
     requires of { IsCutOf tree.now cut.now }
     requires compat { compat.now ≡ tree.now.form }
     requires going { IsGoing tree.now.form tree.now.start (cut_tree tree.now cut.now) queue.old visit }
-    ensures rest { IfOk result (λ next. trials_within tree.now.form tree.now.start (cut_tree tree.now cut.now) queue.new next ≡ trials_from tree.now.form tree.now.start (cut_tree tree.now cut.now) queue.old visit) }
+    ensures rest { IfOk result (λ next. trials_within tree.now.form tree.now.start (cut_tree tree.now cut.now) queue.new next
+        ≡ trials_from tree.now.form tree.now.start (cut_tree tree.now cut.now) queue.old visit) }
     ensures left { IfOk result (λ next. tree_left (cut_tree tree.now cut.now) next ≡ tree_left (cut_tree tree.now cut.now) visit) }
     ensures visiting { IfOk result (λ next. IsVisiting tree.now.form tree.now.start (cut_tree tree.now cut.now) queue.new next) }
 {

@@ -70,9 +70,11 @@ impl Visit {
 
 /// The same again, where there is one.
 pub(crate) fn copy_of(visit: &Option<Visit>) -> Result<Option<Visit>, Memory>
-    ensures trials { IfOk result (λ copy. (N : NormalForm) (s : Symbol) (t : PlainTree) (queue : List Waiting) → trials_within N s t queue copy ≡ trials_within N s t queue visit.now) }
+    ensures trials { IfOk result (λ copy. (N : NormalForm) (s : Symbol) (t : PlainTree) (queue : List Waiting)
+        → trials_within N s t queue copy ≡ trials_within N s t queue visit.now) }
     ensures left { IfOk result (λ copy. (t : PlainTree) → tree_left t copy ≡ tree_left t visit.now) }
-    ensures visiting { IfOk result (λ copy. (N : NormalForm) (s : Symbol) (t : PlainTree) (queue : List Waiting) → IsVisiting N s t queue visit.now → IsVisiting N s t queue copy) }
+    ensures visiting { IfOk result (λ copy. (N : NormalForm) (s : Symbol) (t : PlainTree) (queue : List Waiting) → IsVisiting N s t queue visit.now
+        → IsVisiting N s t queue copy) }
 {
     match visit {
         None => Ok(None),
@@ -95,7 +97,8 @@ pub(crate) fn tried_cut(
     requires compat { compat.now ≡ tree.now.form }
     requires queue { (queue : List Waiting) × IsVisit tree.now.form tree.now.start (cut_tree tree.now cut.now) queue visit.now }
     ensures of { IfOk result (λ tried. IsCutOf tree.now tried) }
-    ensures tried { IfOk result (λ tried. (queue : List Waiting) → IsVisit tree.now.form tree.now.start (cut_tree tree.now cut.now) queue visit.now → tried_state (visit_trials tree.now.form tree.now.start (cut_tree tree.now cut.now) queue visit.now) ≡ Some (cut_tree tree.now tried)) }
+    ensures tried { IfOk result (λ tried. (queue : List Waiting) → IsVisit tree.now.form tree.now.start (cut_tree tree.now cut.now) queue visit.now
+        → tried_state (visit_trials tree.now.form tree.now.start (cut_tree tree.now cut.now) queue visit.now) ≡ Some (cut_tree tree.now tried)) }
 {
     let mut tried = cut.copy()?;
     make_edit(tree, compat, &mut tried, visit);
@@ -108,7 +111,8 @@ fn make_edit(tree: &Tree, compat: &Compat, cut: &mut Cut, visit: &Visit)
     requires compat { compat.now ≡ tree.now.form }
     requires queue { (queue : List Waiting) × IsVisit tree.now.form tree.now.start (cut_tree tree.now cut.old) queue visit.now }
     ensures of { IsCutOf tree.now cut.new }
-    ensures tried { (queue : List Waiting) → IsVisit tree.now.form tree.now.start (cut_tree tree.now cut.old) queue visit.now → tried_state (visit_trials tree.now.form tree.now.start (cut_tree tree.now cut.old) queue visit.now) ≡ Some (cut_tree tree.now cut.new) }
+    ensures tried { (queue : List Waiting) → IsVisit tree.now.form tree.now.start (cut_tree tree.now cut.old) queue visit.now
+        → tried_state (visit_trials tree.now.form tree.now.start (cut_tree tree.now cut.old) queue visit.now) ≡ Some (cut_tree tree.now cut.new) }
 {
     match visit {
         Visit::Elements { list, step } => keep_asked(tree, cut, *list, step),
@@ -146,7 +150,8 @@ pub(crate) fn next_visit(
     requires of { IsCutOf tree.now cut.now }
     requires compat { compat.now ≡ tree.now.form }
     requires round { IsInRound tree.now.form tree.now.start (cut_tree tree.now cut.now) queue.old }
-    ensures rest { IfOk result (λ next. trials_within tree.now.form tree.now.start (cut_tree tree.now cut.now) queue.new next ≡ goes_on tree.now.form tree.now.start (cut_tree tree.now cut.now) queue.old) }
+    ensures rest { IfOk result (λ next. trials_within tree.now.form tree.now.start (cut_tree tree.now cut.now) queue.new next
+        ≡ goes_on tree.now.form tree.now.start (cut_tree tree.now cut.now) queue.old) }
     ensures left { IfOk result (λ next. tree_left (cut_tree tree.now cut.now) next ≡ cut_tree tree.now cut.now) }
     ensures visiting { IfOk result (λ next. IsVisiting tree.now.form tree.now.start (cut_tree tree.now cut.now) queue.new next) }
 {
@@ -172,7 +177,8 @@ pub(crate) fn begin_visit(
     requires of { IsCutOf tree.now cut.now }
     requires compat { compat.now ≡ tree.now.form }
     requires taken { IsTaken tree.now.form tree.now.start (cut_tree tree.now cut.now) queue.old node }
-    ensures on { IfOk result (GoesOnWith tree.now.form tree.now.start (cut_tree tree.now cut.now) queue.new (cut_tree tree.now cut.now) (node_trials tree.now.form tree.now.start (cut_tree tree.now cut.now) queue.old node)) }
+    ensures on { IfOk result (GoesOnWith tree.now.form tree.now.start (cut_tree tree.now cut.now) queue.new (cut_tree tree.now cut.now)
+        (node_trials tree.now.form tree.now.start (cut_tree tree.now cut.now) queue.old node)) }
     ensures fewer { IfOk result (HasFewer (cut_tree tree.now cut.now) node queue.old queue.new) }
 {
     match cut.shape(tree, node) {
@@ -199,7 +205,10 @@ pub(crate) fn after_answer(
     requires compat { compat.now ≡ tree.now.form }
     requires visit { IsVisit tree.now.form tree.now.start (cut_tree tree.now cut.old) queue.old visit }
     ensures of { IsCutOf tree.now cut.new }
-    ensures on { IfOk result (GoesOnWith tree.now.form tree.now.start (cut_tree tree.now cut.new) queue.new (state_after (tree_within (cut_tree tree.now cut.old) visit) (visit_trials tree.now.form tree.now.start (cut_tree tree.now cut.old) queue.old visit) yes) (trials_after (visit_trials tree.now.form tree.now.start (cut_tree tree.now cut.old) queue.old visit) yes)) }
+    ensures on { IfOk result (GoesOnWith tree.now.form tree.now.start (cut_tree tree.now cut.new) queue.new
+        (state_after (tree_within (cut_tree tree.now cut.old) visit)
+        (visit_trials tree.now.form tree.now.start (cut_tree tree.now cut.old) queue.old visit) yes)
+        (trials_after (visit_trials tree.now.form tree.now.start (cut_tree tree.now cut.old) queue.old visit) yes)) }
 {
     match visit {
         Visit::Elements { list, step } => {

@@ -22,7 +22,8 @@ pub(crate) fn push_if_waiting(
 ) -> Result<(), Memory>
     requires of { IsCutOf tree.now cut.now }
     requires left { IsSome (subtree node (cut_tree tree.now cut.now)) }
-    ensures { OnOk result ((u : PlainTree) → subtree node (cut_tree tree.now cut.now) ≡ Some u → queue.new ≡ with_trees (PlainTrees.next u PlainTrees.none) queue.old) }
+    ensures { OnOk result ((u : PlainTree) → subtree node (cut_tree tree.now cut.now) ≡ Some u
+        → queue.new ≡ with_trees (PlainTrees.next u PlainTrees.none) queue.old) }
 {
     if cut.shape(tree, node) == Shape::Leaf {
         return Ok(());

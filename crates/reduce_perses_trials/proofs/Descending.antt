@@ -1,5 +1,6 @@
 -- What is below a node.
-use Rattle.std.proofs.Common.{◌≡◌, ◌⊎◌, inl, inr, ℕ, zero, suc, ◌<◌, ◌≤◌, Bool, true, false, List, [], ◌∷◌, Some, None, Contains, length, nat_eq, nat_lt, refl, sym, ap, ◌∙◌, subst, arith}
+use Rattle.std.proofs.Common.{◌≡◌, ◌⊎◌, inl, inr, ℕ, zero, suc, ◌<◌, ◌≤◌, Bool, true, false, List, [], ◌∷◌, Some, None}
+use Rattle.std.proofs.Common.{Contains, length, nat_eq, nat_lt, refl, sym, ap, ◌∙◌, subst, arith}
 use Rattle.std.specs.Prelude.{◌&&◌}
 use Rattle.std.specs.List.{AllByRecursion, filter}
 use Rattle.std.proofs.lemmas.Bool.{cases_Bool, cond-false, cond-true, false≢true}
@@ -9,7 +10,8 @@ use Rattle.std.proofs.lemmas.List.Elements.{All-contains_itself, All-weaker, rec
 use Rattle.normal_form.specs.declared.normal.Sym.{Sym}
 use Rattle.normal_form.specs.Form.{NormalForm}
 use Rattle.compat_table.specs.Fits.{Fits}
-use Rattle.syntax_tree.specs.Trees.{PlainTree, PlainTrees, IsBelow, IsIn, IsInSome, below, in_first, in_later, itself, size, size_all, symbol_of, weight, weight_all}
+use Rattle.syntax_tree.specs.Trees.{PlainTree, PlainTrees, IsBelow, IsIn, IsInSome, below, in_first, in_later}
+use Rattle.syntax_tree.specs.Trees.{itself, size, size_all, symbol_of, weight, weight_all}
 use Rattle.syntax_tree.specs.Numbered.{subtree}
 use Rattle.syntax_tree.specs.Levels.{below_in_level_order}
 use Rattle.syntax_tree.proofs.Lent.{is_in, levels}
@@ -37,7 +39,8 @@ mutual
 -- a node waits where something in it waits
 pub waits_around : (q : ℕ) (x v : PlainTree) → subtree q x ≡ Some v → waits v ≡ true → 0 < weight v → waits x ≡ true
 waits_around q (PlainTree.leaf n k i) v e is heavy = elim (cases_Bool (nat_eq n q)) [
-  | inl same ↦ absurd (false≢true (ap waits (same_Some (PlainTree.leaf n k i) v (sym (cond-true (nat_eq n q) (Some (PlainTree.leaf n k i)) None same) ∙ e)) ∙ is))
+  | inl same ↦ absurd (false≢true (ap waits (same_Some (PlainTree.leaf n k i) v (sym (cond-true (nat_eq n q) (Some (PlainTree.leaf n k i)) None same) ∙ e))
+      ∙ is))
   | inr other ↦ absurd (none-some v (sym (cond-false (nat_eq n q) (Some (PlainTree.leaf n k i)) None other) ∙ e))
 ]
 waits_around q (PlainTree.node n r a ts) v e is heavy =
@@ -100,7 +103,8 @@ module _ (N : NormalForm) (fits : Sym → Sym → Bool) (decides : DecidesFits N
   all_compatible =
       weaker (compatible fits s v) (filtered passes (λ u. IsBelow u v) (below_in_level_order v)
       (recursion_from_All (λ u. IsBelow u v) (below_in_level_order v)
-      (All-weaker (Contains (below_in_level_order v)) (λ u. IsBelow u v) (λ u c. (levels v u).0 c) (below_in_level_order v) (All-contains_itself (below_in_level_order v)))))
+      (All-weaker (Contains (below_in_level_order v)) (λ u. IsBelow u v) (λ u c. (levels v u).0 c) (below_in_level_order v)
+      (All-contains_itself (below_in_level_order v)))))
     where
       weaker : (us : List PlainTree) → AllByRecursion (λ u. IsBelow u v × (passes u ≡ true)) us → AllByRecursion (IsCompatible N s v) us
       weaker [] all = tt

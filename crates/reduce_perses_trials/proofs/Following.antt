@@ -1,5 +1,6 @@
 -- Each tree that is tried comes from the last that had a yes by a single edit, or by a selection of the elements of one list.
-use Rattle.std.proofs.Common.{◌≡◌, inl, inr, ℕ, zero, suc, ◌<◌, Bool, true, false, List, [], ◌∷◌, nat_eq, replicate, slice_get, refl, sym, ap, ◌∙◌, subst, arith}
+use Rattle.std.proofs.Common.{◌≡◌, inl, inr, ℕ, zero, suc, ◌<◌, Bool, true, false, List, [], ◌∷◌, nat_eq}
+use Rattle.std.proofs.Common.{replicate, slice_get, refl, sym, ap, ◌∙◌, subst, arith}
 use Rattle.std.proofs.lemmas.Bool.{cases_Bool, cond-false, cond-true}
 use Rattle.normal_form.specs.declared.normal.Sym.{Sym}
 use Rattle.normal_form.specs.Form.{NormalForm}
@@ -12,7 +13,8 @@ use Rattle.reduce_rounds.specs.Trials.{Trials}
 use Rattle.reduce_list_trials.specs.ListTrials.{list_trials}
 use Rattle.reduce_list_trials.specs.Selections.{IsRemainder, IsSelection}
 use Rattle.reduce_list_trials.specs.inner.Selections.{IsRemainderAt, IsSelectionAt}
-use Rattle.reduce_list_trials.proofs.Lent.{at_end, at_question, by_steps, kept_at_no, kept_at_yes, remainder-after, remainder-start, selection-after, selection-asked, selection-start}
+use Rattle.reduce_list_trials.proofs.Lent.{at_end, at_question, by_steps, kept_at_no, kept_at_yes, remainder-after}
+use Rattle.reduce_list_trials.proofs.Lent.{remainder-start, selection-after, selection-asked, selection-start}
 use Rattle.syntax_tree.specs.Trees.{PlainTree, PlainTrees, count, weight_all}
 use Rattle.syntax_tree.specs.Numbered.{number_of, with_subtree, with_subtree_among}
 use Rattle.syntax_tree.specs.Left.{selected_trees}
@@ -32,20 +34,26 @@ use Rattle.reduce_perses_trials.proofs.Tried.{form_holds}
 -- What a list step tries follows, where the states of fewer elements do.
 module _ {T : Type 0} (R : T → T → Type 0) (state_of : List Bool → T) (next : List Bool → Trials T) where
   record FollowsFrom (step : State) : Type 0 where
-    follows : ((question keep : List Bool) → IsRemainderAt step keep → IsSelectionAt step question → KeepsFewer question keep → R (state_of keep) (state_of question)) →
-        ((keep : List Bool) → IsRemainderAt step keep → EachFollows R (state_of keep) (next keep)) → EachFollows R (state_of (kept step)) (list_trials state_of next step)
+    follows : ((question keep : List Bool) → IsRemainderAt step keep → IsSelectionAt step question → KeepsFewer question keep
+        → R (state_of keep) (state_of question)) →
+        ((keep : List Bool) → IsRemainderAt step keep → EachFollows R (state_of keep) (next keep))
+        → EachFollows R (state_of (kept step)) (list_trials state_of next step)
 
   follows_from : (step : State) → IsSound step → FollowsFrom step
   follows_from =
       by_steps FollowsFrom
-      (λ step sound none. record { follows = λ fewer ends. subst (EachFollows R (state_of (kept step))) (sym (at_end state_of next step none)) (ends (kept step) (inl refl)) })
+      (λ step sound none. record {
+        follows = λ fewer ends. subst (EachFollows R (state_of (kept step))) (sym (at_end state_of next step none)) (ends (kept step) (inl refl));
+      })
       (λ step question sound is at_yes at_no. record {
         follows = λ fewer ends.
             let after_yes = at_yes.follows
-            (λ asked keep remain some less. fewer asked keep (remainder-after step question sound is true keep remain) (selection-after step question sound is true asked some) less)
+            (λ asked keep remain some less. fewer asked keep (remainder-after step question sound is true keep remain)
+            (selection-after step question sound is true asked some) less)
             (λ keep remain. ends keep (remainder-after step question sound is true keep remain)) in
             let after_no = at_no.follows
-            (λ asked keep remain some less. fewer asked keep (remainder-after step question sound is false keep remain) (selection-after step question sound is false asked some) less)
+            (λ asked keep remain some less. fewer asked keep (remainder-after step question sound is false keep remain)
+            (selection-after step question sound is false asked some) less)
             (λ keep remain. ends keep (remainder-after step question sound is false keep remain)) in
             subst (EachFollows R (state_of (kept step))) (sym (at_question state_of next step question sound is)) (
               fewer question (kept step) (inl refl) (selection-asked step question sound is) (asks_fewer step question sound is).0,
@@ -57,8 +65,10 @@ module _ {T : Type 0} (R : T → T → Type 0) (state_of : List Bool → T) (nex
       })
 
   pub list_follows : (len : ℕ) (may_be_empty : Bool) →
-      ((question keep : List Bool) → IsRemainder len may_be_empty keep → IsSelection len may_be_empty question → KeepsFewer question keep → R (state_of keep) (state_of question)) →
-      ((keep : List Bool) → IsRemainder len may_be_empty keep → EachFollows R (state_of keep) (next keep)) → EachFollows R (state_of (replicate len true)) (list_trials state_of next (start len may_be_empty))
+      ((question keep : List Bool) → IsRemainder len may_be_empty keep → IsSelection len may_be_empty question → KeepsFewer question keep
+      → R (state_of keep) (state_of question)) →
+      ((keep : List Bool) → IsRemainder len may_be_empty keep → EachFollows R (state_of keep) (next keep))
+      → EachFollows R (state_of (replicate len true)) (list_trials state_of next (start len may_be_empty))
   list_follows len may_be_empty fewer ends =
       subst (λ keep. EachFollows R (state_of keep) (list_trials state_of next (start len may_be_empty))) (keeps_all_at_first len may_be_empty)
       ((follows_from (start len may_be_empty) (IsSound-start len may_be_empty)).follows
@@ -77,7 +87,8 @@ module _ (q : ℕ) (v w : PlainTree) (number : number_of v ≡ q) where
       | inr is ↦ ap (with_subtree q w) (cond-false (nat_eq n q) v (PlainTree.leaf n k i) is)
     ]
     with_twice (PlainTree.node n r a ts) = elim (cases_Bool (nat_eq n q)) [
-      | inl is ↦ ap (with_subtree q w) (cond-true (nat_eq n q) v (PlainTree.node n r a (with_subtree_among q v ts)) is) ∙ in_root ∙ sym (cond-true (nat_eq n q) w (PlainTree.node n r a (with_subtree_among q w ts)) is)
+      | inl is ↦ ap (with_subtree q w) (cond-true (nat_eq n q) v (PlainTree.node n r a (with_subtree_among q v ts)) is) ∙ in_root
+          ∙ sym (cond-true (nat_eq n q) w (PlainTree.node n r a (with_subtree_among q w ts)) is)
       | inr is ↦
           ap (with_subtree q w) (cond-false (nat_eq n q) v (PlainTree.node n r a (with_subtree_among q v ts)) is)
           ∙ cond-false (nat_eq n q) w (PlainTree.node n r a (with_subtree_among q w (with_subtree_among q v ts))) is
@@ -88,7 +99,8 @@ module _ (q : ℕ) (v w : PlainTree) (number : number_of v ≡ q) where
     among_twice PlainTrees.none = refl
     among_twice (PlainTrees.next t ts) = λ i. PlainTrees.next (with_twice t i) (among_twice ts i)
 
-module _ (N : NormalForm) (s : Sym) (t : PlainTree) (later : List Waiting) (n r a : ℕ) (ts : PlainTrees) (slot : Sym) (is : IsVisited N s t n slot (PlainTree.node n r a ts) later) (heavy : 0 < weight_all ts) where
+module _ (N : NormalForm) (s : Sym) (t : PlainTree) (later : List Waiting) (n r a : ℕ) (ts : PlainTrees) (slot : Sym)
+    (is : IsVisited N s t n slot (PlainTree.node n r a ts) later) (heavy : 0 < weight_all ts) where
   selects_of : (may_be_empty : Bool) (x : Sym) (question keep mask : List Bool) → IsListRule N may_be_empty r x → IsSelection (count ts) may_be_empty question →
       selected_trees mask (selected_trees keep ts) ≡ selected_trees question ts →
       SelectsElements N mask (PlainTree.node n r a (selected_trees keep ts)) (PlainTree.node n r a (selected_trees mask (selected_trees keep ts)))
@@ -99,8 +111,10 @@ module _ (N : NormalForm) (s : Sym) (t : PlainTree) (later : List Waiting) (n r 
       let many = some.some refl in
       selects.of_plus n r a (selected_trees keep ts) x rule (omega (arith, counts, asked, many))
 
-  list_selects : (may_be_empty : Bool) (x : Sym) → IsListRule N may_be_empty r x → (question keep : List Bool) → IsRemainder (count ts) may_be_empty keep → IsSelection (count ts) may_be_empty question →
-      KeepsFewer question keep → SelectsInTree N (with_subtree n (PlainTree.node n r a (selected_trees keep ts)) t) (with_subtree n (PlainTree.node n r a (selected_trees question ts)) t)
+  list_selects : (may_be_empty : Bool) (x : Sym) → IsListRule N may_be_empty r x → (question keep : List Bool) → IsRemainder (count ts) may_be_empty keep
+      → IsSelection (count ts) may_be_empty question →
+      KeepsFewer question keep → SelectsInTree N (with_subtree n (PlainTree.node n r a (selected_trees keep ts)) t)
+      (with_subtree n (PlainTree.node n r a (selected_trees question ts)) t)
   list_selects may_be_empty x rule question keep remain some less =
       let v : PlainTree = PlainTree.node n r a ts in
       let w : PlainTree = PlainTree.node n r a (selected_trees keep ts) in
@@ -122,7 +136,8 @@ module _ (N : NormalForm) (fits : Sym → Sym → Bool) (decides : DecidesFits N
   abbrev Follows : PlainTree → Trials PlainTree → Type 0
   Follows t trials = EachFollows (IsEditOrSelection N s) t trials
 
-  pub each_follows : (times : ℕ) (t : PlainTree) (queue : List Waiting) → IsInRound N s t queue → EachFollows (IsEditOrSelection N s) t (visit_within N fits s times t queue)
+  pub each_follows : (times : ℕ) (t : PlainTree) (queue : List Waiting) → IsInRound N s t queue
+      → EachFollows (IsEditOrSelection N s) t (visit_within N fits s times t queue)
   unfolding visit_within
   each_follows zero t queue round = tt
   each_follows (suc times) t [] round = tt
@@ -130,14 +145,18 @@ module _ (N : NormalForm) (fits : Sym → Sym → Bool) (decides : DecidesFits N
       let it = next_of N s t next later round in
       let v : PlainTree = PlainTree.node it.n it.r it.a it.ts in
       let go : PlainTree → List Waiting → Trials PlainTree = λ u queue. visit_within N fits s times u queue in
-      let on : (u : PlainTree) (queue : List Waiting) → GoesTo N s t v later u queue → EachFollows (IsEditOrSelection N s) u (visit_within N fits s times u queue) = λ u queue goes. each_follows times u queue goes.round in
+      let on : (u : PlainTree) (queue : List Waiting) → GoesTo N s t v later u queue
+      → EachFollows (IsEditOrSelection N s) u (visit_within N fits s times u queue) = λ u queue goes. each_follows times u queue goes.round in
       subst (λ trials. EachFollows (IsEditOrSelection N s) t trials) (sym (at_next N fits decides s go t next later it))
       (form_holds N fits decides s Follows go t later it.n it.r it.a it.ts it.slot it.visited it.heavy
       (record { by_try = λ u queue y n goes edit at_yes at_no. (inl edit, (at_yes, at_no)) }) on
       (λ may_be_empty x rule.
-      subst (λ (u : PlainTree). EachFollows (IsEditOrSelection N s) u (list_visited go t later may_be_empty it.n it.r it.a it.ts)) (all_elements N s t later it.n it.r it.a it.ts it.slot it.visited it.heavy)
+      subst (λ (u : PlainTree). EachFollows (IsEditOrSelection N s) u (list_visited go t later may_be_empty it.n it.r it.a it.ts))
+      (all_elements N s t later it.n it.r it.a it.ts it.slot it.visited it.heavy)
       (list_follows (IsEditOrSelection N s) (λ keep. with_subtree it.n (PlainTree.node it.n it.r it.a (selected_trees keep it.ts)) t)
-      (λ keep. go (with_subtree it.n (PlainTree.node it.n it.r it.a (selected_trees keep it.ts)) t) (with_trees (selected_trees keep it.ts) later)) (count it.ts) may_be_empty
-      (λ question keep remain some less. inr (list_selects N s t later it.n it.r it.a it.ts it.slot it.visited it.heavy may_be_empty x rule question keep remain some less))
+      (λ keep. go (with_subtree it.n (PlainTree.node it.n it.r it.a (selected_trees keep it.ts)) t) (with_trees (selected_trees keep it.ts) later))
+      (count it.ts) may_be_empty
+      (λ question keep remain some less. inr (list_selects N s t later it.n it.r it.a it.ts it.slot it.visited it.heavy may_be_empty x rule question keep remain
+      some less))
       (λ keep remain. on _ _ (list_goes N s t later it.n it.r it.a it.ts it.slot it.visited it.heavy may_be_empty x keep rule remain))))
       (slice_get N.rules it.r) refl)

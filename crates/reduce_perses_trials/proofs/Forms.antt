@@ -1,5 +1,6 @@
 -- The next node that is visited, and where the round goes on from it, by the form of its rule.
-use Rattle.std.proofs.Common.{◌≡◌, inl, inr, ℕ, suc, ◌+◌, ◌<◌, Bool, true, false, List, ◌∷◌, Option, Some, None, replicate, slice_get, refl, sym, ap, ◌∙◌, subst, arith}
+use Rattle.std.proofs.Common.{◌≡◌, inl, inr, ℕ, suc, ◌+◌, ◌<◌, Bool, true, false, List, ◌∷◌, Option, Some, None}
+use Rattle.std.proofs.Common.{replicate, slice_get, refl, sym, ap, ◌∙◌, subst, arith}
 use Rattle.std.specs.Option.{option_map_or}
 use Rattle.std.proofs.lemmas.Bool.{false≢true}
 use Rattle.std.proofs.lemmas.Bool.Decides.{Decides-ltb}
@@ -56,7 +57,9 @@ module _ (N : NormalForm) (s : Sym) (t : PlainTree) (next : Waiting) (later : Li
           slot_is = slots.1;
           valid = slots.2;
           queue_is = record { in_order = round.queue_is.in_order.1; entries = round.queue_is.entries.1; apart = round.queue_is.apart.1 };
-          apart = all_map (AreApartAt t next) (IsApartFromNode t (PlainTree.node n r a ts)) later (λ entry apart u eu. apart (PlainTree.node n r a ts) u e eu) round.queue_is.apart.0;
+          apart =
+              all_map (AreApartAt t next) (IsApartFromNode t (PlainTree.node n r a ts)) later
+              (λ entry apart u eu. apart (PlainTree.node n r a ts) u e eu) round.queue_is.apart.0;
         };
         heavy = (Decides-ltb 0 (weight_all ts)).0 is;
       }
@@ -66,7 +69,8 @@ module _ (N : NormalForm) (s : Sym) (t : PlainTree) (next : Waiting) (later : Li
 
   pub nodes_next : (it : Next N s t next later) → nodes_in t (next ∷ later) ≡ size (PlainTree.node it.n it.r it.a it.ts) + nodes_in t later
   nodes_next it =
-      let here : option_map_or size (subtree next.node t) 0 ≡ suc (size_all it.ts) = ap (λ o. option_map_or size o 0) (ap (λ p. subtree p t) (sym it.number_is) ∙ it.visited.node_is) in
+      let here : option_map_or size (subtree next.node t) 0 ≡ suc (size_all it.ts) =
+      ap (λ o. option_map_or size o 0) (ap (λ p. subtree p t) (sym it.number_is) ∙ it.visited.node_is) in
       omega (arith, here)
 
 module _ (N : NormalForm) where
@@ -86,37 +90,52 @@ module _ (N : NormalForm) where
   rule_exists x n r a ts (of_plus x' n' r' u ts' z fits rule each) none = none-some (RuleForm.plus z) (sym none ∙ rule)
 
   -- an optional has no child or one
-  pub optional_form : (x : Sym) (n r a : ℕ) (u : PlainTree) (us : PlainTrees) (y : Sym) → IsValid N x (PlainTree.node n r a (PlainTrees.next u us)) → slice_get N.rules r ≡ Some (RuleForm.opt y) → us ≡ PlainTrees.none
-  optional_form x n r a u us y (of_regular x' n' r' a' ts' alts alt fits rule at valid) opt = absurd (let e : RuleForm.regular alts ≡ RuleForm.opt y = no_form (slice_get N.rules r) (RuleForm.regular alts) (RuleForm.opt y) rule opt in cc)
+  pub optional_form : (x : Sym) (n r a : ℕ) (u : PlainTree) (us : PlainTrees) (y : Sym) → IsValid N x (PlainTree.node n r a (PlainTrees.next u us))
+      → slice_get N.rules r ≡ Some (RuleForm.opt y) → us ≡ PlainTrees.none
+  optional_form x n r a u us y (of_regular x' n' r' a' ts' alts alt fits rule at valid) opt =
+      absurd (let e : RuleForm.regular alts ≡ RuleForm.opt y = no_form (slice_get N.rules r) (RuleForm.regular alts) (RuleForm.opt y) rule opt in cc)
   optional_form x n r a u us y (of_present x' n' r' u' z fits rule valid) opt = refl
-  optional_form x n r a u us y (of_star x' n' r' ts' z fits rule each) opt = absurd (let e : RuleForm.star z ≡ RuleForm.opt y = no_form (slice_get N.rules r) (RuleForm.star z) (RuleForm.opt y) rule opt in cc)
-  optional_form x n r a u us y (of_plus x' n' r' u' ts' z fits rule each) opt = absurd (let e : RuleForm.plus z ≡ RuleForm.opt y = no_form (slice_get N.rules r) (RuleForm.plus z) (RuleForm.opt y) rule opt in cc)
+  optional_form x n r a u us y (of_star x' n' r' ts' z fits rule each) opt =
+      absurd (let e : RuleForm.star z ≡ RuleForm.opt y = no_form (slice_get N.rules r) (RuleForm.star z) (RuleForm.opt y) rule opt in cc)
+  optional_form x n r a u us y (of_plus x' n' r' u' ts' z fits rule each) opt =
+      absurd (let e : RuleForm.plus z ≡ RuleForm.opt y = no_form (slice_get N.rules r) (RuleForm.plus z) (RuleForm.opt y) rule opt in cc)
 
   same_element : (y z : Sym) (ts : PlainTrees) → z ≡ y → EachIsValid N z ts → EachIsValid N y ts
   same_element y z ts e each = let P : Sym → Type 0 = λ z'. EachIsValid N z' ts in subst P e each
 
   -- the elements of a list are valid for its symbol
-  star_elements : (x : Sym) (n r a : ℕ) (ts : PlainTrees) (y : Sym) → IsValid N x (PlainTree.node n r a ts) → slice_get N.rules r ≡ Some (RuleForm.star y) → EachIsValid N y ts
-  star_elements x n r a ts y (of_regular x' n' r' a' ts' alts alt fits rule at valid) star = absurd (let e : RuleForm.regular alts ≡ RuleForm.star y = no_form (slice_get N.rules r) (RuleForm.regular alts) (RuleForm.star y) rule star in cc)
-  star_elements x n r a ts y (of_absent x' n' r' z fits rule) star = absurd (let e : RuleForm.opt z ≡ RuleForm.star y = no_form (slice_get N.rules r) (RuleForm.opt z) (RuleForm.star y) rule star in cc)
-  star_elements x n r a ts y (of_present x' n' r' u z fits rule valid) star = absurd (let e : RuleForm.opt z ≡ RuleForm.star y = no_form (slice_get N.rules r) (RuleForm.opt z) (RuleForm.star y) rule star in cc)
-  star_elements x n r a ts y (of_plus x' n' r' u us z fits rule each) star = absurd (let e : RuleForm.plus z ≡ RuleForm.star y = no_form (slice_get N.rules r) (RuleForm.plus z) (RuleForm.star y) rule star in cc)
+  star_elements : (x : Sym) (n r a : ℕ) (ts : PlainTrees) (y : Sym) → IsValid N x (PlainTree.node n r a ts) → slice_get N.rules r ≡ Some (RuleForm.star y)
+      → EachIsValid N y ts
+  star_elements x n r a ts y (of_regular x' n' r' a' ts' alts alt fits rule at valid) star =
+      absurd (let e : RuleForm.regular alts ≡ RuleForm.star y = no_form (slice_get N.rules r) (RuleForm.regular alts) (RuleForm.star y) rule star in cc)
+  star_elements x n r a ts y (of_absent x' n' r' z fits rule) star =
+      absurd (let e : RuleForm.opt z ≡ RuleForm.star y = no_form (slice_get N.rules r) (RuleForm.opt z) (RuleForm.star y) rule star in cc)
+  star_elements x n r a ts y (of_present x' n' r' u z fits rule valid) star =
+      absurd (let e : RuleForm.opt z ≡ RuleForm.star y = no_form (slice_get N.rules r) (RuleForm.opt z) (RuleForm.star y) rule star in cc)
+  star_elements x n r a ts y (of_plus x' n' r' u us z fits rule each) star =
+      absurd (let e : RuleForm.plus z ≡ RuleForm.star y = no_form (slice_get N.rules r) (RuleForm.plus z) (RuleForm.star y) rule star in cc)
   star_elements x n r a ts y (of_star x' n' r' ts' z fits rule each) star =
       let e : RuleForm.star z ≡ RuleForm.star y = no_form (slice_get N.rules r) (RuleForm.star z) (RuleForm.star y) rule star in
       let same : z ≡ y = cc in
       same_element y z ts same each
 
-  plus_elements : (x : Sym) (n r a : ℕ) (ts : PlainTrees) (y : Sym) → IsValid N x (PlainTree.node n r a ts) → slice_get N.rules r ≡ Some (RuleForm.plus y) → EachIsValid N y ts
-  plus_elements x n r a ts y (of_regular x' n' r' a' ts' alts alt fits rule at valid) plus = absurd (let e : RuleForm.regular alts ≡ RuleForm.plus y = no_form (slice_get N.rules r) (RuleForm.regular alts) (RuleForm.plus y) rule plus in cc)
-  plus_elements x n r a ts y (of_absent x' n' r' z fits rule) plus = absurd (let e : RuleForm.opt z ≡ RuleForm.plus y = no_form (slice_get N.rules r) (RuleForm.opt z) (RuleForm.plus y) rule plus in cc)
-  plus_elements x n r a ts y (of_present x' n' r' u z fits rule valid) plus = absurd (let e : RuleForm.opt z ≡ RuleForm.plus y = no_form (slice_get N.rules r) (RuleForm.opt z) (RuleForm.plus y) rule plus in cc)
-  plus_elements x n r a ts y (of_star x' n' r' ts' z fits rule each) plus = absurd (let e : RuleForm.star z ≡ RuleForm.plus y = no_form (slice_get N.rules r) (RuleForm.star z) (RuleForm.plus y) rule plus in cc)
+  plus_elements : (x : Sym) (n r a : ℕ) (ts : PlainTrees) (y : Sym) → IsValid N x (PlainTree.node n r a ts) → slice_get N.rules r ≡ Some (RuleForm.plus y)
+      → EachIsValid N y ts
+  plus_elements x n r a ts y (of_regular x' n' r' a' ts' alts alt fits rule at valid) plus =
+      absurd (let e : RuleForm.regular alts ≡ RuleForm.plus y = no_form (slice_get N.rules r) (RuleForm.regular alts) (RuleForm.plus y) rule plus in cc)
+  plus_elements x n r a ts y (of_absent x' n' r' z fits rule) plus =
+      absurd (let e : RuleForm.opt z ≡ RuleForm.plus y = no_form (slice_get N.rules r) (RuleForm.opt z) (RuleForm.plus y) rule plus in cc)
+  plus_elements x n r a ts y (of_present x' n' r' u z fits rule valid) plus =
+      absurd (let e : RuleForm.opt z ≡ RuleForm.plus y = no_form (slice_get N.rules r) (RuleForm.opt z) (RuleForm.plus y) rule plus in cc)
+  plus_elements x n r a ts y (of_star x' n' r' ts' z fits rule each) plus =
+      absurd (let e : RuleForm.star z ≡ RuleForm.plus y = no_form (slice_get N.rules r) (RuleForm.star z) (RuleForm.plus y) rule plus in cc)
   plus_elements x n r a ts y (of_plus x' n' r' u us z fits rule each) plus =
       let e : RuleForm.plus z ≡ RuleForm.plus y = no_form (slice_get N.rules r) (RuleForm.plus z) (RuleForm.plus y) rule plus in
       let same : z ≡ y = cc in
       same_element y z (PlainTrees.next u us) same each
 
-  pub list_elements : (may_be_empty : Bool) (x : Sym) (n r a : ℕ) (ts : PlainTrees) (y : Sym) → IsListRule may_be_empty r y → IsValid N x (PlainTree.node n r a ts) → EachIsValid N y ts
+  pub list_elements : (may_be_empty : Bool) (x : Sym) (n r a : ℕ) (ts : PlainTrees) (y : Sym) → IsListRule may_be_empty r y
+      → IsValid N x (PlainTree.node n r a ts) → EachIsValid N y ts
   list_elements true x n r a ts y rule valid = star_elements x n r a ts y valid rule
   list_elements false x n r a ts y rule valid = plus_elements x n r a ts y valid rule
 
@@ -124,7 +143,8 @@ some_count : (ts : PlainTrees) → 0 < weight_all ts → 0 < count ts
 some_count PlainTrees.none heavy = absurd (let no : 0 < 0 = heavy in omega (arith, no))
 some_count (PlainTrees.next t ts) heavy = omega arith
 
-module _ (N : NormalForm) (s : Sym) (t : PlainTree) (later : List Waiting) (n r a : ℕ) (ts : PlainTrees) (slot : Sym) (is : IsVisited N s t n slot (PlainTree.node n r a ts) later) (heavy : 0 < weight_all ts) where
+module _ (N : NormalForm) (s : Sym) (t : PlainTree) (later : List Waiting) (n r a : ℕ) (ts : PlainTrees) (slot : Sym)
+    (is : IsVisited N s t n slot (PlainTree.node n r a ts) later) (heavy : 0 < weight_all ts) where
   rises : NumbersRise (PlainTree.node n r a ts)
   rises = v_rises N s t n slot (PlainTree.node n r a ts) later is
 
@@ -153,30 +173,38 @@ module _ (N : NormalForm) (s : Sym) (t : PlainTree) (later : List Waiting) (n r 
 
   -- the elements of a list that remain wait
   pub list_goes : (may_be_empty : Bool) (x : Sym) (keep : List Bool) → IsListRule N may_be_empty r x → IsRemainder (count ts) may_be_empty keep →
-      GoesTo N s t (PlainTree.node n r a ts) later (with_subtree n (PlainTree.node n r a (selected_trees keep ts)) t) (with_trees (selected_trees keep ts) later)
+      GoesTo N s t (PlainTree.node n r a ts) later (with_subtree n (PlainTree.node n r a (selected_trees keep ts)) t)
+      (with_trees (selected_trees keep ts) later)
   list_goes may_be_empty x keep rule remain =
       let w : PlainTree = PlainTree.node n r a (selected_trees keep ts) in
       let both = selections N slot keep (PlainTree.node n r a ts) w is.valid (selects_some may_be_empty x keep rule remain) in
       let within = children_within n r a (selected_trees keep ts) ((part (PlainTree.node n r a ts) w both.1).numbers_rise rises) in
       let small = size_selected keep ts in
-      goes_changed N s t n slot (PlainTree.node n r a ts) later is w both.1 (selected_trees keep ts) (n + 1) within.0 both.0 within.1 (λ p y e. child_found within.0 n r a p (selected_trees keep ts) y within.1 e) (omega (arith, small))
+      goes_changed N s t n slot (PlainTree.node n r a ts) later is w both.1 (selected_trees keep ts) (n + 1) within.0 both.0 within.1
+      (λ p y e. child_found within.0 n r a p (selected_trees keep ts) y within.1 e) (omega (arith, small))
 
   -- a compatible descendant waits in the position of a regular node
-  pub descendant_goes : (alts : List (List Sym)) (u : PlainTree) → slice_get N.rules r ≡ Some (RuleForm.regular alts) → IsCompatible N slot (PlainTree.node n r a ts) u →
+  pub descendant_goes : (alts : List (List Sym)) (u : PlainTree) → slice_get N.rules r ≡ Some (RuleForm.regular alts)
+      → IsCompatible N slot (PlainTree.node n r a ts) u →
       GoesTo N s t (PlainTree.node n r a ts) later (with_subtree n u t) (with_trees (PlainTrees.next u PlainTrees.none) later)
   descendant_goes alts u rule is_compatible =
-      let both = local_edits N slot (PlainTree.node n r a ts) u is.valid (inr (by_descendant slot n r a ts alts u rule is_compatible.is_below is_compatible.fits)) in
+      let both =
+      local_edits N slot (PlainTree.node n r a ts) u is.valid (inr (by_descendant slot n r a ts alts u rule is_compatible.is_below is_compatible.fits)) in
       let within = within_from u ((part (PlainTree.node n r a ts) u both.1).numbers_rise rises) in
       let small = size_some u ts is_compatible.is_below in
-      goes_changed N s t n slot (PlainTree.node n r a ts) later is u both.1 (PlainTrees.next u PlainTrees.none) 0 within.0 both.0 (within.0, within.1, omega arith) (λ p y e. sym (or_none (subtree p u)) ∙ e) (omega (arith, small))
+      goes_changed N s t n slot (PlainTree.node n r a ts) later is u both.1 (PlainTrees.next u PlainTrees.none) 0 within.0 both.0
+      (within.0, within.1, omega arith) (λ p y e. sym (or_none (subtree p u)) ∙ e) (omega (arith, small))
 
   -- an edit at the node is a single edit of the tree
   pub edit_single : (w : PlainTree) → IsLocalEdit N slot (PlainTree.node n r a ts) w → weight w < weight_all ts → IsSingleEdit N s t (with_subtree n w t)
   edit_single w local light =
-      (numbered N s t (with_subtree n w t) is.tree.valid is.rise).1 (n, slot, PlainTree.node n r a ts, w, record { node = is.node_is; slot = is.slot_is; edit = local; tree = refl; smaller = light })
+      (numbered N s t (with_subtree n w t) is.tree.valid is.rise).1
+      (n, slot, PlainTree.node n r a ts, w, record { node = is.node_is; slot = is.slot_is; edit = local; tree = refl; smaller = light })
 
-  pub descendant_edit : (alts : List (List Sym)) (u : PlainTree) → slice_get N.rules r ≡ Some (RuleForm.regular alts) → IsCompatible N slot (PlainTree.node n r a ts) u → IsSingleEdit N s t (with_subtree n u t)
-  descendant_edit alts u rule is_compatible = edit_single u (inr (by_descendant slot n r a ts alts u rule is_compatible.is_below is_compatible.fits)) is_compatible.lighter
+  pub descendant_edit : (alts : List (List Sym)) (u : PlainTree) → slice_get N.rules r ≡ Some (RuleForm.regular alts)
+      → IsCompatible N slot (PlainTree.node n r a ts) u → IsSingleEdit N s t (with_subtree n u t)
+  descendant_edit alts u rule is_compatible =
+      edit_single u (inr (by_descendant slot n r a ts alts u rule is_compatible.is_below is_compatible.fits)) is_compatible.lighter
 
   -- with all its elements it is the same tree
   pub all_elements : with_subtree n (PlainTree.node n r a (selected_trees (replicate (count ts) true) ts)) t ≡ t
@@ -187,16 +215,26 @@ module _ (N : NormalForm) (s : Sym) (t : PlainTree) (later : List Waiting) (n r 
   weight_changes w = (change t n (PlainTree.node n r a ts) w is.rise is.node_is).weights
 
 -- an optional goes without its content
-pub content_goes : (N : NormalForm) (s : Sym) (t : PlainTree) (later : List Waiting) (n r a : ℕ) (u : PlainTree) (us : PlainTrees) (slot : Sym) → IsVisited N s t n slot (PlainTree.node n r a (PlainTrees.next u us)) later → (y : Sym) →
-    slice_get N.rules r ≡ Some (RuleForm.opt y) → GoesTo N s t (PlainTree.node n r a (PlainTrees.next u us)) later (with_subtree n (PlainTree.node n r a PlainTrees.none) t) later
+pub content_goes : (N : NormalForm) (s : Sym) (t : PlainTree) (later : List Waiting) (n r a : ℕ) (u : PlainTree) (us : PlainTrees) (slot : Sym)
+    → IsVisited N s t n slot (PlainTree.node n r a (PlainTrees.next u us)) later → (y : Sym) →
+    slice_get N.rules r ≡ Some (RuleForm.opt y)
+    → GoesTo N s t (PlainTree.node n r a (PlainTrees.next u us)) later (with_subtree n (PlainTree.node n r a PlainTrees.none) t) later
 content_goes N s t later n r a u us slot is y rule =
     let one = optional_form N slot n r a u us y is.valid rule in
-    let P : PlainTrees → Type 0 = λ ys. IsValid N slot (PlainTree.node n r a (PlainTrees.next u ys)) → IsValid N slot (PlainTree.node n r a PlainTrees.none) × IsRemainderOf (PlainTree.node n r a (PlainTrees.next u ys)) (PlainTree.node n r a PlainTrees.none) in
-    let both = subst P (sym one) (λ valid. local_edits N slot (PlainTree.node n r a (PlainTrees.next u PlainTrees.none)) (PlainTree.node n r a PlainTrees.none) valid (inl (edits.of_opt n r a u y rule))) is.valid in
-    goes_changed N s t n slot (PlainTree.node n r a (PlainTrees.next u us)) later is (PlainTree.node n r a PlainTrees.none) both.1 PlainTrees.none 0 0 both.0 (omega arith) (λ p z e. absurd (none-some z e)) (omega arith)
+    let P : PlainTrees → Type 0 =
+    λ ys. IsValid N slot (PlainTree.node n r a (PlainTrees.next u ys)) → IsValid N slot (PlainTree.node n r a PlainTrees.none)
+    × IsRemainderOf (PlainTree.node n r a (PlainTrees.next u ys)) (PlainTree.node n r a PlainTrees.none) in
+    let both =
+    subst P (sym one) (λ valid. local_edits N slot (PlainTree.node n r a (PlainTrees.next u PlainTrees.none)) (PlainTree.node n r a PlainTrees.none) valid
+    (inl (edits.of_opt n r a u y rule))) is.valid in
+    goes_changed N s t n slot (PlainTree.node n r a (PlainTrees.next u us)) later is (PlainTree.node n r a PlainTrees.none) both.1 PlainTrees.none 0 0 both.0
+    (omega arith) (λ p z e. absurd (none-some z e)) (omega arith)
 
-pub content_edit : (N : NormalForm) (s : Sym) (t : PlainTree) (later : List Waiting) (n r a : ℕ) (u : PlainTree) (us : PlainTrees) (slot : Sym) → IsVisited N s t n slot (PlainTree.node n r a (PlainTrees.next u us)) later →
-    0 < weight_all (PlainTrees.next u us) → (y : Sym) → slice_get N.rules r ≡ Some (RuleForm.opt y) → IsSingleEdit N s t (with_subtree n (PlainTree.node n r a PlainTrees.none) t)
+pub content_edit : (N : NormalForm) (s : Sym) (t : PlainTree) (later : List Waiting) (n r a : ℕ) (u : PlainTree) (us : PlainTrees) (slot : Sym)
+    → IsVisited N s t n slot (PlainTree.node n r a (PlainTrees.next u us)) later →
+    0 < weight_all (PlainTrees.next u us) → (y : Sym) → slice_get N.rules r ≡ Some (RuleForm.opt y)
+    → IsSingleEdit N s t (with_subtree n (PlainTree.node n r a PlainTrees.none) t)
 content_edit N s t later n r a u us slot is heavy y rule =
     let P : PlainTrees → Type 0 = λ ys. IsLocalDeletion N (PlainTree.node n r a (PlainTrees.next u ys)) (PlainTree.node n r a PlainTrees.none) in
-    edit_single N s t later n r a (PlainTrees.next u us) slot is heavy (PlainTree.node n r a PlainTrees.none) (inl (subst P (sym (optional_form N slot n r a u us y is.valid rule)) (edits.of_opt n r a u y rule))) heavy
+    edit_single N s t later n r a (PlainTrees.next u us) slot is heavy (PlainTree.node n r a PlainTrees.none)
+    (inl (subst P (sym (optional_form N slot n r a u us y is.valid rule)) (edits.of_opt n r a u y rule))) heavy

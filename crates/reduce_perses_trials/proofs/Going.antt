@@ -28,19 +28,24 @@ module _ (N : NormalForm) (fits : Sym → Sym → Bool) (decides : DecidesFits N
   module _ (go go' : PlainTree → List Waiting → Trials PlainTree) (t : PlainTree) (later : List Waiting) (n r a : ℕ) (ts : PlainTrees) (slot : Sym)
       (is : IsVisited N s t n slot (PlainTree.node n r a ts) later) (heavy : 0 < weight_all ts)
       (same : (u : PlainTree) (queue : List Waiting) → GoesTo N s t (PlainTree.node n r a ts) later u queue → go u queue ≡ go' u queue) where
-    same_list : (may_be_empty : Bool) (x : Sym) → IsListRule N may_be_empty r x → list_visited go t later may_be_empty n r a ts ≡ list_visited go' t later may_be_empty n r a ts
+    same_list : (may_be_empty : Bool) (x : Sym) → IsListRule N may_be_empty r x
+        → list_visited go t later may_be_empty n r a ts ≡ list_visited go' t later may_be_empty n r a ts
     same_list may_be_empty x rule =
-        same_by_keep_lists (λ keep. with_subtree n (PlainTree.node n r a (selected_trees keep ts)) t) (λ keep. with_subtree n (PlainTree.node n r a (selected_trees keep ts)) t)
+        same_by_keep_lists (λ keep. with_subtree n (PlainTree.node n r a (selected_trees keep ts)) t)
+        (λ keep. with_subtree n (PlainTree.node n r a (selected_trees keep ts)) t)
         (λ keep. go (with_subtree n (PlainTree.node n r a (selected_trees keep ts)) t) (with_trees (selected_trees keep ts) later))
         (λ keep. go' (with_subtree n (PlainTree.node n r a (selected_trees keep ts)) t) (with_trees (selected_trees keep ts) later))
         (count ts) may_be_empty (λ keep some. refl)
         (λ keep remain. same _ _ (list_goes N s t later n r a ts slot is heavy may_be_empty x keep rule remain))
 
-    same_each : (alts : List (List Sym)) (us : List PlainTree) → slice_get N.rules r ≡ Some (RuleForm.regular alts) → AllByRecursion (IsCompatible N slot (PlainTree.node n r a ts)) us →
+    same_each : (alts : List (List Sym)) (us : List PlainTree) → slice_get N.rules r ≡ Some (RuleForm.regular alts)
+        → AllByRecursion (IsCompatible N slot (PlainTree.node n r a ts)) us →
         each_tried go t later n us (go t (with_trees ts later)) ≡ each_tried go' t later n us (go' t (with_trees ts later))
     same_each alts [] rule all = same t (with_trees ts later) (goes_down N s t later n r a ts slot is heavy)
     same_each alts (u ∷ us) rule all =
-        let at_yes = same (with_subtree n u t) (with_trees (PlainTrees.next u PlainTrees.none) later) (descendant_goes N s t later n r a ts slot is heavy alts u rule all.0) in
+        let at_yes =
+        same (with_subtree n u t) (with_trees (PlainTrees.next u PlainTrees.none) later)
+        (descendant_goes N s t later n r a ts slot is heavy alts u rule all.0) in
         let at_no = same_each alts us rule all.1 in
         λ i. Try (with_subtree n u t) (at_yes i) (at_no i)
 
@@ -57,13 +62,15 @@ module _ (N : NormalForm) (fits : Sym → Sym → Bool) (decides : DecidesFits N
   module _ (go go' : PlainTree → List Waiting → Trials PlainTree) (t : PlainTree) (later : List Waiting) (n r a : ℕ) (ts : PlainTrees) (slot : Sym)
       (is : IsVisited N s t n slot (PlainTree.node n r a ts) later) (heavy : 0 < weight_all ts)
       (same : (u : PlainTree) (queue : List Waiting) → GoesTo N s t (PlainTree.node n r a ts) later u queue → go u queue ≡ go' u queue) where
-    same_form : (o : Option RuleForm) → slice_get N.rules r ≡ o → form_visited go t later fits (Some slot) o n r a ts ≡ form_visited go' t later fits (Some slot) o n r a ts
+    same_form : (o : Option RuleForm) → slice_get N.rules r ≡ o
+        → form_visited go t later fits (Some slot) o n r a ts ≡ form_visited go' t later fits (Some slot) o n r a ts
     same_form None rule = same t later (goes_past N s t later n r a ts slot is heavy)
     same_form (Some (RuleForm.star x)) rule = same_list go go' t later n r a ts slot is heavy same true x rule
     same_form (Some (RuleForm.plus x)) rule = same_list go go' t later n r a ts slot is heavy same false x rule
     same_form (Some (RuleForm.opt x)) rule = same_optional go go' t later n r a ts slot is heavy same x rule
     same_form (Some (RuleForm.regular alts)) rule =
-        same_each go go' t later n r a ts slot is heavy same alts (compatible fits slot (PlainTree.node n r a ts)) rule (all_compatible N fits decides slot (PlainTree.node n r a ts))
+        same_each go go' t later n r a ts slot is heavy same alts (compatible fits slot (PlainTree.node n r a ts)) rule
+        (all_compatible N fits decides slot (PlainTree.node n r a ts))
 
   same_visit : (go go' : PlainTree → List Waiting → Trials PlainTree) (t : PlainTree) (next : Waiting) (later : List Waiting) → IsInRound N s t (next ∷ later) →
       ((u : PlainTree) (queue : List Waiting) → IsInRound N s u queue → nodes_in u queue < nodes_in t (next ∷ later) → go u queue ≡ go' u queue) →
@@ -72,14 +79,16 @@ module _ (N : NormalForm) (fits : Sym → Sym → Bool) (decides : DecidesFits N
       let it = next_of N s t next later round in
       let nodes = nodes_next N s t next later round it in
       at_next go t next later it
-      ∙ same_form go go' t later it.n it.r it.a it.ts it.slot it.visited it.heavy (λ u queue goes. same u queue goes.round (let fewer = goes.fewer in omega (arith, nodes, fewer))) (slice_get N.rules it.r) refl
+      ∙ same_form go go' t later it.n it.r it.a it.ts it.slot it.visited it.heavy
+      (λ u queue goes. same u queue goes.round (let fewer = goes.fewer in omega (arith, nodes, fewer))) (slice_get N.rules it.r) refl
       ∙ sym (at_next go' t next later it)
 
   some_nodes : (t : PlainTree) (next : Waiting) (later : List Waiting) → IsInRound N s t (next ∷ later) → 0 < nodes_in t (next ∷ later)
   some_nodes t next later round = let nodes = nodes_next N s t next later round (next_of N s t next later round) in omega (arith, nodes)
 
   -- more visits than there are nodes change nothing
-  pub same_times : (m k : ℕ) (t : PlainTree) (queue : List Waiting) → IsInRound N s t queue → nodes_in t queue ≤ m → nodes_in t queue ≤ k → visit_within N fits s m t queue ≡ visit_within N fits s k t queue
+  pub same_times : (m k : ℕ) (t : PlainTree) (queue : List Waiting) → IsInRound N s t queue → nodes_in t queue ≤ m → nodes_in t queue ≤ k
+      → visit_within N fits s m t queue ≡ visit_within N fits s k t queue
   unfolding visit_within
   same_times zero zero t queue round few few' = refl
   same_times zero (suc k) t [] round few few' = refl

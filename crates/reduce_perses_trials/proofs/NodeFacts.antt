@@ -35,21 +35,25 @@ node_deeper q p t u v rise e f = (find t rise).deeper q p u v e f
 pub children_within : (n r a : ℕ) (ts : PlainTrees) → NumbersRise (PlainTree.node n r a ts) → (high : ℕ) × AreWithin (n + 1) high ts
 children_within n r a ts rise = let within = within_from (PlainTree.node n r a ts) rise in (within.0, within.1.1)
 
-pub child_found : (high n r a p : ℕ) (ts : PlainTrees) (y : PlainTree) → AreWithin (n + 1) high ts → subtree_among p ts ≡ Some y → subtree p (PlainTree.node n r a ts) ≡ Some y
+pub child_found : (high n r a p : ℕ) (ts : PlainTrees) (y : PlainTree) → AreWithin (n + 1) high ts → subtree_among p ts ≡ Some y
+    → subtree p (PlainTree.node n r a ts) ≡ Some y
 child_found high n r a p ts y within e =
-    cond-false (nat_eq n p) (Some (PlainTree.node n r a ts)) (subtree_among p ts) (ne_eqb n p (let it = found_among (n + 1) high p ts y within e in omega (arith, it.above))) ∙ e
+    cond-false (nat_eq n p) (Some (PlainTree.node n r a ts)) (subtree_among p ts)
+    (ne_eqb n p (let it = found_among (n + 1) high p ts y within e in omega (arith, it.above))) ∙ e
 
 -- the first of several trees, and the others
 pub first_found : (p : ℕ) (t : PlainTree) (ts : PlainTrees) (y : PlainTree) → subtree p t ≡ Some y → subtree_among p (PlainTrees.next t ts) ≡ Some y
 first_found p t ts y e = ap (λ o. option_or o (subtree_among p ts)) e
 
-pub later_found : (low middle high p : ℕ) (t : PlainTree) (ts : PlainTrees) (y : PlainTree) → IsWithin low middle t → AreWithin middle high ts → subtree_among p ts ≡ Some y →
+pub later_found : (low middle high p : ℕ) (t : PlainTree) (ts : PlainTrees) (y : PlainTree) → IsWithin low middle t → AreWithin middle high ts
+    → subtree_among p ts ≡ Some y →
     subtree_among p (PlainTrees.next t ts) ≡ Some y
 later_found low middle high p t ts y first later e =
     ap (λ o. option_or o (subtree_among p ts)) (lacks_subtree p t (outside low middle p t first (inr (found_among middle high p ts y later e).above))) ∙ e
 
 -- no number is both in the first of them and in the others
-pub not_both : (low middle high p : ℕ) (t : PlainTree) (ts : PlainTrees) (x y : PlainTree) → IsWithin low middle t → AreWithin middle high ts → subtree p t ≡ Some x → subtree_among p ts ≡ Some y → ⊥
+pub not_both : (low middle high p : ℕ) (t : PlainTree) (ts : PlainTrees) (x y : PlainTree) → IsWithin low middle t → AreWithin middle high ts
+    → subtree p t ≡ Some x → subtree_among p ts ≡ Some y → ⊥
 not_both low middle high p t ts x y first later e f =
     let under = (found low middle p t x first e).below in
     let above = (found_among middle high p ts y later f).above in

@@ -21,7 +21,8 @@ all_map P R (x ∷ xs) f ps = (f x ps.0, all_map P R xs f ps.1)
 pub apart_swapped : (t : PlainTree) (entry other : Waiting) → AreApartAt t entry other → AreApartAt t other entry
 apart_swapped t entry other apart u v eu ev p x y ex ey = apart v u ev eu p y x ey ex
 
-apart_with : (t : PlainTree) (added : Waiting) (queue : List Waiting) → AllByRecursion (AreApartAt t added) queue → AreApartIn t queue → AreApartIn t (with_node added queue)
+apart_with : (t : PlainTree) (added : Waiting) (queue : List Waiting) → AllByRecursion (AreApartAt t added) queue → AreApartIn t queue
+    → AreApartIn t (with_node added queue)
 apart_with t added [] all apart = (tt, tt)
 apart_with t added (next ∷ later) all apart =
     by_test (comes_before next added)
@@ -83,7 +84,8 @@ pub record IsOpenFor (t : PlainTree) (us : PlainTrees) (queue : List Waiting) : 
   pub queue_is : IsQueueOf t queue
   pub apart : AllByRecursion (IsApartFrom t us) queue
 
-module _ (t : PlainTree) (low middle high : ℕ) (x : PlainTree) (us : PlainTrees) (first : IsWithin low middle x) (others : AreWithin middle high us) (inside : AreIn t (PlainTrees.next x us)) where
+module _ (t : PlainTree) (low middle high : ℕ) (x : PlainTree) (us : PlainTrees) (first : IsWithin low middle x) (others : AreWithin middle high us)
+    (inside : AreIn t (PlainTrees.next x us)) where
   root_in : subtree (number_of x) t ≡ Some x
   root_in = inside (number_of x) x (first_found (number_of x) x us x (root_found x))
 
@@ -107,16 +109,23 @@ module _ (t : PlainTree) (low middle high : ℕ) (x : PlainTree) (us : PlainTree
   with_first queue is open_for = record {
     queue_is = record {
       in_order = stays_in_order (waiting_of x) queue open_for.queue_is.in_order;
-      entries = all-with_node (IsEntryIn t) (waiting_of x) queue (record { node = x; node_is = root_in; waits_is = is; entry_is = refl }) open_for.queue_is.entries;
-      apart = apart_with t (waiting_of x) queue (all_map (IsApartFrom t (PlainTrees.next x us)) (AreApartAt t (waiting_of x)) queue from_first open_for.apart) open_for.queue_is.apart;
+      entries =
+          all-with_node (IsEntryIn t) (waiting_of x) queue (record { node = x; node_is = root_in; waits_is = is; entry_is = refl }) open_for.queue_is.entries;
+      apart =
+          apart_with t (waiting_of x) queue (all_map (IsApartFrom t (PlainTrees.next x us)) (AreApartAt t (waiting_of x)) queue from_first open_for.apart)
+          open_for.queue_is.apart;
     };
-    apart = all-with_node (IsApartFrom t us) (waiting_of x) queue first_apart (all_map (IsApartFrom t (PlainTrees.next x us)) (IsApartFrom t us) queue fewer_apart open_for.apart);
+    apart =
+        all-with_node (IsApartFrom t us) (waiting_of x) queue first_apart
+        (all_map (IsApartFrom t (PlainTrees.next x us)) (IsApartFrom t us) queue fewer_apart open_for.apart);
   }
 
   without_first : (queue : List Waiting) → IsOpenFor t (PlainTrees.next x us) queue → IsOpenFor t us queue
-  without_first queue open_for = record { queue_is = open_for.queue_is; apart = all_map (IsApartFrom t (PlainTrees.next x us)) (IsApartFrom t us) queue fewer_apart open_for.apart }
+  without_first queue open_for =
+      record { queue_is = open_for.queue_is; apart = all_map (IsApartFrom t (PlainTrees.next x us)) (IsApartFrom t us) queue fewer_apart open_for.apart }
 
-  pub one_more : (b : Bool) (queue : List Waiting) → waits x ≡ b → IsOpenFor t (PlainTrees.next x us) queue → IsOpenFor t us (cond b (with_node (waiting_of x) queue) queue)
+  pub one_more : (b : Bool) (queue : List Waiting) → waits x ≡ b → IsOpenFor t (PlainTrees.next x us) queue
+      → IsOpenFor t us (cond b (with_node (waiting_of x) queue) queue)
   one_more true queue is open_for = with_first queue is open_for
   one_more false queue is open_for = without_first queue open_for
 
@@ -128,15 +137,19 @@ module _ (t : PlainTree) (low middle high : ℕ) (x : PlainTree) (us : PlainTree
   nodes_one_more false queue = omega arith
 
 module _ (t : PlainTree) where
-  pub queue_more : (low high : ℕ) (us : PlainTrees) (queue : List Waiting) → AreWithin low high us → AreIn t us → IsOpenFor t us queue → IsQueueOf t (with_trees us queue)
+  pub queue_more : (low high : ℕ) (us : PlainTrees) (queue : List Waiting) → AreWithin low high us → AreIn t us → IsOpenFor t us queue
+      → IsQueueOf t (with_trees us queue)
   queue_more low high PlainTrees.none queue within inside open_for = open_for.queue_is
   queue_more low high (PlainTrees.next x us) queue within inside open_for =
       queue_more within.0 high us (cond (waits x) (with_node (waiting_of x) queue) queue) within.2 (others_in t low within.0 high x us within.1 within.2 inside)
       (one_more t low within.0 high x us within.1 within.2 inside (waits x) queue refl open_for)
 
-  pub nodes_more : (low high : ℕ) (us : PlainTrees) (queue : List Waiting) → AreWithin low high us → AreIn t us → nodes_in t (with_trees us queue) ≤ size_all us + nodes_in t queue
+  pub nodes_more : (low high : ℕ) (us : PlainTrees) (queue : List Waiting) → AreWithin low high us → AreIn t us
+      → nodes_in t (with_trees us queue) ≤ size_all us + nodes_in t queue
   nodes_more low high PlainTrees.none queue within inside = omega arith
   nodes_more low high (PlainTrees.next x us) queue within inside =
-      let more = nodes_more within.0 high us (cond (waits x) (with_node (waiting_of x) queue) queue) within.2 (others_in t low within.0 high x us within.1 within.2 inside) in
+      let more =
+      nodes_more within.0 high us (cond (waits x) (with_node (waiting_of x) queue) queue) within.2
+      (others_in t low within.0 high x us within.1 within.2 inside) in
       let one = nodes_one_more t low within.0 high x us within.1 within.2 inside (waits x) queue in
       omega (arith, more, one)

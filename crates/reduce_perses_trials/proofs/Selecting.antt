@@ -82,7 +82,8 @@ selected_none [] = refl
 selected_none (b ∷ mask) = refl
 
 -- a selection of a selection
-pub selected_twice : (question keep : List Bool) (ts : PlainTrees) → KeepsOnlyOf question keep → selected_trees (kept_of keep question) (selected_trees keep ts) ≡ selected_trees question ts
+pub selected_twice : (question keep : List Bool) (ts : PlainTrees) → KeepsOnlyOf question keep
+    → selected_trees (kept_of keep question) (selected_trees keep ts) ≡ selected_trees question ts
 selected_twice [] [] ts only = refl
 selected_twice [] (b ∷ keep) ts only = absurd only
 selected_twice (q ∷ question) [] ts only = absurd only

@@ -11,7 +11,8 @@ use Rattle.syntax_tree.specs.Trees.{PlainTree, PlainTrees, size, size_all}
 use Rattle.syntax_tree.specs.Valid.{IsTreeFor, IsValid, slot_at}
 use Rattle.syntax_tree.specs.Numbered.{NumbersRise, subtree, subtree_among, with_subtree, with_subtree_among}
 use Rattle.syntax_tree.specs.Left.{IsRemainderOf}
-use Rattle.syntax_tree.proofs.Lent.{AreWithin, IsWithin, all_outside, found, found_among, lack_with, lacks_with, none_lacks, or_some, outside, within_from, part, reflexive, are_left, fit, nodes_left, other_nodes}
+use Rattle.syntax_tree.proofs.Lent.{AreWithin, IsWithin, all_outside, found, found_among, lack_with, lacks_with, none_lacks, or_some}
+use Rattle.syntax_tree.proofs.Lent.{outside, within_from, part, reflexive, are_left, fit, nodes_left, other_nodes}
 use Rattle.reduce_perses_trials.specs.Queued.{AreApart, IsEntryIn, IsInRound, IsQueueOf, nodes_in, with_trees}
 use Rattle.reduce_perses_trials.proofs.NodeFacts.{is_some, node_deeper, node_itself, node_rises}
 use Rattle.reduce_perses_trials.proofs.Queues.{AreIn, IsApartFrom, IsOpenFor, IsSameAt, all_both, all_map, nodes_more, nodes_same, queue_more, queue_same}
@@ -24,7 +25,8 @@ mutual
   -- a node in its own position changes nothing
   same_within : (low high q : ℕ) (t v : PlainTree) → IsWithin low high t → subtree q t ≡ Some v → with_subtree q v t ≡ t
   same_within low high q (PlainTree.leaf n k i) v within e = elim (cases_Bool (nat_eq n q)) [
-    | inl is ↦ cond-true (nat_eq n q) v (PlainTree.leaf n k i) is ∙ sym (same_Some (PlainTree.leaf n k i) v (sym (cond-true (nat_eq n q) (Some (PlainTree.leaf n k i)) None is) ∙ e))
+    | inl is ↦ cond-true (nat_eq n q) v (PlainTree.leaf n k i) is
+        ∙ sym (same_Some (PlainTree.leaf n k i) v (sym (cond-true (nat_eq n q) (Some (PlainTree.leaf n k i)) None is) ∙ e))
     | inr is ↦ cond-false (nat_eq n q) v (PlainTree.leaf n k i) is
   ]
   same_within low high q (PlainTree.node n r a ts) v within e = elim (cases_Bool (nat_eq n q)) [
@@ -33,7 +35,8 @@ mutual
         ∙ sym (same_Some (PlainTree.node n r a ts) v (sym (cond-true (nat_eq n q) (Some (PlainTree.node n r a ts)) (subtree_among q ts) is) ∙ e))
     | inr is ↦
         cond-false (nat_eq n q) v (PlainTree.node n r a (with_subtree_among q v ts)) is
-        ∙ ap (λ us. PlainTree.node n r a us) (same_among (n + 1) high q ts v within.1 (sym (cond-false (nat_eq n q) (Some (PlainTree.node n r a ts)) (subtree_among q ts) is) ∙ e))
+        ∙ ap (λ us. PlainTree.node n r a us) (same_among (n + 1) high q ts v within.1
+        (sym (cond-false (nat_eq n q) (Some (PlainTree.node n r a ts)) (subtree_among q ts) is) ∙ e))
   ]
 
   same_among : (low high q : ℕ) (ts : PlainTrees) (v : PlainTree) → AreWithin low high ts → subtree_among q ts ≡ Some v → with_subtree_among q v ts ≡ ts
@@ -43,7 +46,8 @@ mutual
         ap (λ u. PlainTrees.next u (with_subtree_among q v ts)) (same_within low within.0 q t v within.1 first)
         ∙ ap (λ us. PlainTrees.next t us) (lack_with q v ts (all_outside within.0 high q ts within.2 (inl (found low within.0 q t v within.1 first).below)))
     | inr later ↦
-        ap (λ u. PlainTrees.next u (with_subtree_among q v ts)) (lacks_with q v t (outside low within.0 q t within.1 (inr (found_among within.0 high q ts v within.2 later.1).above)))
+        ap (λ u. PlainTrees.next u (with_subtree_among q v ts))
+        (lacks_with q v t (outside low within.0 q t within.1 (inr (found_among within.0 high q ts v within.2 later.1).above)))
         ∙ ap (λ us. PlainTrees.next t us) (same_among within.0 high q ts v within.2 later.1)
   ]
 
@@ -81,7 +85,8 @@ module _ (N : NormalForm) (s : Sym) (t : PlainTree) (q : ℕ) (x : Sym) (v : Pla
         let not_in_v : subtree entry.node v ≡ None = not_some (subtree entry.node v) (λ y at. apart e.node e.node_is entry.node y e.node at itself) in
         let not_in_u : subtree q e.node ≡ None = not_some (subtree q e.node) (λ y at. apart e.node e.node_is q v y (node_itself q t v is.rise is.node_is) at) in
         let other = other_nodes N s x q t v w is.tree.valid is.rise is.node_is is.slot_is left in
-        other.node_out entry.node not_in_v ∙ ap (option_map (with_subtree q w)) e.node_is ∙ ap (λ y. Some y) (lacks_with q w e.node (none_lacks q e.node not_in_u)) ∙ sym e.node_is
+        other.node_out entry.node not_in_v ∙ ap (option_map (with_subtree q w)) e.node_is
+        ∙ ap (λ y. Some y) (lacks_with q w e.node (none_lacks q e.node not_in_u)) ∙ sym e.node_is
 
     all_same : AllByRecursion (IsSameAt t (with_subtree q w t)) later
     all_same = all_both (IsApartFromNode t v) (IsEntryIn t) (IsSameAt t (with_subtree q w t)) later same_at is.apart is.queue_is.entries
@@ -95,20 +100,24 @@ module _ (N : NormalForm) (s : Sym) (t : PlainTree) (q : ℕ) (x : Sym) (v : Pla
         let other = other_nodes N s x q t v w is.tree.valid is.rise is.node_is is.slot_is left in
         other.node_in p (is_some (subtree p v) was.0 was.1) ∙ e
 
-    apart_changed : (us : PlainTrees) → AreIn w us → (entry : Waiting) → IsApartFromNode t v entry → IsSameAt t (with_subtree q w t) entry → IsApartFrom (with_subtree q w t) us entry
+    apart_changed : (us : PlainTrees) → AreIn w us → (entry : Waiting) → IsApartFromNode t v entry → IsSameAt t (with_subtree q w t) entry
+        → IsApartFrom (with_subtree q w t) us entry
     apart_changed us inside entry apart same u e p y z ey ez =
         let was = was_in_v p z (inside p z ez) in
         apart u (sym same ∙ e) p was.0 y was.1 ey
 
     -- w takes the node's position, and of the trees us in it those wait that can
-    pub goes_changed : (us : PlainTrees) (low high : ℕ) → IsValid N x w → AreWithin low high us → AreIn w us → size_all us < size v → GoesTo N s t v later (with_subtree q w t) (with_trees us later)
+    pub goes_changed : (us : PlainTrees) (low high : ℕ) → IsValid N x w → AreWithin low high us → AreIn w us → size_all us < size v
+        → GoesTo N s t v later (with_subtree q w t) (with_trees us later)
     goes_changed us low high valid within inside small =
         let left_all = are_left t q v w is.rise is.node_is left in
         let part_all = part t (with_subtree q w t) left_all in
         let in_all = λ (p : ℕ) (y : PlainTree) (e : subtree_among p us ≡ Some y). in_changed p y (inside p y e) in
         let open_for : IsOpenFor (with_subtree q w t) us later = record {
           queue_is = queue_same t (with_subtree q w t) later all_same is.queue_is;
-          apart = all_both (IsApartFromNode t v) (IsSameAt t (with_subtree q w t)) (IsApartFrom (with_subtree q w t) us) later (apart_changed us inside) is.apart all_same;
+          apart =
+              all_both (IsApartFromNode t v) (IsSameAt t (with_subtree q w t)) (IsApartFrom (with_subtree q w t) us) later
+              (apart_changed us inside) is.apart all_same;
         } in
         let more = nodes_more (with_subtree q w t) low high us later within in_all in
         let same = nodes_same t (with_subtree q w t) later all_same in

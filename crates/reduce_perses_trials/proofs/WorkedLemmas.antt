@@ -24,7 +24,8 @@ unfolding visit_within
 visit_none N fits s times t = refl
 
 list_next : {T : Type 0} (state_of : List Bool → T) (next : List Bool → Trials T) (n : ℕ) (step : State) →
-    list_within state_of next (suc n) step ≡ by_question state_of (next (kept step)) (asks step) (list_within state_of next n (after step true)) (list_within state_of next n (after step false))
+    list_within state_of next (suc n) step ≡ by_question state_of (next (kept step)) (asks step) (list_within state_of next n (after step true))
+    (list_within state_of next n (after step false))
 unfolding list_within
 list_next state_of next n step = refl
 
@@ -49,7 +50,14 @@ brackets_go = (
   _,
   worked_next 19 _ _ _ ∙ (worked_next 18 _ _ _ ∙ list_next _ _ 4 _),
   refl,
-  (_, _, _, list_next _ _ 3 _ ∙ (worked_next 17 _ _ _ ∙ worked_next 16 _ _ _), refl, (_, _, _, worked_next 15 _ _ _, refl, worked_next 14 _ _ _ ∙ (worked_next 13 _ _ _ ∙ visit_none worked_form worked_fits (Rule 0) 12 _))),
+  (
+    _,
+    _,
+    _,
+    list_next _ _ 3 _ ∙ (worked_next 17 _ _ _ ∙ worked_next 16 _ _ _),
+    refl,
+    (_, _, _, worked_next 15 _ _ _, refl, worked_next 14 _ _ _ ∙ (worked_next 13 _ _ _ ∙ visit_none worked_form worked_fits (Rule 0) 12 _)),
+  ),
 )
 
 pub blocks_go : BlocksGo
@@ -65,7 +73,15 @@ blocks_go = (
     _,
     list_next _ _ 3 _ ∙ worked_next 15 _ _ _,
     refl,
-    (_, _, _, worked_next 14 _ _ _, refl, worked_next 13 _ _ _ ∙ (worked_next 12 _ _ _ ∙ (worked_next 11 _ _ _ ∙ visit_none worked_form worked_fits (Rule 0) 10 _))),
+    (
+      _,
+      _,
+      _,
+      worked_next 14 _ _ _,
+      refl,
+      worked_next 13 _ _ _
+          ∙ (worked_next 12 _ _ _ ∙ (worked_next 11 _ _ _ ∙ visit_none worked_form worked_fits (Rule 0) 10 _)),
+    ),
   ),
 )
 

@@ -39,10 +39,13 @@ pub record EndsByVisits (texts : StateTexts PlainTree) (verdict : List ℕ → B
   pub round : (t : PlainTree) → IsTreeFor N s t → NumbersRise t → trials_end texts verdict t (visit N fits s t) ≡ visit_end texts verdict N fits s t
   pub ends : (t : PlainTree) → end_from texts verdict N fits s t [] ≡ end_at t
   pub visits : (t : PlainTree) (next : Waiting) (later : List Waiting) → IsInRound N s t (next ∷ later) →
-      end_from texts verdict N fits s t (next ∷ later) ≡ node_end texts verdict (λ u queue. end_from texts verdict N fits s u queue) t later N fits s (subtree next.node t)
+      end_from texts verdict N fits s t (next ∷ later) ≡ node_end texts verdict (λ u queue. end_from texts verdict N fits s u queue) t later N fits s
+      (subtree next.node t)
 
 abbrev pub RoundsEndByVisits : Type 0
-RoundsEndByVisits = (texts : StateTexts PlainTree) (verdict : List ℕ → Bool) (N : NormalForm) (fits : Sym → Sym → Bool) (s : Sym) → DecidesFits N fits → EndsByVisits texts verdict N fits s
+RoundsEndByVisits =
+    (texts : StateTexts PlainTree) (verdict : List ℕ → Bool) (N : NormalForm) (fits : Sym → Sym → Bool) (s : Sym) → DecidesFits N fits
+    → EndsByVisits texts verdict N fits s
 
 -- The round goes on from this tree, which is left of the one before, and this queue.
 pub record GoesOn (N : NormalForm) (s : Sym) (t u : PlainTree) (queue : List Waiting) : Type 0 where
@@ -50,7 +53,8 @@ pub record GoesOn (N : NormalForm) (s : Sym) (t u : PlainTree) (queue : List Wai
   pub left : IsRemainderOf t u
 
 -- Where a round can go on from, after the visit of the node n, which has these children and is in the slot.
-pub record GoesOnFrom (N : NormalForm) (fits : Sym → Sym → Bool) (s : Sym) (t : PlainTree) (later : List Waiting) (n r a : ℕ) (ts : PlainTrees) (slot : Sym) : Type 0 where
+pub record GoesOnFrom (N : NormalForm) (fits : Sym → Sym → Bool) (s : Sym) (t : PlainTree) (later : List Waiting) (n r a : ℕ) (ts : PlainTrees)
+    (slot : Sym) : Type 0 where
   pub nothing : GoesOn N s t t later
   pub children : GoesOn N s t t (with_trees ts later)
   pub star : (x : Sym) (keep : List Bool) → slice_get N.rules r ≡ Some (RuleForm.star x) → IsRemainder (count ts) true keep →
@@ -58,18 +62,22 @@ pub record GoesOnFrom (N : NormalForm) (fits : Sym → Sym → Bool) (s : Sym) (
   pub plus : (x : Sym) (keep : List Bool) → slice_get N.rules r ≡ Some (RuleForm.plus x) → IsRemainder (count ts) false keep →
       GoesOn N s t (with_subtree n (PlainTree.node n r a (selected_trees keep ts)) t) (with_trees (selected_trees keep ts) later)
   pub optional : (x : Sym) → slice_get N.rules r ≡ Some (RuleForm.opt x) → GoesOn N s t (with_subtree n (PlainTree.node n r a PlainTrees.none) t) later
-  pub regular : (alts : List (List Sym)) (u : PlainTree) → slice_get N.rules r ≡ Some (RuleForm.regular alts) → Contains (compatible fits slot (PlainTree.node n r a ts)) u →
+  pub regular : (alts : List (List Sym)) (u : PlainTree) → slice_get N.rules r ≡ Some (RuleForm.regular alts)
+      → Contains (compatible fits slot (PlainTree.node n r a ts)) u →
       GoesOn N s t (with_subtree n u t) (with_trees (PlainTrees.next u PlainTrees.none) later)
 
 -- The next node that waits: it has a slot and a leaf, and the round goes on from where a visit of it leads.
-pub record IsNextVisit (N : NormalForm) (fits : Sym → Sym → Bool) (s : Sym) (t : PlainTree) (later : List Waiting) (n r a : ℕ) (ts : PlainTrees) (slot : Sym) : Type 0 where
+pub record IsNextVisit (N : NormalForm) (fits : Sym → Sym → Bool) (s : Sym) (t : PlainTree) (later : List Waiting) (n r a : ℕ) (ts : PlainTrees)
+    (slot : Sym) : Type 0 where
   pub node : subtree n t ≡ Some (PlainTree.node n r a ts)
   pub slot_is : slot_at N s n t ≡ Some slot
   pub some : 0 < weight_all ts
   pub goes_on : GoesOnFrom N fits s t later n r a ts slot
 
 abbrev pub VisitsGoOn : Type 0
-VisitsGoOn = (N : NormalForm) (fits : Sym → Sym → Bool) (s : Sym) (t : PlainTree) (next : Waiting) (later : List Waiting) → DecidesFits N fits → IsInRound N s t (next ∷ later) →
+VisitsGoOn =
+    (N : NormalForm) (fits : Sym → Sym → Bool) (s : Sym) (t : PlainTree) (next : Waiting) (later : List Waiting) → DecidesFits N fits
+    → IsInRound N s t (next ∷ later) →
     (r : ℕ) × (a : ℕ) × (ts : PlainTrees) × (slot : Sym) × IsNextVisit N fits s t later next.node r a ts slot
 
 -- From a tree that is kept only such trees are tried: trees for the slot that are left of the whole tree.
@@ -108,5 +116,6 @@ LosesLeaves = (N : NormalForm) (fits : Sym → Sym → Bool) (s : Sym) (t : Plai
 
 -- A round whose answers are all no has tried each single edit of its tree.
 abbrev pub TriesSingleEdits : Type 0
-TriesSingleEdits = (N : NormalForm) (fits : Sym → Sym → Bool) (s : Sym) (t u : PlainTree) → DecidesFits N fits → IsTreeFor N s t → NumbersRise t → IsSingleEdit N s t u →
+TriesSingleEdits =
+    (N : NormalForm) (fits : Sym → Sym → Bool) (s : Sym) (t u : PlainTree) → DecidesFits N fits → IsTreeFor N s t → NumbersRise t → IsSingleEdit N s t u →
     IsTriedAtNo (visit N fits s t) u

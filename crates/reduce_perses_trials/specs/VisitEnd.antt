@@ -1,4 +1,5 @@
--- What a round of mode `perses` comes to, as a recursion over a verdict on every text: the texts that it asks, the tree that remains, and whether there was a yes.
+-- What a round of mode `perses` comes to, as a recursion over a verdict on every text: the
+-- texts that it asks, the tree that remains, and whether there was a yes.
 use Rattle.std.specs.Prelude.{ℕ, zero, suc, Bool, true, false, List, [], ◌∷◌, Option, Some, None, slice_get}
 use Rattle.normal_form.specs.declared.normal.Sym.{Sym}
 use Rattle.normal_form.specs.Form.{RuleForm, NormalForm}
@@ -35,12 +36,14 @@ module _ (texts : StateTexts PlainTree) (verdict : List ℕ → Bool) where
     abbrev pub optional_end : ℕ → ℕ → ℕ → PlainTrees → RoundEnd PlainTree
     optional_end n r a PlainTrees.none = go t later
     optional_end n r a (PlainTrees.next u us) =
-        tested texts verdict (with_subtree n (PlainTree.node n r a PlainTrees.none) t) (go (with_subtree n (PlainTree.node n r a PlainTrees.none) t) later) (go t (with_trees (PlainTrees.next u us) later))
+        tested texts verdict (with_subtree n (PlainTree.node n r a PlainTrees.none) t) (go (with_subtree n (PlainTree.node n r a PlainTrees.none) t) later)
+        (go t (with_trees (PlainTrees.next u us) later))
 
     -- these trees in the position of the node n are tested up to the first yes, which waits
     abbrev pub first_yes : ℕ → List PlainTree → RoundEnd PlainTree → RoundEnd PlainTree
     first_yes n [] at_no = at_no
-    first_yes n (u ∷ us) at_no = tested texts verdict (with_subtree n u t) (go (with_subtree n u t) (with_trees (PlainTrees.next u PlainTrees.none) later)) (first_yes n us at_no)
+    first_yes n (u ∷ us) at_no =
+        tested texts verdict (with_subtree n u t) (go (with_subtree n u t) (with_trees (PlainTrees.next u PlainTrees.none) later)) (first_yes n us at_no)
 
     -- a regular node in the slot gets a test for each compatible descendant, in level order; if each has a no, its children wait
     abbrev pub regular_end : (Sym → Sym → Bool) → Option Sym → ℕ → ℕ → ℕ → PlainTrees → RoundEnd PlainTree

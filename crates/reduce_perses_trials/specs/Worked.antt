@@ -25,9 +25,11 @@ yes_of tokens = record { tokens = tokens; answer = true }
 abbrev pub TriesInOrder : List Asked → Trials PlainTree → Type 0
 TriesInOrder [] trials = trials ≡ Done
 TriesInOrder (asked ∷ later) trials =
-    (u : PlainTree) × (at_yes : Trials PlainTree) × (at_no : Trials PlainTree) × (trials ≡ Try u at_yes at_no) × (leaves u ≡ asked.tokens) × TriesInOrder later (cond asked.answer at_yes at_no)
+    (u : PlainTree) × (at_yes : Trials PlainTree) × (at_no : Trials PlainTree) × (trials ≡ Try u at_yes at_no) × (leaves u ≡ asked.tokens)
+    × TriesInOrder later (cond asked.answer at_yes at_no)
 
--- The grammar's kinds are = ; { } + ( ) ID INT, with the numbers 0 to 8, and its rules have the numbers 0 to 7: file, its star, stmt, its star, expr, what an expr begins with, the star of what follows, and what follows.
+-- The grammar's kinds are = ; { } + ( ) ID INT, with the numbers 0 to 8, and its rules have the numbers 0 to 7: file,
+-- its star, stmt, its star, expr, what an expr begins with, the star of what follows, and what follows.
 abbrev pub worked_form : NormalForm
 worked_form = record {
   rules =
@@ -66,21 +68,25 @@ three t u v = PlainTrees.next t (PlainTrees.next u (one v))
 -- the expression of one token of this kind, from the number n on: four nodes
 abbrev pub one_token : ℕ → ℕ → ℕ → PlainTree
 one_token n kind token =
-    PlainTree.node n 4 0 (PlainTrees.next (PlainTree.node (n + 1) 5 (cond (nat_eq kind 7) 1 2) (one (PlainTree.leaf (n + 2) kind token))) (one (PlainTree.node (n + 3) 6 0 PlainTrees.none)))
+    PlainTree.node n 4 0 (PlainTrees.next (PlainTree.node (n + 1) 5 (cond (nat_eq kind 7) 1 2) (one (PlainTree.leaf (n + 2) kind token)))
+    (one (PlainTree.node (n + 3) 6 0 PlainTrees.none)))
 
 -- the expression in brackets, from the number n on; the expression within has so many nodes
 abbrev pub in_brackets : ℕ → ℕ → ℕ → ℕ → PlainTree → PlainTree
 in_brackets n nodes first last within =
-    PlainTree.node n 4 0 (PlainTrees.next (PlainTree.node (n + 1) 5 0 (three (PlainTree.leaf (n + 2) 5 first) within (PlainTree.leaf (n + 3 + nodes) 6 last))) (one (PlainTree.node (n + 4 + nodes) 6 0 PlainTrees.none)))
+    PlainTree.node n 4 0 (PlainTrees.next (PlainTree.node (n + 1) 5 0 (three (PlainTree.leaf (n + 2) 5 first) within (PlainTree.leaf (n + 3 + nodes) 6 last)))
+    (one (PlainTree.node (n + 4 + nodes) 6 0 PlainTrees.none)))
 
 -- the statement ID '=' expr ';', from the number n on; the expression has so many nodes
 abbrev pub set_to : ℕ → ℕ → ℕ → ℕ → PlainTree → PlainTree
 set_to n nodes first last within =
-    PlainTree.node n 2 0 (PlainTrees.next (PlainTree.leaf (n + 1) 7 first) (three (PlainTree.leaf (n + 2) 0 (first + 1)) within (PlainTree.leaf (n + 3 + nodes) 1 last)))
+    PlainTree.node n 2 0 (PlainTrees.next (PlainTree.leaf (n + 1) 7 first)
+    (three (PlainTree.leaf (n + 2) 0 (first + 1)) within (PlainTree.leaf (n + 3 + nodes) 1 last)))
 
 -- a block with one statement, from the number n on; the statement has so many nodes
 abbrev pub in_block : ℕ → ℕ → ℕ → ℕ → PlainTree → PlainTree
-in_block n nodes first last within = PlainTree.node n 2 1 (three (PlainTree.leaf (n + 1) 2 first) (PlainTree.node (n + 2) 3 0 (one within)) (PlainTree.leaf (n + 3 + nodes) 3 last))
+in_block n nodes first last within =
+    PlainTree.node n 2 1 (three (PlainTree.leaf (n + 1) 2 first) (PlainTree.node (n + 2) 3 0 (one within)) (PlainTree.leaf (n + 3 + nodes) 3 last))
 
 abbrev pub file_of : PlainTrees → PlainTree
 file_of ts = PlainTree.node 0 0 0 (one (PlainTree.node 1 1 0 ts))
@@ -107,5 +113,6 @@ plus_of ts = PlainTree.node 0 0 0 (one (PlainTree.node 1 1 0 ts))
 -- Of xxx the first x alone is a yes. Without it nothing would be left, which a plus may not be: a second round tries nothing.
 abbrev pub PlusKeepsOne : Type 0
 PlusKeepsOne =
-    TriesInOrder (yes_of (0 ∷ []) ∷ []) (visit plus_form worked_fits (Rule 0) (plus_of (three (PlainTree.leaf 2 0 0) (PlainTree.leaf 3 0 1) (PlainTree.leaf 4 0 2))))
+    TriesInOrder (yes_of (0 ∷ []) ∷ []) (visit plus_form worked_fits (Rule 0)
+    (plus_of (three (PlainTree.leaf 2 0 0) (PlainTree.leaf 3 0 1) (PlainTree.leaf 4 0 2))))
     × TriesInOrder [] (visit plus_form worked_fits (Rule 0) (plus_of (one (PlainTree.leaf 2 0 0))))

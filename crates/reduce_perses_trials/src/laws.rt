@@ -1,7 +1,8 @@
 //! What holds of rounds of mode `perses`. Each law is a function that does nothing: a caller calls
 //! it so that its proof has the law.
 
-ghost use Rattle.reduce_perses_trials.specs.Laws.{LosesLeaves, RoundBegins, RoundsEndByVisits, RoundsGoByVisits, TriesEditsAndSelections, TriesKeptTrees, TriesSingleEdits, VisitsGoOn};
+ghost use Rattle.reduce_perses_trials.specs.Laws.{LosesLeaves, RoundBegins, RoundsEndByVisits, RoundsGoByVisits};
+ghost use Rattle.reduce_perses_trials.specs.Laws.{TriesEditsAndSelections, TriesKeptTrees, TriesSingleEdits, VisitsGoOn};
 ghost use Rattle.reduce_perses_trials.specs.Worked.{BlocksGo, BracketsGo, PlusKeepsOne};
 
 use syntax_tree::elements_have_tokens;

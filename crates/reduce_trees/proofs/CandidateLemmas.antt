@@ -25,7 +25,8 @@ from_next x (y ∷ ys) up =
     more
 
 later_rise : (x : ℕ) (xs : List ℕ) → IsStrictlyIncreasing (x ∷ xs) → IsStrictlyIncreasing xs
-later_rise x xs up = λ k lt. subst (λ (m : ℕ). slice_index xs k < slice_index (x ∷ xs) m) (let e : suc k + 1 ≡ suc (k + 1) = omega arith in e) (up (suc k) (omega (arith, lt)))
+later_rise x xs up =
+    λ k lt. subst (λ (m : ℕ). slice_index xs k < slice_index (x ∷ xs) m) (let e : suc k + 1 ≡ suc (k + 1) = omega arith in e) (up (suc k) (omega (arith, lt)))
 
 rise_from : (low : ℕ) (xs : List ℕ) → IsStrictlyIncreasing xs → IsFrom low xs → RisesFrom low xs
 rise_from low [] up from = tt
@@ -40,10 +41,12 @@ pub kept_rise : (kept : List ℕ) → IsStrictlyIncreasing kept → Rises kept
 kept_rise kept up = rise_from 0 kept up (from_zero kept)
 
 -- A text is listed where it keeps its tokens and is admitted.
-pub listed_in : SpelledAreFound → (input : TreeInput) (kept : List ℕ) (style : Style) (start text : List ℕ) (keeps : Bool) → start ≡ input.start → IsTrue keeps ↔ KeepsTokens input.grammar.grammar start input.tokens kept text → text ≡ text_in input kept style →
+pub listed_in : SpelledAreFound → (input : TreeInput) (kept : List ℕ) (style : Style) (start text : List ℕ) (keeps : Bool) → start ≡ input.start → IsTrue keeps
+    ↔ KeepsTokens input.grammar.grammar start input.tokens kept text → text ≡ text_in input kept style →
     (keeps && input.admits kept text) ≡ is_listed_in input kept style
 listed_in found input kept style start text keeps same says is =
-    let says_it : IsTrue keeps ↔ KeepsTokens input.grammar.grammar input.start input.tokens kept text = subst (λ (s : List ℕ). IsTrue keeps ↔ KeepsTokens input.grammar.grammar s input.tokens kept text) same says in
+    let says_it : IsTrue keeps ↔ KeepsTokens input.grammar.grammar input.start input.tokens kept text =
+    subst (λ (s : List ℕ). IsTrue keeps ↔ KeepsTokens input.grammar.grammar s input.tokens kept text) same says in
     let spelled = kinds_and_spellings input.start input.tokens kept in
     let one : keeps ≡ spells input.grammar.grammar text spelled =
     same_from_decides keeps (spells input.grammar.grammar text spelled) says_it (found input.grammar.grammar input.grammar.start input.formed text spelled) in

@@ -36,7 +36,8 @@ module _ (F : RattleType) (relation : Relation.Ghosts F.Denot) where
 
     pub round_send : IsSync F → IsSend W → IsSend round
     round_send f w = recorded_send (TreeRound.the_field lent F W relation walk).row _ _ (TreeRound.the_type lent F W relation walk).to_one
-        (struct_send (shape (TreeRound.the_type lent F W relation walk)) (heap.the_field_send, (shr_send _ _ _ (parts_sync f), (style.the_field_send, (w, (trial.the_field_send, tt))))))
+        (struct_send (shape (TreeRound.the_type lent F W relation walk))
+        (heap.the_field_send, (shr_send _ _ _ (parts_sync f), (style.the_field_send, (w, (trial.the_field_send, tt))))))
 
     pub reducer_send : (mode : Round.Ghosts round.Denot) → IsSync F → IsSend W → IsSend (Rounds.the_row round mode)
     reducer_send mode f w = rounds.the_send round mode (round_send f w)

@@ -19,8 +19,10 @@ use Rattle.reduce_trees_mode.specs.InputOf.{input_of}
 use Rattle.reduce_trees.specs.inner.Parts.{BelongTogether}
 
 module _ (grammar : CheckedGrammar) (tree : SyntaxTree) (start : List ℕ) (tokens : List Token) (admits : List ℕ → List ℕ → Bool) (squeezes : Bool) where
-  pub belong : (formed : IsWellFormed grammar.grammar grammar.start) (compat : NormalForm) → TokensAreFound → IsChecked grammar → length start ≤ text_limit → HasTokens grammar.grammar (chars start) (map token_of tokens) →
-      tree.form ≡ normal_of grammar → tree.start ≡ Rule tree.form.start → kinds_of (whole tree) ≡ map (λ (t : PlacedToken). t.kind) (map token_of tokens) → compat ≡ tree.form →
+  pub belong : (formed : IsWellFormed grammar.grammar grammar.start) (compat : NormalForm) → TokensAreFound → IsChecked grammar → length start ≤ text_limit
+      → HasTokens grammar.grammar (chars start) (map token_of tokens) →
+      tree.form ≡ normal_of grammar → tree.start ≡ Rule tree.form.start → kinds_of (whole tree) ≡ map (λ (t : PlacedToken). t.kind) (map token_of tokens)
+      → compat ≡ tree.form →
       BelongTogether (input_of grammar formed tree start tokens admits squeezes) compat
   belong formed compat found checked short has form symbol kinds same =
       record {
@@ -37,5 +39,8 @@ module _ (grammar : CheckedGrammar) (tree : SyntaxTree) (start : List ℕ) (toke
         short = short;
       }
 
-  pub one_input : (formed other : IsWellFormed grammar.grammar grammar.start) → input_of grammar formed tree start tokens admits squeezes ≡ input_of grammar other tree start tokens admits squeezes
-  one_input formed other = ap (λ (f : IsWellFormed grammar.grammar grammar.start). input_of grammar f tree start tokens admits squeezes) (well_formed_prop grammar.grammar grammar.start formed other)
+  pub one_input : (formed other : IsWellFormed grammar.grammar grammar.start)
+      → input_of grammar formed tree start tokens admits squeezes ≡ input_of grammar other tree start tokens admits squeezes
+  one_input formed other =
+      ap (λ (f : IsWellFormed grammar.grammar grammar.start). input_of grammar f tree start tokens admits squeezes)
+      (well_formed_prop grammar.grammar grammar.start formed other)

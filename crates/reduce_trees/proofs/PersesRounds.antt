@@ -15,4 +15,5 @@ pub are_visits : WholeTreesRise → LeftIsPart → RoundsKeepStyle → RoundsEnd
 are_visits whole_rises part style ends input verdict state is kept =
     style input (visit_round input.form input.symbol) verdict state
     ∙ ap (end_in state.style)
-    ((ends (trees_in input state.style) verdict input.form (fits_in input.form) input.symbol (decides input.form)).round state.tree kept.fits (kept_rises whole_rises part input state.tree is (kept.fits, kept.left)))
+    ((ends (trees_in input state.style) verdict input.form (fits_in input.form) input.symbol (decides input.form)).round state.tree kept.fits
+    (kept_rises whole_rises part input state.tree is (kept.fits, kept.left)))

@@ -21,16 +21,19 @@ use Rattle.reduce_trees.specs.Fields.{IsTreeOf}
 
 module _ (input : TreeInput) where
   -- the tokens of the whole tree
-  pub whole_are_kept : IsInput input → LeftIsPart → IsStart input (in_style Style.AsWas input.whole) → (kept : List ℕ) → kept ≡ leaves input.whole → AreKept input.tokens kept
+  pub whole_are_kept : IsInput input → LeftIsPart → IsStart input (in_style Style.AsWas input.whole) → (kept : List ℕ) → kept ≡ leaves input.whole
+      → AreKept input.tokens kept
   whole_are_kept of part start kept same = subst (AreKept input.tokens) (sym same) (are_kept input of (in_style Style.AsWas input.whole) start.kept part)
 
   -- the squeezed text of the whole may be kept
-  pub squeezed_short : (text kept : List ℕ) → kept ≡ leaves input.whole → text ≡ text_in input kept Style.Squeezed → input.squeezes ≡ true → length text < length input.start → MayKeepStyle input Style.Squeezed
+  pub squeezed_short : (text kept : List ℕ) → kept ≡ leaves input.whole → text ≡ text_in input kept Style.Squeezed → input.squeezes ≡ true
+      → length text < length input.start → MayKeepStyle input Style.Squeezed
   squeezed_short text kept same text_is asked short =
       (asked, subst (λ (t : List ℕ). length t < length input.start) (text_is ∙ ap (λ (k : List ℕ). text_in input k Style.Squeezed) same) short)
 
   -- a tree that a walk tries is kept
-  kept_in : (style : Style) (tree_of_all : SyntaxTree) (tree : PlainTree) → IsTreeOf input tree_of_all → MayKeepStyle input style → IsTreeFor tree_of_all.form tree_of_all.start tree → IsRemainderOf (whole tree_of_all) tree → IsKept input (in_style style tree)
+  kept_in : (style : Style) (tree_of_all : SyntaxTree) (tree : PlainTree) → IsTreeOf input tree_of_all → MayKeepStyle input style
+      → IsTreeFor tree_of_all.form tree_of_all.start tree → IsRemainderOf (whole tree_of_all) tree → IsKept input (in_style style tree)
   kept_in style tree_of_all tree of may_keep fits left =
       record {
         fits = subst (λ (N : NormalForm). IsTreeFor N input.symbol tree) of.form (subst (λ (s : Sym). IsTreeFor tree_of_all.form s tree) of.symbol fits);
@@ -42,8 +45,10 @@ tokens_of : (tried : Option PlainTree) (kept : List ℕ) → option_map leaves t
 tokens_of None kept e = absurd (cc e)
 tokens_of (Some tree) kept e = (tree, refl, let same : leaves tree ≡ kept = cc e in same)
 
-module _ (input : TreeInput) (of : IsInput input) (style : Style) (parsed : SyntaxTree) (rest : Trials PlainTree) (tree_of : IsTreeOf input parsed) (may_keep : MayKeepStyle input style)
-    (fits : (tree : PlainTree) → tried_state rest ≡ Some tree → IsTreeFor parsed.form parsed.start tree) (left : (tree : PlainTree) → tried_state rest ≡ Some tree → IsRemainderOf (whole parsed) tree)
+module _ (input : TreeInput) (of : IsInput input) (style : Style) (parsed : SyntaxTree) (rest : Trials PlainTree) (tree_of : IsTreeOf input parsed)
+    (may_keep : MayKeepStyle input style)
+    (fits : (tree : PlainTree) → tried_state rest ≡ Some tree → IsTreeFor parsed.form parsed.start tree)
+    (left : (tree : PlainTree) → tried_state rest ≡ Some tree → IsRemainderOf (whole parsed) tree)
     (kept : List ℕ) (tokens : option_map leaves (tried_state rest) ≡ Some kept) where
   found : (tree : PlainTree) × (tried_state rest ≡ Some tree) × (leaves tree ≡ kept)
   found = tokens_of (tried_state rest) kept tokens

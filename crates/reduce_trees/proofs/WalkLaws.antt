@@ -23,7 +23,9 @@ module _ (round : NormalForm → Sym → PlainTree → Trials PlainTree) (whole_
   round_is_lawful : RoundsKeepTrees round → RoundsLoseLeaves round → (input : TreeInput) → IsInput input → IsLawfulRound input (round input.form input.symbol)
   round_is_lawful keep lose input is =
       record {
-        kept = λ tree kept. keep input.form input.symbol input.whole tree (form_is_normal input is) (whole_rises input.form input.symbol input.whole is.is_whole) kept.0 kept.1;
+        kept =
+            λ tree kept. keep input.form input.symbol input.whole tree (form_is_normal input is)
+            (whole_rises input.form input.symbol input.whole is.is_whole) kept.0 kept.1;
         smaller = λ tree kept. lose input.form input.symbol tree (form_is_normal input is) (kept_rises whole_rises part input tree is kept) kept.0;
       }
 
@@ -34,4 +36,5 @@ module _ (round : NormalForm → Sym → PlainTree → Trials PlainTree) (whole_
   try_edits IsEdit tries mode input is state other kept edit =
       let kept_tree : IsKeptTree input state.tree = (kept.fits, kept.left) in
       mode input (round input.form input.symbol) state other
-      (tries input.form input.symbol state.tree other.tree (form_is_normal input is) (kept_rises whole_rises part input state.tree is kept_tree) kept.fits edit.tree) edit.style
+      (tries input.form input.symbol state.tree other.tree (form_is_normal input is)
+      (kept_rises whole_rises part input state.tree is kept_tree) kept.fits edit.tree) edit.style

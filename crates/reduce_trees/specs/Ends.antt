@@ -25,7 +25,8 @@ pub record BeginsWith (mode : RoundMode TreeState) (start : List ℕ) : Type 0 w
   pub listed : mode.is_listed mode.start ≡ true
 
 -- The end of a reduction: it has a yes, it may be asked, it is kept, and it is minimal by these edits.
-pub record IsEndBy (IsEdit : NormalForm → Sym → PlainTree → PlainTree → Type 0) (input : TreeInput) (V : List ℕ → Option Verdict) (state : TreeState) : Type 0 where
+pub record IsEndBy (IsEdit : NormalForm → Sym → PlainTree → PlainTree → Type 0) (input : TreeInput) (V : List ℕ → Option Verdict)
+    (state : TreeState) : Type 0 where
   pub yes_at_end : V (text_of_state input state) ≡ Some Yes
   pub listed : IsListed input state
   pub kept : IsKept input state
@@ -43,4 +44,5 @@ module _ (round : NormalForm → Sym → PlainTree → Trials PlainTree) where
   -- A state that ends well, as reductions by rounds do, is such an end: its edits are among what a round from it tries if each answer is no.
   abbrev pub WalksEndMinimal : (NormalForm → Sym → PlainTree → PlainTree → Type 0) → Type 0
   WalksEndMinimal IsEdit = (input : TreeInput) (V : List ℕ → Option Verdict) (state : TreeState) → IsInput input
-      → EndsWell (walk_mode round input) (IsKept input) (λ one other. IsTriedAtNo ((walk_mode round input).round one) other) V state → IsEndBy IsEdit input V state
+      → EndsWell (walk_mode round input) (IsKept input) (λ one other. IsTriedAtNo ((walk_mode round input).round one) other) V state
+      → IsEndBy IsEdit input V state

@@ -31,7 +31,8 @@ module _ (round : NormalForm → Sym → PlainTree → Trials PlainTree) where
 -- Over a verdict on every text a round of mode `perses` is the recursion that visits node after node, over the trees in the state's style.
 abbrev pub PersesRoundsAreVisits : Type 0
 PersesRoundsAreVisits = (input : TreeInput) (verdict : List ℕ → Bool) (state : TreeState) → IsInput input → IsKept input state
-    → round_of (perses_mode input) verdict state ≡ end_in state.style (visit_end (trees_in input state.style) verdict input.form (fits_in input.form) input.symbol state.tree)
+    → round_of (perses_mode input) verdict state ≡ end_in state.style
+    (visit_end (trees_in input state.style) verdict input.form (fits_in input.form) input.symbol state.tree)
 
 -- A round of mode `hdd` is the recursion that goes level after level.
 abbrev pub HddRoundsAreLevels : Type 0

@@ -58,7 +58,8 @@ pub(crate) fn text_of<F: Relation>(
 fn is_listed<F: Relation>(parts: &TreeParts<F>, kept: &[u32], text: &[u8]) -> Result<bool, Memory>
     requires kept { AreKept (⟦<TreeParts<F> as HasInput>⟧.input parts.now).tokens kept.now }
     requires short { length text.now ≤ text_limit }
-    ensures { IfOk result (λ listed. (style : TextStyle) → text.now ≡ text_in (⟦<TreeParts<F> as HasInput>⟧.input parts.now) kept.now style → listed ≡ is_listed_in (⟦<TreeParts<F> as HasInput>⟧.input parts.now) kept.now style) }
+    ensures { IfOk result (λ listed. (style : TextStyle) → text.now ≡ text_in (⟦<TreeParts<F> as HasInput>⟧.input parts.now) kept.now style
+        → listed ≡ is_listed_in (⟦<TreeParts<F> as HasInput>⟧.input parts.now) kept.now style) }
 {
     parts.is_input();
     spelled_are_found();
@@ -79,7 +80,8 @@ pub(crate) fn with_text<F: Relation>(
 ) -> Result<Candidate, Memory>
     requires kept { AreKept (⟦<TreeParts<F> as HasInput>⟧.input parts.now).tokens kept.now }
     requires short { length text.items ≤ text_limit }
-    ensures { IfOk result (λ candidate. (style : TextStyle) → text.items ≡ text_in (⟦<TreeParts<F> as HasInput>⟧.input parts.now) kept.now style → IsCandidateIn (⟦<TreeParts<F> as HasInput>⟧.input parts.now) kept.now style candidate) }
+    ensures { IfOk result (λ candidate. (style : TextStyle) → text.items ≡ text_in (⟦<TreeParts<F> as HasInput>⟧.input parts.now) kept.now style
+        → IsCandidateIn (⟦<TreeParts<F> as HasInput>⟧.input parts.now) kept.now style candidate) }
 {
     let listed = is_listed(parts, kept, &text)?;
     Ok(Candidate {

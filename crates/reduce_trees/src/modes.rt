@@ -30,9 +30,12 @@ pub fn perses_reducer<'a, F: Relation>(
     alloc: Global,
     parts: &'a TreeParts<F>,
 ) -> Result<Rounds<TreeRound<'a, F, TreeVisits<'a>>>, Memory>
-    ensures plan { IfOk result (λ reducer. ⟦<Rounds<TreeRound<'a, F, TreeVisits<'a>>> as Step>⟧.plan reducer ≡ plan_first (perses_mode (⟦<TreeParts<F> as HasInput>⟧.input parts.now))) }
-    ensures first { IfOk result (λ reducer. ⟦<Rounds<TreeRound<'a, F, TreeVisits<'a>>> as Step>⟧.first reducer ≡ plan_first (perses_mode (⟦<TreeParts<F> as HasInput>⟧.input parts.now))) }
-    ensures start { IfOk result (λ reducer. IsStart (perses_mode (⟦<TreeParts<F> as HasInput>⟧.input parts.now)) (⟦<Rounds<TreeRound<'a, F, TreeVisits<'a>>> as ReducerStep>⟧.so_far reducer)) }
+    ensures plan { IfOk result (λ reducer. ⟦<Rounds<TreeRound<'a, F, TreeVisits<'a>>> as Step>⟧.plan reducer ≡ plan_first
+        (perses_mode (⟦<TreeParts<F> as HasInput>⟧.input parts.now))) }
+    ensures first { IfOk result (λ reducer. ⟦<Rounds<TreeRound<'a, F, TreeVisits<'a>>> as Step>⟧.first reducer ≡ plan_first
+        (perses_mode (⟦<TreeParts<F> as HasInput>⟧.input parts.now))) }
+    ensures start { IfOk result (λ reducer. IsStart (perses_mode (⟦<TreeParts<F> as HasInput>⟧.input parts.now))
+        (⟦<Rounds<TreeRound<'a, F, TreeVisits<'a>>> as ReducerStep>⟧.so_far reducer)) }
 {
     let walk = TreeVisits::new(alloc, &parts.tree, &parts.compat)?;
     tree_reducer(alloc, parts, walk)
@@ -64,9 +67,12 @@ pub fn hdd_reducer<'a, F: Relation>(
     alloc: Global,
     parts: &'a TreeParts<F>,
 ) -> Result<Rounds<TreeRound<'a, F, TreeLevels<'a>>>, Memory>
-    ensures plan { IfOk result (λ reducer. ⟦<Rounds<TreeRound<'a, F, TreeLevels<'a>>> as Step>⟧.plan reducer ≡ plan_first (hdd_mode (⟦<TreeParts<F> as HasInput>⟧.input parts.now))) }
-    ensures first { IfOk result (λ reducer. ⟦<Rounds<TreeRound<'a, F, TreeLevels<'a>>> as Step>⟧.first reducer ≡ plan_first (hdd_mode (⟦<TreeParts<F> as HasInput>⟧.input parts.now))) }
-    ensures start { IfOk result (λ reducer. IsStart (hdd_mode (⟦<TreeParts<F> as HasInput>⟧.input parts.now)) (⟦<Rounds<TreeRound<'a, F, TreeLevels<'a>>> as ReducerStep>⟧.so_far reducer)) }
+    ensures plan { IfOk result (λ reducer. ⟦<Rounds<TreeRound<'a, F, TreeLevels<'a>>> as Step>⟧.plan reducer ≡ plan_first
+        (hdd_mode (⟦<TreeParts<F> as HasInput>⟧.input parts.now))) }
+    ensures first { IfOk result (λ reducer. ⟦<Rounds<TreeRound<'a, F, TreeLevels<'a>>> as Step>⟧.first reducer ≡ plan_first
+        (hdd_mode (⟦<TreeParts<F> as HasInput>⟧.input parts.now))) }
+    ensures start { IfOk result (λ reducer. IsStart (hdd_mode (⟦<TreeParts<F> as HasInput>⟧.input parts.now))
+        (⟦<Rounds<TreeRound<'a, F, TreeLevels<'a>>> as ReducerStep>⟧.so_far reducer)) }
 {
     let walk = TreeLevels::new(alloc, &parts.tree)?;
     tree_reducer(alloc, parts, walk)

@@ -36,7 +36,8 @@ pub struct TreeParts<F: Relation> {
     pub(crate) guard: Guard<F>,
     pub(crate) squeezes: bool,
     ghost formed: { IsWellFormed lexer.grammar lexer.start } by { well_formed_prop lexer.grammar lexer.start },
-    ghost together: { BelongTogether (input_of lexer formed tree (string_bytes start) tokens.items.items (F.admits guard) squeezes) compat } by { together_prop (input_of lexer formed tree (string_bytes start) tokens.items.items (F.admits guard) squeezes) compat },
+    ghost together: { BelongTogether (input_of lexer formed tree (string_bytes start) tokens.items.items (F.admits guard) squeezes) compat } by { together_prop
+        (input_of lexer formed tree (string_bytes start) tokens.items.items (F.admits guard) squeezes) compat },
 }
 
 /// What a reduction is about.
@@ -69,7 +70,8 @@ impl<F: Relation> TreeParts<F> {
         requires symbol { tree.start ≡ Rule tree.form.start }
         requires kinds { kinds_of (whole tree) ≡ map (λ (t : PlacedToken). t.kind) (map token_of tokens.items.items) }
         requires compat { compat ≡ tree.form }
-        ensures { (formed : IsWellFormed lexer.grammar lexer.start) → ⟦<TreeParts<F> as HasInput>⟧.input result ≡ input_of lexer formed tree (string_bytes start) tokens.items.items (F.admits guard) squeezes }
+        ensures { (formed : IsWellFormed lexer.grammar lexer.start)
+            → ⟦<TreeParts<F> as HasInput>⟧.input result ≡ input_of lexer formed tree (string_bytes start) tokens.items.items (F.admits guard) squeezes }
     {
         tokens_are_found();
         TreeParts {

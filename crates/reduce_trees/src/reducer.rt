@@ -35,9 +35,12 @@ pub fn tree_reducer<'a, F: Relation, W: TreeWalk + Drop>(
     requires tree { IsTreeOf (⟦<TreeParts<F> as HasInput>⟧.input parts.now) (W.tree walk) }
     requires left { W.left walk ≡ (⟦<TreeParts<F> as HasInput>⟧.input parts.now).whole }
     requires rest { W.rest walk ≡ Done }
-    ensures plan { IfOk result (λ reducer. ⟦<Rounds<TreeRound<'a, F, W>> as Step>⟧.plan reducer ≡ plan_first (walk_mode W.round (⟦<TreeParts<F> as HasInput>⟧.input parts.now))) }
-    ensures first { IfOk result (λ reducer. ⟦<Rounds<TreeRound<'a, F, W>> as Step>⟧.first reducer ≡ plan_first (walk_mode W.round (⟦<TreeParts<F> as HasInput>⟧.input parts.now))) }
-    ensures start { IfOk result (λ reducer. IsStart (walk_mode W.round (⟦<TreeParts<F> as HasInput>⟧.input parts.now)) (⟦<Rounds<TreeRound<'a, F, W>> as ReducerStep>⟧.so_far reducer)) }
+    ensures plan { IfOk result (λ reducer. ⟦<Rounds<TreeRound<'a, F, W>> as Step>⟧.plan reducer ≡ plan_first
+        (walk_mode W.round (⟦<TreeParts<F> as HasInput>⟧.input parts.now))) }
+    ensures first { IfOk result (λ reducer. ⟦<Rounds<TreeRound<'a, F, W>> as Step>⟧.first reducer ≡ plan_first
+        (walk_mode W.round (⟦<TreeParts<F> as HasInput>⟧.input parts.now))) }
+    ensures start { IfOk result (λ reducer. IsStart (walk_mode W.round (⟦<TreeParts<F> as HasInput>⟧.input parts.now))
+        (⟦<Rounds<TreeRound<'a, F, W>> as ReducerStep>⟧.so_far reducer)) }
 {
     parts.is_input();
     whole_is_start();

@@ -34,7 +34,10 @@ pub struct TreeRound<'a, F: Relation, W: TreeWalk + Drop> {
 
     /// It is over after an error.
     trial: Trial,
-    ghost agrees: { Agrees (input_of parts.now.lexer parts.now.formed parts.now.tree (string_bytes parts.now.start) parts.now.tokens.items.items (F.admits parts.now.guard) parts.now.squeezes) style (W.tree walk) (W.left walk) (W.rest walk) trial } by { agrees_prop (input_of parts.now.lexer parts.now.formed parts.now.tree (string_bytes parts.now.start) parts.now.tokens.items.items (F.admits parts.now.guard) parts.now.squeezes) style (W.tree walk) (W.left walk) (W.rest walk) trial },
+    ghost agrees: { Agrees (input_of parts.now.lexer parts.now.formed parts.now.tree (string_bytes parts.now.start) parts.now.tokens.items.items
+        (F.admits parts.now.guard) parts.now.squeezes) style (W.tree walk) (W.left walk) (W.rest walk) trial } by { agrees_prop
+            (input_of parts.now.lexer parts.now.formed parts.now.tree (string_bytes parts.now.start) parts.now.tokens.items.items
+            (F.admits parts.now.guard) parts.now.squeezes) style (W.tree walk) (W.left walk) (W.rest walk) trial },
 }
 
 impl<'a, F: Relation, W: TreeWalk + Drop> TreeRound<'a, F, W> {
@@ -49,8 +52,10 @@ impl<'a, F: Relation, W: TreeWalk + Drop> TreeRound<'a, F, W> {
         requires left { W.left walk ≡ (⟦<TreeParts<F> as HasInput>⟧.input parts.now).whole }
         requires rest { W.rest walk ≡ Done }
         ensures input { IfOk result (λ round. ⟦<TreeRound<'a, F, W> as Round>⟧.input round ≡ ⟦<TreeParts<F> as HasInput>⟧.input parts.now) }
-        ensures state { IfOk result (λ round. ⟦<TreeRound<'a, F, W> as Round>⟧.state round ≡ (walk_mode W.round (⟦<TreeParts<F> as HasInput>⟧.input parts.now)).start) }
-        ensures rest { IfOk result (λ round. ⟦<TreeRound<'a, F, W> as Round>⟧.rest round ≡ (walk_mode W.round (⟦<TreeParts<F> as HasInput>⟧.input parts.now)).opening) }
+        ensures state { IfOk result (λ round. ⟦<TreeRound<'a, F, W> as Round>⟧.state round
+            ≡ (walk_mode W.round (⟦<TreeParts<F> as HasInput>⟧.input parts.now)).start) }
+        ensures rest { IfOk result (λ round. ⟦<TreeRound<'a, F, W> as Round>⟧.rest round
+            ≡ (walk_mode W.round (⟦<TreeParts<F> as HasInput>⟧.input parts.now)).opening) }
     {
         let trial = opening_trial(alloc, parts)?;
         Ok(TreeRound {
@@ -77,11 +82,13 @@ impl<'a, F: Relation, W: TreeWalk + Drop> Round for TreeRound<'a, F, W> {
 
     ghost Kept = { IsKept };
 
-    ghost input = { λ r. input_of r.parts.now.lexer r.parts.now.formed r.parts.now.tree (string_bytes r.parts.now.start) r.parts.now.tokens.items.items (F.admits r.parts.now.guard) r.parts.now.squeezes };
+    ghost input = { λ r. input_of r.parts.now.lexer r.parts.now.formed r.parts.now.tree (string_bytes r.parts.now.start) r.parts.now.tokens.items.items
+        (F.admits r.parts.now.guard) r.parts.now.squeezes };
 
     ghost state = { λ r. in_style r.style (W.left r.walk) };
 
-    ghost rest = { λ r. rest_of (input_of r.parts.now.lexer r.parts.now.formed r.parts.now.tree (string_bytes r.parts.now.start) r.parts.now.tokens.items.items (F.admits r.parts.now.guard) r.parts.now.squeezes) r.style (W.rest r.walk) r.trial };
+    ghost rest = { λ r. rest_of (input_of r.parts.now.lexer r.parts.now.formed r.parts.now.tree (string_bytes r.parts.now.start) r.parts.now.tokens.items.items
+        (F.admits r.parts.now.guard) r.parts.now.squeezes) r.style (W.rest r.walk) r.trial };
 
     fn is_over(&self) -> bool {
         self.trial.candidate().is_none()

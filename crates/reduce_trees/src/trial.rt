@@ -68,8 +68,10 @@ pub(crate) fn opening_trial<F: Relation>(
     alloc: Global,
     parts: &TreeParts<F>,
 ) -> Result<Trial, Memory>
-    ensures tried { IfOk result (IsTried (⟦<TreeParts<F> as HasInput>⟧.input parts.now) TextStyle.AsWas (⟦<TreeParts<F> as HasInput>⟧.input parts.now).whole Done) }
-    ensures opening { IfOk result (λ trial. rest_of (⟦<TreeParts<F> as HasInput>⟧.input parts.now) TextStyle.AsWas Done trial ≡ opening_trials (⟦<TreeParts<F> as HasInput>⟧.input parts.now)) }
+    ensures tried { IfOk result (IsTried (⟦<TreeParts<F> as HasInput>⟧.input parts.now) TextStyle.AsWas
+        (⟦<TreeParts<F> as HasInput>⟧.input parts.now).whole Done) }
+    ensures opening { IfOk result (λ trial. rest_of (⟦<TreeParts<F> as HasInput>⟧.input parts.now) TextStyle.AsWas Done trial ≡ opening_trials
+        (⟦<TreeParts<F> as HasInput>⟧.input parts.now)) }
 {
     if !parts.squeezes {
         return Ok(Trial::Over);
@@ -97,7 +99,8 @@ pub(crate) fn trial_of<F: Relation, W: TreeWalk>(
     requires tree { IsTreeOf (⟦<TreeParts<F> as HasInput>⟧.input parts.now) (W.tree walk.now) }
     requires may_keep { MayKeepStyle (⟦<TreeParts<F> as HasInput>⟧.input parts.now) style }
     ensures tried { IfOk result (IsTried (⟦<TreeParts<F> as HasInput>⟧.input parts.now) style (W.left walk.now) (W.rest walk.now)) }
-    ensures rest { IfOk result (λ trial. rest_of (⟦<TreeParts<F> as HasInput>⟧.input parts.now) style (W.rest walk.now) trial ≡ trials_in style (W.rest walk.now)) }
+    ensures rest { IfOk result (λ trial. rest_of (⟦<TreeParts<F> as HasInput>⟧.input parts.now) style (W.rest walk.now) trial ≡ trials_in style
+        (W.rest walk.now)) }
 {
     if walk.is_over() {
         return Ok(Trial::Over);

@@ -48,10 +48,12 @@ module _ (valid : PreferredTreesAreValid) (N : NormalForm) (kinds : List ℕ) (s
 
 -- What was found is the input of the text.
 module _ (valid : PreferredTreesAreValid) (grammar : CheckedGrammar) (text : List ℕ) (checked : IsChecked grammar) where
-  found_preferred : (found : ParsedInput) → IsParsed grammar text found → Preferred found.tree.form (kinds_in (tokens_in found.tokens)) found.tree.start 0 (length (kinds_in (tokens_in found.tokens))) (whole found.tree)
+  found_preferred : (found : ParsedInput) → IsParsed grammar text found
+      → Preferred found.tree.form (kinds_in (tokens_in found.tokens)) found.tree.start 0 (length (kinds_in (tokens_in found.tokens))) (whole found.tree)
   found_preferred found of =
       let ks = kinds_in (tokens_in found.tokens) in
-      let in_form = subst (λ (N : NormalForm). Preferred N ks (Rule (normal_of grammar).start) 0 (length ks) (whole found.tree)) (sym of.parse.form) of.parse.preferred in
+      let in_form =
+      subst (λ (N : NormalForm). Preferred N ks (Rule (normal_of grammar).start) 0 (length ks) (whole found.tree)) (sym of.parse.form) of.parse.preferred in
       subst (λ (s : Sym). Preferred found.tree.form ks s 0 (length ks) (whole found.tree)) (sym of.parse.same_start) in_form
 
   makes_input : (found : ParsedInput) → IsParsed grammar text found → MakesInputOf grammar text found
@@ -91,7 +93,8 @@ module _ (grammar : CheckedGrammar) (text : List ℕ) where
   only_memory one NoParse why of = absurd (one.refused NoParse (λ is. cc is) why of)
   only_memory one Memory why of = refl
 
-  pub memory_alone : HasOneFault grammar text → (outcome : Result ParsedInput InputFault) → IfErr outcome (IsInputFault grammar text) → InLanguage grammar text → MatchResult outcome (λ _. ⊤) (λ fault. fault ≡ Memory)
+  pub memory_alone : HasOneFault grammar text → (outcome : Result ParsedInput InputFault) → IfErr outcome (IsInputFault grammar text) → InLanguage grammar text
+      → MatchResult outcome (λ _. ⊤) (λ fault. fault ≡ Memory)
   memory_alone one (Ok found) why of = tt
   memory_alone one (Err fault) why of = only_memory one fault why of
 
@@ -114,7 +117,8 @@ module _ (grammar : CheckedGrammar) (text : List ℕ) (input : TreeInput) (of : 
       let of_tree = derived input.form input.symbol input.whole of.is_input.is_whole.valid in
       let of_kinds = subst (NormalDerives input.form input.symbol) of.is_input.kinds_are of_tree in
       let in_form = subst (λ (N : NormalForm). NormalDerives N input.symbol (kinds_in input.tokens)) its_form of_kinds in
-      ((equal grammar checked).starts (kinds_in input.tokens)).1 (subst (λ (s : Sym). NormalDerives (normal_of grammar) s (kinds_in input.tokens)) its_symbol in_form)
+      ((equal grammar checked).starts (kinds_in input.tokens)).1
+      (subst (λ (s : Sym). NormalDerives (normal_of grammar) s (kinds_in input.tokens)) its_symbol in_form)
 
 pub inputs_are_in_language : EqualLanguages → ValidTreesAreDerived → InputsAreInLanguage
 inputs_are_in_language equal derived grammar text input of =
@@ -134,15 +138,18 @@ one_tree one N N' ks ks' s s' t u same_form same_kinds same_symbol first other i
     let of_symbol = subst (λ (r : Sym). Preferred N ks r 0 (length ks) u) same_symbol of_kinds in
     sym in_order ∙ one N ks s 0 (length ks) t u first of_symbol ∙ in_order'
 
-abbrev made : (g : CheckedGrammar) → IsWellFormed g.grammar g.start → NormalForm → Sym → List ℕ → List PlacedToken → PlainTree → (List ℕ → List ℕ → Bool) → Bool → TreeInput
+abbrev made : (g : CheckedGrammar) → IsWellFormed g.grammar g.start → NormalForm → Sym → List ℕ → List PlacedToken → PlainTree → (List ℕ → List ℕ → Bool) → Bool
+    → TreeInput
 made g formed N s start tokens t admits squeezes =
     record { grammar = g; formed = formed; form = N; symbol = s; start = start; tokens = tokens; whole = t; admits = admits; squeezes = squeezes }
 
 -- inputs whose parts are equal
-same_made : WellFormedOnce → (g g' : CheckedGrammar) (e : g ≡ g') (formed : IsWellFormed g.grammar g.start) (formed' : IsWellFormed g'.grammar g'.start) (N : NormalForm) (s : Sym) (start : List ℕ) (tokens : List PlacedToken) (t : PlainTree)
+same_made : WellFormedOnce → (g g' : CheckedGrammar) (e : g ≡ g') (formed : IsWellFormed g.grammar g.start) (formed' : IsWellFormed g'.grammar g'.start)
+    (N : NormalForm) (s : Sym) (start : List ℕ) (tokens : List PlacedToken) (t : PlainTree)
     (admits : List ℕ → List ℕ → Bool) (squeezes : Bool) → made g formed N s start tokens t admits squeezes ≡ made g' formed' N s start tokens t admits squeezes
 same_made formed_once g g' e formed formed' N s start tokens t admits squeezes =
-    path_j' {y = g'} (λ (x : CheckedGrammar) (p : x ≡ g'). (f : IsWellFormed x.grammar x.start) → made x f N s start tokens t admits squeezes ≡ made g' formed' N s start tokens t admits squeezes)
+    path_j' {y = g'} (λ (x : CheckedGrammar) (p : x ≡ g'). (f : IsWellFormed x.grammar x.start)
+    → made x f N s start tokens t admits squeezes ≡ made g' formed' N s start tokens t admits squeezes)
     (λ f. ap (λ (h : IsWellFormed g'.grammar g'.start). made g' h N s start tokens t admits squeezes) (formed_once g'.grammar g'.start f formed')) e formed
 
 pub inputs_are_one : TokensAreUnique → PreferredTreesAreOne → WellFormedOnce → InputsAreOne
@@ -151,12 +158,16 @@ inputs_are_one unique one_preferred formed_once grammar text one other of also s
     let same_symbol = its_symbol grammar text one of ∙ sym (its_symbol grammar text other also) in
     let same_tokens = unique grammar.grammar (chars text) one.tokens other.tokens (its_tokens grammar text one of) (its_tokens grammar text other also) in
     let same_whole = one_tree one_preferred one.form other.form (kinds_in one.tokens) (kinds_in other.tokens) one.symbol other.symbol one.whole other.whole
-    (sym same_form) (sym (ap kinds_in same_tokens)) (sym same_symbol) of.preferred also.preferred of.is_input.is_whole.numbered also.is_input.is_whole.numbered in
-    same_made formed_once one.grammar other.grammar (of.same_grammar ∙ sym also.same_grammar) one.formed other.formed one.form one.symbol one.start one.tokens one.whole one.admits one.squeezes
+    (sym same_form) (sym (ap kinds_in same_tokens))
+    (sym same_symbol) of.preferred also.preferred of.is_input.is_whole.numbered also.is_input.is_whole.numbered in
+    same_made formed_once one.grammar other.grammar
+    (of.same_grammar ∙ sym also.same_grammar) one.formed other.formed one.form one.symbol one.start one.tokens one.whole one.admits one.squeezes
     ∙ ap (λ (x : NormalForm). made other.grammar other.formed x one.symbol one.start one.tokens one.whole one.admits one.squeezes) same_form
     ∙ ap (λ (x : Sym). made other.grammar other.formed other.form x one.start one.tokens one.whole one.admits one.squeezes) same_symbol
-    ∙ ap (λ (x : List ℕ). made other.grammar other.formed other.form other.symbol x one.tokens one.whole one.admits one.squeezes) (of.same_text ∙ sym also.same_text)
+    ∙ ap (λ (x : List ℕ). made other.grammar other.formed other.form other.symbol x one.tokens one.whole one.admits one.squeezes)
+    (of.same_text ∙ sym also.same_text)
     ∙ ap (λ (x : List PlacedToken). made other.grammar other.formed other.form other.symbol other.start x one.whole one.admits one.squeezes) same_tokens
     ∙ ap (λ (x : PlainTree). made other.grammar other.formed other.form other.symbol other.start other.tokens x one.admits one.squeezes) same_whole
-    ∙ ap (λ (x : List ℕ → List ℕ → Bool). made other.grammar other.formed other.form other.symbol other.start other.tokens other.whole x one.squeezes) same_admits
+    ∙ ap (λ (x : List ℕ → List ℕ → Bool). made other.grammar other.formed other.form other.symbol other.start other.tokens other.whole x one.squeezes)
+    same_admits
     ∙ ap (λ (x : Bool). made other.grammar other.formed other.form other.symbol other.start other.tokens other.whole other.admits x) same_squeezes

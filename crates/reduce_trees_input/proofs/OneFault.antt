@@ -16,7 +16,8 @@ use Rattle.reduce_trees_input.specs.declared.fault.InputFault.TheVariants.{NotUt
 
 module _ (unique : TokensAreUnique) (no_stop : TokensHaveNoStop) (once : StopsOnce) (grammar : CheckedGrammar) (bytes : List ℕ) where
   -- tokens that the start rule doesn't derive are the only ones
-  underived : (tokens others : List PlacedToken) → HasTokens grammar.grammar (chars bytes) tokens → (¬ StartDerives grammar (kinds_in tokens)) → HasTokens grammar.grammar (chars bytes) others → ¬ StartDerives grammar (kinds_in others)
+  underived : (tokens others : List PlacedToken) → HasTokens grammar.grammar (chars bytes) tokens → (¬ StartDerives grammar (kinds_in tokens))
+      → HasTokens grammar.grammar (chars bytes) others → ¬ StartDerives grammar (kinds_in others)
   underived tokens others has none also derived =
       none (subst (λ (ts : List PlacedToken). StartDerives grammar (kinds_in ts)) (unique grammar.grammar (chars bytes) others tokens also has) derived)
 
@@ -40,4 +41,5 @@ module _ (unique : TokensAreUnique) (no_stop : TokensHaveNoStop) (once : StopsOn
   refused Memory s it of = s refl
 
 pub input_fault_once : TokensAreUnique → TokensHaveNoStop → StopsOnce → InputFaultOnce
-input_fault_once unique no_stop once grammar bytes = record { once = same_fault unique no_stop once grammar bytes; refused = refused unique no_stop once grammar bytes }
+input_fault_once unique no_stop once grammar bytes =
+    record { once = same_fault unique no_stop once grammar bytes; refused = refused unique no_stop once grammar bytes }

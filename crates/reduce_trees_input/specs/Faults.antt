@@ -10,9 +10,11 @@ use Rattle.reduce_trees_input.specs.Parsed.{kinds_in}
 use Rattle.reduce_trees_input.specs.declared.fault.InputFault.{InputFault}
 use Rattle.reduce_trees_input.specs.declared.fault.InputFault.TheVariants.{NotUtf8, NoToken, NoParse, Memory}
 
--- Their first ill-formed sequence is at the offset; or they are cut into pieces up to the offset, where no rule matches; or they have tokens, whose kinds the start rule, as the grammar is written, doesn't derive. Out of memory says nothing of them.
+-- Their first ill-formed sequence is at the offset; or they are cut into pieces up to the offset, where no rule matches; or they have
+-- tokens, whose kinds the start rule, as the grammar is written, doesn't derive. Out of memory says nothing of them.
 abbrev pub IsInputFault : CheckedGrammar → List ℕ → InputFault → Type 0
 IsInputFault grammar bytes (NotUtf8 offset) = (¬ IsUtf8 bytes) × (offset ≡ utf8_valid_len bytes)
 IsInputFault grammar bytes (NoToken offset) = IsUtf8 bytes × StopsAt grammar.grammar (chars bytes) offset
-IsInputFault grammar bytes NoParse = IsUtf8 bytes × ((tokens : List PlacedToken) × HasTokens grammar.grammar (chars bytes) tokens × (¬ StartDerives grammar (kinds_in tokens)))
+IsInputFault grammar bytes NoParse =
+    IsUtf8 bytes × ((tokens : List PlacedToken) × HasTokens grammar.grammar (chars bytes) tokens × (¬ StartDerives grammar (kinds_in tokens)))
 IsInputFault grammar bytes Memory = ⊤

@@ -10,7 +10,9 @@ use Rattle.reduce_trees_input.specs.declared.fault.InputFault.TheVariants.{Memor
 
 -- A text has one input at most by a grammar, for what is admitted and whether the squeezed text is tried.
 abbrev pub InputsAreOne : Type 0
-InputsAreOne = (grammar : CheckedGrammar) (text : List ℕ) (one other : TreeInput) → IsInputOf grammar text one → IsInputOf grammar text other → one.admits ≡ other.admits → one.squeezes ≡ other.squeezes → one ≡ other
+InputsAreOne =
+    (grammar : CheckedGrammar) (text : List ℕ) (one other : TreeInput) → IsInputOf grammar text one → IsInputOf grammar text other → one.admits ≡ other.admits
+    → one.squeezes ≡ other.squeezes → one ≡ other
 
 -- Only texts in the language have an input.
 abbrev pub InputsAreInLanguage : Type 0

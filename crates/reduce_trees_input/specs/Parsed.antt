@@ -24,7 +24,8 @@ tokens_in tokens = map token_of tokens.items.items
 abbrev pub kinds_in : List PlacedToken → List ℕ
 kinds_in tokens = map (λ (t : PlacedToken). t.kind) tokens
 
--- The lexer is the grammar's, the text is UTF-8, these are its tokens, whose kinds the start rule derives, and this is the preferred tree of all of them, for the start rule.
+-- The lexer is the grammar's, the text is UTF-8, these are its tokens, whose kinds the start
+-- rule derives, and this is the preferred tree of all of them, for the start rule.
 pub record IsParsed (grammar : CheckedGrammar) (text : List ℕ) (found : ParsedInput) : Type 0 where
   pub same_grammar : found.lexer ≡ grammar
   pub same_text : string_bytes found.text ≡ text
@@ -48,4 +49,5 @@ tree_input found formed admits squeezes = input_of found.lexer formed found.tree
 -- What was found makes the input of the text, whatever is admitted.
 abbrev pub MakesInputOf : CheckedGrammar → List ℕ → ParsedInput → Type 0
 MakesInputOf grammar text found =
-    (formed : IsWellFormed found.lexer.grammar found.lexer.start) (admits : List ℕ → List ℕ → Bool) (squeezes : Bool) → IsInputOf grammar text (tree_input found formed admits squeezes)
+    (formed : IsWellFormed found.lexer.grammar found.lexer.start) (admits : List ℕ → List ℕ → Bool) (squeezes : Bool)
+    → IsInputOf grammar text (tree_input found formed admits squeezes)

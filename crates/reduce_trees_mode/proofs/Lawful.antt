@@ -21,5 +21,6 @@ is_lawful start opening stay input round of lawful =
 
 pub tries_trees : StylesStay → TreeModeTriesTrees
 tries_trees stay input round state other tried_tree same =
-    let tried : IsTriedAtNo (trials_in state.style (round state.tree)) (in_style state.style other.tree) = (stay input state (round state.tree)).tried other.tree tried_tree in
+    let tried : IsTriedAtNo (trials_in state.style (round state.tree)) (in_style state.style other.tree) =
+    (stay input state (round state.tree)).tried other.tree tried_tree in
     subst (λ (style : Style). IsTriedAtNo (trials_in state.style (round state.tree)) (in_style style other.tree)) same tried

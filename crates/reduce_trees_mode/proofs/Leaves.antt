@@ -53,7 +53,8 @@ below_rest bound y ys all k d lt = all (suc k) d (omega (arith, lt))
 -- What is so of each element of a list is so of each of a list without some of them.
 pub sublist_below : (bound : ℕ) (xs ys : List ℕ) → IsSublist xs ys → All (λ i. i < bound) ys → All (λ i. i < bound) xs
 sublist_below bound xs ys of_nothing all = all
-sublist_below bound xs ys (with_first x us vs sub) all = below_first bound x us (all 0 0 (omega arith)) (sublist_below bound us vs sub (below_rest bound x vs all))
+sublist_below bound xs ys (with_first x us vs sub) all =
+    below_first bound x us (all 0 0 (omega arith)) (sublist_below bound us vs sub (below_rest bound x vs all))
 sublist_below bound xs ys (without_first y us vs sub) all = sublist_below bound us vs sub (below_rest bound y vs all)
 
 pub range_below : (n : ℕ) → All (λ i. i < n) (range_with_len 0 n)

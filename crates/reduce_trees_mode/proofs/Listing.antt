@@ -36,7 +36,9 @@ keeps_them input state = spells input.grammar.grammar (text_of_state input state
 
 pub listed_is_decided : SpelledAreFound → ListedIsDecided
 listed_is_decided spelled input state =
-    let law = spelled input.grammar.grammar input.grammar.start input.formed (text_of_state input state) (kinds_and_spellings input.start input.tokens (leaves state.tree)) in (
+    let law =
+    spelled input.grammar.grammar input.grammar.start input.formed (text_of_state input state)
+    (kinds_and_spellings input.start input.tokens (leaves state.tree)) in (
       λ is.
           let both = and_true (keeps_them input state) (input.admits (leaves state.tree) (text_of_state input state)) is in
           record { keeps = law.0 both.0; admitted = both.1 },
@@ -72,7 +74,8 @@ module _ (input : TreeInput) (of : IsInput input) where
         subst (λ (N : NormalForm). NormalDerives N (Rule N.start) (kinds_of state.tree)) of.form_is
         (subst (λ (s : Sym). NormalDerives input.form s (kinds_of state.tree)) of.symbol_is (valid input.form input.symbol state.tree kept.fits.valid))
 
-    pub in_language : ValidTreesAreDerived → LeavesKeepKinds → KeptKinds → EqualLanguages → IsListed input state → InLanguage input.grammar (text_of_state input state)
+    pub in_language : ValidTreesAreDerived → LeavesKeepKinds → KeptKinds → EqualLanguages → IsListed input state
+        → InLanguage input.grammar (text_of_state input state)
     in_language valid keep kinds equal listed =
         let found = kinds input.grammar.grammar input.start input.tokens (leaves state.tree) (text_of_state input state) listed.keeps in
         record {
@@ -80,7 +83,8 @@ module _ (input : TreeInput) (of : IsInput input) where
           tokens = found.0;
           has = found.1;
           derived = ((equal input.grammar of.checked).starts (map (λ (t : PlacedToken). t.kind) found.0)).1
-              (subst (λ (w : List ℕ). NormalDerives (normal_of input.grammar) (Rule (normal_of input.grammar).start) w) (kinds_left keep ∙ sym found.2) (derived valid));
+              (subst (λ (w : List ℕ). NormalDerives (normal_of input.grammar) (Rule (normal_of input.grammar).start) w) (kinds_left keep ∙ sym found.2)
+              (derived valid));
         }
 
 pub listed_are_candidates : PrintedWithSkips → LeftIsPart → ValidTreesAreDerived → LeavesKeepKinds → KeptKinds → EqualLanguages → ListedAreCandidates
@@ -89,7 +93,9 @@ listed_are_candidates printed part valid keep kinds equal input state of kept li
       kept = leaves state.tree;
       style = state.style;
       are_kept = are_kept input of state kept part;
-      printed_so = (printed input.grammar.grammar input.grammar.start input.formed input.start input.tokens (leaves state.tree) state.style (text_of_state input state)).1 refl;
+      printed_so =
+          (printed input.grammar.grammar input.grammar.start input.formed input.start input.tokens (leaves state.tree) state.style
+          (text_of_state input state)).1 refl;
       keeps = listed.keeps;
       admitted = listed.admitted;
       in_language = in_language input of state kept part valid keep kinds equal listed;

@@ -19,7 +19,11 @@ use Rattle.reduce_trees_mode.proofs.Listing.{and_true, are_kept, leaves_whole}
 
 module _ (input : TreeInput) (of : IsInput input) where
   whole_for : IsTreeFor input.form input.symbol input.whole
-  whole_for = record { valid = of.is_whole.valid; rising = subst (λ (l : List ℕ). IsStrictlyIncreasing l) (sym (leaves_whole input of)) (range_rises 0 (length input.tokens)) }
+  whole_for =
+      record {
+        valid = of.is_whole.valid;
+        rising = subst (λ (l : List ℕ). IsStrictlyIncreasing l) (sym (leaves_whole input of)) (range_rises 0 (length input.tokens));
+      }
 
   whole_kept : LeftIsReflexive → (style : Style) → MayKeepStyle input style → IsKept input (in_style style input.whole)
   whole_kept same style may_keep = record { fits = whole_for; left = same input.whole; may_keep = may_keep }
@@ -34,7 +38,8 @@ module _ (input : TreeInput) (of : IsInput input) where
       let text = sym (whole_text is_start) in
       record {
         keeps = subst (λ (l : List ℕ). KeepsTokens input.grammar.grammar input.start input.tokens (leaves input.whole) l) text
-            (subst (λ (l : List ℕ). KeepsTokens input.grammar.grammar input.start input.tokens l input.start) (sym (leaves_whole input of)) (keeps input.grammar.grammar input.start input.tokens of.utf8 of.has_tokens));
+            (subst (λ (l : List ℕ). KeepsTokens input.grammar.grammar input.start input.tokens l input.start) (sym (leaves_whole input of))
+            (keeps input.grammar.grammar input.start input.tokens of.utf8 of.has_tokens));
         admitted = subst (λ (l : List ℕ). IsTrue (input.admits (leaves input.whole) l)) text admitted;
       }
 
@@ -48,9 +53,11 @@ whole_is_start same is_start keeps input of =
     }
 
 -- by the style
-by_style : NoLongerThanStart → NoLongerThanAll → LeftIsPart → (input : TreeInput) (of : IsInput input) (tree : PlainTree) (style : Style) → IsKept input (in_style style tree) → length (text_in input (leaves tree) style) ≤ length input.start
+by_style : NoLongerThanStart → NoLongerThanAll → LeftIsPart → (input : TreeInput) (of : IsInput input) (tree : PlainTree) (style : Style)
+    → IsKept input (in_style style tree) → length (text_in input (leaves tree) style) ≤ length input.start
 by_style than_start than_all part input of tree Style.AsWas kept =
-    than_start input.grammar.grammar (skips_of input) input.start input.tokens (leaves tree) of.utf8 of.has_tokens (are_kept input of (in_style Style.AsWas tree) kept part)
+    than_start input.grammar.grammar (skips_of input) input.start input.tokens (leaves tree) of.utf8 of.has_tokens
+    (are_kept input of (in_style Style.AsWas tree) kept part)
 by_style than_start than_all part input of tree Style.Squeezed kept =
     let all = than_all (skips_of input) input.start input.tokens (leaves tree) (are_kept input of (in_style Style.Squeezed tree) kept part) in
     let same = ap (λ (l : List ℕ). length (text_in input l Style.Squeezed)) (leaves_whole input of) in
@@ -66,6 +73,8 @@ opening_is_kept same input of = by_test (input.squeezes && nat_lt (length (text_
     by_test : (b : Bool) → (input.squeezes && nat_lt (length (text_in input (leaves input.whole) Style.Squeezed)) (length input.start)) ≡ b →
         AllTried (IsKept input) (cond b (Try (in_style Style.Squeezed input.whole) Done Done) Done)
     by_test true e =
-        let short = and_true input.squeezes (nat_lt (length (text_in input (leaves input.whole) Style.Squeezed)) (length input.start)) e in
-        (whole_kept input of same Style.Squeezed (short.0, ltb-true (length (text_in input (leaves input.whole) Style.Squeezed)) (length input.start) short.1), (tt, tt))
+        let short = and_true input.squeezes (nat_lt (length (text_in input (leaves input.whole) Style.Squeezed)) (length input.start)) e in (
+          whole_kept input of same Style.Squeezed (short.0, ltb-true (length (text_in input (leaves input.whole) Style.Squeezed)) (length input.start) short.1),
+          (tt, tt),
+        )
     by_test false e = tt

@@ -17,7 +17,8 @@ pub record InLanguage (grammar : CheckedGrammar) (text : List ℕ) : Type 0 wher
   pub has : HasTokens grammar.grammar (chars text) tokens
   pub derived : StartDerives grammar (map (λ (t : PlacedToken). t.kind) tokens)
 
--- The text is printed of some of the start's tokens, in their order; it is cut into tokens with exactly their kinds and spellings; it is admitted with them; and it is in the grammar's language.
+-- The text is printed of some of the start's tokens, in their order; it is cut into tokens with exactly
+-- their kinds and spellings; it is admitted with them; and it is in the grammar's language.
 pub record IsCandidate (input : TreeInput) (text : List ℕ) : Type 0 where
   pub kept : List ℕ
   pub style : Style

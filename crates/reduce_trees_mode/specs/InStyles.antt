@@ -32,7 +32,8 @@ end_in style end = record { questions = end.questions; state = in_style style en
 abbrev pub squeezed_first : TreeInput → (List ℕ → Bool) → RoundEnd TreeState
 squeezed_first input verdict =
     if input.squeezes && nat_lt (length (text_in input (leaves input.whole) Style.Squeezed)) (length input.start)
-    then tested (states_of input) verdict (in_style Style.Squeezed input.whole) (end_at (in_style Style.Squeezed input.whole)) (end_at (in_style Style.AsWas input.whole))
+    then tested (states_of input) verdict (in_style Style.Squeezed input.whole) (end_at (in_style Style.Squeezed input.whole))
+    (end_at (in_style Style.AsWas input.whole))
     else end_at (in_style Style.AsWas input.whole)
 
 -- The reduction of an input's trees, where a round of trees in one style comes to this. A tree has as many units as leaves, and keeps its style in a round.

@@ -7,8 +7,10 @@ use Rattle.lexer.specs.Tokens.{token_of}
 use Rattle.syntax_tree.specs.Nodes.{SyntaxTree, whole}
 use Rattle.reduce_trees_mode.specs.Input.{TreeInput}
 
--- the input of a grammar that is well-formed, a tree over its normal form, the start's text with its tokens, what is admitted, and whether the squeezed text is tried
-abbrev pub input_of : (grammar : CheckedGrammar) → IsWellFormed grammar.grammar grammar.start → SyntaxTree → List ℕ → List Token → (List ℕ → List ℕ → Bool) → Bool → TreeInput
+-- the input of a grammar that is well-formed, a tree over its normal form, the start's text
+-- with its tokens, what is admitted, and whether the squeezed text is tried
+abbrev pub input_of : (grammar : CheckedGrammar) → IsWellFormed grammar.grammar grammar.start → SyntaxTree → List ℕ → List Token → (List ℕ → List ℕ → Bool)
+    → Bool → TreeInput
 input_of grammar formed tree start tokens admits squeezes =
     record {
       grammar = grammar;

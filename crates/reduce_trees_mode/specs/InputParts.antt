@@ -17,7 +17,8 @@ pub record AreJoined (input : TreeInput) : Type 0 where
   pub tokens_are : tokens_in input.grammar.grammar (chars input.start) ≡ Some input.tokens
   pub kinds_are : kinds_of input.whole ≡ map (λ (t : PlacedToken). t.kind) input.tokens
 
--- Parts that are joined are an input, where the grammar is checked, the text is UTF-8, and the tree is that of some input's tokens; and so are the parts of an input.
+-- Parts that are joined are an input, where the grammar is checked, the text is UTF-8, and
+-- the tree is that of some input's tokens; and so are the parts of an input.
 pub record JoinsInput (input : TreeInput) : Type 0 where
   pub is : IsChecked input.grammar → IsUtf8 input.start → IsWhole input.form input.symbol input.whole → AreJoined input → IsInput input
   pub joined : IsInput input → AreJoined input

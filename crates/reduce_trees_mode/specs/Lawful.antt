@@ -20,9 +20,11 @@ pub record IsLawfulRound (input : TreeInput) (round : PlainTree → Trials Plain
 
 -- The mode is then lawful.
 abbrev pub TreeModeIsLawful : Type 0
-TreeModeIsLawful = (input : TreeInput) (round : PlainTree → Trials PlainTree) → IsInput input → IsLawfulRound input round → IsLawful (tree_mode round input) (IsKept input)
+TreeModeIsLawful =
+    (input : TreeInput) (round : PlainTree → Trials PlainTree) → IsInput input → IsLawfulRound input round → IsLawful (tree_mode round input) (IsKept input)
 
 -- If all its answers are no, a round of the mode tries the trees that the round from its tree tries, in the same style.
 abbrev pub TreeModeTriesTrees : Type 0
-TreeModeTriesTrees = (input : TreeInput) (round : PlainTree → Trials PlainTree) (state other : TreeState) → IsTriedAtNo (round state.tree) other.tree → state.style ≡ other.style
+TreeModeTriesTrees =
+    (input : TreeInput) (round : PlainTree → Trials PlainTree) (state other : TreeState) → IsTriedAtNo (round state.tree) other.tree → state.style ≡ other.style
     → IsTriedAtNo ((tree_mode round input).round state) other

@@ -25,7 +25,8 @@ ListedIsDecided = (input : TreeInput) (state : TreeState) → (is_listed input s
 
 -- The text of a state that is kept and may be asked is a candidate, so it is in the language of the grammar as written.
 abbrev pub ListedAreCandidates : Type 0
-ListedAreCandidates = (input : TreeInput) (state : TreeState) → IsInput input → IsKept input state → IsListed input state → IsCandidate input (text_of_state input state)
+ListedAreCandidates =
+    (input : TreeInput) (state : TreeState) → IsInput input → IsKept input state → IsListed input state → IsCandidate input (text_of_state input state)
 
 -- The first state of a reduction of trees.
 pub record IsStart (input : TreeInput) (state : TreeState) : Type 0 where
@@ -49,7 +50,8 @@ OpeningIsKept = (input : TreeInput) → IsInput input → AllTried (IsKept input
 -- Trials of states in one style are those of their trees.
 pub record AreTrialsIn (input : TreeInput) (state : TreeState) (trials : Trials PlainTree) : Type 0 where
   -- each is kept, where each tree is valid for the start rule and left of the whole
-  pub kept : IsKept input state → AllTried (λ tree. IsTreeFor input.form input.symbol tree × IsRemainderOf input.whole tree) trials → AllTried (IsKept input) (trials_in state.style trials)
+  pub kept : IsKept input state → AllTried (λ tree. IsTreeFor input.form input.symbol tree × IsRemainderOf input.whole tree) trials
+      → AllTried (IsKept input) (trials_in state.style trials)
   pub smaller : (n : ℕ) → EachIsSmaller weight n trials → EachIsSmaller (λ (other : TreeState). weight other.tree) n (trials_in state.style trials)
   pub tried : (tree : PlainTree) → IsTriedAtNo trials tree → IsTriedAtNo (trials_in state.style trials) (in_style state.style tree)
 
@@ -58,7 +60,9 @@ StylesStay = (input : TreeInput) (state : TreeState) (trials : Trials PlainTree)
 
 -- Over a verdict the opening comes to the one test of the squeezed text, or to nothing.
 abbrev pub OpeningIsOneTest : Type 0
-OpeningIsOneTest = (input : TreeInput) (round : PlainTree → Trials PlainTree) (verdict : List ℕ → Bool) → opening_of (tree_mode round input) verdict ≡ squeezed_first input verdict
+OpeningIsOneTest =
+    (input : TreeInput) (round : PlainTree → Trials PlainTree) (verdict : List ℕ → Bool)
+    → opening_of (tree_mode round input) verdict ≡ squeezed_first input verdict
 
 -- Over a verdict a round of the mode comes to what the round from its tree comes to over the trees in its style.
 abbrev pub RoundsKeepStyle : Type 0

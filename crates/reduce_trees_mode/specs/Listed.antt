@@ -35,12 +35,14 @@ is_listed input state =
     spells input.grammar.grammar (text_of_state input state) (kinds_and_spellings input.start input.tokens (leaves state.tree))
     && input.admits (leaves state.tree) (text_of_state input state)
 
--- The style is one that a reduction may reach: squeezed texts are kept only where they are asked for, and where that of the whole has fewer bytes than the start.
+-- The style is one that a reduction may reach: squeezed texts are kept only where they are
+-- asked for, and where that of the whole has fewer bytes than the start.
 abbrev pub MayKeepStyle : TreeInput → Style → Type 0
 MayKeepStyle input Style.AsWas = ⊤
 MayKeepStyle input Style.Squeezed = IsTrue input.squeezes × (length (text_in input (leaves input.whole) Style.Squeezed) < length input.start)
 
--- What holds of each state that a reduction reaches: its tree is valid for the start rule and is left of the tree of all tokens, and its style is one that may be kept.
+-- What holds of each state that a reduction reaches: its tree is valid for the start rule and
+-- is left of the tree of all tokens, and its style is one that may be kept.
 pub record IsKept (input : TreeInput) (state : TreeState) : Type 0 where
   pub fits : IsTreeFor input.form input.symbol state.tree
   pub left : IsRemainderOf input.whole state.tree

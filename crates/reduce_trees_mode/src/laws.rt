@@ -2,7 +2,8 @@
 
 ghost use Rattle.reduce_trees_mode.specs.InputParts.{PartsJoin};
 ghost use Rattle.reduce_trees_mode.specs.Lawful.{TreeModeIsLawful, TreeModeTriesTrees};
-ghost use Rattle.reduce_trees_mode.specs.Laws.{ListedAreCandidates, ListedIsDecided, OpeningIsKept, OpeningIsOneTest, RoundsKeepStyle, StylesStay, TextsAreNoLonger, WellFormedOnce, WholeIsStart};
+ghost use Rattle.reduce_trees_mode.specs.Laws.{ListedAreCandidates, ListedIsDecided, OpeningIsKept, OpeningIsOneTest};
+ghost use Rattle.reduce_trees_mode.specs.Laws.{RoundsKeepStyle, StylesStay, TextsAreNoLonger, WellFormedOnce, WholeIsStart};
 
 use normal_form::equal_languages;
 use syntax_tree::{leaves_keep_kinds, left_is_part, left_is_reflexive, valid_trees_are_derived};

@@ -12,7 +12,8 @@ module _ (round : NormalForm → Sym → PlainTree → Trials PlainTree) where
   -- From a tree for the symbol that is left of a whole tree only such trees are tried.
   abbrev pub RoundsKeepTrees : Type 0
   RoundsKeepTrees =
-      (N : NormalForm) (s : Sym) (whole t : PlainTree) → IsNormal N → NumbersRise whole → IsTreeFor N s t → IsRemainderOf whole t → AllTried (λ u. IsTreeFor N s u × IsRemainderOf whole u) (round N s t)
+      (N : NormalForm) (s : Sym) (whole t : PlainTree) → IsNormal N → NumbersRise whole → IsTreeFor N s t → IsRemainderOf whole t
+      → AllTried (λ u. IsTreeFor N s u × IsRemainderOf whole u) (round N s t)
 
   -- Each tree that is tried has fewer leaves than the last that had a yes.
   abbrev pub RoundsLoseLeaves : Type 0
@@ -20,4 +21,5 @@ module _ (round : NormalForm → Sym → PlainTree → Trials PlainTree) where
 
   -- A round whose answers are all no has tried each of these edits of its tree.
   abbrev pub RoundsTryEdits : (NormalForm → Sym → PlainTree → PlainTree → Type 0) → Type 0
-  RoundsTryEdits IsEdit = (N : NormalForm) (s : Sym) (t u : PlainTree) → IsNormal N → NumbersRise t → IsTreeFor N s t → IsEdit N s t u → IsTriedAtNo (round N s t) u
+  RoundsTryEdits IsEdit =
+      (N : NormalForm) (s : Sym) (t u : PlainTree) → IsNormal N → NumbersRise t → IsTreeFor N s t → IsEdit N s t u → IsTriedAtNo (round N s t) u

@@ -1,5 +1,6 @@
 -- What a run of all workers is to its caller: of one worker, or of several.
-use Rattle.std.proofs.Common.{arith, ◌≡◌, ◌≢◌, ◌≤◌, ◌<◌, ◌++◌, inl, inr, ℕ, suc, List, [], ◌∷◌, Option, Some, None, IfSome, length, map, option_map, slice_index_or, sum, refl, sym, ap, ◌∙◌, subst}
+use Rattle.std.proofs.Common.{arith, ◌≡◌, ◌≢◌, ◌≤◌, ◌<◌, ◌++◌, inl, inr, ℕ, suc, List, [], ◌∷◌, Option, Some, None, IfSome}
+use Rattle.std.proofs.Common.{length, map, option_map, slice_index_or, sum, refl, sym, ap, ◌∙◌, subst}
 use Rattle.std.specs.List.{range_with_len}
 use Rattle.edge_io.specs.Sink.{Put}
 use Rattle.script_gate_trait.specs.declared.gate.Verdict.{Verdict}
@@ -51,7 +52,8 @@ none_alone (log ∷ log' ∷ logs) one = absurd (omega (arith, one))
 
 all_as_before : (logs : List (Option Log)) → logs ≡ all_asked (no_asks logs) logs
 all_as_before [] = refl
-all_as_before (log ∷ logs) = ap (λ (l : Option Log). l ∷ logs) (none_asked log) ∙ ap (λ (ls : List (Option Log)). option_map (with_all_asked []) log ∷ ls) (all_as_before logs)
+all_as_before (log ∷ logs) =
+    ap (λ (l : Option Log). l ∷ logs) (none_asked log) ∙ ap (λ (ls : List (Option Log)). option_map (with_all_asked []) log ∷ ls) (all_as_before logs)
 
 pub nothing_asked : (logs : List (Option Log)) → AreAsked [] logs logs
 nothing_asked logs = record {
@@ -70,24 +72,33 @@ quiet_but : (fault : BoardFault) (gates : List SeenGate) → IsQuietBut (Some (b
 quiet_but board.Journal gates = refl
 quiet_but board.Memory gates = refl
 
-nothing_ran : (workers : ℕ) (may_say : List ℕ → Verdict → Type 0) (first last : Plan) (fault : BoardFault) (gates : List SeenGate) → IsRunBy workers may_say first last (Some (board_fault fault)) [] gates gates
+nothing_ran : (workers : ℕ) (may_say : List ℕ → Verdict → Type 0) (first last : Plan) (fault : BoardFault) (gates : List SeenGate)
+    → IsRunBy workers may_say first last (Some (board_fault fault)) [] gates gates
 nothing_ran workers may_say first last fault gates = record {
   history_of = none_history may_say first [] refl;
   start = λ _. (tt, tt);
   asked = nothing_asked (logs_of gates);
   ended = λ none. absurd (cc none);
-  alone = λ _. record { sequential = none_sequential fault first (Some (board_fault fault)) [] refl refl; waits = waits_at fault first; quiet = quiet_but fault gates };
+  alone =
+      λ _. record {
+        sequential = none_sequential fault first (Some (board_fault fault)) [] refl refl;
+        waits = waits_at fault first;
+        quiet = quiet_but fault gates;
+      };
 }
 
 -- a run without a board
-pub refused_ran : (workers : ℕ) (may_say : List ℕ → Verdict → Type 0) (first last : Plan) (refused : BoardFault) (fault : Option PoolFault) (history : History) (gates : List SeenGate) → fault ≡ Some (board_fault refused) → history ≡ []
+pub refused_ran : (workers : ℕ) (may_say : List ℕ → Verdict → Type 0) (first last : Plan) (refused : BoardFault) (fault : Option PoolFault) (history : History)
+    (gates : List SeenGate) → fault ≡ Some (board_fault refused) → history ≡ []
     → IsRunBy workers may_say first last fault history gates gates
 refused_ran workers may_say first last refused fault history gates is none =
     subst (λ (f : Option PoolFault). IsRunBy workers may_say first last f history gates gates) (sym is)
-    (subst (λ (h : History). IsRunBy workers may_say first last (Some (board_fault refused)) h gates gates) (sym none) (nothing_ran workers may_say first last refused gates))
+    (subst (λ (h : History). IsRunBy workers may_say first last (Some (board_fault refused)) h gates gates) (sym none)
+    (nothing_ran workers may_say first last refused gates))
 
 -- the journal, which was empty, has the whole history
-written : (history : History) (old new : Option Put) → HasSameName old new → IfSome old (λ put. put.bytes ≡ []) → IfSome new (λ put. put.bytes ≡ journal_text history) → HasWritten history old new
+written : (history : History) (old new : Option Put) → HasSameName old new → IfSome old (λ put. put.bytes ≡ [])
+    → IfSome new (λ put. put.bytes ≡ journal_text history) → HasWritten history old new
 written history None None same empty bytes = refl
 written history None (Some put) same empty bytes = absurd (cc same)
 written history (Some put) None same empty bytes = absurd (cc same)
@@ -95,36 +106,44 @@ written history (Some old) (Some new) same empty bytes =
     let names : Some new.name ≡ Some old.name = same in
     let name : new.name ≡ old.name = cc names in
     let put_of : List ℕ → List ℕ → Put = λ bytes name. record { bytes = bytes; name = name } in
-    ap (λ (b : List ℕ). Some (put_of b new.name)) (bytes ∙ ap (λ (b : List ℕ). b ++ journal_text history) (sym empty)) ∙ ap (λ (n : List ℕ). Some (put_of (old.bytes ++ journal_text history) n)) name
+    ap (λ (b : List ℕ). Some (put_of b new.name)) (bytes ∙ ap (λ (b : List ℕ). b ++ journal_text history) (sym empty))
+    ∙ ap (λ (n : List ℕ). Some (put_of (old.bytes ++ journal_text history) n)) name
 
-one_ends : (fault : Option PoolFault) (history : History) (old new : Option Put) → HasSameName old new → IfSome old (λ put. put.bytes ≡ []) → IfSome new (λ put. AreJournalBytes fault history put.bytes) → JournalEnds fault history old new
+one_ends : (fault : Option PoolFault) (history : History) (old new : Option Put) → HasSameName old new → IfSome old (λ put. put.bytes ≡ [])
+    → IfSome new (λ put. AreJournalBytes fault history put.bytes) → JournalEnds fault history old new
 one_ends None history old new same empty bytes = written history old new same empty bytes
 one_ends (Some (Script worker)) history old new same empty bytes = written history old new same empty bytes
 one_ends (Some Journal) history old new same empty bytes = (same, inr bytes)
 one_ends (Some Memory) history old new same empty bytes = inl (written history old new same empty bytes)
 
-broke_by : (workers : ℕ) (history : History) (new : Option Put) → workers ≢ 1 → IfSome new (λ put. BrokeOff history put.bytes) → IfSome new (λ put. BrokeBy workers history put.bytes)
+broke_by : (workers : ℕ) (history : History) (new : Option Put) → workers ≢ 1 → IfSome new (λ put. BrokeOff history put.bytes)
+    → IfSome new (λ put. BrokeBy workers history put.bytes)
 broke_by workers history None several broke = tt
 broke_by workers history (Some put) several broke = (λ one. absurd (several one), λ _. broke)
 
-several_left : (workers : ℕ) (fault : Option PoolFault) (history : History) (old new : Option Put) → workers ≢ 1 → HasSameName old new → IfSome old (λ put. put.bytes ≡ []) → IfSome new (λ put. IsJournal fault history put.bytes) → JournalLeft workers fault history old new
+several_left : (workers : ℕ) (fault : Option PoolFault) (history : History) (old new : Option Put) → workers ≢ 1 → HasSameName old new
+    → IfSome old (λ put. put.bytes ≡ []) → IfSome new (λ put. IsJournal fault history put.bytes) → JournalLeft workers fault history old new
 several_left workers None history old new several same empty bytes = written history old new same empty bytes
 several_left workers (Some (Script worker)) history old new several same empty bytes = written history old new same empty bytes
 several_left workers (Some Journal) history old new several same empty bytes = (same, inr (broke_by workers history new several bytes))
 several_left workers (Some Memory) history old new several same empty bytes = inl (written history old new same empty bytes)
 
 -- why several ended
-several_caused : (fault : Option PoolFault) (old new : Reached) → (fault ≡ None → AreQuiet old.gates new.gates) → ((worker : ℕ) → fault ≡ Some (Script worker) → GateFailed worker old.gates new.gates)
+several_caused : (fault : Option PoolFault) (old new : Reached) → (fault ≡ None → AreQuiet old.gates new.gates)
+    → ((worker : ℕ) → fault ≡ Some (Script worker) → GateFailed worker old.gates new.gates)
     → (fault ≡ Some Journal → CallFailed old.journal new.journal) → (fault ≢ Some Journal → IsQuiet old.journal new.journal) → IsCausedBy fault old new
 several_caused None old new none named rose quiet = record { gates = none refl; journal = quiet (λ is. cc is) }
 several_caused (Some (Script worker)) old new none named rose quiet = (named worker refl, quiet (λ is. cc is))
 several_caused (Some Journal) old new none named rose quiet = rose refl
 several_caused (Some Memory) old new none named rose quiet = quiet (λ is. cc is)
 
-module _ {S J G : Type 0} (plan first : S → Plan) (may_say : List ℕ → Verdict → Type 0) (put_so_far : J → Option Put) (journal_faults : J → ℕ) (log : G → Option Log) (faults : G → ℕ) (made : BoardState S J) (outcome : Outcome S J) where
+module _ {S J G : Type 0} (plan first : S → Plan) (may_say : List ℕ → Verdict → Type 0) (put_so_far : J → Option Put) (journal_faults : J → ℕ)
+    (log : G → Option Log) (faults : G → ℕ) (made : BoardState S J) (outcome : Outcome S J) where
   -- what one worker comes to, where there is one
   abbrev pub OfOne : List (Worker G) → List (Worker G) → Type 0
-  OfOne old new = length old ≡ 1 → (d : Worker G) → IsOfOne plan log faults put_so_far journal_faults (members first put_so_far journal_faults 1 made) outcome (slice_index_or old 0 d) (slice_index_or new 0 d)
+  OfOne old new =
+      length old ≡ 1 → (d : Worker G) → IsOfOne plan log faults put_so_far journal_faults (members first put_so_far journal_faults 1 made) outcome
+      (slice_index_or old 0 d) (slice_index_or new 0 d)
 
   abbrev pub OfAll : List (Worker G) → Type 0
   OfAll old = IsOutcome plan first may_say put_so_far journal_faults (members first put_so_far journal_faults (length old) made) outcome
@@ -133,13 +152,16 @@ module _ {S J G : Type 0} (plan first : S → Plan) (may_say : List ℕ → Verd
   ByEach old new = AreDone log faults outcome.fault outcome.events.items old new
 
   all_ran : (old new : List (Worker G)) → 1 ≤ length old → OfAll old → ByEach old new → OfOne old new
-      → IsRunBy (length old) may_say (first made.front) (plan outcome.front) outcome.fault outcome.events.items (seen_gates log faults old) (seen_gates log faults new)
+      → IsRunBy (length old) may_say (first made.front) (plan outcome.front) outcome.fault outcome.events.items (seen_gates log faults old)
+      (seen_gates log faults new)
   all_ran [] new some is done one = absurd (omega (arith, some))
   all_ran (x ∷ []) [] some is done one = let lengths = done.lengths in absurd (omega (arith, lengths))
   all_ran (x ∷ []) (y ∷ y' ∷ new) some is done one = let lengths = done.lengths in absurd (omega (arith, lengths))
   all_ran (x ∷ []) (y ∷ []) some is done one =
       let alone = one refl x in
-      one_ran may_say (first made.front) (plan outcome.front) outcome.fault outcome.events.items (seen log faults x.gate) (seen log faults y.gate) (journal_faults made.journal) (journal_faults outcome.journal) is.history alone.sequential alone.begun alone.one alone.asked alone.ended is.replayed alone.caused
+      one_ran may_say (first made.front) (plan outcome.front) outcome.fault outcome.events.items (seen log faults x.gate) (seen log faults y.gate)
+      (journal_faults made.journal) (journal_faults outcome.journal) is.history alone.sequential alone.begun alone.one alone.asked alone.ended is.replayed
+      alone.caused
   all_ran (x ∷ x' ∷ old) new some is done one = record {
     history_of = is.history;
     start = is.start;
@@ -156,18 +178,27 @@ module _ {S J G : Type 0} (plan first : S → Plan) (may_say : List ℕ → Verd
   all_caused shown (x ∷ []) (y ∷ y' ∷ new) some is done one = let lengths = done.lengths in absurd (omega (arith, lengths))
   all_caused shown (x ∷ []) (y ∷ []) some is done one =
       let alone = one refl x in
-      caused_by outcome.fault (seen log faults x.gate) (seen log faults y.gate) (record { shown = shown; faults = journal_faults made.journal }) (seen put_so_far journal_faults outcome.journal) alone.caused
+      caused_by outcome.fault (seen log faults x.gate) (seen log faults y.gate) (record { shown = shown; faults = journal_faults made.journal })
+      (seen put_so_far journal_faults outcome.journal) alone.caused
   all_caused shown (x ∷ x' ∷ old) new some is done one =
-      several_caused outcome.fault (record { gates = seen_gates log faults (x ∷ x' ∷ old); journal = record { shown = shown; faults = journal_faults made.journal } })
+      several_caused outcome.fault
+      (record { gates = seen_gates log faults (x ∷ x' ∷ old); journal = record { shown = shown; faults = journal_faults made.journal } })
       (reached log faults put_so_far journal_faults new outcome.journal)
-      (none_failed log faults outcome.fault outcome.events.items (x ∷ x' ∷ old) new done) (λ worker by. named_failed log faults outcome.fault outcome.events.items (x ∷ x' ∷ old) new done worker by x) is.rose is.quiet
+      (none_failed log faults outcome.fault outcome.events.items (x ∷ x' ∷ old) new done)
+      (λ worker by. named_failed log faults outcome.fault outcome.events.items (x ∷ x' ∷ old) new done worker by x) is.rose is.quiet
 
-  all_left : (old new : List (Worker G)) → 1 ≤ length old → OfAll old → ByEach old new → OfOne old new → (put : Option Put) → HasSameName put (put_so_far made.journal) → IfSome put (λ p. p.bytes ≡ []) → JournalLeft (length old) outcome.fault outcome.events.items put (put_so_far outcome.journal)
+  all_left : (old new : List (Worker G)) → 1 ≤ length old → OfAll old → ByEach old new → OfOne old new → (put : Option Put)
+      → HasSameName put (put_so_far made.journal) → IfSome put (λ p. p.bytes ≡ [])
+      → JournalLeft (length old) outcome.fault outcome.events.items put (put_so_far outcome.journal)
   all_left [] new some is done one put named empty = absurd (omega (arith, some))
   all_left (x ∷ []) new some is done one put named empty =
-      let alone = one refl x in one_left outcome.fault outcome.events.items put (put_so_far outcome.journal) (one_ends outcome.fault outcome.events.items put (put_so_far outcome.journal) (is.same_name ∙ named) empty alone.journal)
+      let alone =
+      one refl x in
+      one_left outcome.fault outcome.events.items put (put_so_far outcome.journal)
+      (one_ends outcome.fault outcome.events.items put (put_so_far outcome.journal) (is.same_name ∙ named) empty alone.journal)
   all_left (x ∷ x' ∷ old) new some is done one put named empty =
-      several_left (length (x ∷ x' ∷ old)) outcome.fault outcome.events.items put (put_so_far outcome.journal) (λ e. omega (arith, e)) (is.same_name ∙ named) empty is.journal
+      several_left (length (x ∷ x' ∷ old)) outcome.fault outcome.events.items put (put_so_far outcome.journal) (λ e. omega (arith, e))
+      (is.same_name ∙ named) empty is.journal
 
   -- the workers are as they were, but for their gates
   pub idle_again : (old new : List (Worker G)) → AreIdle old → ByEach old new → AreIdle new
@@ -178,20 +209,29 @@ module _ {S J G : Type 0} (plan first : S → Plan) (may_say : List ℕ → Verd
       record {
         some = omega (arith, as_many, some);
         few = omega (arith, as_many, few);
-        numbered = all_quiet (λ (w : Worker G). w.number) old new done.lengths (λ i d within. (done.each i d within).number) ∙ idle.numbered ∙ ap (λ (n : ℕ). range_with_len 1 n) (sym done.lengths);
+        numbered =
+            all_quiet (λ (w : Worker G). w.number) old new done.lengths (λ i d within. (done.each i d within).number) ∙ idle.numbered
+            ∙ ap (λ (n : ℕ). range_with_len 1 n) (sym done.lengths);
         unseated = λ i d within. (done.each i d (subst (λ (n : ℕ). i < n) done.lengths within)).unseated;
       }
 
   -- of a reducer that the board was made over, and a journal that it began
-  module _ (front : S) (same : made.front ≡ front) (old new : List (Worker G)) (idle : AreIdle old) (is : OfAll old) (done : ByEach old new) (one : OfOne old new) where
-    pub ran : IsRunBy (length old) may_say (first front) (plan outcome.front) outcome.fault outcome.events.items (seen_gates log faults old) (seen_gates log faults new)
-    ran = run_from (length old) may_say (first made.front) (first front) (plan outcome.front) outcome.fault outcome.events.items (seen_gates log faults old) (seen_gates log faults new) (ap first same) (all_ran old new idle.some is done one)
+  module _ (front : S) (same : made.front ≡ front) (old new : List (Worker G)) (idle : AreIdle old) (is : OfAll old) (done : ByEach old new)
+      (one : OfOne old new) where
+    pub ran : IsRunBy (length old) may_say (first front) (plan outcome.front) outcome.fault outcome.events.items (seen_gates log faults old)
+        (seen_gates log faults new)
+    ran =
+        run_from (length old) may_say (first made.front) (first front) (plan outcome.front) outcome.fault outcome.events.items (seen_gates log faults old)
+        (seen_gates log faults new) (ap first same) (all_ran old new idle.some is done one)
 
     pub caused : (shown : Option Put) (count : ℕ) → journal_faults made.journal ≡ count
-        → IsCausedBy outcome.fault (record { gates = seen_gates log faults old; journal = record { shown = shown; faults = count } }) (reached log faults put_so_far journal_faults new outcome.journal)
+        → IsCausedBy outcome.fault (record { gates = seen_gates log faults old; journal = record { shown = shown; faults = count } })
+        (reached log faults put_so_far journal_faults new outcome.journal)
     caused shown count quiet =
-        subst (λ (n : ℕ). IsCausedBy outcome.fault (record { gates = seen_gates log faults old; journal = record { shown = shown; faults = n } }) (reached log faults put_so_far journal_faults new outcome.journal)) quiet
+        subst (λ (n : ℕ). IsCausedBy outcome.fault (record { gates = seen_gates log faults old; journal = record { shown = shown; faults = n } })
+        (reached log faults put_so_far journal_faults new outcome.journal)) quiet
         (all_caused shown old new idle.some is done one)
 
-    pub left : (put : Option Put) → HasSameName put (put_so_far made.journal) → IfSome put (λ p. p.bytes ≡ []) → JournalLeft (length old) outcome.fault outcome.events.items put (put_so_far outcome.journal)
+    pub left : (put : Option Put) → HasSameName put (put_so_far made.journal) → IfSome put (λ p. p.bytes ≡ [])
+        → JournalLeft (length old) outcome.fault outcome.events.items put (put_so_far outcome.journal)
     left put named empty = all_left old new idle.some is done one put named empty

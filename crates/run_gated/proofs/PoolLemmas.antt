@@ -29,7 +29,8 @@ module _ {G : Type 0} (log : G → Option Log) (faults : G → ℕ) where
   counts_seen [] = refl
   counts_seen (worker ∷ workers) = ap (λ (cs : List ℕ). faults worker.gate ∷ cs) (counts_seen workers)
 
-module _ {G : Type 0} (log : G → Option Log) (faults : G → ℕ) (fault : Option PoolFault) (history : History) (old new : List (Worker G)) (done : AreDone log faults fault history old new) where
+module _ {G : Type 0} (log : G → Option Log) (faults : G → ℕ) (fault : Option PoolFault) (history : History) (old new : List (Worker G))
+    (done : AreDone log faults fault history old new) where
   shares : AreShares done.counts (worker_logs log old) (worker_logs log new)
   shares = shares_of (λ (w : Worker G). log w.gate) done.counts old new done.one_each done.lengths (λ i d within.
       let one = done.each i d within in
@@ -48,7 +49,8 @@ module _ {G : Type 0} (log : G → Option Log) (faults : G → ℕ) (fault : Opt
   pub several_asked : length old ≢ 1 → AreAsked (texts_of (records_of history)) (logs_of (seen_gates log faults old)) (logs_of (seen_gates log faults new))
   several_asked several =
       subst (λ (ls : List (Option Log)). AreAsked (texts_of (records_of history)) ls (logs_of (seen_gates log faults new))) (sym (logs_seen log faults old))
-      (subst (λ (ls : List (Option Log)). AreAsked (texts_of (records_of history)) (worker_logs log old) ls) (sym (logs_seen log faults new)) (asked_by several))
+      (subst (λ (ls : List (Option Log)). AreAsked (texts_of (records_of history)) (worker_logs log old) ls) (sym (logs_seen log faults new))
+      (asked_by several))
 
   -- the gate of the worker that is named failed
   pub named_failed : (worker : ℕ) → fault ≡ Some (Script worker) → (d : Worker G) → GateFailed worker (seen_gates log faults old) (seen_gates log faults new)
@@ -59,8 +61,12 @@ module _ {G : Type 0} (log : G → Option Log) (faults : G → ℕ) (fault : Opt
       let index : ℕ = worker - 1 in
       let same : worker ≡ suc index = omega (arith, least) in
       let within : index < length old = omega (arith, least, most) in
-      let rose : RoseAt worker (worker_faults faults old) (worker_faults faults new) =
-      (index, same, rose_at (λ (w : Worker G). faults w.gate) old new index d within done.lengths ((done.each index d within).failed (is ∙ ap (λ (n : ℕ). Some (Script n)) same))) in
+      let rose : RoseAt worker (worker_faults faults old) (worker_faults faults new) = (
+        index,
+        same,
+        rose_at (λ (w : Worker G). faults w.gate) old new index d within done.lengths
+            ((done.each index d within).failed (is ∙ ap (λ (n : ℕ). Some (Script n)) same)),
+      ) in
       subst (λ (cs : List ℕ). RoseAt worker cs (fault_counts_of (seen_gates log faults new))) (sym (counts_seen log faults old))
       (subst (λ (cs : List ℕ). RoseAt worker (worker_faults faults old) cs) (sym (counts_seen log faults new)) rose)
 

@@ -1,5 +1,6 @@
 -- What a run says of the reduction of a mode over its records.
-use Rattle.std.proofs.Common.{◌≡◌, ℕ, List, [], ◌∷◌, length, option_map, arith, Option, Some, None, IfSome, IsSome, true, false, Result, Ok, Err, refl, sym, ap, ◌∙◌, subst, ◌⊎◌, inl, inr, ⊎_elim}
+use Rattle.std.proofs.Common.{◌≡◌, ℕ, List, [], ◌∷◌, length, option_map, arith, Option, Some, None, IfSome, IsSome, true}
+use Rattle.std.proofs.Common.{false, Result, Ok, Err, refl, sym, ap, ◌∙◌, subst, ◌⊎◌, inl, inr, ⊎_elim}
 use Rattle.std.proofs.lemmas.Bool.{false≢true}
 use Rattle.std.proofs.lemmas.Cmp.{nat_list_eq_equiv}
 use Rattle.std.proofs.lemmas.List.Elements.{All-weaker}
@@ -42,7 +43,8 @@ first_known : (start : List ℕ) (r : Record) (records : List Record) → r.text
 first_known start r records same = rw (same, nat_list_eq_equiv.refl start) refl
 
 -- the start's verdict is that of the first record
-start_is : (start : List ℕ) (records : List Record) (verdict : Verdict) → BeginsAt start records → verdict_in records start ≡ Some verdict → FirstIs start verdict records
+start_is : (start : List ℕ) (records : List Record) (verdict : Verdict) → BeginsAt start records → verdict_in records start ≡ Some verdict
+    → FirstIs start verdict records
 start_is start [] verdict begins is = absurd (cc is)
 start_is start (r ∷ records) verdict begins is =
     let both : Some r.verdict ≡ Some verdict = sym (first_known start r records begins) ∙ is in
@@ -95,19 +97,24 @@ module _ {T : Type 0} (mode : RoundMode T) where
     one = (ran.start refused_ends).1
 
     -- what may be asked of a listed start is the text of a state that is kept
-    pub are_of_mode : (Kept : T → Type 0) → AsksCandidates mode Kept → Keeps mode Kept → mode.is_listed mode.start ≡ true → AreOfMode run.workers mode Kept run.history
+    pub are_of_mode : (Kept : T → Type 0) → AsksCandidates mode Kept → Keeps mode Kept → mode.is_listed mode.start ≡ true
+        → AreOfMode run.workers mode Kept run.history
     are_of_mode Kept law keeps listed =
         record {
           legal = ran.history_of.legal;
           readable = ran.history_of.readable;
-          candidates = All-weaker (λ (r : Record). MayAsk (plan_first mode) r.text) (λ (r : Record). IsTextOf mode Kept r.text) (λ r may_ask. law keeps listed r.text may_ask) records ran.history_of.may_ask;
+          candidates =
+              All-weaker (λ (r : Record). MayAsk (plan_first mode) r.text) (λ (r : Record). IsTextOf mode Kept r.text)
+              (λ r may_ask. law keeps listed r.text may_ask) records ran.history_of.may_ask;
           first = begins;
           ends_at_no = only_no records one;
           sequential = λ alone. has_beginning fault (plan_first mode) run.history (ran.alone alone).sequential;
         }
 
-    module _ (follows : (V : List ℕ → Option Verdict) → IsTheReduction (plan_first mode) (recursion_of mode) V) (refuses : RefusesAtNo (plan_first mode) (recursion_of mode)) where
-      module _ (result : StepResult) (ended : HasEnded last) (followed : last ≡ follow (verdict_in records) (plan_first mode)) (replayed : last ≡ replay (plan_first mode) run.history) (found : last ≡ End result)
+    module _ (follows : (V : List ℕ → Option Verdict) → IsTheReduction (plan_first mode) (recursion_of mode) V)
+        (refuses : RefusesAtNo (plan_first mode) (recursion_of mode)) where
+      module _ (result : StepResult) (ended : HasEnded last) (followed : last ≡ follow (verdict_in records) (plan_first mode))
+          (replayed : last ≡ replay (plan_first mode) run.history) (found : last ≡ End result)
           (whole : run.workers ≡ 1 → run.history ≡ own_history (plan_first mode) run.history) where
         has : IsDefinedOver mode records
         has = (follows (verdict_in records)).defined (subst HasEnded followed ended)
@@ -117,7 +124,8 @@ module _ {T : Type 0} (mode : RoundMode T) where
 
         found_is : result ≡ result_of (recursion_of mode) (reduction_over mode records)
         found_is =
-            let same : End result ≡ End (result_of (recursion_of mode) (reduction_over mode records)) = sym found ∙ followed ∙ (follows (verdict_in records)).ends has in
+            let same : End result ≡ End (result_of (recursion_of mode) (reduction_over mode records)) =
+            sym found ∙ followed ∙ (follows (verdict_in records)).ends has in
             (cc)
 
         refused_is : result.refused ≡ (reduction_over mode records).refused
@@ -136,7 +144,8 @@ module _ {T : Type 0} (mode : RoundMode T) where
             (by_verdict (verdict_in records (mode.text mode.start)) (start_known (verdict_in records) has))
 
         -- the reducer's result is that of the reduction, unless it refused the start
-        reduces_in : (Kept : T → Type 0) → EndsMinimal mode Kept (λ state other. IsTriedAtNo (mode.round state) other) → result.refused ≡ false → ReducesIn run.workers mode Kept run.history result
+        reduces_in : (Kept : T → Type 0) → EndsMinimal mode Kept (λ state other. IsTriedAtNo (mode.round state) other) → result.refused ≡ false
+            → ReducesIn run.workers mode Kept run.history result
         reduces_in Kept minimal stays =
             let interesting : (reduction_over mode records).refused ≡ false = sym refused_is ∙ stays in
             record {
@@ -151,7 +160,8 @@ module _ {T : Type 0} (mode : RoundMode T) where
 
         -- how it ends without a fault
         without_fault : (Kept : T → Type 0) → EndsMinimal mode Kept (λ state other. IsTriedAtNo (mode.round state) other) → NoneFailed run.before run.after
-            → (answer : Result Reduced RunFault) → AnswersFor None result (mode.size mode.start) (length (mode.text mode.start)) (length records) answer → RunEndsIn mode Kept run answer
+            → (answer : Result Reduced RunFault) → AnswersFor None result (mode.size mode.start) (length (mode.text mode.start)) (length records) answer
+            → RunEndsIn mode Kept run answer
         without_fault Kept minimal quiet (Ok reduced) is = ((result, is.1, is.2, reduces_in Kept minimal is.0), quiet)
         without_fault Kept minimal quiet (Err run_fault.NotInteresting) is =
             let first = first_no is in
@@ -163,39 +173,53 @@ module _ {T : Type 0} (mode : RoundMode T) where
       -- a text that is asked has no record, where the gate failed
       unanswered : IsSome (asked (follow (verdict_in records) (plan_first mode))) → (¬ FirstIsNo records) × (¬ IsDefinedOver mode records)
       unanswered waiting = (
-        λ no_first. not_ended (follow (verdict_in records) (plan_first mode)) waiting ((refuses (verdict_in records)).1 (first_no_is (mode.text mode.start) records begins no_first)).0,
+        λ no_first. not_ended (follow (verdict_in records) (plan_first mode)) waiting
+            ((refuses (verdict_in records)).1 (first_no_is (mode.text mode.start) records begins no_first)).0,
         λ has. not_ended (follow (verdict_in records) (plan_first mode)) waiting (ap asked ((follows (verdict_in records)).ends has)),
       )
 
-      unfinished : WaitsAt (Some (pool.Script 1)) (plan_first mode) run.history → run.history ≡ own_history (plan_first mode) run.history → IsUnfinishedIn mode run.history
+      unfinished : WaitsAt (Some (pool.Script 1)) (plan_first mode) run.history → run.history ≡ own_history (plan_first mode) run.history
+          → IsUnfinishedIn mode run.history
       unfinished waits whole = let both = unanswered waits in (both.0, both.1, whole)
 
 -- how a run ends with a fault
-with_fault : {T : Type 0} (mode : RoundMode T) → ((V : List ℕ → Option Verdict) → IsTheReduction (plan_first mode) (recursion_of mode) V) → RefusesAtNo (plan_first mode) (recursion_of mode) → (Kept : T → Type 0) (run : Run) (may_say : List ℕ → Verdict → Type 0) (last : Plan) (fault : PoolFault)
-    → IsRunBy run.workers may_say (plan_first mode) last (Some fault) run.history run.before.gates run.after.gates → IsCausedBy (Some fault) run.before run.after → RunEndsIn mode Kept run (Err (fault_kept fault))
-with_fault mode follows refuses Kept run may_say last (pool.Script worker) ran caused =
-    (caused.0, caused.1, λ alone. unfinished mode run may_say last (Some (pool.Script worker)) ran follows refuses (ran.alone alone).waits (ran.alone alone).sequential)
+with_fault : {T : Type 0} (mode : RoundMode T) → ((V : List ℕ → Option Verdict) → IsTheReduction (plan_first mode) (recursion_of mode) V)
+    → RefusesAtNo (plan_first mode) (recursion_of mode)
+    → (Kept : T → Type 0) (run : Run) (may_say : List ℕ → Verdict → Type 0) (last : Plan) (fault : PoolFault)
+    → IsRunBy run.workers may_say (plan_first mode) last (Some fault) run.history run.before.gates run.after.gates
+    → IsCausedBy (Some fault) run.before run.after → RunEndsIn mode Kept run (Err (fault_kept fault))
+with_fault mode follows refuses Kept run may_say last (pool.Script worker) ran caused = (
+  caused.0,
+  caused.1,
+  λ alone. unfinished mode run may_say last (Some (pool.Script worker)) ran follows refuses (ran.alone alone).waits
+      (ran.alone alone).sequential,
+)
 with_fault mode follows refuses Kept run may_say last pool.Journal ran caused = (caused, λ alone. (ran.alone alone).quiet)
 with_fault mode follows refuses Kept run may_say last pool.Memory ran caused = (caused, λ alone. (ran.alone alone).quiet)
 
 -- how a run ends
-pub run_ends : {T : Type 0} (mode : RoundMode T) → ((V : List ℕ → Option Verdict) → IsTheReduction (plan_first mode) (recursion_of mode) V) → RefusesAtNo (plan_first mode) (recursion_of mode) → (Kept : T → Type 0) → EndsMinimal mode Kept (λ state other. IsTriedAtNo (mode.round state) other)
+pub run_ends : {T : Type 0} (mode : RoundMode T) → ((V : List ℕ → Option Verdict) → IsTheReduction (plan_first mode) (recursion_of mode) V)
+    → RefusesAtNo (plan_first mode) (recursion_of mode) → (Kept : T → Type 0) → EndsMinimal mode Kept (λ state other. IsTriedAtNo (mode.round state) other)
     → (run : Run) (may_say : List ℕ → Verdict → Type 0) (last : Plan) (fault : Option PoolFault) (result : StepResult) (answer : Result Reduced RunFault)
-    → IsRunBy run.workers may_say (plan_first mode) last fault run.history run.before.gates run.after.gates → (fault ≡ None → HasEnded last → last ≡ End result) → IsCausedBy fault run.before run.after
+    → IsRunBy run.workers may_say (plan_first mode) last fault run.history run.before.gates run.after.gates → (fault ≡ None → HasEnded last → last ≡ End result)
+    → IsCausedBy fault run.before run.after
     → AnswersFor fault result (mode.size mode.start) (length (mode.text mode.start)) (length (records_of run.history)) answer → RunEndsIn mode Kept run answer
 run_ends mode follows refuses Kept minimal run may_say last (Some fault) result answer ran found caused is =
     subst (RunEndsIn mode Kept run) (sym is) (with_fault mode follows refuses Kept run may_say last fault ran caused)
 run_ends mode follows refuses Kept minimal run may_say last None result answer ran found caused is =
     let ended = ran.ended refl in
-    without_fault mode run may_say last None ran follows refuses result ended.0 ended.1 ended.2 (found refl ended.0) (λ alone. (ran.alone alone).sequential) Kept minimal caused answer is
+    without_fault mode run may_say last None ran follows refuses result ended.0 ended.1 ended.2 (found refl ended.0)
+    (λ alone. (ran.alone alone).sequential) Kept minimal caused answer is
 
 -- the same run by another name of what was done first
-pub run_from : (workers : ℕ) (may_say : List ℕ → Verdict → Type 0) (first first' last : Plan) (fault : Option PoolFault) (history : History) (old new : List SeenGate)
+pub run_from : (workers : ℕ) (may_say : List ℕ → Verdict → Type 0) (first first' last : Plan) (fault : Option PoolFault) (history : History)
+    (old new : List SeenGate)
     → first ≡ first' → IsRunBy workers may_say first last fault history old new → IsRunBy workers may_say first' last fault history old new
 run_from workers may_say first first' last fault history old new same ran = subst (λ (p : Plan). IsRunBy workers may_say p last fault history old new) same ran
 
 -- what the journal has, by the fault, by what is answered
-pub journal_has : (run : Run) (fault : Option PoolFault) (result : StepResult) (units bytes record_count : ℕ) (answer : Result Reduced RunFault) → AnswersFor fault result units bytes record_count answer
+pub journal_has : (run : Run) (fault : Option PoolFault) (result : StepResult) (units bytes record_count : ℕ) (answer : Result Reduced RunFault)
+    → AnswersFor fault result units bytes record_count answer
     → JournalLeft run.workers fault run.history run.before.journal.shown run.after.journal.shown → IsCausedBy fault run.before run.after → JournalHas run answer
 journal_has run None result units bytes record_count (Ok reduced) is ends caused = (ends, caused.journal)
 journal_has run None result units bytes record_count (Err run_fault.NotInteresting) is ends caused = (ends, caused.journal)
@@ -208,16 +232,19 @@ journal_has run (Some pool.Memory) result units bytes record_count answer is end
 
 -- a run of one worker is one by so many workers
 one_asked : (texts : List (List ℕ)) (log log' : Option Log) → log' ≡ option_map (with_all_asked texts) log → AreAsked texts (log ∷ []) (log' ∷ [])
-one_asked texts log log' is = record { shares = texts ∷ []; one_each = refl; total = omega arith; alone = λ _. refl; asked = ap (λ (l : Option Log). l ∷ []) is }
+one_asked texts log log' is =
+    record { shares = texts ∷ []; one_each = refl; total = omega arith; alone = λ _. refl; asked = ap (λ (l : Option Log). l ∷ []) is }
 
-pub caused_by : (fault : Option PoolFault) (gate gate' : SeenGate) (journal journal' : SeenJournal) → IsCaused fault gate.faults gate'.faults journal.faults journal'.faults
+pub caused_by : (fault : Option PoolFault) (gate gate' : SeenGate) (journal journal' : SeenJournal)
+    → IsCaused fault gate.faults gate'.faults journal.faults journal'.faults
     → IsCausedBy fault (record { gates = gate ∷ []; journal = journal }) (record { gates = gate' ∷ []; journal = journal' })
 caused_by None gate gate' journal journal' caused = record { gates = ap (λ (n : ℕ). n ∷ []) caused.0; journal = caused.1 }
 caused_by (Some (pool.Script worker)) gate gate' journal journal' caused = ((0, caused.0, caused.1), caused.2)
 caused_by (Some pool.Journal) gate gate' journal journal' caused = caused.1
 caused_by (Some pool.Memory) gate gate' journal journal' caused = caused.1
 
-quiet_but : (fault : Option PoolFault) (gate gate' : SeenGate) (journal journal' : ℕ) → IsCaused fault gate.faults gate'.faults journal journal' → IsQuietBut fault (gate ∷ []) (gate' ∷ [])
+quiet_but : (fault : Option PoolFault) (gate gate' : SeenGate) (journal journal' : ℕ) → IsCaused fault gate.faults gate'.faults journal journal'
+    → IsQuietBut fault (gate ∷ []) (gate' ∷ [])
 quiet_but None gate gate' journal journal' caused = ap (λ (n : ℕ). n ∷ []) caused.0
 quiet_but (Some (pool.Script worker)) gate gate' journal journal' caused = tt
 quiet_but (Some pool.Journal) gate gate' journal journal' caused = ap (λ (n : ℕ). n ∷ []) caused.0
@@ -229,12 +256,17 @@ waits_at (Some (pool.Script worker)) first last history ends = ends
 waits_at (Some pool.Journal) first last history ends = tt
 waits_at (Some pool.Memory) first last history ends = tt
 
-has_ended : (fault : Option PoolFault) (first last : Plan) (history : History) → ReducerEnds fault first last (records_of history) → (fault ≡ None → last ≡ replay first history) → fault ≡ None → HasEnded last × (last ≡ follow (verdict_in (records_of history)) first) × (last ≡ replay first history)
+has_ended : (fault : Option PoolFault) (first last : Plan) (history : History) → ReducerEnds fault first last (records_of history)
+    → (fault ≡ None → last ≡ replay first history) → fault ≡ None → HasEnded last × (last ≡ follow (verdict_in (records_of history)) first)
+    × (last ≡ replay first history)
 has_ended None first last history ends replayed none = (ends.0, ends.1, replayed none)
 has_ended (Some fault) first last history ends replayed none = absurd (cc none)
 
-pub one_ran : (may_say : List ℕ → Verdict → Type 0) (first last : Plan) (fault : Option PoolFault) (history : History) (gate gate' : SeenGate) (journal journal' : ℕ) → IsHistoryOf may_say first history → IsSequential fault first history → BeginsWith first (records_of history) → EndsAtFirst first (records_of history)
-    → gate'.shown ≡ option_map (with_all_asked (texts_of (records_of history))) gate.shown → ReducerEnds fault first last (records_of history) → (fault ≡ None → last ≡ replay first history) → IsCaused fault gate.faults gate'.faults journal journal'
+pub one_ran : (may_say : List ℕ → Verdict → Type 0) (first last : Plan) (fault : Option PoolFault) (history : History) (gate gate' : SeenGate)
+    (journal journal' : ℕ) → IsHistoryOf may_say first history → IsSequential fault first history → BeginsWith first (records_of history)
+    → EndsAtFirst first (records_of history)
+    → gate'.shown ≡ option_map (with_all_asked (texts_of (records_of history))) gate.shown → ReducerEnds fault first last (records_of history)
+    → (fault ≡ None → last ≡ replay first history) → IsCaused fault gate.faults gate'.faults journal journal'
     → IsRunBy 1 may_say first last fault history (gate ∷ []) (gate' ∷ [])
 one_ran may_say first last fault history gate gate' journal journal' of sequential begun one asked ends replayed caused =
     record {
@@ -242,7 +274,8 @@ one_ran may_say first last fault history gate gate' journal journal' of sequenti
       start = λ _. (begun, one);
       asked = one_asked (texts_of (records_of history)) gate.shown gate'.shown asked;
       ended = has_ended fault first last history ends replayed;
-      alone = λ _. record { sequential = sequential; waits = waits_at fault first last history ends; quiet = quiet_but fault gate gate' journal journal' caused };
+      alone =
+          λ _. record { sequential = sequential; waits = waits_at fault first last history ends; quiet = quiet_but fault gate gate' journal journal' caused };
     }
 
 broke_by : (history : History) (bytes : List ℕ) → BrokeAtEnd history bytes → BrokeBy 1 history bytes
@@ -262,7 +295,9 @@ one_left (Some pool.Journal) history old new ends = part_by history old new ends
 one_left (Some pool.Memory) history old new ends = ends
 
 -- the same answer by other names of the numbers
-pub answers_at : (fault : Option PoolFault) (result : StepResult) (units units' bytes bytes' record_count record_count' : ℕ) (answer : Result Reduced RunFault) → units ≡ units' → bytes ≡ bytes' → record_count ≡ record_count' → AnswersFor fault result units bytes record_count answer → AnswersFor fault result units' bytes' record_count' answer
+pub answers_at : (fault : Option PoolFault) (result : StepResult) (units units' bytes bytes' record_count record_count' : ℕ) (answer : Result Reduced RunFault)
+    → units ≡ units' → bytes ≡ bytes' → record_count ≡ record_count' → AnswersFor fault result units bytes record_count answer
+    → AnswersFor fault result units' bytes' record_count' answer
 answers_at fault result units units' bytes bytes' record_count record_count' answer u b r is =
     subst (λ (n : ℕ). AnswersFor fault result n bytes' record_count' answer) u
     (subst (λ (n : ℕ). AnswersFor fault result units n record_count' answer) b

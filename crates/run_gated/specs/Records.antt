@@ -42,7 +42,8 @@ all_asked [] logs = logs
 all_asked (texts ∷ shares) [] = []
 all_asked (texts ∷ shares) (log ∷ logs) = option_map (with_all_asked texts) log ∷ all_asked shares logs
 
--- The gates of the workers, in the order of their numbers, were asked as often as there are texts. The gate of a worker alone was asked for these texts, in this order.
+-- The gates of the workers, in the order of their numbers, were asked as often as there are
+-- texts. The gate of a worker alone was asked for these texts, in this order.
 pub record AreAsked (texts : List (List ℕ)) (old new : List (Option Log)) : Type 0 where
   pub shares : List (List (List ℕ))
   pub one_each : length shares ≡ length old
@@ -56,7 +57,8 @@ pub record AreAnswers (may_say : List ℕ → Verdict → Type 0) (run : Run) : 
   pub said : All (λ r. may_say r.text r.verdict) (records_of run.history)
   pub asked : AreAsked (texts_of (records_of run.history)) (logs_of run.before.gates) (logs_of run.after.gates)
 
--- The history is one that the reducer of the mode can have, and that can be read back; each text is that of a listed state that is kept; the first is the start's, and after its no nothing was asked. With one worker the history is a beginning of what one thread does over its records.
+-- The history is one that the reducer of the mode can have, and that can be read back; each text is that of a listed state that is kept; the first is
+-- the start's, and after its no nothing was asked. With one worker the history is a beginning of what one thread does over its records.
 pub record AreOfMode {T : Type 0} (workers : ℕ) (mode : RoundMode T) (Kept : T → Type 0) (history : History) : Type 0 where
   pub legal : IsLegal (plan_first mode) history
   pub readable : IsHistory history

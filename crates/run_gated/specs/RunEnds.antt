@@ -45,7 +45,9 @@ counts_of_result units bytes result records = record {
   records = records;
 }
 
--- The records have all verdicts that the reduction asks, of which the first is the start's yes; this is its result, with its counts; and where the mode is lawful and the start listed, it ends at a yes that is kept, from which nothing that a round tries is interesting. The commits lead the reducer to its end; with one worker the history is all that one thread does over its records.
+-- The records have all verdicts that the reduction asks, of which the first is the start's yes; this is its result, with its counts; and
+-- where the mode is lawful and the start listed, it ends at a yes that is kept, from which nothing that a round tries is interesting. The
+-- commits lead the reducer to its end; with one worker the history is all that one thread does over its records.
 pub record ReducesIn {T : Type 0} (workers : ℕ) (mode : RoundMode T) (Kept : T → Type 0) (history : History) (result : StepResult) : Type 0 where
   pub whole : workers ≡ 1 → history ≡ own_history (plan_first mode) history
   pub committed : HasEnded (replay (plan_first mode) history)
@@ -53,13 +55,18 @@ pub record ReducesIn {T : Type 0} (workers : ℕ) (mode : RoundMode T) (Kept : T
   pub defined : IsDefinedOver mode (records_of history)
   pub interesting : (reduction_over mode (records_of history)).refused ≡ false
   pub is_result : result ≡ result_of (recursion_of mode) (reduction_over mode (records_of history))
-  pub ends_well : IsLawful mode Kept → mode.is_listed mode.start ≡ true → EndsWell mode Kept (λ state other. IsTriedAtNo (mode.round state) other) (verdict_in (records_of history)) (reduction_over mode (records_of history)).state
+  pub ends_well : IsLawful mode Kept → mode.is_listed mode.start ≡ true
+      → EndsWell mode Kept (λ state other. IsTriedAtNo (mode.round state) other) (verdict_in (records_of history))
+      (reduction_over mode (records_of history)).state
 
 -- The reduction asks for a text that has no record, the gate hadn't said no to the start, and the history is all that one thread does over its records.
 abbrev pub IsUnfinishedIn : {T : Type 0} → RoundMode T → History → Type 0
-IsUnfinishedIn mode history = (¬ FirstIsNo (records_of history)) × (¬ IsDefinedOver mode (records_of history)) × (history ≡ own_history (plan_first mode) history)
+IsUnfinishedIn mode history =
+    (¬ FirstIsNo (records_of history)) × (¬ IsDefinedOver mode (records_of history)) × (history ≡ own_history (plan_first mode) history)
 
--- Why a run ended without a result: the verdict on the start is no; or a call failed of the gate of the worker that is named; or a call of the journal failed; or out of memory. After the start's no nothing was asked, and its commit is there. With one worker no other call failed, and where its gate failed, the reduction wasn't finished.
+-- Why a run ended without a result: the verdict on the start is no; or a call failed of the gate of the worker that is
+-- named; or a call of the journal failed; or out of memory. After the start's no nothing was asked, and its commit is
+-- there. With one worker no other call failed, and where its gate failed, the reduction wasn't finished.
 abbrev pub RunFailsIn : {T : Type 0} → RoundMode T → Run → RunFault → Type 0
 RunFailsIn mode run NotInteresting =
     FirstIs (mode.text mode.start) No (records_of run.history) × OnlyNo (records_of run.history) × NoneFailed run.before run.after
@@ -83,7 +90,8 @@ RunEndsIn mode Kept run (Err fault) = RunFailsIn mode run fault
 abbrev pub IsWrittenWhole : Run → Type 0
 IsWrittenWhole run = HasWritten run.history run.before.journal.shown run.after.journal.shown × IsQuiet run.before.journal run.after.journal
 
--- What the journal has, by what the run answered: all of the history; where memory ran out that, or nothing, if there is no history; where a call of it failed a part.
+-- What the journal has, by what the run answered: all of the history; where memory ran out
+-- that, or nothing, if there is no history; where a call of it failed a part.
 abbrev pub JournalHas : Run → Result Reduced RunFault → Type 0
 JournalHas run (Ok reduced) = IsWrittenWhole run
 JournalHas run (Err NotInteresting) = IsWrittenWhole run

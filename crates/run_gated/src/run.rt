@@ -55,7 +55,8 @@ fn result_of<R: Round + Drop>(
     fault: Option<PoolFault>,
 ) -> Result<Reduced, RunFault>
     ensures answer { AnswersFor fault (⟦<Rounds<R> as ReducerStep>⟧.so_far reducer.now) start.units start.bytes records result }
-    ensures ended { fault ≡ None → HasEnded (⟦<Rounds<R> as Step>⟧.plan reducer.now) → ⟦<Rounds<R> as Step>⟧.plan reducer.now ≡ End (⟦<Rounds<R> as ReducerStep>⟧.so_far reducer.now) }
+    ensures ended { fault ≡ None → HasEnded (⟦<Rounds<R> as Step>⟧.plan reducer.now)
+        → ⟦<Rounds<R> as Step>⟧.plan reducer.now ≡ End (⟦<Rounds<R> as ReducerStep>⟧.so_far reducer.now) }
 {
     if let Some(fault) = fault {
         return Err(fault.into());
@@ -97,7 +98,8 @@ pub fn run_to_text<
     ensures as_many { length workers.new ≡ length workers.old }
     ensures sound { IsSound G.may_say (run_of G.log G.faults J.put_so_far J.faults workers.old workers.new journal result) }
     ensures in_mode { (input : R.Input) → ⟦<Rounds<R> as Step>⟧.first reducer ≡ plan_first (R.mode input)
-        → IsRunIn (R.mode input) (R.Kept input) (⟦<Rounds<R> as ReducerStep>⟧.so_far reducer) (run_of G.log G.faults J.put_so_far J.faults workers.old workers.new journal result) }
+        → IsRunIn (R.mode input) (R.Kept input) (⟦<Rounds<R> as ReducerStep>⟧.so_far reducer)
+        (run_of G.log G.faults J.put_so_far J.faults workers.old workers.new journal result) }
 {
     follows_reduction::<R>();
     refuses_at_no::<R>();

@@ -48,8 +48,10 @@ pub(crate) fn run_all<
     ensures idle { AreIdle workers.new }
     ensures as_many { length workers.new ≡ length workers.old }
     ensures first { S.first result.front ≡ S.first front }
-    ensures ran { IsRunBy (length workers.old) G.may_say (S.first front) (S.plan result.front) result.fault result.events.items (seen_gates G.log G.faults workers.old) (seen_gates G.log G.faults workers.new) }
-    ensures caused { IsCausedBy result.fault (reached G.log G.faults J.put_so_far J.faults workers.old journal) (reached G.log G.faults J.put_so_far J.faults workers.new result.journal) }
+    ensures ran { IsRunBy (length workers.old) G.may_say (S.first front) (S.plan result.front) result.fault result.events.items
+        (seen_gates G.log G.faults workers.old) (seen_gates G.log G.faults workers.new) }
+    ensures caused { IsCausedBy result.fault (reached G.log G.faults J.put_so_far J.faults workers.old journal)
+        (reached G.log G.faults J.put_so_far J.faults workers.new result.journal) }
     ensures journal { JournalLeft (length workers.old) result.fault result.events.items (J.put_so_far journal) (J.put_so_far result.journal) }
 {
     match Board::<S, G, J>::new(alloc, front, journal, workers.len() as u32) {

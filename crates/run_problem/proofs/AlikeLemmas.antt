@@ -24,16 +24,19 @@ use Rattle.reduce_trees.specs.Laws.{WalksAreRecursions}
 use Rattle.reduce_trees.specs.TreeRounds.{tree_round}
 use Rattle.reduce_trees.specs.WalkMode.{walk_mode}
 use Rattle.reduce_trees_mode.specs.InStyles.{tree_recursion}
-use Rattle.run_problem.specs.Problem.{IsProblem, Problem, StateOf, counts_of, questions_of, recursion_of, reduced_text, reduced_units, reduction_of, rounds_of, start_of, units_of}
+use Rattle.run_problem.specs.Problem.{IsProblem, Problem, StateOf, counts_of, questions_of, recursion_of, reduced_text}
+use Rattle.run_problem.specs.Problem.{reduced_units, reduction_of, rounds_of, start_of, units_of}
 use Rattle.run_problem.specs.Laws.{ProblemsReduceAlike, RunsReduceAlike, VerdictsAgree}
 
 -- ---- the reductions over two maps
 
 -- what holds of one recursion holds of each whose reductions are the same
-moved : {T : Type 0} (one other : Recursion T) → ((verdict : List ℕ → Bool) → reduction one verdict ≡ reduction other verdict) → AgreeingMapsReduceAlike other → AgreeingMapsReduceAlike one
+moved : {T : Type 0} (one other : Recursion T) → ((verdict : List ℕ → Bool) → reduction one verdict ≡ reduction other verdict) → AgreeingMapsReduceAlike other
+    → AgreeingMapsReduceAlike one
 moved {T = T} one other same alike V W agree has has' =
     same (says_yes V)
-    ∙ alike V W agree (subst (λ (r : Reduction T). HasVerdicts V r.questions) (same (says_yes V)) has) (subst (λ (r : Reduction T). HasVerdicts W r.questions) (same (says_yes W)) has')
+    ∙ alike V W agree (subst (λ (r : Reduction T). HasVerdicts V r.questions) (same (says_yes V)) has)
+    (subst (λ (r : Reduction T). HasVerdicts W r.questions) (same (says_yes W)) has')
     ∙ sym (same (says_yes W))
 
 pub problems_reduce_alike : LinesAreRecursions → WalksAreRecursions Perses visit_round → WalksAreRecursions Hdd level_round → ProblemsReduceAlike
@@ -41,9 +44,11 @@ problems_reduce_alike lines visits levels keeps (Problem.of_lines start) is =
     moved (line_recursion (keeps_admit keeps) start) (trials.recursion_of (line_mode (record { admits = keeps_admit keeps; start = start })))
     (λ verdict. lines (keeps_admit keeps) verdict start) (agreeing_maps (line_mode (record { admits = keeps_admit keeps; start = start })))
 problems_reduce_alike lines visits levels keeps (Problem.of_tree Perses input) is =
-    moved (tree_recursion (tree_round Perses input) input) (trials.recursion_of (walk_mode visit_round input)) (λ verdict. visits input verdict is) (agreeing_maps (walk_mode visit_round input))
+    moved (tree_recursion (tree_round Perses input) input) (trials.recursion_of (walk_mode visit_round input)) (λ verdict. visits input verdict is)
+    (agreeing_maps (walk_mode visit_round input))
 problems_reduce_alike lines visits levels keeps (Problem.of_tree Hdd input) is =
-    moved (tree_recursion (tree_round Hdd input) input) (trials.recursion_of (walk_mode level_round input)) (λ verdict. levels input verdict is) (agreeing_maps (walk_mode level_round input))
+    moved (tree_recursion (tree_round Hdd input) input) (trials.recursion_of (walk_mode level_round input)) (λ verdict. levels input verdict is)
+    (agreeing_maps (walk_mode level_round input))
 
 module _ (keeps : List (List ℕ)) (V W : List ℕ → Option Verdict) (agree : Agree V W) where
   -- what is told of a reduction is the same of both
@@ -53,7 +58,8 @@ module _ (keeps : List (List ℕ)) (V W : List ℕ → Option Verdict) (agree : 
     units : reduced_units keeps problem V ≡ reduced_units keeps problem W
     rounds : rounds_of keeps problem V ≡ rounds_of keeps problem W
 
-  are_same : ProblemsReduceAlike → (problem : Problem) → IsProblem problem → HasVerdicts V (questions_of keeps problem V) → HasVerdicts W (questions_of keeps problem W) → AreSame problem
+  are_same : ProblemsReduceAlike → (problem : Problem) → IsProblem problem → HasVerdicts V (questions_of keeps problem V)
+      → HasVerdicts W (questions_of keeps problem W) → AreSame problem
   are_same alike problem is has has' =
       let same : reduction_of keeps problem V ≡ reduction_of keeps problem W = alike keeps problem is V W agree has has' in
       record {
@@ -65,7 +71,8 @@ module _ (keeps : List (List ℕ)) (V W : List ℕ → Option Verdict) (agree : 
 
 -- ---- two runs
 
-counts_alike : (keeps : List (List ℕ)) (problem : Problem) (rs rs' : List Record) (agree : Agree (verdict_in rs) (verdict_in rs')) → AreSame keeps (verdict_in rs) (verdict_in rs') agree problem
+counts_alike : (keeps : List (List ℕ)) (problem : Problem) (rs rs' : List Record) (agree : Agree (verdict_in rs) (verdict_in rs'))
+    → AreSame keeps (verdict_in rs) (verdict_in rs') agree problem
     → counts_of keeps problem rs ≡ record (counts_of keeps problem rs') { records = length rs }
 counts_alike keeps problem rs rs' agree same = λ i. record {
   start_units = units_of problem;
@@ -91,7 +98,8 @@ runs_reduce_alike alike workers workers' keeps problem history history' text tex
 
 module _ (may_say : List ℕ → Verdict → Type 0) where
   -- what the map of some records says the gate may say
-  said_at : (r : Record) (rs : List Record) (t : List ℕ) (v : Verdict) (b : Bool) → b ≡ bytes_eq t r.text → may_say r.text r.verdict → (verdict_in rs t ≡ Some v → may_say t v)
+  said_at : (r : Record) (rs : List Record) (t : List ℕ) (v : Verdict) (b : Bool) → b ≡ bytes_eq t r.text → may_say r.text r.verdict
+      → (verdict_in rs t ≡ Some v → may_say t v)
       → cond b (Some r.verdict) (verdict_in rs t) ≡ Some v → may_say t v
   said_at r rs t v true e said later is =
       let same_text : r.text ≡ t = sym ((bytes_eq-Decides t r.text).0 (sym e)) in
@@ -101,7 +109,9 @@ module _ (may_say : List ℕ → Verdict → Type 0) where
 
   was_said : (rs : List Record) (t : List ℕ) (v : Verdict) → All (λ r. may_say r.text r.verdict) rs → verdict_in rs t ≡ Some v → may_say t v
   was_said [] t v said is = absurd (cc is)
-  was_said (r ∷ rs) t v said is = said_at r rs t v (bytes_eq t r.text) refl (All-head (λ q. may_say q.text q.verdict) r rs said) (λ later. was_said rs t v (All-tail (λ q. may_say q.text q.verdict) r rs said) later) is
+  was_said (r ∷ rs) t v said is =
+      said_at r rs t v (bytes_eq t r.text) refl (All-head (λ q. may_say q.text q.verdict) r rs said)
+      (λ later. was_said rs t v (All-tail (λ q. may_say q.text q.verdict) r rs said) later) is
 
   by_options : (t : List ℕ) (o o' : Option Verdict) → ((v : Verdict) → o ≡ Some v → may_say t v) → ((v : Verdict) → o' ≡ Some v → may_say t v)
       → ((one other : Verdict) → may_say t one → may_say t other → one ≡ other) → IsSome o → IsSome o' → o ≡ o'

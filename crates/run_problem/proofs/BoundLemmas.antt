@@ -23,7 +23,8 @@ lower text at_yes at_no No = omega arith
 -- the commits of a history that a reducer can have from here on
 commits_within : (earlier : List Record) (plan : Plan) (history : History) → CommitsWhatIsAsked earlier plan history → answer_count history ≤ height plan
 commits_within earlier plan [] commits = omega arith
-commits_within earlier plan (Recorded text verdict ∷ history) commits = commits_within (earlier ++ record { text = text; verdict = verdict } ∷ []) plan history commits
+commits_within earlier plan (Recorded text verdict ∷ history) commits =
+    commits_within (earlier ++ record { text = text; verdict = verdict } ∷ []) plan history commits
 commits_within earlier (End result) (Committed number ∷ history) commits = absurd (cc commits.2)
 commits_within earlier (Ask text at_yes at_no) (Committed number ∷ history) commits =
     let rest = commits_within earlier (after (Ask text at_yes at_no) commits.0.verdict) history commits.3 in
@@ -57,7 +58,8 @@ module _ (V : List ℕ → Option Verdict) where
       let at_yes_records = records_after records text Yes in
       let at_no_records = records_after records text No in
       verdict_within (V text)
-      (answer_events records text Yes ++ sequential_from V at_yes_records at_yes) (answer_events records text No ++ sequential_from V at_no_records at_no) (height at_yes) (height at_no)
+      (answer_events records text Yes ++ sequential_from V at_yes_records at_yes) (answer_events records text No ++ sequential_from V at_no_records at_no)
+      (height at_yes) (height at_no)
       (answered_within records text Yes (sequential_from V at_yes_records at_yes) (height at_yes) (thread_within at_yes_records at_yes))
       (answered_within records text No (sequential_from V at_no_records at_no) (height at_no) (thread_within at_no_records at_no))
 

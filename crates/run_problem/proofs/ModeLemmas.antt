@@ -1,5 +1,6 @@
 -- What a run of a reducer says, in the words of the reduction of lines and of that of trees.
-use Rattle.std.proofs.Common.{◌≡◌, ◌≤◌, arith, ℕ, Bool, List, [], ◌∷◌, All, length, Option, IsSome, true, false, refl, sym, ap, ◌∙◌, subst, inr, Result, Ok, Err}
+use Rattle.std.proofs.Common.{◌≡◌, ◌≤◌, arith, ℕ, Bool, List, [], ◌∷◌, All, length, Option, IsSome, true}
+use Rattle.std.proofs.Common.{false, refl, sym, ap, ◌∙◌, subst, inr, Result, Ok, Err}
 use Rattle.std.proofs.lemmas.Bool.{false≢true}
 use Rattle.std.proofs.lemmas.List.{length-append}
 use Rattle.std.specs.List.{IsDistinct}
@@ -62,7 +63,8 @@ none_answers may_say run none same = record {
   distinct = subst (λ (rs : List Record). IsDistinct bytes_eq (texts_of rs)) (sym no_records) no_texts;
   said = subst (λ (rs : List Record). All (λ r. may_say r.text r.verdict) rs) (sym no_records) (All-nil _);
   asked = subst (λ (gates : List SeenGate). AreAsked (texts_of (records_of run.history)) (logs_of run.before.gates) (logs_of gates)) (sym same)
-      (subst (λ (rs : List Record). AreAsked (texts_of rs) (logs_of run.before.gates) (logs_of run.before.gates)) (sym no_records) (nothing_asked (logs_of run.before.gates)));
+      (subst (λ (rs : List Record). AreAsked (texts_of rs) (logs_of run.before.gates) (logs_of run.before.gates)) (sym no_records)
+      (nothing_asked (logs_of run.before.gates)));
 }
   where
     no_records : records_of run.history ≡ []
@@ -98,7 +100,8 @@ module _ (keeps : List (List ℕ)) where
       omega (arith, within, of_text, of_start)
 
   -- the history is one of lines
-  pub are_of : HistoriesGoByQuestions → (workers : ℕ) (start : List ℕ) (history : History) → AreOfMode workers (line_mode (lines_of start)) (AreOfStart (lines_of start)) history → AreOf workers keeps (Problem.of_lines start) history
+  pub are_of : HistoriesGoByQuestions → (workers : ℕ) (start : List ℕ) (history : History)
+      → AreOfMode workers (line_mode (lines_of start)) (AreOfStart (lines_of start)) history → AreOf workers keeps (Problem.of_lines start) history
   are_of by workers start history of =
       let records : List Record = records_of history in
       let goes : GoesByQuestions keeps (Problem.of_lines start) history = by keeps (Problem.of_lines start) tt history in
@@ -107,15 +110,20 @@ module _ (keeps : List (List ℕ)) where
         legal = goes.answers of.legal;
         readable = of.readable;
         sequential = λ alone. subst (IsPrefix history) goes.alone (of.sequential alone);
-        candidates = All-weaker (λ (r : Record). IsTextOf (line_mode (lines_of start)) (AreOfStart (lines_of start)) r.text) (λ (r : Record). IsLineCandidate (keeps_admit keeps) start r.text)
+        candidates =
+            All-weaker (λ (r : Record). IsTextOf (line_mode (lines_of start)) (AreOfStart (lines_of start)) r.text)
+            (λ (r : Record). IsLineCandidate (keeps_admit keeps) start r.text)
             (λ r one. record { lines = one.state; some = one.kept; listed = one.listed; joined = one.same }) records of.candidates;
-        short = All-weaker (λ (r : Record). IsTextOf (line_mode (lines_of start)) (AreOfStart (lines_of start)) r.text) (λ (r : Record). length r.text ≤ length start)
+        short =
+            All-weaker (λ (r : Record). IsTextOf (line_mode (lines_of start)) (AreOfStart (lines_of start)) r.text)
+            (λ (r : Record). length r.text ≤ length start)
             (λ r one. no_longer start r.text one.state one.kept one.same) records of.candidates;
         first = subst (λ (text : List ℕ). BeginsAt text records) (text-numbered_lines start) of.first;
         ends_at_no = of.ends_at_no;
       }
 
-  module _ (recursions : LinesAreRecursions) (by : HistoriesGoByQuestions) (start : List ℕ) (run : Run) (legal : IsLegal (reducer_of keeps (Problem.of_lines start)) run.history) where
+  module _ (recursions : LinesAreRecursions) (by : HistoriesGoByQuestions) (start : List ℕ) (run : Run)
+      (legal : IsLegal (reducer_of keeps (Problem.of_lines start)) run.history) where
     abbrev records : List Record
     records = records_of run.history
 
@@ -132,13 +140,16 @@ module _ (keeps : List (List ℕ)) where
     first_text verdict first = subst (λ (text : List ℕ). FirstIs text verdict records) (text-numbered_lines start) first
 
     -- the start is reduced to the text of the result
-    reduces : LinesEndMinimal → holds_all keeps start ≡ true → (result : StepResult) (counts : Counts) → counts ≡ ends.counts_of_result (length (numbered_lines start)) (length (text_of (numbered_lines start))) result (length records)
-        → ReducesIn run.workers (line_mode (lines_of start)) (AreOfStart (lines_of start)) run.history result → ReducesFrom run.workers keeps (Problem.of_lines start) run.history result.text counts
+    reduces : LinesEndMinimal → holds_all keeps start ≡ true → (result : StepResult) (counts : Counts)
+        → counts ≡ ends.counts_of_result (length (numbered_lines start)) (length (text_of (numbered_lines start))) result (length records)
+        → ReducesIn run.workers (line_mode (lines_of start)) (AreOfStart (lines_of start)) run.history result
+        → ReducesFrom run.workers keeps (Problem.of_lines start) run.history result.text counts
     reduces minimal kept result counts are_counts it =
         let V = verdict_in records in
         let defined : HasVerdicts V R.questions = subst (λ (r : Reduction (List Line)). HasVerdicts V r.questions) same_reduction it.defined in
         let interesting : R.refused ≡ false = sym (ap (λ (r : Reduction (List Line)). r.refused) same_reduction) ∙ it.interesting in
-        let text : result.text ≡ text_of R.state = ap (λ (r : StepResult). r.text) it.is_result ∙ ap (λ (r : Reduction (List Line)). text_of r.state) same_reduction in
+        let text : result.text ≡ text_of R.state =
+        ap (λ (r : StepResult). r.text) it.is_result ∙ ap (λ (r : Reduction (List Line)). text_of r.state) same_reduction in
         let well = minimal (keeps_admit keeps) V start (admits_start start kept) interesting defined in
         record {
           first = first_text Yes it.first;
@@ -156,7 +167,8 @@ module _ (keeps : List (List ℕ)) where
           is_counts = are_counts
               ∙ ap (λ (r : StepResult). ends.counts_of_result (length (numbered_lines start)) (length (text_of (numbered_lines start))) r (length records))
               (it.is_result ∙ ap (result_of (trials.recursion_of (line_mode (lines_of start)))) same_reduction)
-              ∙ ap (λ (text : List ℕ). ends.counts_of_result (length (numbered_lines start)) (length text) (result_of (trials.recursion_of (line_mode (lines_of start))) R) (length records)) (text-numbered_lines start);
+              ∙ ap (λ (text : List ℕ). ends.counts_of_result (length (numbered_lines start)) (length text)
+              (result_of (trials.recursion_of (line_mode (lines_of start))) R) (length records)) (text-numbered_lines start);
           whole = λ alone. it.whole alone ∙ goes.alone;
           committed = goes.answered legal it.committed;
         }
@@ -170,15 +182,23 @@ module _ (keeps : List (List ℕ)) where
       why.1,
       λ alone.
           let waits = why.2 alone in
-          record { waits = λ has. waits.1 (subst (λ (r : Reduction (List Line)). HasVerdicts (verdict_in records) r.questions) (sym same_reduction) has); not_no = waits.0; whole = waits.2 ∙ goes.alone },
+          record {
+            waits = λ has. waits.1 (subst (λ (r : Reduction (List Line)). HasVerdicts (verdict_in records) r.questions) (sym same_reduction) has);
+            not_no = waits.0;
+            whole = waits.2 ∙ goes.alone;
+          },
     )
     fails run_fault.Journal why = why
     fails run_fault.Memory why = why
 
     -- how the run of the start's lines ends
-    pub lines_end : LinesEndMinimal → holds_all keeps start ≡ true → (result : Result Reduced RunFault) → RunEndsIn (line_mode (lines_of start)) (AreOfStart (lines_of start)) run result → ProblemEnds keeps (Problem.of_lines start) run result
-    lines_end minimal kept (Ok reduced) came =
-        (subst (λ (text : List ℕ). ReducesFrom run.workers keeps (Problem.of_lines start) run.history text reduced.counts) (sym came.0.1) (reduces minimal kept came.0.0 reduced.counts came.0.2 came.0.3), came.1)
+    pub lines_end : LinesEndMinimal → holds_all keeps start ≡ true → (result : Result Reduced RunFault)
+        → RunEndsIn (line_mode (lines_of start)) (AreOfStart (lines_of start)) run result → ProblemEnds keeps (Problem.of_lines start) run result
+    lines_end minimal kept (Ok reduced) came = (
+      subst (λ (text : List ℕ). ReducesFrom run.workers keeps (Problem.of_lines start) run.history text reduced.counts) (sym came.0.1)
+          (reduces minimal kept came.0.0 reduced.counts came.0.2 came.0.3),
+      came.1,
+    )
     lines_end minimal kept (Err fault) came = fails fault came
 
 -- nothing was asked of a problem
@@ -213,11 +233,13 @@ module _ (run : Run) (none : run.history ≡ []) (out : run.outcome ≡ Err run_
   pub refused_of : (keeps : List (List ℕ)) (problem : Problem) → IsRunOf keeps problem run
   refused_of keeps problem = record {
     history = none_of run.workers keeps problem run.history none;
-    ends = subst (ProblemEnds keeps problem run) (sym out) (ap (λ (r : Reached). r.journal.faults) same, λ _. ap (λ (r : Reached). fault_counts_of r.gates) same);
+    ends =
+        subst (ProblemEnds keeps problem run) (sym out) (ap (λ (r : Reached). r.journal.faults) same, λ _. ap (λ (r : Reached). fault_counts_of r.gates) same);
   }
 
 -- the start is asked first, so without a record the reduction waits for its verdict
-start_known : {T : Type 0} (V : List ℕ → Option Verdict) (recursion : Recursion T) → HasVerdicts V (reduction recursion (says_yes V)).questions → IsSome (V (recursion.text recursion.start))
+start_known : {T : Type 0} (V : List ℕ → Option Verdict) (recursion : Recursion T) → HasVerdicts V (reduction recursion (says_yes V)).questions
+    → IsSome (V (recursion.text recursion.start))
 unfolding reduction
 start_known V recursion has = has.0
 
@@ -228,7 +250,8 @@ pub unfinished_without : (keeps : List (List ℕ)) (problem : Problem) → IsUnf
 unfinished_without keeps problem = record { waits = none_waits keeps problem; not_no = λ first_no. first_no; whole = sym (none_own keeps problem) }
 
 -- What a run of a reducer of trees says, in the words of the reduction of trees.
-module _ (mode : TreeMode) (laws : IsTreeMode (round_of mode) (IsEditBy mode)) (recursions : WalksAreRecursions mode (round_of mode)) (by : HistoriesGoByQuestions) (input : TreeInput) (is : IsInput input) (admitted : AdmitsStart input) (run : Run) where
+module _ (mode : TreeMode) (laws : IsTreeMode (round_of mode) (IsEditBy mode)) (recursions : WalksAreRecursions mode (round_of mode))
+    (by : HistoriesGoByQuestions) (input : TreeInput) (is : IsInput input) (admitted : AdmitsStart input) (run : Run) where
   abbrev tree_records : List Record
   tree_records = records_of run.history
 
@@ -249,31 +272,41 @@ module _ (mode : TreeMode) (laws : IsTreeMode (round_of mode) (IsEditBy mode)) (
   goes_on keeps = by keeps (Problem.of_tree mode input) is run.history
 
   -- the history is one of trees
-  are_of_tree : (keeps : List (List ℕ)) → AreOfMode run.workers trees (IsKept input) run.history → AreOf run.workers keeps (Problem.of_tree mode input) run.history
+  are_of_tree : (keeps : List (List ℕ)) → AreOfMode run.workers trees (IsKept input) run.history
+      → AreOf run.workers keeps (Problem.of_tree mode input) run.history
   are_of_tree keeps of =
       record {
         distinct = of.legal.distinct;
         legal = (goes_on keeps).answers of.legal;
         readable = of.readable;
         sequential = λ alone. subst (IsPrefix run.history) (goes_on keeps).alone (of.sequential alone);
-        candidates = All-weaker (λ (r : Record). IsTextOf trees (IsKept input) r.text) (λ (r : Record). IsCandidate input r.text) (λ r one. laws.asks input r.text is one) tree_records of.candidates;
+        candidates =
+            All-weaker (λ (r : Record). IsTextOf trees (IsKept input) r.text) (λ (r : Record). IsCandidate input r.text)
+            (λ r one. laws.asks input r.text is one) tree_records of.candidates;
         short = All-weaker (λ (r : Record). IsTextOf trees (IsKept input) r.text) (λ (r : Record). length r.text ≤ length input.start)
-            (λ r one. subst (λ (text : List ℕ). length text ≤ length input.start) (sym one.same) (laws.no_longer input one.state is one.kept)) tree_records of.candidates;
+            (λ r one. subst (λ (text : List ℕ). length text ≤ length input.start) (sym one.same) (laws.no_longer input one.state is one.kept)) tree_records
+            of.candidates;
         first = subst (λ (text : List ℕ). BeginsAt text tree_records) begins.text of.first;
         ends_at_no = of.ends_at_no;
       }
 
   -- the tree is reduced to the text of the result
-  tree_reduces : (keeps : List (List ℕ)) → IsLegal (plan_first trees) run.history → input.admits ≡ keeps_admit keeps → (result : StepResult) (counts : Counts) → counts ≡ ends.counts_of_result (trees.size trees.start) (length (trees.text trees.start)) result (length tree_records)
-      → ReducesIn run.workers trees (IsKept input) run.history result → ReducesFrom run.workers keeps (Problem.of_tree mode input) run.history result.text counts
+  tree_reduces : (keeps : List (List ℕ)) → IsLegal (plan_first trees) run.history → input.admits ≡ keeps_admit keeps → (result : StepResult) (counts : Counts)
+      → counts ≡ ends.counts_of_result (trees.size trees.start) (length (trees.text trees.start)) result (length tree_records)
+      → ReducesIn run.workers trees (IsKept input) run.history result
+      → ReducesFrom run.workers keeps (Problem.of_tree mode input) run.history result.text counts
   tree_reduces keeps legal admits result counts are_counts it =
       let V = verdict_in tree_records in
       let R = over_records keeps in
       let same = same_trees keeps in
-      let well = subst (λ (r : Reduction TreeState). EndsWell trees (IsKept input) (λ one other. IsTriedAtNo (trees.round one) other) V r.state) same (it.ends_well (laws.lawful input is) begins.listed) in
+      let well =
+      subst (λ (r : Reduction TreeState). EndsWell trees (IsKept input) (λ one other. IsTriedAtNo (trees.round one) other) V r.state) same
+      (it.ends_well (laws.lawful input is) begins.listed) in
       let end : IsEndBy (IsEditBy mode) input V R.state = laws.minimal input V R.state is well in
-      let text : result.text ≡ text_of_state input R.state = ap (λ (r : StepResult). r.text) it.is_result ∙ ap (λ (r : Reduction TreeState). text_of_state input r.state) same in
-      let candidate : IsCandidate input result.text = laws.asks input result.text is (record { state = R.state; kept = well.kept; listed = well.listed; same = text }) in
+      let text : result.text ≡ text_of_state input R.state =
+      ap (λ (r : StepResult). r.text) it.is_result ∙ ap (λ (r : Reduction TreeState). text_of_state input r.state) same in
+      let candidate : IsCandidate input result.text =
+      laws.asks input result.text is (record { state = R.state; kept = well.kept; listed = well.listed; same = text }) in
       record {
         first = subst (λ (start : List ℕ). FirstIs start Yes tree_records) begins.text it.first;
         reduced =
@@ -290,13 +323,15 @@ module _ (mode : TreeMode) (laws : IsTreeMode (round_of mode) (IsEditBy mode)) (
         is_counts = are_counts
             ∙ ap (λ (r : StepResult). ends.counts_of_result (trees.size trees.start) (length (trees.text trees.start)) r (length tree_records))
             (it.is_result ∙ ap (result_of (trials.recursion_of trees)) same)
-            ∙ ap (λ (text : List ℕ). ends.counts_of_result (trees.size trees.start) (length text) (result_of (trials.recursion_of trees) R) (length tree_records)) begins.text;
+            ∙ ap (λ (text : List ℕ). ends.counts_of_result (trees.size trees.start) (length text) (result_of (trials.recursion_of trees) R)
+            (length tree_records)) begins.text;
         whole = λ alone. it.whole alone ∙ (goes_on keeps).alone;
         committed = (goes_on keeps).answered legal it.committed;
       }
 
   -- why the tree has no reduction
-  tree_fails : (keeps : List (List ℕ)) → IsLegal (plan_first trees) run.history → (fault : RunFault) → RunFailsIn trees run fault → RunFails keeps (Problem.of_tree mode input) run fault
+  tree_fails : (keeps : List (List ℕ)) → IsLegal (plan_first trees) run.history → (fault : RunFault) → RunFailsIn trees run fault
+      → RunFails keeps (Problem.of_tree mode input) run fault
   tree_fails keeps legal run_fault.NotInteresting why = (
     record {
       first = subst (λ (start : List ℕ). FirstIs start No tree_records) begins.text why.0;
@@ -311,19 +346,28 @@ module _ (mode : TreeMode) (laws : IsTreeMode (round_of mode) (IsEditBy mode)) (
     why.1,
     λ alone.
         let waits = why.2 alone in
-        record { waits = λ has. waits.1 (subst (λ (r : Reduction TreeState). HasVerdicts (verdict_in tree_records) r.questions) (sym (same_trees keeps)) has); not_no = waits.0; whole = waits.2 ∙ (goes_on keeps).alone },
+        record {
+          waits = λ has. waits.1 (subst (λ (r : Reduction TreeState). HasVerdicts (verdict_in tree_records) r.questions) (sym (same_trees keeps)) has);
+          not_no = waits.0;
+          whole = waits.2 ∙ (goes_on keeps).alone;
+        },
   )
   tree_fails keeps legal run_fault.Journal why = why
   tree_fails keeps legal run_fault.Memory why = why
 
   -- how the run of the tree ends
-  tree_ends : (keeps : List (List ℕ)) → IsLegal (plan_first trees) run.history → input.admits ≡ keeps_admit keeps → (result : Result Reduced RunFault) → RunEndsIn trees (IsKept input) run result → ProblemEnds keeps (Problem.of_tree mode input) run result
-  tree_ends keeps legal admits (Ok reduced) came =
-      (subst (λ (text : List ℕ). ReducesFrom run.workers keeps (Problem.of_tree mode input) run.history text reduced.counts) (sym came.0.1) (tree_reduces keeps legal admits came.0.0 reduced.counts came.0.2 came.0.3), came.1)
+  tree_ends : (keeps : List (List ℕ)) → IsLegal (plan_first trees) run.history → input.admits ≡ keeps_admit keeps → (result : Result Reduced RunFault)
+      → RunEndsIn trees (IsKept input) run result → ProblemEnds keeps (Problem.of_tree mode input) run result
+  tree_ends keeps legal admits (Ok reduced) came = (
+    subst (λ (text : List ℕ). ReducesFrom run.workers keeps (Problem.of_tree mode input) run.history text reduced.counts) (sym came.0.1)
+        (tree_reduces keeps legal admits came.0.0 reduced.counts came.0.2 came.0.3),
+    came.1,
+  )
   tree_ends keeps legal admits (Err fault) came = tree_fails keeps legal fault came
 
   -- what the run of the tree comes to, with the keep texts that say what is admitted
-  pub tree_run : (keeps : List (List ℕ)) → input.admits ≡ keeps_admit keeps → (so_far : StepResult) → IsStart trees so_far → IsRunIn trees (IsKept input) so_far run → IsRunOf keeps (Problem.of_tree mode input) run
+  pub tree_run : (keeps : List (List ℕ)) → input.admits ≡ keeps_admit keeps → (so_far : StepResult) → IsStart trees so_far
+      → IsRunIn trees (IsKept input) so_far run → IsRunOf keeps (Problem.of_tree mode input) run
   tree_run keeps admits so_far start ran =
       let of = ran.history (laws.lawful input is).keeps begins.listed in
       record { history = are_of_tree keeps of; ends = tree_ends keeps of.legal admits run.outcome (ran.ends start) }

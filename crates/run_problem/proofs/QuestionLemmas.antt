@@ -1,5 +1,6 @@
 -- A reducer asks the questions of its reduction: what is said of a history by the one is what the other says.
-use Rattle.std.proofs.Common.{◌≡◌, ◌≤◌, ◌<◌, ◌+◌, ◌++◌, arith, ℕ, zero, suc, Bool, true, false, cond, List, [], ◌∷◌, length, Option, Some, None, max, refl, sym, ap, ◌∙◌, subst, append-nil, length-append}
+use Rattle.std.proofs.Common.{◌≡◌, ◌≤◌, ◌<◌, ◌+◌, ◌++◌, arith, ℕ, zero, suc, Bool, true, false, cond, List, [], ◌∷◌, length}
+use Rattle.std.proofs.Common.{Option, Some, None, max, refl, sym, ap, ◌∙◌, subst, append-nil, length-append}
 use Rattle.std.specs.List.{IsDistinct}
 use Rattle.std.specs.Str.{bytes_eq}
 use Rattle.script_gate_trait.specs.declared.gate.Verdict.{Verdict}
@@ -56,12 +57,15 @@ module _ {T : Type 0} (mode : RoundMode T) (verdict : List ℕ → Bool) where
   asked_or_passed true text y n p ry rn at_yes at_no passed = by_answer (verdict text) text y n ry rn at_yes at_no
   asked_or_passed false text y n p ry rn at_yes at_no passed = passed
 
-  in_trials : (go : T → Bool → ℕ → Plan) (go' : T → Bool → Reduction T) → ((state : T) (changed : Bool) (used : ℕ) → AsksAs (go state changed used) (go' state changed))
-      → (state : T) (trials : Trials T) (changed : Bool) (used : ℕ) → AsksAs (plan_in mode go state trials changed used) (tried_in mode verdict go' state trials changed)
+  in_trials : (go : T → Bool → ℕ → Plan) (go' : T → Bool → Reduction T)
+      → ((state : T) (changed : Bool) (used : ℕ) → AsksAs (go state changed used) (go' state changed))
+      → (state : T) (trials : Trials T) (changed : Bool) (used : ℕ)
+      → AsksAs (plan_in mode go state trials changed used) (tried_in mode verdict go' state trials changed)
   in_trials go go' each state Done changed used = each state changed used
   in_trials go go' each state (Try other at_yes at_no) changed used =
       asked_or_passed (mode.is_listed other) (mode.text other)
-      (plan_in mode go other at_yes true (capped_count (used + 1))) (plan_in mode go state at_no changed (capped_count (used + 1))) (plan_in mode go state at_no changed used)
+      (plan_in mode go other at_yes true (capped_count (used + 1))) (plan_in mode go state at_no changed (capped_count (used + 1)))
+      (plan_in mode go state at_no changed used)
       (tried_in mode verdict go' other at_yes true) (tried_in mode verdict go' state at_no changed)
       (in_trials go go' each other at_yes true (capped_count (used + 1)))
       (in_trials go go' each state at_no changed (capped_count (used + 1)))
@@ -77,7 +81,8 @@ module _ {T : Type 0} (mode : RoundMode T) (verdict : List ℕ → Bool) where
   in_rounds zero rounds used state = refl
   in_rounds (suc n) rounds used state =
       in_trials (plan_next mode (λ r u l. plan_within n mode r u l) rounds) (next_round (λ l. rounds_in mode verdict n l))
-      (λ remaining changed used'. next used' rounds remaining changed (λ r u l. plan_within n mode r u l) (λ l. rounds_in mode verdict n l) (in_rounds n (capped_count (rounds + 1)) used' remaining))
+      (λ remaining changed used'. next used' rounds remaining changed (λ r u l. plan_within n mode r u l) (λ l. rounds_in mode verdict n l)
+      (in_rounds n (capped_count (rounds + 1)) used' remaining))
       state (mode.round state) false used
 
   in_all_rounds : (used : ℕ) (state : T) → AsksAs (plan_rounds mode 0 used state) (all_rounds mode verdict state)
@@ -86,16 +91,19 @@ module _ {T : Type 0} (mode : RoundMode T) (verdict : List ℕ → Bool) where
 
   whole : AsksAs (plan_first mode) (reduction_in mode verdict)
   whole =
-      by_answer (verdict (mode.text mode.start)) (mode.text mode.start) (plan_opening mode 0 mode.start mode.opening 1) (End (step_result mode mode.start 1 0 true))
+      by_answer (verdict (mode.text mode.start)) (mode.text mode.start) (plan_opening mode 0 mode.start mode.opening 1)
+      (End (step_result mode mode.start 1 0 true))
       (tried_in mode verdict (λ state changed. all_rounds mode verdict state) mode.start mode.opening false) (ends_with mode.start true)
-      (in_trials (λ remaining changed used. plan_rounds mode 0 used remaining) (λ state changed. all_rounds mode verdict state) (λ remaining changed used. in_all_rounds used remaining) mode.start mode.opening false 1)
+      (in_trials (λ remaining changed used. plan_rounds mode 0 used remaining) (λ state changed. all_rounds mode verdict state)
+      (λ remaining changed used. in_all_rounds used remaining) mode.start mode.opening false 1)
       refl
 
   asks_questions : asked_by verdict (plan_first mode) ≡ (reduction_of mode verdict).questions
   asks_questions = whole ∙ sym (ap (λ (r : Reduction T). r.questions) (reduction-in mode verdict))
 
 -- of a problem
-problem_asks : LinesAreRecursions → WalksAreRecursions Perses visit_round → WalksAreRecursions Hdd level_round → (keeps : List (List ℕ)) (problem : Problem) → IsProblem problem
+problem_asks : LinesAreRecursions → WalksAreRecursions Perses visit_round → WalksAreRecursions Hdd level_round → (keeps : List (List ℕ)) (problem : Problem)
+    → IsProblem problem
     → (V : List ℕ → Option Verdict) → asked_by (says_yes V) (reducer_of keeps problem) ≡ questions_of keeps problem V
 problem_asks lines visits levels keeps (Problem.of_lines start) is V =
     asks_questions (line_mode (record { admits = keeps_admit keeps; start = start })) (says_yes V)
@@ -121,7 +129,8 @@ nothing_more (text ∷ texts) later is = let rest : texts ++ later ≡ texts = c
 
 -- ---- how many it asks
 
-fewer_of : (answer : Bool) (xs ys : List (List ℕ)) (most other : ℕ) → length xs ≤ most → length ys ≤ other → suc (length (cond answer xs ys)) ≤ max most other + 1
+fewer_of : (answer : Bool) (xs ys : List (List ℕ)) (most other : ℕ) → length xs ≤ most → length ys ≤ other
+    → suc (length (cond answer xs ys)) ≤ max most other + 1
 fewer_of true xs ys most other first second = omega (arith, first)
 fewer_of false xs ys most other first second = omega (arith, second)
 
@@ -144,7 +153,8 @@ record_there (suc (suc n)) (r ∷ records) some few =
     record_there (suc n) records (omega arith) fewer
 
 -- as many commits as texts
-commit_count : (earlier : List Record) (history : History) → AllMayFollow (length earlier) history → answer_count history ≡ length (committed_from earlier history)
+commit_count : (earlier : List Record) (history : History) → AllMayFollow (length earlier) history
+    → answer_count history ≡ length (committed_from earlier history)
 commit_count earlier [] may = refl
 commit_count earlier (Recorded text verdict ∷ history) may =
     let r : Record = record { text = text; verdict = verdict } in
@@ -154,7 +164,8 @@ commit_count earlier (Committed number ∷ history) may =
     ap (λ (n : ℕ). suc n) (commit_count earlier history may.1)
     ∙ ap (λ (o : Option Record). length (named_text o ++ committed_from earlier history)) (sym at.1)
 
-pub commits_are_few : (history : History) (questions : List (List ℕ)) → IsHistory history → IsPrefix (committed_texts history) questions → answer_count history ≤ length questions
+pub commits_are_few : (history : History) (questions : List (List ℕ)) → IsHistory history → IsPrefix (committed_texts history) questions
+    → answer_count history ≤ length questions
 commits_are_few history questions may first =
     let count = commit_count [] history may in
     let all = ap (λ (texts : List (List ℕ)). length texts) first.1 in
@@ -175,7 +186,8 @@ module _ (V : List ℕ → Option Verdict) where
   one_question text y n No known = ap (λ (o : Option Verdict). text ∷ cond (is_yes o) (asked_by (says_yes V) y) (asked_by (says_yes V) n)) known
 
   -- what a reducer asks is what the commits answer, and then what it asks where they lead it
-  asks_committed : (earlier : List Record) (plan : Plan) (history : History) → Extends V earlier → Extends V (records_of history) → CommitsWhatIsAsked earlier plan history
+  asks_committed : (earlier : List Record) (plan : Plan) (history : History) → Extends V earlier → Extends V (records_of history)
+      → CommitsWhatIsAsked earlier plan history
       → asked_by (says_yes V) plan ≡ committed_from earlier history ++ asked_by (says_yes V) (replay_from earlier plan history)
   asks_committed earlier plan [] known later commits = refl
   asks_committed earlier plan (Recorded text verdict ∷ history) known later commits =
@@ -191,18 +203,22 @@ module _ (V : List ℕ → Option Verdict) where
       λ i. same i ∷ rest i in
       one_question text y n r.verdict (ap V same ∙ extends_at V earlier number r commits.1 known)
       ∙ both
-      ∙ ap (λ (o : Option Record). (named_text o ++ committed_from earlier history) ++ asked_by (says_yes V) (replay_from earlier (answered o (Ask text y n)) history)) (sym commits.1)
+      ∙ ap (λ (o : Option Record). (named_text o ++ committed_from earlier history) ++ asked_by (says_yes V)
+      (replay_from earlier (answered o (Ask text y n)) history)) (sym commits.1)
 
   -- a history whose commits answer the first of what a reducer asks is one that it can have
-  is_asked : (earlier : List Record) (plan : Plan) (history : History) (later : List (List ℕ)) → Extends V earlier → Extends V (records_of history) → AllMayFollow (length earlier) history
+  is_asked : (earlier : List Record) (plan : Plan) (history : History) (later : List (List ℕ)) → Extends V earlier → Extends V (records_of history)
+      → AllMayFollow (length earlier) history
       → asked_by (says_yes V) plan ≡ committed_from earlier history ++ later → CommitsWhatIsAsked earlier plan history
   is_asked earlier plan [] later known more may asks = tt
   is_asked earlier plan (Recorded text verdict ∷ history) later known more may asks =
       let r : Record = record { text = text; verdict = verdict } in
-      is_asked (earlier ++ r ∷ []) plan history later (extends_push earlier r known more.0) more.1 (subst (λ (n : ℕ). AllMayFollow n history) (one_longer earlier r) may.1) asks
+      is_asked (earlier ++ r ∷ []) plan history later (extends_push earlier r known more.0) more.1
+      (subst (λ (n : ℕ). AllMayFollow n history) (one_longer earlier r) may.1) asks
   is_asked earlier (End result) (Committed number ∷ history) later known more may asks =
       let at : (r : Record) × (record_at number earlier ≡ Some r) = record_there number earlier may.0.names.0 may.0.names.1 in
-      let some : [] ≡ at.0.text ∷ (committed_from earlier history ++ later) = asks ∙ ap (λ (o : Option Record). (named_text o ++ committed_from earlier history) ++ later) at.1 in
+      let some : [] ≡ at.0.text ∷ (committed_from earlier history ++ later) =
+      asks ∙ ap (λ (o : Option Record). (named_text o ++ committed_from earlier history) ++ later) at.1 in
       absurd (cc some)
   is_asked earlier (Ask text y n) (Committed number ∷ history) later known more may asks =
       let at : (r : Record) × (record_at number earlier ≡ Some r) = record_there number earlier may.0.names.0 may.0.names.1 in
@@ -222,8 +238,10 @@ module _ (V : List ℕ → Option Verdict) where
   DoesSame plan = (records : List Record) → sequential_from V records plan ≡ thread_from V records (asked_by (says_yes V) plan)
 
   one_answer : (o : Option Verdict) (records : List Record) (text : List ℕ) (y n : Plan) → DoesSame y → DoesSame n
-      → by_verdict o (answer_events records text Yes ++ sequential_from V (records_after records text Yes) y) (answer_events records text No ++ sequential_from V (records_after records text No) n)
-      ≡ with_verdict o (λ verdict. answer_events records text verdict ++ thread_from V (records_after records text verdict) (cond (is_yes o) (asked_by (says_yes V) y) (asked_by (says_yes V) n)))
+      → by_verdict o (answer_events records text Yes ++ sequential_from V (records_after records text Yes) y)
+      (answer_events records text No ++ sequential_from V (records_after records text No) n)
+      ≡ with_verdict o (λ verdict. answer_events records text verdict ++ thread_from V (records_after records text verdict)
+      (cond (is_yes o) (asked_by (says_yes V) y) (asked_by (says_yes V) n)))
   one_answer None records text y n at_yes at_no = refl
   one_answer (Some Yes) records text y n at_yes at_no = ap (λ (h : History). answer_events records text Yes ++ h) (at_yes (records_after records text Yes))
   one_answer (Some No) records text y n at_yes at_no = ap (λ (h : History). answer_events records text No ++ h) (at_no (records_after records text No))
@@ -255,7 +273,8 @@ module _ (first : Plan) (history : History) (questions : List (List ℕ)) (asks 
 
   is_answered : IsLegal first history → HasEnded (replay first history) → committed_texts history ≡ questions
   is_answered legal ended =
-      sym (all_asked legal ∙ ap (λ (texts : List (List ℕ)). committed_texts history ++ texts) (ended_asks (says_yes V) (replay first history) ended) ∙ append-nil (committed_texts history))
+      sym (all_asked legal ∙ ap (λ (texts : List (List ℕ)). committed_texts history ++ texts) (ended_asks (says_yes V) (replay first history) ended)
+      ∙ append-nil (committed_texts history))
 
   has_ended : IsLegal first history → committed_texts history ≡ questions → HasEnded (replay first history)
   has_ended legal all = asks_ended (says_yes V) (replay first history) (nothing_more (committed_texts history) left_asks (sym (all_asked legal) ∙ sym all))

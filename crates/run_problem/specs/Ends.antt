@@ -59,7 +59,9 @@ pub record IsRefused (workers : ℕ) (keeps : List (List ℕ)) (problem : Proble
   pub whole : workers ≡ 1 → IsWhole keeps problem history
   pub committed : IsAnswered keeps problem history
 
--- Why a problem has no reduction: a gate said no to its start; or a call failed of the gate of the worker that is named, and with one worker the reduction wasn't finished; or a call of the journal failed; or out of memory. After a no, no call failed; and with one worker no call failed but the one that is the cause.
+-- Why a problem has no reduction: a gate said no to its start; or a call failed of the gate of the worker that is
+-- named, and with one worker the reduction wasn't finished; or a call of the journal failed; or out of memory.
+-- After a no, no call failed; and with one worker no call failed but the one that is the cause.
 abbrev pub RunFails : List (List ℕ) → Problem → Run → RunFault → Type 0
 RunFails keeps problem run NotInteresting = IsRefused run.workers keeps problem run.history × NoneFailed run.before run.after
 RunFails keeps problem run (Script worker) =

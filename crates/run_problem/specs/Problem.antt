@@ -98,7 +98,8 @@ reduced_units keeps problem V = (recursion_of keeps problem).size (reduction_of 
 abbrev pub rounds_of : List (List ℕ) → Problem → (List ℕ → Option Verdict) → ℕ
 rounds_of keeps problem V = (reduction_of keeps problem V).rounds
 
--- what the report says: units and bytes of the start and of the result, the rounds, the answers and the records; counts of 64 bits, which stay at their greatest value
+-- what the report says: units and bytes of the start and of the result, the rounds, the
+-- answers and the records; counts of 64 bits, which stay at their greatest value
 abbrev pub counts_of : List (List ℕ) → Problem → List Record → Counts
 counts_of keeps problem records = record {
   start_units = units_of problem;
@@ -114,7 +115,8 @@ counts_of keeps problem records = record {
 abbrev pub EndsMinimally : List (List ℕ) → Problem → (List ℕ → Option Verdict) → Type 0
 EndsMinimally keeps problem V = IsMinimal (IsEditOf problem) (IsListedOf keeps problem) (recursion_of keeps problem).text V (reduction_of keeps problem V).state
 
--- The text is what is reduced to over a map of verdicts. The map has a verdict for each text that the reduction asks; the start is interesting, and so is the text, in which each keep text occurs and which may be asked; and it is minimal.
+-- The text is what is reduced to over a map of verdicts. The map has a verdict for each text that the reduction asks; the start
+-- is interesting, and so is the text, in which each keep text occurs and which may be asked; and it is minimal.
 pub record IsReductionOf (keeps : List (List ℕ)) (V : List ℕ → Option Verdict) (problem : Problem) (text : List ℕ) : Type 0 where
   pub is_problem : IsProblem problem
   pub defined : HasVerdicts V (questions_of keeps problem V)

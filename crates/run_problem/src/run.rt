@@ -126,7 +126,8 @@ fn walk_result<
     ensures as_many { length workers.new ≡ length workers.old }
     ensures sound { IsSound G.may_say (run_of G.log G.faults J.put_so_far J.faults workers.old workers.new journal result) }
     ensures in_mode { (input : TreeInput) → ⟦<Rounds<TreeRound<'p, KeepTexts<'a>, W>> as Step>⟧.first reducer.entry ≡ plan_first (walk_mode W.round input)
-        → IsRunIn (walk_mode W.round input) (IsKept input) (⟦<Rounds<TreeRound<'p, KeepTexts<'a>, W>> as ReducerStep>⟧.so_far reducer.entry) (run_of G.log G.faults J.put_so_far J.faults workers.old workers.new journal result) }
+        → IsRunIn (walk_mode W.round input) (IsKept input) (⟦<Rounds<TreeRound<'p, KeepTexts<'a>, W>> as ReducerStep>⟧.so_far reducer.entry)
+        (run_of G.log G.faults J.put_so_far J.faults workers.old workers.new journal result) }
 {
     run_to_text(rt, alloc, reducer, workers, journal)
 }
@@ -147,7 +148,8 @@ fn tree_result<'a, G: Gate + Send, J: Sink + Drop + Send, T: Threads + Wait + Sy
     ensures as_many { length workers.new ≡ length workers.old }
     ensures sound { IsSound G.may_say (run_of G.log G.faults J.put_so_far J.faults workers.old workers.new journal result) }
     ensures problem { (keeps : List (List ℕ)) → (⟦<TreeParts<KeepTexts<'a>> as HasInput>⟧.input parts.now).admits ≡ keeps_admit keeps
-        → IsRunOf keeps (Problem.of_tree mode (⟦<TreeParts<KeepTexts<'a>> as HasInput>⟧.input parts.now)) (run_of G.log G.faults J.put_so_far J.faults workers.old workers.new journal result) }
+        → IsRunOf keeps (Problem.of_tree mode (⟦<TreeParts<KeepTexts<'a>> as HasInput>⟧.input parts.now))
+        (run_of G.log G.faults J.put_so_far J.faults workers.old workers.new journal result) }
 {
     parts.is_input();
     histories_go_by_questions();
@@ -192,7 +194,8 @@ pub fn run_problem<G: Gate + Send, J: Sink + Drop + Send, T: Threads + Wait + Sy
     ensures idle { AreIdle workers.new }
     ensures as_many { length workers.new ≡ length workers.old }
     ensures sound { IsSound G.may_say (run_of G.log G.faults J.put_so_far J.faults workers.old workers.new journal result) }
-    ensures problem { (one : Problem) → IsReadAs guard.entry problem one → IsRunOf guard.entry one (run_of G.log G.faults J.put_so_far J.faults workers.old workers.new journal result) }
+    ensures problem { (one : Problem) → IsReadAs guard.entry problem one
+        → IsRunOf guard.entry one (run_of G.log G.faults J.put_so_far J.faults workers.old workers.new journal result) }
 {
     match problem {
         ReadProblem::Lines(start) => lines_result(rt, alloc, &start, &guard, workers, journal),

@@ -7,7 +7,8 @@ use Rattle.normal_form.specs.declared.normal.Sym.{Sym}
 use Rattle.normal_form.specs.Form.{RuleForm, NormalForm}
 use Rattle.syntax_tree.specs.declared.node.Node.{Node}
 use Rattle.syntax_tree.specs.Trees.{PlainTree, PlainTrees, HasTokensFrom, HaveTokensFrom, count, renumbered, renumbered_all, size, size_all, weight}
-use Rattle.syntax_tree.specs.Valid.{IsValid, AreValid, EachIsValid, of_regular, of_absent, of_present, of_star, of_plus, of_no_slots, of_slot, of_none, of_next, slots_of, slots_of_form}
+use Rattle.syntax_tree.specs.Valid.{IsValid, AreValid, EachIsValid, of_regular, of_absent, of_present, of_star, of_plus}
+use Rattle.syntax_tree.specs.Valid.{of_no_slots, of_slot, of_none, of_next, slots_of, slots_of_form}
 use Rattle.syntax_tree.specs.Nodes.{AreNodesOf, first_tree, first_trees, later_trees, nodes_of, nodes_of_all, trees_of, whole_of}
 
 -- trees, and then others
@@ -40,10 +41,13 @@ module _ (N : NormalForm) where
       in_slots r a ts alt (slots_are r a ts (RuleForm.regular alts) rule ∙ ap (λ (o : Option (List Sym)). option_map_or (λ alt. alt) o []) at) valid
   children_valid s n r a ts (of_absent s' n' r' x fits rule) = in_slots r 0 PlainTrees.none [] (slots_are r 0 PlainTrees.none (RuleForm.opt x) rule) of_no_slots
   children_valid s n r a ts (of_present s' n' r' t x fits rule valid) =
-      in_slots r 0 (PlainTrees.next t PlainTrees.none) (x ∷ []) (slots_are r 0 (PlainTrees.next t PlainTrees.none) (RuleForm.opt x) rule) (of_slot x [] t PlainTrees.none valid of_no_slots)
-  children_valid s n r a ts (of_star s' n' r' ts' x fits rule each) = in_slots r 0 ts (replicate (count ts) x) (slots_are r 0 ts (RuleForm.star x) rule) (each_are x ts each)
+      in_slots r 0 (PlainTrees.next t PlainTrees.none) (x ∷ []) (slots_are r 0 (PlainTrees.next t PlainTrees.none) (RuleForm.opt x) rule)
+      (of_slot x [] t PlainTrees.none valid of_no_slots)
+  children_valid s n r a ts (of_star s' n' r' ts' x fits rule each) =
+      in_slots r 0 ts (replicate (count ts) x) (slots_are r 0 ts (RuleForm.star x) rule) (each_are x ts each)
   children_valid s n r a ts (of_plus s' n' r' t ts' x fits rule each) =
-      in_slots r 0 (PlainTrees.next t ts') (replicate (count (PlainTrees.next t ts')) x) (slots_are r 0 (PlainTrees.next t ts') (RuleForm.plus x) rule) (each_are x (PlainTrees.next t ts') each)
+      in_slots r 0 (PlainTrees.next t ts') (replicate (count (PlainTrees.next t ts')) x) (slots_are r 0 (PlainTrees.next t ts') (RuleForm.plus x) rule)
+      (each_are x (PlainTrees.next t ts') each)
 
   pub no_slots : (t : PlainTree) (ts : PlainTrees) → AreValid N [] (PlainTrees.next t ts) → ⊥
   no_slots t ts valid = elim valid [ ]
@@ -56,21 +60,26 @@ module _ (N : NormalForm) where
         IsValid N s t → renumbered n t ≡ t → HasTokensFrom f t → trees_of n (nodes_of N s parent f t ++ ys) ≡ PlainTrees.next t (trees_of (n + size t) ys)
     decoded s parent f n (PlainTree.leaf m k i) ys valid numbered tokens =
         let same : n ≡ m = cc in
-        ap (λ (j : ℕ). PlainTrees.next (PlainTree.leaf n k j) (trees_of (n + 1) ys)) (sym tokens) ∙ ap (λ (j : ℕ). PlainTrees.next (PlainTree.leaf j k i) (trees_of (n + 1) ys)) same
+        ap (λ (j : ℕ). PlainTrees.next (PlainTree.leaf n k j) (trees_of (n + 1) ys)) (sym tokens)
+        ∙ ap (λ (j : ℕ). PlainTrees.next (PlainTree.leaf j k i) (trees_of (n + 1) ys)) same
     decoded s parent f n (PlainTree.node m r a ts) ys valid numbered tokens =
         let same : n ≡ m = cc in
         let below : renumbered_all (n + 1) ts ≡ ts = cc in
         let rest = decoded_all (slots_of N r a ts) (Some m) f (n + 1) ts ys (children_valid s m r a ts valid) below tokens in
-        let first : first_trees (count ts) (trees_of (n + 1) (nodes_of_all N (slots_of N r a ts) (Some m) f ts ++ ys)) ≡ ts = ap (first_trees (count ts)) rest ∙ first_joined ts (trees_of (n + 1 + size_all ts) ys) in
-        let later : later_trees (count ts) (trees_of (n + 1) (nodes_of_all N (slots_of N r a ts) (Some m) f ts ++ ys)) ≡ trees_of (n + 1 + size_all ts) ys = ap (later_trees (count ts)) rest ∙ later_joined ts (trees_of (n + 1 + size_all ts) ys) in
+        let first : first_trees (count ts) (trees_of (n + 1) (nodes_of_all N (slots_of N r a ts) (Some m) f ts ++ ys)) ≡ ts =
+        ap (first_trees (count ts)) rest ∙ first_joined ts (trees_of (n + 1 + size_all ts) ys) in
+        let later : later_trees (count ts) (trees_of (n + 1) (nodes_of_all N (slots_of N r a ts) (Some m) f ts ++ ys)) ≡ trees_of (n + 1 + size_all ts) ys =
+        ap (later_trees (count ts)) rest ∙ later_joined ts (trees_of (n + 1 + size_all ts) ys) in
         let end : n + 1 + size_all ts ≡ n + size (PlainTree.node m r a ts) = omega arith in
-        ap (λ (us : PlainTrees). PlainTrees.next (PlainTree.node n r a us) (later_trees (count ts) (trees_of (n + 1) (nodes_of_all N (slots_of N r a ts) (Some m) f ts ++ ys)))) first
+        ap (λ (us : PlainTrees). PlainTrees.next (PlainTree.node n r a us)
+        (later_trees (count ts) (trees_of (n + 1) (nodes_of_all N (slots_of N r a ts) (Some m) f ts ++ ys)))) first
         ∙ ap (λ (us : PlainTrees). PlainTrees.next (PlainTree.node n r a ts) us) later
         ∙ ap (λ (k : ℕ). PlainTrees.next (PlainTree.node k r a ts) (trees_of (n + 1 + size_all ts) ys)) same
         ∙ ap (λ (k : ℕ). PlainTrees.next (PlainTree.node m r a ts) (trees_of k ys)) end
 
     decoded_all : (ss : List Sym) (parent : Option ℕ) (f n : ℕ) (ts : PlainTrees) (ys : List Node) →
-        AreValid N ss ts → renumbered_all n ts ≡ ts → HaveTokensFrom f ts → trees_of n (nodes_of_all N ss parent f ts ++ ys) ≡ joined ts (trees_of (n + size_all ts) ys)
+        AreValid N ss ts → renumbered_all n ts ≡ ts → HaveTokensFrom f ts
+        → trees_of n (nodes_of_all N ss parent f ts ++ ys) ≡ joined ts (trees_of (n + size_all ts) ys)
     decoded_all ss parent f n PlainTrees.none ys valid numbered tokens = ap (λ (k : ℕ). trees_of k ys) (let e : n ≡ n + 0 = omega arith in e)
     decoded_all [] parent f n (PlainTrees.next t ts') ys valid numbered tokens = absurd (no_slots t ts' valid)
     decoded_all (s ∷ ss') parent f n (PlainTrees.next t ts') ys valid numbered tokens =

@@ -37,14 +37,20 @@ module _ (v w : PlainTree) where
     -- where numbers rise, a tree changes at one node alone
     pub exchanged : (low high q : ℕ) (t : PlainTree) → IsWithin low high t → subtree q t ≡ Some v → IsExchanged v w t (with_subtree q w t)
     exchanged low high q (PlainTree.leaf n k i) within e = elim (cases_Bool (nat_eq n q)) [
-      | inl is ↦ root_by (PlainTree.leaf n k i) (with_subtree q w (PlainTree.leaf n k i)) (same_Some (PlainTree.leaf n k i) v (sym (cond-true (nat_eq n q) (Some (PlainTree.leaf n k i)) None is) ∙ e)) (cond-true (nat_eq n q) w (PlainTree.leaf n k i) is)
+      | inl is ↦ root_by (PlainTree.leaf n k i) (with_subtree q w (PlainTree.leaf n k i))
+          (same_Some (PlainTree.leaf n k i) v (sym (cond-true (nat_eq n q) (Some (PlainTree.leaf n k i)) None is) ∙ e))
+          (cond-true (nat_eq n q) w (PlainTree.leaf n k i) is)
       | inr is ↦ absurd (none-some v (sym (cond-false (nat_eq n q) (Some (PlainTree.leaf n k i)) None is) ∙ e))
     ]
     exchanged low high q (PlainTree.node n r a ts) within e = elim (cases_Bool (nat_eq n q)) [
-      | inl is ↦ root_by (PlainTree.node n r a ts) (with_subtree q w (PlainTree.node n r a ts)) (same_Some (PlainTree.node n r a ts) v (sym (cond-true (nat_eq n q) (Some (PlainTree.node n r a ts)) (subtree_among q ts) is) ∙ e)) (cond-true (nat_eq n q) w (PlainTree.node n r a (with_subtree_among q w ts)) is)
+      | inl is ↦ root_by (PlainTree.node n r a ts) (with_subtree q w (PlainTree.node n r a ts))
+          (same_Some (PlainTree.node n r a ts) v (sym (cond-true (nat_eq n q) (Some (PlainTree.node n r a ts)) (subtree_among q ts) is) ∙ e))
+          (cond-true (nat_eq n q) w (PlainTree.node n r a (with_subtree_among q w ts)) is)
       | inr is ↦
-          exchanged_by (PlainTree.node n r a ts) (with_subtree q w (PlainTree.node n r a ts)) (PlainTree.node n r a (with_subtree_among q w ts)) (cond-false (nat_eq n q) w (PlainTree.node n r a (with_subtree_among q w ts)) is)
-          (at_child n r a ts (with_subtree_among q w ts) (exchanged_among (n + 1) high q ts within.1 (sym (cond-false (nat_eq n q) (Some (PlainTree.node n r a ts)) (subtree_among q ts) is) ∙ e)))
+          exchanged_by (PlainTree.node n r a ts) (with_subtree q w (PlainTree.node n r a ts)) (PlainTree.node n r a (with_subtree_among q w ts))
+          (cond-false (nat_eq n q) w (PlainTree.node n r a (with_subtree_among q w ts)) is)
+          (at_child n r a ts (with_subtree_among q w ts)
+          (exchanged_among (n + 1) high q ts within.1 (sym (cond-false (nat_eq n q) (Some (PlainTree.node n r a ts)) (subtree_among q ts) is) ∙ e)))
     ]
 
     exchanged_among : (low high q : ℕ) (ts : PlainTrees) → AreWithin low high ts → subtree_among q ts ≡ Some v → AreExchanged v w ts (with_subtree_among q w ts)
@@ -53,12 +59,14 @@ module _ (v w : PlainTree) where
       | inl before ↦
           let lack = all_outside within.0 high q ts within.2 (inl before) in
           let first : subtree q t ≡ Some v = sym (or_none (subtree q t)) ∙ sym (ap (λ o. option_or (subtree q t) o) (lack_subtree q ts lack)) ∙ e in
-          all_exchanged_by (PlainTrees.next t ts) (with_subtree_among q w (PlainTrees.next t ts)) (PlainTrees.next (with_subtree q w t) ts) (ap (λ us. PlainTrees.next (with_subtree q w t) us) (lack_with q w ts lack))
+          all_exchanged_by (PlainTrees.next t ts) (with_subtree_among q w (PlainTrees.next t ts)) (PlainTrees.next (with_subtree q w t) ts)
+          (ap (λ us. PlainTrees.next (with_subtree q w t) us) (lack_with q w ts lack))
           (at_first t (with_subtree q w t) ts (exchanged low within.0 q t within.1 first))
       | inr after ↦
           let lack = outside low within.0 q t within.1 (inr after) in
           let later : subtree_among q ts ≡ Some v = sym (ap (λ o. option_or o (subtree_among q ts)) (lacks_subtree q t lack)) ∙ e in
-          all_exchanged_by (PlainTrees.next t ts) (with_subtree_among q w (PlainTrees.next t ts)) (PlainTrees.next t (with_subtree_among q w ts)) (ap (λ u. PlainTrees.next u (with_subtree_among q w ts)) (lacks_with q w t lack))
+          all_exchanged_by (PlainTrees.next t ts) (with_subtree_among q w (PlainTrees.next t ts)) (PlainTrees.next t (with_subtree_among q w ts))
+          (ap (λ u. PlainTrees.next u (with_subtree_among q w ts)) (lacks_with q w t lack))
           (at_later t ts (with_subtree_among q w ts) (exchanged_among within.0 high q ts within.2 later))
     ]
 
@@ -94,7 +102,8 @@ module _ (v w : PlainTree) where
 
     leaves_are_all : (ts us : PlainTrees) → AreExchanged v w ts us → Differ (leaves v) (leaves w) (of_leaves_all (λ k i. i) ts) (of_leaves_all (λ k i. i) us)
     leaves_are_all ts us (at_first t u ts' d) = more_after (leaves v) (leaves w) (leaves t) (leaves u) (of_leaves_all (λ k i. i) ts') (leaves_are t u d)
-    leaves_are_all ts us (at_later t ts' us' d) = more_before (leaves v) (leaves w) (of_leaves_all (λ k i. i) ts') (of_leaves_all (λ k i. i) us') (leaves t) (leaves_are_all ts' us' d)
+    leaves_are_all ts us (at_later t ts' us' d) =
+        more_before (leaves v) (leaves w) (of_leaves_all (λ k i. i) ts') (of_leaves_all (λ k i. i) us') (leaves t) (leaves_are_all ts' us' d)
 
   module _ (left : IsRemainderOf v w) where
     mutual

@@ -17,13 +17,16 @@ mutual
     | inr is ↦ absurd (none-some u (sym (cond-false (nat_eq n q) (Some (PlainTree.leaf n k i)) None is) ∙ e))
   ]
   deeper low high q p (PlainTree.node n r a ts) u v w e f = elim (cases_Bool (nat_eq n q)) [
-    | inl is ↦ ap (subtree p) (same_Some (PlainTree.node n r a ts) u (sym (cond-true (nat_eq n q) (Some (PlainTree.node n r a ts)) (subtree_among q ts) is) ∙ e)) ∙ f
+    | inl is ↦ ap (subtree p) (same_Some (PlainTree.node n r a ts) u
+        (sym (cond-true (nat_eq n q) (Some (PlainTree.node n r a ts)) (subtree_among q ts) is) ∙ e)) ∙ f
     | inr is ↦
         let it = deeper_among (n + 1) high q p ts u v w.1 (sym (cond-false (nat_eq n q) (Some (PlainTree.node n r a ts)) (subtree_among q ts) is) ∙ e) f in
-        cond-false (nat_eq n p) (Some (PlainTree.node n r a ts)) (subtree_among p ts) (ne_eqb n p (omega (arith, (found_among (n + 1) high p ts v w.1 it).above))) ∙ it
+        cond-false (nat_eq n p) (Some (PlainTree.node n r a ts)) (subtree_among p ts)
+        (ne_eqb n p (omega (arith, (found_among (n + 1) high p ts v w.1 it).above))) ∙ it
   ]
 
-  pub deeper_among : (low high q p : ℕ) (ts : PlainTrees) (u v : PlainTree) → AreWithin low high ts → subtree_among q ts ≡ Some u → subtree p u ≡ Some v → subtree_among p ts ≡ Some v
+  pub deeper_among : (low high q p : ℕ) (ts : PlainTrees) (u v : PlainTree) → AreWithin low high ts → subtree_among q ts ≡ Some u → subtree p u ≡ Some v
+      → subtree_among p ts ≡ Some v
   deeper_among low high q p PlainTrees.none u v w e f = absurd (none-some u e)
   deeper_among low high q p (PlainTrees.next t ts) u v w e f = elim (or_some (subtree q t) (subtree_among q ts) u e) [
     | inl first ↦ ap (λ o. option_or o (subtree_among p ts)) (deeper low w.0 q p t u v w.1 first f)
@@ -38,13 +41,15 @@ mutual
   is_found low high t u w (itself t') = root_found u
   is_found low high t u w (below u' n r a ts d) =
       let it = some_found (n + 1) high ts u w.1 d in
-      cond-false (nat_eq n (number_of u)) (Some (PlainTree.node n r a ts)) (subtree_among (number_of u) ts) (ne_eqb n (number_of u) (omega (arith, (found_among (n + 1) high (number_of u) ts u w.1 it).above))) ∙ it
+      cond-false (nat_eq n (number_of u)) (Some (PlainTree.node n r a ts)) (subtree_among (number_of u) ts)
+      (ne_eqb n (number_of u) (omega (arith, (found_among (n + 1) high (number_of u) ts u w.1 it).above))) ∙ it
 
   pub some_found : (low high : ℕ) (ts : PlainTrees) (u : PlainTree) → AreWithin low high ts → IsInSome u ts → subtree_among (number_of u) ts ≡ Some u
   some_found low high ts u w (in_first u' t ts' d) = ap (λ o. option_or o (subtree_among (number_of u) ts')) (is_found low w.0 t u w.1 d)
   some_found low high ts u w (in_later u' t ts' d) =
       let it = some_found w.0 high ts' u w.2 d in
-      ap (λ o. option_or o (subtree_among (number_of u) ts')) (lacks_subtree (number_of u) t (outside low w.0 (number_of u) t w.1 (inr (found_among w.0 high (number_of u) ts' u w.2 it).above))) ∙ it
+      ap (λ o. option_or o (subtree_among (number_of u) ts'))
+      (lacks_subtree (number_of u) t (outside low w.0 (number_of u) t w.1 (inr (found_among w.0 high (number_of u) ts' u w.2 it).above))) ∙ it
 
 in_itself : (t u : PlainTree) → t ≡ u → IsIn u t
 in_itself t u e = let P : PlainTree → Type 0 = λ v. IsIn v t in subst P e (itself t)
@@ -57,7 +62,8 @@ mutual
     | inr is ↦ absurd (none-some u (sym (cond-false (nat_eq n q) (Some (PlainTree.leaf n k i)) None is) ∙ e))
   ]
   is_in q (PlainTree.node n r a ts) u e = elim (cases_Bool (nat_eq n q)) [
-    | inl is ↦ in_itself (PlainTree.node n r a ts) u (same_Some (PlainTree.node n r a ts) u (sym (cond-true (nat_eq n q) (Some (PlainTree.node n r a ts)) (subtree_among q ts) is) ∙ e))
+    | inl is ↦ in_itself (PlainTree.node n r a ts) u
+        (same_Some (PlainTree.node n r a ts) u (sym (cond-true (nat_eq n q) (Some (PlainTree.node n r a ts)) (subtree_among q ts) is) ∙ e))
     | inr is ↦ below u n r a ts (in_some q ts u (sym (cond-false (nat_eq n q) (Some (PlainTree.node n r a ts)) (subtree_among q ts) is) ∙ e))
   ]
 

@@ -6,7 +6,8 @@ use Rattle.std.proofs.lemmas.List.Elements.{filter_map-append}
 use Rattle.std.proofs.lemmas.Option.{none-some}
 use Rattle.syntax_tree.specs.Trees.{PlainTree, PlainTrees, HasTokensFrom, HaveTokensFrom, kinds_of, leaves, of_leaves_all, weight, weight_all}
 use Rattle.syntax_tree.specs.inner.Trees.{kinds_of_all}
-use Rattle.syntax_tree.specs.Left.{IsRemainderOf, AreRemaindersOf, IsRemainderOfSome, leaf_left, node_left, below_left, none_left, kept, left_out, of_first, of_later}
+use Rattle.syntax_tree.specs.Left.{IsRemainderOf, AreRemaindersOf, IsRemainderOfSome, leaf_left, node_left}
+use Rattle.syntax_tree.specs.Left.{below_left, none_left, kept, left_out, of_first, of_later}
 use Rattle.syntax_tree.specs.LeftLaws.{LeavesKeepKinds}
 
 -- From the position f on the kinds are these.

@@ -3,7 +3,8 @@ use Rattle.std.proofs.Common.{◌≡◌, ◌⊎◌, inl, inr, ℕ, ◌+◌, ◌�
 use Rattle.std.specs.List.Sorted.{IsStrictlyIncreasing}
 use Rattle.syntax_tree.specs.Trees.{PlainTree, PlainTrees, IsIn, IsInSome, below, in_first, in_later, of_leaves, of_leaves_all, weight, weight_all}
 use Rattle.syntax_tree.specs.Numbered.{numbers, numbers_all}
-use Rattle.syntax_tree.specs.Left.{IsRemainderOf, AreRemaindersOf, IsRemainderOfSome, IsSublist, leaf_left, node_left, below_left, none_left, kept, left_out, of_first, of_later, of_nothing, with_first, without_first, selected_trees}
+use Rattle.syntax_tree.specs.Left.{IsRemainderOf, AreRemaindersOf, IsRemainderOfSome, IsSublist, leaf_left, node_left, below_left, none_left}
+use Rattle.syntax_tree.specs.Left.{kept, left_out, of_first, of_later, of_nothing, with_first, without_first, selected_trees}
 use Rattle.syntax_tree.specs.LeftLaws.{LeftIsPart, LeftIsReflexive, LeftIsTransitive}
 use Rattle.syntax_tree.proofs.Within.{RisesFrom, increasing_rises, rises_increasing, rises_weaker}
 
@@ -19,11 +20,13 @@ mutual
 pub reflexive : LeftIsReflexive
 reflexive t = left_itself t
 
-node_in : (n r a : ℕ) (ts : PlainTrees) (u : PlainTree) → IsRemainderOf (PlainTree.node n r a ts) u → ((us : PlainTrees) × (u ≡ PlainTree.node n r a us) × AreRemaindersOf ts us) ⊎ IsRemainderOfSome ts u
+node_in : (n r a : ℕ) (ts : PlainTrees) (u : PlainTree) → IsRemainderOf (PlainTree.node n r a ts) u
+    → ((us : PlainTrees) × (u ≡ PlainTree.node n r a us) × AreRemaindersOf ts us) ⊎ IsRemainderOfSome ts u
 node_in n r a ts u (node_left n' r' a' ts' us d) = inl (us, refl, d)
 node_in n r a ts u (below_left n' r' a' ts' u' d) = inr d
 
-next_in : (t : PlainTree) (ts us : PlainTrees) → AreRemaindersOf (PlainTrees.next t ts) us → ((u : PlainTree) × (vs : PlainTrees) × (us ≡ PlainTrees.next u vs) × IsRemainderOf t u × AreRemaindersOf ts vs) ⊎ AreRemaindersOf ts us
+next_in : (t : PlainTree) (ts us : PlainTrees) → AreRemaindersOf (PlainTrees.next t ts) us
+    → ((u : PlainTree) × (vs : PlainTrees) × (us ≡ PlainTrees.next u vs) × IsRemainderOf t u × AreRemaindersOf ts vs) ⊎ AreRemaindersOf ts us
 next_in t ts us (kept t' u ts' vs d e) = inl (u, vs, refl, d, e)
 next_in t ts us (left_out t' ts' us' e) = inr e
 
@@ -49,7 +52,8 @@ mutual
   left_all_twice : (ts us vs : PlainTrees) → AreRemaindersOf ts us → AreRemaindersOf us vs → AreRemaindersOf ts vs
   left_all_twice ts us vs none_left e = e
   left_all_twice ts us vs (kept t u ts' us' d more) e = elim (next_in u us' vs e) [
-    | inl it ↦ all_same (PlainTrees.next t ts') vs (PlainTrees.next it.0 it.1) it.2 (kept t it.0 ts' it.1 (left_twice t u it.0 d it.3) (left_all_twice ts' us' it.1 more it.4))
+    | inl it ↦ all_same (PlainTrees.next t ts') vs (PlainTrees.next it.0 it.1) it.2
+        (kept t it.0 ts' it.1 (left_twice t u it.0 d it.3) (left_all_twice ts' us' it.1 more it.4))
     | inr out ↦ left_out t ts' vs (left_all_twice ts' us' vs more out)
   ]
   left_all_twice ts us vs (left_out t ts' us' more) e = left_out t ts' vs (left_all_twice ts' us vs more e)
@@ -106,7 +110,8 @@ mutual
 
   numbers_part_all : (ts us : PlainTrees) → AreRemaindersOf ts us → IsSublist (numbers_all us) (numbers_all ts)
   numbers_part_all ts us none_left = of_nothing
-  numbers_part_all ts us (kept t u ts' us' d more) = sublist_append (numbers u) (numbers t) (numbers_all us') (numbers_all ts') (numbers_part t u d) (numbers_part_all ts' us' more)
+  numbers_part_all ts us (kept t u ts' us' d more) =
+      sublist_append (numbers u) (numbers t) (numbers_all us') (numbers_all ts') (numbers_part t u d) (numbers_part_all ts' us' more)
   numbers_part_all ts us (left_out t ts' us' more) = sublist_before (numbers_all us) (numbers t) (numbers_all ts') (numbers_part_all ts' us more)
 
   numbers_part_some : (ts : PlainTrees) (u : PlainTree) → IsRemainderOfSome ts u → IsSublist (numbers u) (numbers_all ts)
@@ -122,7 +127,8 @@ module _ (f : ℕ → ℕ → ℕ) where
 
     leaves_part_all : (ts us : PlainTrees) → AreRemaindersOf ts us → IsSublist (of_leaves_all f us) (of_leaves_all f ts)
     leaves_part_all ts us none_left = of_nothing
-    leaves_part_all ts us (kept t u ts' us' d more) = sublist_append (of_leaves f u) (of_leaves f t) (of_leaves_all f us') (of_leaves_all f ts') (leaves_part t u d) (leaves_part_all ts' us' more)
+    leaves_part_all ts us (kept t u ts' us' d more) =
+        sublist_append (of_leaves f u) (of_leaves f t) (of_leaves_all f us') (of_leaves_all f ts') (leaves_part t u d) (leaves_part_all ts' us' more)
     leaves_part_all ts us (left_out t ts' us' more) = sublist_before (of_leaves_all f us) (of_leaves f t) (of_leaves_all f ts') (leaves_part_all ts' us more)
 
     leaves_part_some : (ts : PlainTrees) (u : PlainTree) → IsRemainderOfSome ts u → IsSublist (of_leaves f u) (of_leaves_all f ts)

@@ -1,5 +1,6 @@
 -- What other crates' proofs cite of this crate's.
-pub use Rattle.syntax_tree.proofs.Within.{or_some, or_none, IsWithin, AreWithin, bounds, outside, all_outside, lacks_subtree, lacks_with, lack_with, none_lacks, found, found_among, within_from, rise_from}
+pub use Rattle.syntax_tree.proofs.Within.{or_some, or_none, IsWithin, AreWithin, bounds, outside, all_outside, lacks_subtree}
+pub use Rattle.syntax_tree.proofs.Within.{lacks_with, lack_with, none_lacks, found, found_among, within_from, rise_from}
 pub use Rattle.syntax_tree.proofs.LeftTrees.{reflexive, transitive, part, selected_left}
 pub use Rattle.syntax_tree.proofs.Exchanged.{change, are_left}
 pub use Rattle.syntax_tree.proofs.InSlots.{root_found, root_with, have_slots, fit}

@@ -71,5 +71,6 @@ below_level (PlainTree.node n r a ts) u i = some_at_depth ts u i
 pub levels : LevelsAreBelow
 levels t u = (
   λ c. let it = some_of (λ d. at_depth (suc d) t) u 0 (depth t) c in level_below t u it.0 it.1,
-  λ i. let it = below_level t u i in let high : it.0 < depth t = it.1 in one_of (λ d. at_depth (suc d) t) u 0 (depth t) it.0 (omega arith) (omega (arith, high)) it.2,
+  λ i. let it = below_level t u i in let high : it.0 < depth t =
+      it.1 in one_of (λ d. at_depth (suc d) t) u 0 (depth t) it.0 (omega arith) (omega (arith, high)) it.2,
 )

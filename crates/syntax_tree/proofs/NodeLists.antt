@@ -1,5 +1,6 @@
 -- The nodes of a tree as a list.
-use Rattle.std.proofs.Common.{◌≡◌, ◌⊎◌, inl, inr, ℕ, zero, suc, ◌+◌, ◌<◌, true, false, List, [], ◌∷◌, ◌++◌, Option, Some, None, nat_eq, slice_get, length, refl, sym, ap, ◌∙◌, subst, arith, length-append}
+use Rattle.std.proofs.Common.{◌≡◌, ◌⊎◌, inl, inr, ℕ, zero, suc, ◌+◌, ◌<◌, true, false, List, [], ◌∷◌, ◌++◌, Option, Some, None}
+use Rattle.std.proofs.Common.{nat_eq, slice_get, length, refl, sym, ap, ◌∙◌, subst, arith, length-append}
 use Rattle.std.specs.Option.{option_or}
 use Rattle.std.proofs.lemmas.Bool.{cond-false, cond-true, eq-eqb, ne_eqb}
 use Rattle.std.proofs.lemmas.Option.{same_Some, none-some, slice_get_cases}
@@ -7,7 +8,8 @@ use Rattle.normal_form.specs.declared.normal.Sym.{Sym}
 use Rattle.normal_form.specs.declared.normal.Sym.TheVariants.{Kind, Rule}
 use Rattle.normal_form.specs.Form.{NormalForm}
 use Rattle.syntax_tree.specs.declared.node.Node.{Node}
-use Rattle.syntax_tree.specs.Trees.{PlainTree, PlainTrees, HasTokensFrom, HaveTokensFrom, children_of, count, renumbered, renumbered_all, size, size_all, symbol_of, weight}
+use Rattle.syntax_tree.specs.Trees.{PlainTree, PlainTrees, HasTokensFrom, HaveTokensFrom, children_of, count}
+use Rattle.syntax_tree.specs.Trees.{renumbered, renumbered_all, size, size_all, symbol_of, weight}
 use Rattle.syntax_tree.specs.Valid.{IsValid, AreValid, slot_at, slot_among, slots_of}
 use Rattle.syntax_tree.specs.Numbered.{subtree, subtree_among}
 use Rattle.syntax_tree.specs.Nodes.{nodes_of, nodes_of_all, whole}
@@ -16,7 +18,8 @@ use Rattle.syntax_tree.proofs.Decoding.{children_valid, no_slots, slot_valid}
 use Rattle.syntax_tree.proofs.Within.{found, lacks_slot, lacks_subtree, numbered_within, outside, rise_from}
 
 -- where an element of two lists is
-get_append : (xs ys : List Node) (k : ℕ) (x : Node) → slice_get (xs ++ ys) k ≡ Some x → (slice_get xs k ≡ Some x) ⊎ ((j : ℕ) × (k ≡ length xs + j) × (slice_get ys j ≡ Some x))
+get_append : (xs ys : List Node) (k : ℕ) (x : Node) → slice_get (xs ++ ys) k ≡ Some x → (slice_get xs k ≡ Some x)
+    ⊎ ((j : ℕ) × (k ≡ length xs + j) × (slice_get ys j ≡ Some x))
 get_append [] ys k x e = inr (k, omega arith, e)
 get_append (y ∷ xs) ys zero x e = inl e
 get_append (y ∷ xs) ys (suc k) x e = elim (get_append xs ys k x e) [
@@ -36,7 +39,12 @@ module _ (N : NormalForm) where
     as_many_all [] parent f (PlainTrees.next t ts) valid = absurd (no_slots N t ts valid)
     as_many_all (s ∷ ss) parent f (PlainTrees.next t ts) valid =
         let both = slot_valid N s ss t ts valid in
-        omega (arith, length-append (nodes_of N s parent f t) (nodes_of_all N ss parent (f + weight t) ts), as_many s parent f t both.0, as_many_all ss parent (f + weight t) ts both.1)
+        omega (
+          arith,
+          length-append (nodes_of N s parent f t) (nodes_of_all N ss parent (f + weight t) ts),
+          as_many s parent f t both.0,
+          as_many_all ss parent (f + weight t) ts both.1,
+        )
 
   -- What the node with the number q is in a tree that is in the slot s.
   pub record IsNodeIn (s : Sym) (t : PlainTree) (q : ℕ) (x : Node) : Type 0 where
@@ -61,7 +69,8 @@ module _ (N : NormalForm) where
   same_node s t q x y e is = let P : Node → Type 0 = λ z. IsNodeIn s t q z in subst P (same_Some x y e) is
 
   mutual
-    pub is_node : (s : Sym) (parent : Option ℕ) (f n : ℕ) (t : PlainTree) → IsValid N s t → renumbered n t ≡ t → HasTokensFrom f t → (k q : ℕ) (x : Node) → q ≡ n + k →
+    pub is_node : (s : Sym) (parent : Option ℕ) (f n : ℕ) (t : PlainTree) → IsValid N s t → renumbered n t ≡ t → HasTokensFrom f t → (k q : ℕ) (x : Node)
+        → q ≡ n + k →
         slice_get (nodes_of N s parent f t) k ≡ Some x → IsNodeIn s t q x
     is_node s parent f n (PlainTree.leaf m l i) valid numbered tokens zero q x at e =
         let same : n ≡ m = cc in
@@ -79,7 +88,8 @@ module _ (N : NormalForm) where
     is_node s parent f n (PlainTree.node m r a ts) valid numbered tokens zero q x at e =
         let same : n ≡ m = cc in
         let same_number : nat_eq m q ≡ true = eq-eqb m q (omega (arith, same, at)) in
-        same_node s (PlainTree.node m r a ts) q (record { sym = Rule r; slot = s; alt = a; children = count ts; parent = parent; first = f; end = f + weight (PlainTree.node m r a ts) }) x e (record {
+        same_node s (PlainTree.node m r a ts) q (record
+        { sym = Rule r; slot = s; alt = a; children = count ts; parent = parent; first = f; end = f + weight (PlainTree.node m r a ts) }) x e (record {
           tree = PlainTree.node m r a ts;
           tree_is = cond-true (nat_eq m q) (Some (PlainTree.node m r a ts)) (subtree_among q ts) same_number;
           sym = refl;
@@ -103,7 +113,8 @@ module _ (N : NormalForm) where
           end = it.end;
         }
 
-    among_nodes : (ss : List Sym) (parent : Option ℕ) (f n : ℕ) (ts : PlainTrees) → AreValid N ss ts → renumbered_all n ts ≡ ts → HaveTokensFrom f ts → (k q : ℕ) (x : Node) → q ≡ n + k →
+    among_nodes : (ss : List Sym) (parent : Option ℕ) (f n : ℕ) (ts : PlainTrees) → AreValid N ss ts → renumbered_all n ts ≡ ts → HaveTokensFrom f ts
+        → (k q : ℕ) (x : Node) → q ≡ n + k →
         slice_get (nodes_of_all N ss parent f ts) k ≡ Some x → IsNodeAmong ss ts q x
     among_nodes ss parent f n PlainTrees.none valid numbered tokens k q x at e = absurd (none-some x e)
     among_nodes [] parent f n (PlainTrees.next t ts) valid numbered tokens k q x at e = absurd (no_slots N t ts valid)
@@ -114,7 +125,15 @@ module _ (N : NormalForm) where
         elim (get_append (nodes_of N s parent f t) (nodes_of_all N ss parent (f + weight t) ts) k x e) [
           | inl one ↦
               let it = is_node s parent f n t both.0 first tokens.0 k q x at one in
-              record { tree = it.tree; tree_is = ap (λ o. option_or o (subtree_among q ts)) it.tree_is; sym = it.sym; slot = ap (λ o. option_or o (slot_among N ss q ts)) it.slot; children = it.children; tokens = it.tokens; end = it.end }
+              record {
+                tree = it.tree;
+                tree_is = ap (λ o. option_or o (subtree_among q ts)) it.tree_is;
+                sym = it.sym;
+                slot = ap (λ o. option_or o (slot_among N ss q ts)) it.slot;
+                children = it.children;
+                tokens = it.tokens;
+                end = it.end;
+              }
           | inr more ↦
               let long = as_many s parent f t both.0 in
               let is : k ≡ length (nodes_of N s parent f t) + more.0 = more.1 in
@@ -134,13 +153,15 @@ module _ (N : NormalForm) where
 pub subtrees : NodesAreSubtrees
 subtrees tree is q x e =
     let all : nodes_of tree.form tree.start None 0 (whole tree) ≡ tree.nodes = sym is.are in
-    let it = is_node tree.form tree.start None 0 0 (whole tree) is.whole.valid is.whole.numbered is.whole.tokens q q x (omega arith) (ap (λ l. slice_get l q) all ∙ e) in
+    let it =
+    is_node tree.form tree.start None 0 0 (whole tree) is.whole.valid is.whole.numbered is.whole.tokens q q x (omega arith) (ap (λ l. slice_get l q) all ∙ e) in
     (it.tree, record { subtree_is = it.tree_is; sym = it.sym; slot = it.slot; children = it.children; tokens = it.tokens; end = it.end })
 
 pub have_nodes : SubtreesHaveNodes
 have_nodes tree is q u e =
     let long : length tree.nodes ≡ size (whole tree) = ap length is.are ∙ as_many tree.form tree.start None 0 (whole tree) is.whole.valid in
-    let within : q < size (whole tree) = omega (arith, (found 0 (0 + size (whole tree)) q (whole tree) u (numbered_within 0 (whole tree) is.whole.numbered) e).below) in
+    let within : q < size (whole tree) =
+    omega (arith, (found 0 (0 + size (whole tree)) q (whole tree) u (numbered_within 0 (whole tree) is.whole.numbered) e).below) in
     elim (slice_get_cases tree.nodes q).1 [
       | inl (x, inside, at, same) ↦
           let it = subtrees tree is q x at in

@@ -8,7 +8,8 @@ use Rattle.syntax_tree.specs.Trees.{PlainTree, PlainTrees, count}
 use Rattle.syntax_tree.specs.Valid.{slot_at, slot_among, slots_of, slots_of_form}
 use Rattle.syntax_tree.specs.Numbered.{number_of, subtree, subtree_among, with_subtree}
 use Rattle.syntax_tree.specs.EditLaws.{OtherNodesStay}
-use Rattle.syntax_tree.proofs.Within.{AllLack, AreWithin, IsWithin, Lacks, all_outside, bounds, bounds_all, found, found_among, lack_slot, lack_subtree, lacks_slot, lacks_subtree, lacks_with, none_lacks, or_none, outside, within_from}
+use Rattle.syntax_tree.proofs.Within.{AllLack, AreWithin, IsWithin, Lacks, all_outside, bounds, bounds_all, found, found_among, lack_slot}
+use Rattle.syntax_tree.proofs.Within.{lack_subtree, lacks_slot, lacks_subtree, lacks_with, none_lacks, or_none, outside, within_from}
 use Rattle.syntax_tree.proofs.KeptLeaves.{left_lacks}
 use Rattle.syntax_tree.proofs.InSlots.{IsExchangedIn, AreExchangedIn, at_child, at_first, are_at_number, at_later, at_number, at_root, exchanged}
 
@@ -23,7 +24,8 @@ mutual
     | inl is ↦
         cond-true (nat_eq n p) (Some (PlainTree.leaf n k i)) None is ∙ ap (λ u. Some u) (sym (lacks_with q w (PlainTree.leaf n k i) e))
         ∙ ap (option_map (with_subtree q w)) (sym (cond-true (nat_eq n p) (Some (PlainTree.leaf n k i)) None is))
-    | inr is ↦ cond-false (nat_eq n p) (Some (PlainTree.leaf n k i)) None is ∙ ap (option_map (with_subtree q w)) (sym (cond-false (nat_eq n p) (Some (PlainTree.leaf n k i)) None is))
+    | inr is ↦ cond-false (nat_eq n p) (Some (PlainTree.leaf n k i)) None is
+        ∙ ap (option_map (with_subtree q w)) (sym (cond-false (nat_eq n p) (Some (PlainTree.leaf n k i)) None is))
   ]
   lacks_inside q p w (PlainTree.node n r a ts) e = elim (cases_Bool (nat_eq n p)) [
     | inl is ↦
@@ -37,7 +39,8 @@ mutual
   lack_inside : (q p : ℕ) (w : PlainTree) (ts : PlainTrees) → AllLack q ts → subtree_among p ts ≡ option_map (with_subtree q w) (subtree_among p ts)
   lack_inside q p w PlainTrees.none e = refl
   lack_inside q p w (PlainTrees.next t ts) e =
-      ap (λ o. option_or o (subtree_among p ts)) (lacks_inside q p w t e.0) ∙ ap (λ o. option_or (option_map (with_subtree q w) (subtree p t)) o) (lack_inside q p w ts e.1)
+      ap (λ o. option_or o (subtree_among p ts)) (lacks_inside q p w t e.0)
+      ∙ ap (λ o. option_or (option_map (with_subtree q w) (subtree p t)) o) (lack_inside q p w ts e.1)
       ∙ sym (or_map (with_subtree q w) (subtree p t) (subtree_among p ts))
 
 module _ (N : NormalForm) (x : Sym) (v w : PlainTree) where
@@ -66,55 +69,81 @@ module _ (N : NormalForm) (x : Sym) (v w : PlainTree) where
     are_inside : (low high : ℕ) (ss : List Sym) (ts us : PlainTrees) → AreWithin low high ts → AreExchangedIn N x v w ss ts us → IsInside low high
     are_inside low high ss ts us within (at_first s ss' t u ts' d) =
         let it = is_inside low within.0 s t u within.1 d in
-        record { from = it.from; end = it.end; within = it.within; low_from = it.low_from; end_high = omega (arith, it.end_high, bounds_all within.0 high ts' within.2) }
+        record {
+          from = it.from;
+          end = it.end;
+          within = it.within;
+          low_from = it.low_from;
+          end_high = omega (arith, it.end_high, bounds_all within.0 high ts' within.2);
+        }
     are_inside low high ss ts us within (at_later s ss' t ts' us' d) =
         let it = are_inside within.0 high ss' ts' us' within.2 d in
-        record { from = it.from; end = it.end; within = it.within; low_from = omega (arith, it.low_from, bounds low within.0 t within.1); end_high = it.end_high }
+        record {
+          from = it.from;
+          end = it.end;
+          within = it.within;
+          low_from = omega (arith, it.low_from, bounds low within.0 t within.1);
+          end_high = it.end_high;
+        }
 
   module _ (p : ℕ) (y : PlainTree) (has : subtree p v ≡ Some y) where
     -- a node of v is a node of w or of none
     mutual
-      pub in_w : (low high : ℕ) (s : Sym) (t u : PlainTree) → IsWithin low high t → IsExchangedIn N x v w s t u → (subtree p u ≡ subtree p w) × (slot_at N s p u ≡ slot_at N x p w)
+      pub in_w : (low high : ℕ) (s : Sym) (t u : PlainTree) → IsWithin low high t → IsExchangedIn N x v w s t u → (subtree p u ≡ subtree p w)
+          × (slot_at N s p u ≡ slot_at N x p w)
       in_w low high s t u within at_root = (refl, refl)
       in_w low high s t u within (at_child s' n r a ts us d) =
           let it = in_w_among (n + 1) high (slots_of N r a ts) ts us within.1 d in
           let at = are_inside (n + 1) high (slots_of N r a ts) ts us within.1 d in
           let other : nat_eq n p ≡ false = ne_eqb n p (omega (arith, at.low_from, (found at.from at.end p v y at.within has).above)) in (
             cond-false (nat_eq n p) (Some (PlainTree.node n r a us)) (subtree_among p us) other ∙ it.0,
-            cond-false (nat_eq n p) (Some s) (slot_among N (slots_of N r a us) p us) other ∙ ap (λ ss. slot_among N ss p us) (same_slots (slots_of N r a ts) r a ts us d) ∙ it.1,
+            cond-false (nat_eq n p) (Some s) (slot_among N (slots_of N r a us) p us) other
+                ∙ ap (λ ss. slot_among N ss p us) (same_slots (slots_of N r a ts) r a ts us d) ∙ it.1,
           )
 
-      in_w_among : (low high : ℕ) (ss : List Sym) (ts us : PlainTrees) → AreWithin low high ts → AreExchangedIn N x v w ss ts us → (subtree_among p us ≡ subtree p w) × (slot_among N ss p us ≡ slot_at N x p w)
+      in_w_among : (low high : ℕ) (ss : List Sym) (ts us : PlainTrees) → AreWithin low high ts → AreExchangedIn N x v w ss ts us
+          → (subtree_among p us ≡ subtree p w) × (slot_among N ss p us ≡ slot_at N x p w)
       in_w_among low high ss ts us within (at_first s ss' t u ts' d) =
           let it = in_w low within.0 s t u within.1 d in
           let at = is_inside low within.0 s t u within.1 d in
-          let lack = all_outside within.0 high p ts' within.2 (inl (omega (arith, at.end_high, (found at.from at.end p v y at.within has).below))) in
-          (ap (λ o. option_or (subtree p u) o) (lack_subtree p ts' lack) ∙ or_none (subtree p u) ∙ it.0, ap (λ o. option_or (slot_at N s p u) o) (lack_slot N ss' p ts' lack) ∙ or_none (slot_at N s p u) ∙ it.1)
+          let lack = all_outside within.0 high p ts' within.2 (inl (omega (arith, at.end_high, (found at.from at.end p v y at.within has).below))) in (
+            ap (λ o. option_or (subtree p u) o) (lack_subtree p ts' lack) ∙ or_none (subtree p u)
+                ∙ it.0,
+            ap (λ o. option_or (slot_at N s p u) o) (lack_slot N ss' p ts' lack) ∙ or_none (slot_at N s p u) ∙ it.1,
+          )
       in_w_among low high ss ts us within (at_later s ss' t ts' us' d) =
           let it = in_w_among within.0 high ss' ts' us' within.2 d in
           let at = are_inside within.0 high ss' ts' us' within.2 d in
-          let lack = outside low within.0 p t within.1 (inr (omega (arith, at.low_from, (found at.from at.end p v y at.within has).above))) in
-          (ap (λ o. option_or o (subtree_among p us')) (lacks_subtree p t lack) ∙ it.0, ap (λ o. option_or o (slot_among N ss' p us')) (lacks_slot N s p t lack) ∙ it.1)
+          let lack = outside low within.0 p t within.1 (inr (omega (arith, at.low_from, (found at.from at.end p v y at.within has).above))) in (
+            ap (λ o. option_or o (subtree_among p us')) (lacks_subtree p t lack) ∙ it.0,
+            ap (λ o. option_or o (slot_among N ss' p us')) (lacks_slot N s p t lack)
+                ∙ it.1,
+          )
 
   module _ (p : ℕ) (none : Lacks p v) (none_new : Lacks p w) where
     -- a node outside v stays
     mutual
       pub out_of_v : (low high : ℕ) (s : Sym) (t u : PlainTree) → IsWithin low high t → IsExchangedIn N x v w s t u →
           (subtree p u ≡ option_map (with_subtree (number_of v) w) (subtree p t)) × (slot_at N s p u ≡ slot_at N s p t)
-      out_of_v low high s t u within at_root =
-          (lacks_subtree p w none_new ∙ ap (option_map (with_subtree (number_of v) w)) (sym (lacks_subtree p v none)), lacks_slot N x p w none_new ∙ sym (lacks_slot N x p v none))
+      out_of_v low high s t u within at_root = (
+        lacks_subtree p w none_new ∙ ap (option_map (with_subtree (number_of v) w)) (sym (lacks_subtree p v none)),
+        lacks_slot N x p w none_new
+            ∙ sym (lacks_slot N x p v none),
+      )
       out_of_v low high s t u within (at_child s' n r a ts us d) = elim (cases_Bool (nat_eq n p)) [
         | inl is ↦
             let at = at_number N x v w low high s (PlainTree.node n r a ts) (PlainTree.node n r a us) within (at_child s n r a ts us d) in (
               cond-true (nat_eq n p) (Some (PlainTree.node n r a us)) (subtree_among p us) is ∙ ap (λ (z : PlainTree). Some z) at.tree
                   ∙ ap (option_map (with_subtree (number_of v) w)) (sym (cond-true (nat_eq n p) (Some (PlainTree.node n r a ts)) (subtree_among p ts) is)),
-              cond-true (nat_eq n p) (Some s) (slot_among N (slots_of N r a us) p us) is ∙ sym (cond-true (nat_eq n p) (Some s) (slot_among N (slots_of N r a ts) p ts) is),
+              cond-true (nat_eq n p) (Some s) (slot_among N (slots_of N r a us) p us) is
+                  ∙ sym (cond-true (nat_eq n p) (Some s) (slot_among N (slots_of N r a ts) p ts) is),
             )
         | inr is ↦
             let it = out_among (n + 1) high (slots_of N r a ts) ts us within.1 d in (
               cond-false (nat_eq n p) (Some (PlainTree.node n r a us)) (subtree_among p us) is ∙ it.0
                   ∙ ap (option_map (with_subtree (number_of v) w)) (sym (cond-false (nat_eq n p) (Some (PlainTree.node n r a ts)) (subtree_among p ts) is)),
-              cond-false (nat_eq n p) (Some s) (slot_among N (slots_of N r a us) p us) is ∙ ap (λ ss. slot_among N ss p us) (same_slots (slots_of N r a ts) r a ts us d) ∙ it.1
+              cond-false (nat_eq n p) (Some s) (slot_among N (slots_of N r a us) p us) is
+                  ∙ ap (λ ss. slot_among N ss p us) (same_slots (slots_of N r a ts) r a ts us d) ∙ it.1
                   ∙ sym (cond-false (nat_eq n p) (Some s) (slot_among N (slots_of N r a ts) p ts) is),
             )
       ]
@@ -125,7 +154,8 @@ module _ (N : NormalForm) (x : Sym) (v w : PlainTree) where
           let it = out_of_v low within.0 s t u within.1 d in
           let at = at_number N x v w low within.0 s t u within.1 d in
           let lack = all_outside within.0 high (number_of v) ts' within.2 (inl (found low within.0 (number_of v) t v within.1 at.node).below) in (
-            ap (λ o. option_or o (subtree_among p ts')) it.0 ∙ ap (λ o. option_or (option_map (with_subtree (number_of v) w) (subtree p t)) o) (lack_inside (number_of v) p w ts' lack)
+            ap (λ o. option_or o (subtree_among p ts')) it.0
+                ∙ ap (λ o. option_or (option_map (with_subtree (number_of v) w) (subtree p t)) o) (lack_inside (number_of v) p w ts' lack)
                 ∙ sym (or_map (with_subtree (number_of v) w) (subtree p t) (subtree_among p ts')),
             ap (λ o. option_or o (slot_among N ss' p ts')) it.1,
           )
@@ -133,7 +163,8 @@ module _ (N : NormalForm) (x : Sym) (v w : PlainTree) where
           let it = out_among within.0 high ss' ts' us' within.2 d in
           let at = are_at_number N x v w within.0 high ss' ts' us' within.2 d in
           let lack = outside low within.0 (number_of v) t within.1 (inr (found_among within.0 high (number_of v) ts' v within.2 at.node).above) in (
-            ap (λ o. option_or (subtree p t) o) it.0 ∙ ap (λ o. option_or o (option_map (with_subtree (number_of v) w) (subtree_among p ts'))) (lacks_inside (number_of v) p w t lack)
+            ap (λ o. option_or (subtree p t) o) it.0
+                ∙ ap (λ o. option_or o (option_map (with_subtree (number_of v) w) (subtree_among p ts'))) (lacks_inside (number_of v) p w t lack)
                 ∙ sym (or_map (with_subtree (number_of v) w) (subtree p t) (subtree_among p ts')),
             ap (λ o. option_or (slot_at N s p t) o) it.1,
           )
@@ -151,7 +182,9 @@ other_nodes N s x q t v w valid rise e f left =
       node_in = λ p has. (let y = some_of (subtree p v) has in (in_w N x v w p y.0 y.1 0 within.0 s t (with_subtree q w t) within.1 d).0);
       node_out = λ p none.
           (let lack = none_lacks p v none in
-          (out_of_v N x v w p lack (left_lacks p v w left lack) 0 within.0 s t (with_subtree q w t) within.1 d).0 ∙ ap (λ (n : ℕ). option_map (with_subtree n w) (subtree p t)) number);
+          (out_of_v N x v w p lack (left_lacks p v w left lack) 0 within.0 s t (with_subtree q w t) within.1 d).0
+          ∙ ap (λ (n : ℕ). option_map (with_subtree n w) (subtree p t)) number);
       slot_in = λ p has. (let y = some_of (subtree p v) has in (in_w N x v w p y.0 y.1 0 within.0 s t (with_subtree q w t) within.1 d).1);
-      slot_out = λ p none. (let lack = none_lacks p v none in (out_of_v N x v w p lack (left_lacks p v w left lack) 0 within.0 s t (with_subtree q w t) within.1 d).1);
+      slot_out =
+          λ p none. (let lack = none_lacks p v none in (out_of_v N x v w p lack (left_lacks p v w left lack) 0 within.0 s t (with_subtree q w t) within.1 d).1);
     }

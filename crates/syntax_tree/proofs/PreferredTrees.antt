@@ -15,7 +15,8 @@ use Rattle.syntax_tree.specs.Trees.{PlainTree, PlainTrees, HasTokensFrom, HaveTo
 use Rattle.syntax_tree.specs.inner.Trees.{kinds_of_all}
 use Rattle.syntax_tree.specs.Valid.{IsValid, AreValid, EachIsValid}
 use Rattle.syntax_tree.specs.Valid as valid
-use Rattle.syntax_tree.specs.Preferred.{Preferred, PreferredSeq, PreferredMany, of_kind, of_set, of_regular, of_present, of_absent, of_star, of_plus, of_done, of_next, of_end, of_more}
+use Rattle.syntax_tree.specs.Preferred.{Preferred, PreferredSeq, PreferredMany, of_kind, of_set, of_regular, of_present}
+use Rattle.syntax_tree.specs.Preferred.{of_absent, of_star, of_plus, of_done, of_next, of_end, of_more}
 use Rattle.syntax_tree.specs.Laws.{NumbersDontMatter, PreferredTreesAreValid}
 
 module _ (N : NormalForm) (kinds : List ℕ) where
@@ -24,12 +25,14 @@ module _ (N : NormalForm) (kinds : List ℕ) where
     renumber : (s : Sym) (i j n : ℕ) (t : PlainTree) → Preferred N kinds s i j t → Preferred N kinds s i j (renumbered n t)
     renumber s i j n t (of_kind m k i' at) = of_kind n k i at
     renumber s i j n t (of_set m g k i' ks has c at) = of_set n g k i ks has c at
-    renumber s i j n t (of_regular m r a i' j' alts alt ts rule at least seq) = of_regular n r a i j alts alt (renumbered_all (n + 1) ts) rule at least (renumber_seq alt i j (n + 1) ts seq)
+    renumber s i j n t (of_regular m r a i' j' alts alt ts rule at least seq) =
+        of_regular n r a i j alts alt (renumbered_all (n + 1) ts) rule at least (renumber_seq alt i j (n + 1) ts seq)
     renumber s i j n t (of_present m r i' j' x u rule p) = of_present n r i j x (renumbered (n + 1) u) rule (renumber x i j (n + 1) u p)
     renumber s i j n t (of_absent m r i' x rule within not) = of_absent n r i x rule within not
     renumber s i j n t (of_star m r i' j' x ts rule many) = of_star n r i j x (renumbered_all (n + 1) ts) rule (renumber_many x i j (n + 1) ts many)
     renumber s i j n t (of_plus m r i' e j' x u ts rule p many longest) =
-        of_plus n r i e j x (renumbered (n + 1) u) (renumbered_all (n + 1 + size u) ts) rule (renumber x i e (n + 1) u p) (renumber_many x e j (n + 1 + size u) ts many) longest
+        of_plus n r i e j x (renumbered (n + 1) u) (renumbered_all (n + 1 + size u) ts) rule (renumber x i e (n + 1) u p)
+        (renumber_many x e j (n + 1 + size u) ts many) longest
 
     renumber_seq : (ss : List Sym) (i j n : ℕ) (ts : PlainTrees) → PreferredSeq N kinds ss i j ts → PreferredSeq N kinds ss i j (renumbered_all n ts)
     renumber_seq ss i j n ts (of_done i' within) = of_done i within
@@ -50,7 +53,8 @@ module _ (N : NormalForm) (kinds : List ℕ) where
     is_valid s i j t (of_present m r i' j' x u rule p) = valid.of_present s m r u x (itself s) rule (is_valid x i j u p)
     is_valid s i j t (of_absent m r i' x rule within not) = valid.of_absent s m r x (itself s) rule
     is_valid s i j t (of_star m r i' j' x ts rule many) = valid.of_star s m r ts x (itself s) rule (each_valid x i j ts many)
-    is_valid s i j t (of_plus m r i' e j' x u ts rule p many longest) = valid.of_plus s m r u ts x (itself s) rule (valid.of_next x u ts (is_valid x i e u p) (each_valid x e j ts many))
+    is_valid s i j t (of_plus m r i' e j' x u ts rule p many longest) =
+        valid.of_plus s m r u ts x (itself s) rule (valid.of_next x u ts (is_valid x i e u p) (each_valid x e j ts many))
 
     are_valid : (ss : List Sym) (i j : ℕ) (ts : PlainTrees) → PreferredSeq N kinds ss i j ts → AreValid N ss ts
     are_valid ss i j ts (of_done i' within) = valid.of_no_slots
@@ -111,15 +115,21 @@ module _ (N : NormalForm) (kinds : List ℕ) where
       leaves_are s i j t (of_present m r i' j' x u rule p) = append-nil (kinds_of u) ∙ leaves_are x i j u p
       leaves_are s i j t (of_absent m r i' x rule within not) = nothing i
       leaves_are s i j t (of_star m r i' j' x ts rule many) = leaves_many x i j ts many
-      leaves_are s i j t (of_plus m r i' e j' x u ts rule p many longest) = both i e j (kinds_of u) (kinds_of_all ts) (spans x i e u p).rises (rises_many x e j (spans_many x e j ts many)) (leaves_are x i e u p) (leaves_many x e j ts many)
+      leaves_are s i j t (of_plus m r i' e j' x u ts rule p many longest) =
+          both i e j (kinds_of u) (kinds_of_all ts) (spans x i e u p).rises (rises_many x e j (spans_many x e j ts many)) (leaves_are x i e u p)
+          (leaves_many x e j ts many)
 
       leaves_seq : (ss : List Sym) (i j : ℕ) (ts : PlainTrees) → PreferredSeq N kinds ss i j ts → kinds_of_all ts ≡ between i j kinds
       leaves_seq ss i j ts (of_done i' within) = nothing i
-      leaves_seq ss i j ts (of_next s ss' i' m j' t ts' p rest longest) = both i m j (kinds_of t) (kinds_of_all ts') (spans s i m t p).rises (rises_seq m j ss' (spans_seq ss' m j ts' rest)) (leaves_are s i m t p) (leaves_seq ss' m j ts' rest)
+      leaves_seq ss i j ts (of_next s ss' i' m j' t ts' p rest longest) =
+          both i m j (kinds_of t) (kinds_of_all ts') (spans s i m t p).rises (rises_seq m j ss' (spans_seq ss' m j ts' rest)) (leaves_are s i m t p)
+          (leaves_seq ss' m j ts' rest)
 
       leaves_many : (s : Sym) (i j : ℕ) (ts : PlainTrees) → PreferredMany N kinds s i j ts → kinds_of_all ts ≡ between i j kinds
       leaves_many s i j ts (of_end s' i' within) = nothing i
-      leaves_many s i j ts (of_more s' i' m j' t ts' lt p rest longest) = both i m j (kinds_of t) (kinds_of_all ts') (spans s i m t p).rises (rises_many s m j (spans_many s m j ts' rest)) (leaves_are s i m t p) (leaves_many s m j ts' rest)
+      leaves_many s i j ts (of_more s' i' m j' t ts' lt p rest longest) =
+          both i m j (kinds_of t) (kinds_of_all ts') (spans s i m t p).rises (rises_many s m j (spans_many s m j ts' rest)) (leaves_are s i m t p)
+          (leaves_many s m j ts' rest)
 
   -- the tokens of what begins where another ends
   tokens_at : (i j f : ℕ) (ts : PlainTrees) → i + f ≡ j → HaveTokensFrom j ts → HaveTokensFrom (i + f) ts
@@ -157,4 +167,11 @@ pub numbers_free : NumbersDontMatter
 numbers_free N kinds s i j n t p = renumber N kinds s i j n t p
 
 pub preferred_valid : ((N : NormalForm) (kinds : List ℕ) → SpansByForm N kinds) → PreferredTreesAreValid
-preferred_valid form N kinds s i j t p = record { valid = is_valid N kinds s i j t p; derived = spans N kinds (form N kinds) s i j t p; kinds_are = leaves_are N kinds (form N kinds) s i j t p; tokens = (tokens_are N kinds s i j t p).0; long = (tokens_are N kinds s i j t p).1 }
+preferred_valid form N kinds s i j t p =
+    record {
+      valid = is_valid N kinds s i j t p;
+      derived = spans N kinds (form N kinds) s i j t p;
+      kinds_are = leaves_are N kinds (form N kinds) s i j t p;
+      tokens = (tokens_are N kinds s i j t p).0;
+      long = (tokens_are N kinds s i j t p).1;
+    }

@@ -6,18 +6,22 @@ use Rattle.normal_form.specs.Form.{RuleForm, NormalForm}
 use Rattle.compat_table.specs.Fits.{Fits}
 use Rattle.syntax_tree.specs.Trees.{PlainTree, PlainTrees, IsBelow, IsIn, IsInSome, below, count, itself, leaves, symbol_of, weight}
 use Rattle.syntax_tree.specs.Trees as trees
-use Rattle.syntax_tree.specs.Valid.{IsTreeFor, IsValid, AreValid, EachIsValid, of_leaf, of_regular, of_absent, of_present, of_star, of_plus, of_none, of_next, slots_of}
+use Rattle.syntax_tree.specs.Valid.{IsTreeFor, IsValid, AreValid, EachIsValid, of_leaf, of_regular, of_absent}
+use Rattle.syntax_tree.specs.Valid.{of_present, of_star, of_plus, of_none, of_next, slots_of}
 use Rattle.syntax_tree.specs.Numbered.{NumbersRise, number_of, with_subtree}
-use Rattle.syntax_tree.specs.Edits.{Deletes, DeletesAmong, IsLocalDeletion, IsLocalEdit, IsLocalReplacement, IsSingleEdit, LeavesOut, Replaces, ReplacesAmong, by_descendant}
+use Rattle.syntax_tree.specs.Edits.{Deletes, DeletesAmong, IsLocalDeletion, IsLocalEdit, IsLocalReplacement}
+use Rattle.syntax_tree.specs.Edits.{IsSingleEdit, LeavesOut, Replaces, ReplacesAmong, by_descendant}
 use Rattle.syntax_tree.specs.Edits as edits
-use Rattle.syntax_tree.specs.Left.{IsRemainderOf, AreRemaindersOf, IsRemainderOfSome, below_left, left_out, none_left, node_left, kept, of_first, of_later, selected_trees}
+use Rattle.syntax_tree.specs.Left.{IsRemainderOf, AreRemaindersOf, IsRemainderOfSome, below_left, left_out}
+use Rattle.syntax_tree.specs.Left.{none_left, node_left, kept, of_first, of_later, selected_trees}
 use Rattle.syntax_tree.specs.EditLaws.{EditsByNumber, IsEditAt, LocalEditsAreValid, SelectedAreValid, SelectionsAreValid, SelectsElements, SingleEditsAreTrees}
 use Rattle.syntax_tree.specs.EditLaws as selects
 use Rattle.syntax_tree.proofs.Decoding.{children_valid, no_slots, slot_valid}
 use Rattle.syntax_tree.proofs.Within.{within_from}
 use Rattle.syntax_tree.proofs.LeftTrees.{left_all, left_itself, leaves_part, selected_left, sublist_increasing}
 use Rattle.syntax_tree.proofs.Exchanged.{change, stays_left}
-use Rattle.syntax_tree.proofs.InSlots.{IsExchangedIn, AreExchangedIn, at_child, at_first, at_later, at_number, at_root, exchanged, stays_valid, was_valid, without_slots}
+use Rattle.syntax_tree.proofs.InSlots.{IsExchangedIn, AreExchangedIn, at_child, at_first, at_later, at_number}
+use Rattle.syntax_tree.proofs.InSlots.{at_root, exchanged, stays_valid, was_valid, without_slots}
 
 left_out_of : (ts us : PlainTrees) → LeavesOut ts us → AreRemaindersOf ts us
 left_out_of ts us (edits.first t ts') = left_out t ts' ts' (left_all ts')
@@ -57,34 +61,47 @@ module _ (N : NormalForm) where
   -- a valid list without some of its elements
   star_with : (x : Sym) (n r a : ℕ) (ts us : PlainTrees) (y : Sym) → IsValid N x (PlainTree.node n r a ts) → slice_get N.rules r ≡ Some (RuleForm.star y) →
       (EachIsValid N y ts → EachIsValid N y us) → IsValid N x (PlainTree.node n r a us)
-  star_with x n r a ts us y (of_regular x' n' r' a' ts' alts alt fits rule at valid) star keeps = absurd (let e : RuleForm.regular alts ≡ RuleForm.star y = same_Some (RuleForm.regular alts) (RuleForm.star y) (sym rule ∙ star) in cc)
-  star_with x n r a ts us y (of_absent x' n' r' z fits rule) star keeps = absurd (let e : RuleForm.opt z ≡ RuleForm.star y = same_Some (RuleForm.opt z) (RuleForm.star y) (sym rule ∙ star) in cc)
-  star_with x n r a ts us y (of_present x' n' r' u z fits rule valid) star keeps = absurd (let e : RuleForm.opt z ≡ RuleForm.star y = same_Some (RuleForm.opt z) (RuleForm.star y) (sym rule ∙ star) in cc)
-  star_with x n r a ts us y (of_plus x' n' r' u us' z fits rule each) star keeps = absurd (let e : RuleForm.plus z ≡ RuleForm.star y = same_Some (RuleForm.plus z) (RuleForm.star y) (sym rule ∙ star) in cc)
+  star_with x n r a ts us y (of_regular x' n' r' a' ts' alts alt fits rule at valid) star keeps =
+      absurd (let e : RuleForm.regular alts ≡ RuleForm.star y = same_Some (RuleForm.regular alts) (RuleForm.star y) (sym rule ∙ star) in cc)
+  star_with x n r a ts us y (of_absent x' n' r' z fits rule) star keeps =
+      absurd (let e : RuleForm.opt z ≡ RuleForm.star y = same_Some (RuleForm.opt z) (RuleForm.star y) (sym rule ∙ star) in cc)
+  star_with x n r a ts us y (of_present x' n' r' u z fits rule valid) star keeps =
+      absurd (let e : RuleForm.opt z ≡ RuleForm.star y = same_Some (RuleForm.opt z) (RuleForm.star y) (sym rule ∙ star) in cc)
+  star_with x n r a ts us y (of_plus x' n' r' u us' z fits rule each) star keeps =
+      absurd (let e : RuleForm.plus z ≡ RuleForm.star y = same_Some (RuleForm.plus z) (RuleForm.star y) (sym rule ∙ star) in cc)
   star_with x n r a ts us y (of_star x' n' r' ts' z fits rule each) star keeps =
       let e : RuleForm.star z ≡ RuleForm.star y = same_Some (RuleForm.star z) (RuleForm.star y) (sym rule ∙ star) in
       let same : z ≡ y = cc in
       let P : Sym → Type 0 = λ z'. EachIsValid N z' ts in
       of_star x n r us y fits star (keeps (subst P same each))
 
-  plus_with : (x : Sym) (n r a : ℕ) (ts : PlainTrees) (u : PlainTree) (us : PlainTrees) (y : Sym) → IsValid N x (PlainTree.node n r a ts) → slice_get N.rules r ≡ Some (RuleForm.plus y) →
+  plus_with : (x : Sym) (n r a : ℕ) (ts : PlainTrees) (u : PlainTree) (us : PlainTrees) (y : Sym) → IsValid N x (PlainTree.node n r a ts)
+      → slice_get N.rules r ≡ Some (RuleForm.plus y) →
       (EachIsValid N y ts → EachIsValid N y (PlainTrees.next u us)) → IsValid N x (PlainTree.node n r a (PlainTrees.next u us))
-  plus_with x n r a ts u us y (of_regular x' n' r' a' ts' alts alt fits rule at valid) plus keeps = absurd (let e : RuleForm.regular alts ≡ RuleForm.plus y = same_Some (RuleForm.regular alts) (RuleForm.plus y) (sym rule ∙ plus) in cc)
-  plus_with x n r a ts u us y (of_absent x' n' r' z fits rule) plus keeps = absurd (let e : RuleForm.opt z ≡ RuleForm.plus y = same_Some (RuleForm.opt z) (RuleForm.plus y) (sym rule ∙ plus) in cc)
-  plus_with x n r a ts u us y (of_present x' n' r' t z fits rule valid) plus keeps = absurd (let e : RuleForm.opt z ≡ RuleForm.plus y = same_Some (RuleForm.opt z) (RuleForm.plus y) (sym rule ∙ plus) in cc)
-  plus_with x n r a ts u us y (of_star x' n' r' ts' z fits rule each) plus keeps = absurd (let e : RuleForm.star z ≡ RuleForm.plus y = same_Some (RuleForm.star z) (RuleForm.plus y) (sym rule ∙ plus) in cc)
+  plus_with x n r a ts u us y (of_regular x' n' r' a' ts' alts alt fits rule at valid) plus keeps =
+      absurd (let e : RuleForm.regular alts ≡ RuleForm.plus y = same_Some (RuleForm.regular alts) (RuleForm.plus y) (sym rule ∙ plus) in cc)
+  plus_with x n r a ts u us y (of_absent x' n' r' z fits rule) plus keeps =
+      absurd (let e : RuleForm.opt z ≡ RuleForm.plus y = same_Some (RuleForm.opt z) (RuleForm.plus y) (sym rule ∙ plus) in cc)
+  plus_with x n r a ts u us y (of_present x' n' r' t z fits rule valid) plus keeps =
+      absurd (let e : RuleForm.opt z ≡ RuleForm.plus y = same_Some (RuleForm.opt z) (RuleForm.plus y) (sym rule ∙ plus) in cc)
+  plus_with x n r a ts u us y (of_star x' n' r' ts' z fits rule each) plus keeps =
+      absurd (let e : RuleForm.star z ≡ RuleForm.plus y = same_Some (RuleForm.star z) (RuleForm.plus y) (sym rule ∙ plus) in cc)
   plus_with x n r a ts u us y (of_plus x' n' r' t ts' z fits rule each) plus keeps =
       let e : RuleForm.plus z ≡ RuleForm.plus y = same_Some (RuleForm.plus z) (RuleForm.plus y) (sym rule ∙ plus) in
       let same : z ≡ y = cc in
       let P : Sym → Type 0 = λ z'. EachIsValid N z' ts in
       of_plus x n r u us y fits plus (keeps (subst P same each))
 
-  opt_with : (x : Sym) (n r a : ℕ) (ts : PlainTrees) (y : Sym) → IsValid N x (PlainTree.node n r a ts) → slice_get N.rules r ≡ Some (RuleForm.opt y) → IsValid N x (PlainTree.node n r a PlainTrees.none)
-  opt_with x n r a ts y (of_regular x' n' r' a' ts' alts alt fits rule at valid) opt = absurd (let e : RuleForm.regular alts ≡ RuleForm.opt y = same_Some (RuleForm.regular alts) (RuleForm.opt y) (sym rule ∙ opt) in cc)
+  opt_with : (x : Sym) (n r a : ℕ) (ts : PlainTrees) (y : Sym) → IsValid N x (PlainTree.node n r a ts) → slice_get N.rules r ≡ Some (RuleForm.opt y)
+      → IsValid N x (PlainTree.node n r a PlainTrees.none)
+  opt_with x n r a ts y (of_regular x' n' r' a' ts' alts alt fits rule at valid) opt =
+      absurd (let e : RuleForm.regular alts ≡ RuleForm.opt y = same_Some (RuleForm.regular alts) (RuleForm.opt y) (sym rule ∙ opt) in cc)
   opt_with x n r a ts y (of_absent x' n' r' z fits rule) opt = of_absent x n r y fits opt
   opt_with x n r a ts y (of_present x' n' r' u z fits rule valid) opt = of_absent x n r y fits opt
-  opt_with x n r a ts y (of_star x' n' r' ts' z fits rule each) opt = absurd (let e : RuleForm.star z ≡ RuleForm.opt y = same_Some (RuleForm.star z) (RuleForm.opt y) (sym rule ∙ opt) in cc)
-  opt_with x n r a ts y (of_plus x' n' r' t ts' z fits rule each) opt = absurd (let e : RuleForm.plus z ≡ RuleForm.opt y = same_Some (RuleForm.plus z) (RuleForm.opt y) (sym rule ∙ opt) in cc)
+  opt_with x n r a ts y (of_star x' n' r' ts' z fits rule each) opt =
+      absurd (let e : RuleForm.star z ≡ RuleForm.opt y = same_Some (RuleForm.star z) (RuleForm.opt y) (sym rule ∙ opt) in cc)
+  opt_with x n r a ts y (of_plus x' n' r' t ts' z fits rule each) opt =
+      absurd (let e : RuleForm.plus z ≡ RuleForm.opt y = same_Some (RuleForm.plus z) (RuleForm.opt y) (sym rule ∙ opt) in cc)
 
   each_first : (y : Sym) (t : PlainTree) (ts : PlainTrees) → EachIsValid N y (PlainTrees.next t ts) → IsValid N y t × EachIsValid N y ts
   each_first y t ts (of_next y' t' ts' one rest) = (one, rest)
@@ -96,15 +113,22 @@ module _ (N : NormalForm) where
   each_selected : (y : Sym) (mask : List Bool) (ts : PlainTrees) → EachIsValid N y ts → EachIsValid N y (selected_trees mask ts)
   each_selected y [] ts each = of_none y
   each_selected y (b ∷ mask) PlainTrees.none each = of_none y
-  each_selected y (true ∷ mask) (PlainTrees.next t ts) each = let both = each_first y t ts each in of_next y t (selected_trees mask ts) both.0 (each_selected y mask ts both.1)
+  each_selected y (true ∷ mask) (PlainTrees.next t ts) each = let both =
+      each_first y t ts each in of_next y t (selected_trees mask ts) both.0 (each_selected y mask ts both.1)
   each_selected y (false ∷ mask) (PlainTrees.next t ts) each = each_selected y mask ts (each_first y t ts each).1
 
   -- what a local edit gives
   deletion_valid : (x : Sym) (v w : PlainTree) → IsValid N x v → IsLocalDeletion N v w → IsValid N x w × IsRemainderOf v w
-  deletion_valid x v w valid (edits.of_star n r a ts us y rule out) = (star_with x n r a ts us y valid rule (each_without y ts us out), node_left n r a ts us (left_out_of ts us out))
-  deletion_valid x v w valid (edits.of_plus n r a ts u us y rule out) = (plus_with x n r a ts u us y valid rule (each_without y ts (PlainTrees.next u us) out), node_left n r a ts (PlainTrees.next u us) (left_out_of ts (PlainTrees.next u us) out))
-  deletion_valid x v w valid (edits.of_opt n r a t y rule) =
-      (opt_with x n r a (PlainTrees.next t PlainTrees.none) y valid rule, node_left n r a (PlainTrees.next t PlainTrees.none) PlainTrees.none (left_out t PlainTrees.none PlainTrees.none none_left))
+  deletion_valid x v w valid (edits.of_star n r a ts us y rule out) =
+      (star_with x n r a ts us y valid rule (each_without y ts us out), node_left n r a ts us (left_out_of ts us out))
+  deletion_valid x v w valid (edits.of_plus n r a ts u us y rule out) = (
+    plus_with x n r a ts u us y valid rule (each_without y ts (PlainTrees.next u us) out),
+    node_left n r a ts (PlainTrees.next u us) (left_out_of ts (PlainTrees.next u us) out),
+  )
+  deletion_valid x v w valid (edits.of_opt n r a t y rule) = (
+    opt_with x n r a (PlainTrees.next t PlainTrees.none) y valid rule,
+    node_left n r a (PlainTrees.next t PlainTrees.none) PlainTrees.none (left_out t PlainTrees.none PlainTrees.none none_left),
+  )
 
   replacement_valid : (x : Sym) (v w : PlainTree) → IsValid N x v → IsLocalReplacement N x v w → IsValid N x w × IsRemainderOf v w
   replacement_valid x v w valid (by_descendant x' n r a ts alts u rule is_below fits) =
@@ -116,12 +140,17 @@ module _ (N : NormalForm) where
   edit_valid x v w valid (inr replacement) = replacement_valid x v w valid replacement
 
   selection_valid : (x : Sym) (mask : List Bool) (v w : PlainTree) → IsValid N x v → SelectsElements N mask v w → IsValid N x w × IsRemainderOf v w
-  selection_valid x mask v w valid (selects.of_star n r a ts y rule) =
-      (star_with x n r a ts (selected_trees mask ts) y valid rule (each_selected y mask ts), node_left n r a ts (selected_trees mask ts) (selected_left mask ts))
-  selection_valid x mask v w valid (selects.of_plus n r a ts y rule some) =
-      (plus_selected x n r a ts (selected_trees mask ts) y valid rule some (each_selected y mask ts), node_left n r a ts (selected_trees mask ts) (selected_left mask ts))
+  selection_valid x mask v w valid (selects.of_star n r a ts y rule) = (
+    star_with x n r a ts (selected_trees mask ts) y valid rule (each_selected y mask ts),
+    node_left n r a ts (selected_trees mask ts) (selected_left mask ts),
+  )
+  selection_valid x mask v w valid (selects.of_plus n r a ts y rule some) = (
+    plus_selected x n r a ts (selected_trees mask ts) y valid rule some (each_selected y mask ts),
+    node_left n r a ts (selected_trees mask ts) (selected_left mask ts),
+  )
     where
-      plus_selected : (x : Sym) (n r a : ℕ) (ts us : PlainTrees) (y : Sym) → IsValid N x (PlainTree.node n r a ts) → slice_get N.rules r ≡ Some (RuleForm.plus y) → 1 ≤ count us →
+      plus_selected : (x : Sym) (n r a : ℕ) (ts us : PlainTrees) (y : Sym) → IsValid N x (PlainTree.node n r a ts)
+          → slice_get N.rules r ≡ Some (RuleForm.plus y) → 1 ≤ count us →
           (EachIsValid N y ts → EachIsValid N y us) → IsValid N x (PlainTree.node n r a us)
       plus_selected x n r a ts PlainTrees.none y valid rule some keeps = absurd (let no : 1 ≤ 0 = some in omega (arith, no))
       plus_selected x n r a ts (PlainTrees.next u us) y valid rule some keeps = plus_with x n r a ts u us y valid rule keeps
@@ -202,16 +231,23 @@ module _ (N : NormalForm) where
   edit_of s t u valid (inl d) = deletion_of s t u valid d
   edit_of s t u valid (inr d) = replacement_of s t u d
 
-  by_number : (s : Sym) (t u : PlainTree) → IsValid N s t → NumbersRise t → IsSingleEdit N s t u → (q : ℕ) × (x : Sym) × (v : PlainTree) × (w : PlainTree) × IsEditAt N s t u q x v w
+  by_number : (s : Sym) (t u : PlainTree) → IsValid N s t → NumbersRise t → IsSingleEdit N s t u → (q : ℕ) × (x : Sym) × (v : PlainTree) × (w : PlainTree)
+      × IsEditAt N s t u q x v w
   by_number s t u valid rise e =
       let it = edit_of s t u valid e.edit in
       let within = within_from t rise in
       let at = at_number N it.slot it.node it.by 0 within.0 s t u within.1 it.exchanged in
       let weights = (change t (number_of it.node) it.node it.by rise at.node).weights in
-      let same : weight u ≡ weight (with_subtree (number_of it.node) it.by t) = ap weight at.tree in
-      (number_of it.node, it.slot, it.node, it.by, record { node = at.node; slot = at.slot; edit = it.edit; tree = at.tree; smaller = omega (arith, e.smaller, weights, same) })
+      let same : weight u ≡ weight (with_subtree (number_of it.node) it.by t) = ap weight at.tree in (
+        number_of it.node,
+        it.slot,
+        it.node,
+        it.by,
+        record { node = at.node; slot = at.slot; edit = it.edit; tree = at.tree; smaller = omega (arith, e.smaller, weights, same) },
+      )
 
-  from_number : (s : Sym) (t u : PlainTree) → NumbersRise t → ((q : ℕ) × (x : Sym) × (v : PlainTree) × (w : PlainTree) × IsEditAt N s t u q x v w) → IsSingleEdit N s t u
+  from_number : (s : Sym) (t u : PlainTree) → NumbersRise t → ((q : ℕ) × (x : Sym) × (v : PlainTree) × (w : PlainTree) × IsEditAt N s t u q x v w)
+      → IsSingleEdit N s t u
   from_number s t u rise (q, x, v, w, e) =
       let within = within_from t rise in
       let P : PlainTree → Type 0 = λ y. IsExchangedIn N x v w s t y in
@@ -224,8 +260,13 @@ module _ (N : NormalForm) where
   stays_tree s t u tree e =
       let it = edit_of s t u tree.valid e.edit in
       let local = edit_valid it.slot it.node it.by (was_valid N it.slot it.node it.by s t u it.exchanged tree.valid) it.edit in
-      let left = stays_left it.node it.by local.1 t u (without_slots N it.slot it.node it.by s t u it.exchanged) in
-      (record { valid = stays_valid N it.slot it.node it.by local.0 s t u it.exchanged tree.valid; rising = sublist_increasing (leaves u) (leaves t) (leaves_part (λ k i. i) t u left) tree.rising }, left)
+      let left = stays_left it.node it.by local.1 t u (without_slots N it.slot it.node it.by s t u it.exchanged) in (
+        record {
+          valid = stays_valid N it.slot it.node it.by local.0 s t u it.exchanged tree.valid;
+          rising = sublist_increasing (leaves u) (leaves t) (leaves_part (λ k i. i) t u left) tree.rising;
+        },
+        left,
+      )
 
 pub numbered : EditsByNumber
 numbered N s t u valid rise = (by_number N s t u valid rise, from_number N s t u rise)

@@ -1,5 +1,6 @@
 -- The leaves in the span of a node.
-use Rattle.std.proofs.Common.{◌≡◌, inl, inr, ℕ, ◌+◌, ◌<◌, ◌≤◌, Bool, true, false, List, [], ◌∷◌, ◌++◌, nat_lt, nat_le, filter, refl, sym, ap, ◌∙◌, subst, arith, append_assoc, append-nil}
+use Rattle.std.proofs.Common.{◌≡◌, inl, inr, ℕ, ◌+◌, ◌<◌, ◌≤◌, Bool, true, false, List, [], ◌∷◌, ◌++◌, nat_lt, nat_le}
+use Rattle.std.proofs.Common.{filter, refl, sym, ap, ◌∙◌, subst, arith, append_assoc, append-nil}
 use Rattle.std.proofs.lemmas.Bool.{and_from, and_left, and_right, cases_lt, cond-false, cond-true, le-leb, le-ltb, lt-leb, lt-ltb}
 use Rattle.std.proofs.lemmas.List.Elements.{filter-append}
 use Rattle.std.proofs.lemmas.Option.{same_Some}
@@ -26,9 +27,11 @@ filter_never : (p : ℕ → Bool) (xs : List ℕ) → ((x : ℕ) → p x ≡ fal
 filter_never p [] says = refl
 filter_never p (x ∷ xs) says = cond-false (p x) (x ∷ filter p xs) (filter p xs) (says x) ∙ filter_never p xs says
 
-filter_parts : (p : ℕ → Bool) (ls xs ys zs us vs ws : List ℕ) → ls ≡ xs ++ (ys ++ zs) → filter p xs ≡ us → filter p ys ≡ vs → filter p zs ≡ ws → filter p ls ≡ us ++ (vs ++ ws)
+filter_parts : (p : ℕ → Bool) (ls xs ys zs us vs ws : List ℕ) → ls ≡ xs ++ (ys ++ zs) → filter p xs ≡ us → filter p ys ≡ vs → filter p zs ≡ ws
+    → filter p ls ≡ us ++ (vs ++ ws)
 filter_parts p ls xs ys zs us vs ws e f g h =
-    ap (filter p) e ∙ filter-append p xs (ys ++ zs) ∙ ap (λ l. l ++ filter p (ys ++ zs)) f ∙ ap (λ l. us ++ l) (filter-append p ys zs ∙ ap (λ l. l ++ filter p zs) g ∙ ap (λ l. vs ++ l) h)
+    ap (filter p) e ∙ filter-append p xs (ys ++ zs) ∙ ap (λ l. l ++ filter p (ys ++ zs)) f
+    ∙ ap (λ l. us ++ l) (filter-append p ys zs ∙ ap (λ l. l ++ filter p zs) g ∙ ap (λ l. vs ++ l) h)
 
 -- rising numbers are those below a number, and then the others
 rise_from_bound : (low c : ℕ) (xs : List ℕ) → c ≤ low → RisesFrom low xs → (filter (λ i. nat_lt i c) xs ≡ []) × (filter (λ i. nat_le c i) xs ≡ xs)
@@ -44,8 +47,10 @@ halves low c [] r = refl
 halves low c (x ∷ xs) r = elim (cases_lt x c) [
   | inl before ↦
       ap (λ l. x ∷ l) (halves (x + 1) c xs r.1)
-      ∙ ap (λ l. l ++ filter (λ i. nat_le c i) xs) (sym (cond-true (nat_lt x c) (x ∷ filter (λ i. nat_lt i c) xs) (filter (λ i. nat_lt i c) xs) (lt-ltb x c before)))
-      ∙ ap (λ l. filter (λ i. nat_lt i c) (x ∷ xs) ++ l) (sym (cond-false (nat_le c x) (x ∷ filter (λ i. nat_le c i) xs) (filter (λ i. nat_le c i) xs) (lt-leb c x before)))
+      ∙ ap (λ l. l ++ filter (λ i. nat_le c i) xs)
+      (sym (cond-true (nat_lt x c) (x ∷ filter (λ i. nat_lt i c) xs) (filter (λ i. nat_lt i c) xs) (lt-ltb x c before)))
+      ∙ ap (λ l. filter (λ i. nat_lt i c) (x ∷ xs) ++ l)
+      (sym (cond-false (nat_le c x) (x ∷ filter (λ i. nat_le c i) xs) (filter (λ i. nat_le c i) xs) (lt-leb c x before)))
   | inr after ↦
       let all = rise_from_bound x c (x ∷ xs) after (omega arith, r.1) in
       sym all.1 ∙ ap (λ l. l ++ filter (λ i. nat_le c i) (x ∷ xs)) (sym all.0)
@@ -56,12 +61,14 @@ mutual
   tokens_rise f (PlainTree.leaf n k i) rest e r = (omega (arith, e), rises_weaker (f + 1) (i + 1) rest (omega (arith, e)) r)
   tokens_rise f (PlainTree.node n r' a ts) rest e r = all_tokens_rise f ts rest e r
 
-  all_tokens_rise : (f : ℕ) (ts : PlainTrees) (rest : List ℕ) → HaveTokensFrom f ts → RisesFrom (f + weight_all ts) rest → RisesFrom f (of_leaves_all (λ k i. i) ts ++ rest)
+  all_tokens_rise : (f : ℕ) (ts : PlainTrees) (rest : List ℕ) → HaveTokensFrom f ts → RisesFrom (f + weight_all ts) rest
+      → RisesFrom f (of_leaves_all (λ k i. i) ts ++ rest)
   all_tokens_rise f PlainTrees.none rest e r = rises_weaker (f + 0) f rest (omega arith) r
   all_tokens_rise f (PlainTrees.next t ts) rest e r =
       let P : List ℕ → Type 0 = λ l. RisesFrom f l in
       subst P (sym (append_assoc (leaves t) (of_leaves_all (λ k i. i) ts) rest))
-      (tokens_rise f t (of_leaves_all (λ k i. i) ts ++ rest) e.0 (all_tokens_rise (f + weight t) ts rest e.1 (rises_weaker (f + (weight t + weight_all ts)) (f + weight t + weight_all ts) rest (omega arith) r)))
+      (tokens_rise f t (of_leaves_all (λ k i. i) ts ++ rest) e.0
+      (all_tokens_rise (f + weight t) ts rest e.1 (rises_weaker (f + (weight t + weight_all ts)) (f + weight t + weight_all ts) rest (omega arith) r)))
 
 pub leaves_rise : (f : ℕ) (t u : PlainTree) → HasTokensFrom f t → IsRemainderOf t u → RisesFrom f (leaves u)
 leaves_rise f t u e d =
@@ -91,8 +98,10 @@ module _ (q c e f end : ℕ) (t u v : PlainTree) (s : IsSplit f end (leaves t) (
     inside =
         sym (filter_parts (is_within c e) (leaves t) s.before (leaves u) s.after [] (leaves u) [] s.are
         (filter_none (is_within c e) f s.first s.before s.is_before (λ x l h. and_left (nat_le c x) (nat_lt x e) (lt-leb c x (omega (arith, h, starts)))))
-        (filter_all (is_within c e) s.first (s.first + weight v) (leaves u) is_bounded (λ x l h. and_from (nat_le c x) (nat_lt x e) (le-leb c x (omega (arith, l, starts))) (lt-ltb x e (omega (arith, h, ends)))))
-        (filter_none (is_within c e) (s.first + weight v) end s.after s.is_after (λ x l h. and_right (nat_le c x) (nat_lt x e) (le-ltb x e (omega (arith, l, ends))))) ∙ append-nil (leaves u))
+        (filter_all (is_within c e) s.first (s.first + weight v) (leaves u) is_bounded
+        (λ x l h. and_from (nat_le c x) (nat_lt x e) (le-leb c x (omega (arith, l, starts))) (lt-ltb x e (omega (arith, h, ends)))))
+        (filter_none (is_within c e) (s.first + weight v) end s.after s.is_after
+        (λ x l h. and_right (nat_le c x) (nat_lt x e) (le-ltb x e (omega (arith, l, ends))))) ∙ append-nil (leaves u))
 
     before_is : filter (λ i. nat_lt i c) (leaves t) ≡ s.before
     before_is =
@@ -109,19 +118,27 @@ module _ (q c e f end : ℕ) (t u v : PlainTree) (s : IsSplit f end (leaves t) (
         (filter_all (λ i. nat_le e i) (s.first + weight v) end s.after s.is_after (λ x l h. le-leb e x (omega (arith, l, ends))))
 
     parts_are : (ls ys : List ℕ) → ls ≡ s.before ++ (ys ++ s.after) → ls ≡ filter (λ i. nat_lt i c) (leaves t) ++ ys ++ filter (λ i. nat_le e i) (leaves t)
-    parts_are ls ys is = is ∙ sym (append_assoc s.before ys s.after) ∙ ap (λ l. l ++ ys ++ s.after) (sym before_is) ∙ ap (λ l. filter (λ i. nat_lt i c) (leaves t) ++ ys ++ l) (sym after_is)
+    parts_are ls ys is =
+        is ∙ sym (append_assoc s.before ys s.after) ∙ ap (λ l. l ++ ys ++ s.after) (sym before_is)
+        ∙ ap (λ l. filter (λ i. nat_lt i c) (leaves t) ++ ys ++ l) (sym after_is)
 
   -- where it has none
   module _ (same : e ≡ c) (empty : weight v ≡ 0) (rises : RisesFrom f (leaves t)) where
     no_inside : leaves u ≡ filter (is_within c e) (leaves t)
     no_inside =
         no_leaves (λ k i. i) u (omega (arith, lighter v u left, empty))
-        ∙ sym (filter_never (is_within c e) (leaves t) (λ x. elim (cases_lt x c) [ inl before ↦ and_left (nat_le c x) (nat_lt x e) (lt-leb c x before) | inr after ↦ and_right (nat_le c x) (nat_lt x e) (le-ltb x e (omega (arith, after, same))) ]))
+        ∙ sym (filter_never (is_within c e) (leaves t)
+        (λ x. elim (cases_lt x c) [
+          | inl before ↦ and_left (nat_le c x) (nat_lt x e) (lt-leb c x before)
+          | inr after ↦ and_right (nat_le c x) (nat_lt x e)
+              (le-ltb x e (omega (arith, after, same)))
+        ]))
 
     no_parts : (ys : List ℕ) → ys ≡ [] → leaves t ≡ filter (λ i. nat_lt i c) (leaves t) ++ ys ++ filter (λ i. nat_le e i) (leaves t)
     no_parts ys none =
         halves f c (leaves t) rises
-        ∙ ap (λ l. l ++ filter (λ i. nat_le c i) (leaves t)) (sym (append-nil (filter (λ i. nat_lt i c) (leaves t))) ∙ ap (λ l. filter (λ i. nat_lt i c) (leaves t) ++ l) (sym none))
+        ∙ ap (λ l. l ++ filter (λ i. nat_le c i) (leaves t))
+        (sym (append-nil (filter (λ i. nat_lt i c) (leaves t))) ∙ ap (λ l. filter (λ i. nat_lt i c) (leaves t) ++ l) (sym none))
         ∙ ap (λ (n : ℕ). filter (λ i. nat_lt i c) (leaves t) ++ ys ++ filter (λ i. nat_le n i) (leaves t)) (sym same)
 
     no_change : (w : PlainTree) → IsRemainderOf u w → leaves (with_subtree q w t) ≡ leaves t
@@ -148,16 +165,21 @@ in_span tree is t u q x left e at =
           record {
             inside = inside q x.first x.end 0 (0 + weight (whole tree)) t u it.node s it.is_left starts ends;
             all = parts_are q x.first x.end 0 (0 + weight (whole tree)) t u it.node s it.is_left starts ends (leaves t) (leaves u) s.are;
-            changed = λ w d. parts_are q x.first x.end 0 (0 + weight (whole tree)) t u it.node s it.is_left starts ends (leaves (with_subtree q w t)) (leaves w) (s.changed w);
+            changed =
+                λ w d. parts_are q x.first x.end 0 (0 + weight (whole tree)) t u it.node s it.is_left starts ends (leaves (with_subtree q w t)) (leaves w)
+                (s.changed w);
           }
       | inr none ↦
           let empty : weight it.node ≡ 0 = omega (arith, none) in
           let ends : x.end ≡ x.first = omega (arith, node.1.end, weights, none) in
           record {
             inside = no_inside q x.first x.end 0 (0 + weight (whole tree)) t u it.node s it.is_left ends empty rises;
-            all = no_parts q x.first x.end 0 (0 + weight (whole tree)) t u it.node s it.is_left ends empty rises (leaves u) (no_leaves (λ k i. i) u (omega (arith, lighter it.node u it.is_left, empty)));
+            all =
+                no_parts q x.first x.end 0 (0 + weight (whole tree)) t u it.node s it.is_left ends empty rises (leaves u)
+                (no_leaves (λ k i. i) u (omega (arith, lighter it.node u it.is_left, empty)));
             changed = λ w d.
                 no_change q x.first x.end 0 (0 + weight (whole tree)) t u it.node s it.is_left ends empty rises w d
-                ∙ no_parts q x.first x.end 0 (0 + weight (whole tree)) t u it.node s it.is_left ends empty rises (leaves w) (no_leaves (λ k i. i) w (omega (arith, lighter it.node u it.is_left, lighter u w d, empty)));
+                ∙ no_parts q x.first x.end 0 (0 + weight (whole tree)) t u it.node s it.is_left ends empty rises (leaves w)
+                (no_leaves (λ k i. i) w (omega (arith, lighter it.node u it.is_left, lighter u w d, empty)));
           }
     ]

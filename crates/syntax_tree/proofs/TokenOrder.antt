@@ -64,17 +64,20 @@ module _ (i j : ℕ) where
           ]
       follow low high from (PlainTree.node n r' a ts) w r e f = elim (cases_Bool (nat_eq n p)) [
         | inl is ↦
-            let same : PlainTree.node n r' a ts ≡ u = same_Some (PlainTree.node n r' a ts) u (sym (cond-true (nat_eq n p) (Some (PlainTree.node n r' a ts)) (subtree_among p ts) is) ∙ e) in
+            let same : PlainTree.node n r' a ts ≡ u =
+            same_Some (PlainTree.node n r' a ts) u (sym (cond-true (nat_eq n p) (Some (PlainTree.node n r' a ts)) (subtree_among p ts) is) ∙ e) in
             absurd (none-some v (sym apart ∙ ap (subtree q) (sym same) ∙ f))
         | inr is ↦
             let e' : subtree_among p ts ≡ Some u = sym (cond-false (nat_eq n p) (Some (PlainTree.node n r' a ts)) (subtree_among p ts) is) ∙ e in
             elim (cases_Bool (nat_eq n q)) [
               | inl first ↦ absurd (omega (arith, (found_among (n + 1) high p ts u w.1 e').above, eqb-true n q first, less))
-              | inr later ↦ follow_among (n + 1) high from ts w.1 r e' (sym (cond-false (nat_eq n q) (Some (PlainTree.node n r' a ts)) (subtree_among q ts) later) ∙ f)
+              | inr later ↦ follow_among (n + 1) high from ts w.1 r e'
+                  (sym (cond-false (nat_eq n q) (Some (PlainTree.node n r' a ts)) (subtree_among q ts) later) ∙ f)
             ]
       ]
 
-      follow_among : (low high from : ℕ) (ts : PlainTrees) → AreWithin low high ts → RisesFrom from (of_leaves_all (λ k i. i) ts) → subtree_among p ts ≡ Some u → subtree_among q ts ≡ Some v → i < j
+      follow_among : (low high from : ℕ) (ts : PlainTrees) → AreWithin low high ts → RisesFrom from (of_leaves_all (λ k i. i) ts) → subtree_among p ts ≡ Some u
+          → subtree_among q ts ≡ Some v → i < j
       follow_among low high from PlainTrees.none w r e f = absurd (none-some u e)
       follow_among low high from (PlainTrees.next t ts) w r e f = elim (or_some (subtree p t) (subtree_among p ts) u e) [
         | inl first ↦ elim (or_some (subtree q t) (subtree_among q ts) v f) [

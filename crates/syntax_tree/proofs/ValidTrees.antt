@@ -12,7 +12,8 @@ use Rattle.normal_form.specs.FormLaws.{ElementsAreNotEmpty}
 use Rattle.compat_table.proofs.Lent.{derive_more}
 use Rattle.syntax_tree.specs.Trees.{PlainTree, PlainTrees, kinds_of, weight}
 use Rattle.syntax_tree.specs.inner.Trees.{kinds_of_all}
-use Rattle.syntax_tree.specs.Valid.{IsValid, AreValid, EachIsValid, of_leaf, of_regular, of_absent, of_present, of_star, of_plus, of_no_slots, of_slot, of_none, of_next}
+use Rattle.syntax_tree.specs.Valid.{IsValid, AreValid, EachIsValid, of_leaf, of_regular, of_absent, of_present}
+use Rattle.syntax_tree.specs.Valid.{of_star, of_plus, of_no_slots, of_slot, of_none, of_next}
 use Rattle.syntax_tree.specs.Laws.{ElementsHaveTokens, ValidTreesAreDerived}
 use Rattle.syntax_tree.proofs.LeftTrees.{no_leaves}
 
@@ -22,14 +23,18 @@ module _ (N : NormalForm) where
     pub derived : (s : Sym) (t : PlainTree) → IsValid N s t → NormalDerives N s (kinds_of t)
     derived s t (of_leaf s' n k i fits) = derive_more N (Kind k) s fits (k ∷ []) (of_kind k)
     derived s t (of_regular s' n r a ts alts alt fits at_rule at valid) =
-        derive_more N (Rule r) s fits (kinds_of_all ts) (derives.of_regular r alts alt (kinds_of_all ts) at_rule (contains_at alts a alt at) (derived_seq alt ts valid))
+        derive_more N (Rule r) s fits (kinds_of_all ts)
+        (derives.of_regular r alts alt (kinds_of_all ts) at_rule (contains_at alts a alt at) (derived_seq alt ts valid))
     derived s t (of_absent s' n r x fits at_rule) = derive_more N (Rule r) s fits [] (derives.of_absent r x at_rule)
     derived s t (of_present s' n r u x fits at_rule valid) =
         let P : List ℕ → Type 0 = λ w. NormalDerives N x w in
-        derive_more N (Rule r) s fits (kinds_of u ++ []) (derives.of_present r x (kinds_of u ++ []) at_rule (subst P (sym (append-nil (kinds_of u))) (derived x u valid)))
-    derived s t (of_star s' n r ts x fits at_rule each) = derive_more N (Rule r) s fits (kinds_of_all ts) (derives.of_star r x (kinds_of_all ts) at_rule (derived_each x ts each))
+        derive_more N (Rule r) s fits (kinds_of u ++ [])
+        (derives.of_present r x (kinds_of u ++ []) at_rule (subst P (sym (append-nil (kinds_of u))) (derived x u valid)))
+    derived s t (of_star s' n r ts x fits at_rule each) =
+        derive_more N (Rule r) s fits (kinds_of_all ts) (derives.of_star r x (kinds_of_all ts) at_rule (derived_each x ts each))
     derived s t (of_plus s' n r u ts x fits at_rule (of_next x' u' ts' valid each)) =
-        derive_more N (Rule r) s fits (kinds_of u ++ kinds_of_all ts) (derives.of_plus r x (kinds_of u) (kinds_of_all ts) at_rule (derived x u valid) (derived_each x ts each))
+        derive_more N (Rule r) s fits (kinds_of u ++ kinds_of_all ts)
+        (derives.of_plus r x (kinds_of u) (kinds_of_all ts) at_rule (derived x u valid) (derived_each x ts each))
 
     derived_seq : (ss : List Sym) (ts : PlainTrees) → AreValid N ss ts → NormalDerivesSeq N ss (kinds_of_all ts)
     derived_seq ss ts of_no_slots = of_done

@@ -1,5 +1,6 @@
 -- Numbers of nodes between two bounds.
-use Rattle.std.proofs.Common.{◌≡◌, ◌⊎◌, inl, inr, ℕ, zero, suc, ◌+◌, ◌<◌, ◌≤◌, false, List, [], ◌∷◌, ◌++◌, Option, Some, None, nat_eq, length, get_or, refl, sym, ap, ◌∙◌, subst, arith, append_assoc}
+use Rattle.std.proofs.Common.{◌≡◌, ◌⊎◌, inl, inr, ℕ, zero, suc, ◌+◌, ◌<◌, ◌≤◌, false, List, [], ◌∷◌, ◌++◌, Option, Some, None}
+use Rattle.std.proofs.Common.{nat_eq, length, get_or, refl, sym, ap, ◌∙◌, subst, arith, append_assoc}
 use Rattle.std.specs.Prelude.{⊤, slice_index}
 use Rattle.std.specs.List.Sorted.{IsStrictlyIncreasing}
 use Rattle.std.specs.Option.{option_or}
@@ -55,12 +56,15 @@ mutual
   outside low high q (PlainTree.leaf n k i) w (inl b) = ne_eqb n q (omega (arith, w.0, b))
   outside low high q (PlainTree.leaf n k i) w (inr b) = ne_eqb n q (omega (arith, w.1, b))
   outside low high q (PlainTree.node n r a ts) w (inl b) = (ne_eqb n q (omega (arith, w.0, b)), all_outside (n + 1) high q ts w.1 (inl (omega (arith, w.0, b))))
-  outside low high q (PlainTree.node n r a ts) w (inr b) = (ne_eqb n q (omega (arith, bounds_all (n + 1) high ts w.1, b)), all_outside (n + 1) high q ts w.1 (inr b))
+  outside low high q (PlainTree.node n r a ts) w (inr b) =
+      (ne_eqb n q (omega (arith, bounds_all (n + 1) high ts w.1, b)), all_outside (n + 1) high q ts w.1 (inr b))
 
   pub all_outside : (low high q : ℕ) (ts : PlainTrees) → AreWithin low high ts → (q < low) ⊎ (high ≤ q) → AllLack q ts
   all_outside low high q PlainTrees.none w b = tt
-  all_outside low high q (PlainTrees.next t ts) w (inl b) = (outside low w.0 q t w.1 (inl b), all_outside w.0 high q ts w.2 (inl (omega (arith, b, bounds low w.0 t w.1))))
-  all_outside low high q (PlainTrees.next t ts) w (inr b) = (outside low w.0 q t w.1 (inr (omega (arith, b, bounds_all w.0 high ts w.2))), all_outside w.0 high q ts w.2 (inr b))
+  all_outside low high q (PlainTrees.next t ts) w (inl b) =
+      (outside low w.0 q t w.1 (inl b), all_outside w.0 high q ts w.2 (inl (omega (arith, b, bounds low w.0 t w.1))))
+  all_outside low high q (PlainTrees.next t ts) w (inr b) =
+      (outside low w.0 q t w.1 (inr (omega (arith, b, bounds_all w.0 high ts w.2))), all_outside w.0 high q ts w.2 (inr b))
 
 mutual
   pub lacks_subtree : (q : ℕ) (t : PlainTree) → Lacks q t → subtree q t ≡ None
@@ -74,16 +78,19 @@ mutual
 mutual
   pub lacks_with : (q : ℕ) (w t : PlainTree) → Lacks q t → with_subtree q w t ≡ t
   lacks_with q w (PlainTree.leaf n k i) e = cond-false (nat_eq n q) w (PlainTree.leaf n k i) e
-  lacks_with q w (PlainTree.node n r a ts) e = cond-false (nat_eq n q) w (PlainTree.node n r a (with_subtree_among q w ts)) e.0 ∙ ap (λ us. PlainTree.node n r a us) (lack_with q w ts e.1)
+  lacks_with q w (PlainTree.node n r a ts) e =
+      cond-false (nat_eq n q) w (PlainTree.node n r a (with_subtree_among q w ts)) e.0 ∙ ap (λ us. PlainTree.node n r a us) (lack_with q w ts e.1)
 
   pub lack_with : (q : ℕ) (w : PlainTree) (ts : PlainTrees) → AllLack q ts → with_subtree_among q w ts ≡ ts
   lack_with q w PlainTrees.none e = refl
-  lack_with q w (PlainTrees.next t ts) e = ap (λ u. PlainTrees.next u (with_subtree_among q w ts)) (lacks_with q w t e.0) ∙ ap (λ us. PlainTrees.next t us) (lack_with q w ts e.1)
+  lack_with q w (PlainTrees.next t ts) e =
+      ap (λ u. PlainTrees.next u (with_subtree_among q w ts)) (lacks_with q w t e.0) ∙ ap (λ us. PlainTrees.next t us) (lack_with q w ts e.1)
 
 mutual
   pub lacks_slot : (N : NormalForm) (s : Sym) (q : ℕ) (t : PlainTree) → Lacks q t → slot_at N s q t ≡ None
   lacks_slot N s q (PlainTree.leaf n k i) e = cond-false (nat_eq n q) (Some s) None e
-  lacks_slot N s q (PlainTree.node n r a ts) e = cond-false (nat_eq n q) (Some s) (slot_among N (slots_of N r a ts) q ts) e.0 ∙ lack_slot N (slots_of N r a ts) q ts e.1
+  lacks_slot N s q (PlainTree.node n r a ts) e =
+      cond-false (nat_eq n q) (Some s) (slot_among N (slots_of N r a ts) q ts) e.0 ∙ lack_slot N (slots_of N r a ts) q ts e.1
 
   pub lack_slot : (N : NormalForm) (ss : List Sym) (q : ℕ) (ts : PlainTrees) → AllLack q ts → slot_among N ss q ts ≡ None
   lack_slot N ss q PlainTrees.none e = refl
@@ -120,27 +127,49 @@ pub record IsFound (low high q : ℕ) (v : PlainTree) : Type 0 where
   pub ends : end ≤ high
 
 pub wider : (low high low' high' q : ℕ) (v : PlainTree) → IsFound low high q v → low' ≤ low → high ≤ high' → IsFound low' high' q v
-wider low high low' high' q v f l h = record { number = f.number; above = omega (arith, f.above, l); below = omega (arith, f.below, h); end = f.end; inside = f.inside; ends = omega (arith, f.ends, h) }
+wider low high low' high' q v f l h =
+    record {
+      number = f.number;
+      above = omega (arith, f.above, l);
+      below = omega (arith, f.below, h);
+      end = f.end;
+      inside = f.inside;
+      ends = omega (arith, f.ends, h);
+    }
 
 found_leaf : (n k i q low high : ℕ) (v : PlainTree) → IsWithin low high (PlainTree.leaf n k i) → n ≡ q → PlainTree.leaf n k i ≡ v → IsFound low high q v
 found_leaf n k i q low high v w e f =
     let P : PlainTree → Type 0 = λ u. IsFound low high q u in
-    subst P f (record { number = e; above = omega (arith, w.0, e); below = omega (arith, w.1, e); end = high; inside = (omega (arith, e), w.1); ends = omega arith })
+    subst P f
+    (record { number = e; above = omega (arith, w.0, e); below = omega (arith, w.1, e); end = high; inside = (omega (arith, e), w.1); ends = omega arith })
 
-found_node : (n r a : ℕ) (ts : PlainTrees) (q low high : ℕ) (v : PlainTree) → IsWithin low high (PlainTree.node n r a ts) → n ≡ q → PlainTree.node n r a ts ≡ v → IsFound low high q v
+found_node : (n r a : ℕ) (ts : PlainTrees) (q low high : ℕ) (v : PlainTree) → IsWithin low high (PlainTree.node n r a ts) → n ≡ q → PlainTree.node n r a ts ≡ v
+    → IsFound low high q v
 found_node n r a ts q low high v w e f =
     let P : PlainTree → Type 0 = λ u. IsFound low high q u in
-    subst P f (record { number = e; above = omega (arith, w.0, e); below = omega (arith, bounds_all (n + 1) high ts w.1, e); end = high; inside = (omega (arith, e), w.1); ends = omega arith })
+    subst P f
+    (record {
+      number = e;
+      above = omega (arith, w.0, e);
+      below = omega (arith, bounds_all (n + 1) high ts w.1, e);
+      end = high;
+      inside = (omega (arith, e), w.1);
+      ends = omega arith;
+    })
 
 mutual
   pub found : (low high q : ℕ) (t v : PlainTree) → IsWithin low high t → subtree q t ≡ Some v → IsFound low high q v
   found low high q (PlainTree.leaf n k i) v w e = elim (cases_Bool (nat_eq n q)) [
-    | inl is ↦ found_leaf n k i q low high v w (eqb-true n q is) (same_Some (PlainTree.leaf n k i) v (sym (cond-true (nat_eq n q) (Some (PlainTree.leaf n k i)) None is) ∙ e))
+    | inl is ↦ found_leaf n k i q low high v w (eqb-true n q is)
+        (same_Some (PlainTree.leaf n k i) v (sym (cond-true (nat_eq n q) (Some (PlainTree.leaf n k i)) None is) ∙ e))
     | inr is ↦ absurd (none-some v (sym (cond-false (nat_eq n q) (Some (PlainTree.leaf n k i)) None is) ∙ e))
   ]
   found low high q (PlainTree.node n r a ts) v w e = elim (cases_Bool (nat_eq n q)) [
-    | inl is ↦ found_node n r a ts q low high v w (eqb-true n q is) (same_Some (PlainTree.node n r a ts) v (sym (cond-true (nat_eq n q) (Some (PlainTree.node n r a ts)) (subtree_among q ts) is) ∙ e))
-    | inr is ↦ wider (n + 1) high low high q v (found_among (n + 1) high q ts v w.1 (sym (cond-false (nat_eq n q) (Some (PlainTree.node n r a ts)) (subtree_among q ts) is) ∙ e)) (omega (arith, w.0)) (omega arith)
+    | inl is ↦ found_node n r a ts q low high v w (eqb-true n q is)
+        (same_Some (PlainTree.node n r a ts) v (sym (cond-true (nat_eq n q) (Some (PlainTree.node n r a ts)) (subtree_among q ts) is) ∙ e))
+    | inr is ↦ wider (n + 1) high low high q v
+        (found_among (n + 1) high q ts v w.1 (sym (cond-false (nat_eq n q) (Some (PlainTree.node n r a ts)) (subtree_among q ts) is) ∙ e)) (omega (arith, w.0))
+        (omega arith)
   ]
 
   pub found_among : (low high q : ℕ) (ts : PlainTrees) (v : PlainTree) → AreWithin low high ts → subtree_among q ts ≡ Some v → IsFound low high q v
@@ -177,7 +206,8 @@ increasing_rises low (x ∷ y ∷ xs) h l =
     let later : IsStrictlyIncreasing (y ∷ xs) = λ k within. next_of x y xs k (h (suc k) (omega (arith, within))) in
     (l x (y ∷ xs) refl, increasing_rises (x + 1) (y ∷ xs) later (λ z zs e. let same : y ≡ z = cc in omega (arith, first, same)))
   where
-    next_of : (x y : ℕ) (xs : List ℕ) (k : ℕ) → slice_index (x ∷ y ∷ xs) (suc k) < slice_index (x ∷ y ∷ xs) (suc k + 1) → slice_index (y ∷ xs) k < slice_index (y ∷ xs) (k + 1)
+    next_of : (x y : ℕ) (xs : List ℕ) (k : ℕ) → slice_index (x ∷ y ∷ xs) (suc k) < slice_index (x ∷ y ∷ xs) (suc k + 1)
+        → slice_index (y ∷ xs) k < slice_index (y ∷ xs) (k + 1)
     next_of x y xs k h =
         let e : suc k + 1 ≡ suc (k + 1) = omega arith in
         let P : ℕ → Type 0 = λ j. get_or (y ∷ xs) k 0 < get_or (x ∷ y ∷ xs) j 0 in
@@ -192,14 +222,16 @@ mutual
   numbers_rise_all low high PlainTrees.none rest w r = rises_weaker high low rest w r
   numbers_rise_all low high (PlainTrees.next t ts) rest w r =
       let P : List ℕ → Type 0 = λ l. RisesFrom low l in
-      subst P (sym (append_assoc (numbers t) (numbers_all ts) rest)) (numbers_rise low w.0 t (numbers_all ts ++ rest) w.1 (numbers_rise_all w.0 high ts rest w.2 r))
+      subst P (sym (append_assoc (numbers t) (numbers_all ts) rest))
+      (numbers_rise low w.0 t (numbers_all ts ++ rest) w.1 (numbers_rise_all w.0 high ts rest w.2 r))
 
 mutual
   pub rise_within : (low : ℕ) (t : PlainTree) (rest : List ℕ) → RisesFrom low (numbers t ++ rest) → (high : ℕ) × IsWithin low high t × RisesFrom high rest
   rise_within low (PlainTree.leaf n k i) rest r = (n + 1, (r.0, omega arith), r.1)
   rise_within low (PlainTree.node n r' a ts) rest r = let more = rise_within_all (n + 1) ts rest r.1 in (more.0, (r.0, more.1), more.2)
 
-  pub rise_within_all : (low : ℕ) (ts : PlainTrees) (rest : List ℕ) → RisesFrom low (numbers_all ts ++ rest) → (high : ℕ) × AreWithin low high ts × RisesFrom high rest
+  pub rise_within_all : (low : ℕ) (ts : PlainTrees) (rest : List ℕ) → RisesFrom low (numbers_all ts ++ rest) → (high : ℕ) × AreWithin low high ts
+      × RisesFrom high rest
   rise_within_all low PlainTrees.none rest r = (low, omega arith, r)
   rise_within_all low (PlainTrees.next t ts) rest r =
       let P : List ℕ → Type 0 = λ l. RisesFrom low l in

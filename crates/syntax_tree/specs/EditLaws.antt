@@ -62,7 +62,9 @@ pub record HasOtherNodes (N : NormalForm) (s : Sym) (t : PlainTree) (q : ℕ) (x
 
 -- A valid tree whose numbers rise has them.
 abbrev pub OtherNodesStay : Type 0
-OtherNodesStay = (N : NormalForm) (s x : Sym) (q : ℕ) (t v w : PlainTree) → IsValid N s t → NumbersRise t → subtree q t ≡ Some v → slot_at N s q t ≡ Some x → IsRemainderOf v w →
+OtherNodesStay =
+    (N : NormalForm) (s x : Sym) (q : ℕ) (t v w : PlainTree) → IsValid N s t → NumbersRise t → subtree q t ≡ Some v → slot_at N s q t ≡ Some x
+    → IsRemainderOf v w →
     HasOtherNodes N s t q x v w
 
 -- Some of the elements of a list are valid elements again, and are left of them.
@@ -71,10 +73,12 @@ SelectedAreValid = (N : NormalForm) (x : Sym) (mask : List Bool) (ts : PlainTree
 
 -- The tree w is the tree v, a star or plus, with some of its elements; a plus keeps at least one.
 pub data SelectsElements (N : NormalForm) (mask : List Bool) : PlainTree → PlainTree → Type 0 where
-  of_star : (n r a : ℕ) (ts : PlainTrees) (x : Sym) → slice_get N.rules r ≡ Some (RuleForm.star x) → SelectsElements N mask (PlainTree.node n r a ts) (PlainTree.node n r a (selected_trees mask ts))
+  of_star : (n r a : ℕ) (ts : PlainTrees) (x : Sym) → slice_get N.rules r ≡ Some (RuleForm.star x)
+      → SelectsElements N mask (PlainTree.node n r a ts) (PlainTree.node n r a (selected_trees mask ts))
   of_plus : (n r a : ℕ) (ts : PlainTrees) (x : Sym) → slice_get N.rules r ≡ Some (RuleForm.plus x) → 1 ≤ count (selected_trees mask ts) →
       SelectsElements N mask (PlainTree.node n r a ts) (PlainTree.node n r a (selected_trees mask ts))
 
 -- A list with some of its elements is valid for the slot that it was valid for, and is left of it.
 abbrev pub SelectionsAreValid : Type 0
-SelectionsAreValid = (N : NormalForm) (x : Sym) (mask : List Bool) (v w : PlainTree) → IsValid N x v → SelectsElements N mask v w → IsValid N x w × IsRemainderOf v w
+SelectionsAreValid =
+    (N : NormalForm) (x : Sym) (mask : List Bool) (v w : PlainTree) → IsValid N x v → SelectsElements N mask v w → IsValid N x w × IsRemainderOf v w

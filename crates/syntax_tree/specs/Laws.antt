@@ -27,11 +27,14 @@ PreferredTreesAreValid = (N : NormalForm) (kinds : List ℕ) (s : Sym) (i j : �
 
 -- There is one preferred tree at most, up to the numbers of its nodes.
 abbrev pub PreferredTreesAreOne : Type 0
-PreferredTreesAreOne = (N : NormalForm) (kinds : List ℕ) (s : Sym) (i j : ℕ) (t u : PlainTree) → Preferred N kinds s i j t → Preferred N kinds s i j u → renumbered 0 t ≡ renumbered 0 u
+PreferredTreesAreOne =
+    (N : NormalForm) (kinds : List ℕ) (s : Sym) (i j : ℕ) (t u : PlainTree) → Preferred N kinds s i j t → Preferred N kinds s i j u
+    → renumbered 0 t ≡ renumbered 0 u
 
 -- A preferred tree with other numbers is preferred too.
 abbrev pub NumbersDontMatter : Type 0
-NumbersDontMatter = (N : NormalForm) (kinds : List ℕ) (s : Sym) (i j n : ℕ) (t : PlainTree) → Preferred N kinds s i j t → Preferred N kinds s i j (renumbered n t)
+NumbersDontMatter =
+    (N : NormalForm) (kinds : List ℕ) (s : Sym) (i j n : ℕ) (t : PlainTree) → Preferred N kinds s i j t → Preferred N kinds s i j (renumbered n t)
 
 -- Each element of a star or plus has a leaf.
 abbrev pub ElementsHaveTokens : Type 0

@@ -35,17 +35,20 @@ LeavesKeepKinds = (t u : PlainTree) → HasTokensFrom 0 t → IsRemainderOf t u 
 
 -- What is left at a node is left of what was there.
 abbrev pub NodesAreLeft : Type 0
-NodesAreLeft = (t u w : PlainTree) (q : ℕ) → NumbersRise t → IsRemainderOf t u → subtree q u ≡ Some w → (v : PlainTree) × (subtree q t ≡ Some v) × IsRemainderOf v w
+NodesAreLeft =
+    (t u w : PlainTree) (q : ℕ) → NumbersRise t → IsRemainderOf t u → subtree q u ≡ Some w → (v : PlainTree) × (subtree q t ≡ Some v) × IsRemainderOf v w
 
 -- the token i is one of those from the token `first` up to but not including the token `end`
 abbrev pub is_within : ℕ → ℕ → ℕ → Bool
 is_within first end i = nat_le first i && nat_lt i end
 
--- The leaves below a node that is left are those that are left of all tokens in the node's span. With what is left of it in its position, the leaves before and after the span are as they were.
+-- The leaves below a node that is left are those that are left of all tokens in the node's span. With
+-- what is left of it in its position, the leaves before and after the span are as they were.
 pub record AreLeavesInSpan (x : Node) (q : ℕ) (t u : PlainTree) : Type 0 where
   pub inside : leaves u ≡ filter (is_within x.first x.end) (leaves t)
   pub all : leaves t ≡ filter (λ i. nat_lt i x.first) (leaves t) ++ leaves u ++ filter (λ i. nat_le x.end i) (leaves t)
-  pub changed : (w : PlainTree) → IsRemainderOf u w → leaves (with_subtree q w t) ≡ filter (λ i. nat_lt i x.first) (leaves t) ++ leaves w ++ filter (λ i. nat_le x.end i) (leaves t)
+  pub changed : (w : PlainTree) → IsRemainderOf u w
+      → leaves (with_subtree q w t) ≡ filter (λ i. nat_lt i x.first) (leaves t) ++ leaves w ++ filter (λ i. nat_le x.end i) (leaves t)
 
 abbrev pub LeavesInSpan : Type 0
 LeavesInSpan = (tree : SyntaxTree) → AreNodesOf tree.form tree.start tree.nodes (whole tree) → (t u : PlainTree) (q : ℕ) (x : Node) →

@@ -7,7 +7,8 @@ use Rattle.syntax_tree.specs.declared.node.Node.{Node}
 use Rattle.syntax_tree.specs.Trees.{PlainTree, PlainTrees, HasTokensFrom, count, renumbered, weight}
 use Rattle.syntax_tree.specs.Valid.{IsValid, slots_of}
 
--- The tree of all tokens of an input: valid for its slot; its nodes are numbered from 0, each before those below it, from left to right; and its leaves are the tokens from 0 on, in their order.
+-- The tree of all tokens of an input: valid for its slot; its nodes are numbered from 0, each before those
+-- below it, from left to right; and its leaves are the tokens from 0 on, in their order.
 pub record IsWhole (N : NormalForm) (s : Sym) (t : PlainTree) : Type 0 where
   pub valid : IsValid N s t
   pub numbered : renumbered 0 t ≡ t
@@ -16,7 +17,8 @@ pub record IsWhole (N : NormalForm) (s : Sym) (t : PlainTree) : Type 0 where
 abbrev mutual
   -- the nodes of a tree that is in a slot, has a parent or none, and has tokens from `first` on: each before those below it, from left to right
   pub nodes_of : NormalForm → Sym → Option ℕ → ℕ → PlainTree → List Node
-  nodes_of N s parent first (PlainTree.leaf n k i) = record { sym = Kind k; slot = s; alt = 0; children = 0; parent = parent; first = first; end = first + 1 } ∷ []
+  nodes_of N s parent first (PlainTree.leaf n k i) =
+      record { sym = Kind k; slot = s; alt = 0; children = 0; parent = parent; first = first; end = first + 1 } ∷ []
   nodes_of N s parent first (PlainTree.node n r a ts) =
       record { sym = Rule r; slot = s; alt = a; children = count ts; parent = parent; first = first; end = first + weight (PlainTree.node n r a ts) }
       ∷ nodes_of_all N (slots_of N r a ts) (Some n) first ts

@@ -14,9 +14,11 @@ mutual
     of_leaf : (s : Sym) (n k i : ℕ) → Fits N (Kind k) s → IsValid N s (PlainTree.leaf n k i)
     -- a regular node has one child for each symbol of its alternative, valid for that symbol
     of_regular : (s : Sym) (n r a : ℕ) (ts : PlainTrees) (alts : List (List Sym)) (alt : List Sym) →
-        Fits N (Rule r) s → slice_get N.rules r ≡ Some (RuleForm.regular alts) → slice_get alts a ≡ Some alt → AreValid N alt ts → IsValid N s (PlainTree.node n r a ts)
+        Fits N (Rule r) s → slice_get N.rules r ≡ Some (RuleForm.regular alts) → slice_get alts a ≡ Some alt → AreValid N alt ts
+        → IsValid N s (PlainTree.node n r a ts)
     -- an optional has no child, or one that is valid for its symbol
-    of_absent : (s : Sym) (n r : ℕ) (x : Sym) → Fits N (Rule r) s → slice_get N.rules r ≡ Some (RuleForm.opt x) → IsValid N s (PlainTree.node n r 0 PlainTrees.none)
+    of_absent : (s : Sym) (n r : ℕ) (x : Sym) → Fits N (Rule r) s → slice_get N.rules r ≡ Some (RuleForm.opt x)
+        → IsValid N s (PlainTree.node n r 0 PlainTrees.none)
     of_present : (s : Sym) (n r : ℕ) (t : PlainTree) (x : Sym) →
         Fits N (Rule r) s → slice_get N.rules r ≡ Some (RuleForm.opt x) → IsValid N x t → IsValid N s (PlainTree.node n r 0 (PlainTrees.next t PlainTrees.none))
     -- a star any number of these
@@ -24,7 +26,8 @@ mutual
         Fits N (Rule r) s → slice_get N.rules r ≡ Some (RuleForm.star x) → EachIsValid N x ts → IsValid N s (PlainTree.node n r 0 ts)
     -- a plus at least one
     of_plus : (s : Sym) (n r : ℕ) (t : PlainTree) (ts : PlainTrees) (x : Sym) →
-        Fits N (Rule r) s → slice_get N.rules r ≡ Some (RuleForm.plus x) → EachIsValid N x (PlainTrees.next t ts) → IsValid N s (PlainTree.node n r 0 (PlainTrees.next t ts))
+        Fits N (Rule r) s → slice_get N.rules r ≡ Some (RuleForm.plus x) → EachIsValid N x (PlainTrees.next t ts)
+        → IsValid N s (PlainTree.node n r 0 (PlainTrees.next t ts))
 
   -- There are as many trees as slots, and each is valid for its own.
   pub data AreValid (N : NormalForm) : List Sym → PlainTrees → Type 0 where

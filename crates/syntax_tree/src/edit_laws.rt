@@ -1,7 +1,8 @@
 //! What follows of edits. Each law is a function that does nothing: a caller calls it so that its
 //! proof has the law.
 
-ghost use Rattle.syntax_tree.specs.EditLaws.{EditsByNumber, LocalEditsAreValid, NodesHaveSlots, OtherNodesStay, SelectedAreValid, SelectionsAreValid, SingleEditsAreTrees, SubtreesAreLeft, SubtreesChange, SubtreesFit};
+ghost use Rattle.syntax_tree.specs.EditLaws.{EditsByNumber, LocalEditsAreValid, NodesHaveSlots, OtherNodesStay, SelectedAreValid};
+ghost use Rattle.syntax_tree.specs.EditLaws.{SelectionsAreValid, SingleEditsAreTrees, SubtreesAreLeft, SubtreesChange, SubtreesFit};
 
 /// The single edits of a tree are the edits at its nodes, each named by its number.
 pub fn edits_by_number()

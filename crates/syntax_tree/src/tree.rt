@@ -32,7 +32,8 @@ impl Model for Tree {
 
     ghost view = { λ t. record { form = t.normal; start = t.start; nodes = t.nodes.items } };
 
-    ghost invariant = { λ t. AreNodesOf t.normal t.start t.nodes.items (whole_of t.nodes.items) × (vec_len t.nodes < 2 ^ 32) × AreAfters t.after.items (whole_of t.nodes.items) };
+    ghost invariant = { λ t. AreNodesOf t.normal t.start t.nodes.items (whole_of t.nodes.items) × (vec_len t.nodes < 2 ^ 32)
+        × AreAfters t.after.items (whole_of t.nodes.items) };
 }
 
 impl Tree {

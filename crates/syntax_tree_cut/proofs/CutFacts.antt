@@ -1,5 +1,6 @@
 -- What holds of cuts and of the nodes that are left, for the calls.
-use Rattle.std.proofs.Common.{◌≡◌, inl, inr, ℕ, zero, suc, ◌+◌, ◌<◌, ◌≤◌, List, [], ◌∷◌, ◌++◌, Option, Some, None, length, slice_get, get_or, refl, sym, ap, ◌∙◌, subst, arith}
+use Rattle.std.proofs.Common.{◌≡◌, inl, inr, ℕ, zero, suc, ◌+◌, ◌<◌, ◌≤◌, List, [], ◌∷◌, ◌++◌, Option, Some, None}
+use Rattle.std.proofs.Common.{length, slice_get, get_or, refl, sym, ap, ◌∙◌, subst, arith}
 use Rattle.std.specs.Prelude.{replicate, IsSome}
 use Rattle.std.specs.List.{range_with_len}
 use Rattle.std.specs.List.Sorted.{IsStrictlyIncreasing}
@@ -11,7 +12,8 @@ use Rattle.std.proofs.lemmas.Option.{none-some, slice_get-get_or, slice_get_with
 use Rattle.normal_form.specs.declared.normal.Sym.{Sym}
 use Rattle.normal_form.specs.Form.{NormalForm}
 use Rattle.syntax_tree.specs.declared.node.Node.{Node}
-use Rattle.syntax_tree.specs.Trees.{HasTokensFrom, HaveTokensFrom, PlainTree, PlainTrees, leaves, of_leaves_all, renumbered, renumbered_all, size, size_all, weight, weight_all}
+use Rattle.syntax_tree.specs.Trees.{HasTokensFrom, HaveTokensFrom, PlainTree, PlainTrees, leaves, of_leaves_all}
+use Rattle.syntax_tree.specs.Trees.{renumbered, renumbered_all, size, size_all, weight, weight_all}
 use Rattle.syntax_tree.specs.Numbered.{number_of, subtree, subtree_among}
 use Rattle.syntax_tree.specs.Valid.{slot_at}
 use Rattle.syntax_tree.specs.Nodes.{AreNodesOf, SyntaxTree, nodes_of, whole}
@@ -61,7 +63,8 @@ mutual
             (deeper.0, subtree_below q m r a ts other ∙ deeper.1)
       ]
 
-  pub subtree_among_there : (n q : ℕ) (ts : PlainTrees) → renumbered_all n ts ≡ ts → n ≤ q → q < n + size_all ts → (u : PlainTree) × (subtree_among q ts ≡ Some u)
+  pub subtree_among_there : (n q : ℕ) (ts : PlainTrees) → renumbered_all n ts ≡ ts → n ≤ q → q < n + size_all ts → (u : PlainTree)
+      × (subtree_among q ts ≡ Some u)
   subtree_among_there n q PlainTrees.none e le lt = absurd (omega (arith, le, lt))
   subtree_among_there n q (PlainTrees.next t ts) e le lt =
       let first : renumbered n t ≡ t = cc in
@@ -145,7 +148,8 @@ pub record NodeFacts (tree : SyntaxTree) (c : CutForm) (q : ℕ) (u : PlainTree)
   pub tokens : (x : Node) → slice_get tree.nodes q ≡ Some x → length (within x.first x.end c.kept) ≡ weight u
   pub few : weight u ≤ length tree.nodes
   pub slot_node : (p : ℕ) → slice_get c.positions q ≡ Some p → p < length tree.nodes
-  pub slot : (p : ℕ) (x : Node) → slice_get c.positions q ≡ Some p → slice_get tree.nodes p ≡ Some x → slot_at tree.form tree.start q (cut_tree tree c) ≡ Some x.slot
+  pub slot : (p : ℕ) (x : Node) → slice_get c.positions q ≡ Some p → slice_get tree.nodes p ≡ Some x
+      → slot_at tree.form tree.start q (cut_tree tree c) ≡ Some x.slot
 
 module _ (tree : SyntaxTree) (laws : TreeLaws) (are : AreNodesOf tree.form tree.start tree.nodes (whole tree)) where
   pub nodes_count : length tree.nodes ≡ size (whole tree)
@@ -159,7 +163,8 @@ module _ (tree : SyntaxTree) (laws : TreeLaws) (are : AreNodesOf tree.form tree.
         | inr (inr more) ↦
             let node = get_there tree.nodes (size (whole tree)) more in
             let there = laws.nodes_are_subtrees tree are (size (whole tree)) node.0 node.1 in
-            absurd (let lt = found_within 0 (size (whole tree)) (whole tree) (whole_rises tree laws are) (size (whole tree)) there.0 there.1.subtree_is in omega (arith, lt))
+            absurd (let lt = found_within 0 (size (whole tree)) (whole tree) (whole_rises tree laws are) (size (whole tree)) there.0 there.1.subtree_is in
+            omega (arith, lt))
       ]
 
   pub some_nodes : 0 < length tree.nodes
@@ -169,7 +174,8 @@ module _ (tree : SyntaxTree) (laws : TreeLaws) (are : AreNodesOf tree.form tree.
   tokens_count x e = root_end tree.form tree.start (whole tree) x (ap (λ (ns : List Node). slice_get ns 0) (sym are.are) ∙ e)
 
   -- a cut without edits
-  pub new_cut : (d : CutForm) → d.marks ≡ replicate (length tree.nodes) Kept → d.positions ≡ range_with_len 0 (length tree.nodes) → d.kept ≡ range_with_len 0 (weight (whole tree)) → (cut_tree tree d ≡ whole tree) × IsCutOf tree d
+  pub new_cut : (d : CutForm) → d.marks ≡ replicate (length tree.nodes) Kept → d.positions ≡ range_with_len 0 (length tree.nodes)
+      → d.kept ≡ range_with_len 0 (weight (whole tree)) → (cut_tree tree d ≡ whole tree) × IsCutOf tree d
   new_cut d marks positions kept =
       let all : (q : ℕ) → mark_at d.marks q ≡ Kept = λ q. ap (λ (ms : List Mark). mark_at ms q) marks ∙ all_kept (length tree.nodes) q in
       let root : left_at d.marks 0 (whole tree) ≡ Some (whole tree) =
@@ -218,7 +224,8 @@ module _ (tree : SyntaxTree) (laws : TreeLaws) (are : AreNodesOf tree.form tree.
               omega (arith, lighter, bound, count);
           slot_node = λ p at. elim (cases_option (slice_get tree.nodes p)) [
             | inl some ↦ slice_get_within tree.nodes p some.0 some.1
-            | inr none ↦ absurd (none-some slot.0 (ap (λ (o : Option Node). option_map (λ (x : Node). x.slot) o) (sym none) ∙ ap (slot_at_position tree) (sym at) ∙ own))
+            | inr none ↦ absurd (none-some slot.0 (ap (λ (o : Option Node). option_map (λ (x : Node). x.slot) o) (sym none)
+                ∙ ap (slot_at_position tree) (sym at) ∙ own))
           ];
           slot = λ p x at node. slot.1 ∙ sym own ∙ ap (slot_at_position tree) at ∙ ap (λ (o : Option Node). option_map (λ (y : Node). y.slot) o) node;
         }

@@ -1,5 +1,6 @@
 -- A child of a node deleted.
-use Rattle.std.proofs.Common.{◌≡◌, ◌⊎◌, inl, inr, ℕ, zero, suc, ◌+◌, ◌<◌, ◌≤◌, List, [], ◌∷◌, ◌++◌, Option, Some, None, length, slice_get, refl, sym, ap, ◌∙◌, subst, arith, append_assoc, length-append}
+use Rattle.std.proofs.Common.{◌≡◌, ◌⊎◌, inl, inr, ℕ, zero, suc, ◌+◌, ◌<◌, ◌≤◌, List, [], ◌∷◌, ◌++◌, Option, Some, None, length}
+use Rattle.std.proofs.Common.{slice_get, refl, sym, ap, ◌∙◌, subst, arith, append_assoc, length-append}
 use Rattle.std.specs.Prelude.{replicate}
 use Rattle.std.specs.List.{Contains}
 use Rattle.std.specs.Option.{option_map_or}
@@ -12,7 +13,8 @@ use Rattle.syntax_tree.specs.Numbered.{number_of, roots, subtree, subtree_among,
 use Rattle.syntax_tree.specs.Valid.{slot_among, slot_at, slots_of, slots_of_form}
 use Rattle.syntax_tree.specs.Edits.{LeavesOut, first, later}
 use Rattle.syntax_tree_cut.specs.Cuts.{or_next, without}
-use Rattle.syntax_tree_cut.proofs.Rising.{Rises, RiseAll, bounds_rise, cases_option, cases_or, found_among_within, found_within, not_found, number_within, or_first, or_second, subtree_among_within, subtree_below, subtree_own, subtree_within, when_equal, when_not}
+use Rattle.syntax_tree_cut.proofs.Rising.{Rises, RiseAll, bounds_rise, cases_option, cases_or, found_among_within, found_within, not_found, number_within}
+use Rattle.syntax_tree_cut.proofs.Rising.{or_first, or_second, subtree_among_within, subtree_below, subtree_own, subtree_within, when_equal, when_not}
 use Rattle.syntax_tree_cut.proofs.EditedTrees.{apart, edited, edited_all, edited_all_outside, edited_outside}
 
 -- a tree without the number stays
@@ -21,33 +23,40 @@ mutual
   with_outside q w low high (PlainTree.leaf n k i) h out = when_not n q w (PlainTree.leaf n k i) (apart q low high (PlainTree.leaf n k i) h out)
   with_outside q w low high (PlainTree.node n r a ts) h out =
       when_not n q w (PlainTree.node n r a (with_subtree_among q w ts)) (apart q low high (PlainTree.node n r a ts) h out)
-      ∙ ap (λ (us : PlainTrees). PlainTree.node n r a us) (with_all_outside q w (n + 1) high ts h.1 (elim out [ inl below ↦ inl (omega (arith, below, h.0)) | inr above ↦ inr above ]))
+      ∙ ap (λ (us : PlainTrees). PlainTree.node n r a us)
+      (with_all_outside q w (n + 1) high ts h.1 (elim out [ inl below ↦ inl (omega (arith, below, h.0)) | inr above ↦ inr above ]))
 
-  pub with_all_outside : (q : ℕ) (w : PlainTree) (low high : ℕ) (ts : PlainTrees) → RiseAll low high ts → (q < low) ⊎ (high ≤ q) → with_subtree_among q w ts ≡ ts
+  pub with_all_outside : (q : ℕ) (w : PlainTree) (low high : ℕ) (ts : PlainTrees) → RiseAll low high ts → (q < low) ⊎ (high ≤ q)
+      → with_subtree_among q w ts ≡ ts
   with_all_outside q w low high PlainTrees.none h out = refl
   with_all_outside q w low high (PlainTrees.next t ts) h out =
       let own = number_within low h.0 t h.1 in
       let rest = bounds_rise h.0 high ts h.2 in
-      ap (λ (x : PlainTree). PlainTrees.next x (with_subtree_among q w ts)) (with_outside q w low h.0 t h.1 (elim out [ inl below ↦ inl below | inr above ↦ inr (omega (arith, above, rest)) ]))
-      ∙ ap (λ (us : PlainTrees). PlainTrees.next t us) (with_all_outside q w h.0 high ts h.2 (elim out [ inl below ↦ inl (omega (arith, below, own)) | inr above ↦ inr above ]))
+      ap (λ (x : PlainTree). PlainTrees.next x (with_subtree_among q w ts))
+      (with_outside q w low h.0 t h.1 (elim out [ inl below ↦ inl below | inr above ↦ inr (omega (arith, above, rest)) ]))
+      ∙ ap (λ (us : PlainTrees). PlainTrees.next t us)
+      (with_all_outside q w h.0 high ts h.2 (elim out [ inl below ↦ inl (omega (arith, below, own)) | inr above ↦ inr above ]))
 
 -- the same node at its own position changes nothing
 mutual
   pub with_itself : (low high : ℕ) (t : PlainTree) → Rises low high t → (q : ℕ) (v : PlainTree) → subtree q t ≡ Some v → with_subtree q v t ≡ t
   with_itself low high (PlainTree.leaf n k i) h q v e =
       elim (cases_eq n q) [
-        | inl same ↦ when_equal n q v (PlainTree.leaf n k i) same ∙ sym (same_Some (PlainTree.leaf n k i) v (sym (subtree_own q (PlainTree.leaf n k i) same) ∙ e))
+        | inl same ↦ when_equal n q v (PlainTree.leaf n k i) same
+            ∙ sym (same_Some (PlainTree.leaf n k i) v (sym (subtree_own q (PlainTree.leaf n k i) same) ∙ e))
         | inr other ↦ when_not n q v (PlainTree.leaf n k i) other
       ]
   with_itself low high (PlainTree.node n r a ts) h q v e =
       elim (cases_eq n q) [
-        | inl same ↦ when_equal n q v (PlainTree.node n r a (with_subtree_among q v ts)) same ∙ sym (same_Some (PlainTree.node n r a ts) v (sym (subtree_own q (PlainTree.node n r a ts) same) ∙ e))
+        | inl same ↦ when_equal n q v (PlainTree.node n r a (with_subtree_among q v ts)) same
+            ∙ sym (same_Some (PlainTree.node n r a ts) v (sym (subtree_own q (PlainTree.node n r a ts) same) ∙ e))
         | inr other ↦
             when_not n q v (PlainTree.node n r a (with_subtree_among q v ts)) other
             ∙ ap (λ (us : PlainTrees). PlainTree.node n r a us) (with_all_itself (n + 1) high ts h.1 q v (sym (subtree_below q n r a ts other) ∙ e))
       ]
 
-  pub with_all_itself : (low high : ℕ) (ts : PlainTrees) → RiseAll low high ts → (q : ℕ) (v : PlainTree) → subtree_among q ts ≡ Some v → with_subtree_among q v ts ≡ ts
+  pub with_all_itself : (low high : ℕ) (ts : PlainTrees) → RiseAll low high ts → (q : ℕ) (v : PlainTree) → subtree_among q ts ≡ Some v
+      → with_subtree_among q v ts ≡ ts
   with_all_itself low high PlainTrees.none h q v e = refl
   with_all_itself low high (PlainTrees.next t ts) h q v e =
       elim (cases_or (subtree q t) (subtree_among q ts) v e) [
@@ -121,32 +130,40 @@ own_deleted low high p q r a us h has =
     let within = child_within (p + 1) high us h.1 q has in
     when_not p q None (Some (PlainTree.node p r a (edited_all q None us))) (λ (e : p ≡ q). omega (arith, e, within))
     ∙ ap (λ (vs : PlainTrees). Some (PlainTree.node p r a vs)) (children_edited (p + 1) high us h.1 q has)
-    ∙ ap (λ (x : PlainTree). Some x) (sym (when_equal p p (PlainTree.node p r a (without q us)) (PlainTree.node p r a (with_subtree_among p (PlainTree.node p r a (without q us)) us)) refl))
+    ∙ ap (λ (x : PlainTree). Some x)
+    (sym (when_equal p p (PlainTree.node p r a (without q us)) (PlainTree.node p r a (with_subtree_among p (PlainTree.node p r a (without q us)) us)) refl))
 
 module _ (p q r a : ℕ) (us : PlainTrees) (has : Contains (roots us) q) where
   mutual
     -- the tree without the child of a node is the tree with the node without the child
-    pub child_deleted : (low high : ℕ) (t : PlainTree) → Rises low high t → subtree p t ≡ Some (PlainTree.node p r a us) → edited q None t ≡ Some (with_subtree p (PlainTree.node p r a (without q us)) t)
+    pub child_deleted : (low high : ℕ) (t : PlainTree) → Rises low high t → subtree p t ≡ Some (PlainTree.node p r a us)
+        → edited q None t ≡ Some (with_subtree p (PlainTree.node p r a (without q us)) t)
     child_deleted low high (PlainTree.leaf n k i) h e =
         elim (cases_eq n p) [
-          | inl same ↦ absurd (leaf_not_node n k i p r a us (same_Some (PlainTree.leaf n k i) (PlainTree.node p r a us) (sym (subtree_own p (PlainTree.leaf n k i) same) ∙ e)))
+          | inl same ↦ absurd (leaf_not_node n k i p r a us
+              (same_Some (PlainTree.leaf n k i) (PlainTree.node p r a us) (sym (subtree_own p (PlainTree.leaf n k i) same) ∙ e)))
           | inr other ↦ absurd (none-some (PlainTree.node p r a us) (sym (when_not n p (Some (PlainTree.leaf n k i)) None other) ∙ e))
         ]
     child_deleted low high (PlainTree.node n r' a' ts) h e =
         elim (cases_eq n p) [
           | inl same ↦
-              let is : PlainTree.node n r' a' ts ≡ PlainTree.node p r a us = same_Some (PlainTree.node n r' a' ts) (PlainTree.node p r a us) (sym (subtree_own p (PlainTree.node n r' a' ts) same) ∙ e) in
-              subst (λ x. edited q None x ≡ Some (with_subtree p (PlainTree.node p r a (without q us)) x)) (sym is) (own_deleted low high p q r a us (subst (λ x. Rises low high x) is h) has)
+              let is : PlainTree.node n r' a' ts ≡ PlainTree.node p r a us =
+              same_Some (PlainTree.node n r' a' ts) (PlainTree.node p r a us) (sym (subtree_own p (PlainTree.node n r' a' ts) same) ∙ e) in
+              subst (λ x. edited q None x ≡ Some (with_subtree p (PlainTree.node p r a (without q us)) x)) (sym is)
+              (own_deleted low high p q r a us (subst (λ x. Rises low high x) is h) has)
           | inr other ↦
               let deeper : subtree_among p ts ≡ Some (PlainTree.node p r a us) = sym (subtree_below p n r' a' ts other) ∙ e in
               let at = subtree_among_within (n + 1) high ts h.1 p (PlainTree.node p r a us) deeper in
               let within = child_within (p + 1) high us at.1.1 q has in
               when_not n q None (Some (PlainTree.node n r' a' (edited_all q None ts))) (λ (f : n ≡ q). omega (arith, f, within, at.2))
               ∙ ap (λ (vs : PlainTrees). Some (PlainTree.node n r' a' vs)) (child_deleted_among (n + 1) high ts h.1 deeper)
-              ∙ ap (λ (x : PlainTree). Some x) (sym (when_not n p (PlainTree.node p r a (without q us)) (PlainTree.node n r' a' (with_subtree_among p (PlainTree.node p r a (without q us)) ts)) other))
+              ∙ ap (λ (x : PlainTree). Some x)
+              (sym (when_not n p (PlainTree.node p r a (without q us))
+              (PlainTree.node n r' a' (with_subtree_among p (PlainTree.node p r a (without q us)) ts)) other))
         ]
 
-    pub child_deleted_among : (low high : ℕ) (ts : PlainTrees) → RiseAll low high ts → subtree_among p ts ≡ Some (PlainTree.node p r a us) → edited_all q None ts ≡ with_subtree_among p (PlainTree.node p r a (without q us)) ts
+    pub child_deleted_among : (low high : ℕ) (ts : PlainTrees) → RiseAll low high ts → subtree_among p ts ≡ Some (PlainTree.node p r a us)
+        → edited_all q None ts ≡ with_subtree_among p (PlainTree.node p r a (without q us)) ts
     child_deleted_among low high PlainTrees.none h e = absurd (none-some (PlainTree.node p r a us) e)
     child_deleted_among low high (PlainTrees.next t ts) h e =
         elim (cases_or (subtree p t) (subtree_among p ts) (PlainTree.node p r a us) e) [
@@ -155,13 +172,15 @@ module _ (p q r a : ℕ) (us : PlainTrees) (has : Contains (roots us) q) where
               let within = child_within (p + 1) h.0 us at.1.1 q has in
               ap (λ (x : Option PlainTree). or_next x (edited_all q None ts)) (child_deleted low h.0 t h.1 found)
               ∙ ap (λ (vs : PlainTrees). PlainTrees.next (with_subtree p (PlainTree.node p r a (without q us)) t) vs)
-              (edited_all_outside q None h.0 high ts h.2 (inl within.1) ∙ sym (with_all_outside p (PlainTree.node p r a (without q us)) h.0 high ts h.2 (inl (omega (arith, within)))))
+              (edited_all_outside q None h.0 high ts h.2 (inl within.1)
+              ∙ sym (with_all_outside p (PlainTree.node p r a (without q us)) h.0 high ts h.2 (inl (omega (arith, within)))))
           | inr both ↦
               let at = subtree_among_within h.0 high ts h.2 p (PlainTree.node p r a us) both.1 in
               let within = child_within (p + 1) high us at.1.1 q has in
               ap (λ (x : Option PlainTree). or_next x (edited_all q None ts)) (edited_outside q None low h.0 t h.1 (inr (omega (arith, within, at.2))))
               ∙ ap (λ (vs : PlainTrees). PlainTrees.next t vs) (child_deleted_among h.0 high ts h.2 both.1)
-              ∙ ap (λ (x : PlainTree). PlainTrees.next x (with_subtree_among p (PlainTree.node p r a (without q us)) ts)) (sym (with_outside p (PlainTree.node p r a (without q us)) low h.0 t h.1 (inr at.2)))
+              ∙ ap (λ (x : PlainTree). PlainTrees.next x (with_subtree_among p (PlainTree.node p r a (without q us)) ts))
+              (sym (with_outside p (PlainTree.node p r a (without q us)) low h.0 t h.1 (inr at.2)))
         ]
 
 -- one of the trees is left out
@@ -172,7 +191,8 @@ without_leaves_out q (PlainTrees.next t ts) has =
       | inl same ↦ subst (λ us. LeavesOut (PlainTrees.next t ts) us) (sym (when_equal (number_of t) q ts (PlainTrees.next t (without q ts)) same)) (first t ts)
       | inr other ↦
           let more : Contains (roots ts) q = elim (cases_child t ts q has) [ inl same ↦ absurd (other same) | inr more ↦ more ] in
-          subst (λ us. LeavesOut (PlainTrees.next t ts) us) (sym (when_not (number_of t) q ts (PlainTrees.next t (without q ts)) other)) (later t ts (without q ts) (without_leaves_out q ts more))
+          subst (λ us. LeavesOut (PlainTrees.next t ts) us) (sym (when_not (number_of t) q ts (PlainTrees.next t (without q ts)) other))
+          (later t ts (without q ts) (without_leaves_out q ts more))
     ]
 
 pub left_out_count : (ts us : PlainTrees) → LeavesOut ts us → count ts ≡ count us + 1
@@ -220,7 +240,8 @@ mutual
 
   pub leaves_count_all : (ts : PlainTrees) → length (of_leaves_all (λ k i. i) ts) ≡ weight_all ts
   leaves_count_all PlainTrees.none = refl
-  leaves_count_all (PlainTrees.next t ts) = length_both (leaves t) (of_leaves_all (λ k i. i) ts) (weight t) (weight_all ts) (leaves_count t) (leaves_count_all ts)
+  leaves_count_all (PlainTrees.next t ts) =
+      length_both (leaves t) (of_leaves_all (λ k i. i) ts) (weight t) (weight_all ts) (leaves_count t) (leaves_count_all ts)
 
 module _ (N : NormalForm) where
   -- a node with a slot is in the tree
@@ -264,12 +285,14 @@ module _ (N : NormalForm) where
       ]
 
   -- elements that are still in a list have the slots that they had
-  pub slots_without : (y : Sym) (low high : ℕ) (ts : PlainTrees) → RiseAll low high ts → (p q : ℕ) (x : Sym) → slot_among N (replicate (count (without p ts)) y) q (without p ts) ≡ Some x → slot_among N (replicate (count ts) y) q ts ≡ Some x
+  pub slots_without : (y : Sym) (low high : ℕ) (ts : PlainTrees) → RiseAll low high ts → (p q : ℕ) (x : Sym)
+      → slot_among N (replicate (count (without p ts)) y) q (without p ts) ≡ Some x → slot_among N (replicate (count ts) y) q ts ≡ Some x
   slots_without y low high PlainTrees.none h p q x e = absurd (none-some x e)
   slots_without y low high (PlainTrees.next t ts) h p q x e =
       elim (cases_eq (number_of t) p) [
         | inl same ↦
-            let f : slot_among N (replicate (count ts) y) q ts ≡ Some x = subst (λ us. slot_among N (replicate (count us) y) q us ≡ Some x) (when_equal (number_of t) p ts (PlainTrees.next t (without p ts)) same) e in
+            let f : slot_among N (replicate (count ts) y) q ts ≡ Some x =
+            subst (λ us. slot_among N (replicate (count us) y) q us ≡ Some x) (when_equal (number_of t) p ts (PlainTrees.next t (without p ts)) same) e in
             let there = slot_among_there (replicate (count ts) y) q ts x f in
             let is = found_among_within h.0 high ts h.2 q there.0 there.1 in
             or_second (slot_at N y q t) (slot_among N (replicate (count ts) y) q ts) (no_slot y q low h.0 t h.1 (inr is.0)) ∙ f
@@ -283,7 +306,8 @@ module _ (N : NormalForm) where
       ]
 
   -- the node of a list or optional has for each child the one slot
-  pub slots_are : (form : RuleForm) (y : Sym) (r a : ℕ) → slice_get N.rules r ≡ Some form → ((children : ℕ) → slots_of_form form a children ≡ replicate children y) → (ts : PlainTrees) → slots_of N r a ts ≡ replicate (count ts) y
+  pub slots_are : (form : RuleForm) (y : Sym) (r a : ℕ) → slice_get N.rules r ≡ Some form
+      → ((children : ℕ) → slots_of_form form a children ≡ replicate children y) → (ts : PlainTrees) → slots_of N r a ts ≡ replicate (count ts) y
   slots_are form y r a rule each ts = ap (λ (o : Option RuleForm). option_map_or (λ f. slots_of_form f a (count ts)) o []) rule ∙ each (count ts)
 
   pub node_slots : (x y : Sym) (p r a : ℕ) (ts us : PlainTrees) → slots_of N r a ts ≡ replicate (count ts) y → slots_of N r a us ≡ replicate (count us) y →
@@ -291,8 +315,10 @@ module _ (N : NormalForm) where
       (q : ℕ) (s : Sym) → slot_at N x q (PlainTree.node p r a us) ≡ Some s → slot_at N x q (PlainTree.node p r a ts) ≡ Some s
   node_slots x y p r a ts us of_ts of_us keep q s e =
       elim (cases_eq p q) [
-        | inl same ↦ when_equal p q (Some x) (slot_among N (slots_of N r a ts) q ts) same ∙ sym (when_equal p q (Some x) (slot_among N (slots_of N r a us) q us) same) ∙ e
+        | inl same ↦ when_equal p q (Some x) (slot_among N (slots_of N r a ts) q ts) same
+            ∙ sym (when_equal p q (Some x) (slot_among N (slots_of N r a us) q us) same) ∙ e
         | inr other ↦
-            let f : slot_among N (replicate (count us) y) q us ≡ Some s = ap (λ (ss : List Sym). slot_among N ss q us) (sym of_us) ∙ sym (when_not p q (Some x) (slot_among N (slots_of N r a us) q us) other) ∙ e in
+            let f : slot_among N (replicate (count us) y) q us ≡ Some s =
+            ap (λ (ss : List Sym). slot_among N ss q us) (sym of_us) ∙ sym (when_not p q (Some x) (slot_among N (slots_of N r a us) q us) other) ∙ e in
             when_not p q (Some x) (slot_among N (slots_of N r a ts) q ts) other ∙ ap (λ (ss : List Sym). slot_among N ss q ts) of_ts ∙ keep q s f
       ]

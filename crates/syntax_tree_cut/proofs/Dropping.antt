@@ -1,5 +1,6 @@
 -- Nodes that are deleted one after another, from left to right.
-use Rattle.std.proofs.Common.{◌≡◌, inl, inr, ℕ, zero, suc, ◌+◌, ◌-◌, ◌<◌, ◌≤◌, List, [], ◌∷◌, ◌++◌, Some, None, Bool, true, false, length, take, drop, slice_get, refl, sym, ap, ◌∙◌, subst, arith, append_assoc, length-drop}
+use Rattle.std.proofs.Common.{◌≡◌, inl, inr, ℕ, zero, suc, ◌+◌, ◌-◌, ◌<◌, ◌≤◌, List, [], ◌∷◌, ◌++◌, Some, None, Bool, true, false, length}
+use Rattle.std.proofs.Common.{take, drop, slice_get, refl, sym, ap, ◌∙◌, subst, arith, append_assoc, length-drop}
 use Rattle.std.specs.Prelude.{if◌then◌else◌, nat_le, nat_lt, slice_index_or, slice_set}
 use Rattle.std.specs.List.{Contains}
 use Rattle.std.specs.List.Sorted.{IsStrictlyIncreasing}
@@ -46,7 +47,8 @@ later_in x y xs (k, lt, e) = (suc k, omega (arith, lt), e)
 all_before : (f : ℕ) (xs : List ℕ) → ((i : ℕ) → Contains xs i → i < f) → before f xs ≡ xs
 all_before f [] h = refl
 all_before f (x ∷ xs) h =
-    cond-true (nat_lt x f) (x ∷ before f xs) (before f xs) (lt-ltb x f (h x (head_in x xs))) ∙ ap (λ (l : List ℕ). x ∷ l) (all_before f xs (λ i has. h i (later_in x i xs has)))
+    cond-true (nat_lt x f) (x ∷ before f xs) (before f xs) (lt-ltb x f (h x (head_in x xs)))
+    ∙ ap (λ (l : List ℕ). x ∷ l) (all_before f xs (λ i has. h i (later_in x i xs has)))
 
 none_after : (e : ℕ) (xs : List ℕ) → ((i : ℕ) → Contains xs i → i < e) → from_on e xs ≡ []
 none_after e [] h = refl
@@ -54,12 +56,15 @@ none_after e (x ∷ xs) h =
     cond-false (nat_le e x) (x ∷ from_on e xs) (from_on e xs) (lt-leb e x (h x (head_in x xs))) ∙ none_after e xs (λ i has. h i (later_in x i xs has))
 
 -- the tokens outside a span, where those of the first list are before it
-outside_span : (xs ys : List ℕ) (f e a b : ℕ) → ((i : ℕ) → Contains xs i → i < f) → f ≤ e → IsSplitAt ys f a → IsSplitAt ys e b → before f (xs ++ ys) ++ from_on e (xs ++ ys) ≡ (xs ++ take a ys) ++ drop b ys
+outside_span : (xs ys : List ℕ) (f e a b : ℕ) → ((i : ℕ) → Contains xs i → i < f) → f ≤ e → IsSplitAt ys f a → IsSplitAt ys e b
+    → before f (xs ++ ys) ++ from_on e (xs ++ ys) ≡ (xs ++ take a ys) ++ drop b ys
 outside_span xs ys f e a b h le at to =
     let front : before f (xs ++ ys) ≡ xs ++ take a ys =
-    filter_both (λ i. nat_lt i f) (λ i. nat_lt i f) xs ys ∙ ap (λ (l : List ℕ). l ++ before f ys) (all_before f xs h) ∙ ap (λ (l : List ℕ). xs ++ l) (sym (take_is ys f a at)) in
+    filter_both (λ i. nat_lt i f) (λ i. nat_lt i f) xs ys ∙ ap (λ (l : List ℕ). l ++ before f ys) (all_before f xs h)
+    ∙ ap (λ (l : List ℕ). xs ++ l) (sym (take_is ys f a at)) in
     let back : from_on e (xs ++ ys) ≡ drop b ys =
-    filter_both (λ i. nat_le e i) (λ i. nat_le e i) xs ys ∙ ap (λ (l : List ℕ). l ++ from_on e ys) (none_after e xs (λ i has. let lt = h i has in omega (arith, lt, le))) ∙ sym (drop_is ys e b to) in
+    filter_both (λ i. nat_le e i) (λ i. nat_le e i) xs ys
+    ∙ ap (λ (l : List ℕ). l ++ from_on e ys) (none_after e xs (λ i has. let lt = h i has in omega (arith, lt, le))) ∙ sym (drop_is ys e b to) in
     ap (λ (l : List ℕ). l ++ from_on e (xs ++ ys)) front ∙ ap (λ (l : List ℕ). (xs ++ take a ys) ++ l) back
 
 some_first_in : (xs : List ℕ) → 0 < length xs → (j : ℕ) × Contains xs j
@@ -80,7 +85,8 @@ not_replaced by e = cc
 
 module _ (tree : SyntaxTree) (laws : TreeLaws) (are : AreNodesOf tree.form tree.start tree.nodes (whole tree)) where
   -- no node is deleted yet
-  pub dropping_begins : (c : CutForm) (all : List ℕ) (gap : Gap) → IsCutOf tree c → AreApart (cut_tree tree c) all → gap.from ≡ 0 → gap.to ≡ 0 → IsDroppedSoFar tree c all all c gap
+  pub dropping_begins : (c : CutForm) (all : List ℕ) (gap : Gap) → IsCutOf tree c → AreApart (cut_tree tree c) all → gap.from ≡ 0 → gap.to ≡ 0
+      → IsDroppedSoFar tree c all all c gap
   dropping_begins c all gap of apart from to = record {
     of = of;
     reached = cut_tree tree c;
@@ -102,15 +108,18 @@ module _ (tree : SyntaxTree) (laws : TreeLaws) (are : AreNodesOf tree.form tree.
   }
 
   -- all nodes are deleted, and the gap is closed
-  pub dropping_ends : (c now after : CutForm) (all : List ℕ) (gap : Gap) → IsDroppedSoFar tree c all [] now gap → CanDrop tree.form tree.start (cut_tree tree c) all → after.marks ≡ now.marks → after.positions ≡ now.positions →
+  pub dropping_ends : (c now after : CutForm) (all : List ℕ) (gap : Gap) → IsDroppedSoFar tree c all [] now gap
+      → CanDrop tree.form tree.start (cut_tree tree c) all → after.marks ≡ now.marks → after.positions ≡ now.positions →
       after.kept ≡ take gap.from now.kept ++ drop gap.to now.kept → (cut_tree tree after ≡ without_nodes all (cut_tree tree c)) × IsCutOf tree after
   dropping_ends c now after all gap so can marks positions kept =
       let t : PlainTree = cut_tree tree c in
       let is : so.reached ≡ without_nodes all t = sym (nothing_out so.reached) ∙ so.ahead in
-      cut_of tree laws are after (without_nodes all t) (ap length marks ∙ so.marks ∙ so.of.for_each) (subst (λ (ms : List Mark). ReplacementsGoDown ms (whole tree)) (sym marks) so.down)
+      cut_of tree laws are after (without_nodes all t) (ap length marks ∙ so.marks ∙ so.of.for_each)
+      (subst (λ (ms : List Mark). ReplacementsGoDown ms (whole tree)) (sym marks) so.down)
       (ap (λ (ms : List Mark). left_at ms 0 (whole tree)) marks ∙ so.root ∙ ap Some is)
       (record { valid = can.valid; rising = (laws.left_is_part t (without_nodes all t) (without_left all t)).leaves_rise so.of.fits.rising })
-      (λ q s e. ap (λ (ps : List ℕ). slot_of tree ps q) (positions ∙ so.positions) ∙ so.of.slots q s (same_slot tree.form all q s tree.start 0 (size (whole tree)) t (tree_rises tree laws are c so.of) can.elements e))
+      (λ q s e. ap (λ (ps : List ℕ). slot_of tree ps q) (positions ∙ so.positions)
+      ∙ so.of.slots q s (same_slot tree.form all q s tree.start 0 (size (whole tree)) t (tree_rises tree laws are c so.of) can.elements e))
       (kept ∙ so.kept ∙ ap leaves is)
 
   module _ (c : CutForm) (all rest : List ℕ) (node : ℕ) (now : CutForm) (gap : Gap) (so : IsDroppedSoFar tree c all (node ∷ rest) now gap) where
@@ -184,14 +193,17 @@ module _ (tree : SyntaxTree) (laws : TreeLaws) (are : AreNodesOf tree.form tree.
               let small = so.before i has in
               let great = so.after node token.0 own.node (head_in node rest) own.node_is token.1 in
               let in_all : Contains (leaves so.reached) i = subst (λ (l : List ℕ). Contains l i) so.kept (Contains-append_left done ahead i has) in
-              let passes : is_within x.first x.end i ≡ true = and_from (nat_le x.first i) (nat_lt i x.end) (le-leb x.first i le) (lt-ltb i x.end (let most = token.3 in omega (arith, small, great, most))) in
-              let in_node : Contains (leaves own.node) i = subst (λ (l : List ℕ). Contains l i) (sym (span x e).inside) (contains_filter (is_within x.first x.end) (leaves so.reached) i passes in_all) in
+              let passes : is_within x.first x.end i ≡ true =
+              and_from (nat_le x.first i) (nat_lt i x.end) (le-leb x.first i le) (lt-ltb i x.end (let most = token.3 in omega (arith, small, great, most))) in
+              let in_node : Contains (leaves own.node) i =
+              subst (λ (l : List ℕ). Contains l i) (sym (span x e).inside) (contains_filter (is_within x.first x.end) (leaves so.reached) i passes in_all) in
               let least = so.after node i own.node (head_in node rest) own.node_is in_node in
               absurd (omega (arith, small, least))
         ]
 
     -- what the counts of tokens before the ends of its span allow
-    pub counts : (x : Node) (a b : ℕ) → slice_get tree.nodes node ≡ Some x → IsSplitAt ahead x.first a → IsSplitAt ahead x.end b → (a ≤ b) × (gap.to + a ≤ length now.kept) × ((gap.to + a) + (b - a) ≤ length now.kept)
+    pub counts : (x : Node) (a b : ℕ) → slice_get tree.nodes node ≡ Some x → IsSplitAt ahead x.first a → IsSplitAt ahead x.end b → (a ≤ b)
+        × (gap.to + a ≤ length now.kept) × ((gap.to + a) + (b - a) ≤ length now.kept)
     counts x a b e at to =
         let up = counts_rise ahead x.first x.end a b at to (span_rises x e) in
         let most = at.among in
@@ -200,8 +212,10 @@ module _ (tree : SyntaxTree) (laws : TreeLaws) (are : AreNodesOf tree.form tree.
         let within = so.within in
         (up, omega (arith, most, long, within), omega (arith, up, most', long, within))
 
-    module _ (d : CutForm) (g : Gap) (x : Node) (a b : ℕ) (is : slice_get tree.nodes node ≡ Some x) (at : IsSplitAt ahead x.first a) (to : IsSplitAt ahead x.end b) (marks : d.marks ≡ slice_set now.marks node Deleted)
-        (positions : d.positions ≡ now.positions) (g_from : g.from ≡ gap.from + a) (g_to : g.to ≡ (gap.to + a) + (b - a)) (stay : take (gap.from + a) d.kept ≡ done ++ take a ahead)
+    module _ (d : CutForm) (g : Gap) (x : Node) (a b : ℕ) (is : slice_get tree.nodes node ≡ Some x) (at : IsSplitAt ahead x.first a)
+        (to : IsSplitAt ahead x.end b) (marks : d.marks ≡ slice_set now.marks node Deleted)
+        (positions : d.positions ≡ now.positions) (g_from : g.from ≡ gap.from + a) (g_to : g.to ≡ (gap.to + a) + (b - a))
+        (stay : take (gap.from + a) d.kept ≡ done ++ take a ahead)
         (next : drop (gap.to + a) d.kept ≡ drop (gap.to + a) now.kept) (long : length d.kept ≡ length now.kept) where
       other_marks : (p : ℕ) → (p ≡ node → ⊥) → mark_at d.marks p ≡ mark_at now.marks p
       other_marks p other = ap (λ (ms : List Mark). mark_at ms p) marks ∙ get_or-set_other now.marks node p Deleted Kept other
@@ -245,14 +259,16 @@ module _ (tree : SyntaxTree) (laws : TreeLaws) (are : AreNodesOf tree.form tree.
           ∙ ap (λ (l : List ℕ). (done ++ take a ahead) ++ l) back
           ∙ sym (outside_span done ahead x.first x.end a b (done_before x is) (span_rises x is) at to)
           ∙ ap (λ (l : List ℕ). before x.first l ++ from_on x.end l) so.kept
-          ∙ sym (apart_again (is_within x.first x.end) loses.front (leaves own.node) loses.back (before x.first tokens) (from_on x.end tokens) tokens (span x is).inside loses.before two)
+          ∙ sym (apart_again (is_within x.first x.end) loses.front (leaves own.node) loses.back (before x.first tokens) (from_on x.end tokens) tokens
+          (span x is).inside loses.before two)
           ∙ sym loses.after
 
       same_now : (q : ℕ) → Contains rest q → subtree q (without_nodes (node ∷ []) so.reached) ≡ subtree q first
       same_now q has =
           let later = leaf_at first rest q so.apart.2 has in
           let after = so.apart.1 q has in
-          later_stays node q own.node later.node after.0 (after.1 own.node own.node_is) 0 (size (whole tree)) so.reached rises below found (so.same q (later_in node q rest has) ∙ later.node_is) ∙ sym later.node_is
+          later_stays node q own.node later.node after.0 (after.1 own.node own.node_is) 0 (size (whole tree)) so.reached rises below found
+          (so.same q (later_in node q rest has) ∙ later.node_is) ∙ sym later.node_is
 
       before_now : (i : ℕ) → Contains (take g.from d.kept) i → i < x.first
       before_now i has =
@@ -267,7 +283,9 @@ module _ (tree : SyntaxTree) (laws : TreeLaws) (are : AreNodesOf tree.form tree.
       after_now q j u has e in_u =
           let token = a_token x is in
           let after = so.apart.1 q has in
-          let less = tokens_follow first own.node u node q token.0 j (tree_numbers tree laws are c so.of) so.of.fits.rising own.node_is e (after.1 own.node own.node_is) after.0 token.1 in_u in
+          let less =
+          tokens_follow first own.node u node q token.0 j (tree_numbers tree laws are c so.of) so.of.fits.rising own.node_is e
+          (after.1 own.node own.node_is) after.0 token.1 in_u in
           let least = token.2 in
           omega (arith, less, least)
 
@@ -293,11 +311,14 @@ module _ (tree : SyntaxTree) (laws : TreeLaws) (are : AreNodesOf tree.form tree.
       }
 
     -- the same where the entry is read from the list of nodes
-    pub counts_at : (nodes : List Node) (e : Node) → nodes ≡ tree.nodes → (a b : ℕ) → IsSplitAt ahead (slice_index_or nodes node e).first a → IsSplitAt ahead (slice_index_or nodes node e).end b → a ≤ b
+    pub counts_at : (nodes : List Node) (e : Node) → nodes ≡ tree.nodes → (a b : ℕ) → IsSplitAt ahead (slice_index_or nodes node e).first a
+        → IsSplitAt ahead (slice_index_or nodes node e).end b → a ≤ b
     counts_at nodes e same a b at to = (counts (slice_index_or nodes node e) a b (index_is tree.nodes nodes node e same next_node) at to).0
 
-    pub next_dropped_at : (nodes : List Node) (e : Node) → nodes ≡ tree.nodes → (d : CutForm) (g : Gap) (a b : ℕ) → IsSplitAt ahead (slice_index_or nodes node e).first a → IsSplitAt ahead (slice_index_or nodes node e).end b →
-        d.marks ≡ slice_set now.marks node Deleted → d.positions ≡ now.positions → g.from ≡ gap.from + a → g.to ≡ (gap.to + a) + (b - a) → take (gap.from + a) d.kept ≡ done ++ take a ahead →
+    pub next_dropped_at : (nodes : List Node) (e : Node) → nodes ≡ tree.nodes → (d : CutForm) (g : Gap) (a b : ℕ)
+        → IsSplitAt ahead (slice_index_or nodes node e).first a → IsSplitAt ahead (slice_index_or nodes node e).end b →
+        d.marks ≡ slice_set now.marks node Deleted → d.positions ≡ now.positions → g.from ≡ gap.from + a → g.to ≡ (gap.to + a) + (b - a)
+        → take (gap.from + a) d.kept ≡ done ++ take a ahead →
         drop (gap.to + a) d.kept ≡ drop (gap.to + a) now.kept → length d.kept ≡ length now.kept → IsDroppedSoFar tree c all rest d g
     next_dropped_at nodes e same d g a b at to marks positions from until stay next long =
         next_dropped d g (slice_index_or nodes node e) a b (index_is tree.nodes nodes node e same next_node) at to marks positions from until stay next long
@@ -311,12 +332,14 @@ at_start nodes keep = ap (λ (l : List ℕ). dropped l keep) (sym (drop_none nod
 
 -- the flags of the nodes that are still to come
 pub next_flag : (nodes : List ℕ) (keep : List Bool) (k q : ℕ) (b : Bool) → slice_get nodes k ≡ Some q → slice_get keep k ≡ Some b →
-    dropped (drop k nodes) (drop k keep) ≡ (if b then dropped (drop (suc k) nodes) (drop (suc k) keep) else q ∷ dropped (drop (suc k) nodes) (drop (suc k) keep))
+    dropped (drop k nodes) (drop k keep) ≡ (if b then dropped (drop (suc k) nodes) (drop (suc k) keep) else q ∷ dropped (drop (suc k) nodes)
+    (drop (suc k) keep))
 next_flag [] keep k q b e f = absurd (let lt = slice_get_within [] k q e in omega (arith, lt))
 next_flag (n ∷ nodes) [] k q b e f = absurd (let lt = slice_get_within [] k b f in omega (arith, lt))
 next_flag (n ∷ nodes) (true ∷ keep) zero q b e f =
     let is : true ≡ b = same_Some true b f in
-    subst (λ (c : Bool). dropped nodes keep ≡ (if c then dropped (drop 0 nodes) (drop 0 keep) else q ∷ dropped (drop 0 nodes) (drop 0 keep))) is (at_start nodes keep)
+    subst (λ (c : Bool). dropped nodes keep ≡ (if c then dropped (drop 0 nodes) (drop 0 keep) else q ∷ dropped (drop 0 nodes) (drop 0 keep))) is
+    (at_start nodes keep)
 next_flag (n ∷ nodes) (false ∷ keep) zero q b e f =
     let is : false ≡ b = same_Some false b f in
     subst (λ (c : Bool). n ∷ dropped nodes keep ≡ (if c then dropped (drop 0 nodes) (drop 0 keep) else q ∷ dropped (drop 0 nodes) (drop 0 keep))) is
@@ -333,17 +356,21 @@ drop_past (x ∷ xs) (suc k) le = drop_past xs k (omega (arith, le))
 module _ (tree : SyntaxTree) (c : CutForm) (nodes : List ℕ) (keep : List Bool) (k : ℕ) (now : CutForm) (gap : Gap) (each : length keep ≡ length nodes)
     (so : IsDroppedSoFar tree c (dropped nodes keep) (dropped (drop k nodes) (drop k keep)) now gap) where
   flag_is : (b : Bool) → k < length nodes → slice_index_or keep k false ≡ b →
-      dropped (drop k nodes) (drop k keep) ≡ (if b then dropped (drop (k + 1) nodes) (drop (k + 1) keep) else slice_index_or nodes k 0 ∷ dropped (drop (k + 1) nodes) (drop (k + 1) keep))
+      dropped (drop k nodes) (drop k keep) ≡ (if b then dropped (drop (k + 1) nodes) (drop (k + 1) keep) else slice_index_or nodes k 0 ∷ dropped
+      (drop (k + 1) nodes) (drop (k + 1) keep))
   flag_is b lt is =
       let next : suc k ≡ k + 1 = omega arith in
       next_flag nodes keep k (slice_index_or nodes k 0) b (slice_get-get_or nodes k 0 lt) (flag_known keep k false b is (omega (arith, lt, each)))
       ∙ ap (λ (m : ℕ). if b then dropped (drop m nodes) (drop m keep) else slice_index_or nodes k 0 ∷ dropped (drop m nodes) (drop m keep)) next
 
-  pub next_is_dropped : k < length nodes → slice_index_or keep k false ≡ false → IsDroppedSoFar tree c (dropped nodes keep) (slice_index_or nodes k 0 ∷ dropped (drop (k + 1) nodes) (drop (k + 1) keep)) now gap
+  pub next_is_dropped : k < length nodes → slice_index_or keep k false ≡ false
+      → IsDroppedSoFar tree c (dropped nodes keep) (slice_index_or nodes k 0 ∷ dropped (drop (k + 1) nodes) (drop (k + 1) keep)) now gap
   next_is_dropped lt is = subst (λ (l : List ℕ). IsDroppedSoFar tree c (dropped nodes keep) l now gap) (flag_is false lt is) so
 
-  pub next_is_kept : k < length nodes → slice_index_or keep k false ≡ true → IsDroppedSoFar tree c (dropped nodes keep) (dropped (drop (k + 1) nodes) (drop (k + 1) keep)) now gap
+  pub next_is_kept : k < length nodes → slice_index_or keep k false ≡ true
+      → IsDroppedSoFar tree c (dropped nodes keep) (dropped (drop (k + 1) nodes) (drop (k + 1) keep)) now gap
   next_is_kept lt is = subst (λ (l : List ℕ). IsDroppedSoFar tree c (dropped nodes keep) l now gap) (flag_is true lt is) so
 
   pub none_is_next : length nodes ≤ k → IsDroppedSoFar tree c (dropped nodes keep) [] now gap
-  none_is_next le = subst (λ (l : List ℕ). IsDroppedSoFar tree c (dropped nodes keep) l now gap) (ap (λ (l : List ℕ). dropped l (drop k keep)) (drop_past nodes k le)) so
+  none_is_next le =
+      subst (λ (l : List ℕ). IsDroppedSoFar tree c (dropped nodes keep) l now gap) (ap (λ (l : List ℕ). dropped l (drop k keep)) (drop_past nodes k le)) so

@@ -1,5 +1,6 @@
 -- Elements of a list that are kept or deleted one after another.
-use Rattle.std.proofs.Common.{◌≡◌, inl, inr, ℕ, ◌+◌, ◌-◌, ◌<◌, ◌≤◌, List, [], ◌∷◌, ◌++◌, Option, Some, None, length, take, drop, slice_get, refl, sym, ap, ◌∙◌, subst, arith, append_assoc, length-append, length-drop}
+use Rattle.std.proofs.Common.{◌≡◌, inl, inr, ℕ, ◌+◌, ◌-◌, ◌<◌, ◌≤◌, List, [], ◌∷◌, ◌++◌, Option, Some, None, length, take, drop}
+use Rattle.std.proofs.Common.{slice_get, refl, sym, ap, ◌∙◌, subst, arith, append_assoc, length-append, length-drop}
 use Rattle.std.specs.Prelude.{Bool, true, false, nat_le, nat_lt, slice_index_or, slice_set}
 use Rattle.std.specs.List.{Contains, filter}
 use Rattle.std.specs.List.Sorted.{IsStrictlyIncreasing}
@@ -33,7 +34,8 @@ use Rattle.syntax_tree_cut.proofs.Splits.{rises_after, take_is}
 use Rattle.syntax_tree_cut.proofs.CutFacts.{NodeFacts, index_is, node_facts}
 use Rattle.syntax_tree_cut.proofs.Positions.{children_begin, occupant_is, position_within, replacements_rise, rest_next}
 use Rattle.syntax_tree_cut.proofs.CutCalls.{element_deleted, renamed}
-use Rattle.syntax_tree_cut.proofs.TreesAfter.{found_with, after_count, after_found, after_has, after_more, after_without, next_flag, selected_count, selected_none, some_selected, with_again}
+use Rattle.syntax_tree_cut.proofs.TreesAfter.{found_with, after_count, after_found, after_has, after_more, after_without}
+use Rattle.syntax_tree_cut.proofs.TreesAfter.{next_flag, selected_count, selected_none, some_selected, with_again}
 
 none_numbered : (o : Option PlainTree) → option_map number_of o ≡ None → o ≡ None
 none_numbered None e = refl
@@ -60,7 +62,8 @@ no_more PlainTrees.none e = refl
 no_more (PlainTrees.next t ts) e = absurd (omega (arith, e))
 
 -- a numbered tree and those after it have rising numbers
-first_rises : (position : ℕ) (t : PlainTree) (ts : PlainTrees) → renumbered_all position (PlainTrees.next t ts) ≡ PlainTrees.next t ts → Rises position (position + size t) t × RiseAll (position + size t) (position + size t + size_all ts) ts
+first_rises : (position : ℕ) (t : PlainTree) (ts : PlainTrees) → renumbered_all position (PlainTrees.next t ts) ≡ PlainTrees.next t ts
+    → Rises position (position + size t) t × RiseAll (position + size t) (position + size t + size_all ts) ts
 first_rises position t ts e =
     let first : renumbered position t ≡ t = cc in
     let later : renumbered_all (position + size t) ts ≡ ts = cc in
@@ -71,10 +74,12 @@ pub flag_known : (flags : List Bool) (k : ℕ) (d b : Bool) → slice_index_or f
 flag_known flags k d b e lt = slice_get-get_or flags k d lt ∙ ap Some e
 
 -- So many children are still to be gone through.
-abbrev pub IsKeeping : (tree : SyntaxTree) (c : CutForm) (list : ℕ) (keep : List Bool) → CanSelect tree.form (cut_tree tree c) list keep → ℕ → CutForm → Progress → Type 0
+abbrev pub IsKeeping : (tree : SyntaxTree) (c : CutForm) (list : ℕ) (keep : List Bool) → CanSelect tree.form (cut_tree tree c) list keep → ℕ → CutForm
+    → Progress → Type 0
 IsKeeping tree c list keep can remaining now p = (rest : PlainTrees) × (count rest ≡ remaining) × IsKeptSoFar tree c list keep can rest now p
 
-module _ (tree : SyntaxTree) (laws : TreeLaws) (are : AreNodesOf tree.form tree.start tree.nodes (whole tree)) (c : CutForm) (list : ℕ) (keep : List Bool) (can : CanSelect tree.form (cut_tree tree c) list keep) where
+module _ (tree : SyntaxTree) (laws : TreeLaws) (are : AreNodesOf tree.form tree.start tree.nodes (whole tree)) (c : CutForm) (list : ℕ) (keep : List Bool)
+    (can : CanSelect tree.form (cut_tree tree c) list keep) where
   -- the list with these elements
   abbrev list_of : PlainTrees → PlainTree
   list_of us = PlainTree.node list can.rule can.alt us
@@ -98,7 +103,8 @@ module _ (tree : SyntaxTree) (laws : TreeLaws) (are : AreNodesOf tree.form tree.
     left_here o at =
         let next = rest_next (whole tree) p.position t ts so.rest_is in
         let own : left_at so.cut.marks p.position (whole tree) ≡ left_at so.cut.marks (number_of t) t =
-        left_below so.cut.marks 0 (size (whole tree)) (whole tree) (whole_rises tree laws are) p.position p.position t t next.1 (subtree_own p.position t next.0) ∙ ap (λ (q : ℕ). left_at so.cut.marks q t) (sym next.0) in
+        left_below so.cut.marks 0 (size (whole tree)) (whole tree) (whole_rises tree laws are) p.position p.position t t next.1
+        (subtree_own p.position t next.0) ∙ ap (λ (q : ℕ). left_at so.cut.marks q t) (sym next.0) in
         ap (option_map number_of) (sym own)
         ∙ occupant_is tree laws are so.cut so.of p.position o (subst (λ (l : List Mark). IsOccupant l p.position o) (sym so.marks) at) t next.1
 
@@ -117,7 +123,9 @@ module _ (tree : SyntaxTree) (laws : TreeLaws) (are : AreNodesOf tree.form tree.
       node = so.node;
       tree_is = so.tree_is;
       rest_is = rest_after x q e is;
-      ahead_is = ap (λ (o : Option PlainTree). or_next o (left_of_each so.cut.marks ts)) (sym (none_numbered (left_at so.cut.marks (number_of t) t) (left_here None at))) ∙ so.ahead_is;
+      ahead_is =
+          ap (λ (o : Option PlainTree). or_next o (left_of_each so.cut.marks ts))
+          (sym (none_numbered (left_at so.cut.marks (number_of t) t) (left_here None at))) ∙ so.ahead_is;
       selected = so.selected;
       flags = so.flags;
       next = so.next;
@@ -146,16 +154,20 @@ module _ (tree : SyntaxTree) (laws : TreeLaws) (are : AreNodesOf tree.form tree.
       node = so.node ∙ ap (λ (us : PlainTrees). Some (list_of (with_trees_after so.done us))) ahead
 
       rising : RiseAll (list + 1) (size (whole tree)) (with_trees_after so.done (PlainTrees.next u later))
-      rising = (subtree_within 0 (size (whole tree)) (cut_tree tree so.cut) (tree_rises tree laws are so.cut so.of) list (list_of (with_trees_after so.done (PlainTrees.next u later))) node).1.1
+      rising =
+          (subtree_within 0 (size (whole tree)) (cut_tree tree so.cut) (tree_rises tree laws are so.cut so.of) list
+          (list_of (with_trees_after so.done (PlainTrees.next u later))) node).1.1
 
       found : subtree n (cut_tree tree so.cut) ≡ Some u
       found =
           let children = after_found (list + 1) (size (whole tree)) so.done u later rising in
           let within = found_among_within (list + 1) (size (whole tree)) (with_trees_after so.done (PlainTrees.next u later)) rising (number_of u) u children in
           let below : subtree (number_of u) (list_of (with_trees_after so.done (PlainTrees.next u later))) ≡ Some u =
-          subtree_below (number_of u) list can.rule can.alt (with_trees_after so.done (PlainTrees.next u later)) (λ (e : list ≡ number_of u). omega (arith, e, within)) ∙ children in
+          subtree_below (number_of u) list can.rule can.alt (with_trees_after so.done (PlainTrees.next u later))
+          (λ (e : list ≡ number_of u). omega (arith, e, within)) ∙ children in
           subst (λ (m : ℕ). subtree m (cut_tree tree so.cut) ≡ Some u) element.2
-          (deeper_found 0 (size (whole tree)) (cut_tree tree so.cut) (tree_rises tree laws are so.cut so.of) list (number_of u) (list_of (with_trees_after so.done (PlainTrees.next u later))) u node below)
+          (deeper_found 0 (size (whole tree)) (cut_tree tree so.cut) (tree_rises tree laws are so.cut so.of) list (number_of u)
+          (list_of (with_trees_after so.done (PlainTrees.next u later))) u node below)
 
       facts : NodeFacts tree so.cut n u
       facts = node_facts tree laws are so.cut so.of n u found
@@ -176,7 +188,8 @@ module _ (tree : SyntaxTree) (laws : TreeLaws) (are : AreNodesOf tree.form tree.
           omega (arith, flags, many)
 
       tokens : drop p.gap.to now.kept ≡ leaves u ++ tokens_later
-      tokens = so.next ∙ ap (λ (us : PlainTrees). of_leaves_all (λ k i. i) us ++ so.back) ahead ∙ append_assoc (leaves u) (of_leaves_all (λ k i. i) later) so.back
+      tokens =
+          so.next ∙ ap (λ (us : PlainTrees). of_leaves_all (λ k i. i) us ++ so.back) ahead ∙ append_assoc (leaves u) (of_leaves_all (λ k i. i) later) so.back
 
       all_tokens : leaves (cut_tree tree so.cut) ≡ take p.gap.from now.kept ++ (leaves u ++ tokens_later)
       all_tokens = sym so.of.kept ∙ so.kept ∙ ap (λ (l : List ℕ). take p.gap.from now.kept ++ l) tokens
@@ -187,9 +200,11 @@ module _ (tree : SyntaxTree) (laws : TreeLaws) (are : AreNodesOf tree.form tree.
           let span = laws.leaves_in_span tree are (cut_tree tree so.cut) u n y so.of.part found e in
           sym
           (is ∙ ap (λ (l : List ℕ). length (within y.first y.end l)) tokens
-          ∙ as_many (is_within y.first y.end) (take p.gap.from now.kept) (leaves u) tokens_later (span.inside ∙ ap (filter (is_within y.first y.end)) all_tokens))
+          ∙ as_many (is_within y.first y.end) (take p.gap.from now.kept) (leaves u) tokens_later
+          (span.inside ∙ ap (filter (is_within y.first y.end)) all_tokens))
 
-      pub long_enough : (y : Node) (m : ℕ) → slice_get tree.nodes n ≡ Some y → m ≡ length (within y.first y.end (drop p.gap.to now.kept)) → p.gap.to + m ≤ length now.kept
+      pub long_enough : (y : Node) (m : ℕ) → slice_get tree.nodes n ≡ Some y → m ≡ length (within y.first y.end (drop p.gap.to now.kept))
+          → p.gap.to + m ≤ length now.kept
       long_enough y m e is =
           let many = counted y m e is in
           let rest = length-drop p.gap.to now.kept in
@@ -210,9 +225,12 @@ module _ (tree : SyntaxTree) (laws : TreeLaws) (are : AreNodesOf tree.form tree.
       selected_so = so.selected ∙ ap (λ (us : PlainTrees). with_trees_after so.done (selected_trees (drop p.elements keep) us)) ahead
 
       -- the element is kept
-      pub passes_kept : (x : PlainTree) (q : ℕ) (y : Node) (m : ℕ) (after : CutForm) (gap : Gap) → subtree p.position (whole tree) ≡ Some x → q ≡ p.position + size x → slice_get tree.nodes n ≡ Some y →
-          m ≡ length (within y.first y.end (drop p.gap.to now.kept)) → slice_get keep p.elements ≡ Some true → after.marks ≡ now.marks → after.positions ≡ now.positions → gap.from ≡ p.gap.from + m → gap.to ≡ p.gap.to + m →
-          take (p.gap.from + m) after.kept ≡ take p.gap.from now.kept ++ take m (drop p.gap.to now.kept) → drop (p.gap.to + m) after.kept ≡ drop (p.gap.to + m) now.kept → length after.kept ≡ length now.kept →
+      pub passes_kept : (x : PlainTree) (q : ℕ) (y : Node) (m : ℕ) (after : CutForm) (gap : Gap) → subtree p.position (whole tree) ≡ Some x
+          → q ≡ p.position + size x → slice_get tree.nodes n ≡ Some y →
+          m ≡ length (within y.first y.end (drop p.gap.to now.kept)) → slice_get keep p.elements ≡ Some true → after.marks ≡ now.marks
+          → after.positions ≡ now.positions → gap.from ≡ p.gap.from + m → gap.to ≡ p.gap.to + m →
+          take (p.gap.from + m) after.kept ≡ take p.gap.from now.kept ++ take m (drop p.gap.to now.kept)
+          → drop (p.gap.to + m) after.kept ≡ drop (p.gap.to + m) now.kept → length after.kept ≡ length now.kept →
           IsKeptSoFar tree c list keep can ts after (record { position = q; elements = p.elements + 1; gap = gap })
       passes_kept x q y m after gap e is ye me flag marks positions from to stay next len =
           let many = counted y m ye me in
@@ -228,12 +246,18 @@ module _ (tree : SyntaxTree) (laws : TreeLaws) (are : AreNodesOf tree.form tree.
             of = so.of;
             marks = so.marks ∙ sym marks;
             positions = so.positions ∙ sym positions;
-            kept = so.kept ∙ ap (λ (l : List ℕ). A ++ l) tokens ∙ sym (append_assoc A (leaves u) tokens_later) ∙ ap (λ (l : List ℕ). l ++ tokens_later) (sym front) ∙ ap (λ (l : List ℕ). take gap.from after.kept ++ l) (sym rest);
+            kept =
+                so.kept ∙ ap (λ (l : List ℕ). A ++ l) tokens ∙ sym (append_assoc A (leaves u) tokens_later) ∙ ap (λ (l : List ℕ). l ++ tokens_later) (sym front)
+                ∙ ap (λ (l : List ℕ). take gap.from after.kept ++ l) (sym rest);
             node = node ∙ ap (λ (us : PlainTrees). Some (list_of us)) (sym (after_more so.done u later));
-            tree_is = so.tree_is ∙ ap (λ (us : PlainTrees). with_subtree list (list_of us) (cut_tree tree c)) (ap (with_trees_after so.done) ahead ∙ sym (after_more so.done u later));
+            tree_is =
+                so.tree_is ∙ ap (λ (us : PlainTrees). with_subtree list (list_of us) (cut_tree tree c))
+                (ap (with_trees_after so.done) ahead ∙ sym (after_more so.done u later));
             rest_is = rest_after x q e is;
             ahead_is = refl;
-            selected = selected_so ∙ ap (λ (l : List Bool). with_trees_after so.done (selected_trees l (PlainTrees.next u later))) (next_flag keep p.elements true flag) ∙ sym (after_more so.done u (selected_trees (drop (p.elements + 1) keep) later));
+            selected =
+                selected_so ∙ ap (λ (l : List Bool). with_trees_after so.done (selected_trees l (PlainTrees.next u later)))
+                (next_flag keep p.elements true flag) ∙ sym (after_more so.done u (selected_trees (drop (p.elements + 1) keep) later));
             flags = more_flags;
             next = rest;
             gap = (let g = so.gap in omega (arith, from, to, g));
@@ -246,10 +270,16 @@ module _ (tree : SyntaxTree) (laws : TreeLaws) (are : AreNodesOf tree.form tree.
         cut' = record { marks = slice_set so.cut.marks n Deleted; positions = so.cut.positions; kept = before y.first so.cut.kept ++ from_on y.end so.cut.kept }
 
         did : HasDeleted tree so.cut cut' n
-        did = record { marks = refl; positions = refl; kept = λ x e. ap (λ (z : Node). before z.first so.cut.kept ++ from_on z.end so.cut.kept) (same_Some y x (sym ye ∙ e)) }
+        did =
+            record {
+              marks = refl;
+              positions = refl;
+              kept = λ x e. ap (λ (z : Node). before z.first so.cut.kept ++ from_on z.end so.cut.kept) (same_Some y x (sym ye ∙ e));
+            }
 
         selected_later : selected_trees keep can.elements ≡ with_trees_after so.done (selected_trees (drop (p.elements + 1) keep) later)
-        selected_later = selected_so ∙ ap (λ (l : List Bool). with_trees_after so.done (selected_trees l (PlainTrees.next u later))) (next_flag keep p.elements false flag)
+        selected_later =
+            selected_so ∙ ap (λ (l : List Bool). with_trees_after so.done (selected_trees l (PlainTrees.next u later))) (next_flag keep p.elements false flag)
 
         enough : Contains keep true → 2 ≤ count (with_trees_after so.done (PlainTrees.next u later))
         enough has =
@@ -278,7 +308,8 @@ module _ (tree : SyntaxTree) (laws : TreeLaws) (are : AreNodesOf tree.form tree.
         tree_after =
             deleted_both.0 can.rule can.alt (with_trees_after so.done (PlainTrees.next u later)) node
             ∙ ap (λ (us : PlainTrees). with_subtree list (list_of us) (cut_tree tree so.cut))
-            (ap (λ (m : ℕ). without m (with_trees_after so.done (PlainTrees.next u later))) (sym element.2) ∙ after_without (list + 1) (size (whole tree)) so.done u later rising)
+            (ap (λ (m : ℕ). without m (with_trees_after so.done (PlainTrees.next u later))) (sym element.2)
+            ∙ after_without (list + 1) (size (whole tree)) so.done u later rising)
 
         same_later : left_of_each cut'.marks ts ≡ later
         same_later =
@@ -289,7 +320,8 @@ module _ (tree : SyntaxTree) (laws : TreeLaws) (are : AreNodesOf tree.form tree.
             let number = element.2 in
             let there : (x : PlainTree) → subtree_among n ts ≡ Some x → left_at cut'.marks n x ≡ None =
             λ x e. absurd (let within = found_among_within low high ts rises.1 n x e in omega (arith, within, own, number)) in
-            left_of_each_edited so.cut.marks cut'.marks n None (λ m other. get_or-set_other so.cut.marks n m Deleted Kept other) (node_was tree laws are so.cut so.of n u found).1 low high ts rises.1 there
+            left_of_each_edited so.cut.marks cut'.marks n None (λ m other. get_or-set_other so.cut.marks n m Deleted Kept other)
+            (node_was tree laws are so.cut so.of n u found).1 low high ts rises.1 there
             ∙ edited_all_outside n None low high later (each_rises so.cut.marks low high ts rises.1) (inl (omega (arith, own, number)))
 
         kept_after : cut'.kept ≡ take p.gap.from now.kept ++ tokens_later
@@ -298,10 +330,13 @@ module _ (tree : SyntaxTree) (laws : TreeLaws) (are : AreNodesOf tree.form tree.
             let span = laws.leaves_in_span tree are (cut_tree tree so.cut) u n y so.of.part found ye in
             let two : all ≡ filter (λ i. nat_lt i y.first) all ++ (leaves u ++ filter (λ i. nat_le y.end i) all) = span.all ∙ (simp append_assoc) in
             ap (λ (l : List ℕ). before y.first l ++ from_on y.end l) so.of.kept
-            ∙ sym (apart_again (is_within y.first y.end) (take p.gap.from now.kept) (leaves u) tokens_later (before y.first all) (from_on y.end all) all span.inside all_tokens two)
+            ∙ sym (apart_again (is_within y.first y.end) (take p.gap.from now.kept) (leaves u) tokens_later (before y.first all)
+            (from_on y.end all) all span.inside all_tokens two)
 
-        pub passes_deleted : (x : PlainTree) (q m : ℕ) (after : CutForm) (gap : Gap) → subtree p.position (whole tree) ≡ Some x → q ≡ p.position + size x → m ≡ length (within y.first y.end (drop p.gap.to now.kept)) →
-            after.marks ≡ slice_set now.marks n Deleted → after.positions ≡ now.positions → after.kept ≡ now.kept → gap.from ≡ p.gap.from → gap.to ≡ p.gap.to + m →
+        pub passes_deleted : (x : PlainTree) (q m : ℕ) (after : CutForm) (gap : Gap) → subtree p.position (whole tree) ≡ Some x → q ≡ p.position + size x
+            → m ≡ length (within y.first y.end (drop p.gap.to now.kept)) →
+            after.marks ≡ slice_set now.marks n Deleted → after.positions ≡ now.positions → after.kept ≡ now.kept → gap.from ≡ p.gap.from
+            → gap.to ≡ p.gap.to + m →
             IsKeptSoFar tree c list keep can ts after (record { position = q; elements = p.elements + 1; gap = gap })
         passes_deleted x q m after gap e is me marks positions kept from to =
             let many = counted y m ye me in
@@ -317,8 +352,11 @@ module _ (tree : SyntaxTree) (laws : TreeLaws) (are : AreNodesOf tree.form tree.
               positions = so.positions ∙ sym positions;
               kept = kept_after ∙ ap (λ (l : List ℕ). l ++ tokens_later) (sym front) ∙ ap (λ (l : List ℕ). take gap.from after.kept ++ l) (sym rest);
               node = ap (subtree list) tree_after
-                  ∙ found_with list (list_of (with_trees_after so.done later)) refl 0 (size (whole tree)) (cut_tree tree so.cut) (tree_rises tree laws are so.cut so.of) (list_of (with_trees_after so.done (PlainTrees.next u later))) node;
-              tree_is = tree_after ∙ ap (with_subtree list (list_of (with_trees_after so.done later))) so.tree_is ∙ with_again list (list_of (with_trees_after so.done so.ahead)) refl (list_of (with_trees_after so.done later)) (cut_tree tree c);
+                  ∙ found_with list (list_of (with_trees_after so.done later)) refl 0 (size (whole tree)) (cut_tree tree so.cut)
+                  (tree_rises tree laws are so.cut so.of) (list_of (with_trees_after so.done (PlainTrees.next u later))) node;
+              tree_is =
+                  tree_after ∙ ap (with_subtree list (list_of (with_trees_after so.done later))) so.tree_is
+                  ∙ with_again list (list_of (with_trees_after so.done so.ahead)) refl (list_of (with_trees_after so.done later)) (cut_tree tree c);
               rest_is = rest_after x q e is;
               ahead_is = same_later;
               selected = selected_later;
@@ -334,23 +372,29 @@ module _ (tree : SyntaxTree) (laws : TreeLaws) (are : AreNodesOf tree.form tree.
       let first = some_first is.0 (omega (arith, many, some)) in
       (c, list, can, first.0, first.1, subst (λ (us : PlainTrees). IsKeptSoFar tree c list keep can us now p) first.2 is.2)
 
-  pub passed : (remaining : ℕ) (now after : CutForm) (p q : Progress) → IsKeeping tree c list keep can remaining now p → 0 < remaining → HasPassed tree keep now p after q → IsKeeping tree c list keep can (remaining - 1) after q
+  pub passed : (remaining : ℕ) (now after : CutForm) (p q : Progress) → IsKeeping tree c list keep can remaining now p → 0 < remaining
+      → HasPassed tree keep now p after q → IsKeeping tree c list keep can (remaining - 1) after q
   passed remaining now after p q is some passes =
       let many = is.1 in
       let first = some_first is.0 (omega (arith, many, some)) in
-      let next = ap count first.2 in
-      (first.1, omega (arith, many, next, some), passes c list can first.0 first.1 (subst (λ (us : PlainTrees). IsKeptSoFar tree c list keep can us now p) first.2 is.2))
+      let next = ap count first.2 in (
+        first.1,
+        omega (arith, many, next, some),
+        passes c list can first.0 first.1 (subst (λ (us : PlainTrees). IsKeptSoFar tree c list keep can us now p) first.2 is.2),
+      )
 
   module _ (of : IsCutOf tree c) where
     -- no child is gone through
-    pub keeping_begins : (x : Node) (p : Progress) → slice_get tree.nodes list ≡ Some x → p.position ≡ list + 1 → p.elements ≡ 0 → p.gap.to ≡ p.gap.from → IsSplitAt c.kept x.first p.gap.from → IsKeeping tree c list keep can x.children c p
+    pub keeping_begins : (x : Node) (p : Progress) → slice_get tree.nodes list ≡ Some x → p.position ≡ list + 1 → p.elements ≡ 0 → p.gap.to ≡ p.gap.from
+        → IsSplitAt c.kept x.first p.gap.from → IsKeeping tree c list keep can x.children c p
     keeping_begins x p at position elements gap split =
         let begin = children_begin tree laws are c of list (list_of can.elements) can.node in
         let entry = laws.nodes_are_subtrees tree are list x at in
         let same : entry.0 ≡ begin.0 = same_Some entry.0 begin.0 (sym entry.1.subtree_is ∙ begin.1) in
         let all : List ℕ = leaves (cut_tree tree c) in
         let span = laws.leaves_in_span tree are (cut_tree tree c) (list_of can.elements) list x of.part can.node at in
-        let two : all ≡ filter (λ i. nat_lt i x.first) all ++ (leaves (list_of can.elements) ++ filter (λ i. nat_le x.end i) all) = span.all ∙ (simp append_assoc) in
+        let two : all ≡ filter (λ i. nat_lt i x.first) all ++ (leaves (list_of can.elements) ++ filter (λ i. nat_le x.end i) all) =
+        span.all ∙ (simp append_assoc) in
         let rest : List ℕ = of_leaves_all (λ k i. i) can.elements ++ from_on x.end all in
         let parts : c.kept ≡ before x.first all ++ rest = of.kept ∙ two in
         let front : before x.first all ≡ take p.gap.from c.kept = ap (before x.first) (sym of.kept) ∙ sym (take_is c.kept x.first p.gap.from split) in
@@ -370,7 +414,9 @@ module _ (tree : SyntaxTree) (laws : TreeLaws) (are : AreNodesOf tree.form tree.
             tree_is = sym (with_itself 0 (size (whole tree)) (cut_tree tree c) (tree_rises tree laws are c of) list (list_of can.elements) can.node);
             rest_is = subst (λ (n : ℕ). IsRest (whole tree) n (children_of begin.0)) (sym position) begin.2;
             ahead_is = sym begin.3;
-            selected = ap (λ (l : List Bool). selected_trees l can.elements) (sym (drop_zero keep)) ∙ ap (λ (i : ℕ). selected_trees (drop i keep) can.elements) (sym elements);
+            selected =
+                ap (λ (l : List Bool). selected_trees l can.elements) (sym (drop_zero keep))
+                ∙ ap (λ (i : ℕ). selected_trees (drop i keep) can.elements) (sym elements);
             flags = (let each = can.each in omega (arith, each, elements));
             next = ap (λ (i : ℕ). drop i c.kept) gap ∙ ap (drop p.gap.from) parts ∙ drop_at (before x.first all) rest p.gap.from long;
             gap = omega (arith, gap);
@@ -378,22 +424,30 @@ module _ (tree : SyntaxTree) (laws : TreeLaws) (are : AreNodesOf tree.form tree.
           },
         )
 
-    pub keeping_begins_at : (nodes : List Node) (d : Node) (p : Progress) → nodes ≡ tree.nodes → list < length tree.nodes → p.position ≡ list + 1 → p.elements ≡ 0 → p.gap.to ≡ p.gap.from →
-        ((x : Node) → slice_get tree.nodes list ≡ Some x → IsSplitAt c.kept x.first p.gap.from) → IsKeeping tree c list keep can (slice_index_or nodes list d).children c p
+    pub keeping_begins_at : (nodes : List Node) (d : Node) (p : Progress) → nodes ≡ tree.nodes → list < length tree.nodes → p.position ≡ list + 1
+        → p.elements ≡ 0 → p.gap.to ≡ p.gap.from →
+        ((x : Node) → slice_get tree.nodes list ≡ Some x → IsSplitAt c.kept x.first p.gap.from)
+        → IsKeeping tree c list keep can (slice_index_or nodes list d).children c p
     keeping_begins_at nodes d p same lt position elements gap split =
         let at = index_is tree.nodes nodes list d same lt in
         keeping_begins (slice_index_or nodes list d) p at position elements gap (split (slice_index_or nodes list d) at)
 
     -- all children are gone through, and the gap is closed
-    pub keeping_ends : (remaining : ℕ) (now after : CutForm) (p : Progress) → IsKeeping tree c list keep can remaining now p → remaining ≡ 0 → after.marks ≡ now.marks → after.positions ≡ now.positions →
-        after.kept ≡ take p.gap.from now.kept ++ drop p.gap.to now.kept → HasChildren list (selected_trees keep) (cut_tree tree c) (cut_tree tree after) × IsCutOf tree after
+    pub keeping_ends : (remaining : ℕ) (now after : CutForm) (p : Progress) → IsKeeping tree c list keep can remaining now p → remaining ≡ 0
+        → after.marks ≡ now.marks → after.positions ≡ now.positions →
+        after.kept ≡ take p.gap.from now.kept ++ drop p.gap.to now.kept → HasChildren list (selected_trees keep) (cut_tree tree c) (cut_tree tree after)
+        × IsCutOf tree after
     keeping_ends remaining now after p is end marks positions kept =
         let so = is.2 in
         let same : so.cut ≡ after = same_cut so.cut after (so.marks ∙ sym marks) (so.positions ∙ sym positions) (so.kept ∙ sym kept) in
         let none : so.ahead ≡ PlainTrees.none = sym so.ahead_is ∙ ap (left_of_each so.cut.marks) (no_more is.0 (is.1 ∙ end)) in
         let all : selected_trees keep can.elements ≡ with_trees_after so.done so.ahead =
-        so.selected ∙ ap (λ (us : PlainTrees). with_trees_after so.done (selected_trees (drop p.elements keep) us)) none ∙ ap (with_trees_after so.done) (selected_none (drop p.elements keep) ∙ sym none) in
+        so.selected ∙ ap (λ (us : PlainTrees). with_trees_after so.done (selected_trees (drop p.elements keep) us)) none
+        ∙ ap (with_trees_after so.done) (selected_none (drop p.elements keep) ∙ sym none) in
         let tree_is : cut_tree tree so.cut ≡ with_subtree list (list_of (selected_trees keep can.elements)) (cut_tree tree c) =
         so.tree_is ∙ ap (λ (us : PlainTrees). with_subtree list (list_of us) (cut_tree tree c)) (sym all) in
-        subst (λ (d : CutForm). HasChildren list (selected_trees keep) (cut_tree tree c) (cut_tree tree d) × IsCutOf tree d) same
-        (λ r a ts e. renamed tree laws are c of list can.rule can.alt r a can.elements ts (selected_trees keep) (cut_tree tree c) (cut_tree tree so.cut) (sym can.node ∙ e) tree_is, so.of)
+        subst (λ (d : CutForm). HasChildren list (selected_trees keep) (cut_tree tree c) (cut_tree tree d) × IsCutOf tree d) same (
+          λ r a ts e. renamed tree laws are c of list can.rule can.alt r a can.elements ts (selected_trees keep) (cut_tree tree c) (cut_tree tree so.cut)
+              (sym can.node ∙ e) tree_is,
+          so.of,
+        )

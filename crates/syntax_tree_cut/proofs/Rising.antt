@@ -80,7 +80,8 @@ mutual
 
   pub rise_wider : (low high low' high' : ℕ) (ts : PlainTrees) → low' ≤ low → high ≤ high' → RiseAll low high ts → RiseAll low' high' ts
   rise_wider low high low' high' PlainTrees.none l g h = omega (arith, h)
-  rise_wider low high low' high' (PlainTrees.next t ts) l g h = (h.0, rises_wider low h.0 low' h.0 t l (omega arith) h.1, rise_wider h.0 high h.0 high' ts (omega arith) g h.2)
+  rise_wider low high low' high' (PlainTrees.next t ts) l g h =
+      (h.0, rises_wider low h.0 low' h.0 t l (omega arith) h.1, rise_wider h.0 high h.0 high' ts (omega arith) g h.2)
 
 -- the subtree with a number
 pub subtree_own : (q : ℕ) (t : PlainTree) → number_of t ≡ q → subtree q t ≡ Some t
@@ -92,7 +93,8 @@ subtree_below q n r a ts e = when_not n q (Some (PlainTree.node n r a ts)) (subt
 
 -- a subtree has the number that it is found by, and rises too
 mutual
-  pub subtree_within : (low high : ℕ) (t : PlainTree) → Rises low high t → (q : ℕ) (u : PlainTree) → subtree q t ≡ Some u → (number_of u ≡ q) × Rises q high u × (low ≤ q)
+  pub subtree_within : (low high : ℕ) (t : PlainTree) → Rises low high t → (q : ℕ) (u : PlainTree) → subtree q t ≡ Some u → (number_of u ≡ q) × Rises q high u
+      × (low ≤ q)
   subtree_within low high (PlainTree.leaf n k i) h q u e =
       elim (cases_eq n q) [
         | inl same ↦
@@ -110,7 +112,8 @@ mutual
             (deeper.0, deeper.1, omega (arith, deeper.2, h.0))
       ]
 
-  pub subtree_among_within : (low high : ℕ) (ts : PlainTrees) → RiseAll low high ts → (q : ℕ) (u : PlainTree) → subtree_among q ts ≡ Some u → (number_of u ≡ q) × Rises q high u × (low ≤ q)
+  pub subtree_among_within : (low high : ℕ) (ts : PlainTrees) → RiseAll low high ts → (q : ℕ) (u : PlainTree) → subtree_among q ts ≡ Some u → (number_of u ≡ q)
+      × Rises q high u × (low ≤ q)
   subtree_among_within low high PlainTrees.none h q u e = absurd (none-some u e)
   subtree_among_within low high (PlainTrees.next t ts) h q u e =
       elim (cases_or (subtree q t) (subtree_among q ts) u e) [
@@ -139,13 +142,16 @@ found_among_within low high ts h q u e =
 pub not_found : (low high : ℕ) (t : PlainTree) → Rises low high t → (q : ℕ) → (q < low) ⊎ (high ≤ q) → subtree q t ≡ None
 not_found low high t h q out =
     elim (cases_option (subtree q t)) [
-      | inl some ↦ let is = found_within low high t h q some.0 some.1 in absurd (elim out [ inl below ↦ omega (arith, is.0, below) | inr above ↦ omega (arith, is.1, above) ])
+      | inl some ↦ let is =
+          found_within low high t h q some.0 some.1 in absurd (elim out [ inl below ↦ omega (arith, is.0, below) | inr above ↦ omega (arith, is.1, above) ])
       | inr none ↦ none
     ]
 
 pub not_found_among : (low high : ℕ) (ts : PlainTrees) → RiseAll low high ts → (q : ℕ) → (q < low) ⊎ (high ≤ q) → subtree_among q ts ≡ None
 not_found_among low high ts h q out =
     elim (cases_option (subtree_among q ts)) [
-      | inl some ↦ let is = found_among_within low high ts h q some.0 some.1 in absurd (elim out [ inl below ↦ omega (arith, is.0, below) | inr above ↦ omega (arith, is.1, above) ])
+      | inl some ↦ let is =
+          found_among_within low high ts h q some.0 some.1 in
+          absurd (elim out [ inl below ↦ omega (arith, is.0, below) | inr above ↦ omega (arith, is.1, above) ])
       | inr none ↦ none
     ]

@@ -7,7 +7,8 @@ use Rattle.std.proofs.lemmas.List.Elements.{Contains-push, Contains-push_cases}
 use Rattle.syntax_tree_cut.specs.declared.children.Seen.{Seen}
 use Rattle.syntax_tree_cut.specs.inner.Children.{HasSeen}
 
-pub one_more : (done : List ℕ) (child number : ℕ) (seen : Seen) → HasSeen done child seen → seen.found ≡ false → HasSeen (done ++ number ∷ []) child (record { count = seen.count + 1; found = nat_eq number child })
+pub one_more : (done : List ℕ) (child number : ℕ) (seen : Seen) → HasSeen done child seen → seen.found ≡ false
+    → HasSeen (done ++ number ∷ []) child (record { count = seen.count + 1; found = nat_eq number child })
 one_more done child number seen is other =
     let count = is.count in
     let long = length-append done (number ∷ []) in

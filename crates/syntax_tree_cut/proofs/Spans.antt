@@ -8,7 +8,8 @@ module _ (f : ℕ → Bool) where
   abbrev others : List ℕ → List ℕ
   others xs = filter (λ x. not (f x)) xs
 
-  by_test : (b : Bool) (x : ℕ) (passed rest : List ℕ) → length (cond b (x ∷ passed) passed) + length (cond (not b) (x ∷ rest) rest) ≡ suc (length passed + length rest)
+  by_test : (b : Bool) (x : ℕ) (passed rest : List ℕ)
+      → length (cond b (x ∷ passed) passed) + length (cond (not b) (x ∷ rest) rest) ≡ suc (length passed + length rest)
   by_test true x passed rest = omega arith
   by_test false x passed rest = omega arith
 
@@ -19,7 +20,9 @@ module _ (f : ℕ → Bool) where
   pub filter_both : (g : ℕ → Bool) (xs ys : List ℕ) → filter g (xs ++ ys) ≡ filter g xs ++ filter g ys
   filter_both g [] ys = refl
   filter_both g (x ∷ xs) ys =
-      ap (λ (l : List ℕ). cond (g x) (x ∷ l) l) (filter_both g xs ys) ∙ (elim (g x) as (λ b. cond b (x ∷ (filter g xs ++ filter g ys)) (filter g xs ++ filter g ys) ≡ cond b (x ∷ filter g xs) (filter g xs) ++ filter g ys) [ true ↦ refl | false ↦ refl ])
+      ap (λ (l : List ℕ). cond (g x) (x ∷ l) l) (filter_both g xs ys)
+      ∙ (elim (g x) as (λ b. cond b (x ∷ (filter g xs ++ filter g ys)) (filter g xs ++ filter g ys) ≡ cond b (x ∷ filter g xs) (filter g xs) ++ filter g ys)
+      [ true ↦ refl | false ↦ refl ])
 
   no_length : (xs : List ℕ) → length xs ≡ 0 → xs ≡ []
   no_length [] e = refl
@@ -39,16 +42,19 @@ module _ (f : ℕ → Bool) where
   again [] = refl
   again (x ∷ xs) = head_again (f x) x xs refl (again xs)
     where
-      head_again : (b : Bool) (x : ℕ) (xs : List ℕ) → f x ≡ b → filter f (filter f xs) ≡ filter f xs → filter f (cond b (x ∷ filter f xs) (filter f xs)) ≡ cond b (x ∷ filter f xs) (filter f xs)
+      head_again : (b : Bool) (x : ℕ) (xs : List ℕ) → f x ≡ b → filter f (filter f xs) ≡ filter f xs
+          → filter f (cond b (x ∷ filter f xs) (filter f xs)) ≡ cond b (x ∷ filter f xs) (filter f xs)
       head_again true x xs e rest = ap (λ (b : Bool). cond b (x ∷ filter f (filter f xs)) (filter f (filter f xs))) e ∙ ap (λ (l : List ℕ). x ∷ l) rest
       head_again false x xs e rest = rest
 
   pub cut_out : (front middle back : List ℕ) → middle ≡ filter f (front ++ (middle ++ back)) → others (front ++ (middle ++ back)) ≡ front ++ back
   cut_out front middle back is =
       let passes : filter f middle ≡ middle = ap (filter f) is ∙ again (front ++ (middle ++ back)) ∙ sym is in
-      let parts : filter f (front ++ (middle ++ back)) ≡ filter f front ++ (filter f middle ++ filter f back) = filter_both f front (middle ++ back) ∙ ap (λ (l : List ℕ). filter f front ++ l) (filter_both f middle back) in
+      let parts : filter f (front ++ (middle ++ back)) ≡ filter f front ++ (filter f middle ++ filter f back) =
+      filter_both f front (middle ++ back) ∙ ap (λ (l : List ℕ). filter f front ++ l) (filter_both f middle back) in
       let total : length middle ≡ length (filter f front) + (length (filter f middle) + length (filter f back)) =
-      ap length (is ∙ parts) ∙ length-append (filter f front) (filter f middle ++ filter f back) ∙ ap (λ (n : ℕ). length (filter f front) + n) (length-append (filter f middle) (filter f back)) in
+      ap length (is ∙ parts) ∙ length-append (filter f front) (filter f middle ++ filter f back)
+      ∙ ap (λ (n : ℕ). length (filter f front) + n) (length-append (filter f middle) (filter f back)) in
       let same : length (filter f middle) ≡ length middle = ap length passes in
       let no_front : length (filter f front) ≡ 0 = omega (arith, total, same) in
       let no_back : length (filter f back) ≡ 0 = omega (arith, total, same) in
@@ -65,6 +71,7 @@ module _ (f : ℕ → Bool) where
       let passes : filter f middle ≡ middle = ap (filter f) is ∙ again (front ++ (middle ++ back)) ∙ sym is in
       let total : length middle ≡ length (filter f front) + length (filter f (middle ++ back)) =
       ap length (is ∙ filter_both f front (middle ++ back)) ∙ length-append (filter f front) (filter f (middle ++ back)) in
-      let inner : length (filter f (middle ++ back)) ≡ length (filter f middle) + length (filter f back) = ap length (filter_both f middle back) ∙ length-append (filter f middle) (filter f back) in
+      let inner : length (filter f (middle ++ back)) ≡ length (filter f middle) + length (filter f back) =
+      ap length (filter_both f middle back) ∙ length-append (filter f middle) (filter f back) in
       let same : length (filter f middle) ≡ length middle = ap length passes in
       omega (arith, total, inner, same)

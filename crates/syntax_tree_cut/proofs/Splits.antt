@@ -1,5 +1,6 @@
 -- A list of tokens, split at bounds.
-use Rattle.std.proofs.Common.{◌≡◌, inl, inr, ℕ, zero, suc, ◌+◌, ◌-◌, ◌<◌, ◌≤◌, List, [], ◌∷◌, ◌++◌, Some, length, take, drop, slice_get, slice_index, refl, sym, ap, ◌∙◌, subst, arith, length-take, length-drop}
+use Rattle.std.proofs.Common.{◌≡◌, inl, inr, ℕ, zero, suc, ◌+◌, ◌-◌, ◌<◌, ◌≤◌, List, [], ◌∷◌, ◌++◌, Some, length, take, drop}
+use Rattle.std.proofs.Common.{slice_get, slice_index, refl, sym, ap, ◌∙◌, subst, arith, length-take, length-drop}
 use Rattle.std.proofs.lemmas.List.{drop-drop}
 use Rattle.std.proofs.lemmas.List.Edits.{drop-paste, take-paste}
 use lib.Seq.{paste}
@@ -54,7 +55,8 @@ pub take_is : (tokens : List ℕ) (bound count : ℕ) → IsSplitAt tokens bound
 take_is [] bound zero at = refl
 take_is [] bound (suc count) at = refl
 take_is (x ∷ xs) bound zero at =
-    sym (untested (nat_lt x bound) x (before bound xs) (le-ltb x bound (at.others 0 (omega arith) (omega arith))) ∙ sym (take_is xs bound 0 (later_split x xs bound at)) ∙ take_none xs)
+    sym (untested (nat_lt x bound) x (before bound xs) (le-ltb x bound (at.others 0 (omega arith) (omega arith)))
+    ∙ sym (take_is xs bound 0 (later_split x xs bound at)) ∙ take_none xs)
   where
     take_none : (ys : List ℕ) → take 0 ys ≡ []
     take_none [] = refl
@@ -67,7 +69,8 @@ pub drop_is : (tokens : List ℕ) (bound count : ℕ) → IsSplitAt tokens bound
 drop_is [] bound zero at = refl
 drop_is [] bound (suc count) at = refl
 drop_is (x ∷ xs) bound zero at =
-    sym (tested (nat_le bound x) x (from_on bound xs) [] (le-leb bound x (at.others 0 (omega arith) (omega arith))) ∙ ap (λ (l : List ℕ). x ∷ l) (sym (drop_is xs bound 0 (later_split x xs bound at)) ∙ drop_none xs))
+    sym (tested (nat_le bound x) x (from_on bound xs) [] (le-leb bound x (at.others 0 (omega arith) (omega arith)))
+    ∙ ap (λ (l : List ℕ). x ∷ l) (sym (drop_is xs bound 0 (later_split x xs bound at)) ∙ drop_none xs))
   where
     drop_none : (ys : List ℕ) → drop 0 ys ≡ ys
     drop_none [] = refl
@@ -76,39 +79,48 @@ drop_is (x ∷ xs) bound (suc count) at =
     drop_is xs bound count (rest_split x xs bound count at)
     ∙ sym (untested (nat_le bound x) x (from_on bound xs) (lt-leb bound x (at.less 0 (omega arith))))
 
-pub between_is : (tokens : List ℕ) (first end from n : ℕ) → IsSplitAt tokens first from → IsSplitAt tokens end (from + n) → first ≤ end → take n (drop from tokens) ≡ within first end tokens
+pub between_is : (tokens : List ℕ) (first end from n : ℕ) → IsSplitAt tokens first from → IsSplitAt tokens end (from + n) → first ≤ end
+    → take n (drop from tokens) ≡ within first end tokens
 between_is [] first end zero zero at to le = refl
 between_is [] first end zero (suc n) at to le = refl
 between_is [] first end (suc from) zero at to le = refl
 between_is [] first end (suc from) (suc n) at to le = refl
 between_is (x ∷ xs) first end zero zero at to le =
-    sym (untested (is_within first end x) x (within first end xs) (and_right (nat_le first x) (nat_lt x end) (le-ltb x end (to.others 0 (omega arith) (omega arith))))
-    ∙ sym (between_is xs first end 0 0 (later_split x xs first at) (later_split x xs end (subst (λ k. IsSplitAt (x ∷ xs) end k) (let e : 0 + 0 ≡ 0 = omega arith in e) to)) le) ∙ take_none (drop 0 xs))
+    sym (untested (is_within first end x) x (within first end xs)
+    (and_right (nat_le first x) (nat_lt x end) (le-ltb x end (to.others 0 (omega arith) (omega arith))))
+    ∙ sym (between_is xs first end 0 0 (later_split x xs first at)
+    (later_split x xs end (subst (λ k. IsSplitAt (x ∷ xs) end k) (let e : 0 + 0 ≡ 0 = omega arith in e) to)) le) ∙ take_none (drop 0 xs))
   where
     take_none : (ys : List ℕ) → take 0 ys ≡ []
     take_none [] = refl
     take_none (y ∷ ys) = refl
 between_is (x ∷ xs) first end zero (suc n) at to le =
     ap (λ (l : List ℕ). x ∷ take n l) (sym (drop_none xs))
-    ∙ ap (λ (l : List ℕ). x ∷ l) (between_is xs first end 0 n (later_split x xs first at) (subst (λ k. IsSplitAt xs end k) (let e : n ≡ 0 + n = omega arith in e) (rest_split x xs end n (subst (λ k. IsSplitAt (x ∷ xs) end k) (let e : 0 + suc n ≡ suc n = omega arith in e) to))) le)
-    ∙ sym (tested (is_within first end x) x (within first end xs) [] (and_from (nat_le first x) (nat_lt x end) (le-leb first x (at.others 0 (omega arith) (omega arith))) (lt-ltb x end (to.less 0 (omega arith)))))
+    ∙ ap (λ (l : List ℕ). x ∷ l) (between_is xs first end 0 n (later_split x xs first at)
+    (subst (λ k. IsSplitAt xs end k) (let e : n ≡ 0 + n = omega arith in e)
+    (rest_split x xs end n (subst (λ k. IsSplitAt (x ∷ xs) end k) (let e : 0 + suc n ≡ suc n = omega arith in e) to))) le)
+    ∙ sym (tested (is_within first end x) x (within first end xs) []
+    (and_from (nat_le first x) (nat_lt x end) (le-leb first x (at.others 0 (omega arith) (omega arith))) (lt-ltb x end (to.less 0 (omega arith)))))
   where
     drop_none : (ys : List ℕ) → drop 0 ys ≡ ys
     drop_none [] = refl
     drop_none (y ∷ ys) = refl
 between_is (x ∷ xs) first end (suc from) n at to le =
-    between_is xs first end from n (rest_split x xs first from at) (rest_split x xs end (from + n) (subst (λ k. IsSplitAt (x ∷ xs) end k) (let e : suc from + n ≡ suc (from + n) = omega arith in e) to)) le
+    between_is xs first end from n (rest_split x xs first from at)
+    (rest_split x xs end (from + n) (subst (λ k. IsSplitAt (x ∷ xs) end k) (let e : suc from + n ≡ suc (from + n) = omega arith in e) to)) le
     ∙ sym (untested (is_within first end x) x (within first end xs) (and_left (nat_le first x) (nat_lt x end) (lt-leb first x (at.less 0 (omega arith)))))
 
 -- the counts rise with the bounds
 pub counts_rise : (tokens : List ℕ) (first end i j : ℕ) → IsSplitAt tokens first i → IsSplitAt tokens end j → first ≤ end → i ≤ j
 counts_rise tokens first end i j at to le =
     elim (cases_lt j i) [
-      | inl lt ↦ absurd (let a = at.among in let low = at.less j lt in let high = to.others j (omega arith) (omega (arith, lt, a)) in omega (arith, low, high, le))
+      | inl lt ↦ absurd (let a = at.among in let low = at.less j lt in let high = to.others j (omega arith) (omega (arith, lt, a)) in
+          omega (arith, low, high, le))
       | inr le ↦ le
     ]
 
-pub count_is : (tokens : List ℕ) (first end i j : ℕ) → IsSplitAt tokens first i → IsSplitAt tokens end j → first ≤ end → j - i ≡ length (within first end tokens)
+pub count_is : (tokens : List ℕ) (first end i j : ℕ) → IsSplitAt tokens first i → IsSplitAt tokens end j → first ≤ end
+    → j - i ≡ length (within first end tokens)
 count_is tokens first end i j at to le =
     let up = counts_rise tokens first end i j at to le in
     let same : j ≡ i + (j - i) = omega (arith, up) in
@@ -120,12 +132,14 @@ count_is tokens first end i j at to le =
     omega (arith, long, rest, total, a, up)
 
 -- a part of a list in place of a longer one
-pub part_kept : (xs ys : List ℕ) (from to first n : ℕ) → from + n ≤ to → to ≤ length xs → first + n ≤ length xs → ys ≡ paste xs from (drop first xs) n → take (from + n) ys ++ drop to ys ≡ take from xs ++ take n (drop first xs) ++ drop to xs
+pub part_kept : (xs ys : List ℕ) (from to first n : ℕ) → from + n ≤ to → to ≤ length xs → first + n ≤ length xs → ys ≡ paste xs from (drop first xs) n
+    → take (from + n) ys ++ drop to ys ≡ take from xs ++ take n (drop first xs) ++ drop to xs
 part_kept xs ys from to first n fits within long is =
     let rest = length-drop first xs in
     let k : ℕ = to - (from + n) in
     let all : (from + n) + k ≡ to = omega (arith, fits) in
-    let front : take (from + n) ys ≡ take from xs ++ take n (drop first xs) = ap (take (from + n)) is ∙ take-paste xs from (drop first xs) n (omega (arith, fits, within)) (omega (arith, rest, long)) in
+    let front : take (from + n) ys ≡ take from xs ++ take n (drop first xs) =
+    ap (take (from + n)) is ∙ take-paste xs from (drop first xs) n (omega (arith, fits, within)) (omega (arith, rest, long)) in
     let back : drop to ys ≡ drop to xs =
     ap (λ (m : ℕ). drop m ys) (sym all)
     ∙ sym (drop-drop k (from + n) ys)
@@ -136,7 +150,8 @@ part_kept xs ys from to first n fits within long is =
     ap (λ (l : List ℕ). l ++ drop to ys) front ∙ ap (λ (l : List ℕ). take from xs ++ take n (drop first xs) ++ l) back
 
 -- what the spans of two nodes say of the counts
-pub fewer_fit : (tokens : List ℕ) (a b i j m n : ℕ) (first end : ℕ) → IsSplitAt tokens a i → IsSplitAt tokens b j → IsSplitAt tokens first m → IsSplitAt tokens end n → a ≤ b → first ≤ end → length (within first end tokens) ≤ length (within a b tokens) →
+pub fewer_fit : (tokens : List ℕ) (a b i j m n : ℕ) (first end : ℕ) → IsSplitAt tokens a i → IsSplitAt tokens b j → IsSplitAt tokens first m
+    → IsSplitAt tokens end n → a ≤ b → first ≤ end → length (within first end tokens) ≤ length (within a b tokens) →
     (i + (n - m) ≤ j) × (j ≤ length tokens) × (m ≤ n) × (m + (n - m) ≤ length tokens)
 fewer_fit tokens a b i j m n first end at to at' to' le le' fewer =
     let up = counts_rise tokens a b i j at to le in
@@ -147,7 +162,8 @@ fewer_fit tokens a b i j m n first end at to at' to' le le' fewer =
     let top' = to'.among in
     (omega (arith, up, long, short, fewer), top, up', omega (arith, up', top'))
 
-pub replaced_part : (xs zs : List ℕ) (a b first end i j m n : ℕ) → IsSplitAt xs a i → IsSplitAt xs b j → IsSplitAt xs first m → IsSplitAt xs end n → first ≤ end → m ≤ n →
+pub replaced_part : (xs zs : List ℕ) (a b first end i j m n : ℕ) → IsSplitAt xs a i → IsSplitAt xs b j → IsSplitAt xs first m → IsSplitAt xs end n → first ≤ end
+    → m ≤ n →
     zs ≡ take i xs ++ take (n - m) (drop m xs) ++ drop j xs → zs ≡ before a xs ++ within first end xs ++ from_on b xs
 replaced_part xs zs a b first end i j m n at to at' to' le up is =
     let same : n ≡ m + (n - m) = omega (arith, up) in
@@ -164,24 +180,29 @@ none_within first end (x ∷ xs) after =
     ∙ none_within first end xs (λ k lt. after (suc k) (omega (arith, lt)))
 
 rest_rises : (x : ℕ) (xs : List ℕ) → IsStrictlyIncreasing (x ∷ xs) → IsStrictlyIncreasing xs
-rest_rises x xs up = λ k lt. subst (λ (m : ℕ). slice_index xs k < slice_index (x ∷ xs) m) (let e : suc k + 1 ≡ suc (k + 1) = omega arith in e) (up (suc k) (omega (arith, lt)))
+rest_rises x xs up =
+    λ k lt. subst (λ (m : ℕ). slice_index xs k < slice_index (x ∷ xs) m) (let e : suc k + 1 ≡ suc (k + 1) = omega arith in e) (up (suc k) (omega (arith, lt)))
 
 -- the first token of a span is the one that the span's beginning splits at
 pub first_is : (tokens : List ℕ) (first end from : ℕ) → IsStrictlyIncreasing tokens → IsSplitAt tokens first from → 0 < length (within first end tokens) →
     (from < length tokens) × (slice_get (within first end tokens) 0 ≡ Some (slice_index tokens from))
 first_is [] first end from up at some = absurd (omega (arith, some))
 first_is (x ∷ xs) first end (suc from) up at some =
-    let skipped : within first end (x ∷ xs) ≡ within first end xs = untested (is_within first end x) x (within first end xs) (and_left (nat_le first x) (nat_lt x end) (lt-leb first x (at.less 0 (omega arith)))) in
+    let skipped : within first end (x ∷ xs) ≡ within first end xs =
+    untested (is_within first end x) x (within first end xs) (and_left (nat_le first x) (nat_lt x end) (lt-leb first x (at.less 0 (omega arith)))) in
     let rest = first_is xs first end from (rest_rises x xs up) (rest_split x xs first from at) (subst (λ (l : List ℕ). 0 < length l) skipped some) in
     (omega (arith, rest.0), ap (λ (l : List ℕ). slice_get l 0) skipped ∙ rest.1)
 first_is (x ∷ xs) first end zero up at some =
     elim (cases_lt x end) [
       | inl before ↦ (
         omega arith,
-        ap (λ (l : List ℕ). slice_get l 0) (tested (is_within first end x) x (within first end xs) [] (and_from (nat_le first x) (nat_lt x end) (le-leb first x (at.others 0 (omega arith) (omega arith))) (lt-ltb x end before))),
+        ap (λ (l : List ℕ). slice_get l 0) (tested (is_within first end x) x (within first end xs) []
+            (and_from (nat_le first x) (nat_lt x end) (le-leb first x (at.others 0 (omega arith) (omega arith))) (lt-ltb x end before))),
       )
       | inr after ↦ absurd (
-          let above : (k : ℕ) → k < length (x ∷ xs) → end ≤ slice_index (x ∷ xs) k = λ k lt. (let up_to = not_falling (x ∷ xs) up 0 k (omega (arith, lt)) in let here : 0 + k ≡ k = omega arith in let le = subst (λ (m : ℕ). x ≤ slice_index (x ∷ xs) m) here up_to in omega (arith, after, le)) in
+          let above : (k : ℕ) → k < length (x ∷ xs) → end ≤ slice_index (x ∷ xs) k =
+          λ k lt. (let up_to = not_falling (x ∷ xs) up 0 k (omega (arith, lt)) in let here : 0 + k ≡ k = omega arith in
+          let le = subst (λ (m : ℕ). x ≤ slice_index (x ∷ xs) m) here up_to in omega (arith, after, le)) in
           let nothing = ap length (none_within first end (x ∷ xs) above) in
           omega (arith, some, nothing))
     ]

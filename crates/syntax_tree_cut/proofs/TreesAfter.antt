@@ -10,10 +10,12 @@ use Rattle.syntax_tree.specs.Numbered.{number_of, roots, subtree, subtree_among,
 use Rattle.syntax_tree.specs.Left.{selected_trees}
 use Rattle.syntax_tree_cut.specs.Cuts.{without}
 use Rattle.syntax_tree_cut.specs.inner.Keeping.{with_trees_after}
-use Rattle.syntax_tree_cut.proofs.Rising.{Rises, RiseAll, cases_or, found_among_within, not_found, number_within, or_first, or_second, subtree_below, subtree_own, when_equal, when_not}
+use Rattle.syntax_tree_cut.proofs.Rising.{Rises, RiseAll, cases_or, found_among_within, not_found, number_within, or_first}
+use Rattle.syntax_tree_cut.proofs.Rising.{or_second, subtree_below, subtree_own, when_equal, when_not}
 use Rattle.syntax_tree_cut.proofs.Deletions.{with_outside}
 
-pub after_more : (ts : PlainTrees) (t : PlainTree) (us : PlainTrees) → with_trees_after (with_trees_after ts (PlainTrees.next t PlainTrees.none)) us ≡ with_trees_after ts (PlainTrees.next t us)
+pub after_more : (ts : PlainTrees) (t : PlainTree) (us : PlainTrees)
+    → with_trees_after (with_trees_after ts (PlainTrees.next t PlainTrees.none)) us ≡ with_trees_after ts (PlainTrees.next t us)
 after_more PlainTrees.none t us = refl
 after_more (PlainTrees.next u ts) t us = ap (λ (vs : PlainTrees). PlainTrees.next u vs) (after_more ts t us)
 
@@ -50,20 +52,24 @@ pub after_has : (ts : PlainTrees) (t : PlainTree) (us : PlainTrees) → Contains
 after_has PlainTrees.none t us = (zero, omega arith, refl)
 after_has (PlainTrees.next u ts) t us = let rest = after_has ts t us in (suc rest.0, (let lt = rest.1 in omega (arith, lt)), rest.2)
 
-pub after_found : (low high : ℕ) (ts : PlainTrees) (t : PlainTree) (us : PlainTrees) → RiseAll low high (with_trees_after ts (PlainTrees.next t us)) → subtree_among (number_of t) (with_trees_after ts (PlainTrees.next t us)) ≡ Some t
+pub after_found : (low high : ℕ) (ts : PlainTrees) (t : PlainTree) (us : PlainTrees) → RiseAll low high (with_trees_after ts (PlainTrees.next t us))
+    → subtree_among (number_of t) (with_trees_after ts (PlainTrees.next t us)) ≡ Some t
 after_found low high PlainTrees.none t us h = or_first (subtree (number_of t) t) (subtree_among (number_of t) us) t (subtree_own (number_of t) t refl)
 after_found low high (PlainTrees.next u ts) t us h =
     let rest = after_found h.0 high ts t us h.2 in
     let within = found_among_within h.0 high (with_trees_after ts (PlainTrees.next t us)) h.2 (number_of t) t rest in
-    or_second (subtree (number_of t) u) (subtree_among (number_of t) (with_trees_after ts (PlainTrees.next t us))) (not_found low h.0 u h.1 (number_of t) (inr within.0)) ∙ rest
+    or_second (subtree (number_of t) u) (subtree_among (number_of t) (with_trees_after ts (PlainTrees.next t us)))
+    (not_found low h.0 u h.1 (number_of t) (inr within.0)) ∙ rest
 
-pub after_without : (low high : ℕ) (ts : PlainTrees) (t : PlainTree) (us : PlainTrees) → RiseAll low high (with_trees_after ts (PlainTrees.next t us)) → without (number_of t) (with_trees_after ts (PlainTrees.next t us)) ≡ with_trees_after ts us
+pub after_without : (low high : ℕ) (ts : PlainTrees) (t : PlainTree) (us : PlainTrees) → RiseAll low high (with_trees_after ts (PlainTrees.next t us))
+    → without (number_of t) (with_trees_after ts (PlainTrees.next t us)) ≡ with_trees_after ts us
 after_without low high PlainTrees.none t us h = when_equal (number_of t) (number_of t) us (PlainTrees.next t (without (number_of t) us)) refl
 after_without low high (PlainTrees.next u ts) t us h =
     let found = after_found h.0 high ts t us h.2 in
     let within = found_among_within h.0 high (with_trees_after ts (PlainTrees.next t us)) h.2 (number_of t) t found in
     let own = number_within low h.0 u h.1 in
-    when_not (number_of u) (number_of t) (with_trees_after ts (PlainTrees.next t us)) (PlainTrees.next u (without (number_of t) (with_trees_after ts (PlainTrees.next t us)))) (λ (e : number_of u ≡ number_of t). omega (arith, e, own, within))
+    when_not (number_of u) (number_of t) (with_trees_after ts (PlainTrees.next t us))
+    (PlainTrees.next u (without (number_of t) (with_trees_after ts (PlainTrees.next t us)))) (λ (e : number_of u ≡ number_of t). omega (arith, e, own, within))
     ∙ ap (λ (vs : PlainTrees). PlainTrees.next u vs) (after_without h.0 high ts t us h.2)
 
 with_own : (q : ℕ) (w u : PlainTree) → number_of u ≡ q → with_subtree q w u ≡ w
@@ -77,7 +83,8 @@ module _ (q : ℕ) (w : PlainTree) (own : number_of w ≡ q) where
     pub with_again : (v t : PlainTree) → with_subtree q v (with_subtree q w t) ≡ with_subtree q v t
     with_again v (PlainTree.leaf n k i) =
         elim (cases_eq n q) [
-          | inl same ↦ ap (with_subtree q v) (when_equal n q w (PlainTree.leaf n k i) same) ∙ with_own q v w own ∙ sym (when_equal n q v (PlainTree.leaf n k i) same)
+          | inl same ↦ ap (with_subtree q v) (when_equal n q w (PlainTree.leaf n k i) same) ∙ with_own q v w own
+              ∙ sym (when_equal n q v (PlainTree.leaf n k i) same)
           | inr other ↦ ap (with_subtree q v) (when_not n q w (PlainTree.leaf n k i) other)
         ]
     with_again v (PlainTree.node n r a ts) =
@@ -115,13 +122,15 @@ module _ (q : ℕ) (w : PlainTree) (own : number_of w ≡ q) where
               ∙ found_with_among (n + 1) high ts h.1 u (sym (subtree_below q n r a ts other) ∙ e)
         ]
 
-    pub found_with_among : (low high : ℕ) (ts : PlainTrees) → RiseAll low high ts → (u : PlainTree) → subtree_among q ts ≡ Some u → subtree_among q (with_subtree_among q w ts) ≡ Some w
+    pub found_with_among : (low high : ℕ) (ts : PlainTrees) → RiseAll low high ts → (u : PlainTree) → subtree_among q ts ≡ Some u
+        → subtree_among q (with_subtree_among q w ts) ≡ Some w
     found_with_among low high PlainTrees.none h u e = absurd (none-some u e)
     found_with_among low high (PlainTrees.next t ts) h u e =
         elim (cases_or (subtree q t) (subtree_among q ts) u e) [
           | inl found ↦ or_first (subtree q (with_subtree q w t)) (subtree_among q (with_subtree_among q w ts)) w (found_with low h.0 t h.1 u found)
           | inr both ↦
               let within = found_among_within h.0 high ts h.2 q u both.1 in
-              or_second (subtree q (with_subtree q w t)) (subtree_among q (with_subtree_among q w ts)) (ap (subtree q) (with_outside q w low h.0 t h.1 (inr within.0)) ∙ both.0)
+              or_second (subtree q (with_subtree q w t)) (subtree_among q (with_subtree_among q w ts))
+              (ap (subtree q) (with_outside q w low h.0 t h.1 (inr within.0)) ∙ both.0)
               ∙ found_with_among h.0 high ts h.2 u both.1
         ]

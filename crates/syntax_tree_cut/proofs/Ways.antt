@@ -12,7 +12,8 @@ use Rattle.syntax_tree_cut.specs.declared.mark.Mark.TheVariants.{Kept, Deleted, 
 use Rattle.syntax_tree_cut.specs.Cuts.{ReplacementsGoDown, by_mark, left_among, left_at, left_of_each, mark_at, or_next}
 use Rattle.syntax_tree_cut.specs.inner.TreeLaws.{TreeLaws}
 use Rattle.syntax_tree_cut.specs.inner.Ways.{IsAhead}
-use Rattle.syntax_tree_cut.proofs.Rising.{Rises, RiseAll, cases_option, found_among_within, found_within, not_found, not_found_among, or_first, or_none, or_second, rise_from, rises_from, subtree_below, subtree_own, subtree_within, when_not}
+use Rattle.syntax_tree_cut.proofs.Rising.{Rises, RiseAll, cases_option, found_among_within, found_within, not_found, not_found_among, or_first, or_none}
+use Rattle.syntax_tree_cut.proofs.Rising.{or_second, rise_from, rises_from, subtree_below, subtree_own, subtree_within, when_not}
 use Rattle.syntax_tree_cut.proofs.LeftTrees.{each_rises, left_below, left_rises, node_own}
 use Rattle.syntax_tree_cut.proofs.CutEdits.{deeper_found, none_there, some_is, whole_rises}
 use Rattle.syntax_tree_cut.proofs.CutFacts.{nodes_count, root_number, subtree_there}
@@ -37,12 +38,14 @@ pub none_sought : (o : Option PlainTree) → o ≡ None → IsTrue false ↔ IsS
 none_sought o e = (λ t. absurd (false≢true t), λ is. absurd (false≢true (subst (λ (x : Option PlainTree). IsSome x) e is)))
 
 -- a node among what may be one more tree
-sought_among : (q : ℕ) (o : Option PlainTree) (us : PlainTrees) → subtree_among q (or_next o us) ≡ option_or (option_and_then (subtree q) o) (subtree_among q us)
+sought_among : (q : ℕ) (o : Option PlainTree) (us : PlainTrees)
+    → subtree_among q (or_next o us) ≡ option_or (option_and_then (subtree q) o) (subtree_among q us)
 sought_among q None us = refl
 sought_among q (Some t) us = refl
 
 -- what is left of a tree has none of the numbers that the tree doesn't have
-nothing_left : (marks : List Mark) (low high : ℕ) (t : PlainTree) → Rises low high t → (b q : ℕ) → (q < low) ⊎ (high ≤ q) → option_and_then (subtree q) (left_at marks b t) ≡ None
+nothing_left : (marks : List Mark) (low high : ℕ) (t : PlainTree) → Rises low high t → (b q : ℕ) → (q < low) ⊎ (high ≤ q)
+    → option_and_then (subtree q) (left_at marks b t) ≡ None
 nothing_left marks low high t h b q out =
     elim (cases_option (left_at marks b t)) [
       | inl some ↦ ap (option_and_then (subtree q)) some.1 ∙ not_found low high some.0 (left_rises marks low high t h b some.0 some.1) q out
@@ -64,7 +67,8 @@ module _ (tree : SyntaxTree) (laws : TreeLaws) (are : AreNodesOf tree.form tree.
     numbered : renumbered_all (position + size first) others ≡ others
     others_rise : RiseAll (position + size first) (position + size first + size_all others) others
 
-  first_ahead : (position : ℕ) (first : PlainTree) (others : PlainTrees) → renumbered_all position (PlainTrees.next first others) ≡ PlainTrees.next first others → FirstAhead position first others
+  first_ahead : (position : ℕ) (first : PlainTree) (others : PlainTrees) → renumbered_all position (PlainTrees.next first others) ≡ PlainTrees.next first others
+      → FirstAhead position first others
   first_ahead position first others e =
       let own : renumbered position first ≡ first = cc in
       let later : renumbered_all (position + size first) others ≡ others = cc in
@@ -75,10 +79,12 @@ module _ (tree : SyntaxTree) (laws : TreeLaws) (are : AreNodesOf tree.form tree.
         others_rise = rise_from (position + size first) (position + size first + size_all others) others later refl;
       }
 
-  pub first_found : (q : ℕ) (sought : Option PlainTree) (position : ℕ) → (ahead : IsAhead tree marks q sought position) → subtree position (whole tree) ≡ Some ahead.first
+  pub first_found : (q : ℕ) (sought : Option PlainTree) (position : ℕ) → (ahead : IsAhead tree marks q sought position)
+      → subtree position (whole tree) ≡ Some ahead.first
   first_found q sought position ahead =
       let is = first_ahead position ahead.first ahead.others ahead.numbered in
-      ahead.in_tree position ahead.first (or_first (subtree position ahead.first) (subtree_among position ahead.others) ahead.first (subtree_own position ahead.first is.number))
+      ahead.in_tree position ahead.first (or_first (subtree position ahead.first) (subtree_among position ahead.others) ahead.first
+      (subtree_own position ahead.first is.number))
 
   pub ahead_within : (q : ℕ) (sought : Option PlainTree) (position : ℕ) → IsAhead tree marks q sought position → position < length tree.nodes
   ahead_within q sought position ahead =
@@ -86,13 +92,16 @@ module _ (tree : SyntaxTree) (laws : TreeLaws) (are : AreNodesOf tree.form tree.
       let count = nodes_count tree laws are in
       omega (arith, within, count)
 
-  later_ahead : (q : ℕ) (sought : Option PlainTree) (position : ℕ) (others : PlainTrees) → renumbered_all position others ≡ others → ((p : ℕ) (u : PlainTree) → subtree_among p others ≡ Some u → subtree p (whole tree) ≡ Some u) →
+  later_ahead : (q : ℕ) (sought : Option PlainTree) (position : ℕ) (others : PlainTrees) → renumbered_all position others ≡ others
+      → ((p : ℕ) (u : PlainTree) → subtree_among p others ≡ Some u → subtree p (whole tree) ≡ Some u) →
       IsSome (subtree_among q others) → sought ≡ subtree_among q (left_of_each marks others) → IsAhead tree marks q sought position
   later_ahead q sought position PlainTrees.none numbered in_tree has is = absurd (false≢true has)
-  later_ahead q sought position (PlainTrees.next t ts) numbered in_tree has is = record { first = t; others = ts; numbered = numbered; in_tree = in_tree; has = has; is_sought = is }
+  later_ahead q sought position (PlainTrees.next t ts) numbered in_tree has is =
+      record { first = t; others = ts; numbered = numbered; in_tree = in_tree; has = has; is_sought = is }
 
   -- The node isn't in the first tree: it is in the others.
-  pub ahead_past : (q : ℕ) (sought : Option PlainTree) (position : ℕ) (x : PlainTree) → subtree position (whole tree) ≡ Some x → position + size x ≤ q → IsAhead tree marks q sought position → IsAhead tree marks q sought (position + size x)
+  pub ahead_past : (q : ℕ) (sought : Option PlainTree) (position : ℕ) (x : PlainTree) → subtree position (whole tree) ≡ Some x → position + size x ≤ q
+      → IsAhead tree marks q sought position → IsAhead tree marks q sought (position + size x)
   ahead_past q sought position x at past ahead =
       let t : PlainTree = ahead.first in
       let ts : PlainTrees = ahead.others in
@@ -106,10 +115,12 @@ module _ (tree : SyntaxTree) (laws : TreeLaws) (are : AreNodesOf tree.form tree.
       ahead.in_tree p u (or_second (subtree p t) (subtree_among p ts) (not_found position (position + size t) t is.rises p (inr within.0)) ∙ f))
       (some_subst (subtree_among q (PlainTrees.next t ts)) (subtree_among q ts) (or_second (subtree q t) (subtree_among q ts) outside) ahead.has)
       (ahead.is_sought ∙ sought_among q (left_at marks (number_of t) t) (left_of_each marks ts)
-      ∙ or_second (option_and_then (subtree q) (left_at marks (number_of t) t)) (subtree_among q (left_of_each marks ts)) (nothing_left marks position (position + size t) t is.rises (number_of t) q (inr after))))
+      ∙ or_second (option_and_then (subtree q) (left_at marks (number_of t) t)) (subtree_among q (left_of_each marks ts))
+      (nothing_left marks position (position + size t) t is.rises (number_of t) q (inr after))))
 
   -- The node is in the first tree.
-  pub ahead_first : (q : ℕ) (sought : Option PlainTree) (position : ℕ) (x : PlainTree) → subtree position (whole tree) ≡ Some x → q < position + size x → IsAhead tree marks q sought position →
+  pub ahead_first : (q : ℕ) (sought : Option PlainTree) (position : ℕ) (x : PlainTree) → subtree position (whole tree) ≡ Some x → q < position + size x
+      → IsAhead tree marks q sought position →
       (sought ≡ option_and_then (subtree q) (left_at marks position x)) × IsSome (subtree q x)
   ahead_first q sought position x at before ahead =
       let t : PlainTree = ahead.first in
@@ -128,19 +139,24 @@ module _ (tree : SyntaxTree) (laws : TreeLaws) (are : AreNodesOf tree.form tree.
       )
 
   -- a node of the parsed tree that is kept is left where it is reached
-  pub kept_found : (q : ℕ) (sought : Option PlainTree) (x : PlainTree) → subtree q (whole tree) ≡ Some x → mark_at marks q ≡ Kept → sought ≡ option_and_then (subtree q) (left_at marks q x) → IsSome sought
+  pub kept_found : (q : ℕ) (sought : Option PlainTree) (x : PlainTree) → subtree q (whole tree) ≡ Some x → mark_at marks q ≡ Kept
+      → sought ≡ option_and_then (subtree q) (left_at marks q x) → IsSome sought
   kept_found q sought x at mark is =
       let number = (subtree_within 0 (size (whole tree)) (whole tree) (whole_rises tree laws are) q x at).0 in
       some_subst (option_and_then (subtree q) (left_at marks q x)) sought (sym is) (numbered_by q (left_at marks q x) (own_number marks q x number mark))
 
-  pub kept_here : (q : ℕ) (sought : Option PlainTree) (position : ℕ) (x : PlainTree) → position ≡ q → subtree position (whole tree) ≡ Some x → mark_at marks position ≡ Kept → sought ≡ option_and_then (subtree q) (left_at marks position x) → IsSome sought
+  pub kept_here : (q : ℕ) (sought : Option PlainTree) (position : ℕ) (x : PlainTree) → position ≡ q → subtree position (whole tree) ≡ Some x
+      → mark_at marks position ≡ Kept → sought ≡ option_and_then (subtree q) (left_at marks position x) → IsSome sought
   kept_here q sought position x same at mark is =
-      kept_found q sought x (subst (λ (p : ℕ). subtree p (whole tree) ≡ Some x) same at) (subst (λ (p : ℕ). mark_at marks p ≡ Kept) same mark) (subst (λ (p : ℕ). sought ≡ option_and_then (subtree q) (left_at marks p x)) same is)
+      kept_found q sought x (subst (λ (p : ℕ). subtree p (whole tree) ≡ Some x) same at) (subst (λ (p : ℕ). mark_at marks p ≡ Kept) same mark)
+      (subst (λ (p : ℕ). sought ≡ option_and_then (subtree q) (left_at marks p x)) same is)
 
-  kept_on : (q : ℕ) (sought : Option PlainTree) (position : ℕ) (x : PlainTree) → subtree position (whole tree) ≡ Some x → number_of x ≡ position → renumbered position x ≡ x → mark_at marks position ≡ Kept → (position ≡ q → ⊥) → IsSome (subtree q x) →
+  kept_on : (q : ℕ) (sought : Option PlainTree) (position : ℕ) (x : PlainTree) → subtree position (whole tree) ≡ Some x → number_of x ≡ position
+      → renumbered position x ≡ x → mark_at marks position ≡ Kept → (position ≡ q → ⊥) → IsSome (subtree q x) →
       sought ≡ option_and_then (subtree q) (left_at marks position x) → IsAhead tree marks q sought (position + 1)
   kept_on q sought position (PlainTree.leaf n k i) at number numbered mark other has is =
-      absurd (false≢true (some_subst (subtree q (PlainTree.leaf n k i)) None (when_not n q (Some (PlainTree.leaf n k i)) None (λ (e : n ≡ q). other (sym number ∙ e))) has))
+      absurd (false≢true (some_subst (subtree q (PlainTree.leaf n k i)) None
+      (when_not n q (Some (PlainTree.leaf n k i)) None (λ (e : n ≡ q). other (sym number ∙ e))) has))
   kept_on q sought position (PlainTree.node n r a us) at number numbered mark other has is =
       let below : renumbered_all (position + 1) us ≡ us = cc in
       let rise = rise_from (position + 1) (position + 1 + size_all us) us below refl in
@@ -148,20 +164,25 @@ module _ (tree : SyntaxTree) (laws : TreeLaws) (are : AreNodesOf tree.form tree.
       later_ahead q sought (position + 1) us below
       (λ p u f.
       let within = found_among_within (position + 1) (position + 1 + size_all us) us rise p u f in
-      deeper_found 0 (size (whole tree)) (whole tree) (whole_rises tree laws are) position p (PlainTree.node n r a us) u at (subtree_below p n r a us (λ (e : n ≡ p). omega (arith, e, number, within)) ∙ f))
+      deeper_found 0 (size (whole tree)) (whole tree) (whole_rises tree laws are) position p (PlainTree.node n r a us) u at
+      (subtree_below p n r a us (λ (e : n ≡ p). omega (arith, e, number, within)) ∙ f))
       (some_subst (subtree q (PlainTree.node n r a us)) (subtree_among q us) (subtree_below q n r a us apart) has)
       (is
-      ∙ ap (option_and_then (subtree q)) (node_own marks position n r a us number ∙ ap (λ (m : Mark). by_mark m (PlainTree.node n r a (left_of_each marks us)) (λ by. left_among marks by us)) (ap (mark_at marks) number ∙ mark))
+      ∙ ap (option_and_then (subtree q)) (node_own marks position n r a us number
+      ∙ ap (λ (m : Mark). by_mark m (PlainTree.node n r a (left_of_each marks us)) (λ by. left_among marks by us)) (ap (mark_at marks) number ∙ mark))
       ∙ subtree_below q n r a (left_of_each marks us) apart)
 
   -- What is left of another node that is kept, and is reached, is among what is left of its children.
-  pub ahead_below : (q : ℕ) (sought : Option PlainTree) (position : ℕ) (x : PlainTree) → subtree position (whole tree) ≡ Some x → mark_at marks position ≡ Kept → (position ≡ q → ⊥) → IsSome (subtree q x) →
+  pub ahead_below : (q : ℕ) (sought : Option PlainTree) (position : ℕ) (x : PlainTree) → subtree position (whole tree) ≡ Some x → mark_at marks position ≡ Kept
+      → (position ≡ q → ⊥) → IsSome (subtree q x) →
       sought ≡ option_and_then (subtree q) (left_at marks position x) → IsAhead tree marks q sought (position + 1)
   ahead_below q sought position x at mark other has is =
-      kept_on q sought position x at (subtree_within 0 (size (whole tree)) (whole tree) (whole_rises tree laws are) position x at).0 (subtree_numbered 0 position (whole tree) x are.whole.numbered at) mark other has is
+      kept_on q sought position x at (subtree_within 0 (size (whole tree)) (whole tree) (whole_rises tree laws are) position x at).0
+      (subtree_numbered 0 position (whole tree) x are.whole.numbered at) mark other has is
 
   -- nothing is left where the node that is reached is deleted
-  pub deleted_lost : (q : ℕ) (sought : Option PlainTree) (position : ℕ) (x : PlainTree) → subtree position (whole tree) ≡ Some x → mark_at marks position ≡ Deleted → sought ≡ option_and_then (subtree q) (left_at marks position x) → sought ≡ None
+  pub deleted_lost : (q : ℕ) (sought : Option PlainTree) (position : ℕ) (x : PlainTree) → subtree position (whole tree) ≡ Some x
+      → mark_at marks position ≡ Deleted → sought ≡ option_and_then (subtree q) (left_at marks position x) → sought ≡ None
   deleted_lost q sought position x at mark is =
       let number = (subtree_within 0 (size (whole tree)) (whole tree) (whole_rises tree laws are) position x at).0 in
       is ∙ ap (option_and_then (subtree q)) (none_there marks position x number mark)
@@ -172,7 +193,8 @@ module _ (tree : SyntaxTree) (laws : TreeLaws) (are : AreNodesOf tree.form tree.
       left_below marks 0 (size (whole tree)) (whole tree) (whole_rises tree laws are) by by w w at (subtree_own by w number)
 
   -- the way begins at a node that has the other one below it, or is it
-  pub ahead_begins : (q by : ℕ) (w : PlainTree) → subtree by (whole tree) ≡ Some w → by ≤ q → q < by + size w → IsAhead tree marks q (option_and_then (subtree q) (left_at marks by (whole tree))) by
+  pub ahead_begins : (q by : ℕ) (w : PlainTree) → subtree by (whole tree) ≡ Some w → by ≤ q → q < by + size w
+      → IsAhead tree marks q (option_and_then (subtree q) (left_at marks by (whole tree))) by
   ahead_begins q by w at from before =
       let number = (subtree_within 0 (size (whole tree)) (whole tree) (whole_rises tree laws are) by w at).0 in
       let numbered = subtree_numbered 0 by (whole tree) w are.whole.numbered at in
@@ -190,7 +212,8 @@ module _ (tree : SyntaxTree) (laws : TreeLaws) (are : AreNodesOf tree.form tree.
       }
 
   -- a node that has not the other one below it, and isn't it, has nothing of it
-  pub not_begun : (q by : ℕ) (w : PlainTree) → subtree by (whole tree) ≡ Some w → (q < by) ⊎ (by + size w ≤ q) → option_and_then (subtree q) (left_at marks by (whole tree)) ≡ None
+  pub not_begun : (q by : ℕ) (w : PlainTree) → subtree by (whole tree) ≡ Some w → (q < by) ⊎ (by + size w ≤ q)
+      → option_and_then (subtree q) (left_at marks by (whole tree)) ≡ None
   not_begun q by w at out =
       ap (option_and_then (subtree q)) (left_own by w at)
       ∙ nothing_left marks by (by + size w) w (rises_from by (by + size w) w (subtree_numbered 0 by (whole tree) w are.whole.numbered at) refl) by q out
@@ -208,7 +231,8 @@ module _ (tree : SyntaxTree) (laws : TreeLaws) (are : AreNodesOf tree.form tree.
 
   module _ (down : ReplacementsGoDown marks (whole tree)) where
     -- what is left of a node that is replaced
-    pub replaced_by : (position by : ℕ) (x : PlainTree) → subtree position (whole tree) ≡ Some x → mark_at marks position ≡ Replaced by → IsReplacedBy position by x
+    pub replaced_by : (position by : ℕ) (x : PlainTree) → subtree position (whole tree) ≡ Some x → mark_at marks position ≡ Replaced by → IsReplacedBy position
+        by x
     replaced_by position by x at mark =
         let rises = whole_rises tree laws are in
         let own = subtree_within 0 (size (whole tree)) (whole tree) rises position x at in
@@ -225,6 +249,8 @@ module _ (tree : SyntaxTree) (laws : TreeLaws) (are : AreNodesOf tree.form tree.
           leaves = leaves_it.0 ∙ sym (left_below marks 0 (size (whole tree)) (whole tree) rises position by x below.0 at leaves_it.1);
         }
       where
-        after_root : (position by : ℕ) (x w : PlainTree) → Rises position (size (whole tree)) x → number_of x ≡ position → subtree_among by (children_of x) ≡ Some w → position < by
+        after_root : (position by : ℕ) (x w : PlainTree) → Rises position (size (whole tree)) x → number_of x ≡ position → subtree_among
+            by (children_of x) ≡ Some w → position < by
         after_root position by (PlainTree.leaf n k i) w h e f = absurd (none-some w f)
-        after_root position by (PlainTree.node n r a ts) w h e f = let within = found_among_within (n + 1) (size (whole tree)) ts h.1 by w f in omega (arith, e, within)
+        after_root position by (PlainTree.node n r a ts) w h e f = let within =
+            found_among_within (n + 1) (size (whole tree)) ts h.1 by w f in omega (arith, e, within)

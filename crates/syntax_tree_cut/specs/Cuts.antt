@@ -58,7 +58,8 @@ cut_tree tree c = option_map_or (λ t. t) (left_at c.marks 0 (whole tree)) (whol
 
 -- Nodes are replaced by ones below them.
 abbrev pub ReplacementsGoDown : List Mark → PlainTree → Type 0
-ReplacementsGoDown marks t = (q by : ℕ) (u : PlainTree) → subtree q t ≡ Some u → mark_at marks q ≡ Replaced by → (w : PlainTree) × (subtree_among by (children_of u) ≡ Some w)
+ReplacementsGoDown marks t =
+    (q by : ℕ) (u : PlainTree) → subtree q t ≡ Some u → mark_at marks q ≡ Replaced by → (w : PlainTree) × (subtree_among by (children_of u) ≡ Some w)
 
 -- What is at the position of a node: it, none, or what is at that of the node that replaces it.
 pub data IsOccupant (marks : List Mark) : ℕ → Option ℕ → Type 0 where

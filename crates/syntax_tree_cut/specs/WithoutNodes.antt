@@ -21,7 +21,8 @@ abbrev mutual
   -- the trees without those that have one of the numbers, and without such nodes below the others
   pub without_nodes_all : List ℕ → PlainTrees → PlainTrees
   without_nodes_all qs PlainTrees.none = PlainTrees.none
-  without_nodes_all qs (PlainTrees.next t ts) = if is_among qs (number_of t) then without_nodes_all qs ts else PlainTrees.next (without_nodes qs t) (without_nodes_all qs ts)
+  without_nodes_all qs (PlainTrees.next t ts) =
+      if is_among qs (number_of t) then without_nodes_all qs ts else PlainTrees.next (without_nodes qs t) (without_nodes_all qs ts)
 
 -- those of the nodes that the flags don't keep
 abbrev pub dropped : List ℕ → List Bool → List ℕ

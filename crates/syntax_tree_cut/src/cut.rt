@@ -1,6 +1,7 @@
 //! Cuts of trees.
 
-ghost use Rattle.std.specs.Prelude.{◌≡◌, ◌↔◌, ℕ, ◌+◌, ◌^◌, ◌<◌, ◌≤◌, ◌++◌, Some, IfOk, IsSome, IsTrue, OnOk, drop, length, option_map, option_to_list, replicate, slice_get, slice_set, take};
+ghost use Rattle.std.specs.Prelude.{◌≡◌, ◌↔◌, ℕ, ◌+◌, ◌^◌, ◌<◌, ◌≤◌, ◌++◌, Some, IfOk, IsSome, IsTrue, OnOk, drop, length};
+ghost use Rattle.std.specs.Prelude.{option_map, option_to_list, replicate, slice_get, slice_set, take};
 ghost use Rattle.std.specs.Option.{option_and_then};
 ghost use Rattle.std.specs.List.{Contains, range_with_len};
 ghost use Rattle.std.specs.List.Sorted.{IsStrictlyIncreasing};
@@ -228,7 +229,8 @@ impl Cut {
     pub fn push_children(&self, tree: &Tree, node: u32, into: &mut Vec<u32>) -> Result<(), Memory>
         requires of { IsCutOf tree.now self.now }
         requires left { IsSome (subtree node (cut_tree tree.now self.now)) }
-        ensures { OnOk result ((u : PlainTree) → subtree node (cut_tree tree.now self.now) ≡ Some u → into.new.items ≡ into.old.items ++ roots (children_of u)) }
+        ensures { OnOk result ((u : PlainTree) → subtree node (cut_tree tree.now self.now) ≡ Some u
+            → into.new.items ≡ into.old.items ++ roots (children_of u)) }
     {
         tree_laws();
         let nodes = tree.nodes();
@@ -333,7 +335,8 @@ impl Cut {
         requires of { IsCutOf tree.now self.old }
         requires compat { compat.now ≡ tree.now.form }
         requires can { CanReplace tree.now.form tree.now.start (cut_tree tree.now self.old) node by }
-        ensures tree { (u : PlainTree) → subtree by (cut_tree tree.now self.old) ≡ Some u → cut_tree tree.now self.new ≡ with_subtree node u (cut_tree tree.now self.old) }
+        ensures tree { (u : PlainTree) → subtree by (cut_tree tree.now self.old) ≡ Some u
+            → cut_tree tree.now self.new ≡ with_subtree node u (cut_tree tree.now self.old) }
         ensures of { IsCutOf tree.now self.new }
     {
         tree_laws();
@@ -379,7 +382,8 @@ impl Cut {
     fn has_element(&self, tree: &Tree, node: u32, child: u32, fewest: u32) -> bool
         requires of { IsCutOf tree.now self.now }
         requires left { IsSome (subtree node (cut_tree tree.now self.now)) }
-        ensures { (u : PlainTree) → subtree node (cut_tree tree.now self.now) ≡ Some u → IsTrue result ↔ (Contains (roots (children_of u)) child × (fewest ≤ count (children_of u))) }
+        ensures { (u : PlainTree) → subtree node (cut_tree tree.now self.now) ≡ Some u → IsTrue result
+            ↔ (Contains (roots (children_of u)) child × (fewest ≤ count (children_of u))) }
     {
         let seen = self.count_children(tree, node, child);
         seen.found && seen.count >= fewest
@@ -590,7 +594,8 @@ impl Cut {
         requires rising { IsStrictlyIncreasing self.old.kept }
         requires span { (x : NodeEntry) → slice_get tree.now.nodes node ≡ Some x → x.first ≤ x.end }
         requires by_span { (y : NodeEntry) → slice_get tree.now.nodes by ≡ Some y → y.first ≤ y.end }
-        requires fewer { (x y : NodeEntry) → slice_get tree.now.nodes node ≡ Some x → slice_get tree.now.nodes by ≡ Some y → length (within y.first y.end self.old.kept) ≤ length (within x.first x.end self.old.kept) }
+        requires fewer { (x y : NodeEntry) → slice_get tree.now.nodes node ≡ Some x → slice_get tree.now.nodes by ≡ Some y
+            → length (within y.first y.end self.old.kept) ≤ length (within x.first x.end self.old.kept) }
         ensures { HasReplaced tree.now self.old self.new node by }
     {
         let old = tree.nodes()[node as usize];

@@ -107,7 +107,8 @@ pub(crate) fn keep_within(tokens: &mut Vec<u32>, old: &Node, new: &Node)
     requires old_span { old.now.first ≤ old.now.end }
     requires new_span { new.now.first ≤ new.now.end }
     requires fewer { length (within new.now.first new.now.end tokens.old.items) ≤ length (within old.now.first old.now.end tokens.old.items) }
-    ensures { tokens.new.items ≡ before old.now.first tokens.old.items ++ within new.now.first new.now.end tokens.old.items ++ from_on old.now.end tokens.old.items }
+    ensures { tokens.new.items ≡ before old.now.first tokens.old.items ++ within new.now.first new.now.end tokens.old.items
+        ++ from_on old.now.end tokens.old.items }
 {
     let from = count_before(tokens, old.first);
     let to = count_before(tokens, old.end);

@@ -25,7 +25,8 @@ smaller-round : (text : List ℕ) → EachIsSmaller (λ t. length t) (length tex
 smaller-round [] = tt
 smaller-round (x ∷ text) = smaller-from (length (x ∷ text) - 1) (x ∷ text) 1 (omega arith)
 
-kept-from : (start : List ℕ) (n : ℕ) (text : List ℕ) (at : ℕ) → at + n ≤ length text → IsNoLonger start text → AllTried (IsNoLonger start) (deletions_from n text at)
+kept-from : (start : List ℕ) (n : ℕ) (text : List ℕ) (at : ℕ) → at + n ≤ length text → IsNoLonger start text
+    → AllTried (IsNoLonger start) (deletions_from n text at)
 kept-from start zero text at fits kept = tt
 kept-from start (suc n) text at fits kept =
     let less = length-remove text at (omega arith) in
@@ -51,4 +52,6 @@ pub is_lawful : (start : List ℕ) → IsLawful (byte_mode start) (IsNoLonger st
 is_lawful start = record { keeps = keeps start; smaller = λ text kept. smaller-round text }
 
 pub tries_edits : (start : List ℕ) → TriesEdits (byte_mode start) (IsNoLonger start) IsByteEdit
-tries_edits start text other kept edit = subst (λ t. IsTriedAtNo (deletions_from (length text - 1) text 1) t) (sym edit.3) (tried-from (length text - 1) text 1 edit.0 edit.1 (let within = edit.2 in omega arith))
+tries_edits start text other kept edit =
+    subst (λ t. IsTriedAtNo (deletions_from (length text - 1) text 1) t) (sym edit.3)
+    (tried-from (length text - 1) text 1 edit.0 edit.1 (let within = edit.2 in omega arith))

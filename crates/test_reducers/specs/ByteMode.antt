@@ -1,4 +1,5 @@
--- A mode for tests: the state is a text whose first byte is a mark. The mark is changed once at first, to byte 9; a round deletes byte by byte after the mark, from left to right; the mark alone isn't listed.
+-- A mode for tests: the state is a text whose first byte is a mark. The mark is changed once at first, to byte 9;
+-- a round deletes byte by byte after the mark, from left to right; the mark alone isn't listed.
 use Rattle.std.specs.Prelude.{◌≡◌, ◌+◌, ◌-◌, ◌<◌, ◌≤◌, ℕ, zero, suc, List, ◌∷◌, length, remove, drop, nat_lt}
 use Rattle.reduce_rounds.specs.Trials.{Trials, Done, Try}
 use Rattle.reduce_rounds.specs.Mode.{RoundMode}

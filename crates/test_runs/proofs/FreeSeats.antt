@@ -18,7 +18,8 @@ pub record AreFreeSoFar (own given : List Seat) (count : ℕ) : Type 0 where
 pub none_looked_at : (own given : List Seat) → AreFreeSoFar own given 0
 none_looked_at own given = record { numbered = refl; agree = All-nil (Agrees own); free = All-nil (λ (s : Seat). s.claim ≡ None) }
 
-pub one_more_free : (own given : List Seat) (count : ℕ) (s : Seat) → AreFreeSoFar own given count → count < length given → s ≡ get_or given count s → s.worker ≡ count + 1 → s.claim ≡ None → Agrees own s
+pub one_more_free : (own given : List Seat) (count : ℕ) (s : Seat) → AreFreeSoFar own given count → count < length given → s ≡ get_or given count s
+    → s.worker ≡ count + 1 → s.claim ≡ None → Agrees own s
     → AreFreeSoFar own given (count + 1)
 one_more_free own given count s free within is number none agrees =
     let more : take (count + 1) given ≡ take count given ++ s ∷ [] = take_more given count s within ∙ ap (λ (t : Seat). take count given ++ t ∷ []) (sym is) in
@@ -36,13 +37,16 @@ one_more_free own given count s free within is number none agrees =
       free = subst (All (λ (t : Seat). t.claim ≡ None)) (sym more) (All-push (λ (t : Seat). t.claim ≡ None) (take count given) s free.free none);
     }
 
-pub all_looked_at : (own given : List Seat) → map (λ (s : Seat). s.worker) own ≡ range_with_len 1 (length own) → length given ≡ length own → AreFreeSoFar own given (length given) → AreFreeSeats own given
+pub all_looked_at : (own given : List Seat) → map (λ (s : Seat). s.worker) own ≡ range_with_len 1 (length own) → length given ≡ length own
+    → AreFreeSoFar own given (length given) → AreFreeSeats own given
 all_looked_at own given numbered many free =
     let most : length given ≤ length given = omega arith in
     let whole : take (length given) given ≡ given = take_all (length given) given most in
     let numbers : map (λ (s : Seat). s.worker) given ≡ range_with_len 1 (length given) = ap (map (λ (s : Seat). s.worker)) (sym whole) ∙ free.numbered in
     record {
-      one_each = subst (IsPermutation (map (λ (s : Seat). s.worker) own)) (numbered ∙ ap (range_with_len 1) (sym many) ∙ sym numbers) (IsPermutation-refl (map (λ (s : Seat). s.worker) own));
+      one_each =
+          subst (IsPermutation (map (λ (s : Seat). s.worker) own)) (numbered ∙ ap (range_with_len 1) (sym many) ∙ sym numbers)
+          (IsPermutation-refl (map (λ (s : Seat). s.worker) own));
       agree = subst (All (Agrees own)) whole free.agree;
       free = subst (All (λ (s : Seat). s.claim ≡ None)) whole free.free;
     }

@@ -54,7 +54,8 @@ ElementsGoOn N kinds s j positions p = (Contains positions p ⊎ (p ≡ j)) × D
 abbrev pub IsListOf : NormalForm → List ℕ → Sym → Sym → ℕ → Type 0
 IsListOf N kinds list s i = (e : ℕ) → i < e → DerivesSpan N kinds list i e ↔ DerivesSpanMany N kinds s i e
 
--- From each of the positions, which rise, elements go on to j; and they have each one where an element of a list that begins at i can end and from which elements do.
+-- From each of the positions, which rise, elements go on to j; and they have each one where
+-- an element of a list that begins at i can end and from which elements do.
 pub record HasEndsOfElements (N : NormalForm) (kinds : List ℕ) (s : Sym) (i j : ℕ) (positions : List ℕ) : Type 0 where
   pub rising : IsStrictlyIncreasing positions
   pub only : (x : ℕ) → Contains positions x → DerivesSpanMany N kinds s x j

@@ -20,7 +20,8 @@ leaf_node a kind = record { sym = Kind kind; slot = a.part.slot; alt = 0; childr
 
 -- the node of a rule that is asked for, with this alternative and so many children
 abbrev pub rule_node : Asked → ℕ → ℕ → Node
-rule_node a alt children = record { sym = a.part.slot; slot = a.part.slot; alt = alt; children = children; parent = a.parent; first = a.part.first; end = a.part.end }
+rule_node a alt children =
+    record { sym = a.part.slot; slot = a.part.slot; alt = alt; children = children; parent = a.parent; first = a.part.first; end = a.part.end }
 
 -- What is asked for derives its span.
 abbrev pub AreDerived : NormalForm → List ℕ → List Asked → Type 0
@@ -34,6 +35,7 @@ Completes N kinds n (a ∷ later) nodes =
     (t : PlainTree) × (others : List Node) × Preferred N kinds a.part.slot a.part.first a.part.end t × (renumbered n t ≡ t)
     × (nodes ≡ nodes_of N a.part.slot a.parent a.part.first t ++ others) × Completes N kinds (n + size t) later others
 
--- These nodes are the first ones of what the root is asked for: with whatever completes those that are still asked for, the next one first, they complete the root.
+-- These nodes are the first ones of what the root is asked for: with whatever completes
+-- those that are still asked for, the next one first, they complete the root.
 abbrev pub AreBegun : NormalForm → List ℕ → Asked → List Node → List Asked → Type 0
 AreBegun N kinds root nodes later = (others : List Node) → Completes N kinds (length nodes) later others → Completes N kinds 0 (root ∷ []) (nodes ++ others)

@@ -7,4 +7,5 @@ use Rattle.command_normal.specs.Normal.{NormalEnds}
 
 -- the command ends with this refusal, whatever becomes of its line
 abbrev pub NormalFails : GrammarSource → SeenFiles → SeenFiles → Refusal → Type 0
-NormalFails grammar files files' refusal = (out out' : SeenOut) → PutsLine (line_of refusal) out out' → NormalEnds grammar files files' out out' (status_of refusal)
+NormalFails grammar files files' refusal =
+    (out out' : SeenOut) → PutsLine (line_of refusal) out out' → NormalEnds grammar files files' out out' (status_of refusal)

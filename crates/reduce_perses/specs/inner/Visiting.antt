@@ -41,11 +41,14 @@ size_at node t = option_map_or size (subtree node t) 0
 
 -- The node of the tree is a star, where it may be empty, or else a plus.
 abbrev pub IsList : NormalForm → PlainTree → ℕ → Bool → Type 0
-IsList N t node may_be_empty = (r a : ℕ) (ts : PlainTrees) → subtree node t ≡ Some (PlainTree.node node r a ts) → (x : Sym) × (slice_get N.rules r ≡ Some (list_rule may_be_empty x))
+IsList N t node may_be_empty =
+    (r a : ℕ) (ts : PlainTrees) → subtree node t ≡ Some (PlainTree.node node r a ts) → (x : Sym) × (slice_get N.rules r ≡ Some (list_rule may_be_empty x))
 
 -- The node of the tree is regular.
 abbrev pub IsRegular : NormalForm → PlainTree → ℕ → Type 0
-IsRegular N t node = (r a : ℕ) (ts : PlainTrees) → subtree node t ≡ Some (PlainTree.node node r a ts) → (alternatives : List (List Sym)) × (slice_get N.rules r ≡ Some (RuleForm.regular alternatives))
+IsRegular N t node =
+    (r a : ℕ) (ts : PlainTrees) → subtree node t ≡ Some (PlainTree.node node r a ts) → (alternatives : List (List Sym))
+    × (slice_get N.rules r ≡ Some (RuleForm.regular alternatives))
 
 module _ (N : NormalForm) (s : Sym) (t : PlainTree) (queue : List Waiting) where
   -- The node was taken out of the queue just now.
@@ -119,7 +122,8 @@ module _ (N : NormalForm) (s : Sym) (t : PlainTree) (queue : List Waiting) where
   IsGoing (Some visit) = IsVisit visit
 
 -- A visit goes on, or the round does, so that this tree is left and this is still tried.
-pub record GoesOnWith (N : NormalForm) (s : Sym) (t : PlainTree) (queue : List Waiting) (left : PlainTree) (rest : Trials PlainTree) (visit : Option Visit) : Type 0 where
+pub record GoesOnWith (N : NormalForm) (s : Sym) (t : PlainTree) (queue : List Waiting) (left : PlainTree) (rest : Trials PlainTree)
+    (visit : Option Visit) : Type 0 where
   pub left_is : tree_left t visit ≡ left
   pub rest_is : trials_from N s t queue visit ≡ rest
   pub going : IsGoing N s t queue visit

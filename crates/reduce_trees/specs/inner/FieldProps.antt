@@ -39,5 +39,6 @@ tried_prop input style left rest Over = hlevel props
 tried_prop input style left rest (Squeezed candidate) = hlevel (props, tree_set, candidate_prop)
 tried_prop input style left rest (Edit candidate) = hlevel (props, candidate_if_prop)
 
-pub agrees_prop : (input : TreeInput) (style : Style) (tree : SyntaxTree) (left : PlainTree) (rest : Trials PlainTree) (trial : Trial) → IsProp (Agrees input style tree left rest trial)
+pub agrees_prop : (input : TreeInput) (style : Style) (tree : SyntaxTree) (left : PlainTree) (rest : Trials PlainTree) (trial : Trial)
+    → IsProp (Agrees input style tree left rest trial)
 agrees_prop input style tree left rest trial = hlevel (props, tree_of_prop, may_keep_prop, tried_prop)

@@ -56,7 +56,8 @@ rest_of input style rest (Edit candidate) = trials_in style rest
 -- It is what is tried: nothing; the squeezed text of the whole tree before the first round; or what the walk tries.
 abbrev pub IsTried : TreeInput → Style → PlainTree → Trials PlainTree → Trial → Type 0
 IsTried input style left rest Over = Unit {0}
-IsTried input style left rest (Squeezed candidate) = (left ≡ input.whole) × MayKeepStyle input Style.Squeezed × IsCandidateOf input (in_style Style.Squeezed input.whole) candidate
+IsTried input style left rest (Squeezed candidate) =
+    (left ≡ input.whole) × MayKeepStyle input Style.Squeezed × IsCandidateOf input (in_style Style.Squeezed input.whole) candidate
 IsTried input style left rest (Edit candidate) = IsCandidateIf input style (tried_state rest) candidate
 
 -- What holds of the fields between two calls.

@@ -16,7 +16,8 @@ use Rattle.reduce_trees_mode.specs.inner.InputParts.{form_set, joined_prop}
 abbrev pub with_kinds : CheckedGrammar → CheckedGrammar
 with_kinds grammar = record { grammar = grammar.grammar; kinds = kinds_of grammar.grammar; start = grammar.start }
 
--- The parts belong together: the form, the tokens and the tree are those of the grammar and the start, and what fits which slot is said of the same form. The start has at most 1,048,576 bytes.
+-- The parts belong together: the form, the tokens and the tree are those of the grammar and the start,
+-- and what fits which slot is said of the same form. The start has at most 1,048,576 bytes.
 pub record BelongTogether (input : TreeInput) (compat : NormalForm) : Type 0 where
   pub kinds : input.grammar ≡ with_kinds input.grammar
   pub small : grammar_size input.grammar.grammar < 2 ^ 32

@@ -27,7 +27,8 @@ the_rule (Some (WrittenRule.lexer_rule r)) is = absurd is
 same_rule : (o : Option WrittenRule) (is : IsParserRule o) (rule : ParserRule) (e : o ≡ Some (WrittenRule.parser_rule rule)) → the_rule o is ≡ (rule, e, tt)
 unfolding the_rule
 same_rule o is rule e =
-    path_j' {y = Some (WrittenRule.parser_rule rule)} (λ (x : Option WrittenRule) (p : x ≡ Some (WrittenRule.parser_rule rule)). (it : IsParserRule x) → the_rule x it ≡ (rule, p, tt)) (λ it. refl) e is
+    path_j' {y = Some (WrittenRule.parser_rule rule)}
+    (λ (x : Option WrittenRule) (p : x ≡ Some (WrittenRule.parser_rule rule)). (it : IsParserRule x) → the_rule x it ≡ (rule, p, tt)) (λ it. refl) e is
 
 one_rule : (o : Option WrittenRule) → IsProp (HasRule o)
 one_rule o (rule, e, t) (rule', e', t') = sym (same_rule o (is_rule o (rule, e, t)) rule e) ∙ same_rule o (is_rule o (rule, e, t)) rule' e'

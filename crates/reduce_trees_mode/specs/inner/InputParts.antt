@@ -16,7 +16,11 @@ pub symbol_set : IsSet Sym
 symbol_set = Coded-set symbol_coded
 
 tokens_set : IsSet (Option (List PlacedToken))
-tokens_set = Coded-set (coded_option (coded_list (code_by (ℕ × (ℕ × ℕ)) (coded× coded_ℕ (coded× coded_ℕ coded_ℕ)) (λ t. (t.kind, (t.start, t.end))) (λ p. record { kind = p.0; start = p.1.0; end = p.1.1 }) (λ _. refl))))
+tokens_set =
+    Coded-set
+    (coded_option
+    (coded_list (code_by (ℕ × (ℕ × ℕ)) (coded× coded_ℕ (coded× coded_ℕ coded_ℕ)) (λ t. (t.kind, (t.start, t.end)))
+    (λ p. record { kind = p.0; start = p.1.0; end = p.1.1 }) (λ _. refl))))
 
 kinds_set : IsSet (List ℕ)
 kinds_set = Coded-set (coded_list coded_ℕ)

@@ -8,10 +8,12 @@ use Rattle.run_gated.specs.declared.fault.RunFault.TheVariants.{NotInteresting, 
 use Rattle.run_gated.specs.declared.ran.Reduced.{Reduced}
 use Rattle.run_gated.specs.RunEnds.{counts_of_result}
 
--- what is answered for a reducer that has come to this result, of a start of so many units and bytes, after so many records and this fault, if there was one; without a fault memory may run out
+-- what is answered for a reducer that has come to this result, of a start of so many units and bytes,
+-- after so many records and this fault, if there was one; without a fault memory may run out
 abbrev pub AnswersFor : Option PoolFault → StepResult → ℕ → ℕ → ℕ → Result Reduced RunFault → Type 0
 AnswersFor (Some fault) result units bytes records answer = answer ≡ Err (fault_kept fault)
-AnswersFor None result units bytes records (Ok reduced) = (result.refused ≡ false) × (reduced.text.items ≡ result.text) × (reduced.counts ≡ counts_of_result units bytes result records)
+AnswersFor None result units bytes records (Ok reduced) =
+    (result.refused ≡ false) × (reduced.text.items ≡ result.text) × (reduced.counts ≡ counts_of_result units bytes result records)
 AnswersFor None result units bytes records (Err NotInteresting) = result.refused ≡ true
 AnswersFor None result units bytes records (Err Memory) = Unit {0}
 AnswersFor None result units bytes records (Err (Script worker)) = ⊥

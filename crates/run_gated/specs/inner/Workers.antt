@@ -15,7 +15,8 @@ use Rattle.run_gated.specs.Records.{AreAsked}
 use Rattle.run_gated.specs.Seen.{AreQuiet, CallFailed, GateFailed, IsQuiet, NoneFailed, Reached, SeenGate, logs_of}
 use Rattle.run_gated.specs.Workers.{HasPartBy}
 
--- Why a run ended: a call failed of the gate of the worker that is named, or a put into the journal. Without a fault no call failed; and the journal's calls failed only where it is the cause.
+-- Why a run ended: a call failed of the gate of the worker that is named, or a put into the journal.
+-- Without a fault no call failed; and the journal's calls failed only where it is the cause.
 abbrev pub IsCausedBy : Option PoolFault → Reached → Reached → Type 0
 IsCausedBy None old new = NoneFailed old new
 IsCausedBy (Some (Script worker)) old new = GateFailed worker old.gates new.gates × IsQuiet old.journal new.journal

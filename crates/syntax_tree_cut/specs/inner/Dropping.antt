@@ -38,4 +38,5 @@ CanDropNext tree node now gap = (c : CutForm) × (all : List ℕ) × (rest : Lis
 
 -- The node is deleted, whichever nodes come after it.
 abbrev pub HasDroppedNext : SyntaxTree → ℕ → CutForm → Gap → CutForm → Gap → Type 0
-HasDroppedNext tree node now gap after new_gap = (c : CutForm) (all rest : List ℕ) → IsDroppedSoFar tree c all (node ∷ rest) now gap → IsDroppedSoFar tree c all rest after new_gap
+HasDroppedNext tree node now gap after new_gap =
+    (c : CutForm) (all rest : List ℕ) → IsDroppedSoFar tree c all (node ∷ rest) now gap → IsDroppedSoFar tree c all rest after new_gap

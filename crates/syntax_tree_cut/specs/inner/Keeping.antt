@@ -13,8 +13,10 @@ abbrev pub with_trees_after : PlainTrees → PlainTrees → PlainTrees
 with_trees_after PlainTrees.none us = us
 with_trees_after (PlainTrees.next t ts) us = PlainTrees.next t (with_trees_after ts us)
 
--- The elements of a list of the cut c are gone through, but for those at the positions of the trees `rest`: those that the flags don't keep are deleted. Of this, `now` has the marks, and the tokens with a gap.
-pub record IsKeptSoFar (tree : SyntaxTree) (c : CutForm) (list : ℕ) (keep : List Bool) (can : CanSelect tree.form (cut_tree tree c) list keep) (rest : PlainTrees) (now : CutForm) (p : Progress) : Type 0 where
+-- The elements of a list of the cut c are gone through, but for those at the positions of the trees `rest`: those
+-- that the flags don't keep are deleted. Of this, `now` has the marks, and the tokens with a gap.
+pub record IsKeptSoFar (tree : SyntaxTree) (c : CutForm) (list : ℕ) (keep : List Bool) (can : CanSelect tree.form (cut_tree tree c) list keep)
+    (rest : PlainTrees) (now : CutForm) (p : Progress) : Type 0 where
   -- the cut that is reached, with the elements that are kept, those ahead, and the tokens after these
   pub cut : CutForm
   pub done : PlainTrees
@@ -38,7 +40,9 @@ pub record IsKeptSoFar (tree : SyntaxTree) (c : CutForm) (list : ℕ) (keep : Li
 
 -- A list is gone through, and there is a next position.
 abbrev pub CanPass : SyntaxTree → List Bool → CutForm → Progress → Type 0
-CanPass tree keep now p = (c : CutForm) × (list : ℕ) × (can : CanSelect tree.form (cut_tree tree c) list keep) × (t : PlainTree) × (ts : PlainTrees) × IsKeptSoFar tree c list keep can (PlainTrees.next t ts) now p
+CanPass tree keep now p =
+    (c : CutForm) × (list : ℕ) × (can : CanSelect tree.form (cut_tree tree c) list keep) × (t : PlainTree) × (ts : PlainTrees)
+    × IsKeptSoFar tree c list keep can (PlainTrees.next t ts) now p
 
 -- The list, whichever it is, is gone through up to the position after the next one.
 abbrev pub HasPassed : SyntaxTree → List Bool → CutForm → Progress → CutForm → Progress → Type 0

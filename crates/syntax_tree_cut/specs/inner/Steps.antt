@@ -16,4 +16,5 @@ pub record HasDeleted (tree : SyntaxTree) (c d : CutForm) (q : ℕ) : Type 0 whe
 pub record HasReplaced (tree : SyntaxTree) (c d : CutForm) (q by : ℕ) : Type 0 where
   pub marks : d.marks ≡ slice_set c.marks q (Replaced by)
   pub positions : (p : ℕ) → slice_get c.positions q ≡ Some p → d.positions ≡ slice_set c.positions by p
-  pub kept : (x y : Node) → slice_get tree.nodes q ≡ Some x → slice_get tree.nodes by ≡ Some y → d.kept ≡ before x.first c.kept ++ within y.first y.end c.kept ++ from_on x.end c.kept
+  pub kept : (x y : Node) → slice_get tree.nodes q ≡ Some x → slice_get tree.nodes by ≡ Some y
+      → d.kept ≡ before x.first c.kept ++ within y.first y.end c.kept ++ from_on x.end c.kept

@@ -8,7 +8,8 @@ use Rattle.syntax_tree_cut.specs.declared.way.Way.{Way}
 use Rattle.syntax_tree_cut.specs.declared.way.Way.TheVariants.{Found, Lost, At}
 use Rattle.syntax_tree_cut.specs.Cuts.{left_of_each}
 
--- One of the trees from this position on, which follow one another in the parsed tree, has the node q; and `sought` is what is left of the node in what is left of these trees.
+-- One of the trees from this position on, which follow one another in the parsed tree, has the
+-- node q; and `sought` is what is left of the node in what is left of these trees.
 pub record IsAhead (tree : SyntaxTree) (marks : List Mark) (q : ℕ) (sought : Option PlainTree) (position : ℕ) : Type 0 where
   pub first : PlainTree
   pub others : PlainTrees

@@ -4,4 +4,6 @@ use Rattle.cases_cuts.proofs.Leaves.{first_of_none}
 use Rattle.cases_cuts.proofs.node.first_token.Goals as goal
 
 pub returns-then-weight-eq0 : goal.returns-then-weight-eq0
-returns-then-weight-eq0 c = first_of_none c.weights_count_leaves.ensures (subtree c.args.node (cut_tree c.args.tree.now c.args.cut.now)) c.weight.result c.weight.ensures c.if-weight-eq0.true
+returns-then-weight-eq0 c =
+    first_of_none c.weights_count_leaves.ensures
+    (subtree c.args.node (cut_tree c.args.tree.now c.args.cut.now)) c.weight.result c.weight.ensures c.if-weight-eq0.true

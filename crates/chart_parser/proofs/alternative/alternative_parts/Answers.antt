@@ -9,18 +9,24 @@ use Rattle.chart_parser.proofs.alternative.alternative_parts.Goals as goal
 pub returns-then-is_empty-clause-yes : goal.returns-then-is_empty-clause-yes
 returns-then-is_empty-clause-yes c e =
     let len : length c.args.symbols.now ≡ 0 = eqb-true (length c.args.symbols.now) 0 (sym c.if-is_empty.ensures) in
-    no_symbols c.args.chart.now.normal c.args.chart.now.kinds c.args.symbols.now c.args.part.first c.args.part.end c.clear.new.self.items len c.clear.ensures.items c.requires.first (eqb-true c.args.part.first c.args.part.end e)
+    no_symbols c.args.chart.now.normal c.args.chart.now.kinds c.args.symbols.now c.args.part.first c.args.part.end c.clear.new.self.items len
+    c.clear.ensures.items c.requires.first (eqb-true c.args.part.first c.args.part.end e)
 
 pub returns-then-is_empty-clause-no : goal.returns-then-is_empty-clause-no
 returns-then-is_empty-clause-no c e =
     let len : length c.args.symbols.now ≡ 0 = eqb-true (length c.args.symbols.now) 0 (sym c.if-is_empty.ensures) in
-    no_symbols_not c.args.chart.now.normal c.args.chart.now.kinds c.args.symbols.now c.args.part.first c.args.part.end len (eqb-false c.args.part.first c.args.part.end e)
+    no_symbols_not c.args.chart.now.normal c.args.chart.now.kinds c.args.symbols.now c.args.part.first c.args.part.end len
+    (eqb-false c.args.part.first c.args.part.end e)
 
 pub keep_going_on-requires-clause-reached : goal.keep_going_on-requires-clause-reached
 keep_going_on-requires-clause-reached c =
-    subst (λ (x : ChartInput). AreReached x.normal x.kinds c.args.symbols.now c.args.part.first c.args.part.end (length c.args.symbols.now) c.in_ok-sets.sets.items) (sym c.in_ok-sets.ensures.same) c.in_ok-sets.ensures.reached
+    subst (λ (x : ChartInput). AreReached x.normal x.kinds c.args.symbols.now c.args.part.first c.args.part.end
+    (length c.args.symbols.now) c.in_ok-sets.sets.items) (sym c.in_ok-sets.ensures.same) c.in_ok-sets.ensures.reached
 
 pub add_parts-requires-clause-going_on : goal.add_parts-requires-clause-going_on
 add_parts-requires-clause-going_on c =
-    let at = subst (λ (l : List (Vec ℕ)). AreGoingOn c.positions_reached.new.chart.normal c.positions_reached.new.chart.kinds c.args.symbols.now c.args.part.first c.args.part.end 1 l) (sym c.deref.ensures.value) c.in_ok-keep_going_on.ensures.going_on in
-    subst (λ (x : ChartInput). AreGoingOn x.normal x.kinds c.args.symbols.now c.args.part.first c.args.part.end 1 c.deref.result.now) (sym c.in_ok-keep_going_on.ensures.same) at
+    let at =
+    subst (λ (l : List (Vec ℕ)). AreGoingOn c.positions_reached.new.chart.normal c.positions_reached.new.chart.kinds c.args.symbols.now c.args.part.first
+    c.args.part.end 1 l) (sym c.deref.ensures.value) c.in_ok-keep_going_on.ensures.going_on in
+    subst (λ (x : ChartInput). AreGoingOn x.normal x.kinds c.args.symbols.now c.args.part.first c.args.part.end 1 c.deref.result.now)
+    (sym c.in_ok-keep_going_on.ensures.same) at

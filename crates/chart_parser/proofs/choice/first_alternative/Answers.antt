@@ -12,16 +12,27 @@ loop-number-init c = (refl, λ b alt l at d. absurd (omega (arith, l)))
 pub returns-then-branch-clause-parts : goal.returns-then-branch-clause-parts
 returns-then-branch-clause-parts c =
     let symbols = c.deref.result.now in
-    let at = alternative_is c.args.alternatives.now c.loop-number.number c.index-alternatives-number.result symbols c.loop-number-test.true c.index-alternatives-number.is c.deref.ensures.value in
-    (symbols, at, c.loop-number.invariant.1, subst (λ (x : ChartInput). AreParts x.normal x.kinds symbols c.args.part.first c.args.part.end c.alternative_parts.new.parts.items) c.loop-number.invariant.0 (c.in_ok-alternative_parts.ensures.yes c.if-branch.true))
+    let at =
+    alternative_is c.args.alternatives.now c.loop-number.number c.index-alternatives-number.result symbols c.loop-number-test.true
+    c.index-alternatives-number.is c.deref.ensures.value in (
+      symbols,
+      at,
+      c.loop-number.invariant.1,
+      subst (λ (x : ChartInput). AreParts x.normal x.kinds symbols c.args.part.first c.args.part.end c.alternative_parts.new.parts.items)
+          c.loop-number.invariant.0 (c.in_ok-alternative_parts.ensures.yes c.if-branch.true),
+    )
 
 pub loop-number-preserved : goal.loop-number-preserved
 loop-number-preserved c =
     let symbols = c.deref.result.now in
-    let at = alternative_is c.args.alternatives.now c.loop-number.number c.index-alternatives-number.result symbols c.loop-number-test.true c.index-alternatives-number.is c.deref.ensures.value in
-    let no = subst (λ (x : ChartInput). DerivesSpanSeq x.normal x.kinds symbols c.args.part.first c.args.part.end → ⊥) c.loop-number.invariant.0 (c.in_ok-alternative_parts.ensures.no c.if-branch.false) in (
+    let at = alternative_is c.args.alternatives.now c.loop-number.number c.index-alternatives-number.result symbols c.loop-number-test.true
+    c.index-alternatives-number.is c.deref.ensures.value in
+    let no =
+    subst (λ (x : ChartInput). DerivesSpanSeq x.normal x.kinds symbols c.args.part.first c.args.part.end → ⊥) c.loop-number.invariant.0
+    (c.in_ok-alternative_parts.ensures.no c.if-branch.false) in (
       c.in_ok-alternative_parts.ensures.same ∙ c.loop-number.invariant.0,
-      one_more_refused (λ alt. DerivesSpanSeq c.args.chart.now.normal c.args.chart.now.kinds alt c.args.part.first c.args.part.end) (alts_form c.args.alternatives.now) c.loop-number.number symbols at no c.loop-number.invariant.1,
+      one_more_refused (λ alt. DerivesSpanSeq c.args.chart.now.normal c.args.chart.now.kinds alt c.args.part.first c.args.part.end)
+          (alts_form c.args.alternatives.now) c.loop-number.number symbols at no c.loop-number.invariant.1,
     )
 
 pub unreachable-requires : goal.unreachable-requires

@@ -17,7 +17,9 @@ loop-asked-init c =
       refl,
       omega (arith, c.new-nodes.ensures.len),
       subst (AreDerived c.args.chart.now.normal c.args.chart.now.kinds) (sym turned) (c.requires.derived, tt),
-      subst (AreBegun c.args.chart.now.normal c.args.chart.now.kinds root c.new-nodes.result.items) (sym turned) (subst (λ (l : List Node). AreBegun c.args.chart.now.normal c.args.chart.now.kinds root l (root ∷ [])) (sym c.new-nodes.ensures.items) (λ others h. h)),
+      subst (AreBegun c.args.chart.now.normal c.args.chart.now.kinds root c.new-nodes.result.items) (sym turned)
+          (subst (λ (l : List Node). AreBegun c.args.chart.now.normal c.args.chart.now.kinds root l (root ∷ [])) (sym c.new-nodes.ensures.items)
+          (λ others h. h)),
     )
 
 pub add_rule_node-requires-clause-form : goal.add_rule_node-requires-clause-form
@@ -77,14 +79,20 @@ loop-asked-preserved c =
     let begun = subst (AreBegun N K root c.loop-asked.nodes.items) turned c.loop-asked.invariant.3 in
     let is = token N K (c.spans_by_form.ensures N K) asked.part.slot asked.part.first asked.part.end c.in_default-slot.not-Rule derived.0 in
     let nodes = c.loop-asked.nodes.items in
-    let kind : get_or c.args.kinds.now asked.part.first 0 ≡ is.kind = ap (λ (l : List ℕ). get_or l asked.part.first 0) (sym c.requires.kinds) ∙ get_or_from_slice_get K asked.part.first is.kind 0 is.at in
+    let kind : get_or c.args.kinds.now asked.part.first 0 ≡ is.kind =
+    ap (λ (l : List ℕ). get_or l asked.part.first 0) (sym c.requires.kinds) ∙ get_or_from_slice_get K asked.part.first is.kind 0 is.at in
     let node : c.leaf_of.result ≡ leaf_node asked is.kind = c.leaf_of.ensures ∙ ap (leaf_node asked) kind in
     let made = leaf_begun N K c.preferred_trees_are_valid.ensures root asked is.kind nodes rest (is.leaf (length nodes)) is.end begun in
-    let items = c.in_ok-push-in_default-slot.ensures.items ∙ ap (λ (x : Node). nodes ++ x ∷ []) node in
-    (c.loop-asked.invariant.0, omega (arith, c.in_ok-push-in_default-slot.ensures.len, c.if-len.false, c.len.ensures), derived.1, subst (λ (l : List Node). AreBegun N K root l rest) (sym items) made)
+    let items = c.in_ok-push-in_default-slot.ensures.items ∙ ap (λ (x : Node). nodes ++ x ∷ []) node in (
+      c.loop-asked.invariant.0,
+      omega (arith, c.in_ok-push-in_default-slot.ensures.len, c.if-len.false, c.len.ensures),
+      derived.1,
+      subst (λ (l : List Node). AreBegun N K root l rest) (sym items) made,
+    )
 
 pub returns-clause-tree : goal.returns-clause-tree
 returns-clause-tree c =
     let root : Asked = record { part = record { slot = c.args.start; first = 0; end = length c.args.kinds.now }; parent = None } in
     let none : c.loop-asked.stack.items ≡ [] = nil_from_length c.loop-asked.stack.items (omega (arith, c.in_default.ensures.cases.0, c.loop-asked.stack.ok)) in
-    all_made c.args.chart.now.normal c.args.chart.now.kinds c.preferred_trees_are_valid.ensures c.args.start (length c.args.kinds.now) c.loop-asked.nodes.items (subst (AreBegun c.args.chart.now.normal c.args.chart.now.kinds root c.loop-asked.nodes.items) (ap reverse none) c.loop-asked.invariant.3)
+    all_made c.args.chart.now.normal c.args.chart.now.kinds c.preferred_trees_are_valid.ensures c.args.start (length c.args.kinds.now) c.loop-asked.nodes.items
+    (subst (AreBegun c.args.chart.now.normal c.args.chart.now.kinds root c.loop-asked.nodes.items) (ap reverse none) c.loop-asked.invariant.3)

@@ -25,4 +25,5 @@ preferred_tree-requires-clause-kinds c =
 
 pub preferred_tree-requires-clause-derived : goal.preferred_tree-requires-clause-derived
 preferred_tree-requires-clause-derived c =
-    subst (λ (x : ChartInput). DerivesSpan x.normal x.kinds c.args.start 0 (length c.args.kinds.now)) (sym c.in_ok-reaches.ensures.same) (c.in_ok-reaches.ensures.answer.0 c.if-not-branch.false)
+    subst (λ (x : ChartInput). DerivesSpan x.normal x.kinds c.args.start 0 (length c.args.kinds.now)) (sym c.in_ok-reaches.ensures.same)
+    (c.in_ok-reaches.ensures.answer.0 c.if-not-branch.false)

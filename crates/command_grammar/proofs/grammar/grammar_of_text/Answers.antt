@@ -11,4 +11,5 @@ returns-in-Ok-clause-ok c =
 pub returns-in-Err-clause-refused : goal.returns-in-Err-clause-refused
 returns-in-Err-clause-refused c =
     let caused : c.in-Err.fault ≢ fault.Memory = search rules in
-    has_fault (grammar_read c.args.grammar) _ c.args.text.now c.in-Err.fault c.named_start.ensures c.requires caused c.in-Err.ensures.fault c.in-Err.ensures.only c.of_grammar.result c.of_grammar.ensures
+    has_fault (grammar_read c.args.grammar) _ c.args.text.now c.in-Err.fault c.named_start.ensures c.requires caused c.in-Err.ensures.fault
+    c.in-Err.ensures.only c.of_grammar.result c.of_grammar.ensures

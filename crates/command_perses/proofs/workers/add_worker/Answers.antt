@@ -7,4 +7,5 @@ pub returns-clause-numbered : goal.returns-clause-numbered
 returns-clause-numbered g c =
     let old = c.args.workers.now.items in
     let is : c.len.result + 1 ≡ length old + 1 = omega (arith, c.len.ensures, c.args.workers.now.ok.0) in
-    subst AreNumbered (sym c.in_ok-push.ensures.items) (subst (λ w. AreNumbered (old ++ w ∷ [])) (sym c.new.ensures) (one_numbered old c.args.gate (c.len.result + 1) c.requires.numbered is))
+    subst AreNumbered (sym c.in_ok-push.ensures.items)
+    (subst (λ w. AreNumbered (old ++ w ∷ [])) (sym c.new.ensures) (one_numbered old c.args.gate (c.len.result + 1) c.requires.numbered is))

@@ -11,13 +11,17 @@ pub returns-in-Ok-clause-found : goal.returns-in-Ok-clause-found
 returns-in-Ok-clause-found g c =
     let grammar = c.in_ok-checked.checked in
     let bytes = c.in_ok-bytes.bytes.items in
-    gives_tree (grammar_read c.args.grammar) _ _ grammar bytes c.in-Ok.found c.in_ok-checked.ensures.grammar (subst (Holds bytes) (c.in_ok-checked.ensures.same c.args.input.now) c.in_ok-bytes.ensures.bytes) c.in_ok-bytes.ensures.limit c.is_checked.ensures
-    (subst (λ (t : List ℕ). IsParsed grammar t c.in-Ok.found) c.deref.ensures.value c.in-Ok.ensures.parsed) (subst (λ (t : List ℕ). MakesInputOf grammar t c.in-Ok.found) c.deref.ensures.value c.in-Ok.ensures.input)
+    gives_tree (grammar_read c.args.grammar) _ _ grammar bytes c.in-Ok.found c.in_ok-checked.ensures.grammar
+    (subst (Holds bytes) (c.in_ok-checked.ensures.same c.args.input.now) c.in_ok-bytes.ensures.bytes) c.in_ok-bytes.ensures.limit c.is_checked.ensures
+    (subst (λ (t : List ℕ). IsParsed grammar t c.in-Ok.found) c.deref.ensures.value c.in-Ok.ensures.parsed)
+    (subst (λ (t : List ℕ). MakesInputOf grammar t c.in-Ok.found) c.deref.ensures.value c.in-Ok.ensures.input)
 
 pub returns-clause-refused : goal.returns-clause-refused
 returns-clause-refused g c =
     let grammar = c.in_ok-checked.checked in
     let bytes = c.in_ok-bytes.bytes.items in
-    fault_fails (grammar_read c.args.grammar) c.args.input.now (seen g.F.Files.content g.F.Files.faults c.args.files.now) (seen g.F.Files.content g.F.Files.faults c.read_input.new.files) grammar c.in_ok-checked.ensures.grammar bytes
-    (subst (Holds bytes) (c.in_ok-checked.ensures.same c.args.input.now) c.in_ok-bytes.ensures.bytes) c.in_ok-bytes.ensures.limit (c.in_ok-bytes.ensures.quiet ∙ c.in_ok-checked.ensures.quiet) c.in-Err.fault
+    fault_fails (grammar_read c.args.grammar) c.args.input.now (seen g.F.Files.content g.F.Files.faults c.args.files.now)
+    (seen g.F.Files.content g.F.Files.faults c.read_input.new.files) grammar c.in_ok-checked.ensures.grammar bytes
+    (subst (Holds bytes) (c.in_ok-checked.ensures.same c.args.input.now) c.in_ok-bytes.ensures.bytes) c.in_ok-bytes.ensures.limit
+    (c.in_ok-bytes.ensures.quiet ∙ c.in_ok-checked.ensures.quiet) c.in-Err.fault
     (subst (λ (t : List ℕ). IsInputFault grammar t c.in-Err.fault) c.deref.ensures.value c.in-Err.ensures.fault) c.of_input.result c.of_input.ensures

@@ -14,5 +14,7 @@ returns-in_err-guard-clause-refused g c =
     let p = err_from_is_err_and c.from_residual-in_err-guard.result c.from_residual-in_err-guard.ensures.1 in
     rw (p.1, p.2) (inr (
       c.in_ok-problem.ensures.quiet,
-      keep_refused (reduce_read c.args.line.now) (seen g.F.Files.content g.F.Files.faults c.args.files.now) c.in_ok-problem.problem _ c.in_err-guard.field-0.0 c.start.ensures c.in_ok-problem.ensures.problem c.in_err-guard.ensures.refused,
+      keep_refused (reduce_read c.args.line.now)
+          (seen g.F.Files.content g.F.Files.faults c.args.files.now) c.in_ok-problem.problem _ c.in_err-guard.field-0.0 c.start.ensures
+          c.in_ok-problem.ensures.problem c.in_err-guard.ensures.refused,
     ))

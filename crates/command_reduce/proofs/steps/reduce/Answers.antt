@@ -8,8 +8,17 @@ pub returns-clause-reduces : goal.returns-clause-reduces
 returns-clause-reduces g c =
     let steps = c.reduce_steps-journal in
     let old : Inside =
-    record { files = seen g.F.Files.content g.F.Files.faults c.args.files.now; gates = seen_gates g.G.Gate.log g.G.Gate.faults c.args.workers.now; journal = seen g.J.Sink.put_so_far g.J.Sink.faults c.args.journal } in
+    record {
+      files = seen g.F.Files.content g.F.Files.faults c.args.files.now;
+      gates = seen_gates g.G.Gate.log g.G.Gate.faults c.args.workers.now;
+      journal = seen g.J.Sink.put_so_far g.J.Sink.faults c.args.journal;
+    } in
     let new : Inside =
-    record { files = seen g.F.Files.content g.F.Files.faults steps.new.files; gates = seen_gates g.G.Gate.log g.G.Gate.faults steps.new.workers; journal = seen g.J.Sink.put_so_far g.J.Sink.faults steps.result.journal } in
-    reduce_ends c.input_fault_once.ensures c.inputs_are_in_language.ensures (reduce_read c.args.line.now) g.G.Gate.may_say steps.result.events.items old new (seen g.O.Sink.put_so_far g.O.Sink.faults c.args.out.now) (seen g.O.Sink.put_so_far g.O.Sink.faults c.end_with.new.out) steps.result.outcome
+    record {
+      files = seen g.F.Files.content g.F.Files.faults steps.new.files;
+      gates = seen_gates g.G.Gate.log g.G.Gate.faults steps.new.workers;
+      journal = seen g.J.Sink.put_so_far g.J.Sink.faults steps.result.journal;
+    } in
+    reduce_ends c.input_fault_once.ensures c.inputs_are_in_language.ensures (reduce_read c.args.line.now) g.G.Gate.may_say steps.result.events.items old new
+    (seen g.O.Sink.put_so_far g.O.Sink.faults c.args.out.now) (seen g.O.Sink.put_so_far g.O.Sink.faults c.end_with.new.out) steps.result.outcome
     c.end_with.result steps.ensures.steps c.end_with.ensures

@@ -10,9 +10,14 @@ use Rattle.command_reduce.proofs.steps.reduce_steps.Goals as goal
 pub returns-in-Err-clause-steps : goal.returns-in-Err-clause-steps
 returns-in-Err-clause-steps g c =
     let old : Inside =
-    record { files = seen g.F.Files.content g.F.Files.faults c.args.files.now; gates = seen_gates g.G.Gate.log g.G.Gate.faults c.args.workers.now; journal = seen g.J.Sink.put_so_far g.J.Sink.faults c.args.journal } in
+    record {
+      files = seen g.F.Files.content g.F.Files.faults c.args.files.now;
+      gates = seen_gates g.G.Gate.log g.G.Gate.faults c.args.workers.now;
+      journal = seen g.J.Sink.put_so_far g.J.Sink.faults c.args.journal;
+    } in
     let new : Inside = record old { files = seen g.F.Files.content g.F.Files.faults c.accept.new.files } in
-    stops_accept (reduce_read c.args.line.now) g.G.Gate.may_say c.new.result.items old new c.new.ensures.items refl refl c.accept.ensures.same c.in-Err.refusal c.in-Err.ensures.refused
+    stops_accept (reduce_read c.args.line.now) g.G.Gate.may_say c.new.result.items old new c.new.ensures.items refl refl c.accept.ensures.same c.in-Err.refusal
+    c.in-Err.ensures.refused
 
 pub reduce_start-journal-requires-clause-idle : goal.reduce_start-journal-requires-clause-idle
 reduce_start-journal-requires-clause-idle g c κs within = lent_idle c.args.workers.now c.args.line.now.jobs c.requires.idle c.requires.enough c.requires.least
@@ -21,10 +26,14 @@ pub reduce_start-journal-requires-clause-jobs : goal.reduce_start-journal-requir
 reduce_start-journal-requires-clause-jobs g c κs within = lent_many c.args.workers.now c.args.line.now.jobs c.requires.idle c.requires.enough
 
 pub returns-in-Ok-clause-idle : goal.returns-in-Ok-clause-idle
-returns-in-Ok-clause-idle g c = back_idle c.args.workers.now c.args.line.now.jobs c.requires.idle c.requires.enough c.reduce_start-journal.new.workers c.reduce_start-journal.ensures.as_many c.reduce_start-journal.ensures.idle
+returns-in-Ok-clause-idle g c =
+    back_idle c.args.workers.now c.args.line.now.jobs c.requires.idle c.requires.enough c.reduce_start-journal.new.workers
+    c.reduce_start-journal.ensures.as_many c.reduce_start-journal.ensures.idle
 
 pub returns-in-Ok-clause-as_many : goal.returns-in-Ok-clause-as_many
-returns-in-Ok-clause-as_many g c = back_many c.args.workers.now c.args.line.now.jobs c.requires.idle c.requires.enough c.reduce_start-journal.new.workers c.reduce_start-journal.ensures.as_many
+returns-in-Ok-clause-as_many g c =
+    back_many c.args.workers.now c.args.line.now.jobs c.requires.idle c.requires.enough c.reduce_start-journal.new.workers
+    c.reduce_start-journal.ensures.as_many
 
 pub returns-in-Ok-clause-steps : goal.returns-in-Ok-clause-steps
 returns-in-Ok-clause-steps g c =
@@ -32,9 +41,12 @@ returns-in-Ok-clause-steps g c =
     let workers = c.args.workers.now in
     let ran = c.reduce_start-journal in
     let run : Run = run_of g.G.Gate.log g.G.Gate.faults g.J.Sink.put_so_far g.J.Sink.faults (take jobs workers) ran.new.workers c.args.journal ran.result in
-    steps_end (reduce_read c.args.line.now) g.G.Gate.may_say run (seen g.F.Files.content g.F.Files.faults c.args.files.now) (seen g.F.Files.content g.F.Files.faults c.write_result-outcome.new.files)
+    steps_end (reduce_read c.args.line.now) g.G.Gate.may_say run (seen g.F.Files.content g.F.Files.faults c.args.files.now)
+    (seen g.F.Files.content g.F.Files.faults c.write_result-outcome.new.files)
     (seen_gates g.G.Gate.log g.G.Gate.faults workers) (seen_gates g.G.Gate.log g.G.Gate.faults (ran.new.workers ++ drop jobs workers))
     (seen g.F.Files.content g.F.Files.faults c.accept.new.files) c.in-Ok.problem c.in-Ok.guard c.write_result-outcome.result
-    (lent_first workers jobs c.requires.idle c.requires.enough ran.new.workers ran.ensures.as_many (reduce_read c.args.line.now) refl g.G.Gate.log g.G.Gate.faults)
-    (sym (lent_many workers jobs c.requires.idle c.requires.enough)) c.in-Ok.ensures.problem c.in-Ok.ensures.guard c.in-Ok.ensures.kept c.accept.ensures.same c.in-Ok.ensures.quiet ran.ensures.sound ran.ensures.problem
+    (lent_first workers jobs c.requires.idle c.requires.enough ran.new.workers ran.ensures.as_many
+    (reduce_read c.args.line.now) refl g.G.Gate.log g.G.Gate.faults)
+    (sym (lent_many workers jobs c.requires.idle c.requires.enough)) c.in-Ok.ensures.problem c.in-Ok.ensures.guard c.in-Ok.ensures.kept c.accept.ensures.same
+    c.in-Ok.ensures.quiet ran.ensures.sound ran.ensures.problem
     c.write_result-outcome.ensures

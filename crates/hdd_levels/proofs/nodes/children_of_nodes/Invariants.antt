@@ -7,4 +7,5 @@ use Rattle.hdd_levels.specs.inner.LevelForms.{AreNodesIn}
 use Rattle.hdd_levels.proofs.nodes.children_of_nodes.Given as goal
 
 abbrev pub invariant-loop-node : goal.invariant-loop-node
-invariant-loop-node l = (ts : List PlainTree) → AreNodesIn (cut_tree l.fn.tree l.fn.cut) l.fn.nodes ts → l.found.items ≡ map number_of (children_of_each (take l.node-index ts))
+invariant-loop-node l =
+    (ts : List PlainTree) → AreNodesIn (cut_tree l.fn.tree l.fn.cut) l.fn.nodes ts → l.found.items ≡ map number_of (children_of_each (take l.node-index ts))

@@ -6,4 +6,6 @@ use Rattle.hdd_levels.specs.inner.LevelForms.{AreNodesIn, with_leaves_in}
 use Rattle.hdd_levels.proofs.nodes.push_with_tokens.Given as goal
 
 abbrev pub invariant-loop-node : goal.invariant-loop-node
-invariant-loop-node l = (ts : List PlainTree) → AreNodesIn (cut_tree l.fn.tree l.fn.cut) l.fn.nodes ts → l.into.items ≡ l.fn.into.items ++ map number_of (with_leaves_in (take l.node-index ts))
+invariant-loop-node l =
+    (ts : List PlainTree) → AreNodesIn (cut_tree l.fn.tree l.fn.cut) l.fn.nodes ts
+    → l.into.items ≡ l.fn.into.items ++ map number_of (with_leaves_in (take l.node-index ts))

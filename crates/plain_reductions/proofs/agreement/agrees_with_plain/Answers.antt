@@ -10,10 +10,14 @@ pub returns-in-Perses : goal.returns-in-Perses
 returns-in-Perses g c =
     let parts = c.args.parts.now in
     let rule = c.args.rule in
-    in_present Perses c.args.mode (verdicts_by rule.start.now rule.seed) (input_of parts.lexer parts.formed parts.tree (string_bytes parts.start) parts.tokens.items.items (g.F.Relation.admits parts.guard) parts.squeezes) (result_of c.args.plain.now) c.is_perses.result c.in-Perses.is c.is_perses.ensures
+    in_present Perses c.args.mode (verdicts_by rule.start.now rule.seed)
+    (input_of parts.lexer parts.formed parts.tree (string_bytes parts.start) parts.tokens.items.items (g.F.Relation.admits parts.guard) parts.squeezes)
+    (result_of c.args.plain.now) c.is_perses.result c.in-Perses.is c.is_perses.ensures
 
 pub returns-in-Hdd : goal.returns-in-Hdd
 returns-in-Hdd g c =
     let parts = c.args.parts.now in
     let rule = c.args.rule in
-    in_present Hdd c.args.mode (verdicts_by rule.start.now rule.seed) (input_of parts.lexer parts.formed parts.tree (string_bytes parts.start) parts.tokens.items.items (g.F.Relation.admits parts.guard) parts.squeezes) (result_of c.args.plain.now) c.is_hdd.result c.in-Hdd.is c.is_hdd.ensures
+    in_present Hdd c.args.mode (verdicts_by rule.start.now rule.seed)
+    (input_of parts.lexer parts.formed parts.tree (string_bytes parts.start) parts.tokens.items.items (g.F.Relation.admits parts.guard) parts.squeezes)
+    (result_of c.args.plain.now) c.is_hdd.result c.in-Hdd.is c.is_hdd.ensures

@@ -5,4 +5,5 @@ use Rattle.plain_reductions.proofs.agreement.goes_the_same.Given as goal
 
 abbrev pub invariant-loop-question : goal.invariant-loop-question
 invariant-loop-question g l =
-    follow (verdicts_by l.fn.rule.start.now l.fn.rule.seed) (g.R.Step.plan l.fn.reducer) ≡ follow (verdicts_by l.fn.rule.start.now l.fn.rule.seed) (g.R.Step.plan l.reducer)
+    follow (verdicts_by l.fn.rule.start.now l.fn.rule.seed) (g.R.Step.plan l.fn.reducer) ≡ follow (verdicts_by l.fn.rule.start.now l.fn.rule.seed)
+    (g.R.Step.plan l.reducer)

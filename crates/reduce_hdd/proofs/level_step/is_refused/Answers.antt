@@ -12,4 +12,5 @@ can_keep-requires-clause-each c = asks_as_kept c.args.step.now c.in-Some.keep.no
 pub returns-in-Some : goal.returns-in-Some
 returns-in-Some c =
     ap not c.can_keep.ensures
-    ∙ ap (λ o. option_map_or (λ keep. not (fills_pluses c.args.tree.now.form (kept_tree c.args.level.now.nodes keep (cut_tree c.args.tree.now c.args.cut.now)))) o false) c.in-Some.ensures.question
+    ∙ ap (λ o. option_map_or (λ keep. not (fills_pluses c.args.tree.now.form (kept_tree c.args.level.now.nodes keep (cut_tree c.args.tree.now c.args.cut.now))))
+    o false) c.in-Some.ensures.question

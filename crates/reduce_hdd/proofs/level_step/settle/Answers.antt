@@ -8,4 +8,5 @@ keep_only-requires-clause-each c = ap length c.kept.ensures ∙ c.requires.step.
 
 pub returns-clause-tree : goal.returns-clause-tree
 returns-clause-tree c =
-    settled c.args.tree.now.form (cut_tree c.args.tree.now c.args.cut.now) c.args.step.now c.requires.step c.kept.result.now (cut_tree c.args.tree.now c.keep_only.new.cut) c.keep_only.result c.kept.ensures c.keep_only.ensures.kept
+    settled c.args.tree.now.form (cut_tree c.args.tree.now c.args.cut.now) c.args.step.now c.requires.step c.kept.result.now
+    (cut_tree c.args.tree.now c.keep_only.new.cut) c.keep_only.result c.kept.ensures c.keep_only.ensures.kept

@@ -17,8 +17,10 @@ compatible-requires-clause-left c =
 pub descendant_at-requires-clause-descendants : goal.descendant_at-requires-clause-descendants
 descendant_at-requires-clause-descendants c =
     let taken = c.requires.taken in
-    are_found c.args.tree.now.form c.args.tree.now.start (cut_tree c.args.tree.now c.args.cut.now) c.args.queue.now c.args.node c.in_ok-found.found.items taken c.requires.regular
-    (c.in_ok-found.ensures (fits_in c.args.tree.now.form) taken.slot (PlainTree.node c.args.node taken.rule taken.alt taken.children) (decides c.args.tree.now.form) taken.next.slot_is taken.next.node)
+    are_found c.args.tree.now.form c.args.tree.now.start
+    (cut_tree c.args.tree.now c.args.cut.now) c.args.queue.now c.args.node c.in_ok-found.found.items taken c.requires.regular
+    (c.in_ok-found.ensures (fits_in c.args.tree.now.form) taken.slot (PlainTree.node c.args.node taken.rule taken.alt taken.children)
+    (decides c.args.tree.now.form) taken.next.slot_is taken.next.node)
 
 pub returns-clause-on : goal.returns-clause-on
 returns-clause-on c =
@@ -26,6 +28,9 @@ returns-clause-on c =
     let t : PlainTree = cut_tree c.args.tree.now c.args.cut.now in
     let found : AreFound c.args.tree.now.form c.args.tree.now.start t c.args.queue.now c.args.node c.in_ok-found.found.items =
     are_found c.args.tree.now.form c.args.tree.now.start t c.args.queue.now c.args.node c.in_ok-found.found.items taken c.requires.regular
-    (c.in_ok-found.ensures (fits_in c.args.tree.now.form) taken.slot (PlainTree.node c.args.node taken.rule taken.alt taken.children) (decides c.args.tree.now.form) taken.next.slot_is taken.next.node) in
-    same_goes c.args.tree.now.form c.args.tree.now.start t c.descendant_at.new.queue t t (descendants_at c.args.tree.now.form c.args.tree.now.start t c.args.queue.now 0 c.args.node) (node_trials c.args.tree.now.form c.args.tree.now.start t c.args.queue.now c.args.node) c.descendant_at.result refl
+    (c.in_ok-found.ensures (fits_in c.args.tree.now.form) taken.slot (PlainTree.node c.args.node taken.rule taken.alt taken.children)
+    (decides c.args.tree.now.form) taken.next.slot_is taken.next.node) in
+    same_goes c.args.tree.now.form c.args.tree.now.start t c.descendant_at.new.queue t t
+    (descendants_at c.args.tree.now.form c.args.tree.now.start t c.args.queue.now 0 c.args.node)
+    (node_trials c.args.tree.now.form c.args.tree.now.start t c.args.queue.now c.args.node) c.descendant_at.result refl
     (begins_at c.args.tree.now.form c.args.tree.now.start t c.args.queue.now c.args.node c.in_ok-found.found.items found) c.descendant_at.ensures.on

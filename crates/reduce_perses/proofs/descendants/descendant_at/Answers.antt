@@ -10,7 +10,8 @@ returns-clause-on c =
     let are = c.requires.descendants in
     let over : length c.args.found.items ≤ c.args.at = omega arith in
     let waits = c.in_ok-queue_children.ensures (PlainTree.node c.args.node are.rule are.alt are.children) are.next.node in
-    goes_on_at_end c.args.tree.now.form c.args.tree.now.start t c.args.queue.now c.args.node c.args.found.items are c.args.at over c.queue_children.new.queue waits
+    goes_on_at_end c.args.tree.now.form c.args.tree.now.start t c.args.queue.now c.args.node c.args.found.items are c.args.at over c.queue_children.new.queue
+    waits
 
 pub returns-clause-fewer : goal.returns-clause-fewer
 returns-clause-fewer c =
@@ -18,4 +19,5 @@ returns-clause-fewer c =
     let are = c.requires.descendants in
     let over : length c.args.found.items ≤ c.args.at = omega arith in
     let waits = c.in_ok-queue_children.ensures (PlainTree.node c.args.node are.rule are.alt are.children) are.next.node in
-    fewer_at_end c.args.tree.now.form c.args.tree.now.start t c.args.queue.now c.args.node c.args.found.items are c.args.at over c.queue_children.new.queue waits
+    fewer_at_end c.args.tree.now.form c.args.tree.now.start t c.args.queue.now c.args.node c.args.found.items are c.args.at over c.queue_children.new.queue
+    waits

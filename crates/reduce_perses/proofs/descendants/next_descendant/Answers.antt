@@ -12,7 +12,11 @@ returns c =
     let visit = c.requires.visit in
     let trials = descendants_at c.args.tree.now.form c.args.tree.now.start t c.args.queue.now c.args.at c.args.node in
     record {
-      on = same_goes c.args.tree.now.form c.args.tree.now.start t c.descendant_at.new.queue t (state_after t trials false) (descendants_at c.args.tree.now.form c.args.tree.now.start t c.args.queue.now (c.args.at + 1) c.args.node) (trials_after trials false) c.descendant_at.result
+      on =
+          same_goes c.args.tree.now.form c.args.tree.now.start t c.descendant_at.new.queue t (state_after t trials false)
+          (descendants_at c.args.tree.now.form c.args.tree.now.start t c.args.queue.now (c.args.at + 1) c.args.node)
+          (trials_after trials false) c.descendant_at.result
           (left_at_no c.args.tree.now.form c.args.tree.now.start t c.args.queue.now c.args.node c.args.found.items visit.are_found c.args.at visit.within)
-          (rest_at_no c.args.tree.now.form c.args.tree.now.start t c.args.queue.now c.args.node c.args.found.items visit.are_found c.args.at visit.within) c.descendant_at.ensures.on;
+          (rest_at_no c.args.tree.now.form c.args.tree.now.start t c.args.queue.now c.args.node c.args.found.items visit.are_found c.args.at visit.within)
+          c.descendant_at.ensures.on;
     }

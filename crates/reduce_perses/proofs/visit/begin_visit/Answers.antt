@@ -4,4 +4,5 @@ use Rattle.reduce_perses.proofs.visit.begin_visit.Goals as goal
 
 pub returns-in-Optional-clause-on : goal.returns-in-Optional-clause-on
 returns-in-Optional-clause-on c =
-    content_begins c.args.tree.now.form c.args.tree.now.start (cut_tree c.args.tree.now c.args.cut.now) c.args.node c.shape.result c.shape.ensures c.args.queue.now c.requires.taken c.in-Optional.is
+    content_begins c.args.tree.now.form c.args.tree.now.start
+    (cut_tree c.args.tree.now c.args.cut.now) c.args.node c.shape.result c.shape.ensures c.args.queue.now c.requires.taken c.in-Optional.is

@@ -8,4 +8,6 @@ use Rattle.reduce_perses.proofs.waiting.queue_children.Given as goal
 
 -- with the children that are still to come it is the queue with all of them
 abbrev pub invariant-loop-child : goal.invariant-loop-child
-invariant-loop-child l = (u : PlainTree) → subtree l.fn.node (cut_tree l.fn.tree l.fn.cut) ≡ Some u → with_trees (later_trees l.child-index (children_of u)) l.queue ≡ with_trees (children_of u) l.fn.queue
+invariant-loop-child l =
+    (u : PlainTree) → subtree l.fn.node (cut_tree l.fn.tree l.fn.cut) ≡ Some u
+    → with_trees (later_trees l.child-index (children_of u)) l.queue ≡ with_trees (children_of u) l.fn.queue

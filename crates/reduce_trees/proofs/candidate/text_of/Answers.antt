@@ -8,5 +8,8 @@ pub returns : goal.returns
 returns g c =
     let parts = c.args.parts.now in
     let tokens = map token_of parts.tokens.items.items in
-    let law = c.printed_with_skips.ensures parts.lexer.grammar parts.lexer.start parts.formed c.as_str-start.result.now tokens c.args.kept.now c.args.style c.in_ok-text.text.items in
-    law.0 c.in_ok-text.ensures.printed ∙ ap (λ (start : List ℕ). printed (skips_in parts.lexer.grammar) start tokens c.args.kept.now c.args.style) c.as_str-start.ensures.value
+    let law =
+    c.printed_with_skips.ensures parts.lexer.grammar parts.lexer.start parts.formed c.as_str-start.result.now tokens c.args.kept.now c.args.style
+    c.in_ok-text.text.items in
+    law.0 c.in_ok-text.ensures.printed ∙ ap (λ (start : List ℕ). printed (skips_in parts.lexer.grammar) start tokens c.args.kept.now c.args.style)
+    c.as_str-start.ensures.value

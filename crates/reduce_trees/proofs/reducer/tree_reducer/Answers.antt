@@ -17,19 +17,23 @@ pub new-requires-2-clause-state : goal.new-requires-2-clause-state
 new-requires-2-clause-state g c = c.in_ok-round.ensures.state ∙ ap (λ (input : TreeInput). in_style Style.AsWas input.whole) (sym c.in_ok-round.ensures.input)
 
 pub new-requires-2-clause-rest : goal.new-requires-2-clause-rest
-new-requires-2-clause-rest g c = c.in_ok-round.ensures.rest ∙ ap (λ (input : TreeInput). (walk_mode g.W.TreeWalk.round input).opening) (sym c.in_ok-round.ensures.input)
+new-requires-2-clause-rest g c =
+    c.in_ok-round.ensures.rest ∙ ap (λ (input : TreeInput). (walk_mode g.W.TreeWalk.round input).opening) (sym c.in_ok-round.ensures.input)
 
 pub new-requires-2-clause-text : goal.new-requires-2-clause-text
 new-requires-2-clause-text g c =
     let parts = c.args.parts.now in
-    let input = input_of parts.lexer parts.formed parts.tree (string_bytes parts.start) parts.tokens.items.items (g.F.Relation.admits parts.guard) parts.squeezes in
+    let input =
+    input_of parts.lexer parts.formed parts.tree (string_bytes parts.start) parts.tokens.items.items (g.F.Relation.admits parts.guard) parts.squeezes in
     let bytes : c.in_ok-text.text.items ≡ string_bytes c.args.parts.now.start = search rules in
-    bytes ∙ sym (c.whole_is_start.ensures input c.is_input.ensures.is).text ∙ ap (λ (other : TreeInput). text_of_state other (in_style Style.AsWas other.whole)) (sym c.in_ok-round.ensures.input)
+    bytes ∙ sym (c.whole_is_start.ensures input c.is_input.ensures.is).text
+    ∙ ap (λ (other : TreeInput). text_of_state other (in_style Style.AsWas other.whole)) (sym c.in_ok-round.ensures.input)
 
 pub new-requires-2-clause-units : goal.new-requires-2-clause-units
 new-requires-2-clause-units g c =
     let parts = c.args.parts.now in
-    let input = input_of parts.lexer parts.formed parts.tree (string_bytes parts.start) parts.tokens.items.items (g.F.Relation.admits parts.guard) parts.squeezes in
+    let input = input_of parts.lexer parts.formed parts.tree (string_bytes parts.start) parts.tokens.items.items
+    (g.F.Relation.admits parts.guard) parts.squeezes in
     let tokens = c.args.parts.now.tokens.items in
     let many : vec_len tokens ≡ length tokens.items = omega (arith, tokens.ok.0) in
     c.len-tokens.ensures ∙ many ∙ sym (length-map tokens.items token_of) ∙ sym (weight_whole input c.is_input.ensures.is)

@@ -11,25 +11,29 @@ use Rattle.reduce_trees.proofs.trial.opening_trial.Goals as goal
 pub text_of-requires : goal.text_of-requires
 text_of-requires g c =
     let parts = c.args.parts.now in
-    let input = input_of parts.lexer parts.formed parts.tree (string_bytes parts.start) parts.tokens.items.items (g.F.Relation.admits parts.guard) parts.squeezes in
+    let input =
+    input_of parts.lexer parts.formed parts.tree (string_bytes parts.start) parts.tokens.items.items (g.F.Relation.admits parts.guard) parts.squeezes in
     whole_are_kept input c.is_input.ensures.is c.left_is_part.ensures (c.whole_is_start.ensures input c.is_input.ensures.is) c.deref.result.now
     (c.deref.ensures.value ∙ c.in_ok-kept.ensures.tokens ∙ ap leaves c.in_ok-cut.ensures.whole)
 
 pub with_text-requires-clause-kept : goal.with_text-requires-clause-kept
 with_text-requires-clause-kept g c =
     let parts = c.args.parts.now in
-    let input = input_of parts.lexer parts.formed parts.tree (string_bytes parts.start) parts.tokens.items.items (g.F.Relation.admits parts.guard) parts.squeezes in
+    let input = input_of parts.lexer parts.formed parts.tree (string_bytes parts.start) parts.tokens.items.items
+    (g.F.Relation.admits parts.guard) parts.squeezes in
     whole_are_kept input c.is_input.ensures.is c.left_is_part.ensures (c.whole_is_start.ensures input c.is_input.ensures.is) c.deref-2.result.now
     (c.deref-2.ensures.value ∙ c.in_ok-kept.ensures.tokens ∙ ap leaves c.in_ok-cut.ensures.whole)
 
 pub returns-clause-tried : goal.returns-clause-tried
 returns-clause-tried g c =
     let parts = c.args.parts.now in
-    let input = input_of parts.lexer parts.formed parts.tree (string_bytes parts.start) parts.tokens.items.items (g.F.Relation.admits parts.guard) parts.squeezes in
+    let input = input_of parts.lexer parts.formed parts.tree
+    (string_bytes parts.start) parts.tokens.items.items (g.F.Relation.admits parts.guard) parts.squeezes in
     let all : c.deref.result.now ≡ leaves input.whole = c.deref.ensures.value ∙ c.in_ok-kept.ensures.tokens ∙ ap leaves c.in_ok-cut.ensures.whole in
     let all_again : c.deref-2.result.now ≡ leaves input.whole = c.deref-2.ensures.value ∙ c.in_ok-kept.ensures.tokens ∙ ap leaves c.in_ok-cut.ensures.whole in
     let asked : c.args.parts.now.squeezes ≡ true = search rules in
-    let shorter : length c.in_ok-text.text.items < length (string_bytes c.args.parts.now.start) = omega (arith, c.len.ensures, c.len-2.ensures, c.if-len.false) in (
+    let shorter : length c.in_ok-text.text.items < length (string_bytes c.args.parts.now.start) =
+    omega (arith, c.len.ensures, c.len-2.ensures, c.if-len.false) in (
       refl,
       squeezed_short input c.in_ok-text.text.items c.deref.result.now all c.in_ok-text.ensures asked shorter,
       subst (λ kept. IsCandidateIn input kept Style.Squeezed c.in_ok-candidate.candidate) all_again

@@ -8,15 +8,18 @@ use Rattle.run_problem.proofs.run.lines_result.Goals as goal
 
 pub returns-in-Err-clause-sound : goal.returns-in-Err-clause-sound
 returns-in-Err-clause-sound g c =
-    let run : Run = run_of g.G.Gate.log g.G.Gate.faults g.J.Sink.put_so_far g.J.Sink.faults c.args.workers.now c.args.workers.now c.args.journal c.refused.result in
+    let run : Run =
+    run_of g.G.Gate.log g.G.Gate.faults g.J.Sink.put_so_far g.J.Sink.faults c.args.workers.now c.args.workers.now c.args.journal c.refused.result in
     refused_sound run c.refused.ensures.events c.refused.ensures.outcome
     (ap (reached g.G.Gate.log g.G.Gate.faults g.J.Sink.put_so_far g.J.Sink.faults c.args.workers.now) c.refused.ensures.journal) g.G.Gate.may_say
 
 pub returns-in-Err-clause-problem : goal.returns-in-Err-clause-problem
 returns-in-Err-clause-problem g c =
-    let run : Run = run_of g.G.Gate.log g.G.Gate.faults g.J.Sink.put_so_far g.J.Sink.faults c.args.workers.now c.args.workers.now c.args.journal c.refused.result in
+    let run : Run = run_of g.G.Gate.log g.G.Gate.faults g.J.Sink.put_so_far g.J.Sink.faults c.args.workers.now c.args.workers.now c.args.journal
+    c.refused.result in
     refused_of run c.refused.ensures.events c.refused.ensures.outcome
-    (ap (reached g.G.Gate.log g.G.Gate.faults g.J.Sink.put_so_far g.J.Sink.faults c.args.workers.now) c.refused.ensures.journal) c.args.guard.now (Problem.of_lines c.args.start.now)
+    (ap (reached g.G.Gate.log g.G.Gate.faults g.J.Sink.put_so_far g.J.Sink.faults c.args.workers.now) c.refused.ensures.journal) c.args.guard.now
+    (Problem.of_lines c.args.start.now)
 
 pub returns-in-Ok-clause-problem : goal.returns-in-Ok-clause-problem
 returns-in-Ok-clause-problem g c =
@@ -27,5 +30,7 @@ returns-in-Ok-clause-problem g c =
     let of = ran.history (line_lawful input).keeps (admits_start c.args.guard.now c.args.start.now c.requires.kept) in
     record {
       history = are_of c.args.guard.now c.histories_go_by_questions.ensures run.workers c.args.start.now run.history of;
-      ends = lines_end c.args.guard.now c.lines_are_recursions.ensures c.histories_go_by_questions.ensures c.args.start.now run of.legal c.lines_end_minimal.ensures c.requires.kept run.outcome (ran.ends c.in-Ok.ensures.start);
+      ends =
+          lines_end c.args.guard.now c.lines_are_recursions.ensures c.histories_go_by_questions.ensures c.args.start.now run of.legal
+          c.lines_end_minimal.ensures c.requires.kept run.outcome (ran.ends c.in-Ok.ensures.start);
     }

@@ -13,24 +13,29 @@ use Rattle.run_problem.proofs.run.run_problem.Goals as goal
 
 pub returns-in-Err-clause-sound : goal.returns-in-Err-clause-sound
 returns-in-Err-clause-sound g c =
-    let run : Run = run_of g.G.Gate.log g.G.Gate.faults g.J.Sink.put_so_far g.J.Sink.faults c.args.workers.now c.args.workers.now c.args.journal c.refused.result in
+    let run : Run =
+    run_of g.G.Gate.log g.G.Gate.faults g.J.Sink.put_so_far g.J.Sink.faults c.args.workers.now c.args.workers.now c.args.journal c.refused.result in
     refused_sound run c.refused.ensures.events c.refused.ensures.outcome
     (ap (reached g.G.Gate.log g.G.Gate.faults g.J.Sink.put_so_far g.J.Sink.faults c.args.workers.now) c.refused.ensures.journal) g.G.Gate.may_say
 
 pub returns-in-Err-clause-problem : goal.returns-in-Err-clause-problem
 returns-in-Err-clause-problem g c one is =
-    let run : Run = run_of g.G.Gate.log g.G.Gate.faults g.J.Sink.put_so_far g.J.Sink.faults c.args.workers.now c.args.workers.now c.args.journal c.refused.result in
+    let run : Run = run_of g.G.Gate.log g.G.Gate.faults g.J.Sink.put_so_far g.J.Sink.faults c.args.workers.now c.args.workers.now c.args.journal
+    c.refused.result in
     refused_of run c.refused.ensures.events c.refused.ensures.outcome
     (ap (reached g.G.Gate.log g.G.Gate.faults g.J.Sink.put_so_far g.J.Sink.faults c.args.workers.now) c.refused.ensures.journal) c.args.guard one
 
 pub tree_result-requires-clause-kept : goal.tree_result-requires-clause-kept
 tree_result-requires-clause-kept g c κs within =
     let ready = subst IsReady c.in-Tree.is c.requires.ready in
-    subst AdmitsStart (sym (c.in-Ok.ensures ready.checked.well_formed)) (subst (λ (p : ReadProblem). holds_all c.args.guard (start_read p) ≡ true) c.in-Tree.is c.requires.kept)
+    subst AdmitsStart (sym (c.in-Ok.ensures ready.checked.well_formed))
+    (subst (λ (p : ReadProblem). holds_all c.args.guard (start_read p) ≡ true) c.in-Tree.is c.requires.kept)
 
 pub returns-in-Ok-clause-problem : goal.returns-in-Ok-clause-problem
 returns-in-Ok-clause-problem g c one is =
     let it = subst (λ (p : ReadProblem). IsReadAs c.args.guard p one) c.in-Tree.is is in
     let same = c.in-Ok.ensures it.0 in
-    subst (λ (p : Problem). IsRunOf c.args.guard p (run_of g.G.Gate.log g.G.Gate.faults g.J.Sink.put_so_far g.J.Sink.faults c.args.workers.now c.tree_result.new.workers c.args.journal c.tree_result.result)) (ap (Problem.of_tree c.in-Tree.mode) same ∙ sym it.1)
+    subst (λ (p : Problem). IsRunOf c.args.guard p
+    (run_of g.G.Gate.log g.G.Gate.faults g.J.Sink.put_so_far g.J.Sink.faults c.args.workers.now c.tree_result.new.workers c.args.journal c.tree_result.result))
+    (ap (Problem.of_tree c.in-Tree.mode) same ∙ sym it.1)
     (c.tree_result.ensures.problem c.args.guard (ap (λ (i : TreeInput). i.admits) same))

@@ -14,44 +14,57 @@ use Rattle.run_problem.proofs.run.tree_result.Goals as goal
 
 pub returns-in-Err-clause-sound : goal.returns-in-Err-clause-sound
 returns-in-Err-clause-sound g c =
-    let run : Run = run_of g.G.Gate.log g.G.Gate.faults g.J.Sink.put_so_far g.J.Sink.faults c.args.workers.now c.args.workers.now c.args.journal c.refused.result in
+    let run : Run =
+    run_of g.G.Gate.log g.G.Gate.faults g.J.Sink.put_so_far g.J.Sink.faults c.args.workers.now c.args.workers.now c.args.journal c.refused.result in
     refused_sound run c.refused.ensures.events c.refused.ensures.outcome
     (ap (reached g.G.Gate.log g.G.Gate.faults g.J.Sink.put_so_far g.J.Sink.faults c.args.workers.now) c.refused.ensures.journal) g.G.Gate.may_say
 
 pub returns-in-Err-clause-problem : goal.returns-in-Err-clause-problem
 returns-in-Err-clause-problem g c keeps admits =
-    let run : Run = run_of g.G.Gate.log g.G.Gate.faults g.J.Sink.put_so_far g.J.Sink.faults c.args.workers.now c.args.workers.now c.args.journal c.refused.result in
+    let run : Run = run_of g.G.Gate.log g.G.Gate.faults g.J.Sink.put_so_far g.J.Sink.faults c.args.workers.now c.args.workers.now c.args.journal
+    c.refused.result in
     refused_of run c.refused.ensures.events c.refused.ensures.outcome
-    (ap (reached g.G.Gate.log g.G.Gate.faults g.J.Sink.put_so_far g.J.Sink.faults c.args.workers.now) c.refused.ensures.journal) keeps (Problem.of_tree c.args.mode _)
+    (ap (reached g.G.Gate.log g.G.Gate.faults g.J.Sink.put_so_far g.J.Sink.faults c.args.workers.now) c.refused.ensures.journal) keeps
+    (Problem.of_tree c.args.mode _)
 
 pub returns-in-Ok-clause-problem : goal.returns-in-Ok-clause-problem
 returns-in-Ok-clause-problem g c keeps admits =
     let parts = c.args.parts.now in
-    let input : TreeInput = input_of parts.lexer parts.formed parts.tree (string_bytes parts.start) parts.tokens.items.items (keeps_admit parts.guard) parts.squeezes in
+    let input : TreeInput =
+    input_of parts.lexer parts.formed parts.tree (string_bytes parts.start) parts.tokens.items.items (keeps_admit parts.guard) parts.squeezes in
     let run : Run =
     run_of g.G.Gate.log g.G.Gate.faults g.J.Sink.put_so_far g.J.Sink.faults c.args.workers.now c.walk_result.new.workers c.args.journal c.walk_result.result in
     subst (λ (mode : TreeMode). IsRunOf keeps (Problem.of_tree mode input) run) (sym c.in-Perses.is)
-    (tree_run Perses c.walk_laws.ensures c.perses_is_its_recursion.ensures c.histories_go_by_questions.ensures input c.is_input.ensures.is c.requires.kept run keeps admits _ c.in-Ok.ensures.start
+    (tree_run Perses c.walk_laws.ensures c.perses_is_its_recursion.ensures c.histories_go_by_questions.ensures input c.is_input.ensures.is c.requires.kept run
+    keeps admits _ c.in-Ok.ensures.start
     (c.walk_result.ensures.in_mode input c.in-Ok.ensures.first))
 
 pub returns-in-Err-hdd_reducer-clause-sound : goal.returns-in-Err-hdd_reducer-clause-sound
 returns-in-Err-hdd_reducer-clause-sound g c =
-    let run : Run = run_of g.G.Gate.log g.G.Gate.faults g.J.Sink.put_so_far g.J.Sink.faults c.args.workers.now c.args.workers.now c.args.journal c.refused-in-Err-hdd_reducer.result in
+    let run : Run =
+    run_of g.G.Gate.log g.G.Gate.faults g.J.Sink.put_so_far g.J.Sink.faults c.args.workers.now c.args.workers.now c.args.journal
+    c.refused-in-Err-hdd_reducer.result in
     refused_sound run c.refused-in-Err-hdd_reducer.ensures.events c.refused-in-Err-hdd_reducer.ensures.outcome
-    (ap (reached g.G.Gate.log g.G.Gate.faults g.J.Sink.put_so_far g.J.Sink.faults c.args.workers.now) c.refused-in-Err-hdd_reducer.ensures.journal) g.G.Gate.may_say
+    (ap (reached g.G.Gate.log g.G.Gate.faults g.J.Sink.put_so_far g.J.Sink.faults c.args.workers.now) c.refused-in-Err-hdd_reducer.ensures.journal)
+    g.G.Gate.may_say
 
 pub returns-in-Err-hdd_reducer-clause-problem : goal.returns-in-Err-hdd_reducer-clause-problem
 returns-in-Err-hdd_reducer-clause-problem g c keeps admits =
-    let run : Run = run_of g.G.Gate.log g.G.Gate.faults g.J.Sink.put_so_far g.J.Sink.faults c.args.workers.now c.args.workers.now c.args.journal c.refused-in-Err-hdd_reducer.result in
+    let run : Run = run_of g.G.Gate.log g.G.Gate.faults g.J.Sink.put_so_far g.J.Sink.faults c.args.workers.now c.args.workers.now c.args.journal
+    c.refused-in-Err-hdd_reducer.result in
     refused_of run c.refused-in-Err-hdd_reducer.ensures.events c.refused-in-Err-hdd_reducer.ensures.outcome
-    (ap (reached g.G.Gate.log g.G.Gate.faults g.J.Sink.put_so_far g.J.Sink.faults c.args.workers.now) c.refused-in-Err-hdd_reducer.ensures.journal) keeps (Problem.of_tree c.args.mode _)
+    (ap (reached g.G.Gate.log g.G.Gate.faults g.J.Sink.put_so_far g.J.Sink.faults c.args.workers.now) c.refused-in-Err-hdd_reducer.ensures.journal) keeps
+    (Problem.of_tree c.args.mode _)
 
 pub returns-in-Ok-hdd_reducer-clause-problem : goal.returns-in-Ok-hdd_reducer-clause-problem
 returns-in-Ok-hdd_reducer-clause-problem g c keeps admits =
     let parts = c.args.parts.now in
-    let input : TreeInput = input_of parts.lexer parts.formed parts.tree (string_bytes parts.start) parts.tokens.items.items (keeps_admit parts.guard) parts.squeezes in
+    let input : TreeInput = input_of parts.lexer parts.formed parts.tree (string_bytes parts.start) parts.tokens.items.items
+    (keeps_admit parts.guard) parts.squeezes in
     let run : Run =
-    run_of g.G.Gate.log g.G.Gate.faults g.J.Sink.put_so_far g.J.Sink.faults c.args.workers.now c.walk_result-in-Ok-hdd_reducer.new.workers c.args.journal c.walk_result-in-Ok-hdd_reducer.result in
+    run_of g.G.Gate.log g.G.Gate.faults g.J.Sink.put_so_far g.J.Sink.faults c.args.workers.now c.walk_result-in-Ok-hdd_reducer.new.workers c.args.journal
+    c.walk_result-in-Ok-hdd_reducer.result in
     subst (λ (mode : TreeMode). IsRunOf keeps (Problem.of_tree mode input) run) (sym c.in-Hdd.is)
-    (tree_run Hdd c.walk_laws-in-Hdd.ensures c.hdd_is_its_recursion.ensures c.histories_go_by_questions.ensures input c.is_input.ensures.is c.requires.kept run keeps admits _ c.in-Ok-hdd_reducer.ensures.start
+    (tree_run Hdd c.walk_laws-in-Hdd.ensures c.hdd_is_its_recursion.ensures c.histories_go_by_questions.ensures input c.is_input.ensures.is c.requires.kept run
+    keeps admits _ c.in-Ok-hdd_reducer.ensures.start
     (c.walk_result-in-Ok-hdd_reducer.ensures.in_mode input c.in-Ok-hdd_reducer.ensures.first))

@@ -7,7 +7,11 @@ use Rattle.syntax_tree.proofs.Afters.{AreAftersFrom, children_at, more_afters, n
 use Rattle.syntax_tree.proofs.tree.afters.Goals as goal
 
 pub loop-number-init : goal.loop-number-init
-loop-number-init c = record { long = omega (arith, c.in_ok-after.ensures.len, c.in_ok-after.after.ok); are = no_past c.requires.nodes.0 c.requires.nodes.1 c.args.nodes.now c.requires.nodes.2 c.in_ok-after.after.items }
+loop-number-init c =
+    record {
+      long = omega (arith, c.in_ok-after.ensures.len, c.in_ok-after.after.ok);
+      are = no_past c.requires.nodes.0 c.requires.nodes.1 c.args.nodes.now c.requires.nodes.2 c.in_ok-after.after.items;
+    }
 
 pub after_children-requires : goal.after_children-requires
 after_children-requires c =
@@ -16,7 +20,9 @@ after_children-requires c =
     let e : c.loop-number.number ≡ k + 1 = omega arith in
     let within : k < length nodes = omega arith in
     let P : ℕ → Type 0 = λ n. AreAftersFrom c.loop-number.after.items n (whole_of nodes) in
-    let it = children_at c.requires.nodes.0 c.requires.nodes.1 nodes c.requires.nodes.2 c.loop-number.after.items k (get_or nodes k no_node) (slice_get-get_or nodes k no_node within) (subst P e c.loop-number.invariant.are) in
+    let it =
+    children_at c.requires.nodes.0 c.requires.nodes.1 nodes c.requires.nodes.2 c.loop-number.after.items k (get_or nodes k no_node)
+    (slice_get-get_or nodes k no_node within) (subst P e c.loop-number.invariant.are) in
     let Q : List ℕ → Type 0 = λ l. HaveAfters l (k + 1) it.0 in
     (it.0, it.1, subst Q (sym c.as_slice.ensures.value) it.2)
 
@@ -32,6 +38,8 @@ loop-number-preserved c =
     let Q : (ts : PlainTrees) → List ℕ → Type 0 = λ ts l. HaveAfters l (k + 1) ts in
     record {
       long = length-set after k c.after_children.result ∙ long;
-      are = more_afters c.requires.nodes.0 c.requires.nodes.1 nodes c.requires.nodes.2 after k c.after_children.result (get_or nodes k no_node) (slice_get-get_or nodes k no_node within) (omega (arith, within, long))
+      are =
+          more_afters c.requires.nodes.0 c.requires.nodes.1 nodes c.requires.nodes.2 after k c.after_children.result (get_or nodes k no_node)
+          (slice_get-get_or nodes k no_node within) (omega (arith, within, long))
           (λ ts n have. c.after_children.ensures ts n (subst (Q ts) (sym c.as_slice.ensures.value) have)) (subst P e c.loop-number.invariant.are);
     }

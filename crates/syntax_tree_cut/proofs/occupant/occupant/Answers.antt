@@ -11,10 +11,16 @@ mark_is marks q d m e lt = slice_get-get_or marks q d lt ∙ ap Some e
 pub position-preserved : goal.position-preserved
 position-preserved c =
     let at = mark_is c.args.marks.now c.position.node _ (Replaced c.in-Replaced.by) c.in-Replaced.is c.position.invariant.within in
-    record { within = (c.requires.rise c.position.node c.in-Replaced.by at).1; same = λ o more. c.position.invariant.same o (replaced c.position.node c.in-Replaced.by o at more) }
+    record {
+      within = (c.requires.rise c.position.node c.in-Replaced.by at).1;
+      same = λ o more. c.position.invariant.same o (replaced c.position.node c.in-Replaced.by o at more);
+    }
 
 pub returns-in-Deleted : goal.returns-in-Deleted
-returns-in-Deleted c = c.position.invariant.same None (deleted c.position.node (mark_is c.args.marks.now c.position.node _ Deleted c.in-Deleted.is c.position.invariant.within))
+returns-in-Deleted c =
+    c.position.invariant.same None (deleted c.position.node (mark_is c.args.marks.now c.position.node _ Deleted c.in-Deleted.is c.position.invariant.within))
 
 pub returns-in-Kept : goal.returns-in-Kept
-returns-in-Kept c = c.position.invariant.same (Some c.position.node) (itself c.position.node (mark_is c.args.marks.now c.position.node _ Kept c.in-Kept.is c.position.invariant.within))
+returns-in-Kept c =
+    c.position.invariant.same (Some c.position.node)
+    (itself c.position.node (mark_is c.args.marks.now c.position.node _ Kept c.in-Kept.is c.position.invariant.within))

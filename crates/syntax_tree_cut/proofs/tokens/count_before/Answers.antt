@@ -7,7 +7,9 @@ use Rattle.syntax_tree_cut.proofs.tokens.count_before.Goals as goal
 pub returns : goal.returns
 returns c =
     let parted = IsPartitionedBy-ltb (λ (x : ℕ). x) c.args.tokens.now c.args.bound (in_order c.args.tokens.now c.requires) in
-    let point = IsPartitionPoint-from_clause (λ (x : ℕ). ltb x c.args.bound) c.args.tokens.now c.partition_point.result c.partition_point.ensures.partitioned parted (λ a r q k. search rules) in
+    let point =
+    IsPartitionPoint-from_clause (λ (x : ℕ). ltb x c.args.bound) c.args.tokens.now c.partition_point.result c.partition_point.ensures.partitioned parted
+    (λ a r q k. search rules) in
     record {
       among = c.partition_point.ensures.bound;
       less = λ k lt. ltb-true _ _ (point.0 k 0 (omega arith) lt);

@@ -27,6 +27,8 @@ returns-in-Lost c =
 
 pub way-smaller : goal.way-smaller
 way-smaller c =
-    let before = ahead_within c.args.tree.now c.tree_laws.ensures c.nodes-nodes.ensures.whole c.args.marks.now c.args.node (option_and_then (subtree c.args.node) (left_at c.args.marks.now c.args.from (whole c.args.tree.now))) c.way.position c.way.invariant in
+    let before =
+    ahead_within c.args.tree.now c.tree_laws.ensures c.nodes-nodes.ensures.whole c.args.marks.now c.args.node
+    (option_and_then (subtree c.args.node) (left_at c.args.marks.now c.args.from (whole c.args.tree.now))) c.way.position c.way.invariant in
     let later = (c.in-At.ensures (option_and_then (subtree c.args.node) (left_at c.args.marks.now c.args.from (whole c.args.tree.now))) c.way.invariant).0 in
     omega (arith, before, later)

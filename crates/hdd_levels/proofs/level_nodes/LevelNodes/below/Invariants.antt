@@ -11,4 +11,5 @@ use Rattle.hdd_levels.proofs.level_nodes.LevelNodes.below.Given as goal
 abbrev pub invariant-loop-parent : goal.invariant-loop-parent
 invariant-loop-parent l =
     (ts : List PlainTree) → AreNodesIn (cut_tree l.fn.tree l.fn.cut) l.fn.parents.items ts →
-    (l.nodes.items ≡ map number_of (flat_map (deletable_children l.fn.tree.form) (take l.parent-index ts))) × (l.pluses.items ≡ pluses_of l.fn.tree.form 0 (take l.parent-index ts))
+    (l.nodes.items ≡ map number_of (flat_map (deletable_children l.fn.tree.form) (take l.parent-index ts)))
+    × (l.pluses.items ≡ pluses_of l.fn.tree.form 0 (take l.parent-index ts))

@@ -11,14 +11,16 @@ pub children_of_nodes-requires-clause-nodes : goal.children_of_nodes-requires-cl
 children_of_nodes-requires-clause-nodes c =
     let h = cut_rising c.args.tree.now c.nodes-nodes.ensures.whole c.args.cut.now c.requires.of in (
       at_depth c.requires.parents.0 (cut_tree c.args.tree.now c.args.cut.now),
-      depth_nodes c.requires.parents.0 0 h.0 (cut_tree c.args.tree.now c.args.cut.now) h.1 c.as_slice.result.now (c.as_slice.ensures.value ∙ c.in_ok-parents.ensures c.requires.parents.0 c.requires.parents.1),
+      depth_nodes c.requires.parents.0 0 h.0 (cut_tree c.args.tree.now c.args.cut.now) h.1 c.as_slice.result.now
+          (c.as_slice.ensures.value ∙ c.in_ok-parents.ensures c.requires.parents.0 c.requires.parents.1),
     )
 
 pub below-requires-clause-parents : goal.below-requires-clause-parents
 below-requires-clause-parents c =
     let h = cut_rising c.args.tree.now c.nodes-nodes.ensures.whole c.args.cut.now c.requires.of in (
       at_depth c.requires.parents.0 (cut_tree c.args.tree.now c.args.cut.now),
-      depth_nodes c.requires.parents.0 0 h.0 (cut_tree c.args.tree.now c.args.cut.now) h.1 c.in_ok-parents.parents.items (c.in_ok-parents.ensures c.requires.parents.0 c.requires.parents.1),
+      depth_nodes c.requires.parents.0 0 h.0 (cut_tree c.args.tree.now c.args.cut.now) h.1 c.in_ok-parents.parents.items
+          (c.in_ok-parents.ensures c.requires.parents.0 c.requires.parents.1),
     )
 
 pub returns-then-is_empty : goal.returns-then-is_empty
@@ -35,6 +37,8 @@ returns c = λ d e.
     let h = cut_rising c.args.tree.now c.nodes-nodes.ensures.whole c.args.cut.now c.requires.of in
     let sliced = depth_nodes d 0 h.0 t h.1 c.as_slice.result.now (c.as_slice.ensures.value ∙ c.in_ok-parents.ensures d e) in
     let are = depth_nodes d 0 h.0 t h.1 c.in_ok-parents.parents.items (c.in_ok-parents.ensures d e) in
-    next_level c.args.tree.now.form d t c.in_ok-next.next c.in_ok-parents.parents.items c.in_ok-below.below.items (c.in_ok-parents.ensures d e) c.in_ok-next.ensures.parents (c.in_ok-next.ensures.nodes (at_depth d t) are) (c.in_ok-next.ensures.pluses (at_depth d t) are)
+    next_level c.args.tree.now.form d t c.in_ok-next.next c.in_ok-parents.parents.items c.in_ok-below.below.items
+    (c.in_ok-parents.ensures d e) c.in_ok-next.ensures.parents (c.in_ok-next.ensures.nodes (at_depth d t) are) (c.in_ok-next.ensures.pluses (at_depth d t) are)
     (c.in_ok-below.ensures (at_depth d t) sliced)
-    (some_long (vec_len c.in_ok-below.below) (length c.in_ok-below.below.items) (eqb-false (vec_len c.in_ok-below.below) 0 (sym c.is_empty.ensures ∙ c.if-is_empty.false)) (omega arith))
+    (some_long (vec_len c.in_ok-below.below) (length c.in_ok-below.below.items)
+    (eqb-false (vec_len c.in_ok-below.below) 0 (sym c.is_empty.ensures ∙ c.if-is_empty.false)) (omega arith))

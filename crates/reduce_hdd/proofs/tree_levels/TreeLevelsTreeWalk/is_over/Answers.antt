@@ -7,5 +7,6 @@ use Rattle.reduce_hdd.proofs.tree_levels.TreeLevelsTreeWalk.is_over.Goals as goa
 
 pub returns : goal.returns
 returns c =
-    over_is c.self.inside.tree.now.form (cut_tree c.self.inside.tree.now c.self.inside.cut) c.self.inside.step c.is_none.result c.self.invariant.walking c.is_none.ensures
+    over_is c.self.inside.tree.now.form (cut_tree c.self.inside.tree.now c.self.inside.cut) c.self.inside.step c.is_none.result c.self.invariant.walking
+    c.is_none.ensures
     ∙ ap (λ (w : WalkState). is_done w.rest) c.self.view_is

@@ -12,11 +12,13 @@ use Rattle.reduce_hdd.proofs.tree_levels.TreeLevelsTreeWalk.tries_kept.Goals as 
 pub returns-clause-fits : goal.returns-clause-fits
 returns-clause-fits c =
     subst (λ (w : WalkState). (u : PlainTree) → tried_state w.rest ≡ Some u → IsTreeFor w.tree.form w.tree.start u) c.self.view_is
-    (λ u e. (walks_keep c.kept_trees_are_trees.ensures c.kept_trees_are_left.ensures c.left_is_transitive.ensures c.self.inside.tree.now c.self.inside.cut c.self.inside.step c.self.invariant
+    (λ u e. (walks_keep c.kept_trees_are_trees.ensures c.kept_trees_are_left.ensures c.left_is_transitive.ensures c.self.inside.tree.now c.self.inside.cut
+    c.self.inside.step c.self.invariant
     (cut_rises c.self.inside.tree.now c.nodes-nodes.ensures.whole c.self.inside.cut c.self.invariant.of) u e).0)
 
 pub returns-clause-left : goal.returns-clause-left
 returns-clause-left c =
     subst (λ (w : WalkState). (u : PlainTree) → tried_state w.rest ≡ Some u → IsRemainderOf (whole w.tree) u) c.self.view_is
-    (λ u e. (walks_keep c.kept_trees_are_trees.ensures c.kept_trees_are_left.ensures c.left_is_transitive.ensures c.self.inside.tree.now c.self.inside.cut c.self.inside.step c.self.invariant
+    (λ u e. (walks_keep c.kept_trees_are_trees.ensures c.kept_trees_are_left.ensures c.left_is_transitive.ensures c.self.inside.tree.now
+    c.self.inside.cut c.self.inside.step c.self.invariant
     (cut_rises c.self.inside.tree.now c.nodes-nodes.ensures.whole c.self.inside.cut c.self.invariant.of) u e).1)

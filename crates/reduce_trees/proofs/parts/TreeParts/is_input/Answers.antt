@@ -10,6 +10,9 @@ use Rattle.reduce_trees.proofs.parts.TreeParts.is_input.Goals as goal
 pub returns-clause-is : goal.returns-clause-is
 returns-clause-is g c =
     let parts = c.args.self.now in
-    let input : TreeInput = input_of parts.lexer parts.formed parts.tree (string_bytes parts.start) parts.tokens.items.items (g.F.Relation.admits parts.guard) parts.squeezes in
-    let checked : IsChecked parts.lexer = record { well_formed = parts.formed; numbered = ap (λ (grammar : CheckedGrammar). grammar.kinds) parts.together.kinds; small = parts.together.small } in
-    (c.parts_join.ensures input).is checked (subst IsUtf8 c.as_str-text.ensures.value c.as_str-text.utf8) c.nodes-nodes.ensures.whole.whole parts.together.joined
+    let input : TreeInput =
+    input_of parts.lexer parts.formed parts.tree (string_bytes parts.start) parts.tokens.items.items (g.F.Relation.admits parts.guard) parts.squeezes in
+    let checked : IsChecked parts.lexer =
+    record { well_formed = parts.formed; numbered = ap (λ (grammar : CheckedGrammar). grammar.kinds) parts.together.kinds; small = parts.together.small } in
+    (c.parts_join.ensures input).is checked (subst IsUtf8 c.as_str-text.ensures.value c.as_str-text.utf8) c.nodes-nodes.ensures.whole.whole
+    parts.together.joined

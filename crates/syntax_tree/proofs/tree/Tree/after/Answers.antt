@@ -13,7 +13,9 @@ index-requires c =
     let node = c.args.node in
     let P : SyntaxTree → Type 0 = λ t. node < length t.nodes in
     let within : node < length nodes = subst P (sym c.self.view_is) c.requires in
-    let it = after_is inside.normal inside.start nodes c.self.invariant.0 inside.after.items node (get_or nodes node no_node) (slice_get-get_or nodes node no_node within) c.self.invariant.2 in
+    let it =
+    after_is inside.normal inside.start nodes c.self.invariant.0 inside.after.items node (get_or nodes node no_node)
+    (slice_get-get_or nodes node no_node within) c.self.invariant.2 in
     let has : node < length inside.after.items = slice_get_within inside.after.items node (node + size it.0) it.2 in
     omega (arith, has, inside.after.ok)
 
@@ -24,6 +26,7 @@ returns c =
     let node = c.args.node in
     let P : SyntaxTree → Type 0 = λ t. node < length t.nodes in
     let within : node < length nodes = subst P (sym c.self.view_is) c.requires in
-    let it = after_is inside.normal inside.start nodes c.self.invariant.0 inside.after.items node (get_or nodes node no_node) (slice_get-get_or nodes node no_node within) c.self.invariant.2 in
+    let it = after_is inside.normal inside.start nodes c.self.invariant.0 inside.after.items node (get_or nodes node no_node)
+    (slice_get-get_or nodes node no_node within) c.self.invariant.2 in
     let Q : SyntaxTree → Type 0 = λ t. subtree node (whole t) ≡ Some it.0 in
     (it.0, subst Q c.self.view_is it.1, c.index.ensures ∙ get_or_from_slice_get inside.after.items node (node + size it.0) c.index.result.now it.2)

@@ -9,4 +9,5 @@ use Rattle.syntax_tree_cut.proofs.cut.Cut.children.Goals as goal
 pub returns : goal.returns
 returns c =
     let it = some_of (subtree c.args.node (cut_tree c.args.tree.now c.args.self.now)) c.requires.left in
-    ap (option_map (λ (t : PlainTree). roots (children_of t))) it.1 ∙ ap Some (sym (c.in_ok-push_children.ensures it.0 it.1 ∙ ap (λ (l : List ℕ). l ++ roots (children_of it.0)) c.new-children.ensures.items))
+    ap (option_map (λ (t : PlainTree). roots (children_of t))) it.1
+    ∙ ap Some (sym (c.in_ok-push_children.ensures it.0 it.1 ∙ ap (λ (l : List ℕ). l ++ roots (children_of it.0)) c.new-children.ensures.items))

@@ -11,8 +11,10 @@ use Rattle.syntax_tree_cut.proofs.CutCalls.{content_at, content_deleted, content
 use Rattle.syntax_tree_cut.proofs.cut.Cut.delete_optional.Goals as goal
 
 -- the occupant is the content
-is_content : (marks marks' : List Mark) (p : ℕ) (result : Option ℕ) (content number : ℕ) → marks ≡ marks' → ((o : Option ℕ) → IsOccupant marks' p o → o ≡ Some number) → IsOccupant marks p result → result ≡ Some content → content ≡ number
-is_content marks marks' p result content number same each at is = same_Some content number (sym is ∙ each result (subst (λ (l : List Mark). IsOccupant l p result) same at))
+is_content : (marks marks' : List Mark) (p : ℕ) (result : Option ℕ) (content number : ℕ) → marks ≡ marks'
+    → ((o : Option ℕ) → IsOccupant marks' p o → o ≡ Some number) → IsOccupant marks p result → result ≡ Some content → content ≡ number
+is_content marks marks' p result content number same each at is =
+    same_Some content number (sym is ∙ each result (subst (λ (l : List Mark). IsOccupant l p result) same at))
 
 pub overflow_add-node : goal.overflow_add-node
 overflow_add-node c =
@@ -36,16 +38,21 @@ occupant-requires-clause-rise c =
 
 pub delete-requires-clause-mark : goal.delete-requires-clause-mark
 delete-requires-clause-mark c =
-    let same = is_content c.as_slice.result.now c.args.self.now.marks (c.args.node + 1) c.occupant.result c.in-Some.content (number_of c.requires.can.content) (c.as_slice.ensures.value ∙ ap (λ (f : CutForm). f.marks) c.self.view_is)
-    (content_at c.args.tree.now c.tree_laws.ensures c.nodes-nodes.ensures.whole c.args.self.now c.requires.of c.args.node c.requires.can).1 c.occupant.ensures c.in-Some.is in
+    let same =
+    is_content c.as_slice.result.now c.args.self.now.marks (c.args.node + 1) c.occupant.result c.in-Some.content (number_of c.requires.can.content)
+    (c.as_slice.ensures.value ∙ ap (λ (f : CutForm). f.marks) c.self.view_is)
+    (content_at c.args.tree.now c.tree_laws.ensures c.nodes-nodes.ensures.whole c.args.self.now c.requires.of c.args.node c.requires.can).1 c.occupant.ensures
+    c.in-Some.is in
     let facts = content_facts c.args.tree.now c.tree_laws.ensures c.nodes-nodes.ensures.whole c.args.self.now c.requires.of c.args.node c.requires.can in
     let lt = facts.1.mark in
     omega (arith, same, lt)
 
 pub delete-requires-clause-node : goal.delete-requires-clause-node
 delete-requires-clause-node c =
-    let same = is_content c.as_slice.result.now c.args.self.now.marks (c.args.node + 1) c.occupant.result c.in-Some.content (number_of c.requires.can.content) (c.as_slice.ensures.value ∙ ap (λ (f : CutForm). f.marks) c.self.view_is)
-    (content_at c.args.tree.now c.tree_laws.ensures c.nodes-nodes.ensures.whole c.args.self.now c.requires.of c.args.node c.requires.can).1 c.occupant.ensures c.in-Some.is in
+    let same = is_content c.as_slice.result.now c.args.self.now.marks (c.args.node + 1) c.occupant.result c.in-Some.content (number_of c.requires.can.content)
+    (c.as_slice.ensures.value ∙ ap (λ (f : CutForm). f.marks) c.self.view_is)
+    (content_at c.args.tree.now c.tree_laws.ensures c.nodes-nodes.ensures.whole c.args.self.now c.requires.of c.args.node c.requires.can).1
+    c.occupant.ensures c.in-Some.is in
     let facts = content_facts c.args.tree.now c.tree_laws.ensures c.nodes-nodes.ensures.whole c.args.self.now c.requires.of c.args.node c.requires.can in
     let lt = facts.1.node in
     omega (arith, same, lt)
@@ -53,17 +60,26 @@ delete-requires-clause-node c =
 pub unreachable-requires : goal.unreachable-requires
 unreachable-requires c =
     none-some (number_of c.requires.can.content)
-    (sym c.in-None.is ∙ (content_at c.args.tree.now c.tree_laws.ensures c.nodes-nodes.ensures.whole c.args.self.now c.requires.of c.args.node c.requires.can).1 c.occupant.result
-    (subst (λ (l : List Mark). IsOccupant l (c.args.node + 1) c.occupant.result) (c.as_slice.ensures.value ∙ ap (λ (f : CutForm). f.marks) c.self.view_is) c.occupant.ensures))
+    (sym c.in-None.is ∙ (content_at c.args.tree.now c.tree_laws.ensures c.nodes-nodes.ensures.whole c.args.self.now c.requires.of c.args.node c.requires.can).1
+    c.occupant.result
+    (subst (λ (l : List Mark). IsOccupant l (c.args.node + 1) c.occupant.result)
+    (c.as_slice.ensures.value ∙ ap (λ (f : CutForm). f.marks) c.self.view_is) c.occupant.ensures))
 
 pub returns-clause-tree : goal.returns-clause-tree
 returns-clause-tree c =
-    let same = is_content c.as_slice.result.now c.args.self.now.marks (c.args.node + 1) c.occupant.result c.in-Some.content (number_of c.requires.can.content) (c.as_slice.ensures.value ∙ ap (λ (f : CutForm). f.marks) c.self.view_is)
-    (content_at c.args.tree.now c.tree_laws.ensures c.nodes-nodes.ensures.whole c.args.self.now c.requires.of c.args.node c.requires.can).1 c.occupant.ensures c.in-Some.is in
-    (content_deleted c.args.tree.now c.tree_laws.ensures c.nodes-nodes.ensures.whole c.args.self.now c.requires.of c.delete.new.self c.args.node c.requires.can (subst (λ (q : ℕ). HasDeleted c.args.tree.now c.args.self.now c.delete.new.self q) same c.delete.ensures)).0
+    let same = is_content c.as_slice.result.now c.args.self.now.marks (c.args.node + 1) c.occupant.result c.in-Some.content
+    (number_of c.requires.can.content) (c.as_slice.ensures.value ∙ ap (λ (f : CutForm). f.marks) c.self.view_is)
+    (content_at c.args.tree.now c.tree_laws.ensures c.nodes-nodes.ensures.whole c.args.self.now c.requires.of c.args.node
+    c.requires.can).1 c.occupant.ensures c.in-Some.is in
+    (content_deleted c.args.tree.now c.tree_laws.ensures c.nodes-nodes.ensures.whole c.args.self.now c.requires.of c.delete.new.self c.args.node c.requires.can
+    (subst (λ (q : ℕ). HasDeleted c.args.tree.now c.args.self.now c.delete.new.self q) same c.delete.ensures)).0
 
 pub returns-clause-of : goal.returns-clause-of
 returns-clause-of c =
-    let same = is_content c.as_slice.result.now c.args.self.now.marks (c.args.node + 1) c.occupant.result c.in-Some.content (number_of c.requires.can.content) (c.as_slice.ensures.value ∙ ap (λ (f : CutForm). f.marks) c.self.view_is)
-    (content_at c.args.tree.now c.tree_laws.ensures c.nodes-nodes.ensures.whole c.args.self.now c.requires.of c.args.node c.requires.can).1 c.occupant.ensures c.in-Some.is in
-    (content_deleted c.args.tree.now c.tree_laws.ensures c.nodes-nodes.ensures.whole c.args.self.now c.requires.of c.delete.new.self c.args.node c.requires.can (subst (λ (q : ℕ). HasDeleted c.args.tree.now c.args.self.now c.delete.new.self q) same c.delete.ensures)).1
+    let same = is_content c.as_slice.result.now c.args.self.now.marks
+    (c.args.node + 1) c.occupant.result c.in-Some.content (number_of c.requires.can.content)
+    (c.as_slice.ensures.value ∙ ap (λ (f : CutForm). f.marks) c.self.view_is)
+    (content_at c.args.tree.now c.tree_laws.ensures c.nodes-nodes.ensures.whole c.args.self.now c.requires.of
+    c.args.node c.requires.can).1 c.occupant.ensures c.in-Some.is in
+    (content_deleted c.args.tree.now c.tree_laws.ensures c.nodes-nodes.ensures.whole c.args.self.now c.requires.of c.delete.new.self c.args.node c.requires.can
+    (subst (λ (q : ℕ). HasDeleted c.args.tree.now c.args.self.now c.delete.new.self q) same c.delete.ensures)).1

@@ -16,4 +16,6 @@ returns-then-node-nodes c = (
 )
 
 pub leads_to-requires-clause-marks : goal.leads_to-requires-clause-marks
-leads_to-requires-clause-marks c = ap length (c.as_slice.ensures.value ∙ ap (λ (f : CutForm). f.marks) c.self.view_is) ∙ c.requires.for_each ∙ sym (nodes_count c.args.tree.now c.tree_laws.ensures c.nodes-nodes.ensures.whole)
+leads_to-requires-clause-marks c =
+    ap length (c.as_slice.ensures.value ∙ ap (λ (f : CutForm). f.marks) c.self.view_is) ∙ c.requires.for_each
+    ∙ sym (nodes_count c.args.tree.now c.tree_laws.ensures c.nodes-nodes.ensures.whole)

@@ -17,14 +17,18 @@ occupant-requires-clause-node c =
     subst (λ (l : List Mark). 0 < length l) (sym (c.as_slice.ensures.value ∙ ap (λ (f : CutForm). f.marks) c.self.view_is)) (omega (arith, some, all))
 
 pub occupant-requires-clause-rise : goal.occupant-requires-clause-rise
-occupant-requires-clause-rise c = subst (λ (l : List Mark). ReplacementsRise l) (sym (c.as_slice.ensures.value ∙ ap (λ (f : CutForm). f.marks) c.self.view_is)) (replacements_rise c.args.tree.now c.tree_laws.ensures c.nodes-nodes.ensures.whole c.args.self.now c.requires)
+occupant-requires-clause-rise c =
+    subst (λ (l : List Mark). ReplacementsRise l) (sym (c.as_slice.ensures.value ∙ ap (λ (f : CutForm). f.marks) c.self.view_is))
+    (replacements_rise c.args.tree.now c.tree_laws.ensures c.nodes-nodes.ensures.whole c.args.self.now c.requires)
 
 pub unreachable-requires : goal.unreachable-requires
 unreachable-requires c =
     none-some (number_of (cut_tree c.args.tree.now c.args.self.now))
-    (sym c.in-None.is ∙ root_is c.args.tree.now c.tree_laws.ensures c.nodes-nodes.ensures.whole c.args.self.now c.requires c.occupant.result (subst (λ (l : List Mark). IsOccupant l 0 c.occupant.result) (c.as_slice.ensures.value ∙ ap (λ (f : CutForm). f.marks) c.self.view_is) c.occupant.ensures))
+    (sym c.in-None.is ∙ root_is c.args.tree.now c.tree_laws.ensures c.nodes-nodes.ensures.whole c.args.self.now c.requires c.occupant.result
+    (subst (λ (l : List Mark). IsOccupant l 0 c.occupant.result) (c.as_slice.ensures.value ∙ ap (λ (f : CutForm). f.marks) c.self.view_is) c.occupant.ensures))
 
 pub returns : goal.returns
 returns c =
     same_Some c.in-Some.root (number_of (cut_tree c.args.tree.now c.args.self.now))
-    (sym c.in-Some.is ∙ root_is c.args.tree.now c.tree_laws.ensures c.nodes-nodes.ensures.whole c.args.self.now c.requires c.occupant.result (subst (λ (l : List Mark). IsOccupant l 0 c.occupant.result) (c.as_slice.ensures.value ∙ ap (λ (f : CutForm). f.marks) c.self.view_is) c.occupant.ensures))
+    (sym c.in-Some.is ∙ root_is c.args.tree.now c.tree_laws.ensures c.nodes-nodes.ensures.whole c.args.self.now c.requires c.occupant.result
+    (subst (λ (l : List Mark). IsOccupant l 0 c.occupant.result) (c.as_slice.ensures.value ∙ ap (λ (f : CutForm). f.marks) c.self.view_is) c.occupant.ensures))

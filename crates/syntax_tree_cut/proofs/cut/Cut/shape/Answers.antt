@@ -15,7 +15,8 @@ symbol_shape-requires c =
     let it = facts_of c.args.tree.now c.tree_laws.ensures c.nodes-nodes.ensures.whole c.args.self.now c.requires.of c.args.node c.requires.left in
     let same = same_Some (symbol_of it.0) c.symbol.result (sym (ap (option_map symbol_of) it.1) ∙ c.symbol.ensures) in
     subst (λ (N : NormalForm). IsSome (shape_of_symbol N c.symbol.result)) (sym c.normal.ensures)
-    (subst (λ (s : Sym). IsSome (shape_of_symbol c.args.tree.now.form s)) same (left_shape c.args.tree.now c.tree_laws.ensures c.nodes-nodes.ensures.whole c.args.self.now c.requires.of c.args.node it.0 it.1))
+    (subst (λ (s : Sym). IsSome (shape_of_symbol c.args.tree.now.form s)) same
+    (left_shape c.args.tree.now c.tree_laws.ensures c.nodes-nodes.ensures.whole c.args.self.now c.requires.of c.args.node it.0 it.1))
 
 pub returns : goal.returns
 returns c =

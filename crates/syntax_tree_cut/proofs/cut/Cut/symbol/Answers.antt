@@ -7,7 +7,9 @@ use Rattle.syntax_tree_cut.proofs.Questions.{node_symbol}
 use Rattle.syntax_tree_cut.proofs.cut.Cut.symbol.Goals as goal
 
 pub bounds-nodes-node : goal.bounds-nodes-node
-bounds-nodes-node c = subst (λ (l : List Node). c.args.node < length l) (sym c.nodes-nodes.ensures.nodes) (facts_of c.args.tree.now c.tree_laws.ensures c.nodes-nodes.ensures.whole c.args.self.now c.requires.of c.args.node c.requires.left).2.node
+bounds-nodes-node c =
+    subst (λ (l : List Node). c.args.node < length l) (sym c.nodes-nodes.ensures.nodes)
+    (facts_of c.args.tree.now c.tree_laws.ensures c.nodes-nodes.ensures.whole c.args.self.now c.requires.of c.args.node c.requires.left).2.node
 
 pub returns : goal.returns
 returns c =
