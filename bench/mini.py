@@ -1,4 +1,5 @@
 """The grammar Mini and texts of it: functions of three lines each, as several benches have them."""
+import re
 
 GRAMMAR = r"""grammar Mini;
 file : func* EOF ;
@@ -29,6 +30,9 @@ LINE : '//' ~[\n]* -> channel(HIDDEN) ;
 WS : [ \t\r\n]+ -> skip ;
 """
 
+# A token is a group.
+TOKEN = re.compile(rb'/\*.*?\*/|//[^\n]*|\s+|([a-zA-Z_]\w*|[0-9]+|"[^"]*"|[-+*/=(){},;])')
+
 LINES = [
     "  int c = a * 2;\n",
     "  if (a) { b = f0(a, 1); } else { return b; }\n",
@@ -54,3 +58,8 @@ def functions(size, target=None):
 def made_case(number, size):
     """The generated case of this number: so many functions, one of which, chosen by the number, is the target."""
     return functions(size, (number * 6364136223846793005 + 1442695040888963407) % 2**64 // 2**33 % size)
+
+
+def tokens(text):
+    """The tokens of a text, which is bytes."""
+    return [match[1] for match in TOKEN.finditer(text) if match[1] is not None]
