@@ -55,8 +55,11 @@ COUNTS = """count=0; while read -r line; do case $line in *{pattern}*) count=$((
 
 def counting(mode, text, pattern, expression, test=COUNTS):
     """A reduction whose script says yes while as many lines as are needed have the pattern, which is also written as an expression."""
-    counted = re.compile(expression)
-    return Reduction(mode, text, test.format(pattern=pattern, needed=NEEDED), lambda other: sum(bool(counted.search(line)) for line in other.split(b"\n")) == NEEDED)
+
+    def says_yes(other):
+        return sum(bool(re.search(expression, line)) for line in other.split(b"\n")) == NEEDED
+
+    return Reduction(mode, text, test.format(pattern=pattern, needed=NEEDED), says_yes)
 
 
 def lines(count):
