@@ -127,7 +127,9 @@ def started(words, **how):
 
 
 def bytes_of(path):
-    """The bytes of an ordinary file; none where it is another one, or isn't there."""
+    """The bytes of an ordinary file, which is made readable; none where it is another one, or isn't there."""
+    if path.is_file() and not os.access(path, os.R_OK):
+        path.chmod(0o644)
     return path.read_bytes() if path.is_file() else b""
 
 
