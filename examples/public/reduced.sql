@@ -32,8 +32,9 @@ create table day_total (
 );
 create trigger sale_is_booked after insert on sale_line begin
     insert into ledger
-select s.day, '1000' , a.price, new.article
-    from sale s join article a ;
+select day, '1000' ,
+        new.units , 'sale '
+from sale join article ;
 end;
 create trigger correction_is_totalled after insert on ledger begin
     insert into day_total values (new.day, new.account, new.amount);
