@@ -1,5 +1,6 @@
 -- What holds after an answer was recorded, or a claim given up.
-use Rattle.std.proofs.Common.{◌≡◌, ◌++◌, ℕ, List, [], ◌∷◌, Bool, true, false, cond, Option, Some, None, option_map, OnErr, OnOk, Result, Ok, Err, refl, sym, ap, ◌∙◌, subst, append_assoc}
+use Rattle.std.proofs.Common.{◌≡◌, ◌++◌, ℕ, List, [], ◌∷◌, Bool, true, false, cond, Option, Some, None, option_map}
+use Rattle.std.proofs.Common.{OnErr, OnOk, Result, Ok, Err, refl, sym, ap, ◌∙◌, subst, append_assoc}
 use Rattle.std.proofs.lemmas.Cmp.{nat_list_eq_equiv}
 use Rattle.std.proofs.lemmas.List.{map-append}
 use Rattle.std.proofs.lemmas.Map.Keys.{IsDistinct-push}
@@ -34,7 +35,8 @@ use Rattle.run_worker.proofs.SequentialLemmas.{goes_record, leads_record}
 use Rattle.run_worker.proofs.WrittenLemmas.{Has, all_written, record_broke}
 use Rattle.run_worker.proofs.AskLemmas.{replaced}
 
-one_more : (o : Option Log) (texts : List (List ℕ)) (text : List ℕ) → option_map (with_asked text) (option_map (with_all_asked texts) o) ≡ option_map (with_all_asked (texts ++ text ∷ [])) o
+one_more : (o : Option Log) (texts : List (List ℕ)) (text : List ℕ)
+    → option_map (with_asked text) (option_map (with_all_asked texts) o) ≡ option_map (with_all_asked (texts ++ text ∷ [])) o
 one_more None texts text = refl
 one_more (Some log) texts text = rw append_assoc refl
 
@@ -42,7 +44,8 @@ texts_more : (rs : List Record) (r : Record) → texts_of (rs ++ r ∷ []) ≡ t
 texts_more rs r = map-append (λ (q : Record). q.text) rs (r ∷ [])
 
 -- the records with one more of a new text have it once
-pub distinct_more : (rs : List Record) (r : Record) → IsDistinct bytes_eq (texts_of rs) → verdict_in rs r.text ≡ None → IsDistinct bytes_eq (texts_of (rs ++ r ∷ []))
+pub distinct_more : (rs : List Record) (r : Record) → IsDistinct bytes_eq (texts_of rs) → verdict_in rs r.text ≡ None
+    → IsDistinct bytes_eq (texts_of (rs ++ r ∷ []))
 distinct_more rs r distinct absent = rw (texts_more rs r) (IsDistinct-push nat_list_eq_equiv (texts_of rs) r.text distinct (not_among rs r.text absent))
 
 no_verdict_at : (b : Bool) (v : Verdict) (rest : Option Verdict) → cond b (Some v) rest ≡ None → (b ≡ false) × (rest ≡ None)
@@ -50,14 +53,16 @@ no_verdict_at true v rest none = absurd (cc none)
 no_verdict_at false v rest none = (refl, none)
 
 -- and its verdict
-verdict_last : (rs : List Record) (text : List ℕ) (verdict : Verdict) → verdict_in rs text ≡ None → verdict_in (rs ++ record { text = text; verdict = verdict } ∷ []) text ≡ Some verdict
+verdict_last : (rs : List Record) (text : List ℕ) (verdict : Verdict) → verdict_in rs text ≡ None
+    → verdict_in (rs ++ record { text = text; verdict = verdict } ∷ []) text ≡ Some verdict
 verdict_last [] text verdict none = rw (nat_list_eq_equiv.refl text) refl
 verdict_last (q ∷ rs) text verdict none =
     let apart = no_verdict_at (bytes_eq text q.text) q.verdict (verdict_in rs text) none in
     rw apart.0 (verdict_last rs text verdict apart.1)
 
 -- what a recorded answer changes
-module _ {S J : Type 0} (plan : S → Plan) (permit : ClaimedText) (answer : AnsweredText) (seat seat' : Seat) (old new : BoardState S J) (asking : IsAsking plan permit seat old) (to : IsAnswerTo permit answer) (recorded : IsRecorded plan answer seat seat' old new) where
+module _ {S J : Type 0} (plan : S → Plan) (permit : ClaimedText) (answer : AnsweredText) (seat seat' : Seat) (old new : BoardState S J)
+    (asking : IsAsking plan permit seat old) (to : IsAnswerTo permit answer) (recorded : IsRecorded plan answer seat seat' old new) where
   abbrev r : Record
   r = record { text = permit.text; verdict = answer.verdict }
 
@@ -83,11 +88,16 @@ module _ {S J : Type 0} (plan : S → Plan) (permit : ClaimedText) (answer : Ans
   pub next_record : new.fault ≡ None → CanGoOn plan old new
   next_record none =
       let at : (n : ℕ) × (q : Record) × (record_at n (records_of old.history ++ r ∷ []) ≡ Some q) × (q.text ≡ permit.text) =
-      numbered (records_of old.history ++ r ∷ []) permit.text answer.verdict (verdict_last (records_of old.history) permit.text answer.verdict asking.absent) in
-      (ap plan front, (at.0, (none, (at.1, ap (record_at at.0) records ∙ at.2, ap (λ (s : S). asked (plan s)) front ∙ asking.asks ∙ ap (λ (t : List ℕ). Some t) (sym at.3)))))
+      numbered (records_of old.history ++ r ∷ []) permit.text answer.verdict
+      (verdict_last (records_of old.history) permit.text answer.verdict asking.absent) in (
+        ap plan front,
+        (at.0, (none, (at.1, ap (record_at at.0) records ∙ at.2, ap (λ (s : S). asked (plan s)) front ∙ asking.asks ∙ ap (λ (t : List ℕ). Some t) (sym at.3)))),
+      )
 
   -- what holds of the run goes on to hold
-  module _ (first : S → Plan) (put : J → Option Put) (faults : J → ℕ) (start : Moment) (log log' : Option Log) (gate_faults gate_faults' : ℕ) (asks : log' ≡ option_map (with_asked permit.text) log) (way : IsUnderWay start (moment first plan put faults old log gate_faults) seat) (name : HasSameName put old.journal new.journal) where
+  module _ (first : S → Plan) (put : J → Option Put) (faults : J → ℕ) (start : Moment) (log log' : Option Log) (gate_faults gate_faults' : ℕ)
+      (asks : log' ≡ option_map (with_asked permit.text) log) (way : IsUnderWay start (moment first plan put faults old log gate_faults) seat)
+      (name : HasSameName put old.journal new.journal) where
     there : asked (replay start.first old.history) ≡ Some permit.text
     there = ap asked (sym (way.replayed asking.unstopped)) ∙ asking.asks
 
@@ -97,7 +107,9 @@ module _ {S J : Type 0} (plan : S → Plan) (permit : ClaimedText) (answer : Ans
     all_before : Has None old.history (put old.journal)
     all_before = all_written old.fault old.history (put old.journal) asking.unstopped way.written
 
-    recorded_by : (fault : Option PoolFault) → new.fault ≡ fault → Has fault new.history (put new.journal) → IsUnansweredAt fault (replay start.first new.history) (records_of new.history) → IsCaused fault start.gate_faults gate_faults' start.journal_faults (faults new.journal)
+    recorded_by : (fault : Option PoolFault) → new.fault ≡ fault → Has fault new.history (put new.journal)
+        → IsUnansweredAt fault (replay start.first new.history) (records_of new.history)
+        → IsCaused fault start.gate_faults gate_faults' start.journal_faults (faults new.journal)
         → IsUnderWay start (moment first plan put faults new log' gate_faults') seat'
     recorded_by fault is has waits caused = record {
       same_first = ap first front ∙ way.same_first;
@@ -106,13 +118,19 @@ module _ {S J : Type 0} (plan : S → Plan) (permit : ClaimedText) (answer : Ans
       recorded = ap (λ (state : BoardState S J). state.table.records) recorded.else_same
           ∙ ap (λ (t : List ℕ). old.table.records ++ record { text = t; verdict = answer.verdict } ∷ []) to.1
           ∙ ap (λ (rs : List Record). rs ++ r ∷ []) way.recorded ∙ sym records;
-      distinct = subst (λ (rs : List Record). IsDistinct bytes_eq (texts_of rs)) (sym records) (distinct_more (records_of old.history) r way.distinct asking.absent);
-      goes_on = subst (GoesOn start.first) (sym history) (goes_record start.first old.history permit.text answer.verdict way.goes_on there (not_among (records_of old.history) permit.text asking.absent));
+      distinct =
+          subst (λ (rs : List Record). IsDistinct bytes_eq (texts_of rs)) (sym records) (distinct_more (records_of old.history) r way.distinct asking.absent);
+      goes_on =
+          subst (GoesOn start.first) (sym history)
+          (goes_record start.first old.history permit.text answer.verdict way.goes_on there (not_among (records_of old.history) permit.text asking.absent));
       leads_on = subst (LeadsOn start.first) (sym history) (leads_record start.first old.history permit.text answer.verdict way.leads_on);
-      replayed = λ none. ap plan front ∙ way.replayed asking.unstopped ∙ sym (replay_record [] start.first old.history permit.text answer.verdict) ∙ ap (replay start.first) (sym history);
+      replayed =
+          λ none. ap plan front ∙ way.replayed asking.unstopped ∙ sym (replay_record [] start.first old.history permit.text answer.verdict)
+          ∙ ap (replay start.first) (sym history);
       waits = subst (λ (f : Option PoolFault). IsUnansweredAt f (replay start.first new.history) (records_of new.history)) (sym is) waits;
       asked = asks ∙ ap (option_map (with_asked permit.text)) way.asked ∙ one_more start.log (texts_of (records_of old.history)) permit.text
-          ∙ ap (λ (ts : List (List ℕ)). option_map (with_all_asked ts) start.log) (sym (texts_more (records_of old.history) r)) ∙ ap (λ (rs : List Record). option_map (with_all_asked (texts_of rs)) start.log) (sym records);
+          ∙ ap (λ (ts : List (List ℕ)). option_map (with_all_asked ts) start.log) (sym (texts_more (records_of old.history) r))
+          ∙ ap (λ (rs : List Record). option_map (with_all_asked (texts_of rs)) start.log) (sym records);
       caused = subst (λ (f : Option PoolFault). IsCaused f start.gate_faults gate_faults' start.journal_faults (faults new.journal)) (sym is) caused;
       written = subst (λ (f : Option PoolFault). Has f new.history (put new.journal)) (sym is) has;
       same_name = name ∙ way.same_name;
@@ -122,9 +140,13 @@ module _ {S J : Type 0} (plan : S → Plan) (permit : ClaimedText) (answer : Ans
         → OnErr result (Rose (faults old.journal) (faults new.journal)) → OnOk result (faults new.journal ≡ faults old.journal)
         → IsUnderWay start (moment first plan put faults new log' gate_faults') seat'
     record_way same (Ok number) ends failed quiet =
-        let written : IsWrittenUnlessBroken put None (event_of answer) old.journal new.journal = subst (λ (f : Option PoolFault). IsWrittenUnlessBroken put f (event_of answer) old.journal new.journal) asking.unstopped ends.2 in
-        let has : Has None new.history (put new.journal) = subst (λ (h : History). Has None h (put new.journal)) (sym history_more) (has_more old.history (event_of answer) (put old.journal) (put new.journal) written all_before) in
+        let written : IsWrittenUnlessBroken put None (event_of answer) old.journal new.journal =
+        subst (λ (f : Option PoolFault). IsWrittenUnlessBroken put f (event_of answer) old.journal new.journal) asking.unstopped ends.2 in
+        let has : Has None new.history (put new.journal) =
+        subst (λ (h : History). Has None h (put new.journal)) (sym history_more)
+        (has_more old.history (event_of answer) (put old.journal) (put new.journal) written all_before) in
         recorded_by None (ends.1 ∙ asking.unstopped) has tt (same ∙ counts.0, quiet ∙ counts.1)
     record_way same (Err fault) ends failed quiet =
-        let has : Has (Some Journal) new.history (put new.journal) = record_broke old.history new.history answer.text answer.verdict (put old.journal) (put new.journal) history_more ends.2 all_before in
+        let has : Has (Some Journal) new.history (put new.journal) =
+        record_broke old.history new.history answer.text answer.verdict (put old.journal) (put new.journal) history_more ends.2 all_before in
         recorded_by (Some Journal) ends.1 has tt (same ∙ counts.0, subst (λ (n : ℕ). Rose n (faults new.journal)) counts.1 failed)

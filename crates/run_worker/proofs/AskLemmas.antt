@@ -1,5 +1,6 @@
 -- What holds after a text was claimed, and after it was asked about.
-use Rattle.std.proofs.Common.{◌≡◌, ◌++◌, ◌||◌, ℕ, List, [], ◌∷◌, Bool, true, false, cond, not, find, length, map, take, nat_eq, Option, Some, None, refl, sym, ap, ◌∙◌, subst}
+use Rattle.std.proofs.Common.{◌≡◌, ◌++◌, ◌||◌, ℕ, List, [], ◌∷◌, Bool, true, false, cond, not, find, length, map}
+use Rattle.std.proofs.Common.{take, nat_eq, Option, Some, None, refl, sym, ap, ◌∙◌, subst}
 use Rattle.std.proofs.lemmas.Cmp.{nat_eq_equiv}
 use Rattle.std.specs.List.{list_any}
 use Rattle.std.specs.Str.{bytes_eq}
@@ -34,12 +35,14 @@ replaced seats seat seat' only same =
 -- ---- what is ahead
 
 -- of two texts ahead the first is the one that is asked
-first_ahead : (p : Plan) (taken : List ℕ → Bool) (text asks : List ℕ) → asked p ≡ Some asks → taken asks ≡ false → find (λ t. not (taken t)) (ahead 2 p) ≡ Some text → text ≡ asks
+first_ahead : (p : Plan) (taken : List ℕ → Bool) (text asks : List ℕ) → asked p ≡ Some asks → taken asks ≡ false
+    → find (λ t. not (taken t)) (ahead 2 p) ≡ Some text → text ≡ asks
 first_ahead (End result) taken text asks is free found = absurd (cc is)
 first_ahead (Ask t a b) taken text asks is free found =
     let same : t ≡ asks = cc is in
     let open_here : taken t ≡ false = ap taken same ∙ free in
-    let here : Some t ≡ Some text = subst (λ (c : Bool). cond (not c) (Some t) (find (λ u. not (taken u)) (take 1 (asked_at_no b))) ≡ Some text) open_here found in
+    let here : Some t ≡ Some text =
+    subst (λ (c : Bool). cond (not c) (Some t) (find (λ u. not (taken u)) (take 1 (asked_at_no b))) ≡ Some text) open_here found in
     let texts : t ≡ text = cc here in
     sym texts ∙ same
 
@@ -50,30 +53,39 @@ asks_ahead (Ask t a b) taken text found = (t, refl)
 
 module _ {S J : Type 0} (plan : S → Plan) where
   -- nothing that is asked of a settled board has a record
-  unrecorded_by : (state : BoardState S J) (text : List ℕ) → state.fault ≡ None → asked (plan state.front) ≡ Some text → IsSettled plan state → (o : Option Verdict) → verdict_in (records_of state.history) text ≡ o → verdict_in (records_of state.history) text ≡ None
+  unrecorded_by : (state : BoardState S J) (text : List ℕ) → state.fault ≡ None → asked (plan state.front) ≡ Some text → IsSettled plan state
+      → (o : Option Verdict) → verdict_in (records_of state.history) text ≡ o → verdict_in (records_of state.history) text ≡ None
   unrecorded_by state text none is settled None known = known
   unrecorded_by state text none is settled (Some v) known =
-      let at : (n : ℕ) × (r : Record) × (record_at n (records_of state.history) ≡ Some r) × (r.text ≡ text) = numbered (records_of state.history) text v known in
+      let at : (n : ℕ) × (r : Record) × (record_at n (records_of state.history) ≡ Some r) × (r.text ≡ text) =
+      numbered (records_of state.history) text v known in
       absurd (settled at.0 (none, (at.1, at.2, is ∙ ap (λ (t : List ℕ). Some t) (sym at.3))))
 
-  pub unrecorded : (state : BoardState S J) (text : List ℕ) → state.fault ≡ None → asked (plan state.front) ≡ Some text → IsSettled plan state → verdict_in (records_of state.history) text ≡ None
+  pub unrecorded : (state : BoardState S J) (text : List ℕ) → state.fault ≡ None → asked (plan state.front) ≡ Some text → IsSettled plan state
+      → verdict_in (records_of state.history) text ≡ None
   unrecorded state text none is settled = unrecorded_by state text none is settled (verdict_in (records_of state.history) text) refl
 
   -- a text that no record has is free where no claim is open
-  free_text : (state : BoardState S J) (text : List ℕ) → state.table.claims ≡ [] → verdict_in (records_of state.history) text ≡ None → is_taken (core_of plan state) text ≡ false
+  free_text : (state : BoardState S J) (text : List ℕ) → state.table.claims ≡ [] → verdict_in (records_of state.history) text ≡ None
+      → is_taken (core_of plan state) text ≡ false
   free_text state text no_claims absent =
       let apart : list_any (bytes_eq text) (texts_of (records_of state.history)) ≡ false = not_among (records_of state.history) text absent in
-      subst (λ (cs : List Claim). (list_any (bytes_eq text) (texts_of (records_of state.history)) || list_any (bytes_eq text) (map (λ (c : OpenClaim). c.text) (held_claims state.seats cs))) ≡ false) (sym no_claims)
+      subst
+      (λ (cs : List Claim). (list_any (bytes_eq text) (texts_of (records_of state.history)) || list_any (bytes_eq text)
+      (map (λ (c : OpenClaim). c.text) (held_claims state.seats cs))) ≡ false) (sym no_claims)
       (rw apart refl)
 
   -- the text that is claimed is the one that is asked
-  pub is_asking : (permit : ClaimedText) (seat seat' : Seat) (old new : BoardState S J) → IsFree seat old → IsSettled plan old → IsClaimed plan permit seat seat' old new → IsAsking plan permit seat' new
+  pub is_asking : (permit : ClaimedText) (seat seat' : Seat) (old new : BoardState S J) → IsFree seat old → IsSettled plan old
+      → IsClaimed plan permit seat seat' old new → IsAsking plan permit seat' new
   is_asking permit seat seat' old new free settled claimed =
-      let found : next_text 1 (core_of plan old) ≡ Some permit.text = subst (λ (ss : List Seat). next_text (length ss) (core_of plan old) ≡ Some permit.text) free.only_seat claimed.moved.0.3 in
+      let found : next_text 1 (core_of plan old) ≡ Some permit.text =
+      subst (λ (ss : List Seat). next_text (length ss) (core_of plan old) ≡ Some permit.text) free.only_seat claimed.moved.0.3 in
       let some = asks_ahead (plan old.front) (is_taken (core_of plan old)) permit.text found in
       let absent = unrecorded old some.0 claimed.unstopped some.1 settled in
       let no_claims = free.none_open claimed.unstopped in
-      let same : permit.text ≡ some.0 = first_ahead (plan old.front) (is_taken (core_of plan old)) permit.text some.0 some.1 (free_text old some.0 no_claims absent) found in
+      let same : permit.text ≡ some.0 =
+      first_ahead (plan old.front) (is_taken (core_of plan old)) permit.text some.0 some.1 (free_text old some.0 no_claims absent) found in
       let front : new.front ≡ old.front = ap (λ (state : BoardState S J). state.front) claimed.else_same in
       let history : new.history ≡ old.history = ap (λ (state : BoardState S J). state.history) claimed.else_same in
       let workers : seat'.worker ≡ seat.worker = ap (λ (s : Seat). s.worker) claimed.of_worker in
@@ -81,7 +93,9 @@ module _ {S J : Type 0} (plan : S → Plan) where
         unstopped = ap (λ (state : BoardState S J). state.fault) claimed.else_same ∙ claimed.unstopped;
         only_seat = ap (λ (state : BoardState S J). state.seats) claimed.else_same ∙ replaced old.seats seat seat' free.only_seat workers;
         claimed = ap (λ (s : Seat). s.claim) claimed.of_worker;
-        only_claim = ap (λ (state : BoardState S J). state.table.claims) claimed.else_same ∙ ap (λ (cs : List Claim). cs ++ record { number = permit.claim; text = permit.text } ∷ []) no_claims;
+        only_claim =
+            ap (λ (state : BoardState S J). state.table.claims) claimed.else_same
+            ∙ ap (λ (cs : List Claim). cs ++ record { number = permit.claim; text = permit.text } ∷ []) no_claims;
         asks = ap (λ (s : S). asked (plan s)) front ∙ some.1 ∙ ap (λ (t : List ℕ). Some t) (sym same);
         absent = ap (λ (h : History). verdict_in (records_of h) permit.text) history ∙ ap (verdict_in (records_of old.history)) same ∙ absent;
         holds = claimed.holds;
@@ -89,7 +103,8 @@ module _ {S J : Type 0} (plan : S → Plan) where
 
 module _ {S J : Type 0} (first plan : S → Plan) (put : J → Option Put) (faults : J → ℕ) (log : Option Log) (gate_faults : ℕ) (start : Moment) where
   -- a claim keeps what holds
-  pub claim_way : (permit : ClaimedText) (seat seat' : Seat) (old new : BoardState S J) → IsClaimed plan permit seat seat' old new → IsUnderWay start (moment first plan put faults old log gate_faults) seat → IsUnderWay start (moment first plan put faults new log gate_faults) seat'
+  pub claim_way : (permit : ClaimedText) (seat seat' : Seat) (old new : BoardState S J) → IsClaimed plan permit seat seat' old new
+      → IsUnderWay start (moment first plan put faults old log gate_faults) seat → IsUnderWay start (moment first plan put faults new log gate_faults) seat'
   claim_way permit seat seat' old new claimed way =
       let workers : seat'.worker ≡ seat.worker = ap (λ (s : Seat). s.worker) claimed.of_worker in
       subst (λ (state : BoardState S J). IsUnderWay start (moment first plan put faults state log gate_faults) seat') (sym claimed.else_same) (record {

@@ -34,7 +34,8 @@ commit_alone (e ∷ h) later n is =
     subst (λ (f : Event). records_of (f ∷ h) ≡ []) first (ap records_of (none_before h later rest))
 
 -- what begins with a record of this text
-text_first : (h later rest : History) (text : List ℕ) (verdict : Verdict) (a b : Plan) → Recorded text verdict ∷ rest ≡ h ++ later → BeginsWith (Ask text a b) (records_of h)
+text_first : (h later rest : History) (text : List ℕ) (verdict : Verdict) (a b : Plan) → Recorded text verdict ∷ rest ≡ h ++ later
+    → BeginsWith (Ask text a b) (records_of h)
 text_first [] later rest text verdict a b is = tt
 text_first (e ∷ h) later rest text verdict a b is =
     let first : Recorded text verdict ≡ e = cc is in
@@ -43,7 +44,8 @@ text_first (e ∷ h) later rest text verdict a b is =
 none_begins : (first : Plan) (h : History) → h ≡ [] → BeginsWith first (records_of h)
 none_begins first h none = subst (λ (l : History). BeginsWith first (records_of l)) (sym none) tt
 
-begins_by : (o : Option Verdict) (V : List ℕ → Option Verdict) (text : List ℕ) (a b : Plan) (at_yes at_no h later : History) → by_verdict o (Recorded text Yes ∷ at_yes) (Recorded text No ∷ at_no) ≡ h ++ later → BeginsWith (Ask text a b) (records_of h)
+begins_by : (o : Option Verdict) (V : List ℕ → Option Verdict) (text : List ℕ) (a b : Plan) (at_yes at_no h later : History)
+    → by_verdict o (Recorded text Yes ∷ at_yes) (Recorded text No ∷ at_no) ≡ h ++ later → BeginsWith (Ask text a b) (records_of h)
 begins_by None V text a b at_yes at_no h later is = none_begins (Ask text a b) h (none_before h later is)
 begins_by (Some Yes) V text a b at_yes at_no h later is = text_first h later at_yes text Yes a b is
 begins_by (Some No) V text a b at_yes at_no h later is = text_first h later at_no text No a b is
@@ -54,7 +56,8 @@ begins V (End result) h later is = none_begins (End result) h (none_before h lat
 begins V (Ask text a b) h later is = begins_by (V text) V text a b _ _ h later is
 
 -- a first answer that ends the reducer is the only record
-only_first : (h later rest : History) (text : List ℕ) (verdict : Verdict) (first : Plan) → Recorded text verdict ∷ Committed 1 ∷ rest ≡ h ++ later → (HasEnded (after first verdict) → rest ≡ []) → EndsAtFirst first (records_of h)
+only_first : (h later rest : History) (text : List ℕ) (verdict : Verdict) (first : Plan) → Recorded text verdict ∷ Committed 1 ∷ rest ≡ h ++ later
+    → (HasEnded (after first verdict) → rest ≡ []) → EndsAtFirst first (records_of h)
 only_first [] later rest text verdict first is ends = tt
 only_first (e ∷ h) later rest text verdict first is ends =
     let same : Recorded text verdict ≡ e = cc is in
@@ -65,7 +68,8 @@ only_first (e ∷ h) later rest text verdict first is ends =
 none_one : (first : Plan) (h : History) → h ≡ [] → EndsAtFirst first (records_of h)
 none_one first h none = subst (λ (l : History). EndsAtFirst first (records_of l)) (sym none) tt
 
-one_by : (o : Option Verdict) (V : List ℕ → Option Verdict) (text : List ℕ) (a b : Plan) (at_yes at_no h later : History) → (HasEnded a → at_yes ≡ []) → (HasEnded b → at_no ≡ [])
+one_by : (o : Option Verdict) (V : List ℕ → Option Verdict) (text : List ℕ) (a b : Plan) (at_yes at_no h later : History) → (HasEnded a → at_yes ≡ [])
+    → (HasEnded b → at_no ≡ [])
     → by_verdict o (Recorded text Yes ∷ Committed 1 ∷ at_yes) (Recorded text No ∷ Committed 1 ∷ at_no) ≡ h ++ later → EndsAtFirst (Ask text a b) (records_of h)
 one_by None V text a b at_yes at_no h later yes_ends no_ends is = none_one (Ask text a b) h (none_before h later is)
 one_by (Some Yes) V text a b at_yes at_no h later yes_ends no_ends is = only_first h later at_yes text Yes (Ask text a b) is yes_ends
@@ -74,14 +78,16 @@ one_by (Some No) V text a b at_yes at_no h later yes_ends no_ends is = only_firs
 one_at_end : (V : List ℕ → Option Verdict) (first : Plan) (h later : History) → sequential_history V first ≡ h ++ later → EndsAtFirst first (records_of h)
 one_at_end V (End result) h later is = none_one (End result) h (none_before h later is)
 one_at_end V (Ask text a b) h later is =
-    one_by (V text) V text a b _ _ h later (λ ended. after_end V (record { text = text; verdict = Yes } ∷ []) a ended) (λ ended. after_end V (record { text = text; verdict = No } ∷ []) b ended) is
+    one_by (V text) V text a b _ _ h later (λ ended. after_end V (record { text = text; verdict = Yes } ∷ []) a ended)
+    (λ ended. after_end V (record { text = text; verdict = No } ∷ []) b ended) is
 
 -- ---- the end of a run
 
 module _ (first : Plan) (h : History) (distinct : IsDistinct bytes_eq (texts_of (records_of h))) where
   -- it is a beginning of what one thread does over its records
   is_beginning : GoesOn first h → IsBeginning h (own_history first h)
-  is_beginning goes = (sequential_from (verdict_in (records_of h)) (records_of h) (replay first h), goes (verdict_in (records_of h)) (extends_itself (records_of h) distinct))
+  is_beginning goes =
+      (sequential_from (verdict_in (records_of h)) (records_of h) (replay first h), goes (verdict_in (records_of h)) (extends_itself (records_of h) distinct))
 
   -- all of it, where nothing follows
   whole : GoesOn first h → sequential_from (verdict_in (records_of h)) (records_of h) (replay first h) ≡ [] → h ≡ own_history first h
@@ -89,9 +95,11 @@ module _ (first : Plan) (h : History) (distinct : IsDistinct bytes_eq (texts_of 
   whole goes nothing = sym ((is_beginning goes).1 ∙ ap (λ (l : History). h ++ l) nothing ∙ append-nil h)
 
   -- by the fault
-  pub is_sequential : (fault : Option PoolFault) → GoesOn first h → (fault ≡ None → HasEnded (replay first h)) → IsUnansweredAt fault (replay first h) (records_of h) → IsSequential fault first h
+  pub is_sequential : (fault : Option PoolFault) → GoesOn first h → (fault ≡ None → HasEnded (replay first h))
+      → IsUnansweredAt fault (replay first h) (records_of h) → IsSequential fault first h
   is_sequential None goes ended waits = whole goes (after_end (verdict_in (records_of h)) (records_of h) (replay first h) (ended refl))
-  is_sequential (Some (Script worker)) goes ended waits = whole goes (after_unanswered (verdict_in (records_of h)) (records_of h) (replay first h) waits.0 waits.1 waits.2)
+  is_sequential (Some (Script worker)) goes ended waits =
+      whole goes (after_unanswered (verdict_in (records_of h)) (records_of h) (replay first h) waits.0 waits.1 waits.2)
   is_sequential (Some Journal) goes ended waits = is_beginning goes
   is_sequential (Some Memory) goes ended waits = is_beginning goes
 
@@ -101,7 +109,8 @@ module _ (first : Plan) (h : History) (distinct : IsDistinct bytes_eq (texts_of 
   is_some : (o : Option (List ℕ)) (text : List ℕ) → o ≡ Some text → IsSome o
   is_some o text is = subst (λ (x : Option (List ℕ)). IsSome x) (sym is) refl
 
-  pub reducer_ends : (fault : Option PoolFault) (plan : Plan) → LeadsOn first h → (fault ≡ None → plan ≡ replay first h) → (fault ≡ None → HasEnded (replay first h)) → IsUnansweredAt fault (replay first h) (records_of h)
+  pub reducer_ends : (fault : Option PoolFault) (plan : Plan) → LeadsOn first h → (fault ≡ None → plan ≡ replay first h)
+      → (fault ≡ None → HasEnded (replay first h)) → IsUnansweredAt fault (replay first h) (records_of h)
       → ReducerEnds fault first plan (records_of h)
   reducer_ends None plan leads replayed ended waits =
       let there = replayed refl in

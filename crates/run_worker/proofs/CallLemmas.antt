@@ -1,5 +1,6 @@
 -- What holds between two calls of a run holds after each call of the board.
-use Rattle.std.proofs.Common.{◌≡◌, ◌≢◌, inl, inr, ◌++◌, ℕ, List, [], ◌∷◌, Bool, true, false, Option, Some, None, option_map, Result, Ok, Err, refl, sym, ap, ◌∙◌, subst}
+use Rattle.std.proofs.Common.{◌≡◌, ◌≢◌, inl, inr, ◌++◌, ℕ, List, [], ◌∷◌, Bool, true, false, Option, Some, None}
+use Rattle.std.proofs.Common.{option_map, Result, Ok, Err, refl, sym, ap, ◌∙◌, subst}
 use Rattle.std.specs.List.{IsDistinct}
 use Rattle.std.specs.Str.{bytes_eq}
 use Rattle.faults.specs.Count.{Rose}
@@ -28,7 +29,8 @@ use Rattle.run_worker.specs.inner.UnderWay.{GoesOn, IsUnansweredAt, IsUnderWay, 
 use Rattle.run_worker.proofs.SequentialLemmas.{goes_commit, leads_commit}
 use Rattle.run_worker.proofs.WrittenLemmas.{Has, all_written, commit_broke}
 
-module _ {S J : Type 0} (first plan : S → Plan) (put : J → Option Put) (faults : J → ℕ) (log : Option Log) (gate_faults : ℕ) (start : Moment) (seat : Seat) (old new : BoardState S J) where
+module _ {S J : Type 0} (first plan : S → Plan) (put : J → Option Put) (faults : J → ℕ) (log : Option Log) (gate_faults : ℕ) (start : Moment) (seat : Seat)
+    (old new : BoardState S J) where
   abbrev Now : BoardState S J → Moment
   Now state = moment first plan put faults state log gate_faults
 
@@ -45,9 +47,11 @@ module _ {S J : Type 0} (first plan : S → Plan) (put : J → Option Put) (faul
     all_before none = all_written old.fault old.history (put old.journal) none way.written
 
     -- and after a commit that was put
-    more_written : (number : ℕ) → old.fault ≡ None → new.history ≡ old.history ++ Committed number ∷ [] → IsWritten put (Committed number) old.journal new.journal → Has None new.history (put new.journal)
+    more_written : (number : ℕ) → old.fault ≡ None → new.history ≡ old.history ++ Committed number ∷ []
+        → IsWritten put (Committed number) old.journal new.journal → Has None new.history (put new.journal)
     more_written number none history written =
-        subst (λ (h : History). Has None h (put new.journal)) (sym history) (has_more old.history (Committed number) (put old.journal) (put new.journal) written (all_before none))
+        subst (λ (h : History). Has None h (put new.journal)) (sym history)
+        (has_more old.history (Committed number) (put old.journal) (put new.journal) written (all_before none))
 
     -- a commit that was made
     module _ (number : ℕ) (could : CanCommit plan old number) (history : new.history ≡ old.history ++ Committed number ∷ []) where
@@ -63,8 +67,10 @@ module _ {S J : Type 0} (first plan : S → Plan) (put : J → Option Put) (faul
       records : records_of new.history ≡ records_of old.history
       records = ap records_of history ∙ records_same old.history number
 
-      committed : (fault : Option PoolFault) → new.fault ≡ fault → (new.fault ≡ None → plan new.front ≡ answered (record_at number (records_of old.history)) (plan old.front))
-          → Has fault new.history (put new.journal) → IsUnansweredAt fault (replay start.first new.history) (records_of new.history) → IsCaused fault start.gate_faults gate_faults start.journal_faults (faults new.journal) → IsUnderWay start (Now new) seat
+      committed : (fault : Option PoolFault) → new.fault ≡ fault
+          → (new.fault ≡ None → plan new.front ≡ answered (record_at number (records_of old.history)) (plan old.front))
+          → Has fault new.history (put new.journal) → IsUnansweredAt fault (replay start.first new.history) (records_of new.history)
+          → IsCaused fault start.gate_faults gate_faults start.journal_faults (faults new.journal) → IsUnderWay start (Now new) seat
       committed fault is answers has waits caused =
           record {
             same_first = keeps.same_first ∙ way.same_first;
@@ -74,7 +80,9 @@ module _ {S J : Type 0} (first plan : S → Plan) (put : J → Option Put) (faul
             distinct = subst (λ (rs : List Record). IsDistinct bytes_eq (texts_of rs)) (sym records) way.distinct;
             goes_on = subst (GoesOn start.first) (sym history) (goes_commit start.first old.history number r at there way.goes_on way.distinct);
             leads_on = subst (LeadsOn start.first) (sym history) (leads_commit start.first old.history number r at there way.leads_on);
-            replayed = λ none. answers none ∙ ap (answered (record_at number (records_of old.history))) (way.replayed could.0) ∙ sym (replay_commit [] start.first old.history number) ∙ ap (replay start.first) (sym history);
+            replayed =
+                λ none. answers none ∙ ap (answered (record_at number (records_of old.history))) (way.replayed could.0)
+                ∙ sym (replay_commit [] start.first old.history number) ∙ ap (replay start.first) (sym history);
             waits = subst (λ (f : Option PoolFault). IsUnansweredAt f (replay start.first new.history) (records_of new.history)) (sym is) waits;
             asked = way.asked ∙ ap (λ (rs : List Record). option_map (with_all_asked (texts_of rs)) start.log) (sym records);
             caused = subst (λ (f : Option PoolFault). IsCaused f start.gate_faults gate_faults start.journal_faults (faults new.journal)) (sym is) caused;
@@ -88,7 +96,9 @@ module _ {S J : Type 0} (first plan : S → Plan) (put : J → Option Put) (faul
 
     -- nothing but the journal and the fault changed
     module _ (none : old.fault ≡ None) (history : new.history ≡ old.history) where
-      stopped : (fault : PoolFault) → new.fault ≡ Some fault → Has (Some fault) new.history (put new.journal) → IsUnansweredAt (Some fault) (replay start.first new.history) (records_of new.history) → IsCaused (Some fault) start.gate_faults gate_faults start.journal_faults (faults new.journal)
+      stopped : (fault : PoolFault) → new.fault ≡ Some fault → Has (Some fault) new.history (put new.journal)
+          → IsUnansweredAt (Some fault) (replay start.first new.history) (records_of new.history)
+          → IsCaused (Some fault) start.gate_faults gate_faults start.journal_faults (faults new.journal)
           → IsUnderWay start (Now new) seat
       stopped fault is has waits caused =
           record {
@@ -109,22 +119,29 @@ module _ {S J : Type 0} (first plan : S → Plan) (put : J → Option Put) (faul
 
     -- so a commit keeps what holds, whatever it answers
     pub commit_way : (result : Result Bool BoardFault) → CommitEnds plan put result old new
-        → (result ≡ Err board.Journal → Rose (faults old.journal) (faults new.journal)) → (result ≢ Err board.Journal → faults new.journal ≡ faults old.journal) → IsUnderWay start (Now new) seat
+        → (result ≡ Err board.Journal → Rose (faults old.journal) (faults new.journal)) → (result ≢ Err board.Journal → faults new.journal ≡ faults old.journal)
+        → IsUnderWay start (Now new) seat
     commit_way (Ok true) ends failed quiet =
         let counts = quiet_before ends.could.0 in
         let history : new.history ≡ old.history ++ Committed ends.number ∷ [] = ap (λ (c : CoreState). c.history) ends.moved.1 in
-        committed ends.number ends.could history None ends.fault (λ none. ap (λ (c : CoreState). c.front) ends.moved.1) (more_written ends.number ends.could.0 history ends.written) tt (counts.0, quiet (λ is. cc is) ∙ counts.1)
+        committed ends.number ends.could history None ends.fault (λ none. ap (λ (c : CoreState). c.front) ends.moved.1)
+        (more_written ends.number ends.could.0 history ends.written) tt (counts.0, quiet (λ is. cc is) ∙ counts.1)
     commit_way (Ok false) ends failed quiet = subst (λ (state : BoardState S J). IsUnderWay start (Now state) seat) (sym ends.1) way
     commit_way (Err board.Journal) ends failed quiet =
         let counts = quiet_before ends.could.0 in
         let history : new.history ≡ old.history = ap (λ (state : BoardState S J). state.history) ends.else_same in
-        let has : Has (Some Journal) new.history (put new.journal) = commit_broke old.history new.history ends.number ends.could.1.0 (put old.journal) (put new.journal) ends.could.1.1 history ends.part (all_before ends.could.0) in
+        let has : Has (Some Journal) new.history (put new.journal) =
+        commit_broke old.history new.history ends.number ends.could.1.0 (put old.journal) (put new.journal) ends.could.1.1 history ends.part
+        (all_before ends.could.0) in
         stopped ends.could.0 history Journal (ap (λ (state : BoardState S J). state.fault) ends.else_same) has tt
         (counts.0, subst (λ (n : ℕ). Rose n (faults new.journal)) counts.1 (failed refl))
     commit_way (Err board.Memory) (inl ends) failed quiet =
         let counts = quiet_before ends.could.0 in
-        let has : Has None new.history (put new.journal) = subst (λ (state : BoardState S J). Has None state.history (put state.journal)) (sym ends.else_same) (all_before ends.could.0) in
-        stopped ends.could.0 (ap (λ (state : BoardState S J). state.history) ends.else_same) Memory (ap (λ (state : BoardState S J). state.fault) ends.else_same) has tt (counts.0, quiet (λ is. cc is) ∙ counts.1)
+        let has : Has None new.history (put new.journal) =
+        subst (λ (state : BoardState S J). Has None state.history (put state.journal)) (sym ends.else_same) (all_before ends.could.0) in
+        stopped ends.could.0 (ap (λ (state : BoardState S J). state.history) ends.else_same) Memory
+        (ap (λ (state : BoardState S J). state.fault) ends.else_same) has tt (counts.0, quiet (λ is. cc is) ∙ counts.1)
     commit_way (Err board.Memory) (inr ends) failed quiet =
         let counts = quiet_before ends.could.0 in
-        committed ends.number ends.could ends.history (Some Memory) ends.fault (λ none. absurd (cc (sym ends.fault ∙ none))) (more_written ends.number ends.could.0 ends.history ends.written) tt (counts.0, quiet (λ is. cc is) ∙ counts.1)
+        committed ends.number ends.could ends.history (Some Memory) ends.fault (λ none. absurd (cc (sym ends.fault ∙ none)))
+        (more_written ends.number ends.could.0 ends.history ends.written) tt (counts.0, quiet (λ is. cc is) ∙ counts.1)

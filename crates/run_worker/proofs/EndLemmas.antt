@@ -28,13 +28,16 @@ none_asked None = refl
 none_asked (Some log) = grind (arith, common_steps)
 
 -- of the texts that a table has, those of its records
-records_may : (first : Plan) (rs : List Record) (others : List (List ℕ)) → All (MayAsk first) (texts_of rs ++ others) → All (λ (r : Record). MayAsk first r.text) rs
+records_may : (first : Plan) (rs : List Record) (others : List (List ℕ)) → All (MayAsk first) (texts_of rs ++ others)
+    → All (λ (r : Record). MayAsk first r.text) rs
 records_may first [] others all = All-nil (λ (r : Record). MayAsk first r.text)
 records_may first (r ∷ rs) others all =
-    All-cons (λ (q : Record). MayAsk first q.text) r rs (All-head (MayAsk first) r.text (texts_of rs ++ others) all) (records_may first rs others (All-tail (MayAsk first) r.text (texts_of rs ++ others) all))
+    All-cons (λ (q : Record). MayAsk first q.text) r rs (All-head (MayAsk first) r.text (texts_of rs ++ others) all)
+    (records_may first rs others (All-tail (MayAsk first) r.text (texts_of rs ++ others) all))
 
 -- what a board keeps is what a run's history is
-pub kept_history : {S J : Type 0} (plan first : S → Plan) (may_say : List ℕ → Verdict → Type 0) (put : J → Option Put) (faults : J → ℕ) (state : BoardState S J) (start : Plan) → IsKept plan first may_say put faults state → first state.front ≡ start
+pub kept_history : {S J : Type 0} (plan first : S → Plan) (may_say : List ℕ → Verdict → Type 0) (put : J → Option Put) (faults : J → ℕ) (state : BoardState S J)
+    (start : Plan) → IsKept plan first may_say put faults state → first state.front ≡ start
     → IsHistoryOf may_say start state.history
 kept_history plan first may_say put faults state start kept same =
     let recorded = kept.recorded in
@@ -42,11 +45,14 @@ kept_history plan first may_say put faults state start kept same =
       legal = recorded.legal;
       readable = recorded.readable;
       said = subst (λ (rs : List Record). All (λ (r : Record). may_say r.text r.verdict) rs) recorded.recorded recorded.said;
-      may_ask = subst (λ (rs : List Record). All (λ (r : Record). MayAsk (first state.front) r.text) rs) recorded.recorded (records_may (first state.front) state.table.records (claimed_texts state.table.claims) recorded.may_ask);
+      may_ask =
+          subst (λ (rs : List Record). All (λ (r : Record). MayAsk (first state.front) r.text) rs) recorded.recorded
+          (records_may (first state.front) state.table.records (claimed_texts state.table.claims) recorded.may_ask);
     })
 
 -- where it stops, the history is what one thread does, and the reducer has ended or waits
-pub came : (start now : Moment) (seat : Seat) → IsUnderWay start now seat → (now.fault ≡ None → HasEnded now.plan) → IsSequential now.fault start.first now.history × ReducerEnds now.fault start.first now.plan (records_of now.history)
+pub came : (start now : Moment) (seat : Seat) → IsUnderWay start now seat → (now.fault ≡ None → HasEnded now.plan)
+    → IsSequential now.fault start.first now.history × ReducerEnds now.fault start.first now.plan (records_of now.history)
 came start now seat way over =
     let ended : now.fault ≡ None → HasEnded (replay start.first now.history) = λ none. subst HasEnded (way.replayed none) (over none) in (
       is_sequential start.first now.history way.distinct now.fault way.goes_on ended way.waits,
@@ -67,6 +73,8 @@ begins_whole : (fault : BoardFault) (first : Plan) → IsSequential (Some (board
 begins_whole board.Journal first = (own_history first [], refl)
 begins_whole board.Memory first = (own_history first [], refl)
 
-pub none_sequential : (fault : BoardFault) (first : Plan) (kept : Option PoolFault) (history : History) → kept ≡ Some (board_fault fault) → history ≡ [] → IsSequential kept first history
+pub none_sequential : (fault : BoardFault) (first : Plan) (kept : Option PoolFault) (history : History) → kept ≡ Some (board_fault fault) → history ≡ []
+    → IsSequential kept first history
 none_sequential fault first kept history is none =
-    subst (λ (f : Option PoolFault). IsSequential f first history) (sym is) (subst (IsSequential (Some (board_fault fault)) first) (sym none) (begins_whole fault first))
+    subst (λ (f : Option PoolFault). IsSequential f first history) (sym is)
+    (subst (IsSequential (Some (board_fault fault)) first) (sym none) (begins_whole fault first))

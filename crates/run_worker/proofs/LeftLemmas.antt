@@ -1,5 +1,6 @@
 -- How many turns are left, and what else a commit keeps.
-use Rattle.std.proofs.Common.{◌≡◌, ◌⊎◌, inl, inr, ⊎_elim, ◌<◌, ◌≤◌, ℕ, suc, List, Bool, true, false, Option, Some, None, Result, Ok, Err, arith, refl, sym, ap, ◌∙◌, subst}
+use Rattle.std.proofs.Common.{◌≡◌, ◌⊎◌, inl, inr, ⊎_elim, ◌<◌, ◌≤◌, ℕ, suc, List, Bool, true, false, Option}
+use Rattle.std.proofs.Common.{Some, None, Result, Ok, Err, arith, refl, sym, ap, ◌∙◌, subst}
 use Rattle.edge_io.specs.Sink.{Put}
 use Rattle.script_gate_trait.specs.declared.gate.Verdict.{Verdict}
 use Rattle.script_gate_trait.specs.declared.gate.Verdict.TheVariants.{Yes, No}
@@ -44,7 +45,8 @@ module _ {S J : Type 0} (plan : S → Plan) (put : J → Option Put) (old new : 
       let before = some_turn old.fault (plan old.front) none in
       rw (after_it, before) (omega arith)
 
-  fewer_by_answer : (number : ℕ) → CanCommit plan old number → new.fault ≡ None → plan new.front ≡ answered (record_at number (records_of old.history)) (plan old.front) → Fewer plan old new
+  fewer_by_answer : (number : ℕ) → CanCommit plan old number → new.fault ≡ None
+      → plan new.front ≡ answered (record_at number (records_of old.history)) (plan old.front) → Fewer plan old new
   fewer_by_answer number could none is =
       let r : Record = could.1.0 in
       let next : plan new.front ≡ after (plan old.front) r.verdict = is ∙ ap (λ (o : Option Record). answered o (plan old.front)) could.1.1 in
@@ -78,7 +80,8 @@ module _ {S J : Type 0} (plan : S → Plan) (put : J → Option Put) (old new : 
   none_before (Err board.Memory) (inl ends) none = ends.could.0
   none_before (Err board.Memory) (inr ends) none = ends.could.0
 
-  pub free_by_commit : (result : Result Bool BoardFault) → CommitEnds plan put result old new → new.table ≡ old.table → new.seats ≡ old.seats → (seat : Seat) → IsFree seat old → IsFree seat new
+  pub free_by_commit : (result : Result Bool BoardFault) → CommitEnds plan put result old new → new.table ≡ old.table → new.seats ≡ old.seats → (seat : Seat)
+      → IsFree seat old → IsFree seat new
   free_by_commit result ends table seats seat free = record {
     only_seat = seats ∙ free.only_seat;
     unclaimed = free.unclaimed;
@@ -86,7 +89,8 @@ module _ {S J : Type 0} (plan : S → Plan) (put : J → Option Put) (old new : 
   }
 
 -- what stops and stops again
-pub stops_twice : {S J : Type 0} (plan : S → Plan) (one two three : BoardState S J) → (two ≡ one) ⊎ Fewer plan one two → (three ≡ two) ⊎ Fewer plan two three → (three ≡ one) ⊎ Fewer plan one three
+pub stops_twice : {S J : Type 0} (plan : S → Plan) (one two three : BoardState S J) → (two ≡ one) ⊎ Fewer plan one two → (three ≡ two) ⊎ Fewer plan two three
+    → (three ≡ one) ⊎ Fewer plan one three
 stops_twice plan one two three (inl same) (inl again) = inl (again ∙ same)
 stops_twice plan one two three (inl same) (inr fewer) = inr (subst (λ state. Fewer plan state three) same fewer)
 stops_twice plan one two three (inr fewer) (inl again) = inr (subst (λ state. Fewer plan one state) (sym again) fewer)
@@ -98,21 +102,26 @@ module _ {S J : Type 0} (plan : S → Plan) (one two three : BoardState S J) (no
   before = some_turn one.fault (plan one.front) none
 
   turns_after : (three ≡ two) ⊎ Fewer plan two three → turns_left three.fault (plan three.front) ≤ turns_left two.fault (plan two.front)
-  turns_after (inl same) = subst (λ (state : BoardState S J). turns_left three.fault (plan three.front) ≤ turns_left state.fault (plan state.front)) same (omega arith)
+  turns_after (inl same) =
+      subst (λ (state : BoardState S J). turns_left three.fault (plan three.front) ≤ turns_left state.fault (plan state.front)) same (omega arith)
   turns_after (inr fewer) = omega (arith, fewer)
 
   fewer_here : (fault : Option PoolFault) → two.fault ≡ fault → (two.fault ≡ None → CanGoOn plan one two) → IsSettled plan three → Fewer plan one three
   fewer_here None is next settled =
       let go = next is in
-      let here : turns_left two.fault (plan two.front) ≡ suc (height (plan one.front)) = some_turn two.fault (plan two.front) is ∙ ap (λ (p : Plan). suc (height p)) go.0 in
-      ⊎_elim (λ same. absurd (subst (IsSettled plan) same settled go.1.0 go.1.1)) (λ fewer. subst (λ (n : ℕ). turns_left three.fault (plan three.front) < n) (here ∙ sym before) fewer) stops
+      let here : turns_left two.fault (plan two.front) ≡ suc (height (plan one.front)) =
+      some_turn two.fault (plan two.front) is ∙ ap (λ (p : Plan). suc (height p)) go.0 in
+      ⊎_elim (λ same. absurd (subst (IsSettled plan) same settled go.1.0 go.1.1))
+      (λ fewer. subst (λ (n : ℕ). turns_left three.fault (plan three.front) < n) (here ∙ sym before) fewer) stops
   fewer_here (Some kept) is next settled =
       let zero_left : turns_left two.fault (plan two.front) ≡ 0 = no_turn two.fault kept (plan two.front) is in
       let most = turns_after stops in
       omega (arith, most, zero_left, before)
 
 -- so does one that began with a claim
-pub fewer_by_turn : {S J : Type 0} (plan : S → Plan) (permit : ClaimedText) (seat seat' : Seat) (one claimed two three : BoardState S J) → IsClaimed plan permit seat seat' one claimed → (three ≡ two) ⊎ Fewer plan two three
+pub fewer_by_turn : {S J : Type 0} (plan : S → Plan) (permit : ClaimedText) (seat seat' : Seat) (one claimed two three : BoardState S J)
+    → IsClaimed plan permit seat seat' one claimed → (three ≡ two) ⊎ Fewer plan two three
     → (two.fault ≡ None → CanGoOn plan claimed two) → IsSettled plan three → Fewer plan one three
 fewer_by_turn {S} {J} plan permit seat seat' one claimed two three taken stops next settled =
-    fewer_here plan one two three taken.unstopped stops two.fault refl (λ quiet. let go = next quiet in (go.0 ∙ ap (λ (state : BoardState S J). plan state.front) taken.else_same, go.1)) settled
+    fewer_here plan one two three taken.unstopped stops two.fault refl
+    (λ quiet. let go = next quiet in (go.0 ∙ ap (λ (state : BoardState S J). plan state.front) taken.else_same, go.1)) settled

@@ -5,5 +5,6 @@ mod CallLemmas
 mod AskLemmas
 mod AnswerLemmas
 mod LeftLemmas
+mod NewLemmas
 mod EndLemmas
 pub mod Lent

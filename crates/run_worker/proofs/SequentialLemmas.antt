@@ -1,5 +1,6 @@
 -- Histories of one thread: how they go on after a record and after a commit.
-use Rattle.std.proofs.Common.{◌≡◌, ◌++◌, ℕ, zero, suc, List, [], ◌∷◌, Bool, true, false, cond, ◌||◌, Option, Some, None, refl, sym, ap, ◌∙◌, subst, append_assoc, append-nil}
+use Rattle.std.proofs.Common.{◌≡◌, ◌++◌, ℕ, zero, suc, List, [], ◌∷◌, Bool, true, false, cond, ◌||◌, Option, Some}
+use Rattle.std.proofs.Common.{None, refl, sym, ap, ◌∙◌, subst, append_assoc, append-nil}
 use Rattle.std.proofs.lemmas.Cmp.{nat_list_eq_equiv}
 use Rattle.std.proofs.lemmas.Map.Keys.{IsDistinct-head, IsDistinct-tail}
 use Rattle.std.specs.List.{AllByRecursion, IsDistinct, list_any}
@@ -21,7 +22,8 @@ use Rattle.run_worker.specs.inner.UnderWay.{GoesOn, LeadsOn}
 -- ---- records by their texts
 
 -- a record's text is none of those that differ from this text
-differs_at : (text : List ℕ) (rs : List Record) (n : ℕ) (r : Record) → record_at n rs ≡ Some r → AllByRecursion (λ y. bytes_eq text y ≡ false) (texts_of rs) → bytes_eq text r.text ≡ false
+differs_at : (text : List ℕ) (rs : List Record) (n : ℕ) (r : Record) → record_at n rs ≡ Some r → AllByRecursion (λ y. bytes_eq text y ≡ false) (texts_of rs)
+    → bytes_eq text r.text ≡ false
 differs_at text rs zero r at apart = absurd (cc at)
 differs_at text [] (suc n) r at apart = absurd (cc at)
 differs_at text (q ∷ rs) (suc zero) r at apart = let same : q ≡ r = cc at in subst (λ (s : Record). bytes_eq text s.text ≡ false) same apart.0
@@ -36,7 +38,8 @@ number_at (q ∷ rs) (suc zero) r at distinct =
     let equal : bytes_eq r.text q.text ≡ true = subst (λ (s : Record). bytes_eq r.text s.text ≡ true) (sym same) (nat_list_eq_equiv.refl r.text) in
     rw equal refl
 number_at (q ∷ rs) (suc (suc n)) r at distinct =
-    let apart : bytes_eq r.text q.text ≡ false = nat_list_eq_equiv.symm r.text q.text ∙ differs_at q.text rs (suc n) r at (IsDistinct-head bytes_eq q.text (texts_of rs) distinct) in
+    let apart : bytes_eq r.text q.text ≡ false =
+    nat_list_eq_equiv.symm r.text q.text ∙ differs_at q.text rs (suc n) r at (IsDistinct-head bytes_eq q.text (texts_of rs) distinct) in
     rw apart (ap (λ (k : ℕ). suc k) (number_at rs (suc n) r at (IsDistinct-tail bytes_eq q.text (texts_of rs) distinct)))
 
 or_true : (b : Bool) → b || true ≡ true
@@ -54,11 +57,13 @@ is_among (q ∷ rs) (suc zero) r at =
 is_among (q ∷ rs) (suc (suc n)) r at = rw (is_among rs (suc n) r at) (or_true (bytes_eq r.text q.text))
 
 -- the record of a text has the number that it would have
-pub number_same : (rs : List Record) (text : List ℕ) (verdict : Verdict) → number_for (rs ++ record { text = text; verdict = verdict } ∷ []) text ≡ number_for rs text
+pub number_same : (rs : List Record) (text : List ℕ) (verdict : Verdict)
+    → number_for (rs ++ record { text = text; verdict = verdict } ∷ []) text ≡ number_for rs text
 number_same [] text verdict = rw (nat_list_eq_equiv.refl text) refl
 number_same (q ∷ rs) text verdict = ap (λ (k : ℕ). cond (bytes_eq text q.text) 1 (suc k)) (number_same rs text verdict)
 
-pub among_last : (rs : List Record) (text : List ℕ) (verdict : Verdict) → list_any (bytes_eq text) (texts_of (rs ++ record { text = text; verdict = verdict } ∷ [])) ≡ true
+pub among_last : (rs : List Record) (text : List ℕ) (verdict : Verdict)
+    → list_any (bytes_eq text) (texts_of (rs ++ record { text = text; verdict = verdict } ∷ [])) ≡ true
 among_last [] text verdict = rw (nat_list_eq_equiv.refl text) refl
 among_last (q ∷ rs) text verdict = rw (among_last rs text verdict) (or_true (bytes_eq text q.text))
 
@@ -82,22 +87,27 @@ answers V rs (Ask t a b) text No is known =
     (λ here. rw here refl) (ap V same ∙ known)
 
 -- that of a text with a record is its commit
-later_known : (V : List ℕ → Option Verdict) (rs : List Record) (text : List ℕ) (verdict : Verdict) (plan : Plan) (n : ℕ) → list_any (bytes_eq text) (texts_of rs) ≡ true → number_for rs text ≡ n
+later_known : (V : List ℕ → Option Verdict) (rs : List Record) (text : List ℕ) (verdict : Verdict) (plan : Plan) (n : ℕ)
+    → list_any (bytes_eq text) (texts_of rs) ≡ true → number_for rs text ≡ n
     → Later V rs text verdict plan ≡ Committed n ∷ sequential_from V rs plan
 later_known V rs text verdict plan n known number = rw (known, number, append-nil) refl
 
 -- a record of the text that is asked comes first, where it has none
-pub after_record : (V : List ℕ → Option Verdict) (rs : List Record) (plan : Plan) (text : List ℕ) (verdict : Verdict) → asked plan ≡ Some text → V text ≡ Some verdict → list_any (bytes_eq text) (texts_of rs) ≡ false
+pub after_record : (V : List ℕ → Option Verdict) (rs : List Record) (plan : Plan) (text : List ℕ) (verdict : Verdict) → asked plan ≡ Some text
+    → V text ≡ Some verdict → list_any (bytes_eq text) (texts_of rs) ≡ false
     → sequential_from V rs plan ≡ Recorded text verdict ∷ sequential_from V (rs ++ record { text = text; verdict = verdict } ∷ []) plan
 after_record V rs plan text verdict is known absent =
     let r : Record = record { text = text; verdict = verdict } in
-    let new : Later V rs text verdict (after plan verdict) ≡ Recorded text verdict ∷ Committed (number_for rs text) ∷ sequential_from V (rs ++ r ∷ []) (after plan verdict) = rw absent refl in
+    let new : Later V rs text verdict (after plan verdict) ≡ Recorded text verdict ∷ Committed (number_for rs text) ∷ sequential_from V (rs ++ r ∷ [])
+    (after plan verdict) = rw absent refl in
     let old : sequential_from V (rs ++ r ∷ []) plan ≡ Committed (number_for rs text) ∷ sequential_from V (rs ++ r ∷ []) (after plan verdict) =
-    answers V (rs ++ r ∷ []) plan text verdict is known ∙ later_known V (rs ++ r ∷ []) text verdict (after plan verdict) (number_for rs text) (among_last rs text verdict) (number_same rs text verdict) in
+    answers V (rs ++ r ∷ []) plan text verdict is known
+    ∙ later_known V (rs ++ r ∷ []) text verdict (after plan verdict) (number_for rs text) (among_last rs text verdict) (number_same rs text verdict) in
     answers V rs plan text verdict is known ∙ new ∙ ap (λ (h : History). Recorded text verdict ∷ h) (sym old)
 
 -- a commit of the text that is asked comes first, where it has a record
-pub after_commit : (V : List ℕ → Option Verdict) (rs : List Record) (plan : Plan) (n : ℕ) (r : Record) → asked plan ≡ Some r.text → V r.text ≡ Some r.verdict → record_at n rs ≡ Some r → IsDistinct bytes_eq (texts_of rs)
+pub after_commit : (V : List ℕ → Option Verdict) (rs : List Record) (plan : Plan) (n : ℕ) (r : Record) → asked plan ≡ Some r.text → V r.text ≡ Some r.verdict
+    → record_at n rs ≡ Some r → IsDistinct bytes_eq (texts_of rs)
     → sequential_from V rs plan ≡ Committed n ∷ sequential_from V rs (after plan r.verdict)
 after_commit V rs plan n r is known at distinct =
     answers V rs plan r.text r.verdict is known ∙ later_known V rs r.text r.verdict (after plan r.verdict) n (is_among rs n r at) (number_at rs n r at distinct)
@@ -108,7 +118,8 @@ after_end V rs (End result) ended = refl
 after_end V rs (Ask t a b) ended = absurd (cc ended)
 
 -- nor a text without a verdict
-pub after_unanswered : (V : List ℕ → Option Verdict) (rs : List Record) (plan : Plan) (text : List ℕ) → asked plan ≡ Some text → V text ≡ None → sequential_from V rs plan ≡ []
+pub after_unanswered : (V : List ℕ → Option Verdict) (rs : List Record) (plan : Plan) (text : List ℕ) → asked plan ≡ Some text → V text ≡ None
+    → sequential_from V rs plan ≡ []
 after_unanswered V rs (End result) text is none = refl
 after_unanswered V rs (Ask t a b) text is none =
     let same : t ≡ text = cc is in
@@ -128,7 +139,8 @@ module _ (first : Plan) (h : History) where
         let all : Extends V (records_of h ++ Rec ∷ []) = subst (Extends V) (records_more h text verdict) extends in
         (extends_front V (records_of h) (Rec ∷ []) all, (extends_back V (records_of h) (Rec ∷ []) all).0)
 
-    pub goes_record : GoesOn first h → asked (replay first h) ≡ Some text → list_any (bytes_eq text) (texts_of (records_of h)) ≡ false → GoesOn first (h ++ Recorded text verdict ∷ [])
+    pub goes_record : GoesOn first h → asked (replay first h) ≡ Some text → list_any (bytes_eq text) (texts_of (records_of h)) ≡ false
+        → GoesOn first (h ++ Recorded text verdict ∷ [])
     goes_record goes is absent V extends =
         let parts = split V extends in
         let there : Plan = replay first h in

@@ -16,7 +16,8 @@ abbrev pub Has : Option PoolFault → History → Option Put → Type 0
 Has fault history put = IfSome put (λ p. AreJournalBytes fault history p.bytes)
 
 -- a record broke off
-pub record_broke : (before history : History) (text : List ℕ) (verdict : Verdict) (old new : Option Put) → history ≡ before ++ Recorded text verdict ∷ [] → GrewByPrefix (event_text (Recorded text verdict)) old new → Has None before old → Has (Some Journal) history new
+pub record_broke : (before history : History) (text : List ℕ) (verdict : Verdict) (old new : Option Put) → history ≡ before ++ Recorded text verdict ∷ []
+    → GrewByPrefix (event_text (Recorded text verdict)) old new → Has None before old → Has (Some Journal) history new
 record_broke before history text verdict None new last grew has = subst (Has (Some Journal) history) (sym grew.1) tt
 record_broke before history text verdict (Some put) new last grew has = subst (Has (Some Journal) history) (sym grew.1) (inl (record {
   before = before;
@@ -28,7 +29,8 @@ record_broke before history text verdict (Some put) new last grew has = subst (H
 }))
 
 -- a commit did, of a history that is as it was
-commit_broke_at : (history : History) (number : ℕ) (old new : Option Put) → IsSome (record_at number (records_of history)) → GrewByPrefix (event_text (Committed number)) old new → Has None history old → Has (Some Journal) history new
+commit_broke_at : (history : History) (number : ℕ) (old new : Option Put) → IsSome (record_at number (records_of history))
+    → GrewByPrefix (event_text (Committed number)) old new → Has None history old → Has (Some Journal) history new
 commit_broke_at history number None new some grew has = subst (Has (Some Journal) history) (sym grew.1) tt
 commit_broke_at history number (Some put) new some grew has = subst (Has (Some Journal) history) (sym grew.1) (inr (record {
   number = number;
@@ -37,9 +39,11 @@ commit_broke_at history number (Some put) new some grew has = subst (Has (Some J
   written = ap (λ (bytes : List ℕ). bytes ++ take grew.0 (event_text (Committed number))) has;
 }))
 
-pub commit_broke : (before history : History) (number : ℕ) (r : Record) (old new : Option Put) → record_at number (records_of before) ≡ Some r → history ≡ before → GrewByPrefix (event_text (Committed number)) old new → Has None before old → Has (Some Journal) history new
+pub commit_broke : (before history : History) (number : ℕ) (r : Record) (old new : Option Put) → record_at number (records_of before) ≡ Some r
+    → history ≡ before → GrewByPrefix (event_text (Committed number)) old new → Has None before old → Has (Some Journal) history new
 commit_broke before history number r old new at same grew has =
-    subst (λ (h : History). Has (Some Journal) h new) (sym same) (commit_broke_at before number old new (subst (λ (o : Option Record). IsSome o) (sym at) refl) grew has)
+    subst (λ (h : History). Has (Some Journal) h new) (sym same)
+    (commit_broke_at before number old new (subst (λ (o : Option Record). IsSome o) (sym at) refl) grew has)
 
 -- while no fault is kept, all is written
 pub all_written : (fault : Option PoolFault) (history : History) (put : Option Put) → fault ≡ None → Has fault history put → Has None history put

@@ -11,7 +11,8 @@ use Rattle.ordered_commit.specs.declared.fault.PoolFault.{PoolFault}
 use Rattle.ordered_commit.specs.declared.fault.PoolFault.TheVariants.{Script, Journal, Memory}
 use Rattle.run_worker.specs.Sequential.{sequential_history}
 
--- The history is one that this reducer can have, and that can be read back; and each record's verdict is one that the gate may say of its text, which the reducer may ask.
+-- The history is one that this reducer can have, and that can be read back; and each record's
+-- verdict is one that the gate may say of its text, which the reducer may ask.
 pub record IsHistoryOf (may_say : List ℕ → Verdict → Type 0) (first : Plan) (history : History) : Type 0 where
   pub legal : IsLegal first history
   pub readable : IsHistory history

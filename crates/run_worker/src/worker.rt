@@ -54,7 +54,8 @@ pub fn run_alone<S: Step + Drop, G: Gate, J: Sink + Drop, W: Wait>(
     ensures caused { IsCaused result.fault (G.faults gate.old) (G.faults gate.new) (J.faults board.journal) (J.faults result.journal) }
     ensures journal { IfSome (J.put_so_far result.journal) (λ put. AreJournalBytes result.fault result.events.items put.bytes) }
     ensures kept { IfSome (J.put_so_far result.journal) (λ put. IsJournal result.fault result.events.items put.bytes) }
-    ensures due { result.fault ≡ Some Journal → IfSome (J.put_so_far result.journal) (λ put. BrokeWhereDue (S.first board.front) result.events.items put.bytes) }
+    ensures due { result.fault ≡ Some Journal
+        → IfSome (J.put_so_far result.journal) (λ put. BrokeWhereDue (S.first board.front) result.events.items put.bytes) }
     ensures name { HasSameName J.put_so_far board.journal result.journal }
 {
     let mut board = board;

@@ -1,3 +1,4 @@
 mod RecordLemmas
 mod TableLemmas
+mod TextIndexLemmas
 pub mod Lent

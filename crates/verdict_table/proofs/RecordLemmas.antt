@@ -19,7 +19,8 @@ pub extends_back : (V : List ℕ → Option Verdict) (rs ss : List Record) → E
 extends_back V [] ss h = h
 extends_back V (r ∷ rs) ss h = extends_back V rs ss h.1
 
-known_at : (V : List ℕ → Option Verdict) (r : Record) (rs : List Record) (t : List ℕ) (v : Verdict) (b : Bool) → b ≡ bytes_eq t r.text → V r.text ≡ Some r.verdict → (verdict_in rs t ≡ Some v → V t ≡ Some v) → cond b (Some r.verdict) (verdict_in rs t) ≡ Some v → V t ≡ Some v
+known_at : (V : List ℕ → Option Verdict) (r : Record) (rs : List Record) (t : List ℕ) (v : Verdict) (b : Bool) → b ≡ bytes_eq t r.text
+    → V r.text ≡ Some r.verdict → (verdict_in rs t ≡ Some v → V t ≡ Some v) → cond b (Some r.verdict) (verdict_in rs t) ≡ Some v → V t ≡ Some v
 known_at V r rs t v true e h later k =
     let same : r.text ≡ t = sym ((bytes_eq-Decides t r.text).0 (sym e)) in
     subst (λ (x : List ℕ). V x ≡ Some v) same (h ∙ k)
@@ -30,7 +31,8 @@ pub extends_known : (V : List ℕ → Option Verdict) (rs : List Record) (t : Li
 extends_known V [] t v h k = absurd (cc k)
 extends_known V (r ∷ rs) t v h k = known_at V r rs t v (bytes_eq t r.text) refl h.0 (λ q. extends_known V rs t v h.1 q) k
 
-differs : (x : List ℕ) (w : Verdict) (rs ss : List Record) → AllByRecursion (λ y. bytes_eq x y ≡ false) (texts_of ss) → Extends (verdict_in rs) ss → Extends (verdict_in (record { text = x; verdict = w } ∷ rs)) ss
+differs : (x : List ℕ) (w : Verdict) (rs ss : List Record) → AllByRecursion (λ y. bytes_eq x y ≡ false) (texts_of ss) → Extends (verdict_in rs) ss
+    → Extends (verdict_in (record { text = x; verdict = w } ∷ rs)) ss
 differs x w rs [] h e = tt
 differs x w rs (s ∷ ss) h e = (rw (nat_list_eq_equiv.symm s.text x, h.0) e.0, differs x w rs ss h.1 e.1)
 

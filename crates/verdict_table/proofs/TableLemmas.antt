@@ -1,5 +1,6 @@
 -- The table: what its loops find, and what keeps it sound.
-use Rattle.std.proofs.Common.{◌≡◌, ◌<◌, ◌+◌, ℕ, zero, suc, List, [], ◌∷◌, ◌++◌, Option, Some, None, All, arith, refl, sym, ◌∙◌, ap, get_or, length, drop, nat_eq, ◌==◌, eqb-true, Bool, true, false, cond, IsSome, unwrap_or, append_assoc, length-append, add-one, option_map}
+use Rattle.std.proofs.Common.{◌≡◌, ◌<◌, ◌+◌, ℕ, zero, suc, List, [], ◌∷◌, ◌++◌, Option, Some, None, All, arith, refl, sym, ◌∙◌, ap, get_or, length, drop}
+use Rattle.std.proofs.Common.{nat_eq, ◌==◌, eqb-true, Bool, true, false, cond, IsSome, unwrap_or, append_assoc, length-append, add-one, option_map}
 use Rattle.std.proofs.lemmas.List.Elements.{All-head, All-nil, All-push, All-tail, All-weaker}
 use Rattle.std.proofs.lemmas.List.Sorted.{All-permutation, IsPermutation-append_right, IsPermutation-map, IsPermutation-remove, length_permutation}
 use Rattle.std.proofs.lemmas.Bool.{ne_eqb}
@@ -13,26 +14,32 @@ use Rattle.std.specs.List.{AllByRecursion, IsDistinct, find, list_any, position,
 use Rattle.std.specs.List.Sorted.{IsPermutation}
 use Rattle.std.specs.Str.{bytes_eq}
 use Rattle.script_gate_trait.specs.declared.gate.Verdict.{Verdict}
-use Rattle.verdict_table.specs.TableState.{IsSound, TableState, all_numbers, all_texts, claim_count, claim_in, claimed_texts, found_in, numbers_of, other_claims, record_from, text_claimed, texts_of, verdict_found, verdict_in}
+use Rattle.verdict_table.specs.TableState.{IsSound, TableState, all_numbers, all_texts, claim_count, claim_in, claimed_texts, found_in, numbers_of}
+use Rattle.verdict_table.specs.TableState.{other_claims, record_from, text_claimed, texts_of, verdict_found, verdict_in}
 use Rattle.verdict_table.specs.declared.found.Found.{Found}
 use Rattle.verdict_table.specs.declared.found.Found.TheVariants.{Absent, Claimed, Filled}
 use Rattle.verdict_table.specs.declared.record.Record.{Record}
 use Rattle.verdict_table.specs.declared.table.Claim.{Claim}
 
 -- the record at an index hasn't the text, so it is one after it
-record_later : (n : ℕ) (text : List ℕ) (rs : List Record) (filled : List ℕ) (i : ℕ) (d : Record) → i < length rs → length filled ≡ length rs → bytes_eq text (get_or rs i d).text ≡ false → record_from n text (drop i rs) (drop i filled) ≡ record_from (n + 1) text (drop (suc i) rs) (drop (suc i) filled)
+record_later : (n : ℕ) (text : List ℕ) (rs : List Record) (filled : List ℕ) (i : ℕ) (d : Record) → i < length rs → length filled ≡ length rs
+    → bytes_eq text (get_or rs i d).text ≡ false
+    → record_from n text (drop i rs) (drop i filled) ≡ record_from (n + 1) text (drop (suc i) rs) (drop (suc i) filled)
 record_later n text [] filled i d within same other = absurd (omega (arith, within))
 record_later n text (r ∷ rs) [] i d within same other = absurd (omega (arith, same))
 record_later n text (r ∷ rs) (c ∷ cs) zero d within same other = rw other refl
 record_later n text (r ∷ rs) (c ∷ cs) (suc i) d within same other =
     record_later n text rs cs i d (omega (arith, within)) (omega (arith, same)) other
 
-pub record_after : (n : ℕ) (text : List ℕ) (rs : List Record) (filled : List ℕ) (i : ℕ) (d : Record) → i < length rs → length filled ≡ length rs → bytes_eq text (get_or rs i d).text ≡ false → record_from n text (drop i rs) (drop i filled) ≡ record_from (n + 1) text (drop (i + 1) rs) (drop (i + 1) filled)
+pub record_after : (n : ℕ) (text : List ℕ) (rs : List Record) (filled : List ℕ) (i : ℕ) (d : Record) → i < length rs → length filled ≡ length rs
+    → bytes_eq text (get_or rs i d).text ≡ false
+    → record_from n text (drop i rs) (drop i filled) ≡ record_from (n + 1) text (drop (i + 1) rs) (drop (i + 1) filled)
 record_after n text rs filled i d within same other =
     rw (add-one i) (record_later n text rs filled i d within same other)
 
 -- a number that is apart from those of some claims
-number_apart : (m n : ℕ) (cs : List Claim) (i : ℕ) (d : Claim) → i < length cs → (get_or cs i d).number ≡ n → AllByRecursion (λ y. nat_eq m y ≡ false) (numbers_of cs) → nat_eq m n ≡ false
+number_apart : (m n : ℕ) (cs : List Claim) (i : ℕ) (d : Claim) → i < length cs → (get_or cs i d).number ≡ n
+    → AllByRecursion (λ y. nat_eq m y ≡ false) (numbers_of cs) → nat_eq m n ≡ false
 number_apart m n [] i d within is apart = absurd (omega (arith, within))
 number_apart m n (c ∷ cs) zero d within is apart = rw (← is) apart.0
 number_apart m n (c ∷ cs) (suc i) d within is apart = number_apart m n cs i d (omega (arith, within)) is apart.1
@@ -47,23 +54,28 @@ same_number : (c : Claim) (n : ℕ) → c.number ≡ n → nat_eq c.number n ≡
 same_number c n is = rw is (nat_eq_equiv.refl n)
 
 -- without the claim at its index, those with other numbers remain
-others_left : (n : ℕ) (cs : List Claim) (i : ℕ) (d : Claim) → i < length cs → (get_or cs i d).number ≡ n → IsDistinct nat_eq (numbers_of cs) → remove cs i ≡ other_claims n cs
+others_left : (n : ℕ) (cs : List Claim) (i : ℕ) (d : Claim) → i < length cs → (get_or cs i d).number ≡ n → IsDistinct nat_eq (numbers_of cs)
+    → remove cs i ≡ other_claims n cs
 others_left n [] i d within is distinct = absurd (omega (arith, within))
 others_left n (c ∷ cs) zero d within is distinct =
     rw (same_number c n is) (sym (others_same n cs (rw (← is) (IsDistinct-head nat_eq c.number (numbers_of cs) distinct))))
 others_left n (c ∷ cs) (suc i) d within is distinct =
-    let other : nat_eq c.number n ≡ false = number_apart c.number n cs i d (omega (arith, within)) is (IsDistinct-head nat_eq c.number (numbers_of cs) distinct) in
+    let other : nat_eq c.number n ≡ false =
+    number_apart c.number n cs i d (omega (arith, within)) is (IsDistinct-head nat_eq c.number (numbers_of cs) distinct) in
     rw other (ap (λ ds. c ∷ ds) (others_left n cs i d (omega (arith, within)) is (IsDistinct-tail nat_eq c.number (numbers_of cs) distinct)))
 
 -- the claim at its index has the text that was claimed
-text_taken : (n : ℕ) (cs : List Claim) (i : ℕ) (d : Claim) → i < length cs → (get_or cs i d).number ≡ n → IsDistinct nat_eq (numbers_of cs) → text_claimed n cs ≡ Some (get_or cs i d).text
+text_taken : (n : ℕ) (cs : List Claim) (i : ℕ) (d : Claim) → i < length cs → (get_or cs i d).number ≡ n → IsDistinct nat_eq (numbers_of cs)
+    → text_claimed n cs ≡ Some (get_or cs i d).text
 text_taken n [] i d within is distinct = absurd (omega (arith, within))
 text_taken n (c ∷ cs) zero d within is distinct = rw (same_number c n is) refl
 text_taken n (c ∷ cs) (suc i) d within is distinct =
-    let other : nat_eq c.number n ≡ false = number_apart c.number n cs i d (omega (arith, within)) is (IsDistinct-head nat_eq c.number (numbers_of cs) distinct) in
+    let other : nat_eq c.number n ≡ false = number_apart c.number n cs i d (omega (arith, within)) is
+    (IsDistinct-head nat_eq c.number (numbers_of cs) distinct) in
     rw other (text_taken n cs i d (omega (arith, within)) is (IsDistinct-tail nat_eq c.number (numbers_of cs) distinct))
 
-none_at : (b : Bool) (c : Claim) (i : ℕ) (index : Option ℕ) (found : Option Claim) → cond b (Some i) index ≡ None → (index ≡ None → found ≡ None) → cond b (Some c) found ≡ None
+none_at : (b : Bool) (c : Claim) (i : ℕ) (index : Option ℕ) (found : Option Claim) → cond b (Some i) index ≡ None → (index ≡ None → found ≡ None)
+    → cond b (Some c) found ≡ None
 none_at true c i index found none later = absurd (cc none)
 none_at false c i index found none later = later none
 
@@ -78,37 +90,47 @@ not_open n cs none claimed =
     cc (rw nothing at claimed)
 
 -- the claim at the index where its number is: its text, and the claims that remain without it
-pub text_at_index : (n : ℕ) (cs : List Claim) (i : ℕ) (c : Claim) → Some i ≡ position (λ c. c.number == n) cs → IsDistinct nat_eq (numbers_of cs) → c ≡ get_or cs i c → text_claimed n cs ≡ Some c.text
+pub text_at_index : (n : ℕ) (cs : List Claim) (i : ℕ) (c : Claim) → Some i ≡ position (λ c. c.number == n) cs → IsDistinct nat_eq (numbers_of cs)
+    → c ≡ get_or cs i c → text_claimed n cs ≡ Some c.text
 text_at_index n cs i c index distinct is =
-    let found : (i < length cs) × (nat_eq (get_or cs i c).number n ≡ true) × ((k : ℕ) → k < i → nat_eq (get_or cs k c).number n ≡ false) = position-Some (λ c. c.number == n) cs i c (sym index) in
+    let found : (i < length cs) × (nat_eq (get_or cs i c).number n ≡ true) × ((k : ℕ) → k < i → nat_eq (get_or cs k c).number n ≡ false) =
+    position-Some (λ c. c.number == n) cs i c (sym index) in
     text_taken n cs i c found.0 (eqb-true _ _ found.1) distinct ∙ ap (λ (d : Claim). Some d.text) (sym is)
 
-pub others_at_index : (n : ℕ) (cs : List Claim) (i : ℕ) (c : Claim) → Some i ≡ position (λ c. c.number == n) cs → IsDistinct nat_eq (numbers_of cs) → remove cs i ≡ other_claims n cs
+pub others_at_index : (n : ℕ) (cs : List Claim) (i : ℕ) (c : Claim) → Some i ≡ position (λ c. c.number == n) cs → IsDistinct nat_eq (numbers_of cs)
+    → remove cs i ≡ other_claims n cs
 others_at_index n cs i c index distinct =
-    let found : (i < length cs) × (nat_eq (get_or cs i c).number n ≡ true) × ((k : ℕ) → k < i → nat_eq (get_or cs k c).number n ≡ false) = position-Some (λ c. c.number == n) cs i c (sym index) in
+    let found : (i < length cs) × (nat_eq (get_or cs i c).number n ≡ true)
+    × ((k : ℕ) → k < i → nat_eq (get_or cs k c).number n ≡ false) = position-Some (λ c. c.number == n) cs i c (sym index) in
     others_left n cs i c found.0 (eqb-true _ _ found.1) distinct
 
 pub number_at_index : (n : ℕ) (cs : List Claim) (i : ℕ) (c : Claim) → Some i ≡ position (λ c. c.number == n) cs → c ≡ get_or cs i c → c.number ≡ n
 number_at_index n cs i c index is =
-    let found : (i < length cs) × (nat_eq (get_or cs i c).number n ≡ true) × ((k : ℕ) → k < i → nat_eq (get_or cs k c).number n ≡ false) = position-Some (λ c. c.number == n) cs i c (sym index) in
+    let found : (i < length cs) × (nat_eq (get_or cs i c).number n ≡ true) × ((k : ℕ) → k < i → nat_eq (get_or cs k c).number n ≡ false) = position-Some
+    (λ c. c.number == n) cs i c (sym index) in
     ap (λ (d : Claim). d.number) is ∙ eqb-true _ _ found.1
 
-pub moved_from_index : (n : ℕ) (cs : List Claim) (i : ℕ) (c : Claim) → Some i ≡ position (λ c. c.number == n) cs → c ≡ get_or cs i c → IsPermutation cs (c ∷ remove cs i)
+pub moved_from_index : (n : ℕ) (cs : List Claim) (i : ℕ) (c : Claim) → Some i ≡ position (λ c. c.number == n) cs → c ≡ get_or cs i c
+    → IsPermutation cs (c ∷ remove cs i)
 moved_from_index n cs i c index is =
-    let found : (i < length cs) × (nat_eq (get_or cs i c).number n ≡ true) × ((k : ℕ) → k < i → nat_eq (get_or cs k c).number n ≡ false) = position-Some (λ c. c.number == n) cs i c (sym index) in
+    let found : (i < length cs) × (nat_eq (get_or cs i c).number n ≡ true) × ((k : ℕ) → k < i
+    → nat_eq (get_or cs k c).number n ≡ false) = position-Some (λ c. c.number == n) cs i c (sym index) in
     IsPermutation-remove cs i c found.0 is
 
 -- ---- the verdict that is found
 
-verdict_at : (b : Bool) (claim n : ℕ) (v : Verdict) (rest : Option Found) (other : Found) (later : Option Verdict) → verdict_found (unwrap_or rest other) ≡ later → verdict_found (unwrap_or (cond b (Some (Filled claim n v)) rest) other) ≡ cond b (Some v) later
+verdict_at : (b : Bool) (claim n : ℕ) (v : Verdict) (rest : Option Found) (other : Found) (later : Option Verdict)
+    → verdict_found (unwrap_or rest other) ≡ later → verdict_found (unwrap_or (cond b (Some (Filled claim n v)) rest) other) ≡ cond b (Some v) later
 verdict_at true claim n v rest other later is = refl
 verdict_at false claim n v rest other later is = is
 
-recorded : (n : ℕ) (text : List ℕ) (rs : List Record) (filled : List ℕ) (other : Found) → length filled ≡ length rs → verdict_found other ≡ None → verdict_found (unwrap_or (record_from n text rs filled) other) ≡ verdict_in rs text
+recorded : (n : ℕ) (text : List ℕ) (rs : List Record) (filled : List ℕ) (other : Found) → length filled ≡ length rs → verdict_found other ≡ None
+    → verdict_found (unwrap_or (record_from n text rs filled) other) ≡ verdict_in rs text
 recorded n text [] filled other same none = none
 recorded n text (r ∷ rs) [] other same none = absurd (omega (arith, same))
 recorded n text (r ∷ rs) (c ∷ cs) other same none =
-    verdict_at (bytes_eq text r.text) c n r.verdict (record_from (n + 1) text rs cs) other (verdict_in rs text) (recorded (n + 1) text rs cs other (omega (arith, same)) none)
+    verdict_at (bytes_eq text r.text) c n r.verdict (record_from (n + 1) text rs cs) other (verdict_in rs text)
+    (recorded (n + 1) text rs cs other (omega (arith, same)) none)
 
 claim_without : (found : Option Claim) → verdict_found (unwrap_or (option_map (λ c. Claimed c.number) found) Absent) ≡ None
 claim_without None = refl
@@ -117,18 +139,21 @@ claim_without (Some c) = refl
 -- what is found for a text has the verdict of the text's record
 pub verdict_found_in : (table : TableState) (text : List ℕ) → IsSound table → verdict_found (found_in table text) ≡ verdict_in table.records text
 verdict_found_in table text sound =
-    recorded 1 text table.records table.filled (unwrap_or (claim_in text table.claims) Absent) sound.filled (claim_without (find (λ c. bytes_eq text c.text) table.claims))
+    recorded 1 text table.records table.filled (unwrap_or (claim_in text table.claims) Absent) sound.filled
+    (claim_without (find (λ c. bytes_eq text c.text) table.claims))
 
 -- ---- a table whose claims are all filled
 
-not_claimed_at : (b : Bool) (c n : ℕ) (v : Verdict) (rest : Option Found) (claim : ℕ) → unwrap_or (cond b (Some (Filled c n v)) rest) Absent ≡ Claimed claim → (unwrap_or rest Absent ≡ Claimed claim → ⊥) → ⊥
+not_claimed_at : (b : Bool) (c n : ℕ) (v : Verdict) (rest : Option Found) (claim : ℕ) → unwrap_or (cond b (Some (Filled c n v)) rest) Absent ≡ Claimed claim
+    → (unwrap_or rest Absent ≡ Claimed claim → ⊥) → ⊥
 not_claimed_at true c n v rest claim is later = absurd (cc is)
 not_claimed_at false c n v rest claim is later = later is
 
 filled_from : (n : ℕ) (text : List ℕ) (rs : List Record) (filled : List ℕ) (claim : ℕ) → unwrap_or (record_from n text rs filled) Absent ≡ Claimed claim → ⊥
 filled_from n text [] filled claim is = absurd (cc is)
 filled_from n text (r ∷ rs) [] claim is = absurd (cc is)
-filled_from n text (r ∷ rs) (c ∷ cs) claim is = not_claimed_at (bytes_eq text r.text) c n r.verdict (record_from (n + 1) text rs cs) claim is (filled_from (n + 1) text rs cs claim)
+filled_from n text (r ∷ rs) (c ∷ cs) claim is =
+    not_claimed_at (bytes_eq text r.text) c n r.verdict (record_from (n + 1) text rs cs) claim is (filled_from (n + 1) text rs cs claim)
 
 -- it has no open claim, so none is found
 pub none_claimed : (table : TableState) (text : List ℕ) (claim : ℕ) → table.claims ≡ [] → found_in table text ≡ Claimed claim → ⊥
@@ -161,31 +186,37 @@ sound_empty = record { once = tt; numbered = tt; below = All-nil _; filled = ref
 
 -- ---- a text that the table doesn't hold
 
-absent_at : (b : Bool) (claim n : ℕ) (v : Verdict) (rest : Option Found) (other : Found) → unwrap_or (cond b (Some (Filled claim n v)) rest) other ≡ Absent → (b ≡ false) × (unwrap_or rest other ≡ Absent)
+absent_at : (b : Bool) (claim n : ℕ) (v : Verdict) (rest : Option Found) (other : Found) → unwrap_or (cond b (Some (Filled claim n v)) rest) other ≡ Absent
+    → (b ≡ false) × (unwrap_or rest other ≡ Absent)
 absent_at true claim n v rest other absent = absurd (cc absent)
 absent_at false claim n v rest other absent = (refl, absent)
 
-not_recorded : (n : ℕ) (text : List ℕ) (rs : List Record) (filled : List ℕ) (other : Found) → length filled ≡ length rs → unwrap_or (record_from n text rs filled) other ≡ Absent → (list_any (bytes_eq text) (texts_of rs) ≡ false) × (other ≡ Absent)
+not_recorded : (n : ℕ) (text : List ℕ) (rs : List Record) (filled : List ℕ) (other : Found) → length filled ≡ length rs
+    → unwrap_or (record_from n text rs filled) other ≡ Absent → (list_any (bytes_eq text) (texts_of rs) ≡ false) × (other ≡ Absent)
 not_recorded n text [] filled other same absent = (refl, absent)
 not_recorded n text (r ∷ rs) [] other same absent = absurd (omega (arith, same))
 not_recorded n text (r ∷ rs) (c ∷ cs) other same absent =
-    let current : (bytes_eq text r.text ≡ false) × (unwrap_or (record_from (n + 1) text rs cs) other ≡ Absent) = absent_at (bytes_eq text r.text) c n r.verdict (record_from (n + 1) text rs cs) other absent in
+    let current : (bytes_eq text r.text ≡ false) × (unwrap_or (record_from (n + 1) text rs cs) other ≡ Absent) =
+    absent_at (bytes_eq text r.text) c n r.verdict (record_from (n + 1) text rs cs) other absent in
     let later : (list_any (bytes_eq text) (texts_of rs) ≡ false) × (other ≡ Absent) = not_recorded (n + 1) text rs cs other (omega (arith, same)) current.1 in
     (rw current.0 later.0, later.1)
 
-unclaimed_at : (b : Bool) (c : Claim) (found : Option Claim) → unwrap_or (option_map (λ d. Claimed d.number) (cond b (Some c) found)) Absent ≡ Absent → (b ≡ false) × (unwrap_or (option_map (λ d. Claimed d.number) found) Absent ≡ Absent)
+unclaimed_at : (b : Bool) (c : Claim) (found : Option Claim) → unwrap_or (option_map (λ d. Claimed d.number) (cond b (Some c) found)) Absent ≡ Absent
+    → (b ≡ false) × (unwrap_or (option_map (λ d. Claimed d.number) found) Absent ≡ Absent)
 unclaimed_at true c found absent = absurd (cc absent)
 unclaimed_at false c found absent = (refl, absent)
 
 not_claimed : (text : List ℕ) (cs : List Claim) → unwrap_or (claim_in text cs) Absent ≡ Absent → list_any (bytes_eq text) (claimed_texts cs) ≡ false
 not_claimed text [] absent = refl
 not_claimed text (c ∷ cs) absent =
-    let current : (bytes_eq text c.text ≡ false) × (unwrap_or (claim_in text cs) Absent ≡ Absent) = unclaimed_at (bytes_eq text c.text) c (find (λ d. bytes_eq text d.text) cs) absent in
+    let current : (bytes_eq text c.text ≡ false) × (unwrap_or (claim_in text cs) Absent ≡ Absent) =
+    unclaimed_at (bytes_eq text c.text) c (find (λ d. bytes_eq text d.text) cs) absent in
     rw current.0 (not_claimed text cs current.1)
 
 pub absent_everywhere : (table : TableState) (text : List ℕ) → IsSound table → found_in table text ≡ Absent → list_any (bytes_eq text) (all_texts table) ≡ false
 absent_everywhere table text sound absent =
-    let none : (list_any (bytes_eq text) (texts_of table.records) ≡ false) × (unwrap_or (claim_in text table.claims) Absent ≡ Absent) = not_recorded 1 text table.records table.filled (unwrap_or (claim_in text table.claims) Absent) sound.filled absent in
+    let none : (list_any (bytes_eq text) (texts_of table.records) ≡ false) × (unwrap_or (claim_in text table.claims) Absent ≡ Absent) =
+    not_recorded 1 text table.records table.filled (unwrap_or (claim_in text table.claims) Absent) sound.filled absent in
     rw (list_any-append (bytes_eq text) (texts_of table.records) (claimed_texts table.claims), none.0) (not_claimed text table.claims none.1)
 
 -- ---- one claim more
@@ -196,7 +227,8 @@ number_above n (m ∷ numbers) below =
     let less : m < n = All-head (λ k. k < n) m numbers below in
     rw (ne_eqb n m (λ same. omega (arith, less, same))) (number_above n numbers (All-tail (λ k. k < n) m numbers below))
 
-pub sound_claimed : (table : TableState) (text : List ℕ) → IsSound table → found_in table text ≡ Absent → IsSound (record { claims = table.claims ++ record { number = claim_count table; text = text } ∷ []; records = table.records; filled = table.filled })
+pub sound_claimed : (table : TableState) (text : List ℕ) → IsSound table → found_in table text ≡ Absent
+    → IsSound (record { claims = table.claims ++ record { number = claim_count table; text = text } ∷ []; records = table.records; filled = table.filled })
 sound_claimed table text sound absent =
     let c : Claim = record { number = claim_count table; text = text } in
     let texts : texts_of table.records ++ claimed_texts (table.claims ++ c ∷ []) ≡ all_texts table ++ text ∷ [] =
@@ -206,9 +238,12 @@ sound_claimed table text sound absent =
     let count : length (table.claims ++ c ∷ []) + length table.records ≡ claim_count table + 1 = simp length-append (omega arith) in
     record {
       once = rw texts (IsDistinct-push nat_list_eq_equiv (all_texts table) text sound.once (absent_everywhere table text sound absent));
-      numbered = rw numbers (IsDistinct-push nat_eq_equiv (all_numbers table) (claim_count table) sound.numbered (number_above (claim_count table) (all_numbers table) sound.below));
+      numbered =
+          rw numbers (IsDistinct-push nat_eq_equiv (all_numbers table) (claim_count table) sound.numbered
+          (number_above (claim_count table) (all_numbers table) sound.below));
       below = rw (numbers, count) (All-push (λ n. n < claim_count table + 1) (all_numbers table) (claim_count table)
-          (All-weaker (λ n. n < claim_count table) (λ n. n < claim_count table + 1) (λ n less. omega (arith, less)) (all_numbers table) sound.below) (omega arith));
+          (All-weaker (λ n. n < claim_count table) (λ n. n < claim_count table + 1) (λ n less. omega (arith, less)) (all_numbers table) sound.below)
+          (omega arith));
       filled = sound.filled;
     }
 
@@ -216,34 +251,50 @@ all_back : (n : ℕ) (xs ys : List ℕ) → All (λ m. m < n) (xs ++ ys) → All
 all_back n [] ys below = below
 all_back n (x ∷ xs) ys below = all_back n xs ys (All-tail (λ m. m < n) x (xs ++ ys) below)
 
-last_opened : (n : ℕ) (text : List ℕ) (cs : List Claim) → All (λ m. m < n) (numbers_of cs) → text_claimed n (cs ++ record { number = n; text = text } ∷ []) ≡ Some text
+last_opened : (n : ℕ) (text : List ℕ) (cs : List Claim) → All (λ m. m < n) (numbers_of cs)
+    → text_claimed n (cs ++ record { number = n; text = text } ∷ []) ≡ Some text
 last_opened n text [] below = rw (nat_eq_equiv.refl n) refl
 last_opened n text (c ∷ cs) below =
     let less : c.number < n = All-head (λ m. m < n) c.number (numbers_of cs) below in
     rw (ne_eqb c.number n (λ same. omega (arith, less, same))) (last_opened n text cs (All-tail (λ m. m < n) c.number (numbers_of cs) below))
 
 -- the new claim is open
-pub claim_opened : (table : TableState) (text : List ℕ) → IsSound table → text_claimed (claim_count table) (table.claims ++ record { number = claim_count table; text = text } ∷ []) ≡ Some text
+pub claim_opened : (table : TableState) (text : List ℕ) → IsSound table
+    → text_claimed (claim_count table) (table.claims ++ record { number = claim_count table; text = text } ∷ []) ≡ Some text
 claim_opened table text sound =
     last_opened (claim_count table) text table.claims (all_back (claim_count table) table.filled (numbers_of table.claims) sound.below)
 
 -- ---- a claim filled
 
-pub sound_filled : (table : TableState) (c : Claim) (claims : List Claim) (verdict : Verdict) → IsSound table → IsPermutation table.claims (c ∷ claims) → IsSound (record { claims = claims; records = table.records ++ record { text = c.text; verdict = verdict } ∷ []; filled = table.filled ++ c.number ∷ [] })
+pub texts_pushed : (rs : List Record) (text : List ℕ) (verdict : Verdict)
+    → texts_of (rs ++ record { text = text; verdict = verdict } ∷ []) ≡ texts_of rs ++ text ∷ []
+texts_pushed rs text verdict = map-append (λ (r : Record). r.text) rs (record { text = text; verdict = verdict } ∷ [])
+
+pub sound_filled : (table : TableState) (c : Claim) (claims : List Claim) (verdict : Verdict) → IsSound table → IsPermutation table.claims (c ∷ claims)
+    → IsSound (record { claims = claims; records = table.records ++ record { text = c.text; verdict = verdict } ∷ []; filled = table.filled ++ c.number ∷ [] })
 sound_filled table c claims verdict sound moved =
     let r : Record = record { text = c.text; verdict = verdict } in
     let texts : IsPermutation (all_texts table) (texts_of table.records ++ claimed_texts (c ∷ claims)) =
-    IsPermutation-append_right (texts_of table.records) (claimed_texts table.claims) (claimed_texts (c ∷ claims)) (IsPermutation-map (λ (d : Claim). d.text) table.claims (c ∷ claims) moved) in
+    IsPermutation-append_right (texts_of table.records) (claimed_texts table.claims) (claimed_texts (c ∷ claims))
+    (IsPermutation-map (λ (d : Claim). d.text) table.claims (c ∷ claims) moved) in
     let numbers : IsPermutation (all_numbers table) (table.filled ++ numbers_of (c ∷ claims)) =
-    IsPermutation-append_right table.filled (numbers_of table.claims) (numbers_of (c ∷ claims)) (IsPermutation-map (λ (d : Claim). d.number) table.claims (c ∷ claims) moved) in
+    IsPermutation-append_right table.filled (numbers_of table.claims) (numbers_of (c ∷ claims))
+    (IsPermutation-map (λ (d : Claim). d.number) table.claims (c ∷ claims) moved) in
     let texts_now : texts_of (table.records ++ r ∷ []) ++ claimed_texts claims ≡ texts_of table.records ++ claimed_texts (c ∷ claims) =
     rw (map-append (λ (q : Record). q.text) table.records (r ∷ [])) (append_assoc (texts_of table.records) (c.text ∷ []) (claimed_texts claims)) in
-    let numbers_now : (table.filled ++ c.number ∷ []) ++ numbers_of claims ≡ table.filled ++ numbers_of (c ∷ claims) = append_assoc table.filled (c.number ∷ []) (numbers_of claims) in
+    let numbers_now : (table.filled ++ c.number ∷ []) ++ numbers_of claims ≡ table.filled ++ numbers_of (c ∷ claims) =
+    append_assoc table.filled (c.number ∷ []) (numbers_of claims) in
     let fewer : length (c ∷ claims) ≡ length table.claims = length_permutation table.claims (c ∷ claims) moved in
     let count : length claims + length (table.records ++ r ∷ []) ≡ claim_count table = simp length-append (omega (arith, fewer)) in
     record {
-      once = rw texts_now (IsDistinct-IsPermutation bytes_eq nat_list_eq_equiv.symm (all_texts table) (texts_of table.records ++ claimed_texts (c ∷ claims)) texts sound.once);
-      numbered = rw numbers_now (IsDistinct-IsPermutation nat_eq nat_eq_equiv.symm (all_numbers table) (table.filled ++ numbers_of (c ∷ claims)) numbers sound.numbered);
-      below = rw (numbers_now, count) (All-permutation (λ n. n < claim_count table) (all_numbers table) (table.filled ++ numbers_of (c ∷ claims)) numbers sound.below);
+      once =
+          rw texts_now (IsDistinct-IsPermutation bytes_eq nat_list_eq_equiv.symm (all_texts table)
+          (texts_of table.records ++ claimed_texts (c ∷ claims)) texts sound.once);
+      numbered =
+          rw numbers_now (IsDistinct-IsPermutation nat_eq nat_eq_equiv.symm (all_numbers table)
+          (table.filled ++ numbers_of (c ∷ claims)) numbers sound.numbered);
+      below =
+          rw (numbers_now, count) (All-permutation (λ n. n < claim_count table) (all_numbers table)
+          (table.filled ++ numbers_of (c ∷ claims)) numbers sound.below);
       filled = simp length-append (omega (arith, sound.filled));
     }

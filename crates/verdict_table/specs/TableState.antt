@@ -1,5 +1,6 @@
 -- The table of verdicts.
-use Rattle.std.specs.Prelude.{◌≡◌, ◌<◌, ℕ, ◌+◌, ◌==◌, List, [], ◌∷◌, ◌++◌, All, length, map, find, filter, not, Option, Some, None, option_map, unwrap_or, nat_eq, if◌then◌else◌}
+use Rattle.std.specs.Prelude.{◌≡◌, ◌<◌, ℕ, ◌+◌, ◌==◌, List, [], ◌∷◌, ◌++◌, All, length, map, find, filter, not}
+use Rattle.std.specs.Prelude.{Option, Some, None, option_map, unwrap_or, nat_eq, if◌then◌else◌}
 use Rattle.std.specs.List.{IsDistinct}
 use Rattle.std.specs.Str.{bytes_eq}
 use Rattle.script_gate_trait.specs.declared.gate.Verdict.{Verdict}

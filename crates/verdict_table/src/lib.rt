@@ -14,6 +14,7 @@
 mod found;
 mod record;
 mod table;
+mod text_index;
 
 pub use faults::Memory;
 pub use found::Found;

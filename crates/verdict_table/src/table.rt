@@ -2,10 +2,13 @@ ghost use Rattle.std.specs.Prelude.{◌≡◌, ◌+◌, [], ◌∷◌, ◌++◌,
 ghost use Rattle.std.specs.List.{IsDistinct};
 ghost use Rattle.std.specs.List.Sorted.{IsPermutation};
 ghost use Rattle.std.specs.Str.{bytes_eq};
-ghost use Rattle.verdict_table.specs.TableState.{HasOnce, all_numbers, claim_count, claim_in, found_in, numbers_of, other_claims, record_from, text_claimed, texts_of, verdict_found, verdict_in};
+ghost use Rattle.verdict_table.specs.TableState.{HasOnce, all_numbers, claim_count, claim_in, found_in, numbers_of, other_claims};
+ghost use Rattle.verdict_table.specs.inner.TextIndex.{IsIndexOf};
+ghost use Rattle.verdict_table.specs.TableState.{record_from, text_claimed, texts_of, verdict_found, verdict_in};
 
 use crate::found::Found;
 use crate::record::{Record, Records};
+use crate::text_index::TextIndex;
 use faults::Memory;
 use script_gate_trait::{Bytes, Verdict};
 use std::alloc::Global;
@@ -22,17 +25,24 @@ pub struct Claim {
 
 /// A finite map from texts to verdicts: the records in their order, and the open claims.
 /// Each text is in it at most once.
+///
+/// A text is looked for by a hash of its bytes: it is compared with the records whose texts have the
+/// same hash, and with each open claim. The hash has a fixed seed, so that an input can be made whose
+/// texts collide; a look-up then compares with all of these. No clause states this cost.
 #[derive(Drop)]
 pub struct Table {
     alloc: Global,
     claims: Vec<Claim>,
     records: Vec<Record>,
     filled: Vec<u64>,
+    index: TextIndex,
 }
 
 impl Model for Table {
     ghost use Rattle.std.specs.Prelude.{◌+◌, ◌≤◌, length, vec_capacity};
-    ghost use Rattle.verdict_table.specs.TableState.{IsSound, TableState};
+    ghost use Rattle.std.specs.HashMap.{spare};
+    ghost use Rattle.verdict_table.specs.TableState.{IsSound, TableState, texts_of};
+    ghost use Rattle.verdict_table.specs.inner.TextIndex.{IsIndexOf};
 
     ghost Value = { TableState };
 
@@ -50,21 +60,31 @@ impl Model for Table {
       });
       record_capacity : length table.claims.items + length table.records.items ≤ vec_capacity table.records;
       filled_capacity : length table.claims.items + length table.records.items ≤ vec_capacity table.filled;
+      indexed : IsIndexOf (texts_of table.records.items) table.index.newest table.index.older.items;
+      newest_room : length table.claims.items ≤ spare table.index.newest;
+      older_capacity : length table.claims.items + length table.records.items ≤ vec_capacity table.index.older;
     } };
 }
 
-fn record_of(records: &[Record], filled: &[u64], text: &[u8]) -> Option<Found>
-    requires { length filled.now ≡ length records.now }
+// The record with this text. Texts of equal numbers are told apart by their bytes.
+#[tactic(auto, using(crate::proofs::TextIndexLemmas::left_within))]
+fn record_of(records: &[Record], filled: &[u64], index: &TextIndex, text: &[u8]) -> Option<Found>
+    requires filled { length filled.now ≡ length records.now }
+    requires indexed { IsIndexOf (texts_of records.now) index.now.newest index.now.older.items }
+    requires once { IsDistinct bytes_eq (texts_of records.now) }
     ensures { result ≡ record_from 1 text.now records.now filled.now }
 {
-    for (index, record) in records.iter().enumerate() {
+    let mut next = index.newest(text);
+    while let Some(at) = next {
+        let record = &records[at];
         if text == record.text.as_slice() {
             return Some(Found::Filled {
-                claim: filled[index],
-                number: index as u64 + 1,
+                claim: filled[at],
+                number: at as u64 + 1,
                 verdict: record.verdict,
             });
         }
+        next = index.older(at);
     }
     None
 }
@@ -113,6 +133,7 @@ impl Table {
             claims: Vec::new(alloc),
             records: Vec::new(alloc),
             filled: Vec::new(alloc),
+            index: TextIndex::new(alloc),
         }
     }
 
@@ -122,7 +143,7 @@ impl Table {
         ensures verdict { verdict_found result ≡ verdict_in self.now.records text.now }
         ensures once { HasOnce self.now }
     {
-        match record_of(&self.records, &self.filled, text) {
+        match record_of(&self.records, &self.filled, &self.index, text) {
             Some(found) => found,
             None => claim_of(&self.claims, text).unwrap_or(Found::Absent),
         }
@@ -143,6 +164,7 @@ impl Table {
         let open = self.claims.len();
         self.records.reserve(open + 1)?;
         self.filled.reserve(open + 1)?;
+        self.index.reserve(open + 1)?;
         let number = (open + self.records.len()) as u64;
         self.claims.push(Claim { number, text })?;
         Ok(number)
@@ -159,6 +181,7 @@ impl Table {
         ensures number { result ≡ length self.new.records }
     {
         let Claim { number, text } = take_claim(&mut self.claims, claim);
+        self.index.push(text.as_slice());
         self.records.push(Record { text, verdict }).unwrap();
         self.filled.push(number).unwrap();
         self.records.len() as u64

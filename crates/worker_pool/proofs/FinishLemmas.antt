@@ -1,5 +1,6 @@
 -- Where no worker holds a claim.
-use Rattle.std.proofs.Common.{◌≡◌, ℕ, List, [], ◌∷◌, All, Bool, true, false, cond, Option, Some, None, IsSome, find, map, option_map, nat_eq, refl, sym, ap, ◌∙◌, subst}
+use Rattle.std.proofs.Common.{◌≡◌, ℕ, List, [], ◌∷◌, All, Bool, true, false, cond, Option, Some, None, IsSome}
+use Rattle.std.proofs.Common.{find, map, option_map, nat_eq, refl, sym, ap, ◌∙◌, subst}
 use Rattle.std.proofs.lemmas.Cmp.{nat_eq_equiv}
 use Rattle.std.proofs.lemmas.List.Elements.{All-head, All-tail}
 use Rattle.std.specs.List.{cons_option}
@@ -29,7 +30,8 @@ no_holder n (s ∷ seats) free =
 none_held : (seats : List Seat) (claims : List Claim) → claims_held seats ≡ [] → held_claims seats claims ≡ []
 none_held seats [] free = refl
 none_held seats (c ∷ claims) free =
-    let nobody : held_claim seats c ≡ None = ap (λ (o : Option Seat). option_map (claim_by c.text) (option_map (λ (s : Seat). s.worker) o)) (no_holder c.number seats free) in
+    let nobody : held_claim seats c ≡ None =
+    ap (λ (o : Option Seat). option_map (claim_by c.text) (option_map (λ (s : Seat). s.worker) o)) (no_holder c.number seats free) in
     ap (λ (o : Option OpenClaim). cons_option o (held_claims seats claims)) nobody ∙ none_held seats claims free
 
 -- so nobody waits for another
@@ -50,15 +52,18 @@ freed_at s seat seat' false is free done same = either_free (nat_eq s.worker sea
     either_free true = done
     either_free false = free
 
-pub freed : (seats : List Seat) (seat seat' : Seat) → claims_held seats ≡ [] → seat'.claim ≡ None → seat'.worker ≡ seat.worker → claims_held (with_seat seat' (with_seat seat seats)) ≡ []
+pub freed : (seats : List Seat) (seat seat' : Seat) → claims_held seats ≡ [] → seat'.claim ≡ None → seat'.worker ≡ seat.worker
+    → claims_held (with_seat seat' (with_seat seat seats)) ≡ []
 freed [] seat seat' free done same = refl
 freed (s ∷ seats) seat seat' free done same =
     let both = head_free s.claim (claims_held seats) free in
-    ap (λ (o : Option ℕ). cons_option o (claims_held (with_seat seat' (with_seat seat seats)))) (freed_at s seat seat' (nat_eq s.worker seat.worker) refl both.0 done same)
+    ap (λ (o : Option ℕ). cons_option o (claims_held (with_seat seat' (with_seat seat seats))))
+    (freed_at s seat seat' (nat_eq s.worker seat.worker) refl both.0 done same)
     ∙ freed seats seat seat' both.1 done same
 
 -- what is the same for others, and then the same again
-pub others_twice : (worker worker' : ℕ) (one two three : List Seat) → worker' ≡ worker → SameForOthers worker one two → SameForOthers worker' two three → SameForOthers worker one three
+pub others_twice : (worker worker' : ℕ) (one two three : List Seat) → worker' ≡ worker → SameForOthers worker one two → SameForOthers worker' two three
+    → SameForOthers worker one three
 others_twice worker worker' one two three same first second other apart = second other (λ is. apart (is ∙ same)) ∙ first other apart
 
 -- ---- the seats that the workers bring back
@@ -66,7 +71,8 @@ others_twice worker worker' one two three same first second other apart = second
 some_of : (a b : Seat) → Some a ≡ Some b → a ≡ b
 some_of a b is = cc is
 
-pub same_seats : (all xs ys : List Seat) → map (λ (s : Seat). s.worker) xs ≡ map (λ (s : Seat). s.worker) ys → All (Agrees all) xs → All (Agrees all) ys → xs ≡ ys
+pub same_seats : (all xs ys : List Seat) → map (λ (s : Seat). s.worker) xs ≡ map (λ (s : Seat). s.worker) ys → All (Agrees all) xs → All (Agrees all) ys
+    → xs ≡ ys
 same_seats all [] [] numbers one two = refl
 same_seats all [] (y ∷ ys) numbers one two = absurd (cc numbers)
 same_seats all (x ∷ xs) [] numbers one two = absurd (cc numbers)
@@ -80,4 +86,5 @@ same_seats all (x ∷ xs) (y ∷ ys) numbers one two =
 pub all_free : (seats : List Seat) → All (λ (s : Seat). s.claim ≡ None) seats → claims_held seats ≡ []
 all_free [] free = refl
 all_free (s ∷ seats) free =
-    ap (λ (o : Option ℕ). cons_option o (claims_held seats)) (All-head (λ (t : Seat). t.claim ≡ None) s seats free) ∙ all_free seats (All-tail (λ (t : Seat). t.claim ≡ None) s seats free)
+    ap (λ (o : Option ℕ). cons_option o (claims_held seats)) (All-head (λ (t : Seat). t.claim ≡ None) s seats free)
+    ∙ all_free seats (All-tail (λ (t : Seat). t.claim ≡ None) s seats free)

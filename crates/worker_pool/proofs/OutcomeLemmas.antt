@@ -1,5 +1,6 @@
 -- What a run comes to, by what its board keeps, or by what its only worker does.
-use Rattle.std.proofs.Common.{arith, ◌≡◌, ◌≢◌, ◌*◌, ℕ, List, [], ◌∷◌, Contains, Option, Some, None, IfSome, length, slice_index_or, slice_set, refl, sym, ap, ◌∙◌, subst}
+use Rattle.std.proofs.Common.{arith, ◌≡◌, ◌≢◌, ◌*◌, ℕ, List, [], ◌∷◌, Contains, Option, Some, None, IfSome}
+use Rattle.std.proofs.Common.{length, slice_index_or, slice_set, refl, sym, ap, ◌∙◌, subst}
 use Rattle.std.proofs.lemmas.List.Elements.{All-nil}
 use Rattle.faults.specs.Count.{Rose}
 use Rattle.edge_io.specs.Sink.{Put}
@@ -28,7 +29,8 @@ use Rattle.worker_pool.proofs.DoneLemmas.{gone_on}
 
 -- ---- a new board
 
-module _ {S J : Type 0} (plan first : S → Plan) (may_say : List ℕ → Verdict → Type 0) (put : J → Option Put) (faults : J → ℕ) (n : ℕ) (state : BoardState S J) (front : S) (journal : J)
+module _ {S J : Type 0} (plan first : S → Plan) (may_say : List ℕ → Verdict → Type 0) (put : J → Option Put) (faults : J → ℕ) (n : ℕ) (state : BoardState S J)
+    (front : S) (journal : J)
     (kept : IsKept plan first may_say put faults state) (is : state ≡ new_board n front journal) where
   unstopped : state.fault ≡ None
   unstopped = ap (λ (s : BoardState S J). s.fault) is
@@ -57,10 +59,12 @@ pub begins_none : (texts : List (List ℕ)) (history : History) → history ≡ 
 begins_none texts history none = subst (λ (h : History). BeginsWithin texts (records_of h) []) (sym none) (All-nil (λ (c : Claim). Contains texts c.text))
 
 -- so they begin with what was ahead
-pub begins_of : {S J : Type 0} (plan first : S → Plan) (may_say : List ℕ → Verdict → Type 0) (put : J → Option Put) (faults : J → ℕ) (state : BoardState S J) (n : ℕ) (start : Plan) → IsKept plan first may_say put faults state → length state.seats ≡ n → first state.front ≡ start
+pub begins_of : {S J : Type 0} (plan first : S → Plan) (may_say : List ℕ → Verdict → Type 0) (put : J → Option Put) (faults : J → ℕ) (state : BoardState S J)
+    (n : ℕ) (start : Plan) → IsKept plan first may_say put faults state → length state.seats ≡ n → first state.front ≡ start
     → BeginsWithin (ahead (2 * n) start) (records_of state.history) []
 begins_of plan first may_say put faults state n start kept as_many same =
-    let texts : ahead (2 * length state.seats) (first state.front) ≡ ahead (2 * n) start = ap (λ (k : ℕ). ahead (2 * k) (first state.front)) as_many ∙ ap (ahead (2 * n)) same in
+    let texts : ahead (2 * length state.seats) (first state.front) ≡ ahead (2 * n) start =
+    ap (λ (k : ℕ). ahead (2 * k) (first state.front)) as_many ∙ ap (ahead (2 * n)) same in
     subst (λ (ts : List (List ℕ)). BeginsWithin ts (records_of state.history) []) texts
     (subst (λ (rs : List Record). BeginsWithin (ahead (2 * length state.seats) (first state.front)) rs []) kept.recorded.recorded
     (begins_kept (ahead (2 * length state.seats) (first state.front)) state.table.records state.table.claims kept.begins))
@@ -73,7 +77,8 @@ begins_ahead (Ask text a b) (r ∷ rs) begun = let same : text ≡ r.text = cc b
 
 -- ---- by the fault
 
-pub ended_by : (fault : Option PoolFault) (first plan : Plan) (rs : List Record) → ReducerEnds fault first plan rs → fault ≡ None → HasEnded plan × (plan ≡ follow (verdict_in rs) first)
+pub ended_by : (fault : Option PoolFault) (first plan : Plan) (rs : List Record) → ReducerEnds fault first plan rs → fault ≡ None → HasEnded plan
+    × (plan ≡ follow (verdict_in rs) first)
 ended_by fault first plan rs ends is = subst (λ (f : Option PoolFault). ReducerEnds f first plan rs) is ends
 
 module _ (fault : Option PoolFault) (gate gate' journal journal' : ℕ) where
@@ -92,7 +97,8 @@ module _ (fault : Option PoolFault) (gate gate' journal journal' : ℕ) where
   pub rose_by : Caused fault → fault ≡ Some Journal → Rose journal journal'
   rose_by caused is = (subst Caused is caused).1
 
-pub quiet_by : (fault : Option PoolFault) (gate gate' journal journal' : ℕ) → IsCaused fault gate gate' journal journal' → fault ≢ Some Journal → journal' ≡ journal
+pub quiet_by : (fault : Option PoolFault) (gate gate' journal journal' : ℕ) → IsCaused fault gate gate' journal journal' → fault ≢ Some Journal
+    → journal' ≡ journal
 quiet_by None gate gate' journal journal' caused other = caused.1
 quiet_by (Some (Script worker)) gate gate' journal journal' caused other = caused.2
 quiet_by (Some Journal) gate gate' journal journal' caused other = absurd (other refl)
@@ -100,12 +106,14 @@ quiet_by (Some Memory) gate gate' journal journal' caused other = caused.1
 
 -- ---- one worker
 
-module _ {S J G : Type 0} (plan : S → Plan) (log : G → Option Log) (gate_faults : G → ℕ) (put : J → Option Put) (faults : J → ℕ) (run : RunMembers) (outcome : Outcome S J) where
+module _ {S J G : Type 0} (plan : S → Plan) (log : G → Option Log) (gate_faults : G → ℕ) (put : J → Option Put) (faults : J → ℕ) (run : RunMembers)
+    (outcome : Outcome S J) where
   abbrev Of : Worker G → Worker G → Type 0
   Of old new = IsOfOne plan log gate_faults put faults run outcome old new
 
   -- whose gate was asked in its place
-  pub is_of_one : (workers : List (Worker G)) (e : Worker G) (gate' : G) → length workers ≡ 1 → Of (slice_index_or workers 0 e) (gone_on gate' (slice_index_or workers 0 e))
+  pub is_of_one : (workers : List (Worker G)) (e : Worker G) (gate' : G) → length workers ≡ 1
+      → Of (slice_index_or workers 0 e) (gone_on gate' (slice_index_or workers 0 e))
       → (d : Worker G) → Of (slice_index_or workers 0 d) (slice_index_or (slice_set workers 0 (gone_on gate' (slice_index_or workers 0 e))) 0 d)
   is_of_one [] e gate' one is d = let no : ⊥ = omega (arith, one) in absurd no
   is_of_one (w ∷ workers) e gate' one is d = is

@@ -1,5 +1,6 @@
 -- A board of a run stays one, whatever is called.
-use Rattle.std.proofs.Common.{◌≡◌, ◌≢◌, inl, inr, ℕ, List, [], ◌∷◌, All, Bool, true, false, cond, Option, Some, None, Result, Ok, Err, length, nat_eq, if◌then◌else◌, refl, sym, ap, ◌∙◌, subst}
+use Rattle.std.proofs.Common.{◌≡◌, ◌≢◌, inl, inr, ℕ, List, [], ◌∷◌, All, Bool, true, false, cond, Option, Some, None}
+use Rattle.std.proofs.Common.{Result, Ok, Err, length, nat_eq, if◌then◌else◌, refl, sym, ap, ◌∙◌, subst}
 use Rattle.std.proofs.lemmas.List.{length-map}
 use Rattle.std.proofs.lemmas.List.Elements.{All-cons, All-head, All-nil, All-tail}
 use Rattle.std.specs.Prelude.{OnErr, OnOk}
@@ -75,10 +76,13 @@ own_unfailed seat seats agrees all = (find_passes (λ (s : Seat). s.failed ≡ f
 same_length : (seat : Seat) (seats : List Seat) → length (with_seat seat seats) ≡ length seats
 same_length seat seats = length-map seats (λ (s : Seat). if nat_eq s.worker seat.worker then seat else s)
 
-module _ {S J : Type 0} (first plan : S → Plan) (put : J → Option Put) (faults : J → ℕ) (run : RunMembers) (old new : BoardState S J) (of_run : IsOfRun first put faults run old) where
+module _ {S J : Type 0} (first plan : S → Plan) (put : J → Option Put) (faults : J → ℕ) (run : RunMembers) (old new : BoardState S J)
+    (of_run : IsOfRun first put faults run old) where
   -- nothing that it says changes
-  still : first new.front ≡ first old.front → HasSameName put old.journal new.journal → length new.seats ≡ length old.seats → faults new.journal ≡ faults old.journal
-      → (new.fault ≡ Some Journal → old.fault ≡ Some Journal) → (old.fault ≡ Some Journal → new.fault ≡ Some Journal) → AtStart run.first new.table → (new.fault ≡ None → Unfailed new.seats) → IsOfRun first put faults run new
+  still : first new.front ≡ first old.front → HasSameName put old.journal new.journal → length new.seats ≡ length old.seats
+      → faults new.journal ≡ faults old.journal
+      → (new.fault ≡ Some Journal → old.fault ≡ Some Journal) → (old.fault ≡ Some Journal → new.fault ≡ Some Journal) → AtStart run.first new.table
+      → (new.fault ≡ None → Unfailed new.seats) → IsOfRun first put faults run new
   still front name seats count only also start unfailed = record {
     same_first = front ∙ of_run.same_first;
     same_name = name ∙ of_run.same_name;
@@ -91,7 +95,8 @@ module _ {S J : Type 0} (first plan : S → Plan) (put : J → Option Put) (faul
 
   -- the journal broke
   broke : first new.front ≡ first old.front → HasSameName put old.journal new.journal → length new.seats ≡ length old.seats
-      → old.fault ≢ Some Journal → new.fault ≡ Some Journal → Rose (faults old.journal) (faults new.journal) → AtStart run.first new.table → IsOfRun first put faults run new
+      → old.fault ≢ Some Journal → new.fault ≡ Some Journal → Rose (faults old.journal) (faults new.journal) → AtStart run.first new.table
+      → IsOfRun first put faults run new
   broke front name seats before is rose start = record {
     same_first = front ∙ of_run.same_first;
     same_name = name ∙ of_run.same_name;
@@ -111,20 +116,27 @@ module _ {S J : Type 0} (first plan : S → Plan) (put : J → Option Put) (faul
     not_before : old.fault ≢ Some Journal
     not_before is = absurd (cc (sym none ∙ is))
 
-  pub run_commit : (result : Result Bool BoardFault) → CommitEnds plan put result old new → new.seats ≡ old.seats → first new.front ≡ first old.front → HasSameName put old.journal new.journal → new.table ≡ old.table
-      → (result ≡ Err board.Journal → Rose (faults old.journal) (faults new.journal)) → (result ≢ Err board.Journal → faults new.journal ≡ faults old.journal) → IsOfRun first put faults run new
+  pub run_commit : (result : Result Bool BoardFault) → CommitEnds plan put result old new → new.seats ≡ old.seats → first new.front ≡ first old.front
+      → HasSameName put old.journal new.journal → new.table ≡ old.table
+      → (result ≡ Err board.Journal → Rose (faults old.journal) (faults new.journal)) → (result ≢ Err board.Journal → faults new.journal ≡ faults old.journal)
+      → IsOfRun first put faults run new
   run_commit (Ok true) ends seats front name table failed quiet =
-      still front name (ap length seats) (quiet (λ is. cc is)) (λ is. absurd (cc (sym ends.fault ∙ is))) (λ is. absurd (not_before ends.could.0 is)) (same_start table) (λ _. subst Unfailed (sym seats) (of_run.unfailed ends.could.0))
+      still front name (ap length seats) (quiet (λ is. cc is)) (λ is. absurd (cc (sym ends.fault ∙ is))) (λ is. absurd (not_before ends.could.0 is))
+      (same_start table) (λ _. subst Unfailed (sym seats) (of_run.unfailed ends.could.0))
   run_commit (Ok false) ends seats front name table failed quiet = subst (IsOfRun first put faults run) (sym ends.1) of_run
   run_commit (Err board.Journal) ends seats front name table failed quiet =
-      broke front name (ap length seats) (not_before ends.could.0) (ap (λ (state : BoardState S J). state.fault) ends.else_same) (failed refl) (same_start table)
+      broke front name (ap length seats) (not_before ends.could.0) (ap (λ (state : BoardState S J). state.fault) ends.else_same) (failed refl)
+      (same_start table)
   run_commit (Err board.Memory) (inl ends) seats front name table failed quiet =
       let is : new.fault ≡ Some Memory = ap (λ (state : BoardState S J). state.fault) ends.else_same in
-      still front name (ap length seats) (quiet (λ is. cc is)) (λ j. absurd (cc (sym is ∙ j))) (λ j. absurd (not_before ends.could.0 j)) (same_start table) (λ none. absurd (cc (sym is ∙ none)))
+      still front name (ap length seats) (quiet (λ is. cc is)) (λ j. absurd (cc (sym is ∙ j))) (λ j. absurd (not_before ends.could.0 j)) (same_start table)
+      (λ none. absurd (cc (sym is ∙ none)))
   run_commit (Err board.Memory) (inr ends) seats front name table failed quiet =
-      still front name (ap length seats) (quiet (λ is. cc is)) (λ j. absurd (cc (sym ends.fault ∙ j))) (λ j. absurd (not_before ends.could.0 j)) (same_start table) (λ none. absurd (cc (sym ends.fault ∙ none)))
+      still front name (ap length seats) (quiet (λ is. cc is)) (λ j. absurd (cc (sym ends.fault ∙ j))) (λ j. absurd (not_before ends.could.0 j))
+      (same_start table) (λ none. absurd (cc (sym ends.fault ∙ none)))
 
-  pub run_take : (may_say : List ℕ → Verdict → Type 0) → IsKept plan first may_say put faults old → IsSettled plan old → (seat seat' : Seat) → Agrees old.seats seat → (result : Result Take OutOfMemory) → TakeEnds plan result seat seat' old new → IsOfRun first put faults run new
+  pub run_take : (may_say : List ℕ → Verdict → Type 0) → IsKept plan first may_say put faults old → IsSettled plan old → (seat seat' : Seat)
+      → Agrees old.seats seat → (result : Result Take OutOfMemory) → TakeEnds plan result seat seat' old new → IsOfRun first put faults run new
   run_take may_say kept settled seat seat' agrees (Ok Stopped) ends = subst (IsOfRun first put faults run) (sym ends.2) of_run
   run_take may_say kept settled seat seat' agrees (Ok Done) ends = subst (IsOfRun first put faults run) (sym ends.3) of_run
   run_take may_say kept settled seat seat' agrees (Ok NotYet) ends = subst (IsOfRun first put faults run) (sym ends.2) of_run
@@ -132,8 +144,12 @@ module _ {S J : Type 0} (first plan : S → Plan) (put : J → Option Put) (faul
     same_first = of_run.same_first;
     same_name = of_run.same_name;
     all_seats = same_length seat' old.seats ∙ of_run.all_seats;
-    start = subst (λ (p : Plan). AtStart p (with_claimed permit old.table)) of_run.same_first (taken_alone plan first may_say put faults old kept settled permit seat seat' new ends);
-    unfailed = λ none. with_unfailed seat' old.seats (ap (λ (s : Seat). s.failed) ends.of_worker ∙ own_unfailed seat old.seats agrees (of_run.unfailed none)) (of_run.unfailed none);
+    start =
+        subst (λ (p : Plan). AtStart p (with_claimed permit old.table)) of_run.same_first
+        (taken_alone plan first may_say put faults old kept settled permit seat seat' new ends);
+    unfailed =
+        λ none. with_unfailed seat' old.seats (ap (λ (s : Seat). s.failed) ends.of_worker ∙ own_unfailed seat old.seats agrees (of_run.unfailed none))
+        (of_run.unfailed none);
     rose = of_run.rose;
     quiet = of_run.quiet;
   })
@@ -147,11 +163,15 @@ module _ {S J : Type 0} (first plan : S → Plan) (put : J → Option Put) (faul
     quiet = λ _. of_run.quiet (not_before ends.0);
   })
 
-  more_start : (answer : AnsweredText) (seat seat' : Seat) → text_claimed answer.claim old.table.claims ≡ Some answer.text → IsRecorded plan answer seat seat' old new → AtStart run.first new.table
+  more_start : (answer : AnsweredText) (seat seat' : Seat) → text_claimed answer.claim old.table.claims ≡ Some answer.text
+      → IsRecorded plan answer seat seat' old new → AtStart run.first new.table
   more_start answer seat seat' opened recorded =
-      subst (AtStart run.first) (sym (ap (λ (state : BoardState S J). state.table) recorded.else_same)) (record_alone run.first answer old.table opened of_run.start)
+      subst (AtStart run.first) (sym (ap (λ (state : BoardState S J). state.table) recorded.else_same))
+      (record_alone run.first answer old.table opened of_run.start)
 
-  pub run_record : (answer : AnsweredText) (seat seat' : Seat) → Agrees old.seats seat → (result : Result ℕ SinkFault) → text_claimed answer.claim old.table.claims ≡ Some answer.text → IsRecorded plan answer seat seat' old new → RecordEnds put result answer old new → HasSameName put old.journal new.journal
+  pub run_record : (answer : AnsweredText) (seat seat' : Seat) → Agrees old.seats seat → (result : Result ℕ SinkFault)
+      → text_claimed answer.claim old.table.claims ≡ Some answer.text → IsRecorded plan answer seat seat' old new → RecordEnds put result answer old new
+      → HasSameName put old.journal new.journal
       → OnErr result (Rose (faults old.journal) (faults new.journal)) → OnOk result (faults new.journal ≡ faults old.journal) → IsOfRun first put faults run new
   run_record answer seat seat' agrees (Ok number) opened recorded ends name failed quiet =
       let front = ap (λ (state : BoardState S J). first state.front) recorded.else_same in
@@ -165,7 +185,8 @@ module _ {S J : Type 0} (first plan : S → Plan) (put : J → Option Put) (faul
       let seats = ap (λ (state : BoardState S J). length state.seats) recorded.else_same ∙ same_length seat' old.seats in
       broke front name seats ends.0 ends.1 failed (more_start answer seat seat' opened recorded)
 
-  pub run_give_up : (seat' : Seat) (worker : ℕ) (fault : GateFault) → new ≡ record old { seats = with_seat seat' old.seats; fault = Some (kept_fault old.fault (ask_fault worker fault)) } → IsOfRun first put faults run new
+  pub run_give_up : (seat' : Seat) (worker : ℕ) (fault : GateFault)
+      → new ≡ record old { seats = with_seat seat' old.seats; fault = Some (kept_fault old.fault (ask_fault worker fault)) } → IsOfRun first put faults run new
   run_give_up seat' worker fault is = subst (IsOfRun first put faults run) (sym is) (record {
     same_first = of_run.same_first;
     same_name = of_run.same_name;

@@ -1,5 +1,6 @@
 -- A reducer that ends where the first text's verdict is no: no other text is claimed before that verdict, and none after one that ends it.
-use Rattle.std.proofs.Common.{arith, ◌≡◌, ◌<◌, ◌≤◌, ◌*◌, ◌++◌, ℕ, zero, suc, List, [], ◌∷◌, All, Contains, Bool, true, false, Option, Some, None, find, length, nat_eq, slice_index_or, take, refl, sym, ap, ◌∙◌, subst}
+use Rattle.std.proofs.Common.{arith, ◌≡◌, ◌<◌, ◌≤◌, ◌*◌, ◌++◌, ℕ, zero, suc, List, [], ◌∷◌, All, Contains, Bool, true, false, Option}
+use Rattle.std.proofs.Common.{Some, None, find, length, nat_eq, slice_index_or, take, refl, sym, ap, ◌∙◌, subst}
 use Rattle.std.proofs.lemmas.Cmp.{nat_list_eq_equiv}
 use Rattle.std.proofs.lemmas.List.Elements.{All-contains_itself, All-head}
 use Rattle.std.specs.List.{list_any}
@@ -73,7 +74,8 @@ begins_with m p (r ∷ rs) ended begins = first_is m p r.text ended begins
 -- ---- a claim
 
 -- no text that is ahead is free while another has a claim
-none_before : (m : ℕ) (p : Plan) (text : List ℕ) (claims : List Claim) → HasEnded (after p No) → asked p ≡ Some text → All (λ (c : Claim). Contains (ahead m p) c.text) claims → list_any (bytes_eq text) (claimed_texts claims) ≡ false → claims ≡ []
+none_before : (m : ℕ) (p : Plan) (text : List ℕ) (claims : List Claim) → HasEnded (after p No) → asked p ≡ Some text
+    → All (λ (c : Claim). Contains (ahead m p) c.text) claims → list_any (bytes_eq text) (claimed_texts claims) ≡ false → claims ≡ []
 none_before m p text [] ended is begins free = refl
 none_before m p text (c ∷ claims) ended is begins free =
     let same : c.text ≡ text = contains_only m p c.text text ended is (All-head (λ (d : Claim). Contains (ahead m p) d.text) c claims begins) in
@@ -81,8 +83,10 @@ none_before m p text (c ∷ claims) ended is begins free =
     let taken : list_any (bytes_eq text) (claimed_texts (c ∷ claims)) ≡ true = rw equal refl in
     absurd (cc (sym taken ∙ free))
 
-module _ {S J : Type 0} (plan first : S → Plan) (may_say : List ℕ → Verdict → Type 0) (put : J → Option Put) (faults : J → ℕ) (state : BoardState S J) (kept : IsKept plan first may_say put faults state) (settled : IsSettled plan state)
-    (permit : ClaimedText) (seat seat' : Seat) (new : BoardState S J) (claimed : IsClaimed plan permit seat seat' state new) (ended : HasEnded (after (first state.front) No)) where
+module _ {S J : Type 0} (plan first : S → Plan) (may_say : List ℕ → Verdict → Type 0) (put : J → Option Put) (faults : J → ℕ) (state : BoardState S J)
+    (kept : IsKept plan first may_say put faults state) (settled : IsSettled plan state)
+    (permit : ClaimedText) (seat seat' : Seat) (new : BoardState S J) (claimed : IsClaimed plan permit seat seat' state new)
+    (ended : HasEnded (after (first state.front) No)) where
   abbrev start : Plan
   start = first state.front
 
@@ -101,11 +105,15 @@ module _ {S J : Type 0} (plan first : S → Plan) (may_say : List ℕ → Verdic
   -- before the first record
   at_first : state.table.records ≡ [] → state.table.claims ≡ []
   at_first none =
-      let same : plan state.front ≡ start = kept.replayed claimed.unstopped ∙ nothing_committed start state.history kept.recorded.legal.commits (sym kept.recorded.recorded ∙ none) in
+      let same : plan state.front ≡ start =
+      kept.replayed claimed.unstopped ∙ nothing_committed start state.history kept.recorded.legal.commits (sym kept.recorded.recorded ∙ none) in
       let here : Contains (ahead many start) permit.text = subst (λ (p : Plan). Contains (ahead many p) permit.text) same passes.0 in
-      let begins : All (λ (c : Claim). Contains (ahead many start) c.text) state.table.claims = subst (λ (rs : List Record). BeginsWithin (ahead many start) rs state.table.claims) none kept.begins in
-      let free : list_any (bytes_eq permit.text) (all_texts state.table) ≡ false = absent_everywhere state.table permit.text kept.recorded.sound (absent_found state.table permit.text passes.1) in
-      let among : list_any (bytes_eq permit.text) (claimed_texts state.table.claims) ≡ false = subst (λ (rs : List Record). list_any (bytes_eq permit.text) (texts_of rs ++ claimed_texts state.table.claims) ≡ false) none free in
+      let begins : All (λ (c : Claim). Contains (ahead many start) c.text) state.table.claims =
+      subst (λ (rs : List Record). BeginsWithin (ahead many start) rs state.table.claims) none kept.begins in
+      let free : list_any (bytes_eq permit.text) (all_texts state.table) ≡ false =
+      absent_everywhere state.table permit.text kept.recorded.sound (absent_found state.table permit.text passes.1) in
+      let among : list_any (bytes_eq permit.text) (claimed_texts state.table.claims) ≡ false =
+      subst (λ (rs : List Record). list_any (bytes_eq permit.text) (texts_of rs ++ claimed_texts state.table.claims) ≡ false) none free in
       none_before many start permit.text state.table.claims ended (first_is many start permit.text ended here) begins among
 
   -- after one that ends the reducer there is no claim
@@ -116,17 +124,20 @@ module _ {S J : Type 0} (plan first : S → Plan) (may_say : List ℕ → Verdic
       let asks = ahead_asks many (plan state.front) permit.text passes.0 in
       let unknown : V asks.0 ≡ None = unrecorded plan state asks.0 claimed.unstopped asks.1 settled in
       let waits : follow V (plan state.front) ≡ plan state.front = stays V (plan state.front) asks.0 asks.1 unknown in
-      let leads : follow V start ≡ follow V (replay start state.history) = leads_on V [] start state.history kept.recorded.legal.commits (extends_itself (records_of state.history) kept.recorded.legal.distinct) in
+      let leads : follow V start ≡ follow V (replay start state.history) =
+      leads_on V [] start state.history kept.recorded.legal.commits (extends_itself (records_of state.history) kept.recorded.legal.distinct) in
       let there : follow V start ≡ plan state.front = leads ∙ ap (follow V) (sym (kept.replayed claimed.unstopped)) ∙ waits in
       let begins : Contains (ahead many start) r.text = subst (λ (qs : List Record). BeginsWithin (ahead many start) qs state.table.claims) is kept.begins in
       let first_text : asked start ≡ Some r.text = first_is many start r.text ended begins in
       let at_text : verdict_in (r ∷ rs) r.text ≡ Some r.verdict = rw (nat_list_eq_equiv.refl r.text) refl in
       let known : V r.text ≡ Some r.verdict = ap (λ (qs : List Record). verdict_in qs r.text) records ∙ at_text in
-      let ends : follow V start ≡ after start r.verdict = follow_after V start r.verdict r.text first_text known ∙ follow_ended V (after start r.verdict) over in
+      let ends : follow V start ≡ after start r.verdict =
+      follow_after V start r.verdict r.text first_text known ∙ follow_ended V (after start r.verdict) over in
       let nothing : Some asks.0 ≡ None = sym asks.1 ∙ ap asked (sym there ∙ ends) ∙ over in
       absurd (cc nothing)
 
-  by_records : (rs : List Record) → state.table.records ≡ rs → StartsAlone start rs (state.table.claims ++ record { number = permit.claim; text = permit.text } ∷ [])
+  by_records : (rs : List Record) → state.table.records ≡ rs
+      → StartsAlone start rs (state.table.claims ++ record { number = permit.claim; text = permit.text } ∷ [])
   by_records [] is = subst (λ (cs : List Claim). length (cs ++ record { number = permit.claim; text = permit.text } ∷ []) ≤ 1) (sym (at_first is)) (omega arith)
   by_records (r ∷ rs) is = λ over. absurd (none_after r rs is over)
 
@@ -144,7 +155,8 @@ only_gone n text c opened = by_test (nat_eq c.number n) refl
         let none : text_claimed n (c ∷ []) ≡ None = rw is refl in
         absurd (cc (sym opened ∙ none))
 
-filled_alone : (first : Plan) (n : ℕ) (text : List ℕ) (x : Record) (rs : List Record) (cs : List Claim) → text_claimed n cs ≡ Some text → StartsAlone first rs cs → StartsAlone first (rs ++ x ∷ []) (other_claims n cs)
+filled_alone : (first : Plan) (n : ℕ) (text : List ℕ) (x : Record) (rs : List Record) (cs : List Claim) → text_claimed n cs ≡ Some text
+    → StartsAlone first rs cs → StartsAlone first (rs ++ x ∷ []) (other_claims n cs)
 filled_alone first n text x [] [] opened alone = absurd (cc opened)
 filled_alone first n text x [] (c ∷ []) opened alone = λ over. (refl, only_gone n text c opened)
 filled_alone first n text x [] (c ∷ d ∷ cs) opened alone = let no : ⊥ = omega (arith, alone) in absurd no
@@ -152,7 +164,8 @@ filled_alone first n text x (r ∷ rs) cs opened alone = λ over.
     let none : text_claimed n [] ≡ Some text = subst (λ (ds : List Claim). text_claimed n ds ≡ Some text) (alone over).1 opened in
     absurd (cc none)
 
-pub record_alone : (first : Plan) (answer : AnsweredText) (table : TableState) → text_claimed answer.claim table.claims ≡ Some answer.text → AtStart first table → AtStart first (with_filled answer table)
+pub record_alone : (first : Plan) (answer : AnsweredText) (table : TableState) → text_claimed answer.claim table.claims ≡ Some answer.text → AtStart first table
+    → AtStart first (with_filled answer table)
 record_alone first answer table opened start ended =
     filled_alone first answer.claim answer.text (record { text = answer.text; verdict = answer.verdict }) table.records table.claims opened (start ended)
 

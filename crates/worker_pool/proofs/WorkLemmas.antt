@@ -1,5 +1,6 @@
 -- What a worker did, one step after another.
-use Rattle.std.proofs.Common.{arith, ◌≡◌, ◌≢◌, ◌⊎◌, inl, inr, ⊎_elim, ◌≤◌, ◌++◌, [], ◌∷◌, ◌||◌, ℕ, List, Bool, true, false, Option, Some, None, Result, Ok, Err, option_map, append-nil, append_assoc, length-append, refl, sym, ap, ◌∙◌, subst}
+use Rattle.std.proofs.Common.{arith, ◌≡◌, ◌≢◌, ◌⊎◌, inl, inr, ⊎_elim, ◌≤◌, ◌++◌, [], ◌∷◌, ◌||◌, ℕ, List, Bool, true, false, Option, Some, None}
+use Rattle.std.proofs.Common.{Result, Ok, Err, option_map, append-nil, append_assoc, length-append, refl, sym, ap, ◌∙◌, subst}
 use Rattle.std.proofs.lemmas.Bool.{cases_lt}
 use Rattle.faults.specs.Count.{Rose}
 use Rattle.script_gate_trait.specs.declared.log.Log.{Log}
@@ -58,7 +59,8 @@ module _ (log : Option Log) (faults : ℕ) where
   })
 
   -- an answer that was recorded
-  pub worked_record : (text : List ℕ) (seat seat' : Seat) (log' : Option Log) (faults' : ℕ) → seat' ≡ with_record seat → log' ≡ option_map (with_asked text) log → faults' ≡ faults → HasWorked seat seat' log log' faults faults'
+  pub worked_record : (text : List ℕ) (seat seat' : Seat) (log' : Option Log) (faults' : ℕ) → seat' ≡ with_record seat → log' ≡ option_map (with_asked text) log
+      → faults' ≡ faults → HasWorked seat seat' log log' faults faults'
   worked_record text seat seat' log' faults' is asked quiet = subst (λ (s : Seat). HasWorked seat s log log' faults faults') (sym is) (record {
     worker = refl;
     texts = text ∷ [];
@@ -71,7 +73,8 @@ module _ (log : Option Log) (faults : ℕ) where
   })
 
   -- a claim that was given up
-  failed_or : (fault : GateFault) (failed : Bool) (faults' : ℕ) → (fault ≡ gate.Failed → Rose faults faults') → (failed || is_failure fault) ≡ true → (failed ≡ true) ⊎ Rose faults faults'
+  failed_or : (fault : GateFault) (failed : Bool) (faults' : ℕ) → (fault ≡ gate.Failed → Rose faults faults') → (failed || is_failure fault) ≡ true
+      → (failed ≡ true) ⊎ Rose faults faults'
   failed_or gate.Failed failed faults' rose is = inr (rose refl)
   failed_or gate.Memory true faults' rose is = inl refl
   failed_or gate.Memory false faults' rose is = absurd (cc is)
@@ -80,12 +83,14 @@ module _ (log : Option Log) (faults : ℕ) where
   stays_so fault true is = refl
   stays_so fault false is = absurd (cc is)
 
-  not_so : (fault : GateFault) (failed : Bool) (faults' : ℕ) → (fault ≢ gate.Failed → faults' ≡ faults) → (failed || is_failure fault) ≡ false → faults' ≡ faults
+  not_so : (fault : GateFault) (failed : Bool) (faults' : ℕ) → (fault ≢ gate.Failed → faults' ≡ faults) → (failed || is_failure fault) ≡ false
+      → faults' ≡ faults
   not_so gate.Failed true faults' quiet is = absurd (cc is)
   not_so gate.Failed false faults' quiet is = absurd (cc is)
   not_so gate.Memory failed faults' quiet is = quiet (λ e. cc e)
 
-  pub worked_give_up : (fault : GateFault) (seat seat' : Seat) (log' : Option Log) (faults' : ℕ) → seat' ≡ without_claim fault seat → log' ≡ log → faults ≤ faults' → (fault ≡ gate.Failed → Rose faults faults') → (fault ≢ gate.Failed → faults' ≡ faults)
+  pub worked_give_up : (fault : GateFault) (seat seat' : Seat) (log' : Option Log) (faults' : ℕ) → seat' ≡ without_claim fault seat → log' ≡ log
+      → faults ≤ faults' → (fault ≡ gate.Failed → Rose faults faults') → (fault ≢ gate.Failed → faults' ≡ faults)
       → HasWorked seat seat' log log' faults faults'
   worked_give_up fault seat seat' log' faults' is same count rose quiet = subst (λ (s : Seat). HasWorked seat s log log' faults faults') (sym is) (record {
     worker = refl;
@@ -99,7 +104,8 @@ module _ (log : Option Log) (faults : ℕ) where
   })
 
 -- and then
-more_texts : (o : Option Log) (one two : List (List ℕ)) → option_map (with_all_asked two) (option_map (with_all_asked one) o) ≡ option_map (with_all_asked (one ++ two)) o
+more_texts : (o : Option Log) (one two : List (List ℕ))
+    → option_map (with_all_asked two) (option_map (with_all_asked one) o) ≡ option_map (with_all_asked (one ++ two)) o
 more_texts None one two = refl
 more_texts (Some l) one two = ap (λ (ts : List (List ℕ)). Some (record l { asked = ts })) (append_assoc l.asked one two)
 
@@ -123,9 +129,14 @@ worked_then a b c l m n f g h one two = record {
 }
 
 -- a take asks nothing
-pub taken_worked : {S J : Type 0} (plan : S → Plan) (old new : BoardState S J) (seat seat' : Seat) (log : Option Log) (faults : ℕ) (result : Result Take OutOfMemory) → TakeEnds plan result seat seat' old new → HasWorked seat seat' log log faults faults
-taken_worked plan old new seat seat' log faults (Ok Stopped) ends = subst (λ (s : Seat). HasWorked seat s log log faults faults) (sym ends.1) (worked_none log faults seat)
-taken_worked plan old new seat seat' log faults (Ok Done) ends = subst (λ (s : Seat). HasWorked seat s log log faults faults) (sym ends.2) (worked_none log faults seat)
-taken_worked plan old new seat seat' log faults (Ok NotYet) ends = subst (λ (s : Seat). HasWorked seat s log log faults faults) (sym ends.1) (worked_none log faults seat)
+pub taken_worked : {S J : Type 0} (plan : S → Plan) (old new : BoardState S J) (seat seat' : Seat) (log : Option Log) (faults : ℕ)
+    (result : Result Take OutOfMemory) → TakeEnds plan result seat seat' old new → HasWorked seat seat' log log faults faults
+taken_worked plan old new seat seat' log faults (Ok Stopped) ends =
+    subst (λ (s : Seat). HasWorked seat s log log faults faults) (sym ends.1) (worked_none log faults seat)
+taken_worked plan old new seat seat' log faults (Ok Done) ends =
+    subst (λ (s : Seat). HasWorked seat s log log faults faults) (sym ends.2) (worked_none log faults seat)
+taken_worked plan old new seat seat' log faults (Ok NotYet) ends =
+    subst (λ (s : Seat). HasWorked seat s log log faults faults) (sym ends.1) (worked_none log faults seat)
 taken_worked plan old new seat seat' log faults (Ok (Work permit)) ends = worked_claim log faults permit.claim seat seat' ends.of_worker
-taken_worked plan old new seat seat' log faults (Err memory) ends = subst (λ (s : Seat). HasWorked seat s log log faults faults) (sym ends.2) (worked_none log faults seat)
+taken_worked plan old new seat seat' log faults (Err memory) ends =
+    subst (λ (s : Seat). HasWorked seat s log log faults faults) (sym ends.2) (worked_none log faults seat)

@@ -36,17 +36,20 @@ pub record IsDone {G : Type 0} (log : G → Option Log) (faults : G → ℕ) (fa
   pub quiet : fault ≡ None → faults new.gate ≡ faults old.gate
 
 -- What each worker did, by how often each gate answered: as often, in all, as there are records.
-pub record AreDone {G : Type 0} (log : G → Option Log) (faults : G → ℕ) (fault : Option PoolFault) (history : History) (old new : List (Worker G)) : Type 0 where
+pub record AreDone {G : Type 0} (log : G → Option Log) (faults : G → ℕ) (fault : Option PoolFault) (history : History)
+    (old new : List (Worker G)) : Type 0 where
   pub counts : List ℕ
   pub one_each : length counts ≡ length old
   pub lengths : length new ≡ length old
-  pub each : (i : ℕ) (d : Worker G) → i < length old → IsDone log faults fault (suc i) (slice_index_or counts i 0) (slice_index_or old i d) (slice_index_or new i d)
+  pub each : (i : ℕ) (d : Worker G) → i < length old
+      → IsDone log faults fault (suc i) (slice_index_or counts i 0) (slice_index_or old i d) (slice_index_or new i d)
   pub total : sum counts ≡ length (records_of history)
   -- a script's fault names one of the workers
   pub named : (worker : ℕ) → fault ≡ Some (Script worker) → (1 ≤ worker) × (worker ≤ length old)
 
 -- What the outcome is, whatever ended the run, and however the workers interleaved.
-pub record IsOutcome {S J : Type 0} (plan first : S → Plan) (may_say : List ℕ → Verdict → Type 0) (put_so_far : J → Option Put) (faults : J → ℕ) (run : RunMembers) (outcome : Outcome S J) : Type 0 where
+pub record IsOutcome {S J : Type 0} (plan first : S → Plan) (may_say : List ℕ → Verdict → Type 0) (put_so_far : J → Option Put) (faults : J → ℕ)
+    (run : RunMembers) (outcome : Outcome S J) : Type 0 where
   -- the history is one that the reducer can have; the first record is of a text that was ahead of it at the start
   pub history : IsHistoryOf may_say run.first outcome.events.items
   pub begins : BeginsWithin (ahead (2 * run.workers) run.first) (records_of outcome.events.items) []
@@ -57,7 +60,8 @@ pub record IsOutcome {S J : Type 0} (plan first : S → Plan) (may_say : List �
   pub ended : outcome.fault ≡ None → HasEnded (plan outcome.front) × (plan outcome.front ≡ follow (verdict_in (records_of outcome.events.items)) run.first)
   -- and its answers are the commits of the history, in their order
   pub replayed : outcome.fault ≡ None → plan outcome.front ≡ replay run.first outcome.events.items
-  -- the journal has the history, or broke off, in a commit only where that was due, under the name that it had; its count rose exactly where a fault of it is kept
+  -- the journal has the history, or broke off, in a commit only where that was due, under
+  -- the name that it had; its count rose exactly where a fault of it is kept
   pub journal : IfSome (put_so_far outcome.journal) (λ put. IsJournal outcome.fault outcome.events.items put.bytes)
   pub due : outcome.fault ≡ Some Journal → IfSome (put_so_far outcome.journal) (λ put. BrokeWhereDue run.first outcome.events.items put.bytes)
   pub same_name : option_map (λ put. put.name) (put_so_far outcome.journal) ≡ run.name
@@ -65,7 +69,8 @@ pub record IsOutcome {S J : Type 0} (plan first : S → Plan) (may_say : List �
   pub quiet : outcome.fault ≢ Some Journal → faults outcome.journal ≡ run.faults
 
 -- What one worker comes to: the history is what one thread does over its records, and the only gate was asked for their texts, in their order.
-pub record IsOfOne {S J G : Type 0} (plan : S → Plan) (log : G → Option Log) (gate_faults : G → ℕ) (put_so_far : J → Option Put) (faults : J → ℕ) (run : RunMembers) (outcome : Outcome S J) (old new : Worker G) : Type 0 where
+pub record IsOfOne {S J G : Type 0} (plan : S → Plan) (log : G → Option Log) (gate_faults : G → ℕ) (put_so_far : J → Option Put) (faults : J → ℕ)
+    (run : RunMembers) (outcome : Outcome S J) (old new : Worker G) : Type 0 where
   pub sequential : IsSequential outcome.fault run.first outcome.events.items
   pub begun : BeginsWith run.first (records_of outcome.events.items)
   pub one : EndsAtFirst run.first (records_of outcome.events.items)

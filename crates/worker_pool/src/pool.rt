@@ -88,7 +88,9 @@ fn finish_first<S: Step + Drop, G: Gate, J: Sink + Drop, R: Run, W: Wait>(
     ensures of_run { IsOfRun S.first J.put_so_far J.faults R.run board.new }
     ensures workers { length workers.new ≡ length workers.old }
     ensures seats { length seats.new ≡ length seats.old }
-    ensures each { (i : ℕ) (d : _) (e : _) → i < length workers.old → GoesOn G.log G.faults (slice_index_or seats.old i e) (slice_index_or seats.new i e) (slice_index_or workers.old i d) (slice_index_or workers.new i d) }
+    ensures each { (i : ℕ) (d : _) (e : _) → i < length workers.old
+        → GoesOn G.log G.faults (slice_index_or seats.old i e) (slice_index_or seats.new i e) (slice_index_or workers.old i d)
+        (slice_index_or workers.new i d) }
     ensures free { AreFreeSeats board.new.seats seats.new }
     ensures over { board.new.fault ≡ None → HasEnded (S.plan board.new.front) }
 {
@@ -111,7 +113,8 @@ fn close<S: Step + Drop, G: Gate, J: Sink + Drop, R: Run, W: Wait>(
     ensures run { IsOfRun S.first J.put_so_far J.faults R.run result }
     ensures workers { length workers.new ≡ length workers.old }
     ensures seats { length seats.new ≡ length seats.old }
-    ensures each { (i : ℕ) (d : _) (e : _) → i < length workers.old → IsTaken G.log G.faults (slice_index_or seats.new i e) (slice_index_or workers.old i d) (slice_index_or workers.new i d) }
+    ensures each { (i : ℕ) (d : _) (e : _) → i < length workers.old
+        → IsTaken G.log G.faults (slice_index_or seats.new i e) (slice_index_or workers.old i d) (slice_index_or workers.new i d) }
     ensures free { AreFreeSeats result.seats seats.new }
     ensures over { result.fault ≡ None → HasEnded (S.plan result.front) }
 {
@@ -142,7 +145,9 @@ fn run_named<
     ensures run { IsOfRun S.first J.put_so_far J.faults R.run result }
     ensures workers { length workers.new ≡ length workers.old }
     ensures seats { length seats.new ≡ length seats.old }
-    ensures each { (i : ℕ) (d : _) (e : _) → i < length workers.old → HasDone G.log G.faults (slice_index_or seats.old i e).worker (slice_index_or seats.new i e) (slice_index_or workers.old i d) (slice_index_or workers.new i d) }
+    ensures each { (i : ℕ) (d : _) (e : _) → i < length workers.old
+        → HasDone G.log G.faults (slice_index_or seats.old i e).worker (slice_index_or seats.new i e) (slice_index_or workers.old i d)
+        (slice_index_or workers.new i d) }
     ensures free { AreFreeSeats result.seats seats.new }
     ensures over { result.fault ≡ None → HasEnded (S.plan result.front) }
 {

@@ -28,7 +28,8 @@ fn without_texts<S: Step + Drop, G: Gate, J: Sink + Drop>(
     requires unseated { All (λ w. w.seat ≡ None) workers.now }
     ensures outcome { IsOutcome S.plan S.first G.may_say J.put_so_far J.faults (members S.first J.put_so_far J.faults (length workers.now) board) result }
     ensures workers { AreDone G.log G.faults result.fault result.events.items workers.now workers.now }
-    ensures one { (d : _) → IsOfOne S.plan G.log G.faults J.put_so_far J.faults (members S.first J.put_so_far J.faults (length workers.now) board) result (slice_index_or workers.now 0 d) (slice_index_or workers.now 0 d) }
+    ensures one { (d : _) → IsOfOne S.plan G.log G.faults J.put_so_far J.faults (members S.first J.put_so_far J.faults (length workers.now) board) result
+        (slice_index_or workers.now 0 d) (slice_index_or workers.now 0 d) }
 {
     let _ = workers;
     let mut outcome = board.end(seats);
@@ -50,7 +51,8 @@ fn run_one<S: Step + Drop, G: Gate, J: Sink + Drop, W: Wait>(
     requires unseated { All (λ w. w.seat ≡ None) workers.old }
     ensures outcome { IsOutcome S.plan S.first G.may_say J.put_so_far J.faults (members S.first J.put_so_far J.faults 1 board) result }
     ensures workers { AreDone G.log G.faults result.fault result.events.items workers.old workers.new }
-    ensures one { (d : _) → IsOfOne S.plan G.log G.faults J.put_so_far J.faults (members S.first J.put_so_far J.faults 1 board) result (slice_index_or workers.old 0 d) (slice_index_or workers.new 0 d) }
+    ensures one { (d : _) → IsOfOne S.plan G.log G.faults J.put_so_far J.faults (members S.first J.put_so_far J.faults 1 board) result
+        (slice_index_or workers.old 0 d) (slice_index_or workers.new 0 d) }
 {
     let _ = board.agrees(&seats[0]);
     run_alone(rt, texts, board, seats, &mut workers[0].gate)
@@ -75,7 +77,9 @@ pub fn run_workers<
     requires unseated { All (λ w. w.seat ≡ None) workers.old }
     ensures outcome { IsOutcome S.plan S.first G.may_say J.put_so_far J.faults (members S.first J.put_so_far J.faults (length workers.old) board) result }
     ensures workers { AreDone G.log G.faults result.fault result.events.items workers.old workers.new }
-    ensures one { length workers.old ≡ 1 → (d : _) → IsOfOne S.plan G.log G.faults J.put_so_far J.faults (members S.first J.put_so_far J.faults 1 board) result (slice_index_or workers.old 0 d) (slice_index_or workers.new 0 d) }
+    ensures one { length workers.old ≡ 1 → (d : _)
+        → IsOfOne S.plan G.log G.faults J.put_so_far J.faults (members S.first J.put_so_far J.faults 1 board) result (slice_index_or workers.old 0 d)
+        (slice_index_or workers.new 0 d) }
 {
     match Texts::new(*seats.allocator()) {
         Err(_) => without_texts(board, seats, workers),

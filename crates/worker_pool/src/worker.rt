@@ -73,7 +73,8 @@ pub(crate) fn work_all<
     requires lengths { length workers.old ≡ length seats.now }
     requires free { All (λ s. s.claim ≡ None) seats.now }
     ensures lengths { length workers.new ≡ length workers.old }
-    ensures each { (i : ℕ) (d : _) (e : _) → i < length workers.old → HasWorkedFrom G.log G.faults (slice_index_or seats.now i e) (slice_index_or workers.old i d) (slice_index_or workers.new i d) }
+    ensures each { (i : ℕ) (d : _) (e : _) → i < length workers.old
+        → HasWorkedFrom G.log G.faults (slice_index_or seats.now i e) (slice_index_or workers.old i d) (slice_index_or workers.new i d) }
 {
     thread::for_each_mut(
         rt,

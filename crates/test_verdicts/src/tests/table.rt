@@ -55,6 +55,53 @@ fn fills_two_claims_in_the_other_order(rt: HostRuntime) -> Result<(), Fail> {
     Ok(())
 }
 
+/// How many texts of one length there are.
+const MANY: u32 = 20_000;
+
+/// The text of a number, which has 16 bytes.
+fn text_of(number: u32) -> [u8; 16] {
+    (number as u128).to_be_bytes()
+}
+
+fn verdict_of(number: u32) -> Verdict {
+    if number % 3 == 0 {
+        Verdict::Yes
+    } else {
+        Verdict::No
+    }
+}
+
+/// A table of the records of the numbers below `MANY`, in order.
+fn many_filled(alloc: Global) -> Result<Table, Memory> {
+    let mut table = Table::new(alloc);
+    for number in 0..MANY {
+        let text = Bytes::from_slice(alloc, &text_of(number))?;
+        if let Found::Absent = table.find(text.as_slice()) {
+            let claim = table.claim(text)?;
+            table.fill(claim, verdict_of(number));
+        }
+    }
+    Ok(table)
+}
+
+/// Whether the table has the record of this number where it was put.
+fn has_record(table: &Table, number: u32) -> bool {
+    let place = number as u64;
+    table.find(&text_of(number)) == filled(place, place + 1, verdict_of(number))
+}
+
+#[test]
+fn finds_each_of_many_texts(rt: HostRuntime) -> Result<(), Fail> {
+    let table = many_filled(rt.alloc())?;
+    let found = (0..MANY)
+        .filter(|number| has_record(&table, *number))
+        .count();
+    assert_eq!(rt; found, MANY as usize);
+    assert!(rt; table.find(&text_of(MANY)) == Found::Absent);
+    assert_eq!(rt; table.into_records().len(), MANY as usize);
+    Ok(())
+}
+
 #[test]
 fn adds_records_at_the_end(rt: HostRuntime) -> Result<(), Fail> {
     let mut records = Records::new(rt.alloc());

@@ -12,7 +12,9 @@ invariant-loop g l =
     let put = g.J.Sink.put_so_far in
     let faults = g.J.Sink.faults in
     record {
-      way : (start : Moment) (seat : Seat) (log : Option Log) (gate_faults : ℕ) → IsUnderWay start (moment first plan put faults l.fn.board log gate_faults) seat → IsUnderWay start (moment first plan put faults l.board log gate_faults) seat;
+      way : (start : Moment) (seat : Seat) (log : Option Log) (gate_faults : ℕ)
+          → IsUnderWay start (moment first plan put faults l.fn.board log gate_faults) seat
+          → IsUnderWay start (moment first plan put faults l.board log gate_faults) seat;
       free : (seat : Seat) → IsFree seat l.fn.board → IsFree seat l.board;
       stops : (l.board ≡ l.fn.board) ⊎ Fewer plan l.fn.board l.board;
     }

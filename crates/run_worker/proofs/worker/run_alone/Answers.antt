@@ -1,14 +1,42 @@
-use Rattle.std.proofs.Common.{IfSome, ap, option_map, subst, sym, ◌∙◌}
+use Rattle.std.proofs.Common.{◌≡◌, IfSome, List, ap, get_or, option_map, subst, sym, ◌∙◌}
 use Rattle.reduce_journal.specs.History.{records_of}
 use Rattle.verdict_table.specs.TableState.{texts_of}
 use Rattle.ordered_commit_moves.specs.Replay.{replay}
+use Rattle.ordered_commit.specs.declared.seat.Seat.{Seat}
+use Rattle.ordered_commit.specs.BoardState.{IsSettled}
 use Rattle.ordered_commit.specs.Kept.{BrokeWhereDue, IsJournal}
+use Rattle.ordered_commit.specs.Seats.{new_seat}
 use Rattle.run_worker.specs.RunHistory.{IsHistoryOf, IsSequential, with_all_asked}
 use Rattle.run_worker.specs.RunEnds.{IsCaused, ReducerEnds}
 use Rattle.run_worker.specs.UnderWay.{AreJournalBytes}
+use Rattle.run_worker.specs.inner.UnderWay.{IsFree, IsUnderWay, moment}
 use Rattle.run_worker.proofs.BeginLemmas.{begins_with, ends_at_first}
 use Rattle.run_worker.proofs.EndLemmas.{came, kept_history}
+use Rattle.run_worker.proofs.NewLemmas.{new_free, new_settled, new_under_way}
 use Rattle.run_worker.proofs.worker.run_alone.Goals as goal
+
+pub loop-init : goal.loop-init
+loop-init g c =
+    let first = g.S.Step.first in
+    let plan = g.S.Step.plan in
+    let put = g.J.Sink.put_so_far in
+    let faults = g.J.Sink.faults in
+    let log = g.G.Gate.log c.args.gate.now in
+    let count = g.G.Gate.faults c.args.gate.now in
+    let seat_is : c.index.result.now ≡ new_seat 1 = c.index.ensures ∙ ap (λ (seats : List Seat). get_or seats 0 c.index.result.now) c.requires.seats in
+    let way = new_under_way first plan put faults c.args.board.front c.args.board.journal log count c.requires.first c.requires.head in
+    record {
+      way = subst (λ seat. IsUnderWay (moment first plan put faults c.args.board log count) (moment first plan put faults c.args.board log count) seat)
+          (sym seat_is)
+          (subst (λ state. IsUnderWay (moment first plan put faults state log count) (moment first plan put faults state log count) (new_seat 1))
+          (sym c.requires.new) way);
+      free = subst (λ seat. IsFree seat c.args.board) (sym seat_is)
+          (subst (λ state. IsFree (new_seat 1) state) (sym c.requires.new)
+          (new_free first plan put faults c.args.board.front c.args.board.journal));
+      settled = subst (λ state. IsSettled plan state) (sym c.requires.new)
+          (new_settled first plan put faults c.args.board.front c.args.board.journal);
+      seats = c.requires.seats;
+    }
 
 pub loop-preserved : goal.loop-preserved
 loop-preserved g c = record {
@@ -22,7 +50,8 @@ pub returns-clause-history : goal.returns-clause-history
 returns-clause-history g c =
     let way = c.turn.ensures.way _ c.loop.invariant.way in
     subst (IsHistoryOf g.G.Gate.may_say (g.S.Step.first c.args.board.front)) (sym c.end.ensures.events)
-    (kept_history g.S.Step.plan g.S.Step.first g.G.Gate.may_say g.J.Sink.put_so_far g.J.Sink.faults c.turn.new.board (g.S.Step.first c.args.board.front) c.end.ensures.kept way.same_first)
+    (kept_history g.S.Step.plan g.S.Step.first g.G.Gate.may_say g.J.Sink.put_so_far g.J.Sink.faults c.turn.new.board
+    (g.S.Step.first c.args.board.front) c.end.ensures.kept way.same_first)
 
 pub returns-clause-sequential : goal.returns-clause-sequential
 returns-clause-sequential g c =
@@ -53,7 +82,8 @@ returns-clause-ended g c =
     let first = g.S.Step.first c.args.board.front in
     subst (λ fault. ReducerEnds fault first (g.S.Step.plan c.end.result.front) (records_of c.end.result.events.items)) (sym c.end.ensures.fault)
     (subst (λ front. ReducerEnds c.turn.new.board.fault first (g.S.Step.plan front) (records_of c.end.result.events.items)) (sym c.end.ensures.front)
-    (subst (λ history. ReducerEnds c.turn.new.board.fault first (g.S.Step.plan c.turn.new.board.front) (records_of history)) (sym c.end.ensures.events) (came _ _ _ way (c.turn.ensures.over c.loop-test.false)).1))
+    (subst (λ history. ReducerEnds c.turn.new.board.fault first (g.S.Step.plan c.turn.new.board.front) (records_of history)) (sym c.end.ensures.events)
+    (came _ _ _ way (c.turn.ensures.over c.loop-test.false)).1))
 
 pub returns-clause-replayed : goal.returns-clause-replayed
 returns-clause-replayed g c = λ none.
@@ -65,8 +95,10 @@ returns-clause-replayed g c = λ none.
 pub returns-clause-caused : goal.returns-clause-caused
 returns-clause-caused g c =
     let way = c.turn.ensures.way _ c.loop.invariant.way in
-    subst (λ fault. IsCaused fault (g.G.Gate.faults c.args.gate.now) (g.G.Gate.faults c.turn.new.gate) (g.J.Sink.faults c.args.board.journal) (g.J.Sink.faults c.end.result.journal)) (sym c.end.ensures.fault)
-    (subst (λ journal. IsCaused c.turn.new.board.fault (g.G.Gate.faults c.args.gate.now) (g.G.Gate.faults c.turn.new.gate) (g.J.Sink.faults c.args.board.journal) (g.J.Sink.faults journal)) (sym c.end.ensures.journal) way.caused)
+    subst (λ fault. IsCaused fault (g.G.Gate.faults c.args.gate.now) (g.G.Gate.faults c.turn.new.gate) (g.J.Sink.faults c.args.board.journal)
+    (g.J.Sink.faults c.end.result.journal)) (sym c.end.ensures.fault)
+    (subst (λ journal. IsCaused c.turn.new.board.fault (g.G.Gate.faults c.args.gate.now) (g.G.Gate.faults c.turn.new.gate)
+    (g.J.Sink.faults c.args.board.journal) (g.J.Sink.faults journal)) (sym c.end.ensures.journal) way.caused)
 
 pub returns-clause-due : goal.returns-clause-due
 returns-clause-due g c = λ broken.
@@ -86,12 +118,18 @@ returns-clause-name g c =
 pub returns-clause-journal : goal.returns-clause-journal
 returns-clause-journal g c =
     let way = c.turn.ensures.way _ c.loop.invariant.way in
-    subst (λ journal. IfSome (g.J.Sink.put_so_far journal) (λ put. AreJournalBytes c.end.result.fault c.end.result.events.items put.bytes)) (sym c.end.ensures.journal)
-    (subst (λ fault. IfSome (g.J.Sink.put_so_far c.turn.new.board.journal) (λ put. AreJournalBytes fault c.end.result.events.items put.bytes)) (sym c.end.ensures.fault)
-    (subst (λ history. IfSome (g.J.Sink.put_so_far c.turn.new.board.journal) (λ put. AreJournalBytes c.turn.new.board.fault history put.bytes)) (sym c.end.ensures.events) way.written))
+    subst (λ journal. IfSome (g.J.Sink.put_so_far journal) (λ put. AreJournalBytes c.end.result.fault c.end.result.events.items put.bytes))
+    (sym c.end.ensures.journal)
+    (subst (λ fault. IfSome (g.J.Sink.put_so_far c.turn.new.board.journal) (λ put. AreJournalBytes fault c.end.result.events.items put.bytes))
+    (sym c.end.ensures.fault)
+    (subst (λ history. IfSome (g.J.Sink.put_so_far c.turn.new.board.journal) (λ put. AreJournalBytes c.turn.new.board.fault history put.bytes))
+    (sym c.end.ensures.events) way.written))
 
 pub returns-clause-kept : goal.returns-clause-kept
 returns-clause-kept g c =
-    subst (λ journal. IfSome (g.J.Sink.put_so_far journal) (λ put. IsJournal c.end.result.fault c.end.result.events.items put.bytes)) (sym c.end.ensures.journal)
-    (subst (λ fault. IfSome (g.J.Sink.put_so_far c.turn.new.board.journal) (λ put. IsJournal fault c.end.result.events.items put.bytes)) (sym c.end.ensures.fault)
-    (subst (λ history. IfSome (g.J.Sink.put_so_far c.turn.new.board.journal) (λ put. IsJournal c.turn.new.board.fault history put.bytes)) (sym c.end.ensures.events) c.end.ensures.kept.journal))
+    subst (λ journal. IfSome (g.J.Sink.put_so_far journal) (λ put. IsJournal c.end.result.fault c.end.result.events.items put.bytes))
+    (sym c.end.ensures.journal)
+    (subst (λ fault. IfSome (g.J.Sink.put_so_far c.turn.new.board.journal) (λ put. IsJournal fault c.end.result.events.items put.bytes))
+    (sym c.end.ensures.fault)
+    (subst (λ history. IfSome (g.J.Sink.put_so_far c.turn.new.board.journal) (λ put. IsJournal c.turn.new.board.fault history put.bytes))
+    (sym c.end.ensures.events) c.end.ensures.kept.journal))

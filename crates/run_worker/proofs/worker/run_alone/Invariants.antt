@@ -11,7 +11,8 @@ invariant-loop g l =
     let put = g.J.Sink.put_so_far in
     let faults = g.J.Sink.faults in
     record {
-      way : IsUnderWay (moment first plan put faults l.fn.board (g.G.Gate.log l.fn.gate) (g.G.Gate.faults l.fn.gate)) (moment first plan put faults l.board (g.G.Gate.log l.gate) (g.G.Gate.faults l.gate)) l.seat;
+      way : IsUnderWay (moment first plan put faults l.fn.board (g.G.Gate.log l.fn.gate) (g.G.Gate.faults l.fn.gate))
+          (moment first plan put faults l.board (g.G.Gate.log l.gate) (g.G.Gate.faults l.gate)) l.seat;
       free : IsFree l.seat l.board;
       settled : IsSettled plan l.board;
       seats : l.seats.items ≡ new_seats 1;

@@ -1,7 +1,10 @@
-use Rattle.std.proofs.Common.{◌≡◌, ◌+◌, drop}
-use Rattle.verdict_table.specs.TableState.{record_from}
+use Rattle.verdict_table.specs.TableState.{texts_of}
+use Rattle.verdict_table.specs.inner.TextIndex.{count_to}
+use Rattle.verdict_table.proofs.TextIndexLemmas.{IsLeft}
 use Rattle.verdict_table.proofs.table.record_of.Given as goal
 
-abbrev pub invariant-loop-index : goal.invariant-loop-index
-invariant-loop-index l =
-    record_from 1 l.text l.records l.filled ≡ record_from (l.index + 1) l.text (drop l.index l.records) (drop l.index l.filled)
+abbrev pub invariant-loop-next : goal.invariant-loop-next
+invariant-loop-next l = IsLeft l.text (texts_of l.records) l.next
+
+abbrev pub decreases-loop-next : goal.decreases-loop-next
+decreases-loop-next l = count_to l.next

@@ -10,14 +10,17 @@ take_all_back-requires-clause-had g c = λ k d less.
 
 pub finish_first-requires-clause-numbers : goal.finish_first-requires-clause-numbers
 finish_first-requires-clause-numbers g c =
-    back_numbers c.args.seats.now c.take_all_back.new.seats c.args.workers.now c.requires.lengths c.take_all_back.ensures.seats c.requires.had c.take_all_back.ensures.each ∙ c.requires.numbers
+    back_numbers c.args.seats.now c.take_all_back.new.seats c.args.workers.now c.requires.lengths c.take_all_back.ensures.seats c.requires.had
+    c.take_all_back.ensures.each ∙ c.requires.numbers
 
 pub finish_first-requires-clause-free : goal.finish_first-requires-clause-free
 finish_first-requires-clause-free g c =
-    back_free c.args.seats.now c.take_all_back.new.seats c.args.workers.now c.requires.lengths c.take_all_back.ensures.seats c.requires.had c.take_all_back.ensures.each
+    back_free c.args.seats.now c.take_all_back.new.seats c.args.workers.now c.requires.lengths c.take_all_back.ensures.seats c.requires.had
+    c.take_all_back.ensures.each
 
 pub returns-clause-each : goal.returns-clause-each
 returns-clause-each g c = λ i d e less.
     let at : i < length c.take_all_back.new.workers = subst (λ (n : ℕ). i < n) (sym c.take_all_back.ensures.workers) less in
-    taken g.G.Gate.log g.G.Gate.faults (slice_index_or c.take_all_back.new.seats i e) (slice_index_or c.finish_first.new.seats i e) (slice_index_or c.args.workers.now i d) (slice_index_or c.take_all_back.new.workers i d) (slice_index_or c.finish_first.new.workers i d)
+    taken g.G.Gate.log g.G.Gate.faults (slice_index_or c.take_all_back.new.seats i e) (slice_index_or c.finish_first.new.seats i e)
+    (slice_index_or c.args.workers.now i d) (slice_index_or c.take_all_back.new.workers i d) (slice_index_or c.finish_first.new.workers i d)
     (c.take_all_back.ensures.left i d less) (c.take_all_back.ensures.each i d e less) (c.finish_first.ensures.each i d e at)

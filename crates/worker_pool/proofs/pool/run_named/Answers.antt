@@ -24,12 +24,16 @@ close-requires-clause-numbers g c = ap numbers c.requires.seats ∙ new_numbered
 pub close-requires-clause-had : goal.close-requires-clause-had
 close-requires-clause-had g c = λ i d e less.
     let at : i < length c.args.workers.now = subst (λ (n : ℕ). i < n) c.work_all.ensures.lengths less in
-    brought g.G.Gate.log g.G.Gate.faults (slice_index_or c.args.seats.now i e) (slice_index_or c.args.workers.now i d) (slice_index_or c.work_all.new.workers i d) (c.work_all.ensures.each i d e at)
+    brought g.G.Gate.log g.G.Gate.faults (slice_index_or c.args.seats.now i e) (slice_index_or c.args.workers.now i d)
+    (slice_index_or c.work_all.new.workers i d) (c.work_all.ensures.each i d e at)
 
 pub returns-clause-each : goal.returns-clause-each
 returns-clause-each g c = λ i d e less.
     let mid : i < length c.work_all.new.workers = subst (λ (n : ℕ). i < n) (sym c.work_all.ensures.lengths) less in
-    let seat : i < length c.args.seats.now = subst (λ (n : ℕ). i < n) (c.requires.workers ∙ sym (ap length c.requires.seats ∙ new_length g.R.Run.run.workers)) less in
-    let empty : All (λ (s : Seat). (s.records ≡ 0) × (s.failed ≡ false)) c.args.seats.now = subst (All (λ (s : Seat). (s.records ≡ 0) × (s.failed ≡ false))) (sym c.requires.seats) (new_empty g.R.Run.run.workers) in
-    done g.G.Gate.log g.G.Gate.faults (slice_index_or c.args.seats.now i e) (slice_index_or c.close.new.seats i e) (slice_index_or c.args.workers.now i d) (slice_index_or c.work_all.new.workers i d) (slice_index_or c.close.new.workers i d)
+    let seat : i < length c.args.seats.now =
+    subst (λ (n : ℕ). i < n) (c.requires.workers ∙ sym (ap length c.requires.seats ∙ new_length g.R.Run.run.workers)) less in
+    let empty : All (λ (s : Seat). (s.records ≡ 0) × (s.failed ≡ false)) c.args.seats.now =
+    subst (All (λ (s : Seat). (s.records ≡ 0) × (s.failed ≡ false))) (sym c.requires.seats) (new_empty g.R.Run.run.workers) in
+    done g.G.Gate.log g.G.Gate.faults (slice_index_or c.args.seats.now i e) (slice_index_or c.close.new.seats i e) (slice_index_or c.args.workers.now i d)
+    (slice_index_or c.work_all.new.workers i d) (slice_index_or c.close.new.workers i d)
     (empty i e seat) (c.work_all.ensures.each i d e less) (c.close.ensures.each i d e mid)

@@ -8,7 +8,7 @@ use Rattle.reduce_journal.specs.History.{History, records_of}
 use Rattle.ordered_commit_moves.specs.Replay.{replay}
 use Rattle.ordered_commit.specs.declared.fault.PoolFault.{PoolFault}
 use Rattle.ordered_commit.specs.Kept.{BeginsWithin, BrokeWhereDue, IsJournal, IsOfWorker}
-use Rattle.ordered_commit.specs.Seats.{new_seat}
+use Rattle.ordered_commit.specs.Seats.{AreFreeSeats, new_seat}
 use Rattle.std.specs.List.{sum}
 use Rattle.ordered_commit.specs.declared.seat.Seat.{Seat}
 use Rattle.worker_pool.proofs.DoneLemmas.{each_done, named_by, records_made}
@@ -33,6 +33,13 @@ run_named-board-requires-clause-of_run g c κs within = record {
   quiet = λ _. refl;
 }
 
+pub end-requires : goal.end-requires
+end-requires g c =
+    let named = c.run_named-board.ensures in
+    let many : length c.args.seats.items ≡ c.args.seats.len = ap length (sym c.as_mut_slice.ensures.value) ∙ c.as_mut_slice.ensures.len in
+    let same = lent c.run_named-board.new.seats c.args.seats.items c.args.seats.len many (named.seats ∙ c.as_mut_slice.ensures.len) in
+    subst (AreFreeSeats c.run_named-board.result.seats) (sym same) named.free
+
 pub returns-clause-outcome : goal.returns-clause-outcome
 returns-clause-outcome g c =
     let state = c.run_named-board.result in
@@ -45,8 +52,12 @@ returns-clause-outcome g c =
     let end = c.end.ensures in
     let out = c.end.result in
     record {
-      history = subst (IsHistoryOf g.G.Gate.may_say first) (sym end.events) (kept_history plan g.S.Step.first g.G.Gate.may_say put faults state first end.kept run.same_first);
-      begins = subst (λ (h : History). BeginsWithin (ahead (2 * n) first) (records_of h) []) (sym end.events) (begins_of plan g.S.Step.first g.G.Gate.may_say put faults state n first end.kept run.all_seats run.same_first);
+      history =
+          subst (IsHistoryOf g.G.Gate.may_say first) (sym end.events)
+          (kept_history plan g.S.Step.first g.G.Gate.may_say put faults state first end.kept run.same_first);
+      begins =
+          subst (λ (h : History). BeginsWithin (ahead (2 * n) first) (records_of h) []) (sym end.events)
+          (begins_of plan g.S.Step.first g.G.Gate.may_say put faults state n first end.kept run.all_seats run.same_first);
       same_first = ap g.S.Step.first end.front ∙ run.same_first;
       start = λ over.
           let begins = begins_of plan g.S.Step.first g.G.Gate.may_say put faults state n first end.kept run.all_seats run.same_first in (
@@ -59,17 +70,20 @@ returns-clause-outcome g c =
           let ended = c.run_named-board.ensures.over quiet in
           let followed = end.followed quiet ended in (
             subst (λ front. HasEnded (plan front)) (sym end.front) ended,
-            ap plan end.front ∙ followed ∙ ap (λ (p : Plan). follow (verdict_in (records_of state.history)) p) run.same_first ∙ ap (λ (h : History). follow (verdict_in (records_of h)) first) (sym end.events),
+            ap plan end.front ∙ followed ∙ ap (λ (p : Plan). follow (verdict_in (records_of state.history)) p) run.same_first
+                ∙ ap (λ (h : History). follow (verdict_in (records_of h)) first) (sym end.events),
           );
       replayed = λ none.
-          ap plan end.front ∙ end.kept.replayed (sym end.fault ∙ none) ∙ ap (λ (p : Plan). replay p state.history) run.same_first ∙ ap (replay first) (sym end.events);
+          ap plan end.front ∙ end.kept.replayed (sym end.fault ∙ none) ∙ ap (λ (p : Plan). replay p state.history) run.same_first
+          ∙ ap (replay first) (sym end.events);
       journal = subst (λ journal. IfSome (put journal) (λ p. IsJournal out.fault out.events.items p.bytes)) (sym end.journal)
           (subst (λ fault. IfSome (put state.journal) (λ p. IsJournal fault out.events.items p.bytes)) (sym end.fault)
           (subst (λ history. IfSome (put state.journal) (λ p. IsJournal state.fault history p.bytes)) (sym end.events) end.kept.journal));
       due = λ broken.
           subst (λ journal. IfSome (put journal) (λ p. BrokeWhereDue first out.events.items p.bytes)) (sym end.journal)
           (subst (λ history. IfSome (put state.journal) (λ p. BrokeWhereDue first history p.bytes)) (sym end.events)
-          (subst (λ (start : Plan). IfSome (put state.journal) (λ p. BrokeWhereDue start state.history p.bytes)) run.same_first (end.kept.due (sym end.fault ∙ broken))));
+          (subst (λ (start : Plan). IfSome (put state.journal) (λ p. BrokeWhereDue start state.history p.bytes)) run.same_first
+          (end.kept.due (sym end.fault ∙ broken))));
       same_name = ap (λ journal. option_map (λ p. p.name) (put journal)) end.journal ∙ run.same_name;
       rose = λ is. subst (λ journal. Rose (faults c.args.board.journal) (faults journal)) (sym end.journal) (run.rose (sym end.fault ∙ is));
       quiet = λ no. ap faults end.journal ∙ run.quiet (λ is. no (end.fault ∙ is));
@@ -92,8 +106,11 @@ returns-clause-workers g c =
       one_each = length-map c.run_named-board.new.seats (λ (t : Seat). t.records) ∙ as_many;
       lengths = named.workers;
       each = λ i d less.
-          each_done g.G.Gate.log g.G.Gate.faults out.fault _ c.run_named-board.new.seats state.seats n i (new_seat 0) (slice_index_or c.args.workers.now i d) (slice_index_or c.run_named-board.new.workers i d)
+          each_done g.G.Gate.log g.G.Gate.faults out.fault _ c.run_named-board.new.seats state.seats n i (new_seat 0) (slice_index_or c.args.workers.now i d)
+          (slice_index_or c.run_named-board.new.workers i d)
           begun as_many less (named.each i d (new_seat 0) less) of_worker unfailed named.free.agree;
-      total = ap (λ (ss : List Seat). sum (map (λ (t : Seat). t.records) ss)) (sym same) ∙ c.end.ensures.records ∙ ap (λ (h : History). length (records_of h)) (sym c.end.ensures.events);
+      total =
+          ap (λ (ss : List Seat). sum (map (λ (t : Seat). t.records) ss)) (sym same) ∙ c.end.ensures.records
+          ∙ ap (λ (h : History). length (records_of h)) (sym c.end.ensures.events);
       named = λ worker is. named_by out.fault state.seats n worker c.end.ensures.kept.workers.numbered named.run.all_seats of_worker is;
     }

@@ -27,8 +27,11 @@ returns-clause-outcome g c =
     let faults = g.J.Sink.faults in
     let end = c.end-outcome.ensures in
     let out = c.end-outcome.result in
-    let none = end.events ∙ no_history g.S.Step.plan g.S.Step.first g.G.Gate.may_say put faults n c.args.board c.args.board.front c.args.board.journal end.kept c.requires.board in
-    let head = new_head g.S.Step.plan g.S.Step.first g.G.Gate.may_say put faults n c.args.board c.args.board.front c.args.board.journal end.kept c.requires.board in
+    let none =
+    end.events ∙ no_history g.S.Step.plan g.S.Step.first g.G.Gate.may_say put faults n c.args.board c.args.board.front c.args.board.journal end.kept
+    c.requires.board in
+    let head =
+    new_head g.S.Step.plan g.S.Step.first g.G.Gate.may_say put faults n c.args.board c.args.board.front c.args.board.journal end.kept c.requires.board in
     record {
       history = none_history g.G.Gate.may_say first out.events.items none;
       begins = begins_none (ahead (2 * n) first) out.events.items none;
@@ -51,7 +54,9 @@ pub returns-clause-workers : goal.returns-clause-workers
 returns-clause-workers g c =
     let n = length c.args.workers.now in
     let end = c.end-outcome.ensures in
-    let none = end.events ∙ no_history g.S.Step.plan g.S.Step.first g.G.Gate.may_say g.J.Sink.put_so_far g.J.Sink.faults n c.args.board c.args.board.front c.args.board.journal end.kept c.requires.board in
+    let none =
+    end.events ∙ no_history g.S.Step.plan g.S.Step.first g.G.Gate.may_say g.J.Sink.put_so_far g.J.Sink.faults n c.args.board c.args.board.front
+    c.args.board.journal end.kept c.requires.board in
     none_done g.G.Gate.log g.G.Gate.faults c.args.workers.now c.end-outcome.result.events.items none c.requires.unseated
 
 pub returns-clause-one : goal.returns-clause-one
@@ -62,8 +67,12 @@ returns-clause-one g c = λ d.
     let put = g.J.Sink.put_so_far in
     let end = c.end-outcome.ensures in
     let items = c.end-outcome.result.events.items in
-    let none = end.events ∙ no_history g.S.Step.plan g.S.Step.first g.G.Gate.may_say put g.J.Sink.faults n c.args.board c.args.board.front c.args.board.journal end.kept c.requires.board in
-    let head = new_head g.S.Step.plan g.S.Step.first g.G.Gate.may_say put g.J.Sink.faults n c.args.board c.args.board.front c.args.board.journal end.kept c.requires.board in
+    let none =
+    end.events ∙ no_history g.S.Step.plan g.S.Step.first g.G.Gate.may_say put g.J.Sink.faults n c.args.board c.args.board.front c.args.board.journal end.kept
+    c.requires.board in
+    let head =
+    new_head g.S.Step.plan g.S.Step.first g.G.Gate.may_say put g.J.Sink.faults n c.args.board c.args.board.front c.args.board.journal end.kept
+    c.requires.board in
     record {
       sequential = none_sequential board.Memory first (Some Memory) items refl none;
       begun = subst (λ (h : History). BeginsWith first (records_of h)) (sym none) tt;

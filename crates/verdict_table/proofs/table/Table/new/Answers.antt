@@ -7,4 +7,7 @@ invariant_of-result c = record {
   sound = rw (c.new.ensures.items, c.new-2.ensures.items, c.new-3.ensures.items) sound_empty;
   record_capacity = rw (c.new.ensures.items, c.new-2.ensures.items) (omega arith);
   filled_capacity = rw (c.new.ensures.items, c.new-2.ensures.items) (omega arith);
+  indexed = rw c.new-2.ensures.items c.new-4.ensures;
+  newest_room = rw c.new.ensures.items (omega arith);
+  older_capacity = rw (c.new.ensures.items, c.new-2.ensures.items) (omega arith);
 }
