@@ -23,24 +23,32 @@ module _ {T : Type 0} (mode : RoundMode T) (V W : List ℕ → Option Verdict) (
   by_verdict (Some Yes) text ry rn ry' rn' is is' at_yes at_no some =
       let by : by_test true (says_yes V text) text ry rn ≡ asks_first text ry = rw is refl in
       let by' : by_test true (says_yes W text) text ry' rn' ≡ asks_first text ry' = rw is' refl in
-      λ has has'. by ∙ ap (asks_first text) (at_yes (subst (λ (r : Reduction T). HasVerdicts V r.questions) by has).1 (subst (λ (r : Reduction T). HasVerdicts W r.questions) by' has').1) ∙ sym by'
+      λ has has'.
+      by ∙ ap (asks_first text) (at_yes (subst (λ (r : Reduction T). HasVerdicts V r.questions) by has).1
+      (subst (λ (r : Reduction T). HasVerdicts W r.questions) by' has').1) ∙ sym by'
   by_verdict (Some No) text ry rn ry' rn' is is' at_yes at_no some =
       let by : by_test true (says_yes V text) text ry rn ≡ asks_first text rn = rw is refl in
       let by' : by_test true (says_yes W text) text ry' rn' ≡ asks_first text rn' = rw is' refl in
-      λ has has'. by ∙ ap (asks_first text) (at_no (subst (λ (r : Reduction T). HasVerdicts V r.questions) by has).1 (subst (λ (r : Reduction T). HasVerdicts W r.questions) by' has').1) ∙ sym by'
+      λ has has'.
+      by ∙ ap (asks_first text) (at_no (subst (λ (r : Reduction T). HasVerdicts V r.questions) by has).1
+      (subst (λ (r : Reduction T). HasVerdicts W r.questions) by' has').1) ∙ sym by'
 
-  alike-test : (listed : Bool) (text : List ℕ) (ry rn ry' rn' : Reduction T) → Alike ry ry' → Alike rn rn' → Alike (by_test listed (says_yes V text) text ry rn) (by_test listed (says_yes W text) text ry' rn')
+  alike-test : (listed : Bool) (text : List ℕ) (ry rn ry' rn' : Reduction T) → Alike ry ry' → Alike rn rn'
+      → Alike (by_test listed (says_yes V text) text ry rn) (by_test listed (says_yes W text) text ry' rn')
   unfolding Alike
   alike-test false text ry rn ry' rn' at_yes at_no = at_no
-  alike-test true text ry rn ry' rn' at_yes at_no = λ has has'. by_verdict (V text) text ry rn ry' rn' refl (sym (agree text has.0 has'.0)) at_yes at_no has.0 has has'
+  alike-test true text ry rn ry' rn' at_yes at_no =
+      λ has has'. by_verdict (V text) text ry rn ry' rn' refl (sym (agree text has.0 has'.0)) at_yes at_no has.0 has has'
 
   alike-in : (go go' : T → Bool → Reduction T) → ((state : T) (changed : Bool) → Alike (go state changed) (go' state changed))
-      → (state : T) (trials : Trials T) (changed : Bool) → Alike (tried_in mode (says_yes V) go state trials changed) (tried_in mode (says_yes W) go' state trials changed)
+      → (state : T) (trials : Trials T) (changed : Bool)
+      → Alike (tried_in mode (says_yes V) go state trials changed) (tried_in mode (says_yes W) go' state trials changed)
   alike-in go go' each state Done changed = each state changed
   alike-in go go' each state (Try other at_yes at_no) changed =
       alike-test (mode.is_listed other) (mode.text other) _ _ _ _ (alike-in go go' each other at_yes true) (alike-in go go' each state at_no changed)
 
-  alike-next : (go go' : T → Reduction T) (state : T) (changed : Bool) → Alike (go state) (go' state) → Alike (next_round go state changed) (next_round go' state changed)
+  alike-next : (go go' : T → Reduction T) (state : T) (changed : Bool) → Alike (go state) (go' state)
+      → Alike (next_round go state changed) (next_round go' state changed)
   unfolding Alike
   alike-next go go' state true each = λ has has'. ap one_round_more (each has has')
   alike-next go go' state false each = λ has has'. refl
@@ -50,16 +58,19 @@ module _ {T : Type 0} (mode : RoundMode T) (V W : List ℕ → Option Verdict) (
   alike-rounds zero state = λ has has'. refl
   alike-rounds (suc n) state =
       alike-in (next_round (λ remaining. rounds_in mode (says_yes V) n remaining)) (next_round (λ remaining. rounds_in mode (says_yes W) n remaining))
-      (λ remaining changed. alike-next (λ r. rounds_in mode (says_yes V) n r) (λ r. rounds_in mode (says_yes W) n r) remaining changed (alike-rounds n remaining)) state (mode.round state) false
+      (λ remaining changed. alike-next (λ r. rounds_in mode (says_yes V) n r) (λ r. rounds_in mode (says_yes W) n r) remaining changed
+      (alike-rounds n remaining)) state (mode.round state) false
 
   whole : Alike (reduction_in mode (says_yes V)) (reduction_in mode (says_yes W))
   unfolding Alike
   whole =
       alike-test true (mode.text mode.start) _ _ _ _
-      (alike-in (λ state changed. all_rounds mode (says_yes V) state) (λ state changed. all_rounds mode (says_yes W) state) (λ state changed. alike-rounds (suc (mode.size state)) state) mode.start mode.opening false)
+      (alike-in (λ state changed. all_rounds mode (says_yes V) state) (λ state changed. all_rounds mode (says_yes W) state)
+      (λ state changed. alike-rounds (suc (mode.size state)) state) mode.start mode.opening false)
       (λ has has'. refl)
 
-  alike : HasVerdicts V (reduction_of mode (says_yes V)).questions → HasVerdicts W (reduction_of mode (says_yes W)).questions → reduction_of mode (says_yes V) ≡ reduction_of mode (says_yes W)
+  alike : HasVerdicts V (reduction_of mode (says_yes V)).questions → HasVerdicts W (reduction_of mode (says_yes W)).questions
+      → reduction_of mode (says_yes V) ≡ reduction_of mode (says_yes W)
   unfolding Alike
   alike has has' =
       let is = reduction-in mode (says_yes V) in

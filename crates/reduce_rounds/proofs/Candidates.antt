@@ -11,7 +11,8 @@ module _ {T : Type 0} (mode : RoundMode T) (Kept : T → Type 0) (keeps : Keeps 
   OnlyTexts : Plan → Type 0
   OnlyTexts plan = (text : List ℕ) → MayAsk plan text → IsTextOf mode Kept text
 
-  asked_or_passed : (listed : Bool) (other : T) (y n p : Plan) → mode.is_listed other ≡ listed → Kept other → OnlyTexts y → OnlyTexts n → OnlyTexts p → OnlyTexts (ask_if listed (mode.text other) y n p)
+  asked_or_passed : (listed : Bool) (other : T) (y n p : Plan) → mode.is_listed other ≡ listed → Kept other → OnlyTexts y → OnlyTexts n → OnlyTexts p
+      → OnlyTexts (ask_if listed (mode.text other) y n p)
   unfolding OnlyTexts
   asked_or_passed false other y n p is has at_yes at_no passed = passed
   asked_or_passed true other y n p is has at_yes at_no passed =
@@ -26,7 +27,8 @@ module _ {T : Type 0} (mode : RoundMode T) (Kept : T → Type 0) (keeps : Keeps 
       (in_trials go each state at_no changed (capped_count (used + 1)) has all.1.1)
       (in_trials go each state at_no changed used has all.1.1)
 
-  next : (go : ℕ → ℕ → T → Plan) (rounds : ℕ) (state : T) (changed : Bool) (used : ℕ) → ((r u : ℕ) → OnlyTexts (go r u state)) → OnlyTexts (plan_next mode go rounds state changed used)
+  next : (go : ℕ → ℕ → T → Plan) (rounds : ℕ) (state : T) (changed : Bool) (used : ℕ) → ((r u : ℕ) → OnlyTexts (go r u state))
+      → OnlyTexts (plan_next mode go rounds state changed used)
   unfolding OnlyTexts
   next go rounds state true used each = each (capped_count (rounds + 1)) used
   next go rounds state false used each = λ text may. absurd may
@@ -46,8 +48,10 @@ module _ {T : Type 0} (mode : RoundMode T) (Kept : T → Type 0) (keeps : Keeps 
   whole : mode.is_listed mode.start ≡ true → OnlyTexts (plan_first mode)
   unfolding OnlyTexts
   whole first =
-      asked_or_passed true mode.start (plan_opening mode 0 mode.start mode.opening 1) (End (step_result mode mode.start 1 0 true)) (End (step_result mode mode.start 1 0 true)) first keeps.start
-      (in_trials (λ remaining changed used'. plan_rounds mode 0 used' remaining) (λ remaining changed used' has. in_all_rounds 0 used' remaining has) mode.start mode.opening false 1 keeps.start keeps.opening)
+      asked_or_passed true mode.start (plan_opening mode 0 mode.start mode.opening 1) (End (step_result mode mode.start 1 0 true))
+      (End (step_result mode mode.start 1 0 true)) first keeps.start
+      (in_trials (λ remaining changed used'. plan_rounds mode 0 used' remaining)
+      (λ remaining changed used' has. in_all_rounds 0 used' remaining has) mode.start mode.opening false 1 keeps.start keeps.opening)
       (λ text may. absurd may) (λ text may. absurd may)
 
 pub asks_candidates : {T : Type 0} (mode : RoundMode T) (Kept : T → Type 0) → AsksCandidates mode Kept

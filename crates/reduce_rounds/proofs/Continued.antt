@@ -3,7 +3,8 @@ use Rattle.std.proofs.Common.{◌≡◌, ℕ, suc, zero, ◌+◌, Bool, true, fa
 use Rattle.std.specs.Prelude.{◌||◌}
 use Rattle.reduce_rounds.specs.Trials.{Trials, Done, Try}
 use Rattle.reduce_rounds.specs.Mode.{RoundMode}
-use Rattle.reduce_rounds.specs.Reduction.{Reduction, RoundEnd, after_opening, after_question, after_round, after_yes, asks_first, ends_with, next_rounds, reduction, rounds_of, rounds_within}
+use Rattle.reduce_rounds.specs.Reduction.{Reduction, RoundEnd, after_opening, after_question, after_round, after_yes, asks_first}
+use Rattle.reduce_rounds.specs.Reduction.{ends_with, next_rounds, reduction, rounds_of, rounds_within}
 use Rattle.reduce_rounds.specs.ByTrials.{opening_of, recursion_of, reduction_of, round_of, texts_of, trials_end}
 
 pub or-true : (b : Bool) → (b || true) ≡ true
@@ -56,7 +57,8 @@ module _ {T : Type 0} (mode : RoundMode T) (verdict : List ℕ → Bool) where
       → tried_in go state trials changed ≡ from_end go changed (trials_end (texts_of mode) verdict state trials)
   tried_in-end go state Done changed = ap (λ c. go state c) (sym (or-false changed))
   tried_in-end go state (Try other at_yes at_no) changed =
-      from_end-test go changed (mode.is_listed other) (verdict (mode.text other)) (mode.text other) _ _ (trials_end (texts_of mode) verdict other at_yes) (trials_end (texts_of mode) verdict state at_no)
+      from_end-test go changed (mode.is_listed other) (verdict (mode.text other)) (mode.text other) _ _ (trials_end (texts_of mode) verdict other at_yes)
+      (trials_end (texts_of mode) verdict state at_no)
       (tried_in-end go other at_yes true) (tried_in-end go state at_no changed)
 
   abbrev pub rounds_in : ℕ → T → Reduction T

@@ -27,7 +27,8 @@ module _ {T : Type 0} (mode : RoundMode T) (Kept : T → Type 0) (V : List ℕ �
     quiet : IsQuiet (mode.round r.state)
 
   -- a test whose verdict is there
-  by_cases : (listed : Bool) (text : List ℕ) (P : Reduction T → Type 0) (ry rn : Reduction T) → HasVerdicts V (by_test listed (says_yes V text) text ry rn).questions
+  by_cases : (listed : Bool) (text : List ℕ) (P : Reduction T → Type 0) (ry rn : Reduction T)
+      → HasVerdicts V (by_test listed (says_yes V text) text ry rn).questions
       → (listed ≡ true → V text ≡ Some Yes → HasVerdicts V ry.questions → P ry)
       → ((listed ≡ true → V text ≡ Some No) → HasVerdicts V rn.questions → P rn)
       → ((r : Reduction T) → P r → P (record r { questions = text ∷ r.questions }))
@@ -36,11 +37,13 @@ module _ {T : Type 0} (mode : RoundMode T) (Kept : T → Type 0) (V : List ℕ �
   by_cases true text P ry rn has at_yes at_no more =
       by_verdict (V text) refl has
     where
-      by_verdict : (o : Option Verdict) → V text ≡ o → HasVerdicts V (by_test true (says_yes V text) text ry rn).questions → P (by_test true (says_yes V text) text ry rn)
+      by_verdict : (o : Option Verdict) → V text ≡ o → HasVerdicts V (by_test true (says_yes V text) text ry rn).questions
+          → P (by_test true (says_yes V text) text ry rn)
       by_verdict None is known = absurd (let some = known.0 in false≢true (subst (λ o. IsSome o) is some))
       by_verdict (Some Yes) is known =
           let by : cond (says_yes V text) ry rn ≡ ry = rw is refl in
-          subst (λ r. P (record r { questions = text ∷ r.questions })) (sym by) (more ry (at_yes refl is (subst (λ (r : Reduction T). HasVerdicts V r.questions) by known.1)))
+          subst (λ r. P (record r { questions = text ∷ r.questions })) (sym by)
+          (more ry (at_yes refl is (subst (λ (r : Reduction T). HasVerdicts V r.questions) by known.1)))
       by_verdict (Some No) is known =
           let by : cond (says_yes V text) ry rn ≡ rn = rw is refl in
           subst (λ r. P (record r { questions = text ∷ r.questions })) (sym by)
@@ -50,28 +53,36 @@ module _ {T : Type 0} (mode : RoundMode T) (Kept : T → Type 0) (V : List ℕ �
   in_trials : (go : T → Bool → Reduction T) (begun : T) (bound : ℕ)
       → ((remaining : T) → mode.size remaining < bound → IsYes remaining → HasVerdicts V (go remaining true).questions → IsGood (go remaining true))
       → ((remaining : T) → IsYes remaining → IsQuiet (mode.round remaining) → IsGood (go remaining false))
-      → (n : ℕ) (state : T) (trials : Trials T) (changed : Bool) → AllTried Kept trials → EachIsSmaller mode.size n trials → n ≤ bound → (changed ≡ true → mode.size state < bound)
+      → (n : ℕ) (state : T) (trials : Trials T) (changed : Bool) → AllTried Kept trials → EachIsSmaller mode.size n trials → n ≤ bound
+      → (changed ≡ true → mode.size state < bound)
       → IsYes state → (changed ≡ false → IsQuiet trials → IsQuiet (mode.round state))
       → HasVerdicts V (tried_in mode (says_yes V) go state trials changed).questions → IsGood (tried_in mode (says_yes V) go state trials changed)
   unfolding IsQuiet
   in_trials go begun bound at_true at_false n state Done true all smaller low small is_yes_now quiet has = at_true state (small refl) is_yes_now has
-  in_trials go begun bound at_true at_false n state Done false all smaller low small is_yes_now quiet has = at_false state is_yes_now (quiet refl (λ other tried listed. absurd tried))
+  in_trials go begun bound at_true at_false n state Done false all smaller low small is_yes_now quiet has =
+      at_false state is_yes_now (quiet refl (λ other tried listed. absurd tried))
   in_trials go begun bound at_true at_false n state (Try other at_yes at_no) changed all smaller low small is_yes_now quiet has =
       let less = smaller.0 in
       by_cases (mode.is_listed other) (mode.text other) IsGood _ _ has
-      (λ listed says known. in_trials go begun bound at_true at_false (mode.size other) other at_yes true all.1.0 smaller.1.0 (omega (arith, less)) (λ _. omega (arith, less))
+      (λ listed says known. in_trials go begun bound at_true at_false (mode.size other) other at_yes true all.1.0 smaller.1.0 (omega (arith, less))
+      (λ _. omega (arith, less))
       (record { says = says; listed = listed; kept = all.0 }) (λ no. absurd (cc)) known)
       (λ says_no known. in_trials go begun bound at_true at_false n state at_no changed all.1.1 smaller.1.1 low small is_yes_now
-      (λ unchanged later. quiet unchanged (λ one tried listed. ⊎_elim (λ same. subst (λ t. V (mode.text t) ≡ Some No) same (says_no (subst (λ t. mode.is_listed t ≡ true) (sym same) listed))) (λ more. later one more listed) tried)) known)
+      (λ unchanged later. quiet unchanged (λ one tried listed. ⊎_elim
+      (λ same. subst (λ t. V (mode.text t) ≡ Some No) same (says_no (subst (λ t. mode.is_listed t ≡ true) (sym same) listed)))
+      (λ more. later one more listed) tried)) known)
       (λ r good. record { yes_at_end = good.yes_at_end; quiet = good.quiet })
 
-  in_rounds : IsLawful mode Kept → (n : ℕ) (state : T) → mode.size state < n → IsYes state → HasVerdicts V (rounds_in mode (says_yes V) n state).questions → IsGood (rounds_in mode (says_yes V) n state)
+  in_rounds : IsLawful mode Kept → (n : ℕ) (state : T) → mode.size state < n → IsYes state → HasVerdicts V (rounds_in mode (says_yes V) n state).questions
+      → IsGood (rounds_in mode (says_yes V) n state)
   in_rounds law zero state enough is_yes_now has = absurd (omega arith)
   in_rounds law (suc n) state enough is_yes_now has =
       in_trials (next_round (λ remaining. rounds_in mode (says_yes V) n remaining)) state (mode.size state)
-      (λ remaining less yes_there known. let good = in_rounds law n remaining (omega arith) yes_there known in record { yes_at_end = good.yes_at_end; quiet = good.quiet })
+      (λ remaining less yes_there known. let good = in_rounds law n remaining (omega arith) yes_there known in
+      record { yes_at_end = good.yes_at_end; quiet = good.quiet })
       (λ remaining yes_there still. record { yes_at_end = yes_there; quiet = still })
-      (mode.size state) state (mode.round state) false (law.keeps.round state is_yes_now.kept) (law.smaller state is_yes_now.kept) (omega arith) (λ no. absurd (cc)) is_yes_now (λ _ still. still) has
+      (mode.size state) state (mode.round state) false (law.keeps.round state is_yes_now.kept) (law.smaller state is_yes_now.kept) (omega arith)
+      (λ no. absurd (cc)) is_yes_now (λ _ still. still) has
 
   -- the opening's trials, of any size
   in_opening : IsLawful mode Kept → (state : T) (trials : Trials T) (changed : Bool) → AllTried Kept trials → IsYes state
@@ -87,14 +98,18 @@ module _ {T : Type 0} (mode : RoundMode T) (Kept : T → Type 0) (V : List ℕ �
   pub record GoodUnlessRefused (r : Reduction T) : Type 0 where
     good : r.refused ≡ false → IsGood r
 
-  whole : IsLawful mode Kept → mode.is_listed mode.start ≡ true → HasVerdicts V (reduction_in mode (says_yes V)).questions → GoodUnlessRefused (reduction_in mode (says_yes V))
+  whole : IsLawful mode Kept → mode.is_listed mode.start ≡ true → HasVerdicts V (reduction_in mode (says_yes V)).questions
+      → GoodUnlessRefused (reduction_in mode (says_yes V))
   whole law first has =
       by_cases true (mode.text mode.start) GoodUnlessRefused _ _ has
-      (λ listed says known. record { good = λ stays. in_opening law mode.start mode.opening false law.keeps.opening (record { says = says; listed = first; kept = law.keeps.start }) known })
+      (λ listed says known. record {
+        good = λ stays. in_opening law mode.start mode.opening false law.keeps.opening (record { says = says; listed = first; kept = law.keeps.start }) known;
+      })
       (λ says_no known. record { good = λ stays. absurd (false≢true (sym stays)) })
       (λ r later. record { good = λ stays. let g = later.good stays in record { yes_at_end = g.yes_at_end; quiet = g.quiet } })
 
-  pub ends_well : (IsEdit : T → T → Type 0) → IsLawful mode Kept → TriesEdits mode Kept IsEdit → mode.is_listed mode.start ≡ true → (reduction_of mode (says_yes V)).refused ≡ false
+  pub ends_well : (IsEdit : T → T → Type 0) → IsLawful mode Kept → TriesEdits mode Kept IsEdit → mode.is_listed mode.start ≡ true
+      → (reduction_of mode (says_yes V)).refused ≡ false
       → HasVerdicts V (reduction_of mode (says_yes V)).questions → EndsWell mode Kept IsEdit V (reduction_of mode (says_yes V)).state
   unfolding IsQuiet
   ends_well IsEdit law tries first stays has =

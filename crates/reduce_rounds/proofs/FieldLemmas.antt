@@ -30,10 +30,12 @@ module _ {T : Type 0} (mode : RoundMode T) where
   pass-by false text go state current later y n p changed used a b = b
 
   -- to pass over what isn't listed changes nothing
-  pub plan_in-listed_trials : (go : T → Bool → ℕ → Plan) (state : T) (rest : Trials T) (changed : Bool) (used : ℕ) → plan_in mode go state (listed_trials mode rest) changed used ≡ plan_in mode go state rest changed used
+  pub plan_in-listed_trials : (go : T → Bool → ℕ → Plan) (state : T) (rest : Trials T) (changed : Bool) (used : ℕ)
+      → plan_in mode go state (listed_trials mode rest) changed used ≡ plan_in mode go state rest changed used
   plan_in-listed_trials go state Done changed used = refl
   plan_in-listed_trials go state (Try other at_yes at_no) changed used =
-      pass-by (mode.is_listed other) (mode.text other) go state (Try other at_yes at_no) (listed_trials mode at_no) _ _ _ changed used refl (plan_in-listed_trials go state at_no changed used)
+      pass-by (mode.is_listed other) (mode.text other) go state (Try other at_yes at_no) (listed_trials mode at_no) _ _ _ changed used refl
+      (plan_in-listed_trials go state at_no changed used)
 
   listed_by : (listed : Bool) (other : T) (y n rest : Trials T) → mode.is_listed other ≡ listed → (is_done rest ≡ false → IsSome (listed_text mode rest))
       → is_done (cond listed (Try other y n) rest) ≡ false → IsSome (listed_text mode (cond listed (Try other y n) rest))
@@ -43,13 +45,15 @@ module _ {T : Type 0} (mode : RoundMode T) where
   -- what remains after passing asks, or is over
   pub listed_trials-asks : (rest : Trials T) → is_done (listed_trials mode rest) ≡ false → IsSome (listed_text mode (listed_trials mode rest))
   listed_trials-asks Done open_ = absurd (false≢true (sym open_))
-  listed_trials-asks (Try other at_yes at_no) open_ = listed_by (mode.is_listed other) other at_yes at_no (listed_trials mode at_no) refl (listed_trials-asks at_no) open_
+  listed_trials-asks (Try other at_yes at_no) open_ =
+      listed_by (mode.is_listed other) other at_yes at_no (listed_trials mode at_no) refl (listed_trials-asks at_no) open_
 
   pub done-is : (rest : Trials T) → is_done rest ≡ true → rest ≡ Done
   done-is Done is = refl
   done-is (Try other y n) is = absurd (false≢true is)
 
-  pub end-is : (state : T) (progress : Progress) (used rounds : ℕ) → HasState mode state progress → progress.used ≡ used → progress.rounds ≡ rounds → End (result_so_far progress) ≡ End (step_result mode state used rounds false)
+  pub end-is : (state : T) (progress : Progress) (used rounds : ℕ) → HasState mode state progress → progress.used ≡ used → progress.rounds ≡ rounds
+      → End (result_so_far progress) ≡ End (step_result mode state used rounds false)
   end-is state progress used rounds has p q = λ i. End (record { text = has.text i; units = has.units i; used = p i; rounds = q i; refused = has.refused i })
 
   -- what is passed over leaves only kept states
@@ -62,10 +66,12 @@ module _ {T : Type 0} (mode : RoundMode T) where
 
       all-listed : (rest : Trials T) → AllTried (λ other. ∥ Kept other ∥₁) rest → AllTried (λ other. ∥ Kept other ∥₁) (listed_trials mode rest)
       all-listed Done all = tt
-      all-listed (Try other at_yes at_no) all = chosen (λ other'. ∥ Kept other' ∥₁) (mode.is_listed other) (Try other at_yes at_no) (listed_trials mode at_no) all (all-listed at_no all.1.1)
+      all-listed (Try other at_yes at_no) all =
+          chosen (λ other'. ∥ Kept other' ∥₁) (mode.is_listed other) (Try other at_yes at_no) (listed_trials mode at_no) all (all-listed at_no all.1.1)
 
   -- an answer leads to a kept state
-  pub kept-after : (Kept : T → Type 0) (state : T) (rest : Trials T) (answer : Bool) → StaysKept mode Kept state rest → StaysKept mode Kept (state_after state rest answer) (trials_after rest answer)
+  pub kept-after : (Kept : T → Type 0) (state : T) (rest : Trials T) (answer : Bool) → StaysKept mode Kept state rest
+      → StaysKept mode Kept (state_after state rest answer) (trials_after rest answer)
   kept-after Kept state Done answer stays keeps = stays keeps
   kept-after Kept state (Try other at_yes at_no) true stays keeps = let all = (stays keeps).1 in (all.0, all.1.0)
   kept-after Kept state (Try other at_yes at_no) false stays keeps = let all = (stays keeps).1 in ((stays keeps).0, all.1.1)
@@ -101,10 +107,12 @@ module _ {T : Type 0} (mode : RoundMode T) where
   -- the rounds from the state that remains are one round and what follows it
   first-round : (Kept : T → Type 0) → IsLawful mode Kept → (rounds used : ℕ) (state : T) (rest : Trials T) → StaysKept mode Kept state rest
       → plan_rounds mode rounds used state ≡ plan_round mode rounds state (mode.round state) false used
-  first-round Kept law rounds used state rest stays = plan_rounds-step mode (λ one. ∥ Kept one ∥₁) (merely_lawful Kept law) rounds used state (stays law.keeps).0
+  first-round Kept law rounds used state rest stays =
+      plan_rounds-step mode (λ one. ∥ Kept one ∥₁) (merely_lawful Kept law) rounds used state (stays law.keeps).0
 
   -- a round that was begun: the fields after passing
-  pub begun-asking : (Kept : T → Type 0) → IsLawful mode Kept → (state : T) (before rest : Trials T) (progress : Progress) → StaysKept mode Kept state before → rest ≡ listed_trials mode (mode.round state) → is_done rest ≡ false
+  pub begun-asking : (Kept : T → Type 0) → IsLawful mode Kept → (state : T) (before rest : Trials T) (progress : Progress) → StaysKept mode Kept state before
+      → rest ≡ listed_trials mode (mode.round state) → is_done rest ≡ false
       → HasState mode state progress → Becomes (plan_rounds mode progress.rounds progress.used state) mode Kept state rest (Within false) progress
   begun-asking Kept law state before rest progress stays is open_ has = record {
     same = ap (λ r. plan_round mode progress.rounds state r false progress.used) is
@@ -117,7 +125,8 @@ module _ {T : Type 0} (mode : RoundMode T) where
     );
   }
 
-  pub begun-over : (Kept : T → Type 0) → IsLawful mode Kept → (state : T) (before rest : Trials T) (progress progress' : Progress) → StaysKept mode Kept state before → rest ≡ listed_trials mode (mode.round state) → is_done rest ≡ true
+  pub begun-over : (Kept : T → Type 0) → IsLawful mode Kept → (state : T) (before rest : Trials T) (progress progress' : Progress)
+      → StaysKept mode Kept state before → rest ≡ listed_trials mode (mode.round state) → is_done rest ≡ true
       → HasState mode state progress' → progress'.used ≡ progress.used → progress'.rounds ≡ capped_count (progress.rounds + 1)
       → Becomes (plan_rounds mode progress.rounds progress.used state) mode Kept state rest Ended progress'
   begun-over Kept law state before rest progress progress' stays is over has p q = record {
@@ -128,19 +137,26 @@ module _ {T : Type 0} (mode : RoundMode T) where
     asking = tt;
   }
 
-  asking-passed : (Kept : T → Type 0) (state : T) (rest rest' : Trials T) → rest' ≡ listed_trials mode rest → is_done rest' ≡ false → IsSome (listed_text mode rest')
-  asking-passed Kept state rest rest' is open_ = subst (λ r. IsSome (listed_text mode r)) (sym is) (listed_trials-asks rest (subst (λ r. is_done r ≡ false) is open_))
+  asking-passed : (Kept : T → Type 0) (state : T) (rest rest' : Trials T) → rest' ≡ listed_trials mode rest → is_done rest' ≡ false
+      → IsSome (listed_text mode rest')
+  asking-passed Kept state rest rest' is open_ =
+      subst (λ r. IsSome (listed_text mode r)) (sym is) (listed_trials-asks rest (subst (λ r. is_done r ≡ false) is open_))
 
   -- trials that go on: the fields after passing
-  pub passed-asking : (Kept : T → Type 0) (state : T) (rest rest' : Trials T) (stage : Stage) (progress : Progress) → IsTrying stage → StaysKept mode Kept state rest → rest' ≡ listed_trials mode rest → is_done rest' ≡ false → HasState mode state progress
+  pub passed-asking : (Kept : T → Type 0) (state : T) (rest rest' : Trials T) (stage : Stage) (progress : Progress) → IsTrying stage progress
+      → StaysKept mode Kept state rest → rest' ≡ listed_trials mode rest → is_done rest' ≡ false → HasState mode state progress
       → Becomes (plan_of mode state rest stage progress) mode Kept state rest' stage progress
   passed-asking Kept state rest rest' Start progress trying stays is open_ has = absurd trying
   passed-asking Kept state rest rest' Opening progress trying stays is open_ has = record {
-    same = ap (λ r. plan_opening mode progress.rounds state r progress.used) is ∙ plan_in-listed_trials (λ remaining changed used'. plan_rounds mode progress.rounds used' remaining) state rest false progress.used;
-    asking = (has, asking-passed Kept state rest rest' is open_, subst (StaysKept mode Kept state) (sym is) (kept-listed Kept state rest stays));
+    same =
+        ap (λ r. plan_opening mode progress.rounds state r progress.used) is
+        ∙ plan_in-listed_trials (λ remaining changed used'. plan_rounds mode progress.rounds used' remaining) state rest false progress.used;
+    asking = (has, asking-passed Kept state rest rest' is open_, subst (StaysKept mode Kept state) (sym is) (kept-listed Kept state rest stays), trying);
   }
   passed-asking Kept state rest rest' (Within changed) progress trying stays is open_ has = record {
-    same = ap (λ r. plan_round mode progress.rounds state r changed progress.used) is ∙ plan_in-listed_trials (plan_next mode (plan_rounds mode) progress.rounds) state rest changed progress.used;
+    same =
+        ap (λ r. plan_round mode progress.rounds state r changed progress.used) is
+        ∙ plan_in-listed_trials (plan_next mode (plan_rounds mode) progress.rounds) state rest changed progress.used;
     asking = (has, asking-passed Kept state rest rest' is open_, subst (StaysKept mode Kept state) (sym is) (kept-listed Kept state rest stays));
   }
   passed-asking Kept state rest rest' Ended progress trying stays is open_ has = absurd trying
@@ -149,24 +165,30 @@ module _ {T : Type 0} (mode : RoundMode T) where
   pub opening-over : (state : T) (rest rest' : Trials T) (progress : Progress) → rest' ≡ listed_trials mode rest → rest' ≡ Done
       → plan_rounds mode progress.rounds progress.used state ≡ plan_opening mode progress.rounds state rest progress.used
   opening-over state rest rest' progress is over =
-      ap (λ r. plan_opening mode progress.rounds state r progress.used) (sym (sym is ∙ over)) ∙ plan_in-listed_trials (λ remaining changed used'. plan_rounds mode progress.rounds used' remaining) state rest false progress.used
+      ap (λ r. plan_opening mode progress.rounds state r progress.used) (sym (sym is ∙ over))
+      ∙ plan_in-listed_trials (λ remaining changed used'. plan_rounds mode progress.rounds used' remaining) state rest false progress.used
 
   pub round-over : (state : T) (rest rest' : Trials T) (changed : Bool) (rounds used : ℕ) → rest' ≡ listed_trials mode rest → rest' ≡ Done
       → plan_next mode (plan_rounds mode) rounds state changed used ≡ plan_round mode rounds state rest changed used
   round-over state rest rest' changed rounds used is over =
-      ap (λ r. plan_round mode rounds state r changed used) (sym (sym is ∙ over)) ∙ plan_in-listed_trials (plan_next mode (plan_rounds mode) rounds) state rest changed used
+      ap (λ r. plan_round mode rounds state r changed used) (sym (sym is ∙ over))
+      ∙ plan_in-listed_trials (plan_next mode (plan_rounds mode) rounds) state rest changed used
 
-  asked-by : (listed : Bool) (text : List ℕ) (y n p : Plan) (verdict : Verdict) → IsSome (text_if listed text) → (P : Plan → Type 0) → (verdict ≡ Yes → P y) → (verdict ≡ No → P n)
+  asked-by : (listed : Bool) (text : List ℕ) (y n p : Plan) (verdict : Verdict) → IsSome (text_if listed text) → (P : Plan → Type 0) → (verdict ≡ Yes → P y)
+      → (verdict ≡ No → P n)
       → P (plan_after (ask_if listed text y n p) verdict)
   asked-by false text y n p verdict some P at_yes at_no = absurd (false≢true some)
   asked-by true text y n p Yes some P at_yes at_no = at_yes refl
   asked-by true text y n p No some P at_yes at_no = at_no refl
 
   answered-in : (go : T → Bool → ℕ → Plan) (state : T) (rest : Trials T) (changed : Bool) (used : ℕ) (verdict : Verdict) → IsSome (listed_text mode rest)
-      → plan_in mode go (state_after state rest (is_yes (Some verdict))) (trials_after rest (is_yes (Some verdict))) (changed || is_yes (Some verdict)) (capped_count (used + 1)) ≡ plan_after (plan_in mode go state rest changed used) verdict
+      → plan_in mode go (state_after state rest (is_yes (Some verdict))) (trials_after rest (is_yes (Some verdict))) (changed || is_yes (Some verdict))
+      (capped_count (used + 1)) ≡ plan_after (plan_in mode go state rest changed used) verdict
   answered-in go state Done changed used verdict some = absurd (false≢true some)
   answered-in go state (Try other at_yes at_no) changed used verdict some =
-      let now : Bool → Plan = λ answer. plan_in mode go (state_after state (Try other at_yes at_no) answer) (trials_after (Try other at_yes at_no) answer) (changed || answer) (capped_count (used + 1)) in
+      let now : Bool → Plan =
+      λ answer. plan_in mode go (state_after state (Try other at_yes at_no) answer) (trials_after (Try other at_yes at_no) answer) (changed || answer)
+      (capped_count (used + 1)) in
       asked-by (mode.is_listed other) (mode.text other) _ _ _ verdict some
       (λ p. now (is_yes (Some verdict)) ≡ p)
       (λ is. ap (λ v. now (is_yes (Some v))) is ∙ ap (λ c. plan_in mode go other at_yes c (capped_count (used + 1))) (or-true changed))
@@ -177,17 +199,21 @@ module _ {T : Type 0} (mode : RoundMode T) where
       → plan_in mode (λ s c u. go s u) state rest changed used ≡ plan_in mode (λ s c u. go s u) state rest changed' used
   unchanged-in go state Done changed changed' used = refl
   unchanged-in go state (Try other at_yes at_no) changed changed' used =
-      ask_if-same (mode.is_listed other) (mode.text other) _ _ _ _ _ _ refl (unchanged-in go state at_no changed changed' (capped_count (used + 1))) (unchanged-in go state at_no changed changed' used)
+      ask_if-same (mode.is_listed other) (mode.text other) _ _ _ _ _ _ refl (unchanged-in go state at_no changed changed' (capped_count (used + 1)))
+      (unchanged-in go state at_no changed changed' used)
 
   -- an answer goes one step on
-  pub answered-plan : (state : T) (rest : Trials T) (stage : Stage) (progress progress' : Progress) (verdict : Verdict) → IsTrying stage → IsSome (listed_text mode rest)
+  pub answered-plan : (state : T) (rest : Trials T) (stage : Stage) (progress progress' : Progress) (verdict : Verdict) → IsTrying stage progress
+      → IsSome (listed_text mode rest)
       → progress'.used ≡ capped_count (progress.used + 1) → progress'.rounds ≡ progress.rounds
-      → plan_of mode (state_after state rest (is_yes (Some verdict))) (trials_after rest (is_yes (Some verdict))) (stage_after stage (is_yes (Some verdict))) progress' ≡ plan_after (plan_of mode state rest stage progress) verdict
+      → plan_of mode (state_after state rest (is_yes (Some verdict))) (trials_after rest (is_yes (Some verdict)))
+      (stage_after stage (is_yes (Some verdict))) progress' ≡ plan_after (plan_of mode state rest stage progress) verdict
   answered-plan state rest Start progress progress' verdict trying some p q = absurd trying
   answered-plan state rest Opening progress progress' verdict trying some p q =
       let answer : Bool = is_yes (Some verdict) in
       (λ i. plan_opening mode (q i) (state_after state rest answer) (trials_after rest answer) (p i))
-      ∙ unchanged-in (λ remaining used'. plan_rounds mode progress.rounds used' remaining) (state_after state rest answer) (trials_after rest answer) false (false || answer) (capped_count (progress.used + 1))
+      ∙ unchanged-in (λ remaining used'. plan_rounds mode progress.rounds used' remaining) (state_after state rest answer) (trials_after rest answer) false
+      (false || answer) (capped_count (progress.used + 1))
       ∙ answered-in (λ remaining changed used'. plan_rounds mode progress.rounds used' remaining) state rest false progress.used verdict some
   answered-plan state rest (Within changed) progress progress' verdict trying some p q =
       let answer : Bool = is_yes (Some verdict) in
@@ -199,27 +225,32 @@ module _ {T : Type 0} (mode : RoundMode T) where
   asked-if true text y n p some = refl
   asked-if false text y n p some = absurd (false≢true some)
 
-  asked-in : (go : T → Bool → ℕ → Plan) (state : T) (rest : Trials T) (changed : Bool) (used : ℕ) → IsSome (listed_text mode rest) → asked (plan_in mode go state rest changed used) ≡ listed_text mode rest
+  asked-in : (go : T → Bool → ℕ → Plan) (state : T) (rest : Trials T) (changed : Bool) (used : ℕ) → IsSome (listed_text mode rest)
+      → asked (plan_in mode go state rest changed used) ≡ listed_text mode rest
   asked-in go state Done changed used some = absurd (false≢true some)
   asked-in go state (Try other at_yes at_no) changed used some = asked-if (mode.is_listed other) (mode.text other) _ _ _ some
 
   -- what is asked now
-  pub asked-now : (state : T) (rest : Trials T) (stage : Stage) (progress : Progress) → IsTrying stage → IsSome (listed_text mode rest) → asked (plan_of mode state rest stage progress) ≡ listed_text mode rest
+  pub asked-now : (state : T) (rest : Trials T) (stage : Stage) (progress : Progress) → IsTrying stage progress → IsSome (listed_text mode rest)
+      → asked (plan_of mode state rest stage progress) ≡ listed_text mode rest
   asked-now state rest Start progress trying some = absurd trying
   asked-now state rest Opening progress trying some = asked-in _ state rest false progress.used some
   asked-now state rest (Within changed) progress trying some = asked-in _ state rest changed progress.used some
   asked-now state rest Ended progress trying some = absurd trying
 
 -- the same fields of a round that was called
-pub moved : {I T : Type 0} (mode_of : I → RoundMode T) (Kept_of : I → T → Type 0) (plan plan' : Plan) (input input' : I) (state state' : T) (rest : Trials T) (stage : Stage) (progress : Progress)
-    → plan' ≡ plan → input' ≡ input → state' ≡ state → Becomes plan' (mode_of input) (Kept_of input) state rest stage progress → Becomes plan (mode_of input') (Kept_of input') state' rest stage progress
+pub moved : {I T : Type 0} (mode_of : I → RoundMode T) (Kept_of : I → T → Type 0) (plan plan' : Plan) (input input' : I) (state state' : T) (rest : Trials T)
+    (stage : Stage) (progress : Progress)
+    → plan' ≡ plan → input' ≡ input → state' ≡ state → Becomes plan' (mode_of input) (Kept_of input) state rest stage progress
+    → Becomes plan (mode_of input') (Kept_of input') state' rest stage progress
 moved mode_of Kept_of plan plan' input input' state state' rest stage progress p q r becomes =
     subst (λ s. Becomes plan (mode_of input') (Kept_of input') s rest stage progress) (sym r)
     (subst (λ m. Becomes plan (mode_of m) (Kept_of m) state rest stage progress) (sym q)
     (subst (λ p. Becomes p (mode_of input) (Kept_of input) state rest stage progress) p becomes))
 
 -- a round without a yes was the last
-pub round-ends : {T : Type 0} (mode : RoundMode T) (Kept : T → Type 0) (state : T) (rest rest' : Trials T) (changed : Bool) (progress : Progress) (rounds : ℕ) → rest' ≡ listed_trials mode rest → rest' ≡ Done → changed ≡ false
+pub round-ends : {T : Type 0} (mode : RoundMode T) (Kept : T → Type 0) (state : T) (rest rest' : Trials T) (changed : Bool) (progress : Progress) (rounds : ℕ)
+    → rest' ≡ listed_trials mode rest → rest' ≡ Done → changed ≡ false
     → rounds ≡ capped_count (progress.rounds + 1) → HasState mode state progress
     → Becomes (plan_of mode state rest (Within changed) progress) mode Kept state rest' Ended (record progress { rounds = rounds })
 round-ends mode Kept state rest rest' changed progress rounds is over no_yes more has = record {
@@ -231,9 +262,14 @@ round-ends mode Kept state rest rest' changed progress rounds is over no_yes mor
 }
 
 -- a machine that asks nothing has ended with its progress
-pub ended-now : {T : Type 0} (mode : RoundMode T) (Kept : T → Type 0) (state : T) (rest : Trials T) (stage : Stage) (progress : Progress) → IsReady mode Kept state rest stage progress
+pub ended-now : {T : Type 0} (mode : RoundMode T) (Kept : T → Type 0) (state : T) (rest : Trials T) (stage : Stage) (progress : Progress)
+    → IsReady mode Kept state rest stage progress
     → asked (plan_of mode state rest stage progress) ≡ None → plan_of mode state rest stage progress ≡ End (result_so_far progress)
 ended-now mode Kept state rest Start progress ready none = absurd (cc none)
-ended-now mode Kept state rest Opening progress ready none = absurd (let open_ = asked-now mode state rest Opening progress tt ready.asking.1 in false≢true (subst (λ o. IsSome o) (sym open_ ∙ none) ready.asking.1))
-ended-now mode Kept state rest (Within changed) progress ready none = absurd (let open_ = asked-now mode state rest (Within changed) progress tt ready.asking.1 in false≢true (subst (λ o. IsSome o) (sym open_ ∙ none) ready.asking.1))
+ended-now mode Kept state rest Opening progress ready none =
+    absurd (let open_ = asked-now mode state rest Opening progress ready.asking.3 ready.asking.1 in
+    false≢true (subst (λ o. IsSome o) (sym open_ ∙ none) ready.asking.1))
+ended-now mode Kept state rest (Within changed) progress ready none =
+    absurd (let open_ = asked-now mode state rest (Within changed) progress tt ready.asking.1 in
+    false≢true (subst (λ o. IsSome o) (sym open_ ∙ none) ready.asking.1))
 ended-now mode Kept state rest Ended progress ready none = refl

@@ -22,14 +22,17 @@ module _ {T : Type 0} (mode : RoundMode T) (V : List ℕ → Option Verdict) whe
     pub ends : HasVerdicts V r.questions → follow V plan ≡ End (result_from used rounds r)
     pub defined : HasEnded (follow V plan) → HasVerdicts V r.questions
 
-  same_result : (state : T) (used used' rounds rounds' : ℕ) (refused : Bool) → used ≡ used' → rounds ≡ rounds' → step_result mode state used rounds refused ≡ step_result mode state used' rounds' refused
+  same_result : (state : T) (used used' rounds rounds' : ℕ) (refused : Bool) → used ≡ used' → rounds ≡ rounds'
+      → step_result mode state used rounds refused ≡ step_result mode state used' rounds' refused
   same_result state used used' rounds rounds' refused p q = λ i. step_result mode state (p i) (q i) refused
 
   answered : (o : Option Verdict) (text : List ℕ) (used rounds : ℕ) (y n : Plan) (ry rn : Reduction T) → V text ≡ o
-      → Follows (capped_count (used + 1)) rounds y ry → Follows (capped_count (used + 1)) rounds n rn → Follows used rounds (Ask text y n) (by_test true (says_yes V text) text ry rn)
+      → Follows (capped_count (used + 1)) rounds y ry → Follows (capped_count (used + 1)) rounds n rn
+      → Follows used rounds (Ask text y n) (by_test true (says_yes V text) text ry rn)
   answered None text used rounds y n ry rn is at_yes at_no = record {
     ends = λ has. absurd (let some = has.0 in false≢true (subst (λ o. IsSome o) is some));
-    defined = λ ended. absurd (let still : follow V (Ask text y n) ≡ Ask text y n = rw is refl in let none : Some text ≡ None = subst HasEnded still ended in (cc));
+    defined =
+        λ ended. absurd (let still : follow V (Ask text y n) ≡ Ask text y n = rw is refl in let none : Some text ≡ None = subst HasEnded still ended in (cc));
   }
   answered (Some Yes) text used rounds y n ry rn is at_yes at_no =
       let to : follow V (Ask text y n) ≡ follow V y = rw is refl in
@@ -54,7 +57,8 @@ module _ {T : Type 0} (mode : RoundMode T) (V : List ℕ → Option Verdict) whe
 
   in_trials : (rounds : ℕ) (go : T → Bool → ℕ → Plan) (go' : T → Bool → Reduction T)
       → ((state : T) (changed : Bool) (used : ℕ) → used < 2 ^ 64 → Follows used rounds (go state changed used) (go' state changed))
-      → (state : T) (trials : Trials T) (changed : Bool) (used : ℕ) → used < 2 ^ 64 → Follows used rounds (plan_in mode go state trials changed used) (tried_in mode (says_yes V) go' state trials changed)
+      → (state : T) (trials : Trials T) (changed : Bool) (used : ℕ) → used < 2 ^ 64
+      → Follows used rounds (plan_in mode go state trials changed used) (tried_in mode (says_yes V) go' state trials changed)
   in_trials rounds go go' each state Done changed used fits = each state changed used fits
   in_trials rounds go go' each state (Try other at_yes at_no) changed used fits =
       asked_or_passed (mode.is_listed other) (mode.text other) used rounds _ _ _ _ _
@@ -62,7 +66,8 @@ module _ {T : Type 0} (mode : RoundMode T) (V : List ℕ → Option Verdict) whe
       (in_trials rounds go go' each state at_no changed (capped_count (used + 1)) (omega arith))
       (in_trials rounds go go' each state at_no changed used fits)
 
-  at_end : (used rounds : ℕ) (state : T) (refused : Bool) → used < 2 ^ 64 → rounds < 2 ^ 64 → Follows used rounds (End (step_result mode state used rounds refused)) (ends_with state refused)
+  at_end : (used rounds : ℕ) (state : T) (refused : Bool) → used < 2 ^ 64 → rounds < 2 ^ 64
+      → Follows used rounds (End (step_result mode state used rounds refused)) (ends_with state refused)
   at_end used rounds state refused fits fits' = record {
     ends = λ has. ap End (same_result state _ _ _ _ refused (omega arith) (omega arith));
     defined = λ ended. tt;
@@ -75,16 +80,19 @@ module _ {T : Type 0} (mode : RoundMode T) (V : List ℕ → Option Verdict) whe
   }
 
   next : (used rounds : ℕ) (state : T) (changed : Bool) (go : ℕ → ℕ → T → Plan) (go' : T → Reduction T) → used < 2 ^ 64
-      → Follows used (capped_count (rounds + 1)) (go (capped_count (rounds + 1)) used state) (go' state) → Follows used rounds (plan_next mode go rounds state changed used) (next_round go' state changed)
+      → Follows used (capped_count (rounds + 1)) (go (capped_count (rounds + 1)) used state) (go' state)
+      → Follows used rounds (plan_next mode go rounds state changed used) (next_round go' state changed)
   next used rounds state true go go' fits later = one_more used rounds _ _ later
   next used rounds state false go go' fits later = one_more used rounds _ _ (at_end used (capped_count (rounds + 1)) state false fits (omega arith))
 
-  in_rounds : (n rounds used : ℕ) (state : T) → used < 2 ^ 64 → rounds < 2 ^ 64 → Follows used rounds (plan_within n mode rounds used state) (rounds_in mode (says_yes V) n state)
+  in_rounds : (n rounds used : ℕ) (state : T) → used < 2 ^ 64 → rounds < 2 ^ 64
+      → Follows used rounds (plan_within n mode rounds used state) (rounds_in mode (says_yes V) n state)
   unfolding plan_within
   in_rounds zero rounds used state fits fits' = at_end used rounds state false fits fits'
   in_rounds (suc n) rounds used state fits fits' =
       in_trials rounds _ _
-      (λ remaining changed used' low. next used' rounds remaining changed (λ r u l. plan_within n mode r u l) (λ l. rounds_in mode (says_yes V) n l) low (in_rounds n (capped_count (rounds + 1)) used' remaining low (omega arith)))
+      (λ remaining changed used' low. next used' rounds remaining changed (λ r u l. plan_within n mode r u l) (λ l. rounds_in mode (says_yes V) n l) low
+      (in_rounds n (capped_count (rounds + 1)) used' remaining low (omega arith)))
       state (mode.round state) false used fits
 
   in_all_rounds : (used : ℕ) (state : T) → used < 2 ^ 64 → Follows used 0 (plan_rounds mode 0 used state) (all_rounds mode (says_yes V) state)
@@ -97,14 +105,18 @@ module _ {T : Type 0} (mode : RoundMode T) (V : List ℕ → Option Verdict) whe
   whole : Follows 0 0 (plan_first mode) (reduction_in mode (says_yes V))
   whole =
       answered (V (mode.text mode.start)) (mode.text mode.start) 0 0 _ _ _ _ refl
-      (subst (λ u. Follows u 0 (plan_opening mode 0 mode.start mode.opening 1) (tried_in mode (says_yes V) (λ state changed. all_rounds mode (says_yes V) state) mode.start mode.opening false)) one_test
-      (in_trials 0 (λ remaining changed used'. plan_rounds mode 0 used' remaining) (λ state changed. all_rounds mode (says_yes V) state) (λ remaining changed used' low. in_all_rounds used' remaining low) mode.start mode.opening false 1 (omega arith)))
-      (subst (λ u. Follows u 0 (End (step_result mode mode.start 1 0 true)) (ends_with mode.start true)) one_test (at_end 1 0 mode.start true (omega arith) (omega arith)))
+      (subst (λ u. Follows u 0 (plan_opening mode 0 mode.start mode.opening 1)
+      (tried_in mode (says_yes V) (λ state changed. all_rounds mode (says_yes V) state) mode.start mode.opening false)) one_test
+      (in_trials 0 (λ remaining changed used'. plan_rounds mode 0 used' remaining) (λ state changed. all_rounds mode (says_yes V) state)
+      (λ remaining changed used' low. in_all_rounds used' remaining low) mode.start mode.opening false 1 (omega arith)))
+      (subst (λ u. Follows u 0 (End (step_result mode mode.start 1 0 true)) (ends_with mode.start true)) one_test
+      (at_end 1 0 mode.start true (omega arith) (omega arith)))
 
   pub follows_reduction : IsTheReduction (plan_first mode) (recursion_of mode) V
   follows_reduction =
       let r : Reduction T = reduction_of mode (says_yes V) in
-      let both : Follows 0 0 (plan_first mode) (reduction_of mode (says_yes V)) = subst (Follows 0 0 (plan_first mode)) (sym (reduction-in mode (says_yes V))) whole in
+      let both : Follows 0 0 (plan_first mode) (reduction_of mode (says_yes V)) =
+      subst (Follows 0 0 (plan_first mode)) (sym (reduction-in mode (says_yes V))) whole in
       record {
         ends = λ has. both.ends has ∙ ap End (same_result r.state _ _ _ _ r.refused (omega arith) (omega arith));
         defined = both.defined;
@@ -121,10 +133,12 @@ module _ {T : Type 0} (mode : RoundMode T) (verdict : List ℕ → Bool) where
   kept-test true true text ry rn at_yes at_no = at_yes
   kept-test true false text ry rn at_yes at_no = at_no
 
-  kept-in : (go : T → Bool → Reduction T) → ((state : T) (changed : Bool) → IsKept (go state changed)) → (state : T) (trials : Trials T) (changed : Bool) → IsKept (tried_in mode verdict go state trials changed)
+  kept-in : (go : T → Bool → Reduction T) → ((state : T) (changed : Bool) → IsKept (go state changed)) → (state : T) (trials : Trials T) (changed : Bool)
+      → IsKept (tried_in mode verdict go state trials changed)
   kept-in go each state Done changed = each state changed
   kept-in go each state (Try other at_yes at_no) changed =
-      kept-test (mode.is_listed other) (verdict (mode.text other)) (mode.text other) _ _ (kept-in go each other at_yes true) (kept-in go each state at_no changed)
+      kept-test (mode.is_listed other) (verdict (mode.text other)) (mode.text other) _ _ (kept-in go each other at_yes true)
+      (kept-in go each state at_no changed)
 
   kept-next : (go : T → Reduction T) (state : T) (changed : Bool) → IsKept (go state) → IsKept (next_round go state changed)
   kept-next go state true each = each
@@ -133,10 +147,12 @@ module _ {T : Type 0} (mode : RoundMode T) (verdict : List ℕ → Bool) where
   kept-rounds : (n : ℕ) (state : T) → IsKept (rounds_in mode verdict n state)
   kept-rounds zero state = refl
   kept-rounds (suc n) state =
-      kept-in (next_round (λ remaining. rounds_in mode verdict n remaining)) (λ remaining changed. kept-next (λ r. rounds_in mode verdict n r) remaining changed (kept-rounds n remaining)) state (mode.round state) false
+      kept-in (next_round (λ remaining. rounds_in mode verdict n remaining))
+      (λ remaining changed. kept-next (λ r. rounds_in mode verdict n r) remaining changed (kept-rounds n remaining)) state (mode.round state) false
 
   pub kept-opening : IsKept (tried_in mode verdict (λ state changed. all_rounds mode verdict state) mode.start mode.opening false)
-  kept-opening = kept-in (λ state changed. all_rounds mode verdict state) (λ state changed. kept-rounds (suc (mode.size state)) state) mode.start mode.opening false
+  kept-opening =
+      kept-in (λ state changed. all_rounds mode verdict state) (λ state changed. kept-rounds (suc (mode.size state)) state) mode.start mode.opening false
 
 pub refuses_at_no : {T : Type 0} (mode : RoundMode T) → RefusesAtNo (plan_first mode) (recursion_of mode)
 unfolding reduction

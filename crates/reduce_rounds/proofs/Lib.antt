@@ -7,4 +7,5 @@ mod Candidates
 mod Agreement
 mod LookingAhead
 mod FieldLemmas
+mod ShownLemmas
 pub mod Lent

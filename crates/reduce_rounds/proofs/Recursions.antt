@@ -1,12 +1,14 @@
 -- Recursions that come to the same in their openings and rounds give the same reductions.
 use Rattle.std.proofs.Common.{◌≡◌, ℕ, suc, zero, Bool, true, false, cond, List, refl, ap, ◌∙◌}
 use Rattle.reduce_rounds.specs.Mode.{RoundMode, Keeps}
-use Rattle.reduce_rounds.specs.Reduction.{Recursion, Reduction, RoundEnd, after_opening, after_round, asks_first, ends_with, next_rounds, reduction, rounds_of, rounds_within}
+use Rattle.reduce_rounds.specs.Reduction.{Recursion, Reduction, RoundEnd, after_opening, after_round, asks_first}
+use Rattle.reduce_rounds.specs.Reduction.{ends_with, next_rounds, reduction, rounds_of, rounds_within}
 use Rattle.reduce_rounds.specs.ByTrials.{opening_of, recursion_of, round_of}
 use Rattle.reduce_rounds.specs.Laws.{RecursionsReduceAlike}
 use Rattle.reduce_rounds.proofs.Fuel.{remaining-kept}
 
-module _ {T : Type 0} (mode : RoundMode T) (Kept : T → Type 0) (keeps : Keeps mode Kept) (opening : (List ℕ → Bool) → RoundEnd T) (round : (List ℕ → Bool) → T → RoundEnd T) (verdict : List ℕ → Bool)
+module _ {T : Type 0} (mode : RoundMode T) (Kept : T → Type 0) (keeps : Keeps mode Kept) (opening : (List ℕ → Bool) → RoundEnd T)
+    (round : (List ℕ → Bool) → T → RoundEnd T) (verdict : List ℕ → Bool)
     (opens : opening verdict ≡ opening_of mode verdict) (same : (state : T) → Kept state → round verdict state ≡ round_of mode verdict state) where
   abbrev other : Recursion T
   other = record (recursion_of mode) { opening = opening; round = round }

@@ -14,9 +14,16 @@ use Rattle.reduce_rounds.specs.RoundsPlan.{plan_first}
 -- what a reduction ends with; a count stays at its greatest value
 abbrev pub result_of : {T : Type 0} → Recursion T → Reduction T → StepResult
 result_of recursion r =
-    record { text = recursion.text r.state; units = recursion.size r.state; used = capped_count (length r.questions); rounds = capped_count r.rounds; refused = r.refused }
+    record {
+      text = recursion.text r.state;
+      units = recursion.size r.state;
+      used = capped_count (length r.questions);
+      rounds = capped_count r.rounds;
+      refused = r.refused;
+    }
 
--- Followed over a map of verdicts, what a machine does ends exactly where the map has a verdict for each text that the reduction asks, and then with the reduction's result.
+-- Followed over a map of verdicts, what a machine does ends exactly where the map has a verdict
+-- for each text that the reduction asks, and then with the reduction's result.
 pub record IsTheReduction {T : Type 0} (plan : Plan) (recursion : Recursion T) (V : List ℕ → Option Verdict) : Type 0 where
   pub ends : HasVerdicts V (reduction recursion (says_yes V)).questions → follow V plan ≡ End (result_of recursion (reduction recursion (says_yes V)))
   pub defined : HasEnded (follow V plan) → HasVerdicts V (reduction recursion (says_yes V)).questions
@@ -71,9 +78,11 @@ AgreeingMapsReduceAlike recursion = (V W : List ℕ → Option Verdict) → Agre
     → HasVerdicts V (reduction recursion (says_yes V)).questions → HasVerdicts W (reduction recursion (says_yes W)).questions
     → reduction recursion (says_yes V) ≡ reduction recursion (says_yes W)
 
--- The reductions of a mode are those of each recursion over its states whose opening comes to what the mode's opening comes to, and whose rounds do so from each kept state.
+-- The reductions of a mode are those of each recursion over its states whose opening comes to
+-- what the mode's opening comes to, and whose rounds do so from each kept state.
 abbrev pub RecursionsReduceAlike : {T : Type 0} → RoundMode T → (T → Type 0) → Type 0
-RecursionsReduceAlike {T = T} mode Kept = Keeps mode Kept → (opening : (List ℕ → Bool) → RoundEnd T) (round : (List ℕ → Bool) → T → RoundEnd T) (verdict : List ℕ → Bool)
+RecursionsReduceAlike {T = T} mode Kept =
+    Keeps mode Kept → (opening : (List ℕ → Bool) → RoundEnd T) (round : (List ℕ → Bool) → T → RoundEnd T) (verdict : List ℕ → Bool)
     → opening verdict ≡ opening_of mode verdict
     → ((state : T) → Kept state → round verdict state ≡ round_of mode verdict state)
     → reduction (record (recursion_of mode) { opening = opening; round = round }) verdict ≡ reduction_of mode verdict

@@ -9,6 +9,7 @@ pub mod Minimal
 pub mod Verdicts
 pub mod ByTrials
 pub mod RoundsPlan
+pub mod Shown
 pub mod Laws
 pub mod Fields
 pub mod inner

@@ -1,4 +1,5 @@
--- The reduction of a start, as a recursion over a verdict on every text: the start is asked, then what comes before the rounds, and then rounds are made until one has no yes.
+-- The reduction of a start, as a recursion over a verdict on every text: the start is asked,
+-- then what comes before the rounds, and then rounds are made until one has no yes.
 use Rattle.std.specs.Prelude.{◌+◌, ◌-◌, ◌^◌, min, ℕ, zero, suc, Bool, true, false, List, [], ◌∷◌, ◌++◌, if◌then◌else◌}
 use Rattle.reduce_rounds.specs.StateTexts.{StateTexts}
 

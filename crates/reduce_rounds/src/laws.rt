@@ -4,7 +4,8 @@
 ghost use Rattle.std.specs.Prelude.{List, ℕ, Option};
 ghost use Rattle.script_gate_trait.specs.declared.gate.Verdict.{Verdict};
 ghost use Rattle.reduce_rounds.specs.Trials.{IsTriedAtNo};
-ghost use Rattle.reduce_rounds.specs.Laws.{AgreeingMapsReduceAlike, AheadAreCandidates, AheadIsStartAlone, AsksCandidates, EndsMinimal, GoesByItsRounds, IsTheReduction, RecursionsReduceAlike, RefusesAtNo};
+ghost use Rattle.reduce_rounds.specs.Laws.{AgreeingMapsReduceAlike, AheadAreCandidates, AheadIsStartAlone, AsksCandidates, EndsMinimal};
+ghost use Rattle.reduce_rounds.specs.Laws.{GoesByItsRounds, IsTheReduction, RecursionsReduceAlike, RefusesAtNo};
 ghost use Rattle.reduce_rounds.specs.ByTrials.{recursion_of};
 ghost use Rattle.reduce_rounds.specs.Mode.{IsLawful};
 ghost use Rattle.reduce_rounds.specs.RoundsPlan.{plan_first};

@@ -2,10 +2,12 @@
 
 ghost use Rattle.std.specs.Prelude.{◌≡◌};
 ghost use Rattle.reduce_step.specs.Plan.{End, HasEnded, StepResult};
+ghost use Rattle.reduce_rounds.specs.Shown.{Shows};
 
 use reduce_step::Step;
 
 /// A step whose result can be read: what it has come to so far, and at its end what it ends with.
+/// Its text, its units and its tests go by the answers at any time (`specs/Shown.antt`).
 pub trait ReducerStep: Step {
     /// What it has come to.
     ghost so_far: { Self → StepResult };
@@ -27,9 +29,10 @@ pub trait ReducerStep: Step {
     fn rounds(&self) -> u64
         ensures { result ≡ (so_far self.now).rounds };
 
-    /// Whether the start was answered no. A reducer that asks nothing more ends with what this and
-    /// the calls before it give.
+    /// Whether the start was answered no. `shown` says what this and `result`, `units` and `used`
+    /// are at any time. A reducer that asks nothing more ends with what all five give.
     fn refused(&self) -> bool
         ensures refused { result ≡ (so_far self.now).refused }
+        ensures shown { Shows (Self.plan self.now) (so_far self.now) }
         ensures ended { HasEnded (Self.plan self.now) → Self.plan self.now ≡ End (so_far self.now) };
 }

@@ -7,6 +7,7 @@ ghost use Rattle.reduce_rounds.specs.Fields.{listed_text};
 ghost use Rattle.reduce_rounds.specs.inner.Fields.{Becomes, HasState, IsReady, IsTrying, StaysKept, listed_trials, plan_of, result_so_far, stage_after};
 ghost use Rattle.reduce_rounds.specs.inner.FieldProps.{ready_prop};
 ghost use Rattle.reduce_rounds.specs.RoundsPlan.{IsStart, plan_first, plan_rounds};
+ghost use Rattle.reduce_rounds.specs.Shown.{CountsRounds};
 ghost use Rattle.reduce_step.specs.Plan.{after as plan_after, asked};
 
 use crate::ahead::texts_at_no;
@@ -32,7 +33,8 @@ pub struct Rounds<R: Round + Drop> {
     round: R,
     stage: Stage,
     progress: Progress,
-    ghost ready: { IsReady (R.mode (R.input round)) (R.Kept (R.input round)) (R.state round) (R.rest round) stage progress } by { ready_prop (R.mode (R.input round)) (R.Kept (R.input round)) (R.state round) (R.rest round) stage progress },
+    ghost ready: { IsReady (R.mode (R.input round)) (R.Kept (R.input round)) (R.state round) (R.rest round) stage progress } by { ready_prop
+        (R.mode (R.input round)) (R.Kept (R.input round)) (R.state round) (R.rest round) stage progress },
 }
 
 impl<R: Round + Drop> Rounds<R> {
@@ -135,7 +137,10 @@ impl<R: Round + Drop> ReducerStep for Rounds<R> {
         self.progress.used
     }
 
-    fn rounds(&self) -> u64 {
+    fn rounds(&self) -> u64
+        ensures shown { result ≡ (⟦<Rounds<R> as ReducerStep>⟧.so_far self.now).rounds }
+        ensures made { CountsRounds (⟦<Rounds<R> as Step>⟧.plan self.now) result }
+    {
         self.progress.rounds
     }
 
@@ -154,7 +159,9 @@ fn next_stage<R: Round>(
 ) -> Result<Stage, Memory>
     requires ready { IsReady (R.mode (R.input round.old)) (R.Kept (R.input round.old)) (R.state round.old) (R.rest round.old) stage progress.old }
     requires asking { IsSome (asked (plan_of (R.mode (R.input round.old)) (R.state round.old) (R.rest round.old) stage progress.old)) }
-    ensures becomes { IfOk result (λ next. Becomes (plan_after (plan_of (R.mode (R.input round.old)) (R.state round.old) (R.rest round.old) stage progress.old) verdict) (R.mode (R.input round.new)) (R.Kept (R.input round.new)) (R.state round.new) (R.rest round.new) next progress.new) }
+    ensures becomes { IfOk result (λ next. Becomes
+        (plan_after (plan_of (R.mode (R.input round.old)) (R.state round.old) (R.rest round.old) stage progress.old) verdict) (R.mode (R.input round.new))
+        (R.Kept (R.input round.new)) (R.state round.new) (R.rest round.new) next progress.new) }
     ensures input { R.input round.new ≡ R.input round.old }
     ensures short { length progress.new.text.items ≤ text_limit }
 {
@@ -192,12 +199,14 @@ fn take_answer<R: Round>(
     verdict: Verdict,
     progress: &mut Progress,
 ) -> Result<Stage, Memory>
-    requires trying { IsTrying stage }
+    requires trying { IsTrying stage progress.old }
     requires asked { IsSome (listed_text (R.mode (R.input round.old)) (R.rest round.old)) }
     requires state { HasState (R.mode (R.input round.old)) (R.state round.old) progress.old }
     requires kept { StaysKept (R.mode (R.input round.old)) (R.Kept (R.input round.old)) (R.state round.old) (R.rest round.old) }
     requires short { length progress.old.text.items ≤ text_limit }
-    ensures becomes { IfOk result (λ next. Becomes (plan_after (plan_of (R.mode (R.input round.old)) (R.state round.old) (R.rest round.old) stage progress.old) verdict) (R.mode (R.input round.new)) (R.Kept (R.input round.new)) (R.state round.new) (R.rest round.new) next progress.new) }
+    ensures becomes { IfOk result
+        (λ next. Becomes (plan_after (plan_of (R.mode (R.input round.old)) (R.state round.old) (R.rest round.old) stage progress.old) verdict)
+        (R.mode (R.input round.new)) (R.Kept (R.input round.new)) (R.state round.new) (R.rest round.new) next progress.new) }
     ensures input { R.input round.new ≡ R.input round.old }
     ensures short { length progress.new.text.items ≤ text_limit }
 {
@@ -251,10 +260,11 @@ fn to_question<R: Round>(
     stage: Stage,
     progress: &mut Progress,
 ) -> Result<Stage, Memory>
-    requires trying { IsTrying stage }
+    requires trying { IsTrying stage progress.old }
     requires state { HasState (R.mode (R.input round.old)) (R.state round.old) progress.old }
     requires kept { StaysKept (R.mode (R.input round.old)) (R.Kept (R.input round.old)) (R.state round.old) (R.rest round.old) }
-    ensures becomes { IfOk result (λ next. Becomes (plan_of (R.mode (R.input round.old)) (R.state round.old) (R.rest round.old) stage progress.old) (R.mode (R.input round.new)) (R.Kept (R.input round.new)) (R.state round.new) (R.rest round.new) next progress.new) }
+    ensures becomes { IfOk result (λ next. Becomes (plan_of (R.mode (R.input round.old)) (R.state round.old) (R.rest round.old) stage progress.old)
+        (R.mode (R.input round.new)) (R.Kept (R.input round.new)) (R.state round.new) (R.rest round.new) next progress.new) }
     ensures input { R.input round.new ≡ R.input round.old }
     ensures text { progress.new.text.items ≡ progress.old.text.items }
 {
@@ -285,7 +295,8 @@ fn begin<R: Round>(round: &mut R, progress: &mut Progress) -> Result<Stage, Memo
     requires over { R.rest round.old ≡ Done }
     requires state { HasState (R.mode (R.input round.old)) (R.state round.old) progress.old }
     requires kept { StaysKept (R.mode (R.input round.old)) (R.Kept (R.input round.old)) (R.state round.old) (R.rest round.old) }
-    ensures begun { IfOk result (λ stage. Becomes (plan_rounds (R.mode (R.input round.old)) progress.old.rounds progress.old.used (R.state round.old)) (R.mode (R.input round.new)) (R.Kept (R.input round.new)) (R.state round.new) (R.rest round.new) stage progress.new) }
+    ensures begun { IfOk result (λ stage. Becomes (plan_rounds (R.mode (R.input round.old)) progress.old.rounds progress.old.used (R.state round.old))
+        (R.mode (R.input round.new)) (R.Kept (R.input round.new)) (R.state round.new) (R.rest round.new) stage progress.new) }
     ensures input { R.input round.new ≡ R.input round.old }
     ensures text { progress.new.text.items ≡ progress.old.text.items }
 {

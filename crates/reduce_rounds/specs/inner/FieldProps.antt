@@ -17,11 +17,13 @@ are_kept_prop Kept state rest = hlevel (props, all_tried_prop)
 stays_kept_prop : {T : Type 0} (mode : RoundMode T) (Kept : T → Type 0) (state : T) (rest : Trials T) → IsProp (StaysKept mode Kept state rest)
 stays_kept_prop mode Kept state rest = hlevel (props, are_kept_prop)
 
-asking_prop : {T : Type 0} (mode : RoundMode T) (Kept : T → Type 0) (state : T) (rest : Trials T) (stage : Stage) (progress : Progress) → IsProp (IsAsking mode Kept state rest stage progress)
+asking_prop : {T : Type 0} (mode : RoundMode T) (Kept : T → Type 0) (state : T) (rest : Trials T) (stage : Stage) (progress : Progress)
+    → IsProp (IsAsking mode Kept state rest stage progress)
 asking_prop mode Kept state rest Start progress = hlevel (props, stays_kept_prop)
 asking_prop mode Kept state rest Opening progress = hlevel (props, stays_kept_prop)
 asking_prop mode Kept state rest (Within changed) progress = hlevel (props, stays_kept_prop)
 asking_prop mode Kept state rest Ended progress = hlevel props
 
-pub ready_prop : {T : Type 0} (mode : RoundMode T) (Kept : T → Type 0) (state : T) (rest : Trials T) (stage : Stage) (progress : Progress) → IsProp (IsReady mode Kept state rest stage progress)
+pub ready_prop : {T : Type 0} (mode : RoundMode T) (Kept : T → Type 0) (state : T) (rest : Trials T) (stage : Stage) (progress : Progress)
+    → IsProp (IsReady mode Kept state rest stage progress)
 ready_prop mode Kept state rest stage progress = hlevel (props, asking_prop)

@@ -47,8 +47,9 @@ StaysKept mode Kept state rest = Keeps mode Kept → AreKept Kept state rest
 
 -- the stage has what its next question needs
 abbrev pub IsAsking : {T : Type 0} → RoundMode T → (T → Type 0) → T → Trials T → Stage → Progress → Type 0
-IsAsking mode Kept state rest Start progress = HasState mode state progress × StaysKept mode Kept state rest
-IsAsking mode Kept state rest Opening progress = HasState mode state progress × IsSome (listed_text mode rest) × StaysKept mode Kept state rest
+IsAsking mode Kept state rest Start progress = HasState mode state progress × StaysKept mode Kept state rest × (progress.rounds ≡ 0)
+IsAsking mode Kept state rest Opening progress =
+    HasState mode state progress × IsSome (listed_text mode rest) × StaysKept mode Kept state rest × (progress.rounds ≡ 0)
 IsAsking mode Kept state rest (Within changed) progress = HasState mode state progress × IsSome (listed_text mode rest) × StaysKept mode Kept state rest
 IsAsking mode Kept state rest Ended progress = Unit {0}
 
@@ -58,16 +59,17 @@ pub record IsReady {T : Type 0} (mode : RoundMode T) (Kept : T → Type 0) (stat
   pub asking : IsAsking mode Kept state rest stage progress
 
 -- the fields mean this plan
-pub record Becomes {T : Type 0} (plan : Plan) (mode : RoundMode T) (Kept : T → Type 0) (state : T) (rest : Trials T) (stage : Stage) (progress : Progress) : Type 0 where
+pub record Becomes {T : Type 0} (plan : Plan) (mode : RoundMode T) (Kept : T → Type 0) (state : T) (rest : Trials T) (stage : Stage)
+    (progress : Progress) : Type 0 where
   pub same : plan_of mode state rest stage progress ≡ plan
   pub asking : IsAsking mode Kept state rest stage progress
 
--- trials go on
-abbrev pub IsTrying : Stage → Type 0
-IsTrying Start = ⊥
-IsTrying Opening = Unit {0}
-IsTrying (Within changed) = Unit {0}
-IsTrying Ended = ⊥
+-- trials go on; no round was made before the opening ends
+abbrev pub IsTrying : Stage → Progress → Type 0
+IsTrying Start progress = ⊥
+IsTrying Opening progress = progress.rounds ≡ 0
+IsTrying (Within changed) progress = Unit {0}
+IsTrying Ended progress = ⊥
 
 -- the stage after an answer to what is tried
 abbrev pub stage_after : Stage → Bool → Stage

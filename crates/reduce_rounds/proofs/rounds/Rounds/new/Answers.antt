@@ -13,9 +13,12 @@ invariant_of-result g c = record {
         units = c.requires.units ∙ ap (g.R.Round.mode (g.R.Round.input c.args.round)).size (sym c.requires.state);
         refused = refl;
       },
-      subst (λ s. StaysKept (g.R.Round.mode (g.R.Round.input c.args.round)) (g.R.Round.Kept (g.R.Round.input c.args.round)) s (g.R.Round.rest c.args.round)) (sym c.requires.state)
-          (subst (StaysKept (g.R.Round.mode (g.R.Round.input c.args.round)) (g.R.Round.Kept (g.R.Round.input c.args.round)) (g.R.Round.mode (g.R.Round.input c.args.round)).start) (sym c.requires.rest)
+      subst (λ s. StaysKept (g.R.Round.mode (g.R.Round.input c.args.round)) (g.R.Round.Kept (g.R.Round.input c.args.round)) s (g.R.Round.rest c.args.round))
+          (sym c.requires.state)
+          (subst (StaysKept (g.R.Round.mode (g.R.Round.input c.args.round)) (g.R.Round.Kept (g.R.Round.input c.args.round))
+          (g.R.Round.mode (g.R.Round.input c.args.round)).start) (sym c.requires.rest)
           (kept-first (g.R.Round.mode (g.R.Round.input c.args.round)) (g.R.Round.Kept (g.R.Round.input c.args.round)))),
+      refl,
     );
   };
 }
