@@ -1,6 +1,6 @@
-//! How many tokens a text has.
+//! How many tokens a text has, and its pieces.
 
-ghost use Rattle.std.specs.Prelude.{◌<◌, ◌^◌, IfOk, length};
+ghost use Rattle.std.specs.Prelude.{◌<◌, ◌-◌, ◌^◌, IfOk, length};
 ghost use Rattle.std.specs.Str.{chars};
 ghost use Rattle.bench_texts.specs.Counted.{CountsTokens};
 
@@ -23,4 +23,14 @@ pub fn counted(lexer: &Lexer, text: &str, times: u32) -> Result<usize, LexFault>
         token_count(lexer, text)?;
     }
     token_count(lexer, text)
+}
+
+/// Cuts the text into its pieces so many times.
+pub fn cut(lexer: &Lexer, text: &str, times: u32) -> Result<(), LexFault>
+    requires { length text.now < 2 ^ 32 - 1 }
+{
+    for _ in 0..times {
+        lexer.pieces(text)?;
+    }
+    Ok(())
 }

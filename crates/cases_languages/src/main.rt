@@ -14,6 +14,7 @@ mod forms;
 mod kinds;
 mod lexing;
 mod matching;
+mod pieces;
 mod sets;
 
 use crate::bounds::{blocks_shown, built_shown};
@@ -22,6 +23,7 @@ use crate::forms::{derived_shown, form_shown, start_shown};
 use crate::kinds::{copied_shown, kinds_shown};
 use crate::lexing::{skipped_shown, text_shown};
 use crate::matching::{matched_shown, nothing_shown, term_shown};
+use crate::pieces::pieces_shown;
 use crate::sets::{lacking_shown, sets_shown};
 use anyhow::{Result, bail};
 use grammar_tree::Checked;
@@ -61,6 +63,7 @@ fn answer(alloc: Global, checked: &Checked, question: &str, text: &str) -> Resul
         "form" => form_shown(alloc, checked),
         "kinds" => kinds_shown(alloc, checked),
         "lacking" => lacking_shown(alloc, checked, text),
+        "pieces" => pieces_shown(alloc, checked, text),
         "sets" => sets_shown(alloc, checked),
         "skipped" => skipped_shown(alloc, checked),
         "start" => start_shown(alloc, checked, text),

@@ -1,5 +1,6 @@
 -- A text that is cut into pieces, one after another.
-use Rattle.std.proofs.Common.{◌≡◌, ◌≢◌, ◌<◌, ◌≤◌, ◌+◌, ℕ, zero, suc, Bool, true, false, cond, map, drop, List, [], ◌∷◌, ◌++◌, Option, Some, None, MatchOption, length, refl, sym, ap, ◌∙◌, subst, arith, append_assoc, length-append}
+use Rattle.std.proofs.Common.{◌≡◌, ◌≢◌, ◌<◌, ◌≤◌, ◌+◌, ℕ, zero, suc, Bool, true, false, cond, map, drop, List, [], ◌∷◌, ◌++◌, Option, Some}
+use Rattle.std.proofs.Common.{None, MatchOption, length, refl, sym, ap, ◌∙◌, subst, arith, append_assoc, length-append}
 use Rattle.std.specs.Prelude.{encode_utf8_all, ◌&&◌}
 use lib.Utf8.{scalar, scalars}
 use Rattle.std.specs.Str.{chars, IsUtf8, IsCharBoundary}
@@ -18,7 +19,8 @@ module _ (G : WrittenGrammar) where
   end_of at [] = at
   end_of at (p ∷ ps) = end_of (at + length (encode_utf8_all p.text)) ps
 
-  lexes_more : {text left rest : List ℕ} {ps : List Piece} {kind : ℕ} {piece : List ℕ} → LexesTo G text ps left → IsNext G left kind piece rest → LexesTo G text (ps ++ record { kind = kind; text = piece } ∷ []) rest
+  pub lexes_more : {text left rest : List ℕ} {ps : List Piece} {kind : ℕ} {piece : List ℕ} → LexesTo G text ps left → IsNext G left kind piece rest
+      → LexesTo G text (ps ++ record { kind = kind; text = piece } ∷ []) rest
   lexes_more {rest = rest} {kind = kind} {piece = piece} (LexesTo.by_end text) next = LexesTo.by_piece text kind piece rest rest [] next (LexesTo.by_end rest)
   lexes_more {rest = rest} (LexesTo.by_piece text k p r left ps first more) next = LexesTo.by_piece text k p r rest _ first (lexes_more more next)
 
@@ -33,7 +35,8 @@ module _ (G : WrittenGrammar) where
   cond_append true t xs ys = refl
   cond_append false t xs ys = refl
 
-  placed_more : (at : ℕ) (ps : List Piece) (p : Piece) → placed_tokens G at (ps ++ p ∷ []) ≡ placed_tokens G at ps ++ cond (is_gap_kind G p.kind) [] (token_at (end_of at ps) p ∷ [])
+  placed_more : (at : ℕ) (ps : List Piece) (p : Piece)
+      → placed_tokens G at (ps ++ p ∷ []) ≡ placed_tokens G at ps ++ cond (is_gap_kind G p.kind) [] (token_at (end_of at ps) p ∷ [])
   placed_more at [] p = refl
   placed_more at (q ∷ ps) p =
       let end = at + length (encode_utf8_all q.text) in
@@ -152,7 +155,16 @@ module _ (G : WrittenGrammar) (text : List ℕ) where
             ∙ ap (λ l. l ++ encode_utf8_all next.back) (sym (encodes-append s.before next.front))
 
         pub fits : at + len ≤ length text
-        fits = omega (arith, s.count, next.bytes, ap length bytes_more, ap length (encodes-append s.before next.front), length-append (encode_utf8_all s.before) (encode_utf8_all next.front), length-append (encode_utf8_all (s.before ++ next.front)) (encode_utf8_all next.back))
+        fits =
+            omega (
+              arith,
+              s.count,
+              next.bytes,
+              ap length bytes_more,
+              ap length (encodes-append s.before next.front),
+              length-append (encode_utf8_all s.before) (encode_utf8_all next.front),
+              length-append (encode_utf8_all (s.before ++ next.front)) (encode_utf8_all next.back),
+            )
 
         pub some_read : 0 < len
         some_read = omega (arith, next.bytes, filled next.front next.some, length-le-encodes next.front)
@@ -164,12 +176,14 @@ module _ (G : WrittenGrammar) (text : List ℕ) where
         abbrev piece : Piece
         piece = record { kind = kind; text = next.front }
 
-        pub read_more : (now : List PlacedToken) → now ≡ tokens ++ cond (is_gap_kind G kind) [] (record { kind = kind; start = at; end = at + len } ∷ []) → IsReadTo G text (at + len) now
+        pub read_more : (now : List PlacedToken) → now ≡ tokens ++ cond (is_gap_kind G kind) [] (record { kind = kind; start = at; end = at + len } ∷ [])
+            → IsReadTo G text (at + len) now
         read_more now e =
             let back_is : chars (encode_utf8_all next.back) ≡ next.back = chars-encodes next.back scalars_are in
             let Q : List ℕ → Type 0 = λ x. LexesTo G (chars text) (s.pieces ++ piece ∷ []) x in
             let R : ℕ → Type 0 = λ n. now ≡ tokens ++ cond (is_gap_kind G kind) [] (record { kind = kind; start = at; end = at + n } ∷ []) in
-            let S : ℕ → Type 0 = λ n. now ≡ tokens ++ cond (is_gap_kind G kind) [] (record { kind = kind; start = n; end = n + length (encode_utf8_all next.front) } ∷ []) in
+            let S : ℕ → Type 0 =
+            λ n. now ≡ tokens ++ cond (is_gap_kind G kind) [] (record { kind = kind; start = n; end = n + length (encode_utf8_all next.front) } ∷ []) in
             let placed = subst S (sym s.ends) (subst R next.bytes e) in
             record {
               pieces = s.pieces ++ piece ∷ [];
@@ -177,10 +191,21 @@ module _ (G : WrittenGrammar) (text : List ℕ) where
               left = encode_utf8_all next.back;
               bytes = bytes_more;
               utf8 = (next.back, (scalars_are, refl));
-              cut = s.cut ∙ ap (λ l. s.before ++ l) piece_cut ∙ sym (append_assoc s.before next.front next.back) ∙ ap (λ l. (s.before ++ next.front) ++ l) (sym back_is);
-              count = omega (arith, s.count, next.bytes, ap length (encodes-append s.before next.front), length-append (encode_utf8_all s.before) (encode_utf8_all next.front));
+              cut =
+                  s.cut ∙ ap (λ l. s.before ++ l) piece_cut ∙ sym (append_assoc s.before next.front next.back)
+                  ∙ ap (λ l. (s.before ++ next.front) ++ l) (sym back_is);
+              count =
+                  omega (
+                    arith,
+                    s.count,
+                    next.bytes,
+                    ap length (encodes-append s.before next.front),
+                    length-append (encode_utf8_all s.before) (encode_utf8_all next.front),
+                  );
               lexed = subst Q (sym back_is) (lexes_more G s.lexed is_next);
-              tokens_are = placed ∙ ap (λ l. l ++ cond (is_gap_kind G kind) [] (token_at G (end_of G 0 s.pieces) piece ∷ [])) s.tokens_are ∙ sym (placed_more G 0 s.pieces piece);
+              tokens_are =
+                  placed ∙ ap (λ l. l ++ cond (is_gap_kind G kind) [] (token_at G (end_of G 0 s.pieces) piece ∷ [])) s.tokens_are
+                  ∙ sym (placed_more G 0 s.pieces piece);
               ends = end_more G 0 s.pieces piece ∙ omega (arith, s.ends, next.bytes);
             }
 

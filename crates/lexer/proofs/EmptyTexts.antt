@@ -1,5 +1,6 @@
 -- Which states read the empty text: those from which a path of splits leads to the end.
-use Rattle.std.proofs.Common.{◌≡◌, ◌≢◌, ◌↔◌, ◌<◌, ◌≤◌, ◌+◌, ◌⊎◌, inl, inr, ℕ, zero, suc, Bool, true, false, map, List, [], ◌∷◌, ◌++◌, Some, slice_get, slice_index_or, length, refl, sym, ap, ◌∙◌, subst, arith, length-append}
+use Rattle.std.proofs.Common.{◌≡◌, ◌≢◌, ◌↔◌, ◌<◌, ◌≤◌, ◌+◌, ◌⊎◌, inl, inr, ℕ, zero, suc, Bool, true, false, map, List, [], ◌∷◌, ◌++◌, Some}
+use Rattle.std.proofs.Common.{slice_get, slice_index_or, length, refl, sym, ap, ◌∙◌, subst, arith, length-append}
 use Rattle.std.specs.List.{Contains}
 use Rattle.std.proofs.Math.ListN.{set}
 use Rattle.std.proofs.lemmas.Bool.{cases_lt}
@@ -13,13 +14,16 @@ use Rattle.lexer_match.specs.inner.StateSets.{GoesFrom, GoesTo}
 use Rattle.lexer_match.proofs.Lent.{get_before, get_last, get_within, set_at, set_other, eq_or_not, index_set_at, index_set_other}
 
 -- one number more in one of the rows
-row_pushed : (rows : List (List ℕ)) (index number : ℕ) (row : List ℕ) → slice_get rows index ≡ Some row → (i j : ℕ) → HasEdge (set rows index (row ++ number ∷ [])) i j ↔ (HasEdge rows i j ⊎ ((i ≡ index) × (j ≡ number)))
+row_pushed : (rows : List (List ℕ)) (index number : ℕ) (row : List ℕ) → slice_get rows index ≡ Some row → (i j : ℕ)
+    → HasEdge (set rows index (row ++ number ∷ [])) i j ↔ (HasEdge rows i j ⊎ ((i ≡ index) × (j ≡ number)))
 row_pushed rows index number row at i j = (λ (r, g, k). to (eq_or_not i index) r g k, back)
   where
-    to : (i ≡ index) ⊎ (i ≢ index) → (r : List ℕ) → slice_get (set rows index (row ++ number ∷ [])) i ≡ Some r → Contains r j → HasEdge rows i j ⊎ ((i ≡ index) × (j ≡ number))
+    to : (i ≡ index) ⊎ (i ≢ index) → (r : List ℕ) → slice_get (set rows index (row ++ number ∷ [])) i ≡ Some r → Contains r j → HasEdge rows i j
+        ⊎ ((i ≡ index) × (j ≡ number))
     to (inr d) r g k = inl (r, sym (set_other rows (row ++ number ∷ []) index i d) ∙ g, k)
     to (inl e) r g k =
-        let q : Some (row ++ number ∷ []) ≡ Some r = sym (set_at rows (row ++ number ∷ []) index (get_within rows row index at)) ∙ ap (λ n. slice_get (set rows index (row ++ number ∷ [])) n) (sym e) ∙ g in
+        let q : Some (row ++ number ∷ []) ≡ Some r =
+        sym (set_at rows (row ++ number ∷ []) index (get_within rows row index at)) ∙ ap (λ n. slice_get (set rows index (row ++ number ∷ [])) n) (sym e) ∙ g in
         let is : r ≡ (row ++ number ∷ []) = sym (same_Some (row ++ number ∷ []) r q) in
         let Q : List ℕ → Type 0 = λ l. Contains l j in pick (Contains-push_cases row number j (subst Q is k))
       where
@@ -32,21 +36,30 @@ row_pushed rows index number row at i j = (λ (r, g, k). to (eq_or_not i index) 
     kept (inl e) r g k =
         let q : Some row ≡ Some r = sym at ∙ ap (λ n. slice_get rows n) (sym e) ∙ g in
         let is : r ≡ row = sym (same_Some row r q) in
-        let Q : List ℕ → Type 0 = λ l. Contains l j in
-        ((row ++ number ∷ []), ap (λ n. slice_get (set rows index (row ++ number ∷ [])) n) e ∙ set_at rows (row ++ number ∷ []) index (get_within rows row index at), Contains-append_left row (number ∷ []) j (subst Q is k))
+        let Q : List ℕ → Type 0 = λ l. Contains l j in (
+          (row ++ number ∷ []),
+          ap (λ n. slice_get (set rows index (row ++ number ∷ [])) n) e
+              ∙ set_at rows (row ++ number ∷ []) index (get_within rows row index at),
+          Contains-append_left row (number ∷ []) j (subst Q is k),
+        )
 
     back : HasEdge rows i j ⊎ ((i ≡ index) × (j ≡ number)) → HasEdge (set rows index (row ++ number ∷ [])) i j
     back (inl (r, g, k)) = kept (eq_or_not i index) r g k
     back (inr (e, f)) =
-        let Q : ℕ → Type 0 = λ n. Contains (row ++ number ∷ []) n in
-        ((row ++ number ∷ []), ap (λ n. slice_get (set rows index (row ++ number ∷ [])) n) e ∙ set_at rows (row ++ number ∷ []) index (get_within rows row index at), subst Q (sym f) (Contains-push row number))
+        let Q : ℕ → Type 0 = λ n. Contains (row ++ number ∷ []) n in (
+          (row ++ number ∷ []),
+          ap (λ n. slice_get (set rows index (row ++ number ∷ [])) n) e
+              ∙ set_at rows (row ++ number ∷ []) index (get_within rows row index at),
+          subst Q (sym f) (Contains-push row number),
+        )
 
 map_set : {X : Type 0} (items : X → List ℕ) (rows : List X) (k : ℕ) (x : X) → map items (set rows k x) ≡ set (map items rows) k (items x)
 map_set items [] k x = refl
 map_set items (r ∷ rows) zero x = refl
 map_set items (r ∷ rows) (suc k) x = ap (λ l. items r ∷ l) (map_set items rows k x)
 
-pub edge_pushed : {X : Type 0} (items : X → List ℕ) (rows : List X) (index number : ℕ) (old new : X) → index < length rows → old ≡ slice_index_or rows index old → items new ≡ items old ++ number ∷ [] →
+pub edge_pushed : {X : Type 0} (items : X → List ℕ) (rows : List X) (index number : ℕ) (old new : X) → index < length rows → old ≡ slice_index_or rows index old
+    → items new ≡ items old ++ number ∷ [] →
     (i j : ℕ) → HasEdge (map items (set rows index new)) i j ↔ (HasEdge (map items rows) i j ⊎ ((i ≡ index) × (j ≡ number)))
 edge_pushed items rows index number old new inside is e i j =
     let same = map_set items rows index new ∙ ap (λ r. set (map items rows) index r) e in
@@ -54,7 +67,8 @@ edge_pushed items rows index number old new inside is e i j =
     subst Q (sym same) (row_pushed (map items rows) index number (items old) (row_at items rows index old (items old) inside is refl) i j)
 
 -- both edges of a state that splits
-pub split_added : {A B C : Type 0} (state : State) (first second number i j : ℕ) → state ≡ State.Split first second → B ↔ (A ⊎ ((i ≡ first) × (j ≡ number))) → C ↔ (B ⊎ ((i ≡ second) × (j ≡ number))) → C ↔ (A ⊎ (GoesFrom state i × (j ≡ number)))
+pub split_added : {A B C : Type 0} (state : State) (first second number i j : ℕ) → state ≡ State.Split first second → B ↔ (A ⊎ ((i ≡ first) × (j ≡ number))) → C
+    ↔ (B ⊎ ((i ≡ second) × (j ≡ number))) → C ↔ (A ⊎ (GoesFrom state i × (j ≡ number)))
 split_added {A} {B} {C} state first second number i j is f g = (λ c. to (g.0 c), back)
   where
     from_first : A ⊎ ((i ≡ first) × (j ≡ number)) → A ⊎ (GoesFrom state i × (j ≡ number))
@@ -106,7 +120,8 @@ from_inside size (State.Call rule x) next below goes = absurd goes
 module _ (P : List State) where
   -- what the form of a state says of where it goes on
   pub goes_on : (n next : ℕ) (state : State) → slice_get P n ≡ Some state → GoesFrom state next ↔ GoesTo P n next
-  goes_on n next state at = (from state at, λ (a, b, g, which). let Q : State → Type 0 = λ s. GoesFrom s next in subst Q (same_Some (State.Split a b) state (sym g ∙ at)) which)
+  goes_on n next state at =
+      (from state at, λ (a, b, g, which). let Q : State → Type 0 = λ s. GoesFrom s next in subst Q (same_Some (State.Split a b) state (sym g ∙ at)) which)
     where
       from : (s : State) → slice_get P n ≡ Some s → GoesFrom s next → GoesTo P n next
       from State.Never g h = absurd h
@@ -122,7 +137,8 @@ module _ (P : List State) where
   no_sources_yet rows none i j = (λ h. absurd (none i j h), λ (h, g). absurd (omega (arith, h)))
 
   -- those of one state more
-  pub sources_more : (rows new : List (List ℕ)) (number : ℕ) (state : State) → slice_get P number ≡ Some state → ((i j : ℕ) → HasEdge new i j ↔ (HasEdge rows i j ⊎ (GoesFrom state i × (j ≡ number)))) → AreSources rows number → AreSources new (number + 1)
+  pub sources_more : (rows new : List (List ℕ)) (number : ℕ) (state : State) → slice_get P number ≡ Some state
+      → ((i j : ℕ) → HasEdge new i j ↔ (HasEdge rows i j ⊎ (GoesFrom state i × (j ≡ number)))) → AreSources rows number → AreSources new (number + 1)
   sources_more rows new number state at more before i j = (λ h. to ((more i j).0 h), λ (h, g). (more i j).1 (back h g (cases_lt j number)))
     where
       to : HasEdge rows i j ⊎ (GoesFrom state i × (j ≡ number)) → (j < number + 1) × GoesTo P j i
@@ -136,7 +152,8 @@ module _ (P : List State) where
           let Q : ℕ → Type 0 = λ n. GoesTo P n i in inr ((goes_on number i state at).1 (subst Q e g), e)
 
   pub sources_all : (rows : List (List ℕ)) (number : ℕ) → length P ≤ number → AreSources rows number → (i j : ℕ) → HasEdge rows i j ↔ GoesTo P j i
-  sources_all rows number h are i j = (λ e. ((are i j).0 e).1, λ (a, b, g, which). (are i j).1 (omega (arith, h, get_within P (State.Split a b) j g), (a, b, g, which)))
+  sources_all rows number h are i j =
+      (λ e. ((are i j).0 e).1, λ (a, b, g, which). (are i j).1 (omega (arith, h, get_within P (State.Split a b) j g), (a, b, g, which)))
 
   module _ (rows : List (List ℕ)) (edges : (i j : ℕ) → HasEdge rows i j ↔ GoesTo P j i) where
     -- edges lead to states of the NFA
@@ -163,7 +180,8 @@ module _ (P : List State) where
     path_reads (Reaches.by_edge i j edge) r = split_reads edge r
     path_reads (Reaches.by_edges i m j edge path) r = path_reads path (split_reads edge r)
 
-    pub read_nothing : (flags : List Bool) → 0 < length flags → ((j : ℕ) → (slice_index_or flags j false ≡ true) ↔ Reaches rows 0 j) → (n : ℕ) → (slice_index_or (set flags 0 true) n false ≡ true) ↔ Reads P n []
+    pub read_nothing : (flags : List Bool) → 0 < length flags → ((j : ℕ) → (slice_index_or flags j false ≡ true) ↔ Reaches rows 0 j) → (n : ℕ)
+        → (slice_index_or (set flags 0 true) n false ≡ true) ↔ Reads P n []
     read_nothing flags some exact n = (to (eq_or_not n 0), λ r. back (eq_or_not n 0) (reached r refl))
       where
         to : (n ≡ 0) ⊎ (n ≢ 0) → slice_index_or (set flags 0 true) n false ≡ true → Reads P n []

@@ -1,5 +1,6 @@
 -- Which characters kinds match by themselves, and which of them are gap text.
-use Rattle.std.proofs.Common.{◌≡◌, ◌↔◌, ◌<◌, ◌≤◌, ◌+◌, ◌⊎◌, inl, inr, ℕ, zero, suc, Bool, true, false, cond, not, map, List, [], ◌∷◌, ◌++◌, Some, None, slice_get, slice_index_or, length, refl, sym, ap, ◌∙◌, subst, arith, length-append, nat_eq}
+use Rattle.std.proofs.Common.{◌≡◌, ◌↔◌, ◌<◌, ◌≤◌, ◌+◌, ◌⊎◌, inl, inr, ℕ, zero, suc, Bool, true, false, cond, not, map, List, [], ◌∷◌, ◌++◌, Some}
+use Rattle.std.proofs.Common.{None, slice_get, slice_index_or, length, refl, sym, ap, ◌∙◌, subst, arith, length-append, nat_eq}
 use Rattle.std.specs.Prelude.{◌&&◌, ◌||◌}
 use Rattle.std.specs.Char.{IsScalar}
 use Rattle.std.specs.List.{Contains}
@@ -37,13 +38,15 @@ has_none c = refl
 
 -- the characters after which a state goes on at a flagged one
 module _ (flags : List Bool) (next : ℕ) where
-  pub char_last : (d : ℕ) (set : List (ℕ × ℕ)) → HasExactlyChars set (has ((d, d) ∷ [])) → slice_index_or flags next false ≡ true → (c : ℕ) → IsScalar c → (has set c ≡ true) ↔ IsLastOf flags (State.Char d next) c
+  pub char_last : (d : ℕ) (set : List (ℕ × ℕ)) → HasExactlyChars set (has ((d, d) ∷ [])) → slice_index_or flags next false ≡ true → (c : ℕ) → IsScalar c
+      → (has set c ≡ true) ↔ IsLastOf flags (State.Char d next) c
   char_last d set exact flag c scalar = (
     λ h. (next, ap (λ b. cond b (Some next) None) ((one_in d c).0 (sym (exact c scalar) ∙ h)), flag),
     λ (n, step, f). exact c scalar ∙ (one_in d c).1 (cond_some (nat_eq d c) next n step).0,
   )
 
-  pub set_last : (old set : List (ℕ × ℕ)) → set ≡ old → slice_index_or flags next false ≡ true → (c : ℕ) → IsScalar c → (has set c ≡ true) ↔ IsLastOf flags (State.Set old next) c
+  pub set_last : (old set : List (ℕ × ℕ)) → set ≡ old → slice_index_or flags next false ≡ true → (c : ℕ) → IsScalar c → (has set c ≡ true)
+      ↔ IsLastOf flags (State.Set old next) c
   set_last old set same flag c scalar = (
     λ h. (next, ap (λ b. cond b (Some next) None) (ap (λ s. has s c) (sym same) ∙ h), flag),
     λ (n, step, f). ap (λ s. has s c) same ∙ (cond_some (has old c) next n step).0,
@@ -53,7 +56,8 @@ abbrev one : ℕ → List (ℕ × ℕ) → Singles
 one kind set = record { kind = kind; set = set }
 
 -- characters of one kind more
-pub single_pushed : (list new : List Singles) (kind : ℕ) (set : List (ℕ × ℕ)) (k c : ℕ) → new ≡ list ++ record { kind = kind; set = set } ∷ [] → HasSingle new k c ↔ (HasSingle list k c ⊎ ((k ≡ kind) × (has set c ≡ true)))
+pub single_pushed : (list new : List Singles) (kind : ℕ) (set : List (ℕ × ℕ)) (k c : ℕ) → new ≡ list ++ record { kind = kind; set = set } ∷ []
+    → HasSingle new k c ↔ (HasSingle list k c ⊎ ((k ≡ kind) × (has set c ≡ true)))
 single_pushed list new kind set k c e = (
   λ (s, among, is, h). let Q : List Singles → Type 0 = λ l. Contains l s in to s is h (Contains-push_cases list (one kind set) s (subst Q e among)),
   back,
@@ -64,25 +68,31 @@ single_pushed list new kind set k c e = (
     to s is h (inr same) = inr (sym is ∙ sym (ap (λ (x : Singles). x.kind) same), ap (λ (x : Singles). has x.set c) same ∙ h)
 
     back : HasSingle list k c ⊎ ((k ≡ kind) × (has set c ≡ true)) → HasSingle new k c
-    back (inl (s, among, is, h)) = let Q : List Singles → Type 0 = λ l. Contains l s in (s, subst Q (sym e) (Contains-append_left list ((one kind set) ∷ []) s among), is, h)
-    back (inr (is, h)) = let Q : List Singles → Type 0 = λ l. Contains l (one kind set) in ((one kind set), subst Q (sym e) (Contains-push list (one kind set)), sym is, h)
+    back (inl (s, among, is, h)) = let Q : List Singles → Type 0 =
+        λ l. Contains l s in (s, subst Q (sym e) (Contains-append_left list ((one kind set) ∷ []) s among), is, h)
+    back (inr (is, h)) = let Q : List Singles → Type 0 =
+        λ l. Contains l (one kind set) in ((one kind set), subst Q (sym e) (Contains-push list (one kind set)), sym is, h)
 
 -- an element of a list, and of the list of its parts
 pub get_contains : {X : Type 0} (xs : List X) (x : X) (k : ℕ) → slice_get xs k ≡ Some x → Contains xs x
 get_contains xs x k at = (k, get_within xs x k at, same_Some (slice_index_or xs k x) x (sym (slice_get-get_or xs k x (get_within xs x k at)) ∙ at))
 
-pub mapped_get : (list : List Beginning) (b : Beginning) (k : ℕ) → slice_get list k ≡ Some b → slice_get (map (λ (x : Beginning). x.alternative) list) k ≡ Some b.alternative
+pub mapped_get : (list : List Beginning) (b : Beginning) (k : ℕ) → slice_get list k ≡ Some b
+    → slice_get (map (λ (x : Beginning). x.alternative) list) k ≡ Some b.alternative
 mapped_get [] b k at = absurd (cc)
 mapped_get (x ∷ list) b zero at = ap (λ (y : Beginning). Some y.alternative) (same_Some x b at)
 mapped_get (x ∷ list) b (suc k) at = mapped_get list b k at
 
-unmapped_get : (list : List Beginning) (a : Alternative) (k : ℕ) → slice_get (map (λ (x : Beginning). x.alternative) list) k ≡ Some a → (b : Beginning) × (slice_get list k ≡ Some b) × (b.alternative ≡ a)
+unmapped_get : (list : List Beginning) (a : Alternative) (k : ℕ) → slice_get (map (λ (x : Beginning). x.alternative) list) k ≡ Some a → (b : Beginning)
+    × (slice_get list k ≡ Some b) × (b.alternative ≡ a)
 unmapped_get [] a k at = absurd (cc)
 unmapped_get (x ∷ list) a zero at = (x, refl, same_Some x.alternative a at)
 unmapped_get (x ∷ list) a (suc k) at = unmapped_get list a k at
 
 -- those after which a state goes on at a flagged one
-pub pushed_single : (list new : List Singles) (kind : ℕ) (set : List (ℕ × ℕ)) (k c : ℕ) → new ≡ list ++ record { kind = kind; set = set } ∷ [] → (flags : List Bool) (state form : State) → state ≡ form → (has set c ≡ true) ↔ IsLastOf flags form c → HasSingle new k c ↔ (HasSingle list k c ⊎ ((k ≡ kind) × IsLastOf flags state c))
+pub pushed_single : (list new : List Singles) (kind : ℕ) (set : List (ℕ × ℕ)) (k c : ℕ) → new ≡ list ++ record { kind = kind; set = set } ∷ []
+    → (flags : List Bool) (state form : State) → state ≡ form → (has set c ≡ true) ↔ IsLastOf flags form c → HasSingle new k c
+    ↔ (HasSingle list k c ⊎ ((k ≡ kind) × IsLastOf flags state c))
 pushed_single list new kind set k c e flags state form is last =
     let Q : State → Type 0 = λ s. (has set c ≡ true) ↔ IsLastOf flags s c in
     both_ways (single_pushed list new kind set k c e) (or_same (with_same k kind (subst Q (sym is) last)))
@@ -116,14 +126,16 @@ module _ (P : List State) (flags : List Bool) where
   pub last_none : (states : List ℕ) (c : ℕ) → ¬ LastUpTo states 0 c
   last_none states c (m, h, s, g, last) = absurd (omega (arith, h))
 
-  pub last_more : (states : List ℕ) (i c : ℕ) (state : State) → slice_get P (slice_index_or states i 0) ≡ Some state → (LastUpTo states i c ⊎ IsLastOf flags state c) ↔ LastUpTo states (i + 1) c
+  pub last_more : (states : List ℕ) (i c : ℕ) (state : State) → slice_get P (slice_index_or states i 0) ≡ Some state
+      → (LastUpTo states i c ⊎ IsLastOf flags state c) ↔ LastUpTo states (i + 1) c
   last_more states i c state at = (to, λ (m, h, s, g, last). back m s g last (cases_lt m i) h)
     where
       to : LastUpTo states i c ⊎ IsLastOf flags state c → LastUpTo states (i + 1) c
       to (inl (m, h, s, g, last)) = (m, omega (arith, h), s, g, last)
       to (inr last) = (i, omega arith, state, at, last)
 
-      back : (m : ℕ) (s : State) → slice_get P (slice_index_or states m 0) ≡ Some s → IsLastOf flags s c → (m < i) ⊎ (i ≤ m) → m < i + 1 → LastUpTo states i c ⊎ IsLastOf flags state c
+      back : (m : ℕ) (s : State) → slice_get P (slice_index_or states m 0) ≡ Some s → IsLastOf flags s c → (m < i) ⊎ (i ≤ m) → m < i + 1 → LastUpTo states i c
+          ⊎ IsLastOf flags state c
       back m s g last (inl k) h = inl (m, k, s, g, last)
       back m s g last (inr k) h =
           let e : m ≡ i = omega (arith, h, k) in
@@ -131,7 +143,8 @@ module _ (P : List State) (flags : List Bool) where
           let Q : State → Type 0 = λ x. IsLastOf flags x c in inr (subst Q (sym (same_Some state s q)) last)
 
   -- all of them, where no character is needed before the end
-  pub last_all : AreEmptyFlags P flags → (a : Alternative) (states : List ℕ) (i c : ℕ) → length states ≤ i → i ≤ length states → AreFirst P a.start states → (a.short ≡ true → ¬ Reads P a.start []) → LastUpTo states i c ↔ IsRead P a (c ∷ [])
+  pub last_all : AreEmptyFlags P flags → (a : Alternative) (states : List ℕ) (i c : ℕ) → length states ≤ i → i ≤ length states → AreFirst P a.start states
+      → (a.short ≡ true → ¬ Reads P a.start []) → LastUpTo states i c ↔ IsRead P a (c ∷ [])
   last_all exact a states i c h l first some = (to, λ r. from ((first c []).0 r.reads))
     where
       shortest : a.short ≡ true → (u v : List ℕ) → c ∷ [] ≡ u ++ v → Reads P a.start u → v ≡ []
@@ -142,7 +155,14 @@ module _ (P : List State) (flags : List Bool) where
       to : LastUpTo states i c → IsRead P a (c ∷ [])
       to (m, k, state, at, (next, step, flag)) =
           record {
-            reads = (first c []).1 (slice_index_or states m 0, next, (m, omega (arith, k, l), index_default states m (slice_index_or states m 0) 0 (omega (arith, k, l))), (state, at, step), (exact next).0 flag);
+            reads =
+                (first c []).1 (
+                  slice_index_or states m 0,
+                  next,
+                  (m, omega (arith, k, l), index_default states m (slice_index_or states m 0) 0 (omega (arith, k, l))),
+                  (state, at, step),
+                  (exact next).0 flag,
+                );
             shortest = shortest;
           }
 
@@ -164,25 +184,29 @@ module _ (P : List State) (beginnings : List Beginning) where
   abbrev pub IsBelowSome : ℕ → ℕ → Type 0
   IsBelowSome i k = (m : ℕ) × (b : Beginning) × (m < i) × (slice_get beginnings m ≡ Some b) × (k ≤ b.alternative.kind)
 
-  pub single_more : (old new : List Singles) (i k c : ℕ) (b : Beginning) → slice_get beginnings i ≡ Some b → HasSingle old k c ↔ SingleUpTo i k c → HasSingle new k c ↔ (HasSingle old k c ⊎ ((k ≡ b.alternative.kind) × IsRead P b.alternative (c ∷ []))) → HasSingle new k c ↔ SingleUpTo (i + 1) k c
+  pub single_more : (old new : List Singles) (i k c : ℕ) (b : Beginning) → slice_get beginnings i ≡ Some b → HasSingle old k c ↔ SingleUpTo i k c
+      → HasSingle new k c ↔ (HasSingle old k c ⊎ ((k ≡ b.alternative.kind) × IsRead P b.alternative (c ∷ []))) → HasSingle new k c ↔ SingleUpTo (i + 1) k c
   single_more old new i k c b at before more = (λ h. to (more.0 h), λ (m, x, h, g, named, r). more.1 (back m x g named r (cases_lt m i) h))
     where
       to : HasSingle old k c ⊎ ((k ≡ b.alternative.kind) × IsRead P b.alternative (c ∷ [])) → SingleUpTo (i + 1) k c
       to (inl h) = let (m, x, l, g, named, r) = before.0 h in (m, x, omega (arith, l), g, named, r)
       to (inr (named, r)) = (i, b, omega arith, at, sym named, r)
 
-      back : (m : ℕ) (x : Beginning) → slice_get beginnings m ≡ Some x → x.alternative.kind ≡ k → IsRead P x.alternative (c ∷ []) → (m < i) ⊎ (i ≤ m) → m < i + 1 → HasSingle old k c ⊎ ((k ≡ b.alternative.kind) × IsRead P b.alternative (c ∷ []))
+      back : (m : ℕ) (x : Beginning) → slice_get beginnings m ≡ Some x → x.alternative.kind ≡ k → IsRead P x.alternative (c ∷ []) → (m < i) ⊎ (i ≤ m)
+          → m < i + 1 → HasSingle old k c ⊎ ((k ≡ b.alternative.kind) × IsRead P b.alternative (c ∷ []))
       back m x g named r (inl l) h = inl (before.1 (m, x, l, g, named, r))
       back m x g named r (inr l) h =
           let e : m ≡ i = omega (arith, h, l) in
           let same : x ≡ b = same_Some x b (sym g ∙ ap (λ n. slice_get beginnings n) e ∙ at) in
           let Q : Beginning → Type 0 = λ y. (k ≡ y.alternative.kind) × IsRead P y.alternative (c ∷ []) in inr (subst Q same (sym named, r))
 
-  pub single_all : (list : List Singles) (i k c : ℕ) → length beginnings ≤ i → HasSingle list k c ↔ SingleUpTo i k c → HasSingle list k c ↔ HasAlternative P (map (λ (b : Beginning). b.alternative) beginnings) k (c ∷ [])
+  pub single_all : (list : List Singles) (i k c : ℕ) → length beginnings ≤ i → HasSingle list k c ↔ SingleUpTo i k c → HasSingle list k c
+      ↔ HasAlternative P (map (λ (b : Beginning). b.alternative) beginnings) k (c ∷ [])
   single_all list i k c h before = both_ways before (to, from)
     where
       to : SingleUpTo i k c → HasAlternative P (map (λ (b : Beginning). b.alternative) beginnings) k (c ∷ [])
-      to (m, b, l, at, named, r) = (b.alternative, get_contains (map (λ (x : Beginning). x.alternative) beginnings) b.alternative m (mapped_get beginnings b m at), named, r)
+      to (m, b, l, at, named, r) =
+          (b.alternative, get_contains (map (λ (x : Beginning). x.alternative) beginnings) b.alternative m (mapped_get beginnings b m at), named, r)
 
       from : HasAlternative P (map (λ (b : Beginning). b.alternative) beginnings) k (c ∷ []) → SingleUpTo i k c
       from (a, (m, l, e), named, r) =
@@ -192,16 +216,25 @@ module _ (P : List State) (beginnings : List Beginning) where
           (m, b, omega (arith, h, get_within beginnings b m at), at, it.0, it.1)
 
   -- the kinds so far are no greater than that of the next alternative
-  pub up_to_next : (list : List Singles) (i : ℕ) (b : Beginning) → slice_get beginnings i ≡ Some b → NeverFall (λ (x : Beginning). x.alternative.kind) beginnings → SinglesNeverFall list → ((s : Singles) → Contains list s → IsBelowSome i s.kind) → SinglesAreUpTo list b.alternative.kind
+  pub up_to_next : (list : List Singles) (i : ℕ) (b : Beginning) → slice_get beginnings i ≡ Some b
+      → NeverFall (λ (x : Beginning). x.alternative.kind) beginnings → SinglesNeverFall list → ((s : Singles) → Contains list s → IsBelowSome i s.kind)
+      → SinglesAreUpTo list b.alternative.kind
   up_to_next list i b at order never below = record { never_fall = never; below = λ s among. least s (below s among) }
     where
       least : (s : Singles) → IsBelowSome i s.kind → s.kind ≤ b.alternative.kind
       least s (m, x, h, g, le) =
           let from : slice_index_or beginnings m x ≡ x = same_Some _ x (sym (slice_get-get_or beginnings m x (get_within beginnings x m g)) ∙ g) in
           let last : slice_index_or beginnings i x ≡ b = same_Some _ b (sym (slice_get-get_or beginnings i x (get_within beginnings b i at)) ∙ at) in
-          omega (arith, le, order m i x h (get_within beginnings b i at), ap (λ (y : Beginning). y.alternative.kind) from, ap (λ (y : Beginning). y.alternative.kind) last)
+          omega (
+            arith,
+            le,
+            order m i x h (get_within beginnings b i at),
+            ap (λ (y : Beginning). y.alternative.kind) from,
+            ap (λ (y : Beginning). y.alternative.kind) last,
+          )
 
-  pub below_next : (list : List Singles) (i : ℕ) (b : Beginning) → slice_get beginnings i ≡ Some b → SinglesAreUpTo list b.alternative.kind → (s : Singles) → Contains list s → IsBelowSome (i + 1) s.kind
+  pub below_next : (list : List Singles) (i : ℕ) (b : Beginning) → slice_get beginnings i ≡ Some b → SinglesAreUpTo list b.alternative.kind → (s : Singles)
+      → Contains list s → IsBelowSome (i + 1) s.kind
   below_next list i b at u s among = (i, b, omega arith, at, u.below s among)
 
 -- The characters of two lists, the kinds of the first one being the lesser ones.
@@ -214,10 +247,12 @@ module _ (is_gap : ℕ → Bool) (list lesser other : List Singles) (cut : list 
       pick (inr m) = inr (s, m, is, h)
 
   in_lesser : (k c : ℕ) → HasSingle lesser k c → HasSingle list k c
-  in_lesser k c (s, among, is, h) = let Q : List Singles → Type 0 = λ l. Contains l s in (s, subst Q (sym cut) (Contains-append_left lesser other s among), is, h)
+  in_lesser k c (s, among, is, h) = let Q : List Singles → Type 0 =
+      λ l. Contains l s in (s, subst Q (sym cut) (Contains-append_left lesser other s among), is, h)
 
   in_other : (k c : ℕ) → HasSingle other k c → HasSingle list k c
-  in_other k c (s, among, is, h) = let Q : List Singles → Type 0 = λ l. Contains l s in (s, subst Q (sym cut) (Contains-append_right lesser other s among), is, h)
+  in_other k c (s, among, is, h) = let Q : List Singles → Type 0 =
+      λ l. Contains l s in (s, subst Q (sym cut) (Contains-append_right lesser other s among), is, h)
 
   either : (a b : Bool) → (a || b) ≡ true → (a ≡ true) ⊎ (b ≡ true)
   either true b e = inl refl
@@ -233,11 +268,18 @@ module _ (is_gap : ℕ → Bool) (list lesser other : List Singles) (cut : list 
   first_alone true false e = (refl, λ h. absurd (cc))
   first_alone false b e = absurd (cc)
 
-  pub joined_decided : (x y d : Decided) → ((a b : Singles) → Contains lesser a → Contains other b → a.kind ≤ b.kind) → AreDecided is_gap lesser x → AreDecided is_gap other y →
-      HasExactlyChars d.matched (λ c. has x.matched c || has y.matched c) → HasExactlyChars d.gaps (λ c. has x.gaps c || (has y.gaps c && not (has x.matched c))) → AreDecided is_gap list d
+  pub joined_decided : (x y d : Decided) → ((a b : Singles) → Contains lesser a → Contains other b → a.kind ≤ b.kind) → AreDecided is_gap lesser x
+      → AreDecided is_gap other y →
+      HasExactlyChars d.matched (λ c. has x.matched c || has y.matched c)
+      → HasExactlyChars d.gaps (λ c. has x.gaps c || (has y.gaps c && not (has x.matched c))) → AreDecided is_gap list d
   joined_decided x y d order left right matched gaps =
       record {
-        matched = λ c s. (λ h. matched_to c s (either (has x.matched c) (has y.matched c) (sym (matched c s) ∙ h)), λ (k, h). matched c s ∙ one_of (has x.matched c) (has y.matched c) (matched_from c s k (cases k c h)));
+        matched =
+            λ c s. (
+              λ h. matched_to c s (either (has x.matched c) (has y.matched c) (sym (matched c s) ∙ h)),
+              λ (k, h). matched c s
+                  ∙ one_of (has x.matched c) (has y.matched c) (matched_from c s k (cases k c h)),
+            );
         gaps = λ c s. (
           λ h. gaps_to c s (either (has x.gaps c) (has y.gaps c && not (has x.matched c)) (sym (gaps c s) ∙ h)),
           λ (k, (h, least), gap). gaps c s ∙ gaps_from c s k least gap (cases k c h) (has x.matched c) refl,
@@ -255,7 +297,8 @@ module _ (is_gap : ℕ → Bool) (list lesser other : List Singles) (cut : list 
       below : (k j c : ℕ) → HasSingle lesser k c → HasSingle other j c → k ≤ j
       below k j c (a, m, is, h) (b, n, it, g) = omega (arith, order a b m n, is, it)
 
-      gaps_to : (c : ℕ) → IsScalar c → (has x.gaps c ≡ true) ⊎ ((has y.gaps c && not (has x.matched c)) ≡ true) → (k : ℕ) × IsLeastSingle list k c × (is_gap k ≡ true)
+      gaps_to : (c : ℕ) → IsScalar c → (has x.gaps c ≡ true) ⊎ ((has y.gaps c && not (has x.matched c)) ≡ true) → (k : ℕ) × IsLeastSingle list k c
+          × (is_gap k ≡ true)
       gaps_to c s (inl h) =
           let (k, (m, least), gap) = (left.gaps c s).0 h in (k, (in_lesser k c m, λ j n. pick j (cases j c n)), gap)
         where
@@ -267,7 +310,8 @@ module _ (is_gap : ℕ → Bool) (list lesser other : List Singles) (cut : list 
           let (k, (m, least), gap) = (right.gaps c s).0 gap_there in
           (k, (in_other k c m, λ j n. elim (cases j c n) [ inl l ↦ absurd (alone ((left.matched c s).1 (j, l))) | inr r ↦ least j r ]), gap)
 
-      gaps_from : (c : ℕ) → IsScalar c → (k : ℕ) → ((j : ℕ) → HasSingle list j c → k ≤ j) → is_gap k ≡ true → HasSingle lesser k c ⊎ HasSingle other k c → (b : Bool) → has x.matched c ≡ b → (has x.gaps c || (has y.gaps c && not (has x.matched c))) ≡ true
+      gaps_from : (c : ℕ) → IsScalar c → (k : ℕ) → ((j : ℕ) → HasSingle list j c → k ≤ j) → is_gap k ≡ true → HasSingle lesser k c ⊎ HasSingle other k c
+          → (b : Bool) → has x.matched c ≡ b → (has x.gaps c || (has y.gaps c && not (has x.matched c))) ≡ true
       gaps_from c s k least gap (inl m) b e = one_of (has x.gaps c) _ (inl ((left.gaps c s).1 (k, (m, λ j n. least j (in_lesser j c n)), gap)))
       gaps_from c s k least gap (inr m) true e =
           let (j, n) = (left.matched c s).0 e in
@@ -275,22 +319,35 @@ module _ (is_gap : ℕ → Bool) (list lesser other : List Singles) (cut : list 
           let Q : ℕ → Type 0 = λ i. HasSingle lesser i c in
           one_of (has x.gaps c) _ (inl ((left.gaps c s).1 (k, (subst Q same n, λ i h. least i (in_lesser i c h)), gap)))
       gaps_from c s k least gap (inr m) false e =
-          one_of (has x.gaps c) (has y.gaps c && not (has x.matched c)) (inr (ap (λ b. has y.gaps c && not b) e ∙ and_true (has y.gaps c) ((right.gaps c s).1 (k, (m, λ j n. least j (in_other j c n)), gap))))
+          one_of (has x.gaps c) (has y.gaps c && not (has x.matched c))
+          (inr (ap (λ b. has y.gaps c && not b) e ∙ and_true (has y.gaps c) ((right.gaps c s).1 (k, (m, λ j n. least j (in_other j c n)), gap))))
         where
           and_true : (b : Bool) → b ≡ true → (b && true) ≡ true
           and_true true h = refl
           and_true false h = absurd (cc)
 
 -- no kind, and one kind
-pub none_decided : (is_gap : ℕ → Bool) (list : List Singles) (d : Decided) (empty : List (ℕ × ℕ)) → length list ≡ 0 → HasExactlyChars empty (has []) → d.matched ≡ empty → HasExactlyChars d.gaps (λ c. false && has empty c) → AreDecided is_gap list d
+pub none_decided : (is_gap : ℕ → Bool) (list : List Singles) (d : Decided) (empty : List (ℕ × ℕ)) → length list ≡ 0 → HasExactlyChars empty (has [])
+    → d.matched ≡ empty → HasExactlyChars d.gaps (λ c. false && has empty c) → AreDecided is_gap list d
 unfolding in_ranges
 none_decided is_gap list d empty none is matched gaps =
     record {
-      matched = λ c s. (λ h. let bad : false ≡ true = sym (is c s) ∙ ap (λ m. has m c) (sym matched) ∙ h in absurd (cc), λ (k, (x, (n, i, e), named, t)). absurd (omega (arith, i, none)));
-      gaps = λ c s. (λ h. let bad : false ≡ true = sym (gaps c s) ∙ h in absurd (cc), λ (k, ((x, (n, i, e), named, t), least), gap). absurd (omega (arith, i, none)));
+      matched =
+          λ c s. (
+            λ h. let bad : false ≡ true = sym (is c s) ∙ ap (λ m. has m c) (sym matched) ∙ h in
+                absurd (cc),
+            λ (k, (x, (n, i, e), named, t)). absurd (omega (arith, i, none)),
+          );
+      gaps =
+          λ c s. (
+            λ h. let bad : false ≡ true = sym (gaps c s) ∙ h in
+                absurd (cc),
+            λ (k, ((x, (n, i, e), named, t), least), gap). absurd (omega (arith, i, none)),
+          );
     }
 
-pub one_decided : (is_gap : ℕ → Bool) (list : List Singles) (x : Singles) (d : Decided) (b : Bool) → length list ≡ 1 → x ≡ slice_index_or list 0 x → b ≡ is_gap x.kind → d.matched ≡ x.set → HasExactlyChars d.gaps (λ c. b && has x.set c) → AreDecided is_gap list d
+pub one_decided : (is_gap : ℕ → Bool) (list : List Singles) (x : Singles) (d : Decided) (b : Bool) → length list ≡ 1 → x ≡ slice_index_or list 0 x
+    → b ≡ is_gap x.kind → d.matched ≡ x.set → HasExactlyChars d.gaps (λ c. b && has x.set c) → AreDecided is_gap list d
 one_decided is_gap [] x d b len is gap matched gaps = absurd (omega (arith, len))
 one_decided is_gap (y ∷ z ∷ list) x d b len is gap matched gaps = absurd (omega (arith, len))
 one_decided is_gap (y ∷ []) x d b len is gap matched gaps =
@@ -328,7 +385,8 @@ first_text [] = []
 first_text (p ∷ rest) = p.text
 
 -- The characters of which the least kind is a gap kind are gap text.
-module _ (G : WrittenGrammar) (P : List State) (all : List Alternative) (of : IsNfaOf G P all) (list : List Singles) (singles : (k c : ℕ) → IsScalar c → HasSingle list k c ↔ HasAlternative P all k (c ∷ [])) where
+module _ (G : WrittenGrammar) (P : List State) (all : List Alternative) (of : IsNfaOf G P all) (list : List Singles)
+    (singles : (k c : ℕ) → IsScalar c → HasSingle list k c ↔ HasAlternative P all k (c ∷ [])) where
   matches : (k c : ℕ) → IsScalar c → HasSingle list k c ↔ KindMatches G k (c ∷ [])
   matches k c s = (λ h. (of.exact k (c ∷ [])).0 ((singles k c s).0 h), λ m. (singles k c s).1 ((of.exact k (c ∷ [])).1 m))
 
@@ -343,7 +401,8 @@ module _ (G : WrittenGrammar) (P : List State) (all : List Alternative) (of : Is
       }
 
   -- the one piece comes next
-  first_of : (c k : ℕ) {text : List ℕ} {ps : List Piece} {left : List ℕ} → LexesTo G text ps left → text ≡ c ∷ [] → ps ≡ record { kind = k; text = c ∷ [] } ∷ [] → KindMatches G k (c ∷ []) × ((other : ℕ) → KindMatches G other (c ∷ []) → k ≤ other)
+  first_of : (c k : ℕ) {text : List ℕ} {ps : List Piece} {left : List ℕ} → LexesTo G text ps left → text ≡ c ∷ [] → ps ≡ record { kind = k; text = c ∷ [] } ∷ []
+      → KindMatches G k (c ∷ []) × ((other : ℕ) → KindMatches G other (c ∷ []) → k ≤ other)
   first_of c k (LexesTo.by_end text) e f = absurd (cc)
   first_of c k (LexesTo.by_piece text kind piece rest left ps next more) e f =
       let kinds : kind ≡ k = ap first_kind f in
@@ -357,8 +416,12 @@ module _ (G : WrittenGrammar) (P : List State) (all : List Alternative) (of : Is
     where
       to : has d.gaps c ≡ true → IsGapText G c
       to h =
-          let (k, (m, least), gap) = (are.gaps c s).0 h in
-          (k, LexesTo.by_piece (c ∷ []) k (c ∷ []) [] [] [] (is_next k c ((matches k c s).0 m) (λ other n. least other ((matches other c s).1 n))) (LexesTo.by_end []), gap)
+          let (k, (m, least), gap) = (are.gaps c s).0 h in (
+            k,
+            LexesTo.by_piece (c ∷ []) k (c ∷ []) [] [] [] (is_next k c ((matches k c s).0 m) (λ other n. least other ((matches other c s).1 n)))
+                (LexesTo.by_end []),
+            gap,
+          )
 
       from : IsGapText G c → has d.gaps c ≡ true
       from (k, lexes, gap) =

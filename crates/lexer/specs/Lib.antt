@@ -1,3 +1,5 @@
 pub mod Tokens
 pub mod FaultText
+pub mod Pieces
+pub mod Reads
 pub mod inner

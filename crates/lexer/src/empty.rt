@@ -26,7 +26,7 @@ fn sources(alloc: Global, nfa: &[State]) -> Result<Vec<Vec<u32>>, Memory>
 }
 
 /// As many rows as there are states, each empty.
-fn no_sources(alloc: Global, states: usize) -> Result<Vec<Vec<u32>>, Memory>
+pub(crate) fn no_sources(alloc: Global, states: usize) -> Result<Vec<Vec<u32>>, Memory>
     ensures len { IfOk result (λ rows. vec_len rows ≡ states) }
     ensures none { IfOk result (λ rows. (i j : ℕ) → ¬ HasEdge (map (λ row. row.items) rows.items) i j) }
 {
@@ -39,10 +39,11 @@ fn no_sources(alloc: Global, states: usize) -> Result<Vec<Vec<u32>>, Memory>
 
 /// Adds the state with this number to the rows of those at which it goes on without reading a
 /// character.
-fn add_source(rows: &mut Vec<Vec<u32>>, number: u32, state: &State) -> Result<(), Memory>
+pub(crate) fn add_source(rows: &mut Vec<Vec<u32>>, number: u32, state: &State) -> Result<(), Memory>
     requires inside { (next : ℕ) → GoesFrom state.now next → next < vec_len rows.old }
     ensures len { OnOk result (vec_len rows.new ≡ vec_len rows.old) }
-    ensures edges { OnOk result ((i j : ℕ) → HasEdge (map (λ row. row.items) rows.new.items) i j ↔ (HasEdge (map (λ row. row.items) rows.old.items) i j ⊎ (GoesFrom state.now i × (j ≡ number)))) }
+    ensures edges { OnOk result ((i j : ℕ) → HasEdge (map (λ row. row.items) rows.new.items) i j
+        ↔ (HasEdge (map (λ row. row.items) rows.old.items) i j ⊎ (GoesFrom state.now i × (j ≡ number)))) }
 {
     match state {
         State::Split(first, second) => {
@@ -55,10 +56,11 @@ fn add_source(rows: &mut Vec<Vec<u32>>, number: u32, state: &State) -> Result<()
 }
 
 /// Adds the number to the row with this index.
-fn add_edge(rows: &mut Vec<Vec<u32>>, index: usize, number: u32) -> Result<(), Memory>
+pub(crate) fn add_edge(rows: &mut Vec<Vec<u32>>, index: usize, number: u32) -> Result<(), Memory>
     requires { index < vec_len rows.old }
     ensures len { OnOk result (vec_len rows.new ≡ vec_len rows.old) }
-    ensures edges { OnOk result ((i j : ℕ) → HasEdge (map (λ row. row.items) rows.new.items) i j ↔ (HasEdge (map (λ row. row.items) rows.old.items) i j ⊎ ((i ≡ index) × (j ≡ number)))) }
+    ensures edges { OnOk result ((i j : ℕ) → HasEdge (map (λ row. row.items) rows.new.items) i j
+        ↔ (HasEdge (map (λ row. row.items) rows.old.items) i j ⊎ ((i ≡ index) × (j ≡ number)))) }
 {
     rows[index].push(number)?;
     Ok(())

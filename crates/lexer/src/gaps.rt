@@ -4,7 +4,8 @@
 //! kind does. So first the characters are found that each kind matches by themselves, and then
 //! those among them of which the least kind is a gap kind, half of the kinds after the other.
 
-ghost use Rattle.std.specs.Prelude.{◌≡◌, ◌≢◌, ◌⊎◌, ◌↔◌, ◌<◌, ◌≤◌, ◌&&◌, ◌||◌, ◌∷◌, [], ℕ, Bool, true, false, not, Some, IfOk, OnOk, length, map, slice_get, slice_index_or};
+ghost use Rattle.std.specs.Prelude.{◌≡◌, ◌≢◌, ◌⊎◌, ◌↔◌, ◌<◌, ◌≤◌, ◌&&◌, ◌||◌, ◌∷◌, [], ℕ, Bool, true, false, not};
+ghost use Rattle.std.specs.Prelude.{Some, IfOk, OnOk, length, map, slice_get, slice_index_or};
 ghost use Rattle.std.specs.Char.{IsScalar};
 ghost use Rattle.std.specs.List.{Contains};
 ghost use Rattle.grammar_tree.specs.Chars.{HasExactlyChars, has};
@@ -109,7 +110,8 @@ fn add_alternative(
     requires start { beginning.now.alternative.start < length nfa.now }
     ensures added { OnOk result ((k c : ℕ) → IsScalar c → HasSingle singles.new.items k c
         ↔ (HasSingle singles.old.items k c ⊎ ((k ≡ beginning.now.alternative.kind) × IsRead nfa.now beginning.now.alternative (c ∷ [])))) }
-    ensures order { SinglesAreUpTo singles.old.items beginning.now.alternative.kind → OnOk result (SinglesAreUpTo singles.new.items beginning.now.alternative.kind) }
+    ensures order { SinglesAreUpTo singles.old.items beginning.now.alternative.kind
+        → OnOk result (SinglesAreUpTo singles.new.items beginning.now.alternative.kind) }
 {
     let alternative = beginning.alternative;
     if ends_at_once(alternative, flags) {

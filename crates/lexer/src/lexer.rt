@@ -1,9 +1,13 @@
 //! The lexer.
 
-ghost use Rattle.std.specs.Prelude.{◌≡◌, ◌↔◌, ◌<◌, ◌^◌, IfErr, IfOk, IsTrue, length, map};
+ghost use Rattle.std.specs.Prelude.{◌≡◌, ◌↔◌, ◌<◌, ◌-◌, ◌^◌, IfErr, IfOk, IsTrue, length, map};
 ghost use Rattle.std.specs.Str.{chars};
+ghost use Rattle.lexer.specs.inner.Built.{IsBuilt};
+ghost use Rattle.lexer.specs.Pieces.{ArePiecesOf};
 ghost use Rattle.lexer.specs.Tokens.{HasTokens, IsGapText, ReportsStop, token_of};
 
+use crate::piece::Pieces;
+use crate::read_pieces::{ReadPieces, read_pieces};
 use crate::rules::Rules;
 use crate::token::{LexFault, Tokens};
 use crate::tokens::read_tokens;
@@ -69,12 +73,11 @@ impl Lexer {
     /// each byte that was matched, were read by the table in vain.
     ///
     /// Where a reading by states went on after its last match and failed, the states that it went
-    /// through are kept at one position in each 16 bytes, up to 1,048,576 pairs of a state and a
-    /// position; and a later reading ends at such a position if it reaches kept states alone. So for a
-    /// given grammar the time grows with the text's length, also where many tokens begin that never
-    /// end, as long as all pairs are kept: with n states for texts of up to 16,777,216 / n bytes. In a
-    /// longer text each such token may be read to the end of the text, and the time can grow with the
-    /// square of the length.
+    /// through are kept as a set at one position in each 16 bytes, up to 1,048,576 states in all sets
+    /// together; and a later reading ends at such a position if it reaches a kept set. So for a given
+    /// grammar the time grows with the text's length, also where many tokens begin that never end, as
+    /// long as all sets are kept. In a longer text each such token may be read to the end of the text,
+    /// and the time can grow with the square of the length.
     pub fn lex(&self, text: &str) -> Result<Tokens, LexFault>
         requires { length text.now < 2 ^ 32 }
         ensures tokens { IfOk result (λ tokens. HasTokens self.now.grammar (chars text.now) (map token_of tokens.items.items)) }
@@ -87,6 +90,36 @@ impl Lexer {
             text,
         )?;
         Ok(Tokens { items })
+    }
+
+    /// The pieces of the text, those of gap kinds too, each with the offset up to which the text decides
+    /// it. The refusals are those of [`lex`](Lexer::lex), and so is the time.
+    pub fn pieces(&self, text: &str) -> Result<Pieces, LexFault>
+        requires { length text.now < 2 ^ 32 - 1 }
+        ensures pieces { IfOk result (ArePiecesOf self.now.grammar text.now) }
+        ensures fault { IfErr result (ReportsStop self.now.grammar (chars text.now)) }
+    {
+        let ReadPieces { items, farthest } = read_pieces(
+            *self.rules.states.allocator(),
+            &self.checked,
+            &self.rules,
+            text,
+        )?;
+        Ok(Pieces { items, farthest })
+    }
+
+    /// The grammar.
+    pub(crate) fn checked(&self) -> &Checked
+        ensures { result.now ≡ self.now }
+    {
+        &self.checked
+    }
+
+    /// The rules of its grammar.
+    pub(crate) fn rules(&self) -> &Rules
+        ensures { IsBuilt self.now result.now }
+    {
+        &self.rules
     }
 
     /// Whether the text of this one character is one piece of a gap kind. It takes a search among the

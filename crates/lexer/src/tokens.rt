@@ -1,6 +1,6 @@
 //! How a text is cut into tokens.
 
-ghost use Rattle.std.specs.Prelude.{◌≡◌, ◌<◌, ◌^◌, ◌++◌, [], ℕ, IfErr, IfOk, OnOk, length, map};
+ghost use Rattle.std.specs.Prelude.{◌≡◌, ◌<◌, ◌^◌, ◌++◌, [], IfErr, IfOk, OnOk, length, map};
 ghost use Rattle.std.specs.Str.{chars};
 ghost use Rattle.grammar_tree.specs.GrammarView.{kind_of};
 ghost use Rattle.grammar_tree.specs.Kinds.{kinds_of};
@@ -9,7 +9,7 @@ ghost use Rattle.grammar_tree.specs.Written.{WrittenGrammar};
 ghost use Rattle.lexer.specs.inner.Built.{IsBuilt};
 ghost use Rattle.lexer.specs.Tokens.{HasTokens, ReportsStop, token_of};
 ghost use Rattle.lexer.specs.inner.Tokens.{unless_gap};
-ghost use Rattle.lexer_match.specs.Dead.{HasDead};
+ghost use Rattle.lexer_match.specs.Dead.{HasNoDead};
 ghost use Rattle.lexer_match.specs.Reading.{IsReady};
 
 use crate::rules::Rules;
@@ -54,7 +54,7 @@ fn add_tokens(
     requires small { length text.now < 2 ^ 32 }
     requires empty { tokens.old.items ≡ [] }
     requires ready { IsReady (length rules.now.states.items) reading.old }
-    requires none { (remaining state : ℕ) → ¬ HasDead reading.old.dead remaining state }
+    requires none { HasNoDead reading.old.dead }
     ensures tokens { OnOk result (HasTokens checked.now.grammar (chars text.now) (map token_of tokens.new.items)) }
     ensures fault { IfErr result (ReportsStop checked.now.grammar (chars text.now)) }
 {
@@ -65,9 +65,9 @@ fn add_tokens(
         let Some(next) = found else {
             return Err(LexFault::NoToken { offset: at as u64 });
         };
-        let end = at + next.len;
+        let end = at + next.found.len;
         let token = Token {
-            kind: next.kind,
+            kind: next.found.kind,
             start: at as u32,
             end: end as u32,
         };

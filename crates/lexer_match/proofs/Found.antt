@@ -1,12 +1,14 @@
 -- What stays true of a table while sets and steps are added to it.
-use Rattle.std.proofs.Common.{◌≡◌, ◌≢◌, ◌<◌, ◌≤◌, ◌+◌, ◌*◌, ◌⊎◌, inl, inr, ◌↔◌, ℕ, zero, suc, Bool, false, Bor, Vec, List, [], ◌∷◌, ◌++◌, Option, Some, None, IsPermutation, MatchOption, slice_get, slice_index_or, replicate, length, refl, sym, ap, ◌∙◌, subst, arith, append_assoc, length-append}
+use Rattle.std.proofs.Common.{◌≡◌, ◌≢◌, ◌<◌, ◌≤◌, ◌+◌, ◌*◌, ◌⊎◌, inl, inr, ◌↔◌, ℕ, zero, suc, Bool, true, false, Bor, Vec, List, [], ◌∷◌, ◌++◌, Option, Some}
+use Rattle.std.proofs.Common.{None, IsPermutation, MatchOption, slice_get, slice_index_or, replicate, length, refl, sym, ap, ◌∙◌, subst, arith, append_assoc}
+use Rattle.std.proofs.Common.{length-append}
 use Rattle.std.specs.Bool.{⊤}
 use Rattle.std.proofs.Math.ListN.{set}
 use Rattle.std.specs.List.{Contains}
 use Rattle.std.specs.Slice.{IsItemAt}
 use Rattle.std.proofs.lemmas.Bool.{cases_lt, ltb-true}
 use Rattle.std.proofs.lemmas.List.{append-nil}
-use Rattle.std.proofs.lemmas.Option.{slice_get_past, slice_get_read}
+use Rattle.std.proofs.lemmas.Option.{slice_get-get_or, slice_get_past, slice_get_read}
 use Rattle.std.proofs.lemmas.List.Sorted.{Contains-permutation, IsPermutation-sym}
 use Rattle.lexer_match.specs.declared.nfa.State.{State}
 use Rattle.lexer_match.specs.declared.table.Reached.{Reached}
@@ -19,6 +21,7 @@ use Rattle.lexer_match.specs.inner.Subsets.{AreSets, HasStepsBefore, IsNumbered,
 use Rattle.lexer_match.specs.Table.{AfterSet, AreStarts, AreSteps, IsReached, IsStep, IsTable, states_in, states_of}
 use Rattle.lexer_match.proofs.States.{get_before, get_last, get_within, set_at, set_other}
 use Rattle.lexer_match.proofs.StateSets.{eq_or_not}
+use Rattle.lexer_match.proofs.Living.{ReadsOn}
 use Rattle.lexer_match.proofs.Steps.{both_ways, end_reads, marked_inside}
 
 abbrev pub HaveSame : List ℕ → List ℕ → Type 0
@@ -83,25 +86,37 @@ module _ (P : List State) where
   reads_same a b w same = (λ (n, k, r). (n, (same n).0 k, r), λ (n, k, r). (n, (same n).1 k, r))
 
   -- what is reached stays so, where sets are added
-  pub reached_kept : {A : Type 0} (sets new : List (Vec ℕ A)) (L : List ℕ → Type 0) (r : Reached) → StartsWith new sets → IsReached P sets L r → IsReached P new L r
+  pub reached_kept : {A : Type 0} (sets new : List (Vec ℕ A)) (L : List ℕ → Type 0) (r : Reached) → StartsWith new sets → IsReached P sets L r
+      → IsReached P new L r
   reached_kept sets new L r more reached =
       let Q : List ℕ → Type 0 = λ l. (w : List ℕ) → ReadsFrom P l w ↔ L w in
       record {
         inside = omega (arith, reached.inside, starts_longer new sets more);
         reads = subst Q (sym (states_kept sets new r.set more reached.inside)) reached.reads;
         ends = reached.ends;
+        goes_on = reached.goes_on;
       }
 
-  pub reached_as : {A : Type 0} (sets : List (Vec ℕ A)) (L M : List ℕ → Type 0) (r : Reached) → ((w : List ℕ) → L w ↔ M w) → IsReached P sets L r → IsReached P sets M r
-  reached_as sets L M r same reached = record { inside = reached.inside; reads = λ w. both_ways (reached.reads w) (same w); ends = both_ways reached.ends (same []) }
+  pub reached_as : {A : Type 0} (sets : List (Vec ℕ A)) (L M : List ℕ → Type 0) (r : Reached) → ((w : List ℕ) → L w ↔ M w) → IsReached P sets L r
+      → IsReached P sets M r
+  reached_as sets L M r same reached =
+      record {
+        inside = reached.inside;
+        reads = λ w. both_ways (reached.reads w) (same w);
+        ends = both_ways reached.ends (same []);
+        goes_on = both_ways reached.goes_on (λ (c, w, l). (c, w, (same (c ∷ w)).0 l), λ (c, w, m). (c, w, (same (c ∷ w)).1 m));
+      }
 
-  pub step_kept : {A : Type 0} (sets new : List (Vec ℕ A)) (n c : ℕ) (step : Step) → StartsWith new sets → n < length sets → IsStep P sets n c step → IsStep P new n c step
+  pub step_kept : {A : Type 0} (sets new : List (Vec ℕ A)) (n c : ℕ) (step : Step) → StartsWith new sets → n < length sets → IsStep P sets n c step
+      → IsStep P new n c step
   step_kept sets new n c Step.Unknown more h is = tt
   step_kept sets new n c Step.Stuck more h is = λ w r. let Q : List ℕ → Type 0 = λ l. ReadsFrom P l (c ∷ w) in is w (subst Q (states_kept sets new n more h) r)
-  step_kept sets new n c (Step.To r) more h is = reached_as new (AfterSet P sets n c) (AfterSet P new n c) r (λ w. kept w) (reached_kept sets new (AfterSet P sets n c) r more is)
+  step_kept sets new n c (Step.To r) more h is =
+      reached_as new (AfterSet P sets n c) (AfterSet P new n c) r (λ w. kept w) (reached_kept sets new (AfterSet P sets n c) r more is)
     where
       kept : (w : List ℕ) → AfterSet P sets n c w ↔ AfterSet P new n c w
-      kept w = let Q : List ℕ → Type 0 = λ l. ReadsFrom P l (c ∷ w) in (λ k. subst Q (sym (states_kept sets new n more h)) k, λ k. subst Q (states_kept sets new n more h) k)
+      kept w = let Q : List ℕ → Type 0 =
+          λ l. ReadsFrom P l (c ∷ w) in (λ k. subst Q (sym (states_kept sets new n more h)) k, λ k. subst Q (states_kept sets new n more h) k)
 
   pub steps_none : {A : Type 0} (sets : List (Vec ℕ A)) (steps : List Step) → steps ≡ [] → AreSteps P sets steps
   steps_none sets steps e n c step h at = let k : None ≡ Some step = sym (ap (λ l. slice_get l (n * 128 + c)) e) ∙ at in absurd (cc)
@@ -110,7 +125,8 @@ module _ (P : List State) where
   steps_kept sets new steps more are n c step h at =
       let (inside, is) = are n c step h at in (omega (arith, inside, starts_longer new sets more), step_kept sets new n c step more inside is)
 
-  pub steps_more : {A : Type 0} (sets : List (Vec ℕ A)) (steps new : List Step) (step : Step) (n c : ℕ) → new ≡ steps ++ step ∷ [] → HasStepsBefore n c steps → c < 128 → n < length sets → IsStep P sets n c step → AreSteps P sets steps → AreSteps P sets new
+  pub steps_more : {A : Type 0} (sets : List (Vec ℕ A)) (steps new : List Step) (step : Step) (n c : ℕ) → new ≡ steps ++ step ∷ [] → HasStepsBefore n c steps
+      → c < 128 → n < length sets → IsStep P sets n c step → AreSteps P sets steps → AreSteps P sets new
   steps_more {A} sets steps new step n c e count below inside here before m d other h at = pick (cases_lt (m * 128 + d) (length steps))
     where
       found : slice_get (steps ++ step ∷ []) (m * 128 + d) ≡ Some other
@@ -119,7 +135,8 @@ module _ (P : List State) where
       pick : (m * 128 + d < length steps) ⊎ (length steps ≤ m * 128 + d) → (m < length sets) × IsStep P sets m d other
       pick (inl l) = before m d other h (sym (get_before steps (step ∷ []) (m * 128 + d) l) ∙ found)
       pick (inr l) =
-          let last : m * 128 + d ≡ length steps = omega (arith, l, get_within (steps ++ step ∷ []) other (m * 128 + d) found, length-append steps (step ∷ [])) in
+          let last : m * 128 + d ≡ length steps =
+          omega (arith, l, get_within (steps ++ step ∷ []) other (m * 128 + d) found, length-append steps (step ∷ [])) in
           let q : Some step ≡ Some other = sym (get_last steps step (m * 128 + d) last) ∙ found in
           let is : step ≡ other = cc in
           let row : n ≡ m = omega (arith, last, count, below, h) in
@@ -137,10 +154,13 @@ module _ (P : List State) where
       nothing (suc n) zero f = absurd (cc)
       nothing (suc n) (suc k) f = nothing n k f
 
-  pub starts_kept : {A : Type 0} (sets new : List (Vec ℕ A)) (starts : List (Option Reached)) → StartsWith new sets → AreStarts P sets starts → AreStarts P new starts
+  pub starts_kept : {A : Type 0} (sets new : List (Vec ℕ A)) (starts : List (Option Reached)) → StartsWith new sets → AreStarts P sets starts
+      → AreStarts P new starts
   starts_kept sets new starts more are state r at = reached_kept sets new (Reads P state) r more (are state r at)
 
-  pub starts_more : {A : Type 0} (sets : List (Vec ℕ A)) (starts new : List (Option Reached)) (state : ℕ) (found : Option Reached) → new ≡ set starts state found → state < length starts → MatchOption found ⊤ (IsReached P sets (Reads P state)) → AreStarts P sets starts → AreStarts P sets new
+  pub starts_more : {A : Type 0} (sets : List (Vec ℕ A)) (starts new : List (Option Reached)) (state : ℕ) (found : Option Reached)
+      → new ≡ set starts state found → state < length starts → MatchOption found ⊤ (IsReached P sets (Reads P state)) → AreStarts P sets starts
+      → AreStarts P sets new
   starts_more {A} sets starts new state found e inside here before other r at = pick (eq_or_not other state)
     where
       in_set : slice_get (set starts state found) other ≡ Some (Some r)
@@ -162,22 +182,28 @@ module _ (P : List State) where
   set_of states marks exact size followed = record { inside = λ n k. marked_inside states marks (length P) n exact size k; followed = followed }
 
   -- a set with the same states, and with its mark of the end, is reached by what these states read
-  pub reached_of : {A : Type 0} (sets : List (Vec ℕ A)) (states : List ℕ) (marks : List Bool) (n : ℕ) (ends : Bool) → AreMarked states marks → IsFollowed P states → ends ≡ slice_index_or marks 0 false → IsSame sets states n → IsReached P sets (ReadsFrom P states) (record { set = n; ends = ends })
-  reached_of sets states marks n ends exact followed e (inside, same) =
+  pub reached_of : {A : Type 0} (sets : List (Vec ℕ A)) (states : List ℕ) (marks : List Bool) (n : ℕ) (ends goes_on : Bool) → AreMarked states marks
+      → IsFollowed P states → ends ≡ slice_index_or marks 0 false → (goes_on ≡ true) ↔ ReadsOn P states → IsSame sets states n
+      → IsReached P sets (ReadsFrom P states) (record { set = n; ends = ends; goes_on = goes_on })
+  reached_of sets states marks n ends goes_on exact followed e on (inside, same) =
       let empty = end_reads P states followed in
       record {
         inside = inside;
         reads = λ w. reads_same (states_of sets n) states w same;
         ends = both_ways (λ t. sym e ∙ t, λ t. e ∙ t) (both_ways (exact 0) (empty.1, empty.0));
+        goes_on = on;
       }
 
-  pub step_of : {A : Type 0} (sets new : List (Vec ℕ A)) (before now : List ℕ) (n c : ℕ) (r : Reached) → StartsWith new sets → n < length sets → states_of sets n ≡ before → ((w : List ℕ) → ReadsFrom P now w ↔ ReadsFrom P before (c ∷ w)) → IsReached P new (ReadsFrom P now) r → IsStep P new n c (Step.To r)
+  pub step_of : {A : Type 0} (sets new : List (Vec ℕ A)) (before now : List ℕ) (n c : ℕ) (r : Reached) → StartsWith new sets → n < length sets
+      → states_of sets n ≡ before → ((w : List ℕ) → ReadsFrom P now w ↔ ReadsFrom P before (c ∷ w)) → IsReached P new (ReadsFrom P now) r
+      → IsStep P new n c (Step.To r)
   step_of sets new before now n c r more h e step reached = reached_as new (ReadsFrom P now) (AfterSet P new n c) r (λ w. kept w) reached
     where
       kept : (w : List ℕ) → ReadsFrom P now w ↔ AfterSet P new n c w
       kept w = let Q : List ℕ → Type 0 = λ l. ReadsFrom P now w ↔ ReadsFrom P l (c ∷ w) in subst Q (sym (states_kept sets new n more h ∙ e)) (step w)
 
-  pub stuck_of : {A : Type 0} (sets : List (Vec ℕ A)) (before now : List ℕ) (n c : ℕ) → states_of sets n ≡ before → ((w : List ℕ) → ReadsFrom P now w ↔ ReadsFrom P before (c ∷ w)) → now ≡ [] → IsStep P sets n c Step.Stuck
+  pub stuck_of : {A : Type 0} (sets : List (Vec ℕ A)) (before now : List ℕ) (n c : ℕ) → states_of sets n ≡ before
+      → ((w : List ℕ) → ReadsFrom P now w ↔ ReadsFrom P before (c ∷ w)) → now ≡ [] → IsStep P sets n c Step.Stuck
   stuck_of sets before now n c e step none w r = nothing ((step w).1 (subst Q e r))
     where
       Q : List ℕ → Type 0
@@ -187,15 +213,18 @@ module _ (P : List State) where
       nothing (m, (k, h, f), more) = omega (arith, h, ap length none)
 
   -- what the table says of a step
-  pub table_step : (t : Table) (n c : ℕ) (step : Step) → c < 128 → slice_get t.steps.items (n * 128 + c) ≡ Some step → IsTable P t → IsStep P t.sets.items n c step
+  pub table_step : (t : Table) (n c : ℕ) (step : Step) → c < 128 → slice_get t.steps.items (n * 128 + c) ≡ Some step → IsTable P t
+      → IsStep P t.sets.items n c step
   table_step t n c step h e is = (is.steps n c step h e).1
 
   -- and of where a reading begins
-  pub table_start : (t : Table) (state : ℕ) (found : Option Reached) → slice_get t.starts.items state ≡ Some found → IsTable P t → MatchOption found ⊤ (IsReached P t.sets.items (Reads P state))
+  pub table_start : (t : Table) (state : ℕ) (found : Option Reached) → slice_get t.starts.items state ≡ Some found → IsTable P t
+      → MatchOption found ⊤ (IsReached P t.sets.items (Reads P state))
   table_start t state None e is = tt
   table_start t state (Some r) e is = is.starts state r e
 
-pub numbered_known : {A : Type 0} (sets : List (Vec ℕ A)) (n : ℕ) (set : Vec ℕ A) (states : List ℕ) → slice_get sets n ≡ Some set → set.items ≡ states → IsNumbered sets states n
+pub numbered_known : {A : Type 0} (sets : List (Vec ℕ A)) (n : ℕ) (set : Vec ℕ A) (states : List ℕ) → slice_get sets n ≡ Some set → set.items ≡ states
+    → IsNumbered sets states n
 numbered_known sets n set states e same = (get_within sets set n e, ap (λ o. states_in o) e ∙ same)
 
 -- what `get` gives
@@ -216,5 +245,13 @@ option_as (Some x) Q R f m = f x m
 pub same_sorted : (states sorted : List ℕ) → IsPermutation states sorted → HaveSame sorted states
 same_sorted states sorted p n = (λ k. Contains-permutation sorted states n (IsPermutation-sym states sorted p) k, λ k. Contains-permutation states sorted n p k)
 
-pub same_numbered : {A : Type 0} (sets : List (Vec ℕ A)) (states sorted : List ℕ) (n : ℕ) → HaveSame sorted states → IsNumbered sets sorted n → IsSame sets states n
-same_numbered sets states sorted n same (inside, are) = (inside, λ m. let Q : List ℕ → Type 0 = λ l. Contains l m ↔ Contains states m in subst Q (sym are) (same m))
+pub same_numbered : {A : Type 0} (sets : List (Vec ℕ A)) (states sorted : List ℕ) (n : ℕ) → HaveSame sorted states → IsNumbered sets sorted n
+    → IsSame sets states n
+same_numbered sets states sorted n same (inside, are) =
+    (inside, λ m. let Q : List ℕ → Type 0 = λ l. Contains l m ↔ Contains states m in subst Q (sym are) (same m))
+
+pub contains_at : {X : Type 0} (xs : List X) (k : ℕ) (x : X) → slice_get xs k ≡ Some x → Contains xs x
+contains_at xs k x e =
+    let inside = get_within xs x k e in
+    let q : Some (slice_index_or xs k x) ≡ Some x = sym (slice_get-get_or xs k x inside) ∙ e in
+    (k, inside, cc)

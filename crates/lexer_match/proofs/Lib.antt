@@ -1,8 +1,12 @@
 mod States
 mod StateSets
 mod Steps
+mod Living
+mod Cuts
+mod Seeing
 mod Best
-mod Traced
 mod Found
+mod Traced
+mod Outcomes
 mod Walked
 pub mod Lent

@@ -1,5 +1,6 @@
 -- Sets of states that are lists with marks.
-use Rattle.std.proofs.Common.{◌≡◌, ◌≢◌, ◌<◌, ◌≤◌, ◌+◌, ◌⊎◌, inl, inr, ℕ, zero, suc, Bool, true, false, List, [], ◌∷◌, ◌++◌, slice_index_or, length, refl, sym, ap, ◌∙◌, subst, arith, length-append}
+use Rattle.std.proofs.Common.{◌≡◌, ◌≢◌, ◌<◌, ◌≤◌, ◌+◌, ◌⊎◌, inl, inr, ℕ, zero, suc, Bool, true, false, List, [], ◌∷◌, ◌++◌}
+use Rattle.std.proofs.Common.{slice_index_or, length, refl, sym, ap, ◌∙◌, subst, arith, length-append}
 use Rattle.std.specs.List.{Contains}
 use Rattle.std.proofs.Math.ListN.{set, length-set}
 use Rattle.std.proofs.lemmas.Bool.{cases_lt}
@@ -50,7 +51,8 @@ eq_or_not m n = pick (cases_lt m n) (cases_lt n m)
     pick (inr h) (inr k) = inl (omega (arith, h, k))
 
 -- a state that isn't marked is pushed and marked
-pub push_marks : (states : List ℕ) (marks : List Bool) (state : ℕ) → state < length marks → slice_index_or marks state false ≡ false → AreMarked states marks → HasGrown states (states ++ state ∷ []) marks (set marks state true)
+pub push_marks : (states : List ℕ) (marks : List Bool) (state : ℕ) → state < length marks → slice_index_or marks state false ≡ false → AreMarked states marks
+    → HasGrown states (states ++ state ∷ []) marks (set marks state true)
 push_marks states marks state h fresh exact =
     record {
       size = length-set marks state true;
@@ -91,7 +93,8 @@ grown_keeps a b x y g n (k, h, e) = (k, omega (arith, h, g.longer), same (omega 
     same : k < length b → slice_index_or b k n ≡ n
     same l = index_default b k n 0 l ∙ g.kept k h ∙ sym (index_default a k n 0 h) ∙ e
 
-pub popped_inside : (first states rest : List ℕ) (marks : List Bool) (state size : ℕ) → AreMarked first marks → ((n : ℕ) → Contains states n → Contains first n) → states ≡ rest ++ state ∷ [] → size ≡ length marks → state < size
+pub popped_inside : (first states rest : List ℕ) (marks : List Bool) (state size : ℕ) → AreMarked first marks → ((n : ℕ) → Contains states n → Contains first n)
+    → states ≡ rest ++ state ∷ [] → size ≡ length marks → state < size
 popped_inside first states rest marks state size exact inside e same =
     let P : List ℕ → Type 0 = λ x. Contains x state in
     omega (arith, same, index_within marks state ((exact state).1 (inside state (subst P (sym e) (Contains-push rest state)))))

@@ -1,5 +1,6 @@
 -- What each form of state reads, and how a list of states grows.
-use Rattle.std.proofs.Common.{◌≡◌, ◌≢◌, ◌<◌, ◌≤◌, ◌⊎◌, inl, inr, ◌↔◌, ℕ, zero, suc, Bool, true, false, cond, nat_eq, List, [], ◌∷◌, ◌++◌, Some, None, slice_get, length, refl, sym, ap, ◌∙◌, subst, arith}
+use Rattle.std.proofs.Common.{◌≡◌, ◌≢◌, ◌<◌, ◌≤◌, ◌⊎◌, inl, inr, ◌↔◌, ℕ, zero, suc, Bool, true, false, cond, nat_eq, List, []}
+use Rattle.std.proofs.Common.{◌∷◌, ◌++◌, Some, None, slice_get, length, refl, sym, ap, ◌∙◌, subst, arith}
 use Rattle.std.proofs.Math.ListN.{set}
 use Rattle.grammar_tree.specs.Chars.{has}
 use Rattle.lexer_match.specs.declared.nfa.State.{State}
@@ -78,7 +79,8 @@ module _ (P : List State) where
   abbrev pub Consumes : (ℕ → Type 0) → ℕ → List ℕ → Type 0
   Consumes Test next w = (c : ℕ) × (v : List ℕ) × (w ≡ c ∷ v) × Test c × Reads P next v
 
-  pub set_reads : (n next : ℕ) (s : List (ℕ × ℕ)) (w : List ℕ) → 0 < n → slice_get P n ≡ Some (State.Set s next) → Reads P n w ↔ Consumes (λ c. has s c ≡ true) next w
+  pub set_reads : (n next : ℕ) (s : List (ℕ × ℕ)) (w : List ℕ) → 0 < n → slice_get P n ≡ Some (State.Set s next) → Reads P n w
+      ↔ Consumes (λ c. has s c ≡ true) next w
   set_reads n next s w h g = (λ r. to (reads_in (State.Set s next) h g r), from)
     where
       to : ((c : ℕ) × (v : List ℕ) × (m : ℕ) × (w ≡ c ∷ v) × (cond (has s c) (Some next) None ≡ Some m) × Reads P m v)

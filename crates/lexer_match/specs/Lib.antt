@@ -1,6 +1,8 @@
 pub mod Nfa
 pub mod StateSets
 pub mod Longest
+pub mod Live
+pub mod Seen
 pub mod Dead
 pub mod Reading
 pub mod Table

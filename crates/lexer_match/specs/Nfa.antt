@@ -15,7 +15,8 @@ after (State.Call rule next) c = None
 pub data Reads (P : List State) : ℕ → List ℕ → Type 0 where
   at_end : Reads P 0 []
   by_char : (n next : ℕ) (state : State) (c : ℕ) (w : List ℕ) → slice_get P n ≡ Some state → after state c ≡ Some next → Reads P next w → Reads P n (c ∷ w)
-  by_split : (n first second next : ℕ) (w : List ℕ) → slice_get P n ≡ Some (State.Split first second) → (next ≡ first) ⊎ (next ≡ second) → Reads P next w → Reads P n w
+  by_split : (n first second next : ℕ) (w : List ℕ) → slice_get P n ≡ Some (State.Split first second) → (next ≡ first) ⊎ (next ≡ second) → Reads P next w
+      → Reads P n w
 
 -- the state goes on at states below this number
 abbrev pub GoesBelow : ℕ → State → Type 0

@@ -16,11 +16,12 @@ states_in (Some set) = set.items
 abbrev pub states_of : {A : Type 0} → List (Vec ℕ A) → ℕ → List ℕ
 states_of {A} sets n = states_in (slice_get sets n)
 
--- From the states of the set the texts of the language are read, and the set ends where the empty text is one of them.
+-- From the states of the set the texts of the language are read; the set ends where the empty text is one of them, and goes on where a longer text is.
 pub record IsReached {A : Type 0} (P : List State) (sets : List (Vec ℕ A)) (Language : List ℕ → Type 0) (r : Reached) : Type 0 where
   pub inside : r.set < length sets
   pub reads : (w : List ℕ) → ReadsFrom P (states_of sets r.set) w ↔ Language w
   pub ends : (r.ends ≡ true) ↔ Language []
+  pub goes_on : (r.goes_on ≡ true) ↔ ((c : ℕ) × (w : List ℕ) × Language (c ∷ w))
 
 -- what is read from the states of a set after the character
 abbrev pub AfterSet : {A : Type 0} → List State → List (Vec ℕ A) → ℕ → ℕ → List ℕ → Type 0

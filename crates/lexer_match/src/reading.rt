@@ -1,29 +1,31 @@
 //! How far an alternative matches.
 
-ghost use Rattle.std.specs.Prelude.{◌≡◌, ◌⊎◌, ◌↔◌, ◌<◌, ◌∷◌, [], ℕ, List, true, false, IfOk, MatchOption, OnOk, ⊤, length, slice_index_or};
+ghost use Rattle.std.specs.Prelude.{◌≡◌, ◌⊎◌, ◌↔◌, ◌<◌, ◌∷◌, [], ℕ, List, true, false, IfOk, MatchOption, None, OnOk, ⊤, length, slice_index_or};
 ghost use Rattle.std.specs.List.{Contains};
 ghost use Rattle.std.specs.Str.{chars};
-ghost use Rattle.lexer_match.specs.declared.dead.StateAt.{StateAt};
-ghost use Rattle.lexer_match.specs.Dead.{AreDead, EndsWith, HasDead, IsDead, StayDead};
-ghost use Rattle.lexer_match.specs.inner.Dead.{state_at};
-ghost use Rattle.lexer_match.specs.Longest.{IsLongestLen};
+ghost use Rattle.lexer_match.specs.declared.dead.DeadSet.{DeadSet};
+ghost use Rattle.lexer_match.specs.declared.dead.SetAt.{SetAt};
+ghost use Rattle.lexer_match.specs.Dead.{AreDead, EndsWith, HasDead, HasNoDead, IsDead, StayDead};
+ghost use Rattle.lexer_match.specs.inner.Dead.{IsKnownDead, IsSetAt};
+ghost use Rattle.lexer_match.specs.Live.{AreLive};
 ghost use Rattle.lexer_match.specs.Nfa.{IsClosed, Reads};
 ghost use Rattle.lexer_match.specs.Reading.{IsRead, IsReady};
+ghost use Rattle.lexer_match.specs.Seen.{IsExtent};
 ghost use Rattle.lexer_match.specs.StateSets.{AreFirst, ReadsFrom};
 ghost use Rattle.lexer_match.specs.inner.StateSets.{IsFollowed};
 ghost use Rattle.lexer_match.specs.Table.{IsTable};
 ghost use Rattle.lexer_match.specs.declared.nfa.State.{State};
 
-use crate::alternative::{Alternative, bytes_after, is_decided, last_match};
-use crate::dead::{DeadStates, StateAt};
+use crate::alternative::{Alternative, Extent, Seen, bytes_after, is_over, last_match};
+use crate::dead::{DeadSet, DeadSets, SetAt};
 use crate::nfa::State;
 use crate::state_set::StateSet;
 use crate::table::Table;
 use faults::Memory;
 use std::alloc::Global;
 
-/// The states that are kept as dead are those at the first position in each so many bytes, counted
-/// from the end of the text. So a reading ends at most so many bytes after the position at which it
+/// The sets that are kept as dead are those at the first position in each so many bytes, counted from
+/// the end of the text. So a reading ends at most so many bytes after the position at which it
 /// could have.
 const SPACING: usize = 16;
 
@@ -42,14 +44,15 @@ fn is_checkpoint(before: usize, remaining: usize) -> bool {
 /// What reading takes: the states that it has reached before a character, and those after it.
 #[derive(Drop)]
 pub struct Reading {
+    alloc: Global,
     pub current: StateSet,
     pub next: StateSet,
 
-    /// The states that were current at checkpoints since the last match.
-    trace: Vec<StateAt>,
+    /// The sets that were current at checkpoints since the last match.
+    trace: Vec<SetAt>,
 
-    /// States from which nothing is read within the text, as earlier readings found out.
-    pub dead: DeadStates,
+    /// Sets from which nothing is read within the text, as earlier readings found out.
+    pub dead: DeadSets,
 
     /// How many bytes the table may still read in vain: those that it reads after its last match.
     credit: usize,
@@ -59,17 +62,27 @@ impl Reading {
     /// For an NFA with so many states.
     pub fn new(alloc: Global, size: usize) -> Result<Reading, Memory>
         ensures ready { IfOk result (λ reading. IsReady size reading) }
-        ensures none { IfOk result (λ reading. (r n : ℕ) → ¬ HasDead reading.dead r n) }
+        ensures none { IfOk result (λ reading. HasNoDead reading.dead) }
     {
         let current = StateSet::new(alloc, size)?;
         let next = StateSet::new(alloc, size)?;
         Ok(Reading {
+            alloc,
             current,
             next,
             trace: Vec::new(alloc),
-            dead: DeadStates::new(alloc),
+            dead: DeadSets::new(alloc),
             credit: FIRST_CREDIT,
         })
+    }
+
+    /// Begins with another text: what is known of the one before it is forgotten.
+    pub fn forget(&mut self)
+        ensures ready { (size : ℕ) → IsReady size self.old → IsReady size self.new }
+        ensures none { HasNoDead self.new.dead }
+    {
+        self.dead = DeadSets::new(self.alloc);
+        self.credit = FIRST_CREDIT;
     }
 
     /// Goes on after the character.
@@ -81,7 +94,8 @@ impl Reading {
         ensures followed { OnOk result (IsFollowed nfa.now self.new.current.states.items) }
         ensures trace { OnOk result (self.new.trace ≡ self.old.trace) }
         ensures dead { OnOk result (self.new.dead ≡ self.old.dead) }
-        ensures reads { OnOk result ((w : List ℕ) → ReadsFrom nfa.now self.new.current.states.items w ↔ ReadsFrom nfa.now self.old.current.states.items (c ∷ w)) }
+        ensures reads { OnOk result ((w : List ℕ) → ReadsFrom nfa.now self.new.current.states.items w
+            ↔ ReadsFrom nfa.now self.old.current.states.items (c ∷ w)) }
     {
         self.next.step(nfa, &self.current, c)?;
         std::mem::swap(&mut self.current, &mut self.next);
@@ -125,87 +139,93 @@ impl Reading {
         ended
     }
 
-    /// Adds the state to the trace, unless it is known to be dead. Whether it was added.
-    fn trace_state(&mut self, at: StateAt) -> Result<bool, Memory>
-        ensures current { OnOk result (self.new.current ≡ self.old.current) }
-        ensures next { OnOk result (self.new.next ≡ self.old.next) }
-        ensures dead { OnOk result (self.new.dead ≡ self.old.dead) }
-        ensures known { IfOk result (λ added. added ≡ false → HasDead self.old.dead at.remaining at.state) }
-        ensures traced { OnOk result ((p : StateAt) → Contains self.new.trace.items p → Contains self.old.trace.items p ⊎ (p ≡ at)) }
+    /// The current states in their order, at the position at which so many bytes remain.
+    fn current_set(&self, remaining: usize) -> Result<SetAt, Memory>
+        ensures { IfOk result (IsSetAt remaining self.now.current.states.items) }
     {
-        if self.dead.has(at.remaining, at.state) {
-            return Ok(false);
-        }
-        self.trace.push(at)?;
-        Ok(true)
+        let mut states = Vec::from_slice(self.alloc, &self.current.states)?;
+        states.sort_unstable();
+        Ok(SetAt { remaining, states })
     }
 
-    /// Adds the current states that aren't known to be dead to the trace. False where all of them are.
-    fn trace_current(&mut self, remaining: usize) -> Result<bool, Memory>
+    /// Up to where the reading looks, if it is known that nothing is read from the current states. Else
+    /// they are added to the trace.
+    fn trace_current(&mut self, remaining: usize) -> Result<Option<Seen>, Memory>
         ensures current { OnOk result (self.new.current ≡ self.old.current) }
         ensures next { OnOk result (self.new.next ≡ self.old.next) }
         ensures dead { OnOk result (self.new.dead ≡ self.old.dead) }
-        ensures stuck { IfOk result (λ alive. alive ≡ false → (n : ℕ) → Contains self.old.current.states.items n → HasDead self.old.dead remaining n) }
-        ensures traced { OnOk result ((p : StateAt) → Contains self.new.trace.items p → Contains self.old.trace.items p ⊎ ((p.remaining ≡ remaining) × Contains self.old.current.states.items p.state)) }
+        ensures known { IfOk result (λ known. MatchOption known ⊤ (IsKnownDead self.old.dead remaining self.old.current.states.items)) }
+        ensures traced { OnOk result ((p : SetAt) → Contains self.new.trace.items p → Contains self.old.trace.items p
+            ⊎ IsSetAt remaining self.old.current.states.items p) }
     {
-        let mut alive = false;
-        for i in 0..self.current.states.len() {
-            let state = self.current.states[i];
-            let added = self.trace_state(StateAt { remaining, state })?;
-            alive |= added;
+        let set = self.current_set(remaining)?;
+        match self.dead.seen(remaining, &set.states) {
+            Some(seen) => Ok(Some(seen)),
+            None => {
+                self.trace.push(set)?;
+                Ok(None)
+            }
         }
-        Ok(alive)
     }
 
-    /// Whether the reading goes on: not from no state, and not, at a checkpoint that isn't the end of
-    /// a match, from states alone that are known to be dead.
-    fn goes_on(&mut self, remaining: usize, checkpoint: bool, ended: bool) -> Result<bool, Memory>
+    /// Up to where the reading looks, if it ends here: at a checkpoint that isn't the end of a match, from
+    /// states of which it is known that nothing is read from them.
+    fn known_end(
+        &mut self,
+        remaining: usize,
+        checkpoint: bool,
+        ended: bool,
+    ) -> Result<Option<Seen>, Memory>
         ensures current { OnOk result (self.new.current ≡ self.old.current) }
         ensures next { OnOk result (self.new.next ≡ self.old.next) }
         ensures dead { OnOk result (self.new.dead ≡ self.old.dead) }
-        ensures stuck { IfOk result (λ on. on ≡ false → (n : ℕ) → Contains self.old.current.states.items n → HasDead self.old.dead remaining n) }
-        ensures traced { OnOk result ((p : StateAt) → Contains self.new.trace.items p → Contains self.old.trace.items p ⊎ ((ended ≡ false) × (p.remaining ≡ remaining) × Contains self.old.current.states.items p.state)) }
+        ensures known { IfOk result (λ known. MatchOption known ⊤
+            (λ seen. (ended ≡ false) × IsKnownDead self.old.dead remaining self.old.current.states.items seen)) }
+        ensures traced { OnOk result ((p : SetAt) → Contains self.new.trace.items p → Contains self.old.trace.items p
+            ⊎ ((ended ≡ false) × IsSetAt remaining self.old.current.states.items p)) }
     {
-        if self.current.is_empty() {
-            return Ok(false);
-        }
         if ended {
-            return Ok(true);
+            return Ok(None);
         }
         if !checkpoint {
-            return Ok(true);
+            return Ok(None);
         }
-        let alive = self.trace_current(remaining)?;
-        Ok(alive)
+        let known = self.trace_current(remaining)?;
+        Ok(known)
     }
 
-    /// Keeps the states of the trace as dead.
-    fn keep_dead(&mut self) -> Result<(), Memory>
+    /// Keeps the sets of the trace as dead. A reading from them looks up to there.
+    fn keep_dead(&mut self, seen: Seen) -> Result<(), Memory>
         ensures current { OnOk result (self.new.current ≡ self.old.current) }
         ensures next { OnOk result (self.new.next ≡ self.old.next) }
-        ensures added { OnOk result ((r n : ℕ) → HasDead self.new.dead r n → HasDead self.old.dead r n ⊎ Contains self.old.trace.items (state_at r n)) }
+        ensures added { OnOk result ((d : DeadSet) → HasDead self.new.dead d → HasDead self.old.dead d
+            ⊎ (Contains self.old.trace.items d.set × (d.seen ≡ seen))) }
     {
-        while let Some(dead) = self.trace.pop() {
-            self.dead.add(dead)?;
+        while let Some(set) = self.trace.pop() {
+            self.dead.add(self.alloc, DeadSet { set, seen })?;
         }
         Ok(())
     }
 
-    /// The same as `longest`, and the states of the trace are dead.
-    fn read_longest(
+    /// The same as `extent`, and the sets of the trace are dead: a reading from them looks up to the same
+    /// position.
+    fn read_extent(
         &mut self,
         nfa: &[State],
+        live: &[bool],
         alternative: Alternative,
         text: &str,
-    ) -> Result<usize, Memory>
+    ) -> Result<Extent, Memory>
         requires nfa { IsClosed nfa.now }
+        requires live { AreLive nfa.now live.now }
         requires ready { IsReady (length nfa.now) self.old }
         requires start { alternative.start < length nfa.now }
         requires dead { AreDead nfa.now text.now self.old.dead }
         ensures ready { OnOk result (IsReady (length nfa.now) self.new) }
-        ensures longest { IfOk result (λ len. IsLongestLen (IsRead nfa.now alternative) (chars text.now) len) }
+        ensures extent { IfOk result (IsExtent (IsRead nfa.now alternative) (chars text.now)) }
         ensures same { OnOk result (self.new.dead ≡ self.old.dead) }
-        ensures traced { OnOk result ((whole : List ℕ) → EndsWith whole text.now → (p : StateAt) → Contains self.new.trace.items p → IsDead nfa.now whole p.remaining p.state) }
+        ensures traced { IfOk result (λ extent. (whole : List ℕ) → EndsWith whole text.now → (p : SetAt) → Contains self.new.trace.items p
+            → IsDead nfa.now whole (record { set = p; seen = extent.seen })) }
     {
         self.current.begin(nfa, alternative.start)?;
         self.trace.clear();
@@ -216,15 +236,23 @@ impl Reading {
         loop {
             let ended = self.has_ended();
             longest = last_match(ended, read, longest);
-            if is_decided(ended, alternative) {
-                return Ok(longest);
-            }
             let remaining = text.len() - read;
-            if !self.goes_on(remaining, checkpoint, ended)? {
-                return Ok(longest);
+            let goes_on = self.current.has_flagged(live);
+            if is_over(ended, goes_on, alternative) {
+                return Ok(Extent {
+                    longest,
+                    seen: Seen::Until(remaining),
+                });
+            }
+            let known = self.known_end(remaining, checkpoint, ended)?;
+            if let Some(seen) = known {
+                return Ok(Extent { longest, seen });
             }
             let Some(c) = rest.next() else {
-                return Ok(longest);
+                return Ok(Extent {
+                    longest,
+                    seen: Seen::All,
+                });
             };
             self.step(nfa, c)?;
             read = bytes_after(read, c);
@@ -232,73 +260,79 @@ impl Reading {
         }
     }
 
-    /// The longest match as the table has it. None where the table doesn't say, or where too much was
-    /// read by it in vain.
-    fn walk(&mut self, table: &Table, alternative: Alternative, text: &str) -> Option<usize>
+    /// How far the alternative matches, as the table has it. None where the table doesn't say, or where
+    /// too much was read by it in vain.
+    fn walk(&mut self, table: &Table, alternative: Alternative, text: &str) -> Option<Extent>
         ensures current { self.new.current ≡ self.old.current }
         ensures next { self.new.next ≡ self.old.next }
         ensures dead { self.new.dead ≡ self.old.dead }
-        ensures longest { (P : List State) → IsTable P table.now → MatchOption result ⊤ (IsLongestLen (IsRead P alternative) (chars text.now)) }
+        ensures extent { (P : List State) → IsTable P table.now → MatchOption result ⊤ (IsExtent (IsRead P alternative) (chars text.now)) }
     {
         if self.credit == 0 {
             return None;
         }
         let walk = table.walk(alternative, text);
-        let gained = walk
-            .longest
-            .unwrap_or(0)
-            .saturating_mul(1 + CREDIT_FOR_A_BYTE);
+        let longest = match walk.extent {
+            Some(extent) => extent.longest,
+            None => 0,
+        };
+        let gained = longest.saturating_mul(1 + CREDIT_FOR_A_BYTE);
         self.credit = self.credit.saturating_add(gained).saturating_sub(walk.read);
-        walk.longest
+        walk.extent
     }
 
-    /// The longest match, by the states that are reached.
+    /// How far the alternative matches, by the states that are reached.
     ///
-    /// A reading ends at the latest at the first checkpoint after its last match at which all its
-    /// states are kept as dead. Where it goes on further and fails, its states at the checkpoints
-    /// since that match are kept as dead for the later readings of the same text, up to a bound.
+    /// A reading ends at the latest at the first checkpoint after its last match at which its states are
+    /// kept as a dead set. Where it goes on further and fails, its sets at the checkpoints since that match
+    /// are kept as dead for the later readings of the same text, up to a bound.
     fn read_from_states(
         &mut self,
         nfa: &[State],
+        live: &[bool],
         alternative: Alternative,
         text: &str,
-    ) -> Result<usize, Memory>
+    ) -> Result<Extent, Memory>
         requires nfa { IsClosed nfa.now }
+        requires live { AreLive nfa.now live.now }
         requires ready { IsReady (length nfa.now) self.old }
         requires start { alternative.start < length nfa.now }
         requires dead { AreDead nfa.now text.now self.old.dead }
         ensures ready { OnOk result (IsReady (length nfa.now) self.new) }
-        ensures longest { IfOk result (λ len. IsLongestLen (IsRead nfa.now alternative) (chars text.now) len) }
+        ensures extent { IfOk result (IsExtent (IsRead nfa.now alternative) (chars text.now)) }
         ensures dead { OnOk result (StayDead nfa.now text.now self.old.dead self.new.dead) }
     {
-        let longest = self.read_longest(nfa, alternative, text)?;
-        self.keep_dead()?;
-        Ok(longest)
+        let extent = self.read_extent(nfa, live, alternative, text)?;
+        self.keep_dead(extent.seen)?;
+        Ok(extent)
     }
 
-    /// The length, in bytes, of the longest beginning of the text, of at least one character, that
-    /// the alternative matches. 0 where it matches none.
-    pub fn longest(
+    /// How far the alternative matches the text from its beginning on, and up to where the text is looked
+    /// at for it: up to the least beginning that isn't a proper prefix of anything that the alternative
+    /// matches.
+    pub fn extent(
         &mut self,
         nfa: &[State],
+        live: &[bool],
         table: &Table,
         alternative: Alternative,
         text: &str,
-    ) -> Result<usize, Memory>
+    ) -> Result<Extent, Memory>
         requires nfa { IsClosed nfa.now }
+        requires live { AreLive nfa.now live.now }
         requires table { IsTable nfa.now table.now }
         requires ready { IsReady (length nfa.now) self.old }
         requires start { alternative.start < length nfa.now }
         requires dead { AreDead nfa.now text.now self.old.dead }
         ensures ready { OnOk result (IsReady (length nfa.now) self.new) }
-        ensures longest { IfOk result (λ len. IsLongestLen (IsRead nfa.now alternative) (chars text.now) len) }
+        ensures extent { IfOk result (IsExtent (IsRead nfa.now alternative) (chars text.now)) }
         ensures dead { OnOk result (StayDead nfa.now text.now self.old.dead self.new.dead) }
     {
         match self.walk(table, alternative, text) {
-            Some(longest) => Ok(longest),
+            Some(extent) => Ok(extent),
             None => {
-                let longest = self.read_from_states(nfa, alternative, text)?;
-                Ok(longest)
+                let extent = self.read_from_states(nfa, live, alternative, text)?;
+                Ok(extent)
             }
         }
     }

@@ -20,6 +20,16 @@ pub struct StateSet {
     pub marks: Vec<bool>,
 }
 
+/// The flag of the state; false where it has none.
+fn is_flagged(flags: &[bool], state: usize) -> bool
+    ensures { result ≡ slice_index_or flags.now state false }
+{
+    match flags.get(state) {
+        Some(flag) => *flag,
+        None => false,
+    }
+}
+
 impl StateSet {
     /// No state, in an NFA with so many.
     pub(crate) fn new(alloc: Global, size: usize) -> Result<StateSet, Memory>
@@ -47,6 +57,19 @@ impl StateSet {
         ensures some { result ≡ false → Contains self.now.states.items (slice_index_or self.now.states.items 0 0) }
     {
         self.states.is_empty()
+    }
+
+    /// Whether one of the states is flagged.
+    pub(crate) fn has_flagged(&self, flags: &[bool]) -> bool
+        ensures some { result ≡ true → (n : ℕ) × Contains self.now.states.items n × (slice_index_or flags.now n false ≡ true) }
+        ensures none { result ≡ false → (n : ℕ) → Contains self.now.states.items n → slice_index_or flags.now n false ≡ false }
+    {
+        for state in &self.states {
+            if is_flagged(flags, *state) {
+                return true;
+            }
+        }
+        false
     }
 
     fn add(&mut self, state: usize) -> Result<(), Memory>

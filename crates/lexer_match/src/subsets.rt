@@ -2,6 +2,7 @@
 
 ghost use Rattle.std.specs.Prelude.{◌≡◌, ◌<◌, [], List, true, false, IfOk, MatchOption, None, OnOk, length, replicate, ⊤};
 ghost use Rattle.lexer_match.specs.Alternatives.{IsNfa};
+ghost use Rattle.lexer_match.specs.Live.{AreLive};
 ghost use Rattle.lexer_match.specs.Nfa.{IsClosed, Reads};
 ghost use Rattle.lexer_match.specs.StateSets.{AreMarked, ReadsFrom};
 ghost use Rattle.lexer_match.specs.inner.Subsets.{AreSets, HasStepsBefore, IsNumbered, IsReadyFor, IsSame, IsSet, StartsWith};
@@ -136,18 +137,25 @@ impl FoundSets {
     }
 
     /// The states as a set that a reading has reached. None where the table is at its bound.
-    fn reached(&mut self, alloc: Global, states: &StateSet) -> Result<Option<Reached>, Memory>
+    fn reached(
+        &mut self,
+        alloc: Global,
+        live: &[bool],
+        states: &StateSet,
+    ) -> Result<Option<Reached>, Memory>
         requires inside { 0 < length states.now.marks.items }
         requires marked { AreMarked states.now.states.items states.now.marks.items }
         ensures grown { OnOk result (StartsWith self.new.sets.items self.old.sets.items) }
         ensures sets { (P : List State) → IsSet P states.now.states.items → AreSets P self.old.sets.items → OnOk result (AreSets P self.new.sets.items) }
-        ensures reached { (P : List State) → IsSet P states.now.states.items → IfOk result (λ found. MatchOption found ⊤ (IsReached P self.new.sets.items (ReadsFrom P states.now.states.items))) }
+        ensures reached { (P : List State) → AreLive P live.now → IsSet P states.now.states.items
+            → IfOk result (λ found. MatchOption found ⊤ (IsReached P self.new.sets.items (ReadsFrom P states.now.states.items))) }
     {
         let number = self.number(alloc, &states.states)?;
         match number {
             Some(set) => Ok(Some(Reached {
                 set,
                 ends: states.has(0),
+                goes_on: states.has_flagged(live),
             })),
             None => Ok(None),
         }
@@ -167,9 +175,11 @@ impl Subsets {
         &mut self,
         alloc: Global,
         nfa: &[State],
+        live: &[bool],
         state: usize,
     ) -> Result<Option<Reached>, Memory>
         requires nfa { IsClosed nfa.now }
+        requires live { AreLive nfa.now live.now }
         requires ready { IsReadyFor nfa.now self.old }
         requires state { state < length nfa.now }
         ensures ready { OnOk result (IsReadyFor nfa.now self.new) }
@@ -177,13 +187,21 @@ impl Subsets {
         ensures start { IfOk result (λ found. MatchOption found ⊤ (IsReached nfa.now self.new.found.sets.items (Reads nfa.now state))) }
     {
         self.current.begin(nfa, state)?;
-        let reached = self.found.reached(alloc, &self.current)?;
+        let reached = self.found.reached(alloc, live, &self.current)?;
         Ok(reached)
     }
 
     /// What comes after a set by the character. Unknown where the table is at its bound.
-    fn step(&mut self, alloc: Global, nfa: &[State], set: usize, c: char) -> Result<Step, Memory>
+    fn step(
+        &mut self,
+        alloc: Global,
+        nfa: &[State],
+        live: &[bool],
+        set: usize,
+        c: char,
+    ) -> Result<Step, Memory>
         requires nfa { IsClosed nfa.now }
+        requires live { AreLive nfa.now live.now }
         requires some { 0 < length nfa.now }
         requires ready { IsReadyFor nfa.now self.old }
         requires set { set < length self.old.found.sets.items }
@@ -198,7 +216,7 @@ impl Subsets {
         if self.current.is_empty() {
             return Ok(Step::Stuck);
         }
-        let found = self.found.reached(alloc, &self.current)?;
+        let found = self.found.reached(alloc, live, &self.current)?;
         match found {
             Some(reached) => Ok(Step::To(reached)),
             None => Ok(Step::Unknown),
@@ -210,10 +228,12 @@ impl Subsets {
         &mut self,
         alloc: Global,
         nfa: &[State],
+        live: &[bool],
         steps: &mut Vec<Step>,
         set: usize,
     ) -> Result<(), Memory>
         requires nfa { IsClosed nfa.now }
+        requires live { AreLive nfa.now live.now }
         requires some { 0 < length nfa.now }
         requires ready { IsReadyFor nfa.now self.old }
         requires set { set < length self.old.found.sets.items }
@@ -225,7 +245,7 @@ impl Subsets {
         ensures all { OnOk result (HasStepsBefore set 128 steps.new.items) }
     {
         for c in 0..128u8 {
-            let step = self.step(alloc, nfa, set, c as char)?;
+            let step = self.step(alloc, nfa, live, set, c as char)?;
             steps.push(step)?;
         }
         Ok(())
@@ -233,8 +253,9 @@ impl Subsets {
 
     /// What comes after the sets, one after another, with those that are found by it. It ends early
     /// where the table is at its bound.
-    fn steps(&mut self, alloc: Global, nfa: &[State]) -> Result<Vec<Step>, Memory>
+    fn steps(&mut self, alloc: Global, nfa: &[State], live: &[bool]) -> Result<Vec<Step>, Memory>
         requires nfa { IsClosed nfa.now }
+        requires live { AreLive nfa.now live.now }
         requires some { 0 < length nfa.now }
         requires ready { IsReadyFor nfa.now self.old }
         ensures grown { OnOk result (StartsWith self.new.found.sets.items self.old.found.sets.items) }
@@ -248,7 +269,7 @@ impl Subsets {
             if set >= self.found.sets.len() {
                 return Ok(steps);
             }
-            self.add_steps(alloc, nfa, &mut steps, set)?;
+            self.add_steps(alloc, nfa, live, &mut steps, set)?;
         }
         Ok(steps)
     }
@@ -258,9 +279,11 @@ impl Subsets {
         &mut self,
         alloc: Global,
         nfa: &[State],
+        live: &[bool],
         alternatives: &[Alternative],
     ) -> Result<Vec<Option<Reached>>, Memory>
         requires nfa { IsNfa nfa.now alternatives.now }
+        requires live { AreLive nfa.now live.now }
         requires ready { IsReadyFor nfa.now self.old }
         ensures ready { OnOk result (IsReadyFor nfa.now self.new) }
         ensures starts { IfOk result (λ starts. AreStarts nfa.now self.new.found.sets.items starts.items) }
@@ -268,7 +291,7 @@ impl Subsets {
         let mut starts = no_starts(alloc, nfa.len())?;
         for alternative in alternatives {
             let state = alternative.start;
-            let start = self.start(alloc, nfa, state)?;
+            let start = self.start(alloc, nfa, live, state)?;
             starts[state] = start;
         }
         Ok(starts)
@@ -288,15 +311,21 @@ fn no_starts(alloc: Global, states: usize) -> Result<Vec<Option<Reached>>, Memor
 
 /// The table for reading the alternatives. It has at most 4,096 sets, and 8,388,608 states are looked
 /// at for it.
-pub fn table_of(alloc: Global, nfa: &[State], alternatives: &[Alternative]) -> Result<Table, Memory>
-    requires { IsNfa nfa.now alternatives.now }
+pub fn table_of(
+    alloc: Global,
+    nfa: &[State],
+    live: &[bool],
+    alternatives: &[Alternative],
+) -> Result<Table, Memory>
+    requires nfa { IsNfa nfa.now alternatives.now }
+    requires live { AreLive nfa.now live.now }
     ensures { IfOk result (λ table. IsTable nfa.now table) }
 {
     let found = FoundSets::new(alloc);
     let current = StateSet::new(alloc, nfa.len())?;
     let mut subsets = Subsets { found, current };
-    let starts = subsets.starts(alloc, nfa, alternatives)?;
-    let steps = subsets.steps(alloc, nfa)?;
+    let starts = subsets.starts(alloc, nfa, live, alternatives)?;
+    let steps = subsets.steps(alloc, nfa, live)?;
     let Subsets { found, current: _ } = subsets;
     let FoundSets {
         sets,

@@ -3,25 +3,26 @@
 //! The table is the part of the deterministic automaton for these characters (the subset
 //! construction, Rabin and Scott 1959) that was made when the lexer was built.
 
-ghost use Rattle.std.specs.Prelude.{List, MatchOption, ⊤};
+ghost use Rattle.std.specs.Prelude.{◌≡◌, List, MatchOption, None, Some, ⊤};
 ghost use Rattle.std.specs.Str.{chars};
 ghost use Rattle.lexer_match.specs.declared.nfa.State.{State};
-ghost use Rattle.lexer_match.specs.Longest.{IsLongestLen};
+ghost use Rattle.lexer_match.specs.Seen.{IsExtent};
 ghost use Rattle.lexer_match.specs.Reading.{IsRead};
 ghost use Rattle.lexer_match.specs.Table.{IsReached, IsStep, IsTable};
 ghost use Rattle.lexer_match.specs.Nfa.{Reads};
 
-use crate::alternative::{Alternative, bytes_after, is_decided, last_match};
+use crate::alternative::{Alternative, Extent, Seen, bytes_after, is_over, last_match};
 
 /// The table has a column for each character below this one.
 pub(crate) const COLUMNS: usize = 128;
 
 /// A set of states that a reading has reached (a state of the deterministic automaton): its number,
-/// and whether the text up to there is matched.
+/// whether the text up to there is matched, and whether a longer text can be.
 #[derive(Clone, Copy)]
 pub struct Reached {
     pub set: u32,
     pub ends: bool,
+    pub goes_on: bool,
 }
 
 /// What comes after a set of states by a character.
@@ -40,11 +41,28 @@ pub enum Step {
 /// How far a reading by the table came.
 #[derive(Clone, Copy)]
 pub(crate) struct Walk {
-    /// The length of the longest match in bytes, 0 for none. None where the table doesn't say.
-    pub(crate) longest: Option<usize>,
+    /// How far the alternative matches. None where the table doesn't say.
+    pub(crate) extent: Option<Extent>,
 
     /// How many bytes were read.
     pub(crate) read: usize,
+}
+
+/// The table says how far the alternative matches.
+fn known(longest: usize, seen: Seen, read: usize) -> Walk
+    ensures { result ≡ record { extent = Some (record { longest = longest; seen = seen }); read = read } }
+{
+    Walk {
+        extent: Some(Extent { longest, seen }),
+        read,
+    }
+}
+
+/// The table doesn't say.
+fn unknown(read: usize) -> Walk
+    ensures { result ≡ record { extent = None; read = read } }
+{
+    Walk { extent: None, read }
 }
 
 /// Sets of states of an NFA, and what comes after them.
@@ -88,7 +106,8 @@ impl Table {
 
     /// Reads the text from the set on, up to where it is stuck.
     fn walk_from(&self, start: Reached, alternative: Alternative, text: &str) -> Walk
-        ensures { (P : List State) → IsTable P self.now → IsReached P self.now.sets.items (Reads P alternative.start) start → MatchOption result.longest ⊤ (IsLongestLen (IsRead P alternative) (chars text.now)) }
+        ensures { (P : List State) → IsTable P self.now → IsReached P self.now.sets.items (Reads P alternative.start) start
+            → MatchOption result.extent ⊤ (IsExtent (IsRead P alternative) (chars text.now)) }
     {
         let mut at = start;
         let mut longest = 0;
@@ -96,41 +115,30 @@ impl Table {
         let mut rest = text.chars();
         loop {
             longest = last_match(at.ends, read, longest);
-            let done = Walk {
-                longest: Some(longest),
-                read,
-            };
-            if is_decided(at.ends, alternative) {
-                return done;
+            if is_over(at.ends, at.goes_on, alternative) {
+                return known(longest, Seen::Until(text.len() - read), read);
             }
             let Some(c) = rest.next() else {
-                return done;
+                return known(longest, Seen::All, read);
             };
+            let after = bytes_after(read, c);
             match self.after(at.set, c) {
                 Step::To(next) => at = next,
-                Step::Stuck => return done,
-                Step::Unknown => {
-                    return Walk {
-                        longest: None,
-                        read,
-                    };
-                }
+                Step::Stuck => return known(longest, Seen::Until(text.len() - after), read),
+                Step::Unknown => return unknown(read),
             }
-            read = bytes_after(read, c);
+            read = after;
         }
     }
 
-    /// The longest beginning of the text that the alternative matches, read by the table alone. It
-    /// takes constant time for each character that is read.
+    /// How far the alternative matches the text, read by the table alone. It takes constant time for
+    /// each character that is read.
     pub(crate) fn walk(&self, alternative: Alternative, text: &str) -> Walk
-        ensures { (P : List State) → IsTable P self.now → MatchOption result.longest ⊤ (IsLongestLen (IsRead P alternative) (chars text.now)) }
+        ensures { (P : List State) → IsTable P self.now → MatchOption result.extent ⊤ (IsExtent (IsRead P alternative) (chars text.now)) }
     {
         match self.start(alternative.start) {
             Some(start) => self.walk_from(start, alternative, text),
-            None => Walk {
-                longest: None,
-                read: 0,
-            },
+            None => unknown(0),
         }
     }
 }

@@ -1,5 +1,6 @@
 -- How calls are replaced by states for their rules.
-use Rattle.std.proofs.Common.{◌≡◌, ◌≢◌, ◌<◌, ◌≤◌, ◌⊎◌, inl, inr, ◌↔◌, ℕ, List, [], ◌+◌, Some, None, slice_get, slice_index_or, length, refl, sym, ap, ◌∙◌, subst, arith}
+use Rattle.std.proofs.Common.{◌≡◌, ◌≢◌, ◌<◌, ◌≤◌, ◌⊎◌, inl, inr, ◌↔◌, ℕ, List, [], ◌+◌, Some, None, slice_get}
+use Rattle.std.proofs.Common.{slice_index_or, length, refl, sym, ap, ◌∙◌, subst, arith}
 use Rattle.std.proofs.lemmas.Option.{slice_get_read}
 use Rattle.std.proofs.Math.ListN.{set, length-set}
 use Rattle.std.proofs.lemmas.Bool.{cases_lt}
@@ -22,7 +23,8 @@ either {A} = (pick, λ a. inl a)
     pick (inr a) = a
 
 -- a call goes on where the states for its rule begin
-module _ (R : List WrittenRule) (old mid : List State) (number rule entry next : ℕ) (at : slice_get old number ≡ Some (State.Call rule next)) (some : 0 < number) (a : IsAdded R (MatchesRuleAt R rule) old mid entry next) where
+module _ (R : List WrittenRule) (old mid : List State) (number rule entry next : ℕ) (at : slice_get old number ≡ Some (State.Call rule next))
+    (some : 0 < number) (a : IsAdded R (MatchesRuleAt R rule) old mid entry next) where
   abbrev replaced : List State
   replaced = set mid number (State.Split entry entry)
 
@@ -37,7 +39,9 @@ module _ (R : List WrittenRule) (old mid : List State) (number rule entry next :
 
   module _ (low : ℕ) (h : low ≤ number) (P : List State) (all : ImplementsAll R P replaced low (length replaced)) where
     beyond : ImplementsAll R P mid (length old) (length mid)
-    beyond n state from to g = all n state (omega (arith, h, inside, from)) (omega (arith, to, same_length)) (set_other mid (State.Split entry entry) number n (λ e. omega (arith, e, from, inside)) ∙ g)
+    beyond n state from to g =
+        all n state (omega (arith, h, inside, from)) (omega (arith, to, same_length))
+        (set_other mid (State.Split entry entry) number n (λ e. omega (arith, e, from, inside)) ∙ g)
 
     splits : slice_get P number ≡ Some (State.Split entry entry)
     splits = all number (State.Split entry entry) h (omega (arith, inside, a.longer, same_length)) split_at
@@ -53,7 +57,8 @@ module _ (R : List WrittenRule) (old mid : List State) (number rule entry next :
         subst Q is (subst S (sym e) call_means)
 
     other : (n : ℕ) (state : State) → n ≢ number → low ≤ n → n < length old → slice_get old n ≡ Some state → Implements R P n state
-    other n state d from to g = all n state from (omega (arith, to, a.longer, same_length)) (set_other mid (State.Split entry entry) number n d ∙ a.kept n (omega arith) to ∙ g)
+    other n state d from to g =
+        all n state from (omega (arith, to, a.longer, same_length)) (set_other mid (State.Split entry entry) number n d ∙ a.kept n (omega arith) to ∙ g)
 
     all_old : ImplementsAll R P old low (length old)
     all_old n state from to g = pick (cases_lt n number) (cases_lt number n)
@@ -88,7 +93,8 @@ expanded_none R old first closed =
     }
 
 -- one state more
-pub expanded_more : (R : List WrittenRule) (old mid new : List State) (first number : ℕ) → first ≤ length old → first ≤ number → number < length mid → AreExpanded R old mid first number → IsExpanded R mid new number → AreExpanded R old new first (number + 1)
+pub expanded_more : (R : List WrittenRule) (old mid new : List State) (first number : ℕ) → first ≤ length old → first ≤ number → number < length mid
+    → AreExpanded R old mid first number → IsExpanded R mid new number → AreExpanded R old new first (number + 1)
 expanded_more R old mid new first number within low inside before x =
     record {
       longer = omega (arith, before.longer, x.longer);
@@ -104,7 +110,8 @@ expanded_more R old mid new first number within low inside before x =
         let same : n ≡ number = omega (arith, h, to) in
         x.expanded state (ap (λ k. slice_get new k) (sym same) ∙ g)
 
-pub expanded_all : (R : List WrittenRule) (old new : List State) (first number : ℕ) → length new ≤ number → AreExpanded R old new first number → AreExpanded R old new first (length new)
+pub expanded_all : (R : List WrittenRule) (old new : List State) (first number : ℕ) → length new ≤ number → AreExpanded R old new first number
+    → AreExpanded R old new first (length new)
 expanded_all R old new first number h x =
     record {
       longer = x.longer;
@@ -122,7 +129,8 @@ no_call_is R P n (State.Set s next) none g = g
 no_call_is R P n (State.Split x y) none g = g
 no_call_is R P n (State.Call rule next) none g = absurd none
 
-pub compiled : {R : List WrittenRule} (Language : List ℕ → Type 0) (old mid new : List State) (entry next : ℕ) → IsAdded R Language old mid entry next → AreExpanded R mid new (length old) (length new) → IsCompiled Language old new entry next
+pub compiled : {R : List WrittenRule} (Language : List ℕ → Type 0) (old mid new : List State) (entry next : ℕ) → IsAdded R Language old mid entry next
+    → AreExpanded R mid new (length old) (length new) → IsCompiled Language old new entry next
 compiled {R} Language old mid new entry next a x =
     record {
       longer = omega (arith, a.longer, x.longer);
@@ -138,9 +146,15 @@ no_rule_is P n State.Never some g = g
 no_rule_is P n (State.Char c next) some g = g
 no_rule_is P n (State.Set s next) some g = g
 no_rule_is P n (State.Split x y) some g = g
-no_rule_is P n (State.Call rule next) some g = λ w. (λ r. absurd (call_reads P n rule next w some g r), λ (u, v, e, (r, at, m), more). let bad : None ≡ Some (WrittenRule.lexer_rule r) = at in absurd (cc))
+no_rule_is P n (State.Call rule next) some g =
+    λ w. (
+      λ r. absurd (call_reads P n rule next w some g r),
+      λ (u, v, e, (r, at, m), more). let bad : None ≡ Some (WrittenRule.lexer_rule r) = at in
+          absurd (cc),
+    )
 
-pub compiled_alone : (Language : List ℕ → Type 0) (old new : List State) (entry next : ℕ) → next < length old → IsAdded [] Language old new entry next → IsCompiled Language old new entry next
+pub compiled_alone : (Language : List ℕ → Type 0) (old new : List State) (entry next : ℕ) → next < length old → IsAdded [] Language old new entry next
+    → IsCompiled Language old new entry next
 compiled_alone Language old new entry next h a =
     record {
       longer = a.longer;
@@ -150,5 +164,6 @@ compiled_alone Language old new entry next h a =
       means = λ P same w. a.means P (λ n state from to g. no_rule_is P n state (omega (arith, h, from)) (same n from to ∙ g)) w;
     }
 
-pub state_is : (states : List State) (number : ℕ) (x state : State) → number < length states → x ≡ slice_index_or states number x → x ≡ state → slice_get states number ≡ Some state
+pub state_is : (states : List State) (number : ℕ) (x state : State) → number < length states → x ≡ slice_index_or states number x → x ≡ state
+    → slice_get states number ≡ Some state
 state_is states number x state h e is = slice_get_read states (length states) number x refl h e ∙ ap Some is

@@ -23,7 +23,9 @@ module _ {X : Type 0} (key : X → ℕ) where
       let P : List X → Type 0 = λ l. NeverFall key l in
       let Q : List X → Type 0 = λ l. (y : X) → Contains l y → key y ≤ last in
       record {
-        never_fall = subst P (sym e) (all_pairs_push (λ (a b : X). key a ≤ key b) list x u.never_fall (λ k d h. omega (arith, is, u.below (slice_index_or list k d) (Contains-get_or list k d h))));
+        never_fall =
+            subst P (sym e) (all_pairs_push (λ (a b : X). key a ≤ key b) list x u.never_fall
+            (λ k d h. omega (arith, is, u.below (slice_index_or list k d) (Contains-get_or list k d h))));
         below = subst Q (sym e) (λ y among. pick y (Contains-push_cases list x y among));
       }
     where

@@ -32,7 +32,8 @@ fn add_alternative(
     requires no_loop { ¬ LexerHasEmptyLoopSeq (lexer_rules (map rule_of names.now.rules.now)) (lexer_seq (lex_terms terms.now)) }
     ensures nfa { OnOk result (IsNfa states.new.items alternatives.new.items) }
     ensures added { OnOk result ((k : ℕ) (w : List ℕ) → HasAlternative states.new.items alternatives.new.items k w
-        ↔ (HasAlternative states.old.items alternatives.old.items k w ⊎ ((k ≡ kind) × MatchesAlternative (lexer_rules (map rule_of names.now.rules.now)) (lexer_seq (lex_terms terms.now)) w))) }
+        ↔ (HasAlternative states.old.items alternatives.old.items k w
+        ⊎ ((k ≡ kind) × MatchesAlternative (lexer_rules (map rule_of names.now.rules.now)) (lexer_seq (lex_terms terms.now)) w))) }
     ensures order { KindsAreUpTo alternatives.old.items kind → OnOk result (KindsAreUpTo alternatives.new.items kind) }
 {
     let start = compile(states, names, budget, terms, 0)?;
@@ -54,7 +55,8 @@ fn add_rule(
     requires no_loop { ¬ LexerHasEmptyLoopAlts (lexer_rules (map rule_of names.now.rules.now)) (lexer_alts (lex_alts alts.now)) }
     ensures nfa { OnOk result (IsNfa states.new.items alternatives.new.items) }
     ensures added { OnOk result ((k : ℕ) (w : List ℕ) → HasAlternative states.new.items alternatives.new.items k w
-        ↔ (HasAlternative states.old.items alternatives.old.items k w ⊎ ((k ≡ kind) × MatchesRule (lexer_rules (map rule_of names.now.rules.now)) (lexer_alts (lex_alts alts.now)) w))) }
+        ↔ (HasAlternative states.old.items alternatives.old.items k w
+        ⊎ ((k ≡ kind) × MatchesRule (lexer_rules (map rule_of names.now.rules.now)) (lexer_alts (lex_alts alts.now)) w))) }
     ensures order { KindsAreUpTo alternatives.old.items kind → OnOk result (KindsAreUpTo alternatives.new.items kind) }
 {
     for i in 0..alts.items.len() {
@@ -96,7 +98,8 @@ fn add_kind(
 ) -> Result<(), Memory>
     requires nfa { IsNfa states.old.items alternatives.old.items }
     ensures nfa { OnOk result (IsNfa states.new.items alternatives.new.items) }
-    ensures added { (grammar : WrittenGrammar) → grammar.rules ≡ map rule_of names.now.rules.now → OnOk result ((k : ℕ) (w : List ℕ) → HasAlternative states.new.items alternatives.new.items k w
+    ensures added { (grammar : WrittenGrammar) → grammar.rules ≡ map rule_of names.now.rules.now
+        → OnOk result ((k : ℕ) (w : List ℕ) → HasAlternative states.new.items alternatives.new.items k w
         ↔ (HasAlternative states.old.items alternatives.old.items k w ⊎ ((k ≡ number) × SourceMatches grammar (source_of kind.now.source) kind.now.name w))) }
     ensures order { KindsAreUpTo alternatives.old.items number → OnOk result (KindsAreUpTo alternatives.new.items number) }
 {

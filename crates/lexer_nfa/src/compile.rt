@@ -91,7 +91,8 @@ fn add_set(
 ) -> Result<usize, Memory>
     requires closed { IsClosed states.old.items }
     requires next { next < length states.old.items }
-    ensures { (rules : List WrittenRule) → IfOk result (λ entry. IsAdded rules (Matches (lexer_rules rules) (LexerTerm.set set.now)) states.old.items states.new.items entry next) }
+    ensures { (rules : List WrittenRule) → IfOk result
+        (λ entry. IsAdded rules (Matches (lexer_rules rules) (LexerTerm.set set.now)) states.old.items states.new.items entry next) }
 {
     let number = add(states, State::Set(budget.copy(set)?, next))?;
     Ok(number)
@@ -117,7 +118,8 @@ fn add_short(
 ) -> Result<usize, Memory>
     requires closed { IsClosed states.old.items }
     requires next { next < length states.old.items }
-    ensures { (rules : List WrittenRule) → IfOk result (λ entry. IsAdded rules (Matches (lexer_rules rules) (LexerTerm.short set.now)) states.old.items states.new.items entry next) }
+    ensures { (rules : List WrittenRule) → IfOk result
+        (λ entry. IsAdded rules (Matches (lexer_rules rules) (LexerTerm.short set.now)) states.old.items states.new.items entry next) }
 {
     let again = add(states, State::Never)?;
     let body = add_set(states, budget, set, again)?;
@@ -134,7 +136,8 @@ fn add_call(
 ) -> Result<usize, Memory>
     requires closed { IsClosed states.old.items }
     requires next { next < length states.old.items }
-    ensures { IfOk result (λ entry. IsAdded (map rule_of names.now.rules.now) (Matches (lexer_rules (map rule_of names.now.rules.now)) (LexerTerm.name name.now)) states.old.items states.new.items entry next) }
+    ensures { IfOk result (λ entry. IsAdded (map rule_of names.now.rules.now)
+        (Matches (lexer_rules (map rule_of names.now.rules.now)) (LexerTerm.name name.now)) states.old.items states.new.items entry next) }
 {
     let state = match names.index_of(name) {
         Some(rule) => State::Call(rule as usize, next),
@@ -156,7 +159,8 @@ fn add_term(
     requires closed { IsClosed states.old.items }
     requires next { next < length states.old.items }
     requires no_loop { ¬ LexerHasEmptyLoop (lexer_rules (map rule_of names.now.rules.now)) (lex_term term.now) }
-    ensures { IfOk result (λ entry. IsAdded (map rule_of names.now.rules.now) (Matches (lexer_rules (map rule_of names.now.rules.now)) (lex_term term.now)) states.old.items states.new.items entry next) }
+    ensures { IfOk result (λ entry. IsAdded (map rule_of names.now.rules.now)
+        (Matches (lexer_rules (map rule_of names.now.rules.now)) (lex_term term.now)) states.old.items states.new.items entry next) }
 {
     match term {
         LexTerm::Literal(text) => {
@@ -211,7 +215,8 @@ fn add_terms(
     requires closed { IsClosed states.old.items }
     requires next { next < length states.old.items }
     requires no_loop { ¬ LexerHasEmptyLoopSeq (lexer_rules (map rule_of names.now.rules.now)) (lexer_seq (lex_terms terms.now)) }
-    ensures { IfOk result (λ entry. IsAdded (map rule_of names.now.rules.now) (MatchesSeq (lexer_rules (map rule_of names.now.rules.now)) (lexer_seq (lex_terms terms.now))) states.old.items states.new.items entry next) }
+    ensures { IfOk result (λ entry. IsAdded (map rule_of names.now.rules.now)
+        (MatchesSeq (lexer_rules (map rule_of names.now.rules.now)) (lexer_seq (lex_terms terms.now))) states.old.items states.new.items entry next) }
 {
     let mut entry = next;
     let mut i = terms.items.len();
@@ -234,7 +239,8 @@ fn add_alts(
     requires closed { IsClosed states.old.items }
     requires next { next < length states.old.items }
     requires no_loop { ¬ LexerHasEmptyLoopAlts (lexer_rules (map rule_of names.now.rules.now)) (lexer_alts (lex_alts alts.now)) }
-    ensures { IfOk result (λ entry. IsAdded (map rule_of names.now.rules.now) (MatchesAlts (lexer_rules (map rule_of names.now.rules.now)) (lexer_alts (lex_alts alts.now))) states.old.items states.new.items entry next) }
+    ensures { IfOk result (λ entry. IsAdded (map rule_of names.now.rules.now)
+        (MatchesAlts (lexer_rules (map rule_of names.now.rules.now)) (lexer_alts (lex_alts alts.now))) states.old.items states.new.items entry next) }
 {
     let mut entry = add(states, State::Never)?;
     for i in 0..alts.items.len() {
@@ -254,7 +260,8 @@ fn add_rule(
 ) -> Result<usize, Memory>
     requires closed { IsClosed states.old.items }
     requires next { next < length states.old.items }
-    ensures { IfOk result (λ entry. IsAdded (map rule_of names.now.rules.now) (MatchesRuleAt (map rule_of names.now.rules.now) rule) states.old.items states.new.items entry next) }
+    ensures { IfOk result (λ entry. IsAdded (map rule_of names.now.rules.now)
+        (MatchesRuleAt (map rule_of names.now.rules.now) rule) states.old.items states.new.items entry next) }
 {
     match names.alternatives(rule) {
         Some(alts) => {
@@ -320,7 +327,8 @@ pub(crate) fn compile(
     requires closed { IsClosed states.old.items }
     requires next { next < length states.old.items }
     requires no_loop { ¬ LexerHasEmptyLoopSeq (lexer_rules (map rule_of names.now.rules.now)) (lexer_seq (lex_terms terms.now)) }
-    ensures { IfOk result (λ entry. IsCompiled (MatchesSeq (lexer_rules (map rule_of names.now.rules.now)) (lexer_seq (lex_terms terms.now))) states.old.items states.new.items entry next) }
+    ensures { IfOk result (λ entry. IsCompiled
+        (MatchesSeq (lexer_rules (map rule_of names.now.rules.now)) (lexer_seq (lex_terms terms.now))) states.old.items states.new.items entry next) }
 {
     let first = states.len();
     let entry = add_terms(states, names, budget, terms, next)?;

@@ -46,7 +46,8 @@ impl<'a> NamedRules<'a> {
 
     /// The alternatives of the lexer rule at an index among all rules.
     pub(crate) fn alternatives(&self, index: usize) -> Option<&LexAlts>
-        ensures found { IfSome result (λ alts. (rule : LexerRule) × (slice_get (map rule_of self.now.rules.now) index ≡ Some (WrittenRule.lexer_rule rule)) × (rule.alts ≡ lexer_alts (lex_alts alts.now))) }
+        ensures found { IfSome result (λ alts. (rule : LexerRule) × (slice_get (map rule_of self.now.rules.now) index ≡ Some (WrittenRule.lexer_rule rule))
+            × (rule.alts ≡ lexer_alts (lex_alts alts.now))) }
         ensures missing { IfNone result ((rule : LexerRule) → ¬ (slice_get (map rule_of self.now.rules.now) index ≡ Some (WrittenRule.lexer_rule rule))) }
     {
         if index >= self.rules.len() {

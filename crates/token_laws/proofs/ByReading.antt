@@ -1,5 +1,6 @@
 -- What the plain function reads of a text is what it has.
-use Rattle.std.proofs.Common.{◌≡◌, ◌↔◌, ℕ, ◌+◌, Bool, true, false, ◌&&◌, cond, List, [], ◌∷◌, ◌++◌, map, length, Option, Some, None, refl, sym, ap, ap₂, ◌∙◌, subst, true≢false, eq-eqb}
+use Rattle.std.proofs.Common.{◌≡◌, ◌↔◌, ℕ, ◌+◌, Bool, true, false, ◌&&◌, cond, List, [], ◌∷◌, ◌++◌, map, length, Option}
+use Rattle.std.proofs.Common.{Some, None, refl, sym, ap, ap₂, ◌∙◌, subst, true≢false, eq-eqb}
 use Rattle.std.specs.Prelude.{encode_utf8_all}
 use Rattle.std.specs.Str.{chars, is_utf8}
 use Rattle.std.proofs.lemmas.Bool.{and_parts, and_from, eqb-true}
@@ -31,13 +32,15 @@ module _ (G : WrittenGrammar) where
   no_more (LexesTo.by_piece text kind (d ∷ piece) rest left pieces next more) e none = let bad : [] ≡ (d ∷ piece) ++ rest = sym e ∙ next.cut in absurd cc
 
   -- where the only piece isn't a token, its kind is a gap kind
-  is_gap : (kind size : ℕ) (later : List PlacedToken) → cond (is_gap_kind G kind) later (record { kind = kind; start = 0; end = size } ∷ later) ≡ [] → (gap : Bool) → is_gap_kind G kind ≡ gap → is_gap_kind G kind ≡ true
+  is_gap : (kind size : ℕ) (later : List PlacedToken) → cond (is_gap_kind G kind) later (record { kind = kind; start = 0; end = size } ∷ later) ≡ []
+      → (gap : Bool) → is_gap_kind G kind ≡ gap → is_gap_kind G kind ≡ true
   is_gap kind size later e true is = is
   is_gap kind size later e false is =
       let P : Bool → Type 0 = λ b. cond b later (record { kind = kind; start = 0; end = size } ∷ later) ≡ [] in
       let bad : record { kind = kind; start = 0; end = size } ∷ later ≡ [] = subst P is e in absurd cc
 
-  gap_from : {text left : List ℕ} {pieces : List Piece} → LexesTo G text pieces left → (c : ℕ) → text ≡ c ∷ [] → left ≡ [] → placed_tokens G 0 pieces ≡ [] → IsGapText G c
+  gap_from : {text left : List ℕ} {pieces : List Piece} → LexesTo G text pieces left → (c : ℕ) → text ≡ c ∷ [] → left ≡ [] → placed_tokens G 0 pieces ≡ []
+      → IsGapText G c
   gap_from (LexesTo.by_end text) c e none placed = let bad : c ∷ [] ≡ [] = sym e ∙ none in absurd cc
   gap_from (LexesTo.by_piece text kind [] rest left pieces next more) c e none placed = absurd (next.some refl)
   gap_from (LexesTo.by_piece text kind (d ∷ []) rest left pieces next more) c e none placed =
@@ -48,13 +51,20 @@ module _ (G : WrittenGrammar) where
       let P : List Piece → Type 0 = λ ps. LexesTo G text (record { kind = kind; text = d ∷ [] } ∷ ps) left in
       let Q : ℕ → Type 0 = λ x. LexesTo G text (record { kind = kind; text = x ∷ [] } ∷ []) left in
       let R : List ℕ → Type 0 = λ x. LexesTo G x (record { kind = kind; text = c ∷ [] } ∷ []) left in
-      let S : List ℕ → Type 0 = λ x. LexesTo G (c ∷ []) (record { kind = kind; text = c ∷ [] } ∷ []) x in
-      (kind, subst S none (subst R e (subst Q one (subst P (no_more more over none) (LexesTo.by_piece text kind (d ∷ []) rest left pieces next more)))), is_gap kind end (placed_tokens G end pieces) placed (is_gap_kind G kind) refl)
-  gap_from (LexesTo.by_piece text kind (d ∷ (b ∷ piece)) rest left pieces next more) c e none placed = let bad : c ∷ [] ≡ d ∷ (b ∷ (piece ++ rest)) = sym e ∙ next.cut in absurd cc
+      let S : List ℕ → Type 0 = λ x. LexesTo G (c ∷ []) (record { kind = kind; text = c ∷ [] } ∷ []) x in (
+        kind,
+        subst S none (subst R e (subst Q one (subst P (no_more more over none) (LexesTo.by_piece text kind (d ∷ []) rest left pieces next more)))),
+        is_gap kind end (placed_tokens G end pieces) placed (is_gap_kind G kind) refl,
+      )
+  gap_from (LexesTo.by_piece text kind (d ∷ (b ∷ piece)) rest left pieces next more) c e none placed = let bad : c ∷ [] ≡ d ∷ (b ∷ (piece ++ rest)) =
+      sym e ∙ next.cut in absurd cc
 
   gap_none : (c : ℕ) → IsGapText G c → HasTokens G (c ∷ []) []
-  gap_none c (kind, lexed, gap) =
-      (record { kind = kind; text = c ∷ [] } ∷ [], lexed, sym (ap (λ b. cond b [] (record { kind = kind; start = 0; end = 0 + length (encode_utf8_all (c ∷ [])) } ∷ [])) gap))
+  gap_none c (kind, lexed, gap) = (
+    record { kind = kind; text = c ∷ [] } ∷ [],
+    lexed,
+    sym (ap (λ b. cond b [] (record { kind = kind; start = 0; end = 0 + length (encode_utf8_all (c ∷ [])) } ∷ [])) gap),
+  )
 
 none_there : (o : Option (List PlacedToken)) → are_none o ≡ true → o ≡ Some []
 none_there None e = absurd (true≢false (sym e))
@@ -87,7 +97,8 @@ same_self [] = refl
 same_self (p ∷ pieces) = and_from _ _ (eq-eqb p.kind p.kind refl) (and_from _ _ ((bytes_eq-Decides p.text p.text).1 refl) (same_self pieces))
 
 -- what tokens there are, where they have the kinds and spellings
-spelled_there : (text : List ℕ) (spelled : List Piece) (o : Option (List PlacedToken)) → are_spelled text spelled o ≡ true → (tokens : List PlacedToken) × (o ≡ Some tokens) × (map (kind_and_spelling text) tokens ≡ spelled)
+spelled_there : (text : List ℕ) (spelled : List Piece) (o : Option (List PlacedToken)) → are_spelled text spelled o ≡ true → (tokens : List PlacedToken)
+    × (o ≡ Some tokens) × (map (kind_and_spelling text) tokens ≡ spelled)
 spelled_there text spelled None e = absurd (true≢false (sym e))
 spelled_there text spelled (Some tokens) e = (tokens, refl, same_there (map (kind_and_spelling text) tokens) spelled e)
 

@@ -1,5 +1,6 @@
 -- What plain tests of texts decide: each is true exactly where something holds.
-use Rattle.std.proofs.Common.{◌≡◌, ◌⊎◌, inl, inr, ◌↔◌, ℕ, zero, suc, ◌<◌, ◌≤◌, Bool, true, false, ◌&&◌, Option, Some, None, List, [], ◌∷◌, ◌++◌, length, refl, sym, ap, subst, arith, true≢false, length-append}
+use Rattle.std.proofs.Common.{◌≡◌, ◌⊎◌, inl, inr, ◌↔◌, ℕ, zero, suc, ◌<◌, ◌≤◌, Bool, true, false, ◌&&◌, Option, Some, None, List}
+use Rattle.std.proofs.Common.{[], ◌∷◌, ◌++◌, length, refl, sym, ap, subst, arith, true≢false, length-append}
 use Rattle.std.specs.Bool.{Decides}
 use Rattle.std.proofs.lemmas.Bool.{and_from, and_parts, cases_lt}
 use Rattle.std.proofs.lemmas.Bool.Decides.{Decides-and, Decides-or}
@@ -45,7 +46,8 @@ cut_none P Q = (λ (p, q). ([], [], refl, p, q), λ (u, v, e, p, q). back u v e 
     back (d ∷ u) v e p q = absurd cc
 
 -- whether a text is cut in two, where each part is decided
-pub cut : (P Q : List ℕ → Type 0) (p q : List ℕ → Bool) (w : List ℕ) → ((u v : List ℕ) → w ≡ u ++ v → Decides (p u) (P u)) → ((u v : List ℕ) → w ≡ u ++ v → Decides (q v) (Q v)) → Decides (is_cut p q w) (CutsInto P Q w)
+pub cut : (P Q : List ℕ → Type 0) (p q : List ℕ → Bool) (w : List ℕ) → ((u v : List ℕ) → w ≡ u ++ v → Decides (p u) (P u))
+    → ((u v : List ℕ) → w ≡ u ++ v → Decides (q v) (Q v)) → Decides (is_cut p q w) (CutsInto P Q w)
 cut P Q p q [] d e = decides_by (cut_none P Q) (Decides-and (p []) (q []) (d [] [] refl) (e [] [] refl))
 cut P Q p q (c ∷ w) d e =
     decides_by (cut_more P Q c w)
@@ -94,7 +96,8 @@ IsFront V text None = (front back : List ℕ) (k : ℕ) → text ≡ front ++ ba
 abbrev GoesOn : (List ℕ → ℕ → Type 0) → ℕ → (text f b : List ℕ) → ℕ → Type 0
 GoesOn V c text f b k = (f ≡ []) ⊎ ((g : List ℕ) × (f ≡ c ∷ g) × (text ≡ g ++ b) × V (c ∷ g) k)
 
-pub longest : (V : List ℕ → ℕ → Type 0) (value : List ℕ → Option ℕ) → ((w : List ℕ) → IsValue V w (value w)) → (text : List ℕ) → IsFront V text (longest_front value text)
+pub longest : (V : List ℕ → ℕ → Type 0) (value : List ℕ → Option ℕ) → ((w : List ℕ) → IsValue V w (value w)) → (text : List ℕ)
+    → IsFront V text (longest_front value text)
 longest V value is [] = step (value []) (is [])
   where
     empty : (f b : List ℕ) → [] ≡ f ++ b → f ≡ []
@@ -104,7 +107,8 @@ longest V value is [] = step (value []) (is [])
     step : (o : Option ℕ) → IsValue V [] o → IsFront V [] (empty_front o [])
     step (Some k) v = (v, record { cut = refl; longest = λ f b j e n. omega (arith, ap length e, length-append f b) })
     step None none = λ f b k e v. let P : List ℕ → Type 0 = λ w. V w k in none k (subst P (empty f b e) v)
-longest V value is (c ∷ text) = step (longest_front (λ u. value (c ∷ u)) text) (value []) (longest (λ u. V (c ∷ u)) (λ u. value (c ∷ u)) (λ u. is (c ∷ u)) text) (is [])
+longest V value is (c ∷ text) =
+    step (longest_front (λ u. value (c ∷ u)) text) (value []) (longest (λ u. V (c ∷ u)) (λ u. value (c ∷ u)) (λ u. is (c ∷ u)) text) (is [])
   where
     later : (f b : List ℕ) (k : ℕ) → c ∷ text ≡ f ++ b → V f k → GoesOn V c text f b k
     later [] b k e v = inl refl
@@ -122,6 +126,7 @@ longest V value is (c ∷ text) = step (longest_front (λ u. value (c ∷ u)) te
     only_empty f b k none (inr (g, e, rest, v)) = absurd (none g b k rest v)
 
     step : (o : Option Front) (s : Option ℕ) → IsFront (λ u. V (c ∷ u)) text o → IsValue V [] s → IsFront V (c ∷ text) (or_empty c text o s)
-    step (Some front) s (v, best) start = (v, record { cut = ap (λ l. c ∷ l) best.cut; longest = λ f b k e n. no_longer front.piece front.rest f b k best (later f b k e n) })
+    step (Some front) s (v, best) start =
+        (v, record { cut = ap (λ l. c ∷ l) best.cut; longest = λ f b k e n. no_longer front.piece front.rest f b k best (later f b k e n) })
     step None (Some j) none v = (v, record { cut = refl; longest = λ f b k e n. omega (arith, ap length (only_empty f b k none (later f b k e n))) })
     step None None none start = λ f b k e v. let P : List ℕ → Type 0 = λ w. V w k in start k (subst P (only_empty f b k none (later f b k e v)) v)

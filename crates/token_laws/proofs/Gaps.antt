@@ -1,5 +1,6 @@
 -- The gaps and spellings, one after another, are the text.
-use Rattle.std.proofs.Common.{◌≡◌, ℕ, zero, suc, ◌+◌, ◌-◌, ◌≤◌, List, [], ◌∷◌, ◌++◌, take, drop, slice_get, length, refl, sym, ap, ap₂, ◌∙◌, subst, arith, append_assoc}
+use Rattle.std.proofs.Common.{◌≡◌, ℕ, zero, suc, ◌+◌, ◌-◌, ◌≤◌, List, [], ◌∷◌, ◌++◌, take, drop, slice_get}
+use Rattle.std.proofs.Common.{length, refl, sym, ap, ap₂, ◌∙◌, subst, arith, append_assoc}
 use Rattle.std.specs.List.{between, flat_map, range_with_len}
 use Rattle.std.specs.Option.{option_map_or}
 use Rattle.std.proofs.lemmas.List.{drop-drop, take-append-drop, take_rest}
@@ -38,13 +39,16 @@ module _ (text : List ℕ) where
   shifted f g same a (suc n) = ap₂ ◌++◌ (same a) (shifted f g same (a + 1) n)
 
   parts : (at : ℕ) (tokens : List PlacedToken) → Rise at tokens →
-      flat_map (part_from at tokens) (range_with_len 0 (length tokens)) ++ between (start_from at tokens (length tokens)) (gap_end text tokens (length tokens)) text ≡ drop at text
+      flat_map (part_from at tokens) (range_with_len 0 (length tokens)) ++ between (start_from at tokens (length tokens))
+      (gap_end text tokens (length tokens)) text ≡ drop at text
   parts at [] r = take_rest text at
   parts at (t ∷ tokens) (first, len, more) =
       let later = flat_map (part_from t.end tokens) (range_with_len 0 (length tokens)) in
       let last = between (start_from t.end tokens (length tokens)) (gap_end text tokens (length tokens)) text in
-      let shift : flat_map (part_from at (t ∷ tokens)) (range_with_len (0 + 1) (length tokens)) ≡ later = shifted (part_from at (t ∷ tokens)) (part_from t.end tokens) (part_later at t tokens) 0 (length tokens) in
-      let end : between (start_from at (t ∷ tokens) (suc (length tokens))) (gap_end text tokens (length tokens)) text ≡ last = ap (λ n. between n (gap_end text tokens (length tokens)) text) (start_later at t tokens (length tokens)) in
+      let shift : flat_map (part_from at (t ∷ tokens)) (range_with_len (0 + 1) (length tokens)) ≡ later =
+      shifted (part_from at (t ∷ tokens)) (part_from t.end tokens) (part_later at t tokens) 0 (length tokens) in
+      let end : between (start_from at (t ∷ tokens) (suc (length tokens))) (gap_end text tokens (length tokens)) text ≡ last =
+      ap (λ n. between n (gap_end text tokens (length tokens)) text) (start_later at t tokens (length tokens)) in
       let front = between at t.start text in
       let rest : spelling text t ++ (later ++ last) ≡ drop t.start text = join t.start t.end text (later ++ last) len (parts t.end tokens more) in
       ap₂ (λ x y. ((front ++ spelling text t) ++ x) ++ y) shift end
@@ -68,7 +72,8 @@ module _ (text : List ℕ) where
   all_parts tokens r =
       let n = length tokens in
       ap₂ ◌++◌
-      (same_parts (λ i. gap_text text tokens i ++ spelling_at text tokens i) (part_from 0 tokens) (λ i. ap (λ l. l ++ spelling_at text tokens i) (gap_is tokens i)) (range_with_len 0 n))
+      (same_parts (λ i. gap_text text tokens i ++ spelling_at text tokens i) (part_from 0 tokens)
+      (λ i. ap (λ l. l ++ spelling_at text tokens i) (gap_is tokens i)) (range_with_len 0 n))
       (gap_is tokens n)
       ∙ parts 0 tokens r
 

@@ -1,5 +1,7 @@
--- In a well-formed grammar the plain tests say which texts a lexer rule matches: no rule uses itself, so that there is an end to writing out the names of rules.
-use Rattle.std.proofs.Common.{◌≡◌, ◌≢◌, ◌⊎◌, inl, inr, ◌↔◌, ℕ, zero, suc, ◌+◌, ◌<◌, ◌≤◌, Bool, true, false, ◌&&◌, ◌||◌, cond, not, List, [], ◌∷◌, ◌++◌, length, refl, sym, ap, ◌∙◌, subst, arith, true≢false, length-append}
+-- In a well-formed grammar the plain tests say which texts a lexer rule matches: no rule
+-- uses itself, so that there is an end to writing out the names of rules.
+use Rattle.std.proofs.Common.{◌≡◌, ◌≢◌, ◌⊎◌, inl, inr, ◌↔◌, ℕ, zero, suc, ◌+◌, ◌<◌, ◌≤◌, Bool, true, false, ◌&&◌, ◌||◌, cond, not, List}
+use Rattle.std.proofs.Common.{[], ◌∷◌, ◌++◌, length, refl, sym, ap, ◌∙◌, subst, arith, true≢false, length-append}
 use Rattle.std.specs.Bool.{Decides}
 use Rattle.std.specs.List.{Contains}
 use Rattle.std.specs.Str.{bytes_eq}
@@ -10,12 +12,15 @@ use Rattle.std.proofs.lemmas.Slice.Eq.{bytes_eq-Decides}
 use Rattle.grammar_tree.specs.Chars.{has}
 use Rattle.grammar_tree.specs.Written.{LexerTerm, LexerSeq, LexerAlts, LexerRule, WrittenGrammar}
 use Rattle.grammar_tree.specs.Kinds.{lexer_rules, same_text}
-use Rattle.grammar_tree.specs.Faults.{IsWellFormed, LexerHasEmptyLoop, LexerHasEmptyLoopSeq, LexerHasEmptyLoopAlts, Uses, UsesThrough, term_names, seq_names, used_names}
+use Rattle.grammar_tree.specs.Faults.{IsWellFormed, LexerHasEmptyLoop, LexerHasEmptyLoopSeq, LexerHasEmptyLoopAlts}
+use Rattle.grammar_tree.specs.Faults.{Uses, UsesThrough, term_names, seq_names, used_names}
 use Rattle.grammar_tree.specs.Laws.{CutsInto}
 use Rattle.grammar_tree.specs.Matches.{Matches, MatchesAlternative, MatchesAlts, MatchesRule, MatchesSeq, is_short}
 use Rattle.grammar_tree.specs.Places.{NamesAreKnown}
-use Rattle.grammar_tree.proofs.Lent.{contains_cases, contains_first, elements_contains_later as contains_later, contains_none, by_form, rule_by_form, lexer_places, well_formed_names}
-use Rattle.token_laws.specs.Reading.{all_match, alternative_matches, has_rule, is_cut, is_cut_up, is_cut_within, is_filled, is_one_of, name_matches, rule_matches, some_match, term_matches}
+use Rattle.grammar_tree.proofs.Lent.{contains_cases, contains_first, elements_contains_later as contains_later}
+use Rattle.grammar_tree.proofs.Lent.{contains_none, by_form, rule_by_form, lexer_places, well_formed_names}
+use Rattle.token_laws.specs.Reading.{all_match, alternative_matches, has_rule, is_cut, is_cut_up, is_cut_within, is_filled}
+use Rattle.token_laws.specs.Reading.{is_one_of, name_matches, rule_matches, some_match, term_matches}
 use Rattle.token_laws.proofs.Decided as decided
 use Rattle.token_laws.proofs.Decided.{always, both_where, decides_by, never}
 
@@ -39,14 +44,16 @@ module _ (R : List LexerRule) where
         there : CutsInto (λ u. Matches R t (c ∷ u)) (Matches R (LexerTerm.star t)) w → Matches R (LexerTerm.star t) (c ∷ w)
         there (u, v, e, m, more) = ((by_form R).star t (c ∷ w)).1 (inr (c ∷ u, v, ap (λ l. c ∷ l) e, m, more))
 
-        cut_off : (u v : List ℕ) → c ∷ w ≡ u ++ v → Matches R t u → Matches R (LexerTerm.star t) v → CutsInto (λ u. Matches R t (c ∷ u)) (Matches R (LexerTerm.star t)) w
+        cut_off : (u v : List ℕ) → c ∷ w ≡ u ++ v → Matches R t u → Matches R (LexerTerm.star t) v
+            → CutsInto (λ u. Matches R t (c ∷ u)) (Matches R (LexerTerm.star t)) w
         cut_off [] v e m more = absurd (filled m)
         cut_off (d ∷ u) v e m more =
             let first : d ≡ c = cc in
             let rest : w ≡ u ++ v = cc in
             let P : ℕ → Type 0 = λ x. Matches R t (x ∷ u) in (u, v, rest, subst P first m, more)
 
-        back : (c ∷ w ≡ []) ⊎ CutsInto (Matches R t) (Matches R (LexerTerm.star t)) (c ∷ w) → CutsInto (λ u. Matches R t (c ∷ u)) (Matches R (LexerTerm.star t)) w
+        back : (c ∷ w ≡ []) ⊎ CutsInto (Matches R t) (Matches R (LexerTerm.star t)) (c ∷ w)
+            → CutsInto (λ u. Matches R t (c ∷ u)) (Matches R (LexerTerm.star t)) w
         back (inl e) = absurd cc
         back (inr (u, v, e, m, more)) = cut_off u v e m more
 
@@ -55,13 +62,16 @@ module _ (R : List LexerRule) where
     star_within zero (c ∷ w) h = absurd (omega (arith, h))
     star_within (suc n) (c ∷ w) h =
         decides_by (star_more c w)
-        (decided.cut (λ u. Matches R t (c ∷ u)) (Matches R (LexerTerm.star t)) (λ u. test (c ∷ u)) (is_cut_within n test) w (λ u v e. each (c ∷ u)) (λ u v e. star_within n v (omega (arith, h, ap length e, length-append u v))))
+        (decided.cut (λ u. Matches R t (c ∷ u)) (Matches R (LexerTerm.star t)) (λ u. test (c ∷ u)) (is_cut_within n test) w (λ u v e. each (c ∷ u))
+        (λ u v e. star_within n v (omega (arith, h, ap length e, length-append u v))))
 
     star_of : (w : List ℕ) → Decides (is_cut_up test w) (Matches R (LexerTerm.star t) w)
     star_of w = star_within (length w) w (omega arith)
 
     plus_of : (w : List ℕ) → Decides (is_cut test (is_cut_up test) w) (Matches R (LexerTerm.plus t) w)
-    plus_of w = decides_by (swap ((by_form R).plus t w)) (decided.cut (Matches R t) (Matches R (LexerTerm.star t)) test (is_cut_up test) w (λ u v e. each u) (λ u v e. star_of v))
+    plus_of w =
+        decides_by (swap ((by_form R).plus t w))
+        (decided.cut (Matches R t) (Matches R (LexerTerm.star t)) test (is_cut_up test) w (λ u v e. each u) (λ u v e. star_of v))
 
   set_filled : (set : List (ℕ × ℕ)) → ¬ Matches R (LexerTerm.set set) []
   set_filled set m = let (c, e, h) = ((by_form R).set set []).0 m in cc
@@ -71,7 +81,8 @@ module _ (R : List LexerRule) where
   MatchesPrefix s w = CutsInto (MatchesSeq R s) (λ v. v ≢ []) w
 
   -- where the names of some kind are decided, so are the terms that use only these
-  module _ (Known : List ℕ → Type 0) (test : List ℕ → List ℕ → Bool) (named : (n : List ℕ) → Known n → (w : List ℕ) → Decides (test n w) (Matches R (LexerTerm.name n) w)) where
+  module _ (Known : List ℕ → Type 0) (test : List ℕ → List ℕ → Bool)
+      (named : (n : List ℕ) → Known n → (w : List ℕ) → Decides (test n w) (Matches R (LexerTerm.name n) w)) where
     abbrev OnlyKnown : List (List ℕ) → Type 0
     OnlyKnown names = (n : List ℕ) → Contains names n → Known n
 
@@ -87,10 +98,12 @@ module _ (R : List LexerRule) where
       term (LexerTerm.set set) k none w = one_of set w
       term (LexerTerm.name n) k none w = named n (k n (0, omega arith, refl)) w
       term (LexerTerm.block a) k none w = decides_by (swap ((by_form R).block a w)) (alternatives a k none w)
-      term (LexerTerm.opt t) k none w = decides_by (swap ((by_form R).opt t w)) (Decides-or (bytes_eq w []) (term_matches test t w) (bytes_eq-Decides w []) (term t k none w))
+      term (LexerTerm.opt t) k none w =
+          decides_by (swap ((by_form R).opt t w)) (Decides-or (bytes_eq w []) (term_matches test t w) (bytes_eq-Decides w []) (term t k none w))
       term (LexerTerm.star t) k none w = star_of t (λ m. none (inl m)) (term_matches test t) (term t k (λ h. none (inr h))) w
       term (LexerTerm.plus t) k none w = plus_of t (λ m. none (inl m)) (term_matches test t) (term t k (λ h. none (inr h))) w
-      term (LexerTerm.short set) k none w = decides_by (swap ((by_form R).short set w)) (star_of (LexerTerm.set set) (set_filled set) (is_one_of set) (one_of set) w)
+      term (LexerTerm.short set) k none w =
+          decides_by (swap ((by_form R).short set w)) (star_of (LexerTerm.set set) (set_filled set) (is_one_of set) (one_of set) w)
 
       sequence : (s : LexerSeq) → OnlyKnown (seq_names s) → (¬ LexerHasEmptyLoopSeq R s) → (w : List ℕ) → Decides (all_match test s w) (MatchesSeq R s w)
       sequence LexerSeq.done k none w = decides_by (swap ((by_form R).done w)) (bytes_eq-Decides w [])
@@ -100,7 +113,8 @@ module _ (R : List LexerRule) where
           (λ u v e. term t (left_known (term_names t) (seq_names s) k) (λ h. none (inl h)) u)
           (λ u v e. sequence s (right_known (term_names t) (seq_names s) k) (λ h. none (inr h)) v))
 
-      alternatives : (a : LexerAlts) → OnlyKnown (used_names a) → (¬ LexerHasEmptyLoopAlts R a) → (w : List ℕ) → Decides (some_match test a w) (MatchesAlts R a w)
+      alternatives : (a : LexerAlts) → OnlyKnown (used_names a) → (¬ LexerHasEmptyLoopAlts R a) → (w : List ℕ)
+          → Decides (some_match test a w) (MatchesAlts R a w)
       alternatives LexerAlts.none k none w = never ((by_form R).none w)
       alternatives (LexerAlts.or s a) k none w =
           decides_by (swap ((by_form R).or s a w))
@@ -109,12 +123,14 @@ module _ (R : List LexerRule) where
           (alternatives a (right_known (seq_names s) (used_names a) k) (λ h. none (inr h)) w))
 
     -- an alternative, non-greedy or not
-    alternative : (s : LexerSeq) → OnlyKnown (seq_names s) → (¬ LexerHasEmptyLoopSeq R s) → (w : List ℕ) → Decides (alternative_matches test s w) (MatchesAlternative R s w)
+    alternative : (s : LexerSeq) → OnlyKnown (seq_names s) → (¬ LexerHasEmptyLoopSeq R s) → (w : List ℕ)
+        → Decides (alternative_matches test s w) (MatchesAlternative R s w)
     alternative s k none w =
         decides_by (there, back)
         (Decides-and (all_match test s w) (not (is_short s && is_cut (all_match test s) is_filled w))
         (sequence s k none w)
-        (Decides-not (is_short s && is_cut (all_match test s) is_filled w) (Decides-and (is_short s) (is_cut (all_match test s) is_filled w) (λ is. is, λ is. is) shorter)))
+        (Decides-not (is_short s && is_cut (all_match test s) is_filled w)
+        (Decides-and (is_short s) (is_cut (all_match test s) is_filled w) (λ is. is, λ is. is) shorter)))
       where
         filled : (v : List ℕ) → Decides (is_filled v) (v ≢ [])
         filled [] = never (λ h. h refl)
@@ -136,7 +152,8 @@ module _ (R : List LexerRule) where
         back : MatchesAlternative R s w → MatchesSeq R s w × (¬ ((is_short s ≡ true) × MatchesPrefix s w))
         back it = (it.greedily, λ both. no_more it both.0 both.1)
 
-    pub rule_of : (a : LexerAlts) → OnlyKnown (used_names a) → (¬ LexerHasEmptyLoopAlts R a) → (w : List ℕ) → Decides (rule_matches test a w) (MatchesRule R a w)
+    pub rule_of : (a : LexerAlts) → OnlyKnown (used_names a) → (¬ LexerHasEmptyLoopAlts R a) → (w : List ℕ)
+        → Decides (rule_matches test a w) (MatchesRule R a w)
     rule_of LexerAlts.none k none w = never ((rule_by_form R).none w)
     rule_of (LexerAlts.or s a) k none w =
         decides_by (swap ((rule_by_form R).or s a w))
@@ -145,7 +162,8 @@ module _ (R : List LexerRule) where
         (rule_of a (right_known (seq_names s) (used_names a) k) (λ h. none (inr h)) w))
 
   -- where the rules of a name are decided, so is whether one of these rules has it and matches
-  in_rules : (test : LexerAlts → Bool) (rules : List LexerRule) (n w : List ℕ) → ((r : LexerRule) → Contains rules r → r.name ≡ n → Decides (test r.alts) (MatchesAlts R r.alts w)) →
+  in_rules : (test : LexerAlts → Bool) (rules : List LexerRule) (n w : List ℕ)
+      → ((r : LexerRule) → Contains rules r → r.name ≡ n → Decides (test r.alts) (MatchesAlts R r.alts w)) →
       Decides (has_rule test rules n) ((r : LexerRule) × Contains rules r × (r.name ≡ n) × MatchesAlts R r.alts w)
   in_rules test [] n w each = never (λ (r, c, e, m). contains_none r c)
   in_rules test (r ∷ rules) n w each =
@@ -154,11 +172,13 @@ module _ (R : List LexerRule) where
       (both_where (bytes_eq-Decides r.name n) (λ e. each r (contains_first r rules r refl) e))
       (in_rules test rules n w (λ s c e. each s (contains_later r rules s c) e)))
     where
-      there : ((r.name ≡ n) × MatchesAlts R r.alts w) ⊎ ((s : LexerRule) × Contains rules s × (s.name ≡ n) × MatchesAlts R s.alts w) → (s : LexerRule) × Contains (r ∷ rules) s × (s.name ≡ n) × MatchesAlts R s.alts w
+      there : ((r.name ≡ n) × MatchesAlts R r.alts w) ⊎ ((s : LexerRule) × Contains rules s × (s.name ≡ n) × MatchesAlts R s.alts w) → (s : LexerRule)
+          × Contains (r ∷ rules) s × (s.name ≡ n) × MatchesAlts R s.alts w
       there (inl (e, m)) = (r, contains_first r rules r refl, e, m)
       there (inr (s, c, e, m)) = (s, contains_later r rules s c, e, m)
 
-      back : (s : LexerRule) → s.name ≡ n → MatchesAlts R s.alts w → (r ≡ s) ⊎ Contains rules s → ((r.name ≡ n) × MatchesAlts R r.alts w) ⊎ ((s : LexerRule) × Contains rules s × (s.name ≡ n) × MatchesAlts R s.alts w)
+      back : (s : LexerRule) → s.name ≡ n → MatchesAlts R s.alts w → (r ≡ s) ⊎ Contains rules s → ((r.name ≡ n) × MatchesAlts R r.alts w)
+          ⊎ ((s : LexerRule) × Contains rules s × (s.name ≡ n) × MatchesAlts R s.alts w)
       back s e m (inl same) = let P : LexerRule → Type 0 = λ x. (x.name ≡ n) × MatchesAlts R x.alts w in inl (subst P (sym same) (e, m))
       back s e m (inr later) = inr (s, later, e, m)
 
@@ -176,7 +196,8 @@ outside_less : (rules : List LexerRule) (name : List ℕ) (path : List (List ℕ
 outside_less [] name path = omega arith
 outside_less (r ∷ rules) name path = pick (same_text r.name name) (among r.name path) (outside_less rules name path)
   where
-    pick : (same before : Bool) → outside rules (name ∷ path) ≤ outside rules path → cond (same || before) 0 1 + outside rules (name ∷ path) ≤ cond before 0 1 + outside rules path
+    pick : (same before : Bool) → outside rules (name ∷ path) ≤ outside rules path
+        → cond (same || before) 0 1 + outside rules (name ∷ path) ≤ cond before 0 1 + outside rules path
     pick true true h = omega (arith, h)
     pick true false h = omega (arith, h)
     pick false true h = omega (arith, h)
@@ -188,16 +209,19 @@ outside_all [] = omega arith
 outside_all (r ∷ rules) = omega (arith, outside_all rules)
 
 -- a rule that isn't in the path is one fewer outside once it is
-outside_drop : (rules : List LexerRule) (rule : LexerRule) (path : List (List ℕ)) → Contains rules rule → among rule.name path ≡ false → outside rules (rule.name ∷ path) < outside rules path
+outside_drop : (rules : List LexerRule) (rule : LexerRule) (path : List (List ℕ)) → Contains rules rule → among rule.name path ≡ false
+    → outside rules (rule.name ∷ path) < outside rules path
 outside_drop [] rule path (k, h, e) out = absurd (omega (arith, h))
 outside_drop (r ∷ rules) rule path (zero, h, e) out =
     let itself : same_text r.name rule.name ≡ true = (bytes_eq-Decides r.name rule.name).1 (ap (λ (x : LexerRule). x.name) e) in
     let new : among r.name path ≡ false = ap (λ (x : LexerRule). among x.name path) e ∙ out in
     let now : ◌≡◌ {A = ℕ} (cond (same_text r.name rule.name || among r.name path) 0 1) 0 = ap (λ b. cond (b || among r.name path) 0 1) itself in
     let before : ◌≡◌ {A = ℕ} (cond (among r.name path) 0 1) 1 = ap (λ b. cond b 0 1) new in omega (arith, now, before, outside_less rules rule.name path)
-outside_drop (r ∷ rules) rule path (suc k, h, e) out = pick (same_text r.name rule.name) (among r.name path) (outside_drop rules rule path (k, omega (arith, h), e) out)
+outside_drop (r ∷ rules) rule path (suc k, h, e) out =
+    pick (same_text r.name rule.name) (among r.name path) (outside_drop rules rule path (k, omega (arith, h), e) out)
   where
-    pick : (same before : Bool) → outside rules (rule.name ∷ path) < outside rules path → cond (same || before) 0 1 + outside rules (rule.name ∷ path) < cond before 0 1 + outside rules path
+    pick : (same before : Bool) → outside rules (rule.name ∷ path) < outside rules path
+        → cond (same || before) 0 1 + outside rules (rule.name ∷ path) < cond before 0 1 + outside rules path
     pick true true h = omega (arith, h)
     pick true false h = omega (arith, h)
     pick false true h = omega (arith, h)
@@ -232,28 +256,34 @@ module _ (G : WrittenGrammar) (start : ℕ) (W : IsWellFormed G start) where
       pick (inr not) = not
 
   -- one step further along the path
-  used_on : (path : List (List ℕ)) (name : List ℕ) (rule : LexerRule) → IsUsed path name → Contains rules rule → rule.name ≡ name → (n : List ℕ) → Contains (used_names rule.alts) n → IsUsed (name ∷ path) n
+  used_on : (path : List (List ℕ)) (name : List ℕ) (rule : LexerRule) → IsUsed path name → Contains rules rule → rule.name ≡ name → (n : List ℕ)
+      → Contains (used_names rule.alts) n → IsUsed (name ∷ path) n
   used_on path name rule u c e n k = record { user = name; uses = uses; through = λ from is. pick from (same_text from name) refl is }
     where
       uses : Uses G name n
       uses = record { rule = rule; of_grammar = c; named = e; uses = k }
 
       pick : (from : List ℕ) (same : Bool) → same_text from name ≡ same → (same || among from path) ≡ true → UsesThrough G from n
-      pick from true is h = let P : List ℕ → Type 0 = λ x. UsesThrough G x n in subst P (sym ((bytes_eq-Decides from name).0 is)) (UsesThrough.directly name n uses)
+      pick from true is h = let P : List ℕ → Type 0 =
+          λ x. UsesThrough G x n in subst P (sym ((bytes_eq-Decides from name).0 is)) (UsesThrough.directly name n uses)
       pick from false is h = further (u.through from h) uses
 
   no_loop : (rule : LexerRule) → Contains rules rule → ¬ LexerHasEmptyLoopAlts rules rule.alts
   no_loop rule c h = let (i, at) = lexer_places G rule c in W.no_empty_loop i (inr (rule, at, h))
 
   -- a name, with so many rules outside the path
-  named : (count : ℕ) (path : List (List ℕ)) (n : List ℕ) → outside rules path ≤ count → IsUsed path n → (w : List ℕ) → Decides (name_matches count rules n w) (Matches rules (LexerTerm.name n) w)
+  named : (count : ℕ) (path : List (List ℕ)) (n : List ℕ) → outside rules path ≤ count → IsUsed path n → (w : List ℕ)
+      → Decides (name_matches count rules n w) (Matches rules (LexerTerm.name n) w)
   named zero path n h u w =
       let (r, c, e) = known.lexer_name u.user n u.uses in
       let new : among r.name path ≡ false = ap (λ x. among x path) e ∙ is_new path n r u c e in
       absurd (omega (arith, h, outside_drop rules r path c new))
-  named (suc count) path n h u w = decides_by (swap ((by_form rules).name n w)) (in_rules rules (λ a. some_match (name_matches count rules) a w) rules n w (each (λ less m k v. named count (n ∷ path) m less k v)))
+  named (suc count) path n h u w =
+      decides_by (swap ((by_form rules).name n w))
+      (in_rules rules (λ a. some_match (name_matches count rules) a w) rules n w (each (λ less m k v. named count (n ∷ path) m less k v)))
     where
-      each : (outside rules (n ∷ path) ≤ count → (m : List ℕ) → IsUsed (n ∷ path) m → (v : List ℕ) → Decides (name_matches count rules m v) (Matches rules (LexerTerm.name m) v)) →
+      each : (outside rules (n ∷ path) ≤ count → (m : List ℕ) → IsUsed (n ∷ path) m → (v : List ℕ)
+          → Decides (name_matches count rules m v) (Matches rules (LexerTerm.name m) v)) →
           (r : LexerRule) → Contains rules r → r.name ≡ n → Decides (some_match (name_matches count rules) r.alts w) (MatchesAlts rules r.alts w)
       each more r c e =
           let new : among r.name path ≡ false = ap (λ x. among x path) e ∙ is_new path n r u c e in
@@ -262,7 +292,9 @@ module _ (G : WrittenGrammar) (start : ℕ) (W : IsWellFormed G start) where
           alternatives rules (IsUsed (n ∷ path)) (name_matches count rules) (more (omega (arith, h, fewer))) r.alts (used_on path n r u c e) (no_loop r c) w
 
   -- a lexer rule
-  pub matching : (r : LexerRule) → Contains rules r → (w : List ℕ) → Decides (rule_matches (name_matches (length rules) rules) r.alts w) (MatchesRule rules r.alts w)
+  pub matching : (r : LexerRule) → Contains rules r → (w : List ℕ)
+      → Decides (rule_matches (name_matches (length rules) rules) r.alts w) (MatchesRule rules r.alts w)
   matching r c w =
       rule_of rules (IsUsed []) (name_matches (length rules) rules) (λ n k v. named (length rules) [] n (outside_all rules) k v) r.alts
-      (λ n k. record { user = r.name; uses = record { rule = r; of_grammar = c; named = refl; uses = k }; through = λ from is. absurd (true≢false (sym is)) }) (no_loop r c) w
+      (λ n k. record { user = r.name; uses = record { rule = r; of_grammar = c; named = refl; uses = k }; through = λ from is. absurd (true≢false (sym is)) })
+      (no_loop r c) w

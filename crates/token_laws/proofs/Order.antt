@@ -20,7 +20,8 @@ placed_rise G at [] = tt
 placed_rise G at (p ∷ pieces) = step (is_gap_kind G p.kind) (placed_rise G (at + length (encode_utf8_all p.text)) pieces)
   where
     step : (gap : Bool) → Rise (at + length (encode_utf8_all p.text)) (placed_tokens G (at + length (encode_utf8_all p.text)) pieces) →
-        Rise at (cond gap (placed_tokens G (at + length (encode_utf8_all p.text)) pieces) (record { kind = p.kind; start = at; end = at + length (encode_utf8_all p.text) } ∷ placed_tokens G (at + length (encode_utf8_all p.text)) pieces))
+        Rise at (cond gap (placed_tokens G (at + length (encode_utf8_all p.text)) pieces)
+        (record { kind = p.kind; start = at; end = at + length (encode_utf8_all p.text) } ∷ placed_tokens G (at + length (encode_utf8_all p.text)) pieces))
     step true r = rise_later at (at + length (encode_utf8_all p.text)) (placed_tokens G (at + length (encode_utf8_all p.text)) pieces) (omega arith) r
     step false r = (omega arith, omega arith, r)
 
@@ -37,7 +38,8 @@ apart at (t ∷ tokens) r zero (suc j) d lt h = begin_later t.end tokens r.2 j d
 apart at (t ∷ tokens) r (suc i) (suc j) d lt h = apart t.end tokens r.2 i j d (omega (arith, lt)) (omega (arith, h))
 
 -- tokens of at least one byte each are no more than the bytes up to where the last one ends
-pub few : (text : List ℕ) (at : ℕ) (tokens : List PlacedToken) → Rise at tokens → All (λ t. (t.start < t.end) × (t.end ≤ length text)) tokens → at ≤ length text → at + length tokens ≤ length text
+pub few : (text : List ℕ) (at : ℕ) (tokens : List PlacedToken) → Rise at tokens → All (λ t. (t.start < t.end) × (t.end ≤ length text)) tokens → at ≤ length text
+    → at + length tokens ≤ length text
 few text at [] r parts h = omega (arith, h)
 few text at (t ∷ tokens) r parts h =
     let P : PlacedToken → Type 0 = λ x. (x.start < x.end) × (x.end ≤ length text) in

@@ -1,5 +1,6 @@
 -- Each token is a piece of the text.
-use Rattle.std.proofs.Common.{◌≡◌, ◌≢◌, ℕ, ◌+◌, ◌-◌, ◌<◌, ◌≤◌, Bool, true, false, not, cond, List, [], ◌∷◌, ◌++◌, map, take, drop, length, refl, sym, ap, ap₂, ◌∙◌, subst, arith, append_assoc, length-append}
+use Rattle.std.proofs.Common.{◌≡◌, ◌≢◌, ℕ, ◌+◌, ◌-◌, ◌<◌, ◌≤◌, Bool, true, false, not, cond, List, [], ◌∷◌, ◌++◌, map, take, drop}
+use Rattle.std.proofs.Common.{length, refl, sym, ap, ap₂, ◌∙◌, subst, arith, append_assoc, length-append}
 use Rattle.std.specs.Prelude.{encode_utf8_all}
 use Rattle.std.specs.List.{All, between}
 use Rattle.std.specs.Option.{option_map_or}
@@ -36,20 +37,34 @@ module _ (G : WrittenGrammar) (cs : List ℕ) where
   pub cut_later : (front text : List ℕ) (kind : ℕ) (piece rest : List ℕ) → cs ≡ front ++ text → IsNext G text kind piece rest → cs ≡ (front ++ piece) ++ rest
   cut_later front text kind piece rest e next = cut_next front text kind piece rest e next ∙ sym (append_assoc front piece rest)
 
-  pub size_later : (front piece : List ℕ) (at : ℕ) → at ≡ length (encode_utf8_all front) → at + length (encode_utf8_all piece) ≡ length (encode_utf8_all (front ++ piece))
+  pub size_later : (front piece : List ℕ) (at : ℕ) → at ≡ length (encode_utf8_all front)
+      → at + length (encode_utf8_all piece) ≡ length (encode_utf8_all (front ++ piece))
   size_later front piece at e = omega (arith, e, ap length (encodes-append front piece), length-append (encode_utf8_all front) (encode_utf8_all piece))
 
-  pub each_placed : {text left : List ℕ} {pieces : List Piece} → LexesTo G text pieces left → (front : List ℕ) (at : ℕ) → cs ≡ front ++ text → at ≡ length (encode_utf8_all front) → All (IsPlaced G cs) (placed_tokens G at pieces)
+  pub each_placed : {text left : List ℕ} {pieces : List Piece} → LexesTo G text pieces left → (front : List ℕ) (at : ℕ) → cs ≡ front ++ text
+      → at ≡ length (encode_utf8_all front) → All (IsPlaced G cs) (placed_tokens G at pieces)
   each_placed (LexesTo.by_end text) front at e s = All-nil (IsPlaced G cs)
   each_placed (LexesTo.by_piece text kind piece rest left pieces next more) front at e s =
-      step (is_gap_kind G kind) refl (each_placed more (front ++ piece) (at + length (encode_utf8_all piece)) (cut_later front text kind piece rest e next) (size_later front piece at s))
+      step (is_gap_kind G kind) refl (each_placed more (front ++ piece) (at + length (encode_utf8_all piece)) (cut_later front text kind piece rest e next)
+      (size_later front piece at s))
     where
       step : (gap : Bool) → is_gap_kind G kind ≡ gap → All (IsPlaced G cs) (placed_tokens G (at + length (encode_utf8_all piece)) pieces) →
-          All (IsPlaced G cs) (cond gap (placed_tokens G (at + length (encode_utf8_all piece)) pieces) (record { kind = kind; start = at; end = at + length (encode_utf8_all piece) } ∷ placed_tokens G (at + length (encode_utf8_all piece)) pieces))
+          All (IsPlaced G cs) (cond gap (placed_tokens G (at + length (encode_utf8_all piece)) pieces)
+          (record { kind = kind; start = at; end = at + length (encode_utf8_all piece) } ∷ placed_tokens G (at + length (encode_utf8_all piece)) pieces))
       step true is later = later
       step false is later =
-          All-cons (IsPlaced G cs) (record { kind = kind; start = at; end = at + length (encode_utf8_all piece) }) (placed_tokens G (at + length (encode_utf8_all piece)) pieces)
-          (record { front = front; piece = piece; back = rest; cut = cut_next front text kind piece rest e next; starts = s; ends = refl; next = next_at text kind piece rest next; visible = is })
+          All-cons (IsPlaced G cs) (record { kind = kind; start = at; end = at + length (encode_utf8_all piece) })
+          (placed_tokens G (at + length (encode_utf8_all piece)) pieces)
+          (record {
+            front = front;
+            piece = piece;
+            back = rest;
+            cut = cut_next front text kind piece rest e next;
+            starts = s;
+            ends = refl;
+            next = next_at text kind piece rest next;
+            visible = is;
+          })
           later
 
 scalars_front : (f b : List ℕ) → all_scalars (f ++ b) ≡ true → all_scalars f ≡ true
@@ -63,7 +78,9 @@ scalars_back (c ∷ f) b e = scalars_back f b (and_parts _ _ e).1
 -- a text whose characters are cut into three parts
 module _ (text : List ℕ) (utf8 : IsUtf8 text) (front piece back : List ℕ) (cut : chars text ≡ front ++ (piece ++ back)) where
   bytes : text ≡ encode_utf8_all front ++ (encode_utf8_all piece ++ encode_utf8_all back)
-  bytes = sym (encodes-chars text utf8) ∙ ap encode_utf8_all cut ∙ encodes-append front (piece ++ back) ∙ ap (λ l. encode_utf8_all front ++ l) (encodes-append piece back)
+  bytes =
+      sym (encodes-chars text utf8) ∙ ap encode_utf8_all cut ∙ encodes-append front (piece ++ back)
+      ∙ ap (λ l. encode_utf8_all front ++ l) (encodes-append piece back)
 
   from_piece : all_scalars (piece ++ back) ≡ true
   from_piece = scalars_back front (piece ++ back) (ap all_scalars (sym cut) ∙ scalars-chars text utf8)
@@ -142,15 +159,19 @@ module _ (G : WrittenGrammar) (text : List ℕ) (utf8 : IsUtf8 text) (t : Placed
       (subst Q (sym (part_chars text utf8 p.front p.piece p.back p.cut t.start t.end p.starts p.ends))
       (subst P (sym (start_chars text utf8 p.front p.piece p.back p.cut t.start t.end p.starts p.ends)) p.next))
 
-placed : (G : WrittenGrammar) (cs : List ℕ) (pieces : List Piece) (tokens : List PlacedToken) → LexesTo G cs pieces [] → tokens ≡ placed_tokens G 0 pieces → All (IsPlaced G cs) tokens
-placed G cs pieces tokens lexed are = let P : List PlacedToken → Type 0 = λ ts. All (IsPlaced G cs) ts in subst P (sym are) (each_placed G cs lexed [] 0 refl refl)
+placed : (G : WrittenGrammar) (cs : List ℕ) (pieces : List Piece) (tokens : List PlacedToken) → LexesTo G cs pieces [] → tokens ≡ placed_tokens G 0 pieces
+    → All (IsPlaced G cs) tokens
+placed G cs pieces tokens lexed are = let P : List PlacedToken → Type 0 =
+    λ ts. All (IsPlaced G cs) ts in subst P (sym are) (each_placed G cs lexed [] 0 refl refl)
 
 pub in_order : TokensAreInOrder
 in_order G text tokens utf8 (pieces, lexed, are) =
     let P : List PlacedToken → Type 0 = λ ts. Rise 0 ts in
     let rise = subst P (sym are) (placed_rise G 0 pieces) in
     let each = placed G (chars text) pieces tokens lexed are in
-    let within = All-weaker (IsPlaced G (chars text)) (λ t. (t.start < t.end) × (t.end ≤ length text)) (λ t p. (some G text utf8 t p, (is_slice G text utf8 t p).within)) tokens each in
+    let within =
+    All-weaker (IsPlaced G (chars text)) (λ t. (t.start < t.end) × (t.end ≤ length text))
+    (λ t p. (some G text utf8 t p, (is_slice G text utf8 t p).within)) tokens each in
     record {
       slices = All-weaker (IsPlaced G (chars text)) (λ t. IsSlice text t.start t.end) (is_slice G text utf8) tokens each;
       not_empty = All-weaker (IsPlaced G (chars text)) (λ t. t.start < t.end) (some G text utf8) tokens each;
@@ -160,7 +181,8 @@ in_order G text tokens utf8 (pieces, lexed, are) =
 
 pub come_next : TokensAreLongestMatches
 come_next G text tokens utf8 (pieces, lexed, are) =
-    All-weaker (IsPlaced G (chars text)) (λ t. IsNext G (chars (drop t.start text)) t.kind (chars (spelling text t)) (chars (drop t.end text))) (comes_next G text utf8) tokens (placed G (chars text) pieces tokens lexed are)
+    All-weaker (IsPlaced G (chars text)) (λ t. IsNext G (chars (drop t.start text)) t.kind (chars (spelling text t)) (chars (drop t.end text)))
+    (comes_next G text utf8) tokens (placed G (chars text) pieces tokens lexed are)
 
 token_kind : (G : WrittenGrammar) (cs : List ℕ) (t : PlacedToken) → IsPlaced G cs t → IsTokenKind G t.kind
 token_kind G cs t p =
@@ -178,16 +200,21 @@ have_kinds G text tokens (pieces, lexed, are) =
 
 -- the tokens, with their spellings, among the pieces of a rest of the text
 module _ (G : WrittenGrammar) (text : List ℕ) (utf8 : IsUtf8 text) where
-  pieces_from : {cs left : List ℕ} {pieces : List Piece} → LexesTo G cs pieces left → (front : List ℕ) (at : ℕ) → chars text ≡ front ++ cs → at ≡ length (encode_utf8_all front) → map (kind_and_spelling text) (placed_tokens G at pieces) ≡ tokens_of G pieces
+  pieces_from : {cs left : List ℕ} {pieces : List Piece} → LexesTo G cs pieces left → (front : List ℕ) (at : ℕ) → chars text ≡ front ++ cs
+      → at ≡ length (encode_utf8_all front) → map (kind_and_spelling text) (placed_tokens G at pieces) ≡ tokens_of G pieces
   pieces_from (LexesTo.by_end cs) front at e s = refl
   pieces_from (LexesTo.by_piece cs kind piece rest left pieces next more) front at e s =
-      step (is_gap_kind G kind) (pieces_from more (front ++ piece) (at + length (encode_utf8_all piece)) (cut_later G (chars text) front cs kind piece rest e next) (size_later G (chars text) front piece at s))
+      step (is_gap_kind G kind) (pieces_from more (front ++ piece) (at + length (encode_utf8_all piece))
+      (cut_later G (chars text) front cs kind piece rest e next) (size_later G (chars text) front piece at s))
     where
       same : kind_and_spelling text (record { kind = kind; start = at; end = at + length (encode_utf8_all piece) }) ≡ record { kind = kind; text = piece }
-      same = ap (λ x. record { kind = kind; text = x }) (part_chars text utf8 front piece rest (cut_next G (chars text) front cs kind piece rest e next) at (at + length (encode_utf8_all piece)) s refl)
+      same =
+          ap (λ x. record { kind = kind; text = x })
+          (part_chars text utf8 front piece rest (cut_next G (chars text) front cs kind piece rest e next) at (at + length (encode_utf8_all piece)) s refl)
 
       step : (gap : Bool) → map (kind_and_spelling text) (placed_tokens G (at + length (encode_utf8_all piece)) pieces) ≡ tokens_of G pieces →
-          map (kind_and_spelling text) (cond gap (placed_tokens G (at + length (encode_utf8_all piece)) pieces) (record { kind = kind; start = at; end = at + length (encode_utf8_all piece) } ∷ placed_tokens G (at + length (encode_utf8_all piece)) pieces))
+          map (kind_and_spelling text) (cond gap (placed_tokens G (at + length (encode_utf8_all piece)) pieces)
+          (record { kind = kind; start = at; end = at + length (encode_utf8_all piece) } ∷ placed_tokens G (at + length (encode_utf8_all piece)) pieces))
           ≡ cond (not gap) (record { kind = kind; text = piece } ∷ tokens_of G pieces) (tokens_of G pieces)
       step true later = later
       step false later = ap₂ ◌∷◌ same later

@@ -1,5 +1,6 @@
 -- In a well-formed grammar each text is cut into pieces, or its reading stops, as the plain function says.
-use Rattle.std.proofs.Common.{◌≡◌, ◌≢◌, ◌⊎◌, inl, inr, ℕ, zero, suc, ◌<◌, ◌≤◌, List, [], ◌∷◌, ◌++◌, Option, Some, None, slice_get, length, refl, sym, ap, ◌∙◌, subst, arith, append_assoc, length-append}
+use Rattle.std.proofs.Common.{◌≡◌, ◌≢◌, ◌⊎◌, inl, inr, ℕ, zero, suc, ◌<◌, ◌≤◌, List, [], ◌∷◌, ◌++◌, Option, Some, None}
+use Rattle.std.proofs.Common.{slice_get, length, refl, sym, ap, ◌∙◌, subst, arith, append_assoc, length-append}
 use Rattle.std.specs.Prelude.{encode_utf8_all, option_map}
 use Rattle.std.specs.Bool.{Decides}
 use Rattle.std.proofs.lemmas.Option.{none-some, same_Some, slice_get_within}
@@ -12,7 +13,8 @@ use Rattle.grammar_tree.specs.Lexes.{IsNext, KindMatches, Lexes, LexesTo, Piece,
 use Rattle.lexer.specs.Tokens.{HasTokens}
 use Rattle.grammar_tree.proofs.Lent.{contains_filter_map, contains_at}
 use Rattle.token_laws.specs.Laws.{EachTextIsRead}
-use Rattle.token_laws.specs.Reading.{Front, kind_matches, least_kind, lexer_rule_matches, longest_front, next_piece, pieces_from, pieces_within, source_matches, tokens_in, with_first}
+use Rattle.token_laws.specs.Reading.{Front, kind_matches, least_kind, lexer_rule_matches, longest_front, next_piece}
+use Rattle.token_laws.specs.Reading.{pieces_from, pieces_within, source_matches, tokens_in, with_first}
 use Rattle.token_laws.proofs.Decided as decided
 use Rattle.token_laws.proofs.Decided.{IsFront, IsLeast, IsLongestFront, IsValue, decides_by, never}
 use Rattle.token_laws.proofs.Matching.{matching}
@@ -59,7 +61,8 @@ module _ (G : WrittenGrammar) (start : ℕ) (W : IsWellFormed G start) where
 
       step : (o : Option WrittenRule) → slice_get G.rules i ≡ o → Decides (lexer_rule_matches (lexer_rules G.rules) w o) (RuleMatches G i w)
       step None e = never (λ (s, f, m). none-some (WrittenRule.lexer_rule s) (sym e ∙ f))
-      step (Some (WrittenRule.parser_rule p)) e = never (λ (s, f, m). let bad : Some (WrittenRule.parser_rule p) ≡ Some (WrittenRule.lexer_rule s) = sym e ∙ f in cc)
+      step (Some (WrittenRule.parser_rule p)) e =
+          never (λ (s, f, m). let bad : Some (WrittenRule.parser_rule p) ≡ Some (WrittenRule.lexer_rule s) = sym e ∙ f in cc)
       step (Some (WrittenRule.lexer_rule r)) e =
           let among = contains_filter_map as_lexer_rule G.rules (WrittenRule.lexer_rule r) r refl (contains_at G.rules i (WrittenRule.lexer_rule r) e) in
           decides_by (λ m. (r, e, m), other r e) (matching G start W r among w)
@@ -100,10 +103,13 @@ module _ (G : WrittenGrammar) (start : ℕ) (W : IsWellFormed G start) where
       step None none = absurd (none k (slice_get_within (kinds_of G) k m.0 m.1) m)
 
   next_or_stuck : (c : ℕ) (text : List ℕ) → IsNextOf G (c ∷ text) (next_piece G c text)
-  next_or_stuck c text = step (longest_front (λ u. least_kind G (c ∷ u)) text) (decided.longest (λ u. IsLeastKind G (c ∷ u)) (λ u. least_kind G (c ∷ u)) (λ u. is_value (c ∷ u)) text)
+  next_or_stuck c text =
+      step (longest_front (λ u. least_kind G (c ∷ u)) text)
+      (decided.longest (λ u. IsLeastKind G (c ∷ u)) (λ u. least_kind G (c ∷ u)) (λ u. is_value (c ∷ u)) text)
     where
       -- a beginning of at least one character goes on from the first one
-      no_longer : (front back : List ℕ) → IsLongestFront (λ u. IsLeastKind G (c ∷ u)) text front back → (other : ℕ) (f b : List ℕ) → c ∷ text ≡ f ++ b → KindMatches G other f → length f ≤ length (c ∷ front)
+      no_longer : (front back : List ℕ) → IsLongestFront (λ u. IsLeastKind G (c ∷ u)) text front back → (other : ℕ) (f b : List ℕ) → c ∷ text ≡ f ++ b
+          → KindMatches G other f → length f ≤ length (c ∷ front)
       no_longer front back best other [] b e m = omega arith
       no_longer front back best other (d ∷ f) b e m =
           let first : d ≡ c = cc in
@@ -111,7 +117,8 @@ module _ (G : WrittenGrammar) (start : ℕ) (W : IsWellFormed G start) where
           let P : ℕ → Type 0 = λ x. KindMatches G other (x ∷ f) in
           let (j, least) = least_of (c ∷ f) other (subst P first m) in omega (arith, best.longest f b j rest least)
 
-      stuck : ((front back : List ℕ) (k : ℕ) → text ≡ front ++ back → ¬ IsLeastKind G (c ∷ front) k) → (kind : ℕ) (f b : List ℕ) → c ∷ text ≡ f ++ b → f ≢ [] → ¬ KindMatches G kind f
+      stuck : ((front back : List ℕ) (k : ℕ) → text ≡ front ++ back → ¬ IsLeastKind G (c ∷ front) k) → (kind : ℕ) (f b : List ℕ) → c ∷ text ≡ f ++ b → f ≢ []
+          → ¬ KindMatches G kind f
       stuck none kind [] b e some m = some refl
       stuck none kind (d ∷ f) b e some m =
           let first : d ≡ c = cc in
@@ -130,7 +137,8 @@ module _ (G : WrittenGrammar) (start : ℕ) (W : IsWellFormed G start) where
           }
       step None none = stuck none
 
-  more_read : (text : List ℕ) (kind : ℕ) (piece rest : List ℕ) → IsNext G text kind piece rest → (o : Option (List Piece)) → AreRead G rest o → AreRead G text (option_map (λ pieces. record { kind = kind; text = piece } ∷ pieces) o)
+  more_read : (text : List ℕ) (kind : ℕ) (piece rest : List ℕ) → IsNext G text kind piece rest → (o : Option (List Piece)) → AreRead G rest o
+      → AreRead G text (option_map (λ pieces. record { kind = kind; text = piece } ∷ pieces) o)
   more_read text kind piece rest next (Some pieces) lexed = LexesTo.by_piece text kind piece rest [] pieces next lexed
   more_read text kind piece rest next None (offset, stop) = (
     length (encode_utf8_all (piece ++ stop.before)),
@@ -158,9 +166,11 @@ module _ (G : WrittenGrammar) (start : ℕ) (W : IsWellFormed G start) where
   read_within zero (c ∷ text) h = absurd (omega (arith, h))
   read_within (suc n) (c ∷ text) h = step (next_piece G c text) (next_or_stuck c text) (λ rest less. read_within n rest (omega (arith, h, less)))
     where
-      step : (o : Option Front) → IsNextOf G (c ∷ text) o → ((rest : List ℕ) → length rest < length (c ∷ text) → AreRead G rest (pieces_within n G rest)) → AreRead G (c ∷ text) (pieces_from o (pieces_within n G))
+      step : (o : Option Front) → IsNextOf G (c ∷ text) o → ((rest : List ℕ) → length rest < length (c ∷ text) → AreRead G rest (pieces_within n G rest))
+          → AreRead G (c ∷ text) (pieces_from o (pieces_within n G))
       step (Some front) next more =
-          more_read (c ∷ text) front.kind front.piece front.rest next (pieces_within n G front.rest) (more front.rest (shorter (c ∷ text) front.kind front.piece front.rest next))
+          more_read (c ∷ text) front.kind front.piece front.rest next (pieces_within n G front.rest)
+          (more front.rest (shorter (c ∷ text) front.kind front.piece front.rest next))
       step None stuck more = stops_here c text stuck
 
   pub are_tokens : (text : List ℕ) → AreTokens G text (tokens_in G text)
@@ -174,6 +184,7 @@ module _ (G : WrittenGrammar) (start : ℕ) (W : IsWellFormed G start) where
 pub each_is_read : EachTextIsRead
 each_is_read G start text W = step (tokens_in G text) (are_tokens G start W text)
   where
-    step : (o : Option (List PlacedToken)) → AreTokens G text o → ((tokens : List PlacedToken) × HasTokens G text tokens) ⊎ ((offset : ℕ) × StopsAt G text offset)
+    step : (o : Option (List PlacedToken)) → AreTokens G text o → ((tokens : List PlacedToken) × HasTokens G text tokens)
+        ⊎ ((offset : ℕ) × StopsAt G text offset)
     step (Some tokens) has = inl (tokens, has)
     step None stop = inr stop

@@ -47,7 +47,8 @@ module _ (text : List ℕ) (tokens : List PlacedToken) (utf8 : IsUtf8 text) (ord
       ∙ join from (start_of i) text (between (start_of i) (end_of i) text ++ rest) (begins_before text tokens utf8 order i h)
       (join (start_of i) (end_of i) text rest (omega (arith, filled i h)) (ap (λ n. drop n text) (next_start i h)))
 
-  pub run : (n i : ℕ) → i + n ≤ length tokens → flat_map (gap_and_spelling text tokens) (range_with_len i n) ++ drop (gap_start text tokens (i + n)) text ≡ drop (gap_start text tokens i) text
+  pub run : (n i : ℕ) → i + n ≤ length tokens
+      → flat_map (gap_and_spelling text tokens) (range_with_len i n) ++ drop (gap_start text tokens (i + n)) text ≡ drop (gap_start text tokens i) text
   run zero i h = let same : i + 0 ≡ i = omega arith in ap (λ k. drop (gap_start text tokens k) text) same
   run (suc n) i h =
       let later = flat_map (gap_and_spelling text tokens) (range_with_len (i + 1) n) in
@@ -65,7 +66,8 @@ module _ (text : List ℕ) (tokens : List PlacedToken) (utf8 : IsUtf8 text) (ord
       let last : i + suc n ≡ suc i + n = omega arith in
       omega (arith, ap (gap_start text tokens) last, rises i (omega (arith, h)), long n (suc i) (omega (arith, h)))
 
-  pub same : (i n : ℕ) → i + n ≤ length tokens → flat_map (gap_and_spelling text tokens) (range_with_len i n) ≡ between (gap_start text tokens i) (gap_start text tokens (i + n)) text
+  pub same : (i n : ℕ) → i + n ≤ length tokens
+      → flat_map (gap_and_spelling text tokens) (range_with_len i n) ≡ between (gap_start text tokens i) (gap_start text tokens (i + n)) text
   same i n h =
       let from = gap_start text tokens i in
       let to = gap_start text tokens (i + n) in

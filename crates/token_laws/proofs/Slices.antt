@@ -23,11 +23,14 @@ module _ (text : List ℕ) (tokens : List PlacedToken) (utf8 : IsUtf8 text) (ord
     pub within : at ≤ length text
     pub boundary : IsCharBoundary text at
 
-  end_is : (low : ℕ) (o : Option PlacedToken) (t : PlacedToken) → o ≡ Some t → IsCut low t.end → IsCut low (option_map_or (λ (x : PlacedToken). x.end) o (length text))
+  end_is : (low : ℕ) (o : Option PlacedToken) (t : PlacedToken) → o ≡ Some t → IsCut low t.end
+      → IsCut low (option_map_or (λ (x : PlacedToken). x.end) o (length text))
   end_is low o t e c = let P : Option PlacedToken → Type 0 = λ x. IsCut low (option_map_or (λ (y : PlacedToken). y.end) x (length text)) in subst P (sym e) c
 
-  start_is : (low : ℕ) (o : Option PlacedToken) (t : PlacedToken) → o ≡ Some t → IsCut low t.start → IsCut low (option_map_or (λ (x : PlacedToken). x.start) o (length text))
-  start_is low o t e c = let P : Option PlacedToken → Type 0 = λ x. IsCut low (option_map_or (λ (y : PlacedToken). y.start) x (length text)) in subst P (sym e) c
+  start_is : (low : ℕ) (o : Option PlacedToken) (t : PlacedToken) → o ≡ Some t → IsCut low t.start
+      → IsCut low (option_map_or (λ (x : PlacedToken). x.start) o (length text))
+  start_is low o t e c = let P : Option PlacedToken → Type 0 =
+      λ x. IsCut low (option_map_or (λ (y : PlacedToken). y.start) x (length text)) in subst P (sym e) c
 
   none_is : (low : ℕ) (o : Option PlacedToken) → o ≡ None → IsCut low (length text) → IsCut low (option_map_or (λ (x : PlacedToken). x.start) o (length text))
   none_is low o e c = let P : Option PlacedToken → Type 0 = λ x. IsCut low (option_map_or (λ (y : PlacedToken). y.start) x (length text)) in subst P (sym e) c
@@ -37,7 +40,8 @@ module _ (text : List ℕ) (tokens : List PlacedToken) (utf8 : IsUtf8 text) (ord
   begins zero h = record { rises = omega arith; within = omega arith; boundary = IsCharBoundary-start text utf8 }
   begins (suc i) h =
       let part = order.slices i no_token (omega (arith, h)) in
-      end_is 0 (slice_get tokens i) (token i) (slice_get-get_or tokens i no_token (omega (arith, h))) (record { rises = omega arith; within = part.within; boundary = part.ends })
+      end_is 0 (slice_get tokens i) (token i) (slice_get-get_or tokens i no_token (omega (arith, h)))
+      (record { rises = omega arith; within = part.within; boundary = part.ends })
 
   -- where it ends
   ends : (low i : ℕ) → low ≤ length text → (i < length tokens → low ≤ (token i).start) → IsCut low (gap_end text tokens i)
@@ -46,8 +50,10 @@ module _ (text : List ℕ) (tokens : List PlacedToken) (utf8 : IsUtf8 text) (ord
       pick : (i < length tokens) ⊎ (length tokens ≤ i) → IsCut low (gap_end text tokens i)
       pick (inl h) =
           let part = order.slices i no_token h in
-          start_is low (slice_get tokens i) (token i) (slice_get-get_or tokens i no_token h) (record { rises = before h; within = omega (arith, part.rises, part.within); boundary = part.starts })
-      pick (inr h) = none_is low (slice_get tokens i) (slice_get_past tokens i h) (record { rises = all; within = omega arith; boundary = IsCharBoundary-end text })
+          start_is low (slice_get tokens i) (token i) (slice_get-get_or tokens i no_token h)
+          (record { rises = before h; within = omega (arith, part.rises, part.within); boundary = part.starts })
+      pick (inr h) =
+          none_is low (slice_get tokens i) (slice_get_past tokens i h) (record { rises = all; within = omega arith; boundary = IsCharBoundary-end text })
 
   -- no token that comes later begins before the gap does
   pub begins_before : (i : ℕ) → i < length tokens → gap_start text tokens i ≤ (token i).start

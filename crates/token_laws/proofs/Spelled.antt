@@ -12,7 +12,8 @@ pub one_way : SpelledOneWay
 one_way G text spelled others a b = sym a.same ∙ ap (map (kind_and_spelling text)) (unique G (chars text) a.tokens b.tokens a.has b.has) ∙ b.same
 
 -- their spellings leave the kinds of tokens as they are
-pub kinds : (text : List ℕ) (tokens : List PlacedToken) → map (λ (t : PlacedToken). t.kind) tokens ≡ map (λ (p : Piece). p.kind) (map (kind_and_spelling text) tokens)
+pub kinds : (text : List ℕ) (tokens : List PlacedToken)
+    → map (λ (t : PlacedToken). t.kind) tokens ≡ map (λ (p : Piece). p.kind) (map (kind_and_spelling text) tokens)
 kinds text [] = refl
 kinds text (t ∷ tokens) = ap (λ l. t.kind ∷ l) (kinds text tokens)
 

@@ -1,4 +1,5 @@
--- What is known of the tokens of a text. Where offsets are spoken of, a text is its UTF-8 bytes, as the offsets of tokens count bytes, and its tokens are those of its characters.
+-- What is known of the tokens of a text. Where offsets are spoken of, a text is its UTF-8 bytes,
+-- as the offsets of tokens count bytes, and its tokens are those of its characters.
 use Rattle.std.specs.Prelude.{◌≡◌, ◌≢◌, ◌⊎◌, ℕ, ◌+◌, ◌<◌, ◌≤◌, true, false, List, map, drop, Some, slice_get, length}
 use Rattle.std.specs.List.{All, AllPairs, between, flat_map, range_with_len}
 use Rattle.std.specs.Str.{chars, IsCharBoundary, IsUtf8}
@@ -11,11 +12,14 @@ use Rattle.token_laws.specs.Spelling.{gap_and_spelling, gap_end, gap_start, gap_
 
 -- A text has one list of tokens at most.
 abbrev pub TokensAreUnique : Type 0
-TokensAreUnique = (G : WrittenGrammar) (characters : List ℕ) (tokens others : List PlacedToken) → HasTokens G characters tokens → HasTokens G characters others → tokens ≡ others
+TokensAreUnique =
+    (G : WrittenGrammar) (characters : List ℕ) (tokens others : List PlacedToken) → HasTokens G characters tokens → HasTokens G characters others
+    → tokens ≡ others
 
 -- A text that has tokens has no offset where the reading stops.
 abbrev pub TokensHaveNoStop : Type 0
-TokensHaveNoStop = (G : WrittenGrammar) (characters : List ℕ) (tokens : List PlacedToken) (offset : ℕ) → HasTokens G characters tokens → ¬ StopsAt G characters offset
+TokensHaveNoStop =
+    (G : WrittenGrammar) (characters : List ℕ) (tokens : List PlacedToken) (offset : ℕ) → HasTokens G characters tokens → ¬ StopsAt G characters offset
 
 -- In a well-formed grammar each text has tokens, or its reading stops at some offset.
 abbrev pub EachTextIsRead : Type 0
@@ -30,7 +34,8 @@ pub record IsSlice (text : List ℕ) (start end : ℕ) : Type 0 where
   pub ends : IsCharBoundary text end
   pub utf8 : IsUtf8 (between start end text)
 
--- Each token is a slice of the text and has at least one byte, and it ends no later than the tokens after it begin. They are no more than the bytes of the text.
+-- Each token is a slice of the text and has at least one byte, and it ends no later than
+-- the tokens after it begin. They are no more than the bytes of the text.
 pub record AreInOrder (text : List ℕ) (tokens : List PlacedToken) : Type 0 where
   pub slices : All (λ t. IsSlice text t.start t.end) tokens
   pub not_empty : All (λ t. t.start < t.end) tokens
@@ -50,7 +55,8 @@ pub record IsTokenKind (G : WrittenGrammar) (k : ℕ) : Type 0 where
 
 -- Each token has such a kind.
 abbrev pub TokensHaveKinds : Type 0
-TokensHaveKinds = (G : WrittenGrammar) (characters : List ℕ) (tokens : List PlacedToken) → HasTokens G characters tokens → All (λ t. IsTokenKind G t.kind) tokens
+TokensHaveKinds =
+    (G : WrittenGrammar) (characters : List ℕ) (tokens : List PlacedToken) → HasTokens G characters tokens → All (λ t. IsTokenKind G t.kind) tokens
 
 -- From a token's start on its spelling comes next: its kind matches it, no kind matches a longer beginning, and no lesser kind matches the spelling.
 abbrev pub TokensAreLongestMatches : Type 0
@@ -64,11 +70,14 @@ TokensArePieces = (G : WrittenGrammar) (text : List ℕ) (tokens : List PlacedTo
 
 -- The gaps and spellings, one after another, are the text.
 abbrev pub GapsAndSpellingsAreText : Type 0
-GapsAndSpellingsAreText = (G : WrittenGrammar) (text : List ℕ) (tokens : List PlacedToken) → HasTokens G (chars text) tokens → gaps_and_spellings text tokens ≡ text
+GapsAndSpellingsAreText =
+    (G : WrittenGrammar) (text : List ℕ) (tokens : List PlacedToken) → HasTokens G (chars text) tokens → gaps_and_spellings text tokens ≡ text
 
--- The gaps and spellings of n tokens from the token i on, one after another, are the text from where the gap i begins up to where the gap i + n begins. These bytes are at least n.
+-- The gaps and spellings of n tokens from the token i on, one after another, are the text from
+-- where the gap i begins up to where the gap i + n begins. These bytes are at least n.
 pub record HasRuns (text : List ℕ) (tokens : List PlacedToken) : Type 0 where
-  pub same : (i n : ℕ) → i + n ≤ length tokens → flat_map (gap_and_spelling text tokens) (range_with_len i n) ≡ between (gap_start text tokens i) (gap_start text tokens (i + n)) text
+  pub same : (i n : ℕ) → i + n ≤ length tokens
+      → flat_map (gap_and_spelling text tokens) (range_with_len i n) ≡ between (gap_start text tokens i) (gap_start text tokens (i + n)) text
   pub long : (i n : ℕ) → i + n ≤ length tokens → gap_start text tokens i + n ≤ gap_start text tokens (i + n)
   pub within : (i : ℕ) → i ≤ length tokens → gap_start text tokens i ≤ length text
 
@@ -81,7 +90,8 @@ abbrev pub GapsAreSlices : Type 0
 GapsAreSlices = (G : WrittenGrammar) (text : List ℕ) (tokens : List PlacedToken) (i : ℕ) → IsUtf8 text → HasTokens G (chars text) tokens → i ≤ length tokens →
     IsSlice text (gap_start text tokens i) (gap_end text tokens i)
 
--- The gap with this number is cut into pieces of gap kinds: these are read from its beginning up to its end, and their texts, one after another, are its characters.
+-- The gap with this number is cut into pieces of gap kinds: these are read from its
+-- beginning up to its end, and their texts, one after another, are its characters.
 pub record HasGapPieces (G : WrittenGrammar) (text : List ℕ) (tokens : List PlacedToken) (i : ℕ) : Type 0 where
   pub pieces : List Piece
   pub read : LexesTo G (chars (drop (gap_start text tokens i) text)) pieces (chars (drop (gap_end text tokens i) text))
@@ -90,4 +100,6 @@ pub record HasGapPieces (G : WrittenGrammar) (text : List ℕ) (tokens : List Pl
 
 -- Each gap is cut so.
 abbrev pub GapsAreGapPieces : Type 0
-GapsAreGapPieces = (G : WrittenGrammar) (text : List ℕ) (tokens : List PlacedToken) (i : ℕ) → IsUtf8 text → HasTokens G (chars text) tokens → i ≤ length tokens → HasGapPieces G text tokens i
+GapsAreGapPieces =
+    (G : WrittenGrammar) (text : List ℕ) (tokens : List PlacedToken) (i : ℕ) → IsUtf8 text → HasTokens G (chars text) tokens → i ≤ length tokens
+    → HasGapPieces G text tokens i

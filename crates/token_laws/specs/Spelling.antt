@@ -21,7 +21,8 @@ kinds_and_spellings text tokens numbers = map (kind_and_spelling text) (filter_m
 abbrev pub spelling_at : List ℕ → List PlacedToken → ℕ → List ℕ
 spelling_at text tokens i = option_map_or (spelling text) (slice_get tokens i) []
 
--- Where the gap with this number begins: the first one at the beginning of the text, each other one at the end of the token before it; and where there is no such token, at the end of the text.
+-- Where the gap with this number begins: the first one at the beginning of the text, each other one at
+-- the end of the token before it; and where there is no such token, at the end of the text.
 abbrev pub gap_start : List ℕ → List PlacedToken → ℕ → ℕ
 gap_start text tokens zero = 0
 gap_start text tokens (suc i) = option_map_or (λ (t : PlacedToken). t.end) (slice_get tokens i) (length text)
@@ -30,7 +31,8 @@ gap_start text tokens (suc i) = option_map_or (λ (t : PlacedToken). t.end) (sli
 abbrev pub gap_end : List ℕ → List PlacedToken → ℕ → ℕ
 gap_end text tokens i = option_map_or (λ (t : PlacedToken). t.start) (slice_get tokens i) (length text)
 
--- The gap with this number: what is between the token before it and the token with its number. Gap 0 leads, and the gap whose number is that of all tokens trails.
+-- The gap with this number: what is between the token before it and the token with its
+-- number. Gap 0 leads, and the gap whose number is that of all tokens trails.
 abbrev pub gap_text : List ℕ → List PlacedToken → ℕ → List ℕ
 gap_text text tokens i = between (gap_start text tokens i) (gap_end text tokens i) text
 

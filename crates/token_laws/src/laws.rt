@@ -1,6 +1,7 @@
 //! The laws.
 
-ghost use Rattle.token_laws.specs.Laws.{EachTextIsRead, GapsAndSpellingsAreText, GapsAreGapPieces, GapsAreSlices, RunsAreText, TokensAreInOrder, TokensArePieces, TokensAreUnique, TokensAreLongestMatches, TokensHaveKinds, TokensHaveNoStop};
+ghost use Rattle.token_laws.specs.Laws.{EachTextIsRead, GapsAndSpellingsAreText, GapsAreGapPieces, GapsAreSlices, RunsAreText, TokensAreInOrder};
+ghost use Rattle.token_laws.specs.Laws.{TokensArePieces, TokensAreUnique, TokensAreLongestMatches, TokensHaveKinds, TokensHaveNoStop};
 ghost use Rattle.token_laws.specs.Readings.{GapsAreFound, SpelledAreFound, TokensAreFound};
 ghost use Rattle.token_laws.specs.Spells.{EqualCharactersEqualBytes, SpelledKinds, SpelledOneWay};
 

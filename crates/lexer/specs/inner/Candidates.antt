@@ -1,8 +1,9 @@
 -- Which alternatives have to be read, and what comes next by them.
-use Rattle.std.specs.Prelude.{◌≡◌, ◌≢◌, ◌<◌, ◌≤◌, ℕ, List, [], ◌∷◌, ◌++◌, Some, slice_get, length, map, encode_utf8_all, Vec}
+use Rattle.std.specs.Prelude.{◌≡◌, ◌≢◌, ◌<◌, ◌≤◌, ℕ, List, [], ◌∷◌, ◌++◌, Some, slice_get, length, map, encode_utf8_all, Vec, ⊤}
 use Rattle.std.specs.List.{Contains}
 use Rattle.lexer_match.specs.declared.nfa.State.{State}
 use Rattle.lexer_match.specs.declared.alternative.Alternative.{Alternative}
+use Rattle.lexer_match.specs.declared.alternative.Seen.{Seen}
 use Rattle.lexer.specs.declared.candidates.Beginning.{Beginning}
 use Rattle.lexer_match.specs.Nfa.{Reads}
 use Rattle.lexer_match.specs.StateSets.{AreFirst}
@@ -43,6 +44,17 @@ pub record ComesNext (P : List State) (all : List Alternative) (text : List ℕ)
   pub longest : (other : ℕ) (f b : List ℕ) → text ≡ f ++ b → HasAlternative P all other f → length f ≤ length front
   pub least : (other : ℕ) → HasAlternative P all other front → kind ≤ other
   pub bytes : len ≡ length (encode_utf8_all front)
+
+-- the other one is no nearer in the text
+abbrev pub IsNoNearer : Seen → Seen → Type 0
+IsNoNearer (Seen.Until left) (Seen.Until other) = other ≤ left
+IsNoNearer (Seen.Until left) Seen.All = ⊤
+IsNoNearer Seen.All (Seen.Until other) = ⊥
+IsNoNearer Seen.All Seen.All = ⊤
+
+-- one of the alternatives matches the text
+abbrev pub IsMatchedByOne : List State → List Alternative → List ℕ → Type 0
+IsMatchedByOne P list w = (a : Alternative) × Contains list a × IsRead P a w
 
 -- The best match of the alternatives: the longest one, and that of the least kind on a tie. The length 0 means none.
 pub record IsBestOf (P : List State) (list : List Alternative) (text : List ℕ) (kind len : ℕ) : Type 0 where

@@ -27,7 +27,8 @@ Implements rules P n (State.Call rule next) = (w : List ℕ) → Reads P n w ↔
 abbrev pub ImplementsAll : List WrittenRule → List State → List State → ℕ → ℕ → Type 0
 ImplementsAll rules P Q low high = (n : ℕ) (state : State) → low ≤ n → n < high → slice_get Q n ≡ Some state → Implements rules P n state
 
--- The states that were added to the old NFA, which stays, read from the entry on what the language has, and then go on at the state `next`; whatever becomes of the other states, and by whatever states their calls are replaced.
+-- The states that were added to the old NFA, which stays, read from the entry on what the language has, and then go on at
+-- the state `next`; whatever becomes of the other states, and by whatever states their calls are replaced.
 pub record IsAdded (rules : List WrittenRule) (Language : List ℕ → Type 0) (old new : List State) (entry next : ℕ) : Type 0 where
   pub longer : length old ≤ length new
   pub kept : HaveSame new old 0 (length old)

@@ -16,7 +16,9 @@ rule_index rules name = position (is_named name) rules
 
 -- two lexer rules with one name are at one index
 abbrev pub HaveOneName : List WrittenRule → Type 0
-HaveOneName rules = (i j : ℕ) (a b : LexerRule) → slice_get rules i ≡ Some (WrittenRule.lexer_rule a) → slice_get rules j ≡ Some (WrittenRule.lexer_rule b) → a.name ≡ b.name → i ≡ j
+HaveOneName rules =
+    (i j : ℕ) (a b : LexerRule) → slice_get rules i ≡ Some (WrittenRule.lexer_rule a) → slice_get rules j ≡ Some (WrittenRule.lexer_rule b) → a.name ≡ b.name
+    → i ≡ j
 
 -- no lexer rule has a loop over a term that matches the empty text
 abbrev pub HaveNoLoops : List WrittenRule → Type 0

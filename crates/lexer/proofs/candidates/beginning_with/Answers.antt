@@ -28,17 +28,23 @@ loop-beginning-preserved c =
     let first = (c.requires item (i, omega arith, sym c.beginning-item.is)).first in
     record {
       among = elim c.if-is_read.branch [
-        | then-is_read+in_ok-push w ↦ among_more P all c.args.c list new x (ap (λ v. v.items) w.list-is ∙ w.in_ok-push.ensures.items) (i, inside, sym is) before.among
-        | else-is_read w ↦ let Q : List Alternative → Type 0 = λ l. (a : Alternative) → Contains l a → Contains all a in subst Q (sym (ap (λ v. v.items) w.list-is)) before.among
+        | then-is_read+in_ok-push w ↦ among_more P all c.args.c list new x (ap (λ v. v.items) w.list-is ∙ w.in_ok-push.ensures.items)
+            (i, inside, sym is) before.among
+        | else-is_read w ↦ let Q : List Alternative → Type 0 =
+            λ l. (a : Alternative) → Contains l a → Contains all a in subst Q (sym (ap (λ v. v.items) w.list-is)) before.among
       ];
       complete = elim c.if-is_read.branch [
-        | then-is_read+in_ok-push w ↦ complete_more P all c.args.c i list new x x inside is (ap (λ v. v.items) w.list-is ∙ w.in_ok-push.ensures.items) before.complete
+        | then-is_read+in_ok-push w ↦ complete_more P all c.args.c i list new x x inside is
+            (ap (λ v. v.items) w.list-is ∙ w.in_ok-push.ensures.items) before.complete
         | else-is_read w ↦
             complete_skip P all c.args.c i list new x x inside is (ap (λ v. v.items) w.list-is)
-            (λ u r. let (n, next, k, step, rest) = (first c.args.c u).0 r in let Q : List ℕ → Type 0 = λ l. Contains l n in c.is_read.ensures.not w.if-is_read.false n next (subst Q (sym c.deref.ensures.value) k) step) before.complete
+            (λ u r. let (n, next, k, step, rest) = (first c.args.c u).0 r in let Q : List ℕ → Type 0 = λ l. Contains l n in
+            c.is_read.ensures.not w.if-is_read.false n next (subst Q (sym c.deref.ensures.value) k) step) before.complete
       ];
     }
 
 pub returns : goal.returns
 returns c =
-    complete_all c.args.nfa.now (map (λ (b : Beginning). b.alternative) c.args.beginnings.now) c.args.c c.loop-beginning.beginning-index c.loop-beginning.list.items (omega (arith, mapped_len (λ (b : Beginning). b.alternative) c.args.beginnings.now)) c.loop-beginning.invariant.among c.loop-beginning.invariant.complete
+    complete_all c.args.nfa.now (map (λ (b : Beginning). b.alternative) c.args.beginnings.now) c.args.c c.loop-beginning.beginning-index
+    c.loop-beginning.list.items (omega (arith, mapped_len (λ (b : Beginning). b.alternative) c.args.beginnings.now)) c.loop-beginning.invariant.among
+    c.loop-beginning.invariant.complete

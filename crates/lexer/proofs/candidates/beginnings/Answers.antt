@@ -16,6 +16,10 @@ loop-alternative-preserved c =
     let made = c.in_ok-states.ensures in
     record {
       ready = made.ready;
-      alternatives = alternatives_more c.args.alternatives.now c.loop-alternative.alternative-index none c.loop-alternative.list.items c.push.new.self.items _ (omega arith) refl c.in_ok-push.ensures.items before.alternatives;
-      each = each_beginning c.args.nfa.now c.loop-alternative.list.items c.push.new.self.items _ c.in_ok-push.ensures.items (record { inside = made.inside; first = made.reads }) before.each;
+      alternatives =
+          alternatives_more c.args.alternatives.now c.loop-alternative.alternative-index none c.loop-alternative.list.items c.push.new.self.items _
+          (omega arith) refl c.in_ok-push.ensures.items before.alternatives;
+      each =
+          each_beginning c.args.nfa.now c.loop-alternative.list.items c.push.new.self.items _ c.in_ok-push.ensures.items
+          (record { inside = made.inside; first = made.reads }) before.each;
     }

@@ -7,7 +7,8 @@ pub reads-requires : goal.reads-requires
 reads-requires c = record { inside = c.requires.inside _ (Contains-get_or c.args.states.now c.loop-state.state-index 0 (omega arith)) }
 
 pub loop-state-preserved : goal.loop-state-preserved
-loop-state-preserved c = unread_more c.args.nfa.now c.args.c c.args.states.now c.loop-state.state-index c.loop-state.invariant (c.reads.ensures.not c.if-reads.false)
+loop-state-preserved c =
+    unread_more c.args.nfa.now c.args.c c.args.states.now c.loop-state.state-index c.loop-state.invariant (c.reads.ensures.not c.if-reads.false)
 
 pub returns : goal.returns
 returns c = record { not = λ e. unread_all c.args.nfa.now c.args.c c.args.states.now c.loop-state.state-index (omega arith) c.loop-state.invariant }

@@ -10,5 +10,6 @@ pub returns-in-None : goal.returns-in-None
 returns-in-None c = record {
   not = λ e next.
       let P = c.args.nfa.now in
-      reads_none P c.args.state c.index-nfa-state.result c.args.c next (slice_get_read P (length P) c.args.state c.index-nfa-state.result refl c.requires.inside c.index-nfa-state.is) (sym c.after.ensures ∙ c.in-None.is);
+      reads_none P c.args.state c.index-nfa-state.result c.args.c next
+      (slice_get_read P (length P) c.args.state c.index-nfa-state.result refl c.requires.inside c.index-nfa-state.is) (sym c.after.ensures ∙ c.in-None.is);
 }

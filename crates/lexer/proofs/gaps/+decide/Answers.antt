@@ -13,11 +13,13 @@ kind_number s = s.kind
 
 pub returns-then-singles-eq0 : goal.returns-then-singles-eq0
 returns-then-singles-eq0 t c G named =
-    none_decided (is_gap_kind G) c.args.singles.now c.in_ok-decided.decided c.in_ok-none.none (omega arith) c.in_ok-none.ensures c.in_ok-decided.ensures.matched c.in_ok-decided.ensures.gaps
+    none_decided (is_gap_kind G) c.args.singles.now c.in_ok-decided.decided c.in_ok-none.none
+    (omega arith) c.in_ok-none.ensures c.in_ok-decided.ensures.matched c.in_ok-decided.ensures.gaps
 
 pub returns-then-singles-eq1 : goal.returns-then-singles-eq1
 returns-then-singles-eq1 t c G named =
-    one_decided (is_gap_kind G) c.args.singles.now c.index-singles-0.result c.in_ok-decided-2.decided c.is_gap.result (omega arith) c.index-singles-0.is (c.is_gap.ensures G named) c.in_ok-decided-2.ensures.matched c.in_ok-decided-2.ensures.gaps
+    one_decided (is_gap_kind G) c.args.singles.now c.index-singles-0.result c.in_ok-decided-2.decided c.is_gap.result (omega arith) c.index-singles-0.is
+    (c.is_gap.ensures G named) c.in_ok-decided-2.ensures.matched c.in_ok-decided-2.ensures.gaps
 
 pub decide-requires : goal.decide-requires
 decide-requires t c =
@@ -32,4 +34,7 @@ returns t c G named =
     let half : n ≤ length list = omega arith in
     let count : length list - n ≡ length (drop n list) = omega (arith, length-drop n list) in
     let Q : List Singles → Type 0 = λ l. AreDecided (is_gap_kind G) l c.in_ok-other.other in
-    joined_decided (is_gap_kind G) list (take n list) (drop n list) (sym (take-append-drop n list)) c.in_ok-lesser.lesser c.in_ok-other.other c.in_ok-decided-3.decided (apart kind_number n list half c.requires.order) (c.in_ok-lesser.ensures G named) (subst Q (ap (λ k. take k (drop n list)) count ∙ take-length (drop n list)) (c.in_ok-other.ensures G named)) c.in_ok-decided-3.ensures.matched c.in_ok-decided-3.ensures.gaps
+    joined_decided (is_gap_kind G) list (take n list) (drop n list)
+    (sym (take-append-drop n list)) c.in_ok-lesser.lesser c.in_ok-other.other c.in_ok-decided-3.decided (apart kind_number n list half c.requires.order)
+    (c.in_ok-lesser.ensures G named) (subst Q (ap (λ k. take k (drop n list)) count ∙ take-length (drop n list)) (c.in_ok-other.ensures G named))
+    c.in_ok-decided-3.ensures.matched c.in_ok-decided-3.ensures.gaps

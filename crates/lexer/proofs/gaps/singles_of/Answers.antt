@@ -40,4 +40,5 @@ loop-beginning-preserved c =
 
 pub returns-clause-singles : goal.returns-clause-singles
 returns-clause-singles c k d scalar =
-    single_all c.args.nfa.now c.args.beginnings.now c.loop-beginning.singles.items c.loop-beginning.beginning-index k d (omega arith) (c.loop-beginning.invariant.singles k d scalar)
+    single_all c.args.nfa.now c.args.beginnings.now c.loop-beginning.singles.items c.loop-beginning.beginning-index k d (omega arith)
+    (c.loop-beginning.invariant.singles k d scalar)

@@ -11,10 +11,12 @@ starts-requires-clause-ready c = record {
 }
 
 pub steps-requires-clause-some : goal.steps-requires-clause-some
-steps-requires-clause-some c = get_within c.args.nfa.now State.Never 0 c.requires.ends
+steps-requires-clause-some c = get_within c.args.nfa.now State.Never 0 c.requires.nfa.ends
 
 pub returns : goal.returns
 returns c = record {
   steps = c.in_ok-steps.ensures.steps;
-  starts = starts_kept c.args.nfa.now c.starts.new.self.found.sets.items c.steps.new.self.found.sets.items c.in_ok-starts.starts.items c.in_ok-steps.ensures.grown c.in_ok-starts.ensures.starts;
+  starts =
+      starts_kept c.args.nfa.now c.starts.new.self.found.sets.items c.steps.new.self.found.sets.items c.in_ok-starts.starts.items c.in_ok-steps.ensures.grown
+      c.in_ok-starts.ensures.starts;
 }

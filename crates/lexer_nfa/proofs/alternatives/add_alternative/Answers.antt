@@ -12,16 +12,19 @@ use Rattle.lexer_nfa.proofs.alternatives.add_alternative.Goals as goal
 pub returns-clause-nfa : goal.returns-clause-nfa
 returns-clause-nfa c =
     let G = lexer_rules (map rule_of c.args.names.now.rules.now) in
-    pushed_nfa (MatchesSeq G (lexer_seq (lex_terms c.args.terms.now))) c.args.states.now.items c.compile.new.states.items c.args.alternatives.now.items c.requires.nfa c.in_ok-start.start c.in_ok-start.ensures c.args.kind c.is_short-short.result c.push.new.self.items c.in_ok-push.ensures.items
+    pushed_nfa (MatchesSeq G (lexer_seq (lex_terms c.args.terms.now))) c.args.states.now.items c.compile.new.states.items c.args.alternatives.now.items
+    c.requires.nfa c.in_ok-start.start c.in_ok-start.ensures c.args.kind c.is_short-short.result c.push.new.self.items c.in_ok-push.ensures.items
 
 pub returns-clause-added : goal.returns-clause-added
 returns-clause-added c k w =
     let G = lexer_rules (map rule_of c.args.names.now.rules.now) in
     let s = lexer_seq (lex_terms c.args.terms.now) in
     sum_right
-    (pushed_exact (MatchesSeq G s) c.args.states.now.items c.compile.new.states.items c.args.alternatives.now.items c.requires.nfa c.in_ok-start.start c.in_ok-start.ensures c.args.kind c.is_short-short.result c.push.new.self.items c.in_ok-push.ensures.items k w)
+    (pushed_exact (MatchesSeq G s) c.args.states.now.items c.compile.new.states.items c.args.alternatives.now.items c.requires.nfa c.in_ok-start.start
+    c.in_ok-start.ensures c.args.kind c.is_short-short.result c.push.new.self.items c.in_ok-push.ensures.items k w)
     (as_alternative G s c.args.kind k c.is_short-short.result w c.is_short-short.ensures)
 
 pub returns-clause-order : goal.returns-clause-order
 returns-clause-order c before =
-    up_to_push (λ (a : Alternative). a.kind) c.args.alternatives.now.items c.push.new.self.items (record { kind = c.args.kind; short = c.is_short-short.result; start = c.in_ok-start.start }) c.args.kind c.in_ok-push.ensures.items refl before
+    up_to_push (λ (a : Alternative). a.kind) c.args.alternatives.now.items c.push.new.self.items
+    (record { kind = c.args.kind; short = c.is_short-short.result; start = c.in_ok-start.start }) c.args.kind c.in_ok-push.ensures.items refl before

@@ -13,6 +13,7 @@ abbrev pub invariant-loop-i : goal.invariant-loop-i
 invariant-loop-i l = record {
   nfa : IsNfa l.states.items l.alternatives.items;
   added : (k : ℕ) (w : List ℕ) → HasAlternative l.states.items l.alternatives.items k w
-      ↔ (HasAlternative l.initial.states.items l.initial.alternatives.items k w ⊎ ((k ≡ l.kind) × MatchesRule (lexer_rules (map rule_of l.names.rules.now)) (lexer_alts (map lex_terms (take l.i (out-LexAlts l.alts).items.items))) w));
+      ↔ (HasAlternative l.initial.states.items l.initial.alternatives.items k w
+      ⊎ ((k ≡ l.kind) × MatchesRule (lexer_rules (map rule_of l.names.rules.now)) (lexer_alts (map lex_terms (take l.i (out-LexAlts l.alts).items.items))) w));
   order : KindsAreUpTo l.initial.alternatives.items l.kind → KindsAreUpTo l.alternatives.items l.kind;
 }

@@ -22,11 +22,15 @@ decreases-add_alts l = 3 * lexer_alts_size (lexer_alts (lex_alts l.alts.now)) + 
 abbrev pub invariant-add_terms-loop-i : goal.invariant-add_terms-loop-i
 invariant-add_terms-loop-i l = record {
   within : l.i ≤ length (out-LexTerms l.terms).items.items;
-  added : IsAdded (map rule_of l.names.rules.now) (MatchesSeq (lexer_rules (map rule_of l.names.rules.now)) (lexer_seq (map lex_term (drop l.i (out-LexTerms l.terms).items.items)))) l.initial.states.items l.states.items l.entry l.next;
+  added : IsAdded (map rule_of l.names.rules.now)
+      (MatchesSeq (lexer_rules (map rule_of l.names.rules.now)) (lexer_seq (map lex_term (drop l.i (out-LexTerms l.terms).items.items)))) l.initial.states.items
+      l.states.items l.entry l.next;
 }
 
 abbrev pub decreases-add_terms-loop-i : goal.decreases-add_terms-loop-i
 decreases-add_terms-loop-i l = l.i
 
 abbrev pub invariant-add_alts-loop-i : goal.invariant-add_alts-loop-i
-invariant-add_alts-loop-i l = IsAdded (map rule_of l.names.rules.now) (MatchesAlts (lexer_rules (map rule_of l.names.rules.now)) (lexer_alts (map lex_terms (take l.i (out-LexAlts l.alts).items.items)))) l.fn.states.items l.states.items l.entry l.next
+invariant-add_alts-loop-i l =
+    IsAdded (map rule_of l.names.rules.now) (MatchesAlts (lexer_rules (map rule_of l.names.rules.now))
+    (lexer_alts (map lex_terms (take l.i (out-LexAlts l.alts).items.items)))) l.fn.states.items l.states.items l.entry l.next

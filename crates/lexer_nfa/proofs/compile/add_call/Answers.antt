@@ -12,7 +12,9 @@ returns c =
     let made = c.in_ok-number.ensures in
     elim c.match-index_of.branch [
       | in-Some w ↦
-          call_all c.args.name.now old c.add.new.states.items w.in-Some.rule c.in_ok-number.number c.args.next c.args.names.now.one_name (sym c.index_of.ensures ∙ w.in-Some.is) c.requires.closed c.requires.next (made.added ∙ ap (λ (x : State). old ++ x ∷ []) w.state-is) made.number
+          call_all c.args.name.now old c.add.new.states.items w.in-Some.rule c.in_ok-number.number c.args.next c.args.names.now.one_name
+          (sym c.index_of.ensures ∙ w.in-Some.is) c.requires.closed c.requires.next (made.added ∙ ap (λ (x : State). old ++ x ∷ []) w.state-is) made.number
       | in-None w ↦
-          unnamed_all c.args.name.now old c.add.new.states.items c.in_ok-number.number c.args.next (sym c.index_of.ensures ∙ w.in-None.is) c.requires.closed (omega (arith, c.requires.next)) (made.added ∙ ap (λ (x : State). old ++ x ∷ []) w.state-is) made.number
+          unnamed_all c.args.name.now old c.add.new.states.items c.in_ok-number.number c.args.next (sym c.index_of.ensures ∙ w.in-None.is) c.requires.closed
+          (omega (arith, c.requires.next)) (made.added ∙ ap (λ (x : State). old ++ x ∷ []) w.state-is) made.number
     ]

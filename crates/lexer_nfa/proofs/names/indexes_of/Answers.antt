@@ -15,4 +15,5 @@ loop-index-preserved c =
     let many : i ≡ length so_far = omega (arith, c.loop-index-test.true, length-map (take i rules) rule_of, length-take i rules) in
     let P : List WrittenRule → Type 0 = λ l. Finds c.add_rule.new.indexes (rule_index l) in
     subst P (sym (mapped_more rule_of rules i c.index-rules-index.result c.loop-index-test.true c.index-rules-index.is))
-    (index_push is_named c.loop-index.indexes c.add_rule.new.indexes so_far (rule_of c.index-rules-index.result) i many c.loop-index.invariant c.in_ok-add_rule.ensures)
+    (index_push is_named c.loop-index.indexes c.add_rule.new.indexes so_far
+    (rule_of c.index-rules-index.result) i many c.loop-index.invariant c.in_ok-add_rule.ensures)

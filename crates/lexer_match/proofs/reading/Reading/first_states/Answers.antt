@@ -7,7 +7,8 @@ use Rattle.lexer_match.proofs.reading.Reading.first_states.Goals as goal
 pub returns-clause-inside : goal.returns-clause-inside
 returns-clause-inside c n among =
     let P : List ℕ → Type 0 = λ x. Contains x n in
-    marked_inside c.begin.new.self.states.items c.begin.new.self.marks.items _ n c.in_ok-begin.ensures.marked (c.in_ok-begin.ensures.size ∙ c.requires.ready.current_size) (subst P (c.in_ok-from_slice.ensures.items ∙ c.deref.ensures.value) among)
+    marked_inside c.begin.new.self.states.items c.begin.new.self.marks.items _ n c.in_ok-begin.ensures.marked
+    (c.in_ok-begin.ensures.size ∙ c.requires.ready.current_size) (subst P (c.in_ok-from_slice.ensures.items ∙ c.deref.ensures.value) among)
 
 pub returns-clause-reads : goal.returns-clause-reads
 returns-clause-reads c d w = (
@@ -18,5 +19,9 @@ returns-clause-reads c d w = (
       (m, next, subst P (sym (c.in_ok-from_slice.ensures.items ∙ c.deref.ensures.value)) here, step, rest),
   λ (n, next, among, (state, at, step), rest).
       let P : List ℕ → Type 0 = λ x. Contains x n in
-      (c.in_ok-begin.ensures.reads (d ∷ w)).0 (n, subst P (c.in_ok-from_slice.ensures.items ∙ c.deref.ensures.value) among, Reads.by_char n next state d w at step rest),
+      (c.in_ok-begin.ensures.reads (d ∷ w)).0 (
+        n,
+        subst P (c.in_ok-from_slice.ensures.items ∙ c.deref.ensures.value) among,
+        Reads.by_char n next state d w at step rest,
+      ),
 )

@@ -11,5 +11,6 @@ returns-clause-followed c =
 
 pub returns-clause-reads : goal.returns-clause-reads
 returns-clause-reads c =
-    let Q : StateSet → Type 0 = λ x. (w : List ℕ) → ReadsFrom c.args.nfa.now x.states.items w ↔ ReadsFrom c.args.nfa.now c.args.self.now.current.states.items (c.args.c ∷ w) in
+    let Q : StateSet → Type 0 =
+    λ x. (w : List ℕ) → ReadsFrom c.args.nfa.now x.states.items w ↔ ReadsFrom c.args.nfa.now c.args.self.now.current.states.items (c.args.c ∷ w) in
     subst Q (sym c.swap.ensures.x_after) c.in_ok-step.ensures.reads

@@ -1,29 +1,27 @@
-use Rattle.std.proofs.Common.{◌≡◌, ap, ◌∙◌, subst, arith, slice_index_or, length, false}
+use Rattle.std.proofs.Common.{◌≡◌, inl, inr, ◌↔◌, ℕ, List, sym, ◌∙◌, subst}
+use Rattle.std.specs.List.{Contains}
+use Rattle.lexer_match.specs.declared.alternative.Seen.{Seen}
+use Rattle.lexer_match.specs.declared.dead.DeadSet.{DeadSet}
+use Rattle.std.proofs.lemmas.List.Elements.{Contains-push_cases}
+use Rattle.lexer_match.specs.declared.dead.SetAt.{SetAt}
 use Rattle.lexer_match.specs.Dead.{HasDead}
-use Rattle.lexer_match.specs.declared.dead.DeadStates.{DeadStates}
-use Rattle.lexer_match.specs.declared.state_set.StateSet.{StateSet}
-use Rattle.lexer_match.proofs.StateSets.{index_default}
-use Rattle.lexer_match.proofs.Traced.{stuck_all, stuck_more, traced_state}
+use Rattle.lexer_match.specs.inner.Dead.{IsSetAt}
+use Rattle.lexer_match.proofs.Found.{in_some}
 use Rattle.lexer_match.proofs.reading.Reading.trace_current.Goals as goal
 
-state_is : (c : goal.In_ok-added) → c.index-state.result.now ≡ slice_index_or c.args.self.now.current.states.items c.loop-i.i 0
-state_is c = c.index-state.ensures ∙ index_default c.loop-i.self.current.states.items c.loop-i.i c.index-state.result.now 0 (omega (arith, ap (λ (x : StateSet). length x.states.items) c.loop-i.invariant.current)) ∙ ap (λ (x : StateSet). slice_index_or x.states.items c.loop-i.i 0) c.loop-i.invariant.current
-
-known : (c : goal.In_ok-added) → c.in_ok-added.added ≡ false → HasDead c.args.self.now.dead c.args.remaining c.index-state.result.now
-known c e = let P : DeadStates → Type 0 = λ x. HasDead x c.args.remaining c.index-state.result.now in subst P c.loop-i.invariant.dead (c.in_ok-added.ensures.known e)
-
-pub loop-i-preserved : goal.loop-i-preserved
-loop-i-preserved c =
-    let inv = c.loop-i.invariant in
-    let made = c.in_ok-added.ensures in
+pub returns-in-Some-clause-known : goal.returns-in-Some-clause-known
+returns-in-Some-clause-known c =
     let states = c.args.self.now.current.states.items in
-    record {
-      current = made.current ∙ inv.current;
-      next = made.next ∙ inv.next;
-      dead = made.dead ∙ inv.dead;
-      stuck = stuck_more c.args.self.now.dead c.args.remaining c.loop-i.i c.index-state.result.now states c.loop-i.alive c.in_ok-added.added (state_is c) inv.stuck (known c);
-      traced = traced_state c.args.self.now.trace.items c.loop-i.self.trace.items c.trace_state.new.self.trace.items states c.args.remaining c.loop-i.i c.index-state.result.now (omega (arith, ap (λ (x : StateSet). length x.states.items) inv.current)) (state_is c) inv.traced made.traced;
-    }
+    let (d, has, at, same, e) =
+    in_some c.seen.result c.in-Some.seen (λ (seen : Seen). (d : DeadSet) × HasDead c.args.self.now.dead d × (d.set.remaining ≡ c.args.remaining)
+    × (d.set.states.items ≡ c.deref.result.now) × (d.seen ≡ seen)) c.in-Some.is c.seen.ensures in
+    let Q : ℕ → List ℕ → Type 0 = λ n l. Contains l n ↔ Contains states n in
+    (d, has, (at, λ n. subst (Q n) (sym (same ∙ c.deref.ensures.value)) (c.in_ok-set.ensures.1 n)), e)
 
-pub returns-clause-stuck : goal.returns-clause-stuck
-returns-clause-stuck c none = stuck_all c.args.self.now.dead c.args.remaining c.loop-i.i c.args.self.now.current.states.items (omega arith) (c.loop-i.invariant.stuck none)
+pub returns-in_ok-push-in-None-clause-traced : goal.returns-in_ok-push-in-None-clause-traced
+returns-in_ok-push-in-None-clause-traced c p k =
+    let old = c.args.self.now.trace.items in
+    let Q : List SetAt → Type 0 = λ l. Contains l p in
+    let R : SetAt → Type 0 = λ x. IsSetAt c.args.remaining c.args.self.now.current.states.items x in
+    elim (Contains-push_cases old c.in_ok-set.set p (subst Q c.in_ok-push-in-None.ensures.items k))
+    [ inl h ↦ inl h | inr same ↦ inr (subst R same c.in_ok-set.ensures) ]

@@ -9,4 +9,6 @@ returns-clause-grown c =
     let states = c.args.self.now.states.items in
     let marks = c.args.self.now.marks.items in
     let P : List ℕ → Type 0 = λ x. HasGrown states x marks (set marks c.args.state true) in
-    subst P (sym c.in_ok-push.ensures.items) (push_marks states marks c.args.state c.requires.inside (index_default marks c.args.state false c.index.result.now c.requires.inside ∙ sym c.index.ensures ∙ c.if-index.false) c.requires.marked)
+    subst P (sym c.in_ok-push.ensures.items)
+    (push_marks states marks c.args.state c.requires.inside
+    (index_default marks c.args.state false c.index.result.now c.requires.inside ∙ sym c.index.ensures ∙ c.if-index.false) c.requires.marked)

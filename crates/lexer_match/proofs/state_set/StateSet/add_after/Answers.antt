@@ -17,7 +17,9 @@ pub loop-state-preserved : goal.loop-state-preserved
 loop-state-preserved c = record {
   size = c.in_ok-add_next.ensures.size ∙ c.loop-state.invariant.size;
   marked = c.in_ok-add_next.ensures.marked;
-  after = λ n. up_to_more c.args.nfa.now c.args.before.now c.loop-state.self.states.items c.add_next.new.self.states.items c.args.c c.loop-state.state-index n (c.loop-state.invariant.after n) (c.in_ok-add_next.ensures.members n);
+  after =
+      λ n. up_to_more c.args.nfa.now c.args.before.now c.loop-state.self.states.items c.add_next.new.self.states.items c.args.c c.loop-state.state-index n
+      (c.loop-state.invariant.after n) (c.in_ok-add_next.ensures.members n);
 }
 
 pub returns-clause-after : goal.returns-clause-after

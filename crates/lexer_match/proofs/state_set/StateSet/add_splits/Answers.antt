@@ -14,13 +14,19 @@ pub add-requires-in-Split-clause-inside : goal.add-requires-in-Split-clause-insi
 add-requires-in-Split-clause-inside c =
     let P = c.args.nfa.now in
     let at = slice_get_read P (length P) c.args.state c.index-nfa-state.result refl c.requires.inside c.index-nfa-state.is in
-    omega (arith, (halves_inside P c.args.state c.index-nfa-state.result c.in-Split.first c.in-Split.second c.requires.nfa at c.in-Split.is).1, c.requires.size, c.in_ok-add-in-Split.ensures.grown.size)
+    omega (
+      arith,
+      (halves_inside P c.args.state c.index-nfa-state.result c.in-Split.first c.in-Split.second c.requires.nfa at c.in-Split.is).1,
+      c.requires.size,
+      c.in_ok-add-in-Split.ensures.grown.size,
+    )
 
 pub returns-in_ok-add-in-Split-2-clause-members : goal.returns-in_ok-add-in-Split-2-clause-members
 returns-in_ok-add-in-Split-2-clause-members c n =
     let P = c.args.nfa.now in
     let at = slice_get_read P (length P) c.args.state c.index-nfa-state.result refl c.requires.inside c.index-nfa-state.is in
-    both_ways (two_added P c.args.self.now.states.items c.add.new.self.states.items c.add-in-Split.new.self.states.items c.in-Split.first c.in-Split.second n (c.in_ok-add-in-Split.ensures.members n) (c.in_ok-add-in-Split-2.ensures.members n))
+    both_ways (two_added P c.args.self.now.states.items c.add.new.self.states.items c.add-in-Split.new.self.states.items c.in-Split.first c.in-Split.second n
+    (c.in_ok-add-in-Split.ensures.members n) (c.in_ok-add-in-Split-2.ensures.members n))
     (or_same (goes_both P c.args.state c.index-nfa-state.result c.in-Split.first c.in-Split.second n at c.in-Split.is))
 
 pub returns-in_default : goal.returns-in_default

@@ -8,7 +8,8 @@ use Rattle.lexer_match.proofs.state_set.StateSet.step.Goals as goal
 pub step_from-requires-clause-before : goal.step_from-requires-clause-before
 step_from-requires-clause-before c n among =
     let P : List ℕ → Type 0 = λ x. Contains x n in
-    marked_inside c.args.before.now.states.items c.args.before.now.marks.items (length c.args.nfa.now) n c.requires.before_marked c.requires.before_size (subst P c.deref.ensures.value among)
+    marked_inside c.args.before.now.states.items c.args.before.now.marks.items (length c.args.nfa.now) n c.requires.before_marked c.requires.before_size
+    (subst P c.deref.ensures.value among)
 
 pub step_from-requires-clause-before_followed : goal.step_from-requires-clause-before_followed
 step_from-requires-clause-before_followed c =

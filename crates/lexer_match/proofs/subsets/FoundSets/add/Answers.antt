@@ -14,7 +14,10 @@ returns-clause-grown c = (c.args.states ∷ [], c.in_ok-push.ensures.items ∙ a
 pub returns-clause-sets : goal.returns-clause-sets
 returns-clause-sets c P set are =
     let mid = c.may_look-may.new.self.sets.items in
-    sets_more P mid c.push.new.self.items c.args.states c.in_ok-push.ensures.items set (sets_as P mid c.args.self.now.sets.items c.may_look-may.ensures.sets are)
+    sets_more P mid c.push.new.self.items c.args.states c.in_ok-push.ensures.items set
+    (sets_as P mid c.args.self.now.sets.items c.may_look-may.ensures.sets are)
 
 pub returns-clause-number : goal.returns-clause-number
-returns-clause-number c = numbered_last c.may_look-may.new.self.sets.items c.push.new.self.items c.args.states c.len-number.result c.in_ok-push.ensures.items (omega (arith, c.len-number.ensures, c.may_look-may.new.self.sets.ok.0))
+returns-clause-number c =
+    numbered_last c.may_look-may.new.self.sets.items c.push.new.self.items c.args.states c.len-number.result c.in_ok-push.ensures.items
+    (omega (arith, c.len-number.ensures, c.may_look-may.new.self.sets.ok.0))

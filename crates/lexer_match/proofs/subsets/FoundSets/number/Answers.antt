@@ -25,7 +25,9 @@ returns-in-Some-clause-number c =
     let sorted = c.sort_unstable.new.self.items in
     let sets = c.may_look-may.new.self.sets.items in
     let Q : List ℕ → Type 0 = λ l. IsNumbered sets l c.in-Some.number in
-    same_numbered sets states sorted c.in-Some.number (same states c.in_ok-sorted.sorted.items sorted c.in_ok-sorted.ensures.items c.sort_unstable.ensures.permutation) (subst Q c.deref.ensures.value c.in-Some.ensures)
+    same_numbered sets states sorted c.in-Some.number
+    (same states c.in_ok-sorted.sorted.items sorted c.in_ok-sorted.ensures.items c.sort_unstable.ensures.permutation)
+    (subst Q c.deref.ensures.value c.in-Some.ensures)
 
 pub returns-in_ok-number-in-None-clause-grown : goal.returns-in_ok-number-in-None-clause-grown
 returns-in_ok-number-in-None-clause-grown c =
@@ -38,7 +40,8 @@ returns-in_ok-number-in-None-clause-sets c P set are =
     let states = c.args.states.now in
     let sorted = c.sort_unstable.new.self.items in
     let mid = c.may_look-may.new.self.sets.items in
-    c.in_ok-number-in-None.ensures.sets P (set_same P sorted states (same states c.in_ok-sorted.sorted.items sorted c.in_ok-sorted.ensures.items c.sort_unstable.ensures.permutation) set)
+    c.in_ok-number-in-None.ensures.sets P (set_same P sorted states
+    (same states c.in_ok-sorted.sorted.items sorted c.in_ok-sorted.ensures.items c.sort_unstable.ensures.permutation) set)
     (sets_as P mid c.args.self.now.sets.items c.may_look-may.ensures.sets are)
 
 pub returns-in_ok-number-in-None-clause-number : goal.returns-in_ok-number-in-None-clause-number
@@ -47,4 +50,5 @@ returns-in_ok-number-in-None-clause-number c =
     let sorted = c.sort_unstable.new.self.items in
     let sets = c.add.new.self.sets.items in
     let alike = same states c.in_ok-sorted.sorted.items sorted c.in_ok-sorted.ensures.items c.sort_unstable.ensures.permutation in
-    option_as c.in_ok-number-in-None.number (IsNumbered sets sorted) (IsSame sets states) (λ n is. same_numbered sets states sorted n alike is) c.in_ok-number-in-None.ensures.number
+    option_as c.in_ok-number-in-None.number (IsNumbered sets sorted) (IsSame sets states)
+    (λ n is. same_numbered sets states sorted n alike is) c.in_ok-number-in-None.ensures.number

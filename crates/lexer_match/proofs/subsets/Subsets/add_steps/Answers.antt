@@ -6,7 +6,8 @@ pub loop-c-init : goal.loop-c-init
 loop-c-init c = record { ready = c.requires.ready; grown = starts_same c.args.self.now.found.sets.items; steps = c.requires.steps; before = c.requires.before }
 
 pub step-requires-clause-set : goal.step-requires-clause-set
-step-requires-clause-set c = omega (arith, c.requires.set, starts_longer c.loop-c.self.found.sets.items c.args.self.now.found.sets.items c.loop-c.invariant.grown)
+step-requires-clause-set c =
+    omega (arith, c.requires.set, starts_longer c.loop-c.self.found.sets.items c.args.self.now.found.sets.items c.loop-c.invariant.grown)
 
 pub loop-c-preserved : goal.loop-c-preserved
 loop-c-preserved c =
@@ -22,7 +23,9 @@ loop-c-preserved c =
     record {
       ready = made.ready;
       grown = grown;
-      steps = steps_more P new steps c.push.new.self.items c.in_ok-step.step c.args.set c.loop-c.c c.in_ok-push.ensures.items before.before (omega arith) inside made.step (steps_kept P old new steps made.grown before.steps);
+      steps =
+          steps_more P new steps c.push.new.self.items c.in_ok-step.step c.args.set c.loop-c.c c.in_ok-push.ensures.items before.before
+          (omega arith) inside made.step (steps_kept P old new steps made.grown before.steps);
       before = omega (arith, ap length c.in_ok-push.ensures.items, length-append steps (c.in_ok-step.step ∷ []), before.before);
     }
 

@@ -21,4 +21,5 @@ returns-clause-start c =
     let states = c.begin.new.self.states.items in
     let sets = c.reached.new.self.sets.items in
     let set = set_of P states c.begin.new.self.marks.items made.marked (made.size ∙ c.requires.ready.size) made.followed in
-    option_as c.in_ok-reached.reached (IsReached P sets (ReadsFrom P states)) (IsReached P sets (Reads P c.args.state)) (λ r is. reached_as P sets (ReadsFrom P states) (Reads P c.args.state) r made.reads is) (c.in_ok-reached.ensures.reached P set)
+    option_as c.in_ok-reached.reached (IsReached P sets (ReadsFrom P states)) (IsReached P sets (Reads P c.args.state))
+    (λ r is. reached_as P sets (ReadsFrom P states) (Reads P c.args.state) r made.reads is) (c.in_ok-reached.ensures.reached P c.requires.live set)

@@ -32,7 +32,9 @@ loop-alternative-preserved c =
     record {
       ready = made.ready;
       size = length-set starts x.start c.in_ok-start.start ∙ c.loop-alternative.invariant.size;
-      starts = starts_more P new starts _ x.start c.in_ok-start.start refl (omega (arith, inside, c.loop-alternative.invariant.size)) made.start (starts_kept P old new starts made.grown c.loop-alternative.invariant.starts);
+      starts =
+          starts_more P new starts _ x.start c.in_ok-start.start refl (omega (arith, inside, c.loop-alternative.invariant.size)) made.start
+          (starts_kept P old new starts made.grown c.loop-alternative.invariant.starts);
     }
 
 pub index_mut-requires : goal.index_mut-requires

@@ -27,7 +27,9 @@ returns-then-is_empty c =
     record {
       ready = record { size = made.size ∙ c.requires.ready.size; marked = made.marked; sets = c.requires.ready.sets };
       grown = starts_same sets;
-      step = stuck_of c.args.nfa.now sets c.states.result.now c.step_from.new.self.states.items c.args.set c.args.c (sym c.states.ensures) made.reads (c.is_empty.ensures.empty c.if-is_empty.true);
+      step =
+          stuck_of c.args.nfa.now sets c.states.result.now c.step_from.new.self.states.items c.args.set c.args.c (sym c.states.ensures) made.reads
+          (c.is_empty.ensures.empty c.if-is_empty.true);
     }
 
 pub reached-requires-clause-inside : goal.reached-requires-clause-inside
@@ -36,7 +38,8 @@ reached-requires-clause-inside c = omega (arith, c.in_ok-step_from.ensures.size,
 pub returns-in-Some-clause-ready : goal.returns-in-Some-clause-ready
 returns-in-Some-clause-ready c =
     let made = c.in_ok-step_from.ensures in
-    let set = set_of c.args.nfa.now c.step_from.new.self.states.items c.step_from.new.self.marks.items made.marked (made.size ∙ c.requires.ready.size) made.followed in
+    let set =
+    set_of c.args.nfa.now c.step_from.new.self.states.items c.step_from.new.self.marks.items made.marked (made.size ∙ c.requires.ready.size) made.followed in
     record { size = made.size ∙ c.requires.ready.size; marked = made.marked; sets = c.in_ok-found.ensures.sets c.args.nfa.now set c.requires.ready.sets }
 
 pub returns-in-Some-clause-step : goal.returns-in-Some-clause-step
@@ -47,11 +50,13 @@ returns-in-Some-clause-step c =
     let old = c.args.self.now.found.sets.items in
     let new = c.reached.new.self.sets.items in
     let set = set_of P states c.step_from.new.self.marks.items made.marked (made.size ∙ c.requires.ready.size) made.followed in
-    step_of P old new c.states.result.now states c.args.set c.args.c c.in-Some.reached c.in_ok-found.ensures.grown c.requires.set (sym c.states.ensures) made.reads
-    (in_some c.in_ok-found.found c.in-Some.reached (IsReached P new (ReadsFrom P states)) c.in-Some.is (c.in_ok-found.ensures.reached P set))
+    step_of P old new c.states.result.now states c.args.set c.args.c c.in-Some.reached c.in_ok-found.ensures.grown c.requires.set
+    (sym c.states.ensures) made.reads
+    (in_some c.in_ok-found.found c.in-Some.reached (IsReached P new (ReadsFrom P states)) c.in-Some.is (c.in_ok-found.ensures.reached P c.requires.live set))
 
 pub returns-in-None-clause-ready : goal.returns-in-None-clause-ready
 returns-in-None-clause-ready c =
     let made = c.in_ok-step_from.ensures in
-    let set = set_of c.args.nfa.now c.step_from.new.self.states.items c.step_from.new.self.marks.items made.marked (made.size ∙ c.requires.ready.size) made.followed in
+    let set = set_of c.args.nfa.now c.step_from.new.self.states.items c.step_from.new.self.marks.items made.marked
+    (made.size ∙ c.requires.ready.size) made.followed in
     record { size = made.size ∙ c.requires.ready.size; marked = made.marked; sets = c.in_ok-found.ensures.sets c.args.nfa.now set c.requires.ready.sets }

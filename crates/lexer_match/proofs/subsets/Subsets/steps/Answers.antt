@@ -15,7 +15,9 @@ loop-set-preserved c =
     let made = c.in_ok-add_steps.ensures in
     record {
       ready = made.ready;
-      grown = starts_both c.args.self.now.found.sets.items c.loop-set.self.found.sets.items c.add_steps.new.self.found.sets.items c.loop-set.invariant.grown made.grown;
+      grown =
+          starts_both c.args.self.now.found.sets.items c.loop-set.self.found.sets.items c.add_steps.new.self.found.sets.items c.loop-set.invariant.grown
+          made.grown;
       steps = made.steps;
       before = omega (arith, made.all);
     }

@@ -1,0 +1,1 @@
+grammar P; s : A* ; A : 'a' ; B : 'b' F ; fragment F : 'ab' ; C : 'é' ; D : 'é'+ '!' ;
