@@ -13,6 +13,7 @@ TOP = os.path.dirname(os.path.dirname(os.path.realpath(__file__)))
 PERSES = os.path.join(TOP, "perses")
 PROGRAM = os.path.join(TOP, "crates", "perses_main", "out", "perses_main")
 BENCH_TEXTS = os.path.join(TOP, "crates", "bench_texts", "out", "bench_texts")
+BENCH_JOINS = os.path.join(TOP, "crates", "bench_joins", "out", "bench_joins")
 
 
 def build_perses():
@@ -25,10 +26,20 @@ def build_perses():
 
 def build_bench_texts():
     """Builds `bench_texts`, which reads a text, by running it once on an empty one."""
-    print("proving and building bench_texts, where it isn't built yet", file=sys.stderr)
+    build_reader("bench_texts", ["1", "0", "0"])
+
+
+def build_bench_joins():
+    """The same of `bench_joins`."""
+    build_reader("bench_joins", ["1"])
+
+
+def build_reader(name, numbers):
+    """Builds the program of this name by running it once on an empty text, with these numbers."""
+    print(f"proving and building {name}, where it isn't built yet", file=sys.stderr)
     with tempfile.NamedTemporaryFile() as text:
-        words = ["rt", "run", "--", text.name, "1", "0"]
-        folder = os.path.join(TOP, "crates", "bench_texts")
+        words = ["rt", "run", "--", text.name, *numbers]
+        folder = os.path.join(TOP, "crates", name)
         done = subprocess.run(words, cwd=folder, stdin=subprocess.DEVNULL, capture_output=True)
     if done.returncode != 0:
         sys.exit(done.stdout.decode() + done.stderr.decode())

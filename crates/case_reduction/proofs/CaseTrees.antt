@@ -12,7 +12,7 @@ use Rattle.reduce_trees_input.specs.Parsed.{IsParsed, MakesInputOf, tree_input}
 use Rattle.reduce_trees_input.specs.declared.parsed.ParsedInput.{ParsedInput}
 use Rattle.reduce_step.specs.declared.mode.TreeMode.{TreeMode}
 use Rattle.run_problem.specs.declared.problem.ReadProblem.TheVariants as read
-use Rattle.run_problem.specs.Problem.{Problem, start_of}
+use Rattle.run_problem.specs.Problem.{Problem, start_text}
 use Rattle.run_problem.specs.Read.{IsFoundIn, IsReadAs}
 use Rattle.case_reduction.specs.Summary.{IsCaseProblem}
 
@@ -57,5 +57,5 @@ is_case mode number size grammar found spelled parsed makes =
 
 -- the problem begins with the program
 pub begins_with_case : (mode : TreeMode) (number size : ℕ) (problem : Problem) → IsCaseProblem mode number size problem
-    → start_of problem ≡ case_text number size
-begins_with_case mode number size problem of = ap start_of of.is_problem ∙ of.of_case.same_text
+    → start_text problem ≡ case_text number size
+begins_with_case mode number size problem of = ap start_text of.is_problem ∙ of.of_case.same_text

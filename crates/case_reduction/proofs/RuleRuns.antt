@@ -10,7 +10,7 @@ use Rattle.script_gate_trait.specs.declared.log.Log.{Log}
 use Rattle.script_gate_trait.specs.Rule.{rule_verdict}
 use Rattle.verdict_table.specs.declared.record.Record.{Record}
 use Rattle.verdict_table.specs.TableState.{verdict_in}
-use Rattle.reduce_journal.specs.History.{History, records_of}
+use Rattle.reduce_journal.specs.History.{records_of}
 use Rattle.reduce_journal.specs.declared.counts.Counts.{Counts}
 use Rattle.run_gated.specs.Seen.{SeenGate, fault_counts_of, seen_gates}
 use Rattle.run_gated.specs.Run.{Run}
@@ -20,7 +20,7 @@ use Rattle.run_gated.specs.declared.fault.RunFault.{RunFault}
 use Rattle.run_gated.specs.declared.ran.Reduced.{Reduced}
 use Rattle.run_gated.specs.declared.fault.RunFault.TheVariants as run_fault
 use Rattle.reduce_step.specs.declared.mode.TreeMode.{TreeMode}
-use Rattle.run_problem.specs.Problem.{IsReductionOf, Problem, counts_of, start_of}
+use Rattle.run_problem.specs.Problem.{IsReductionOf, Problem, counts_of, start_text}
 use Rattle.run_problem.specs.Laws.{ProblemsReduceAlike}
 use Rattle.run_problem.specs.Ends.{IsRunOf, ProblemEnds, ReducesFrom, RunFails}
 use Rattle.run_problem.specs.Read.{IsReadAs}
@@ -60,7 +60,7 @@ module _ (mode : TreeMode) (number size : ℕ) (problem : Problem) (of : IsCaseP
       → run.after.journal.faults ≡ 0
       → CasesGetYes → 1 ≤ size → (fault : RunFault) → RunFails [] problem run fault → fault ≡ run_fault.Memory
   only_memory log workers gates quiet get_yes some run_fault.NotInteresting why =
-      absurd (not_refused (records_of run.history) (recursion_from_All _ (records_of run.history) by) (start_of problem)
+      absurd (not_refused (records_of run.history) (recursion_from_All _ (records_of run.history) by) (start_text problem)
       (ap (rule_verdict 23121) (begins_with_case mode number size problem of) ∙ get_yes number size some) why.0.first)
   only_memory log workers gates quiet get_yes some (run_fault.Script worker) why =
       let counts = fault_counts_of run.before.gates in

@@ -13,7 +13,7 @@ use Rattle.reduce_journal.specs.Report.{four_lines}
 use Rattle.reduce_rounds.specs.Verdicts.{Agree, HasVerdicts}
 use Rattle.reduce_rounds.specs.Reduction.{capped_count}
 use Rattle.reduce_step.specs.declared.mode.TreeMode.{TreeMode}
-use Rattle.run_problem.specs.Problem.{IsReductionOf, Problem, questions_of, reduced_text, reduced_units, rounds_of, start_of, units_of}
+use Rattle.run_problem.specs.Problem.{IsReductionOf, Problem, questions_of, reduced_text, reduced_units, rounds_of, start_text, units_of}
 
 -- what the rule that asks for the letters Q and Z says of each text: its number has their bytes
 abbrev pub rule_map : List ℕ → Option Verdict
@@ -33,7 +33,7 @@ pub record IsCaseProblem (mode : TreeMode) (number size : ℕ) (problem : Proble
 -- the first four lines of the report of the reduction over a map of verdicts, and the text that it ends with
 abbrev pub summary_text : Problem → (List ℕ → Option Verdict) → List ℕ
 summary_text problem V =
-    four_lines (units_of problem) (reduced_units [] problem V) (length (start_of problem)) (length (reduced_text [] problem V))
+    four_lines (units_of problem) (reduced_units [] problem V) (length (start_text problem)) (length (reduced_text [] problem V))
     (capped_count (rounds_of [] problem V)) (capped_count (length (questions_of [] problem V)))
     ++ reduced_text [] problem V
 

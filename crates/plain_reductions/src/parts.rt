@@ -65,5 +65,6 @@ pub(crate) fn tree_parts<'a>(
         lexer,
         tree,
     } = found;
-    Ok(TreeParts::new(text, tokens, lexer, compat, tree, guard, squeezes))
+    let parts = TreeParts::new(text, tokens, lexer, compat, tree, guard, squeezes)?;
+    Ok(parts)
 }

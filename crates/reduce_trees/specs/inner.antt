@@ -1,4 +1,5 @@
 pub mod Parts
+pub mod StartText
 pub mod Candidates
 pub mod Fields
 pub mod FieldProps

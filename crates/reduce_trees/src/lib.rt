@@ -18,6 +18,7 @@ mod laws;
 mod modes;
 mod parts;
 mod reducer;
+mod start_text;
 mod tree_round;
 mod trial;
 

@@ -1,6 +1,6 @@
 //! What never changes in a reduction of trees.
 
-ghost use Rattle.std.specs.Prelude.{◌≡◌, ◌≤◌, length, map, string_bytes};
+ghost use Rattle.std.specs.Prelude.{◌≡◌, ◌≤◌, IfOk, length, map, string_bytes};
 ghost use Rattle.std.specs.Str.{chars};
 ghost use Rattle.grammar_tree.specs.Checked.{IsChecked};
 ghost use Rattle.grammar_tree.specs.Lexes.{PlacedToken};
@@ -16,28 +16,29 @@ ghost use Rattle.reduce_trees_mode.specs.inner.FormedProp.{well_formed_prop};
 ghost use Rattle.reduce_trees_mode.specs.InputOf.{input_of};
 ghost use Rattle.reduce_trees.specs.inner.Parts.{BelongTogether, together_prop};
 
+use crate::start_text::StartText;
 use compat_table::Compat;
+use faults::Memory;
 use keep_guard::{Guard, Relation};
 use lexer::{Lexer, Tokens};
 use reduce_trees_mode::parts_join;
 use syntax_tree::Tree;
 use token_laws::tokens_are_found;
 
-/// What never changes in a reduction of trees: the start's text, its tokens and their tree, the lexer
-/// of its grammar, which symbols fit which slots, which candidates are admitted, and whether the
-/// squeezed text of the whole tree is tried before the rounds.
+/// What never changes in a reduction of trees: the start's text with its pieces and the lexer of its
+/// grammar, its tokens and their tree, which symbols fit which slots, which candidates are admitted, and
+/// whether the squeezed text of the whole tree is tried before the rounds.
 #[derive(Drop)]
 pub struct TreeParts<F: Relation> {
-    pub(crate) start: String,
+    pub(crate) start: StartText,
     pub(crate) tokens: Tokens,
-    pub(crate) lexer: Lexer,
     pub(crate) compat: Compat,
     pub(crate) tree: Tree,
     pub(crate) guard: Guard<F>,
     pub(crate) squeezes: bool,
-    ghost formed: { IsWellFormed lexer.grammar lexer.start } by { well_formed_prop lexer.grammar lexer.start },
-    ghost together: { BelongTogether (input_of lexer formed tree (string_bytes start) tokens.items.items (F.admits guard) squeezes) compat } by { together_prop
-        (input_of lexer formed tree (string_bytes start) tokens.items.items (F.admits guard) squeezes) compat },
+    ghost formed: { IsWellFormed start.grammar.grammar start.grammar.start } by { well_formed_prop start.grammar.grammar start.grammar.start },
+    ghost together: { BelongTogether (input_of start.grammar formed tree start.bytes tokens.items.items (F.admits guard) squeezes) compat } by { together_prop
+        (input_of start.grammar formed tree start.bytes tokens.items.items (F.admits guard) squeezes) compat },
 }
 
 /// What a reduction is about.
@@ -49,11 +50,11 @@ pub trait HasInput {
 }
 
 impl<F: Relation> HasInput for TreeParts<F> {
-    ghost input = { λ p. input_of p.lexer p.formed p.tree (string_bytes p.start) p.tokens.items.items (F.admits p.guard) p.squeezes };
+    ghost input = { λ p. input_of p.start.grammar p.formed p.tree p.start.bytes p.tokens.items.items (F.admits p.guard) p.squeezes };
 }
 
-impl<F: Relation> TreeParts<F> {
-    /// The parts of a reduction of a start, of at most 1,048,576 bytes.
+impl<F: Relation + Drop> TreeParts<F> {
+    /// The parts of a reduction of a start, of at most 1,048,576 bytes. The start is cut into its pieces.
     pub fn new(
         start: String,
         tokens: Tokens,
@@ -62,7 +63,7 @@ impl<F: Relation> TreeParts<F> {
         tree: Tree,
         guard: Guard<F>,
         squeezes: bool,
-    ) -> TreeParts<F>
+    ) -> Result<TreeParts<F>, Memory>
         requires checked { IsChecked lexer }
         requires short { length (string_bytes start) ≤ text_limit }
         requires tokens { HasTokens lexer.grammar (chars (string_bytes start)) (map token_of tokens.items.items) }
@@ -70,21 +71,23 @@ impl<F: Relation> TreeParts<F> {
         requires symbol { tree.start ≡ Rule tree.form.start }
         requires kinds { kinds_of (whole tree) ≡ map (λ (t : PlacedToken). t.kind) (map token_of tokens.items.items) }
         requires compat { compat ≡ tree.form }
-        ensures { (formed : IsWellFormed lexer.grammar lexer.start)
-            → ⟦<TreeParts<F> as HasInput>⟧.input result ≡ input_of lexer formed tree (string_bytes start) tokens.items.items (F.admits guard) squeezes }
+        ensures { IfOk result (λ parts. (formed : IsWellFormed lexer.grammar lexer.start)
+            → ⟦<TreeParts<F> as HasInput>⟧.input parts ≡ input_of lexer formed tree (string_bytes start) tokens.items.items (F.admits guard) squeezes) }
     {
         tokens_are_found();
-        TreeParts {
+        let start = StartText::new(start, lexer)?;
+        Ok(TreeParts {
             start,
             tokens,
-            lexer,
             compat,
             tree,
             guard,
             squeezes,
-        }
+        })
     }
+}
 
+impl<F: Relation> TreeParts<F> {
     /// The parts are those of an input, whose start has at most 1,048,576 bytes: a caller calls this so
     /// that its proof knows.
     pub fn is_input(&self)
@@ -93,6 +96,6 @@ impl<F: Relation> TreeParts<F> {
     {
         parts_join();
         let _nodes = self.tree.nodes();
-        let _text = self.start.as_str();
+        let _text = self.start.text();
     }
 }

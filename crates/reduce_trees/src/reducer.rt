@@ -45,7 +45,7 @@ pub fn tree_reducer<'a, F: Relation, W: TreeWalk + Drop>(
     parts.is_input();
     whole_is_start();
     let round = TreeRound::new(alloc, parts, walk)?;
-    let text = Vec::from_slice(alloc, parts.start.as_bytes())?;
+    let text = Vec::from_slice(alloc, parts.start.text().as_bytes())?;
     let tokens = parts.tokens.items.len() as u64;
     Ok(Rounds::new(alloc, text, tokens, round))
 }

@@ -1,6 +1,6 @@
 //! Rounds over what is left of a tree.
 
-ghost use Rattle.std.specs.Prelude.{◌≡◌, IfOk, if◌then◌else◌, string_bytes};
+ghost use Rattle.std.specs.Prelude.{◌≡◌, IfOk, if◌then◌else◌};
 ghost use Rattle.token_print.specs.declared.style.Style.TheVariants.{Squeezed};
 ghost use Rattle.reduce_rounds.specs.Trials.{Done};
 ghost use Rattle.reduce_trees.specs.Fields.{IsTreeOf};
@@ -23,8 +23,8 @@ use token_print::Style;
 /// A round of a walk over what is left of a tree. The parts are lent, so that a copy doesn't copy them.
 ///
 /// An answer takes what [`TreeWalk::answer`] takes, and time and memory linear in the nodes of the
-/// parsed tree and in the text of the candidate that is tried next: that is printed once and cut into
-/// tokens once, and the guard is called at most once.
+/// parsed tree and in the text of the candidate that is tried next: that is printed once, and the guard is
+/// called at most once. What isn't carried over from the start is cut into tokens once.
 #[derive(Drop)]
 pub struct TreeRound<'a, F: Relation, W: TreeWalk + Drop> {
     alloc: Global,
@@ -34,9 +34,9 @@ pub struct TreeRound<'a, F: Relation, W: TreeWalk + Drop> {
 
     /// It is over after an error.
     trial: Trial,
-    ghost agrees: { Agrees (input_of parts.now.lexer parts.now.formed parts.now.tree (string_bytes parts.now.start) parts.now.tokens.items.items
+    ghost agrees: { Agrees (input_of parts.now.start.grammar parts.now.formed parts.now.tree parts.now.start.bytes parts.now.tokens.items.items
         (F.admits parts.now.guard) parts.now.squeezes) style (W.tree walk) (W.left walk) (W.rest walk) trial } by { agrees_prop
-            (input_of parts.now.lexer parts.now.formed parts.now.tree (string_bytes parts.now.start) parts.now.tokens.items.items
+            (input_of parts.now.start.grammar parts.now.formed parts.now.tree parts.now.start.bytes parts.now.tokens.items.items
             (F.admits parts.now.guard) parts.now.squeezes) style (W.tree walk) (W.left walk) (W.rest walk) trial },
 }
 
@@ -82,12 +82,12 @@ impl<'a, F: Relation, W: TreeWalk + Drop> Round for TreeRound<'a, F, W> {
 
     ghost Kept = { IsKept };
 
-    ghost input = { λ r. input_of r.parts.now.lexer r.parts.now.formed r.parts.now.tree (string_bytes r.parts.now.start) r.parts.now.tokens.items.items
+    ghost input = { λ r. input_of r.parts.now.start.grammar r.parts.now.formed r.parts.now.tree r.parts.now.start.bytes r.parts.now.tokens.items.items
         (F.admits r.parts.now.guard) r.parts.now.squeezes };
 
     ghost state = { λ r. in_style r.style (W.left r.walk) };
 
-    ghost rest = { λ r. rest_of (input_of r.parts.now.lexer r.parts.now.formed r.parts.now.tree (string_bytes r.parts.now.start) r.parts.now.tokens.items.items
+    ghost rest = { λ r. rest_of (input_of r.parts.now.start.grammar r.parts.now.formed r.parts.now.tree r.parts.now.start.bytes r.parts.now.tokens.items.items
         (F.admits r.parts.now.guard) r.parts.now.squeezes) r.style (W.rest r.walk) r.trial };
 
     fn is_over(&self) -> bool {

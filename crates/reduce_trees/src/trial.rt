@@ -82,10 +82,10 @@ pub(crate) fn opening_trial<F: Relation>(
     let cut = Cut::new(alloc, &parts.tree)?;
     let kept = cut.kept_tokens(alloc, &parts.tree)?;
     let text = text_of(alloc, parts, &kept, Style::Squeezed)?;
-    if text.len() >= parts.start.len() {
+    if text.len() >= parts.start.text().len() {
         return Ok(Trial::Over);
     }
-    let candidate = with_text(parts, &kept, text)?;
+    let candidate = with_text(parts, &kept, Style::Squeezed, text)?;
     Ok(Trial::Squeezed(candidate))
 }
 

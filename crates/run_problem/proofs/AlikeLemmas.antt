@@ -25,7 +25,7 @@ use Rattle.reduce_trees.specs.TreeRounds.{tree_round}
 use Rattle.reduce_trees.specs.WalkMode.{walk_mode}
 use Rattle.reduce_trees_mode.specs.InStyles.{tree_recursion}
 use Rattle.run_problem.specs.Problem.{IsProblem, Problem, StateOf, counts_of, questions_of, recursion_of, reduced_text}
-use Rattle.run_problem.specs.Problem.{reduced_units, reduction_of, rounds_of, start_of, units_of}
+use Rattle.run_problem.specs.Problem.{reduced_units, reduction_of, rounds_of, start_text, units_of}
 use Rattle.run_problem.specs.Laws.{ProblemsReduceAlike, RunsReduceAlike, VerdictsAgree}
 
 -- ---- the reductions over two maps
@@ -77,7 +77,7 @@ counts_alike : (keeps : List (List ℕ)) (problem : Problem) (rs rs' : List Reco
 counts_alike keeps problem rs rs' agree same = λ i. record {
   start_units = units_of problem;
   end_units = same.units i;
-  start_bytes = length (start_of problem);
+  start_bytes = length (start_text problem);
   end_bytes = length (same.text i);
   rounds = capped_count (same.rounds i);
   used = capped_count (length (same.questions i));

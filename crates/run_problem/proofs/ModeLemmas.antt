@@ -49,7 +49,7 @@ use Rattle.reduce_step.specs.declared.mode.TreeMode.{TreeMode}
 use Rattle.run_problem.specs.Problem.{IsEditBy, Problem, questions_of, recursion_of, reduction_of}
 use Rattle.run_problem.specs.Committed.{IsPrefix, questions_over, thread_history, thread_over}
 use Rattle.run_problem.specs.Laws.{GoesByQuestions, HistoriesGoByQuestions}
-use Rattle.run_problem.specs.Reducer.{reducer_of, round_of}
+use Rattle.run_problem.specs.Reducer.{reducer_of, round_trials}
 use Rattle.run_problem.specs.inner.Walks.{IsTreeMode}
 use Rattle.run_problem.specs.Ends.{AreOf, IsRunOf, IsUnfinished, ProblemEnds, ReducesFrom, RunFails}
 
@@ -250,13 +250,13 @@ pub unfinished_without : (keeps : List (List ℕ)) (problem : Problem) → IsUnf
 unfinished_without keeps problem = record { waits = none_waits keeps problem; not_no = λ first_no. first_no; whole = sym (none_own keeps problem) }
 
 -- What a run of a reducer of trees says, in the words of the reduction of trees.
-module _ (mode : TreeMode) (laws : IsTreeMode (round_of mode) (IsEditBy mode)) (recursions : WalksAreRecursions mode (round_of mode))
+module _ (mode : TreeMode) (laws : IsTreeMode (round_trials mode) (IsEditBy mode)) (recursions : WalksAreRecursions mode (round_trials mode))
     (by : HistoriesGoByQuestions) (input : TreeInput) (is : IsInput input) (admitted : AdmitsStart input) (run : Run) where
   abbrev tree_records : List Record
   tree_records = records_of run.history
 
   abbrev trees : RoundMode TreeState
-  trees = walk_mode (round_of mode) input
+  trees = walk_mode (round_trials mode) input
 
   -- the reduction over the records, whatever the keep texts are
   abbrev over_records : List (List ℕ) → Reduction TreeState

@@ -13,7 +13,7 @@ use Rattle.run_gated.specs.Run.{Run}
 use Rattle.run_gated.specs.declared.fault.RunFault.{RunFault}
 use Rattle.run_gated.specs.declared.fault.RunFault.TheVariants.{NotInteresting, Script, Journal, Memory}
 use Rattle.run_gated.specs.declared.ran.Reduced.{Reduced}
-use Rattle.run_problem.specs.Problem.{IsCandidateOf, IsReductionOf, Problem, counts_of, start_of}
+use Rattle.run_problem.specs.Problem.{IsCandidateOf, IsReductionOf, Problem, counts_of, start_text}
 use Rattle.run_problem.specs.Committed.{IsPrefix, committed_texts, questions_over, thread_over}
 
 -- No text has two records. What the commits answer, each by an earlier record, is what the problem's reduction asks, in its order, from the first question on.
@@ -24,8 +24,8 @@ pub record AreOf (workers : ℕ) (keeps : List (List ℕ)) (problem : Problem) (
   pub legal : IsPrefix (committed_texts history) (questions_over keeps problem history)
   pub readable : IsHistory history
   pub candidates : All (λ r. IsCandidateOf keeps problem r.text) (records_of history)
-  pub short : All (λ r. length r.text ≤ length (start_of problem)) (records_of history)
-  pub first : BeginsAt (start_of problem) (records_of history)
+  pub short : All (λ r. length r.text ≤ length (start_text problem)) (records_of history)
+  pub first : BeginsAt (start_text problem) (records_of history)
   pub ends_at_no : FirstIsNo (records_of history) → OnlyNo (records_of history)
   pub sequential : workers ≡ 1 → IsPrefix history (thread_over keeps problem history)
 
@@ -40,7 +40,7 @@ IsWhole keeps problem history = history ≡ thread_over keeps problem history
 -- A problem reduces to the text over the verdicts of the records, of which the first is the start's yes, and these are its counts.
 -- Each question was answered; with one worker the history is all that one thread does over the records.
 pub record ReducesFrom (workers : ℕ) (keeps : List (List ℕ)) (problem : Problem) (history : History) (text : List ℕ) (counts : Counts) : Type 0 where
-  pub first : FirstIs (start_of problem) Yes (records_of history)
+  pub first : FirstIs (start_text problem) Yes (records_of history)
   pub reduced : IsReductionOf keeps (verdict_in (records_of history)) problem text
   pub is_counts : counts ≡ counts_of keeps problem (records_of history)
   pub whole : workers ≡ 1 → IsWhole keeps problem history
@@ -54,7 +54,7 @@ pub record IsUnfinished (keeps : List (List ℕ)) (problem : Problem) (history :
 
 -- a gate said no to the start, and none was asked again; and each question was answered
 pub record IsRefused (workers : ℕ) (keeps : List (List ℕ)) (problem : Problem) (history : History) : Type 0 where
-  pub first : FirstIs (start_of problem) No (records_of history)
+  pub first : FirstIs (start_text problem) No (records_of history)
   pub only : OnlyNo (records_of history)
   pub whole : workers ≡ 1 → IsWhole keeps problem history
   pub committed : IsAnswered keeps problem history

@@ -35,9 +35,9 @@ IsProblem (Problem.of_lines start) = Unit {0}
 IsProblem (Problem.of_tree mode input) = IsInput input
 
 -- the text that is reduced
-abbrev pub start_of : Problem → List ℕ
-start_of (Problem.of_lines start) = start
-start_of (Problem.of_tree mode input) = input.start
+abbrev pub start_text : Problem → List ℕ
+start_text (Problem.of_lines start) = start
+start_text (Problem.of_tree mode input) = input.start
 
 -- how many units it has: lines, or tokens
 abbrev pub units_of : Problem → ℕ
@@ -104,7 +104,7 @@ abbrev pub counts_of : List (List ℕ) → Problem → List Record → Counts
 counts_of keeps problem records = record {
   start_units = units_of problem;
   end_units = reduced_units keeps problem (verdict_in records);
-  start_bytes = length (start_of problem);
+  start_bytes = length (start_text problem);
   end_bytes = length (reduced_text keeps problem (verdict_in records));
   rounds = capped_count (rounds_of keeps problem (verdict_in records));
   used = capped_count (length (questions_of keeps problem (verdict_in records)));

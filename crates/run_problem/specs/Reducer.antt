@@ -16,11 +16,11 @@ use Rattle.reduce_trees.specs.WalkMode.{walk_mode}
 use Rattle.run_problem.specs.Problem.{Problem}
 
 -- what a round of the mode tries of a tree for a symbol of a normal form: by the nodes, the heaviest first, or by the levels of the tree
-abbrev pub round_of : TreeMode → NormalForm → Sym → PlainTree → Trials PlainTree
-round_of Perses = visit_round
-round_of Hdd = level_round
+abbrev pub round_trials : TreeMode → NormalForm → Sym → PlainTree → Trials PlainTree
+round_trials Perses = visit_round
+round_trials Hdd = level_round
 
 -- the reducer of the problem, whose mode this is
 abbrev pub reducer_of : List (List ℕ) → Problem → Plan
 reducer_of keeps (Problem.of_lines start) = line_plan (keeps_admit keeps) start
-reducer_of keeps (Problem.of_tree mode input) = plan_first (walk_mode (round_of mode) input)
+reducer_of keeps (Problem.of_tree mode input) = plan_first (walk_mode (round_trials mode) input)

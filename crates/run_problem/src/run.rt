@@ -89,7 +89,7 @@ fn tree_parts<'a>(
         lexer,
         tree,
     } = found;
-    Ok(TreeParts::new(text, tokens, lexer, compat, tree, guard, squeezes))
+    TreeParts::new(text, tokens, lexer, compat, tree, guard, squeezes)
 }
 
 /// What holds of reductions of trees in the mode of a walk. It does nothing: a caller calls it so that

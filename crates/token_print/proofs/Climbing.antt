@@ -9,11 +9,17 @@ abbrev pub Climbs : ℕ → ℕ → List ℕ → Type 0
 Climbs low high [] = ⊤
 Climbs low high (i ∷ kept) = (low ≤ i) × (i < high) × Climbs (suc i) high kept
 
-pub climbs : (low high : ℕ) (kept : List ℕ) → IsStrictlyIncreasing kept → All (λ i. i < high) kept → ((i : ℕ) (rest : List ℕ) → kept ≡ i ∷ rest → low ≤ i) → Climbs low high kept
+pub climbs : (low high : ℕ) (kept : List ℕ) → IsStrictlyIncreasing kept → All (λ i. i < high) kept → ((i : ℕ) (rest : List ℕ) → kept ≡ i ∷ rest → low ≤ i)
+    → Climbs low high kept
 climbs low high [] rise all first = tt
 climbs low high (i ∷ kept) rise all first =
-    let P : ℕ → Type 0 = λ n. n < high in
-    (first i kept refl, All-head P i kept all, climbs (suc i) high kept (λ k h. let more : suc k + 1 ≡ suc (k + 1) = omega arith in let Q : ℕ → Type 0 = λ n. slice_index (i ∷ kept) (suc k) < slice_index (i ∷ kept) n in subst Q more (rise (suc k) (omega (arith, h)))) (All-tail P i kept all) (after kept rise))
+    let P : ℕ → Type 0 = λ n. n < high in (
+      first i kept refl,
+      All-head P i kept all,
+      climbs (suc i) high kept (λ k h. let more : suc k + 1 ≡ suc (k + 1) = omega arith in
+          let Q : ℕ → Type 0 = λ n. slice_index (i ∷ kept) (suc k) < slice_index (i ∷ kept) n in subst Q more (rise (suc k) (omega (arith, h))))
+          (All-tail P i kept all) (after kept rise),
+    )
   where
     after : (kept : List ℕ) → IsStrictlyIncreasing (i ∷ kept) → (j : ℕ) (rest : List ℕ) → kept ≡ j ∷ rest → suc i ≤ j
     after [] rise j rest e = absurd cc

@@ -1,5 +1,5 @@
 mod Offsets
-mod Same
+mod SameTokens
 mod Writing
 mod Keeping
 mod Skipped
@@ -8,3 +8,19 @@ mod Climbing
 mod Sizes
 mod Squeezing
 mod Numbers
+mod Stretches
+mod Copied
+mod Carried
+mod StartFacts
+mod Running
+mod Lexing
+mod Going
+mod StartPieces
+mod Passing
+mod AheadRuns
+mod SpelledNext
+mod PrintedCopies
+mod CarriedHere
+mod RunAt
+mod Reading
+mod Answering

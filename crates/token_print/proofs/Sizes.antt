@@ -1,5 +1,6 @@
 -- As it was, no text is longer than the start.
-use Rattle.std.proofs.Common.{◌≡◌, ℕ, suc, ◌+◌, ◌-◌, ◌<◌, ◌≤◌, Bool, true, false, ◌&&◌, cond, nat_eq, List, [], ◌∷◌, ◌++◌, Option, Some, None, drop, length, refl, ap, arith, length-append}
+use Rattle.std.proofs.Common.{◌≡◌, ℕ, suc, ◌+◌, ◌-◌, ◌<◌, ◌≤◌, Bool, true, false, ◌&&◌, cond, nat_eq, List, [], ◌∷◌, ◌++◌}
+use Rattle.std.proofs.Common.{Option, Some, None, drop, length, refl, ap, arith, length-append}
 use Rattle.std.specs.List.{list_any}
 use Rattle.std.proofs.lemmas.Bool.{eqb-true, eqb-false}
 use Rattle.std.proofs.lemmas.List.{append-nil, length-drop, length-take}
@@ -69,18 +70,29 @@ module _ (skips : Skips) (start : List ℕ) (tokens : List PlacedToken) (runs : 
   rest : (last : ℕ) (kept : List ℕ) → last < length tokens → Climbs (suc last) (length tokens) kept → from (suc last) + text_len (Some last) kept ≤ length start
   rest last [] h c = step (nat_eq (suc last) (length tokens)) refl
     where
-      step : (b : Bool) → nat_eq (suc last) (length tokens) ≡ b → from (suc last) + length (cond b (gap_text start tokens (length tokens)) (final_newline skips)) ≤ length start
-      step true e = let same : suc last ≡ length tokens = eqb-true (suc last) (length tokens) e in omega (arith, ap from same, trailing (length tokens) (omega arith))
+      step : (b : Bool) → nat_eq (suc last) (length tokens) ≡ b
+          → from (suc last) + length (cond b (gap_text start tokens (length tokens)) (final_newline skips)) ≤ length start
+      step true e = let same : suc last ≡ length tokens =
+          eqb-true (suc last) (length tokens) e in omega (arith, ap from same, trailing (length tokens) (omega arith))
       step false e =
           let apart = eqb-false (suc last) (length tokens) e in
           let next : suc last + 1 ≡ suc (suc last) = omega arith in
           omega (arith, one_newline skips, runs.long (suc last) 1 (omega (arith, h, apart)), runs.within (suc last + 1) (omega (arith, h, apart)))
   rest last (i ∷ kept) h (low, below, more) = step (rest i kept below more) (nat_eq i (suc last)) refl
     where
-      step : from (suc i) + text_len (Some i) kept ≤ length start → (b : Bool) → nat_eq i (suc last) ≡ b → from (suc last) + length (cond b (gap_text start tokens i) (separator skips (gap_text start tokens i)) ++ (spelling_at start tokens i ++ printed_after skips start tokens Style.AsWas (Some i) kept)) ≤ length start
+      step : from (suc i) + text_len (Some i) kept ≤ length start → (b : Bool) → nat_eq i (suc last) ≡ b
+          → from (suc last) + length (cond b (gap_text start tokens i) (separator skips (gap_text start tokens i))
+          ++ (spelling_at start tokens i ++ printed_after skips start tokens Style.AsWas (Some i) kept)) ≤ length start
       step later true e =
           let same : i ≡ suc last = eqb-true i (suc last) e in
-          omega (arith, ap from same, leads i below, later, length-append (gap_text start tokens i) (spelling_at start tokens i ++ printed_after skips start tokens Style.AsWas (Some i) kept), length-append (spelling_at start tokens i) (printed_after skips start tokens Style.AsWas (Some i) kept))
+          omega (
+            arith,
+            ap from same,
+            leads i below,
+            later,
+            length-append (gap_text start tokens i) (spelling_at start tokens i ++ printed_after skips start tokens Style.AsWas (Some i) kept),
+            length-append (spelling_at start tokens i) (printed_after skips start tokens Style.AsWas (Some i) kept),
+          )
       step later false e =
           let apart = eqb-false i (suc last) e in
           let far : suc last + (i - suc last) ≡ i = omega (arith, low) in
@@ -93,7 +105,8 @@ module _ (skips : Skips) (start : List ℕ) (tokens : List PlacedToken) (runs : 
             ap from far,
             leads i below,
             later,
-            length-append (separator skips (gap_text start tokens i)) (spelling_at start tokens i ++ printed_after skips start tokens Style.AsWas (Some i) kept),
+            length-append (separator skips (gap_text start tokens i))
+                (spelling_at start tokens i ++ printed_after skips start tokens Style.AsWas (Some i) kept),
             length-append (spelling_at start tokens i) (printed_after skips start tokens Style.AsWas (Some i) kept),
           )
 
@@ -101,12 +114,26 @@ module _ (skips : Skips) (start : List ℕ) (tokens : List PlacedToken) (runs : 
   all [] c = omega arith
   all (i ∷ kept) (low, below, more) = step (nat_eq i 0) refl
     where
-      step : (b : Bool) → nat_eq i 0 ≡ b → length (cond b (gap_text start tokens i) [] ++ (spelling_at start tokens i ++ printed_after skips start tokens Style.AsWas (Some i) kept)) ≤ length start
+      step : (b : Bool) → nat_eq i 0 ≡ b → length
+          (cond b (gap_text start tokens i) [] ++ (spelling_at start tokens i ++ printed_after skips start tokens Style.AsWas (Some i) kept)) ≤ length start
       step true e =
-          omega (arith, leads i below, rest i kept below more, length-append (gap_text start tokens i) (spelling_at start tokens i ++ printed_after skips start tokens Style.AsWas (Some i) kept), length-append (spelling_at start tokens i) (printed_after skips start tokens Style.AsWas (Some i) kept))
-      step false e = omega (arith, leads i below, rest i kept below more, length-append (spelling_at start tokens i) (printed_after skips start tokens Style.AsWas (Some i) kept))
+          omega (
+            arith,
+            leads i below,
+            rest i kept below more,
+            length-append (gap_text start tokens i) (spelling_at start tokens i ++ printed_after skips start tokens Style.AsWas (Some i) kept),
+            length-append (spelling_at start tokens i) (printed_after skips start tokens Style.AsWas (Some i) kept),
+          )
+      step false e =
+          omega (
+            arith,
+            leads i below,
+            rest i kept below more,
+            length-append (spelling_at start tokens i) (printed_after skips start tokens Style.AsWas (Some i) kept),
+          )
 
 pub than_start : NoLongerThanStart
 than_start G skips start [] kept utf8 has are = omega arith
 than_start G skips start (t ∷ tokens) kept utf8 has are =
-    all skips start (t ∷ tokens) (are_runs G start (t ∷ tokens) utf8 has) kept (climbs 0 (length (t ∷ tokens)) kept are.rise are.there (λ i rest e. omega arith))
+    all skips start (t ∷ tokens) (are_runs G start (t ∷ tokens) utf8 has) kept
+    (climbs 0 (length (t ∷ tokens)) kept are.rise are.there (λ i rest e. omega arith))

@@ -14,12 +14,14 @@ same_answer true false p q = sym (q.1 (p.0 refl))
 same_answer false true p q = p.1 (q.0 refl)
 same_answer false false p q = refl
 
-same_skips : (G : WrittenGrammar) (skips others : Skips) → AreSkipped G skips → AreSkipped G others → skips ≡ others
+pub same_skips : (G : WrittenGrammar) (skips others : Skips) → AreSkipped G skips → AreSkipped G others → skips ≡ others
 same_skips G skips others a b =
-    ap₂ (λ n s. record { newline = n; space = s }) (same_answer skips.newline others.newline a.newline b.newline) (same_answer skips.space others.space a.space b.space)
+    ap₂ (λ n s. record { newline = n; space = s }) (same_answer skips.newline others.newline a.newline b.newline)
+    (same_answer skips.space others.space a.space b.space)
 
 pub one_way : PrintedOneWay
-one_way G start tokens kept style text other a b = a.same ∙ ap (λ s. printed s start tokens kept style) (same_skips G a.skips b.skips a.agree b.agree) ∙ sym b.same
+one_way G start tokens kept style text other a b =
+    a.same ∙ ap (λ s. printed s start tokens kept style) (same_skips G a.skips b.skips a.agree b.agree) ∙ sym b.same
 
 skipped : (G : WrittenGrammar) (rule : ℕ) → IsWellFormed G rule → AreSkipped G (skips_in G)
 skipped G rule formed = record { newline = gaps_are G rule formed 10; space = gaps_are G rule formed 32 }

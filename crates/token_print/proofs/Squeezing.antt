@@ -43,20 +43,30 @@ module _ (skips : Skips) (start : List ℕ) (tokens : List PlacedToken) where
       high : low + suc m ≡ (low + 1) + m
       high = omega arith
 
-      step : ((others : List ℕ) → Climbs (low + 1) ((low + 1) + m) others → length (tail others) ≤ length (tail (range_with_len (low + 1) m))) → (i ≡ low) ⊎ (i ≡ low → ⊥) → length (tail (i ∷ kept)) ≤ length (tail (low ∷ range_with_len (low + 1) m))
+      step : ((others : List ℕ) → Climbs (low + 1) ((low + 1) + m) others → length (tail others) ≤ length (tail (range_with_len (low + 1) m))) → (i ≡ low)
+          ⊎ (i ≡ low → ⊥) → length (tail (i ∷ kept)) ≤ length (tail (low ∷ range_with_len (low + 1) m))
       step later (inl same) =
           let next : suc i ≡ low + 1 = omega (arith, same) in
           let P : ℕ → Type 0 = λ n. Climbs (suc i) n kept in
           let Q : ℕ → Type 0 = λ n. Climbs n ((low + 1) + m) kept in
-          omega (arith, longer i kept, longer low (range_with_len (low + 1) m), ap (λ k. length (gap k)) same, ap (λ k. length (word k)) same, later kept (subst Q next (subst P high more)))
+          omega (
+            arith,
+            longer i kept,
+            longer low (range_with_len (low + 1) m),
+            ap (λ k. length (gap k)) same,
+            ap (λ k. length (word k)) same,
+            later kept (subst Q next (subst P high more)),
+          )
       step later (inr apart) =
           let P : ℕ → Type 0 = λ n. Climbs (suc i) n kept in
           omega (arith, longer low (range_with_len (low + 1) m), later (i ∷ kept) (omega (arith, from, apart), omega (arith, below), subst P high more))
 
   first : (i : ℕ) (kept : List ℕ) → length (printed_after skips start tokens Style.Squeezed None (i ∷ kept)) ≡ length (word i) + length (tail kept)
-  first i kept = let later = printed_after skips start tokens Style.Squeezed (Some i) kept in omega (arith, length-append (word i) later, ap length (any_last i kept))
+  first i kept = let later =
+      printed_after skips start tokens Style.Squeezed (Some i) kept in omega (arith, length-append (word i) later, ap length (any_last i kept))
 
-  all : (m : ℕ) (kept : List ℕ) → Climbs 0 m kept → length (printed_after skips start tokens Style.Squeezed None kept) ≤ length (printed_after skips start tokens Style.Squeezed None (range_with_len 0 m))
+  all : (m : ℕ) (kept : List ℕ) → Climbs 0 m kept
+      → length (printed_after skips start tokens Style.Squeezed None kept) ≤ length (printed_after skips start tokens Style.Squeezed None (range_with_len 0 m))
   all m [] c = omega arith
   all zero (i ∷ kept) (from, below, more) = absurd (omega (arith, below))
   all (suc m) (i ∷ kept) (from, below, more) = step (cases_eq i 0)
@@ -64,7 +74,8 @@ module _ (skips : Skips) (start : List ℕ) (tokens : List PlacedToken) where
       high : suc m ≡ 1 + m
       high = omega arith
 
-      step : (i ≡ 0) ⊎ (i ≡ 0 → ⊥) → length (printed_after skips start tokens Style.Squeezed None (i ∷ kept)) ≤ length (printed_after skips start tokens Style.Squeezed None (0 ∷ range_with_len 1 m))
+      step : (i ≡ 0) ⊎ (i ≡ 0 → ⊥) → length (printed_after skips start tokens Style.Squeezed None (i ∷ kept)) ≤ length
+          (printed_after skips start tokens Style.Squeezed None (0 ∷ range_with_len 1 m))
       step (inl same) =
           let next : suc i ≡ 1 = omega (arith, same) in
           let P : ℕ → Type 0 = λ n. Climbs (suc i) n kept in
@@ -72,7 +83,13 @@ module _ (skips : Skips) (start : List ℕ) (tokens : List PlacedToken) where
           omega (arith, first i kept, first 0 (range_with_len 1 m), ap (λ k. length (word k)) same, tails m 1 kept (subst Q next (subst P high more)))
       step (inr apart) =
           let P : ℕ → Type 0 = λ n. Climbs (suc i) n kept in
-          omega (arith, first i kept, first 0 (range_with_len 1 m), longer i kept, tails m 1 (i ∷ kept) (omega (arith, apart), omega (arith, below), subst P high more))
+          omega (
+            arith,
+            first i kept,
+            first 0 (range_with_len 1 m),
+            longer i kept,
+            tails m 1 (i ∷ kept) (omega (arith, apart), omega (arith, below), subst P high more),
+          )
 
 pub than_all : NoLongerThanAll
 than_all skips start tokens kept are = all skips start tokens (length tokens) kept (climbs 0 (length tokens) kept are.rise are.there (λ i rest e. omega arith))

@@ -1,5 +1,6 @@
 -- The kept tokens are written one after another.
-use Rattle.std.proofs.Common.{◌≡◌, ℕ, suc, ◌+◌, ◌<◌, ◌≤◌, List, [], ◌++◌, Option, Some, None, drop, slice_index_or, length, sym, ap, ap₂, ◌∙◌, arith, append_assoc, ◌-◌, ◌^◌}
+use Rattle.std.proofs.Common.{◌≡◌, ℕ, suc, ◌+◌, ◌<◌, ◌≤◌, List, [], ◌++◌, Option, Some, None, drop}
+use Rattle.std.proofs.Common.{slice_index_or, length, sym, ap, ap₂, ◌∙◌, arith, append_assoc, ◌^◌}
 use Rattle.std.proofs.Math.Seq.{drop-cons}
 use Rattle.std.proofs.lemmas.List.{drop_all}
 use Rattle.grammar_tree.specs.Lexes.{PlacedToken}
@@ -33,11 +34,13 @@ module _ (skips : Skips) (start : List ℕ) (tokens : List PlacedToken) (style :
       ∙ ap (λ l. written ++ printed_after skips start tokens style last l) (sym (drop-cons kept i 0 h))
       ∙ is
 
-  pub done : (written whole : List ℕ) (last : Option ℕ) (i : ℕ) → length kept ≤ i → whole ≡ written ++ after skips start tokens style last → IsWritten written last i → whole ≡ printed_after skips start tokens style None kept
+  pub done : (written whole : List ℕ) (last : Option ℕ) (i : ℕ) → length kept ≤ i → whole ≡ written ++ after skips start tokens style last
+      → IsWritten written last i → whole ≡ printed_after skips start tokens style None kept
   done written whole last i h e is =
       e ∙ ap (λ l. written ++ printed_after skips start tokens style last l) (sym (drop_all i kept h)) ∙ is
 
   -- what is counted, and what has to follow, is the whole length, where it is no more than can be counted
   abbrev pub IsCounted : ℕ → Option ℕ → ℕ → Type 0
   IsCounted size last i =
-      length (printed_after skips start tokens style None kept) < 2 ^ 64 → size + length (printed_after skips start tokens style last (drop i kept)) ≡ length (printed_after skips start tokens style None kept)
+      length (printed_after skips start tokens style None kept) < 2 ^ 64
+      → size + length (printed_after skips start tokens style last (drop i kept)) ≡ length (printed_after skips start tokens style None kept)

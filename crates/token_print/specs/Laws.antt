@@ -27,25 +27,33 @@ skips_in G = record { newline = is_gap G 10; space = is_gap G 32 }
 
 -- In a well-formed grammar the texts that are printed are so.
 abbrev pub PrintedWithSkips : Type 0
-PrintedWithSkips = (G : WrittenGrammar) (rule : ℕ) → IsWellFormed G rule → (start : List ℕ) (tokens : List PlacedToken) (kept : List ℕ) (style : Style) (text : List ℕ) →
+PrintedWithSkips =
+    (G : WrittenGrammar) (rule : ℕ) → IsWellFormed G rule → (start : List ℕ) (tokens : List PlacedToken) (kept : List ℕ) (style : Style) (text : List ℕ) →
     IsPrinted G start tokens kept style text ↔ (text ≡ printed (skips_in G) start tokens kept style)
 
 -- Where all tokens are kept, the text as it was is the start.
 abbrev pub AllKeptIsStart : Type 0
-AllKeptIsStart = (G : WrittenGrammar) (skips : Skips) (start : List ℕ) (tokens : List PlacedToken) → HasTokens G (chars start) tokens → printed skips start tokens (all_kept tokens) Style.AsWas ≡ start
+AllKeptIsStart =
+    (G : WrittenGrammar) (skips : Skips) (start : List ℕ) (tokens : List PlacedToken) → HasTokens G (chars start) tokens
+    → printed skips start tokens (all_kept tokens) Style.AsWas ≡ start
 
 -- The start keeps all of its tokens.
 abbrev pub StartKeepsTokens : Type 0
-StartKeepsTokens = (G : WrittenGrammar) (start : List ℕ) (tokens : List PlacedToken) → IsUtf8 start → HasTokens G (chars start) tokens → KeepsTokens G start tokens (all_kept tokens) start
+StartKeepsTokens =
+    (G : WrittenGrammar) (start : List ℕ) (tokens : List PlacedToken) → IsUtf8 start → HasTokens G (chars start) tokens
+    → KeepsTokens G start tokens (all_kept tokens) start
 
 -- A text that keeps tokens has tokens of their kinds, in their order.
 abbrev pub KeptKinds : Type 0
 KeptKinds = (G : WrittenGrammar) (start : List ℕ) (tokens : List PlacedToken) (kept : List ℕ) (text : List ℕ) → KeepsTokens G start tokens kept text →
-    (found : List PlacedToken) × HasTokens G (chars text) found × (map (λ (t : PlacedToken). t.kind) found ≡ map (λ (t : PlacedToken). t.kind) (filter_map (slice_get tokens) kept))
+    (found : List PlacedToken) × HasTokens G (chars text) found
+    × (map (λ (t : PlacedToken). t.kind) found ≡ map (λ (t : PlacedToken). t.kind) (filter_map (slice_get tokens) kept))
 
 -- As it was, no text is longer than the start.
 abbrev pub NoLongerThanStart : Type 0
-NoLongerThanStart = (G : WrittenGrammar) (skips : Skips) (start : List ℕ) (tokens : List PlacedToken) (kept : List ℕ) → IsUtf8 start → HasTokens G (chars start) tokens → AreKept tokens kept →
+NoLongerThanStart =
+    (G : WrittenGrammar) (skips : Skips) (start : List ℕ) (tokens : List PlacedToken) (kept : List ℕ) → IsUtf8 start → HasTokens G (chars start) tokens
+    → AreKept tokens kept →
     length (printed skips start tokens kept Style.AsWas) ≤ length start
 
 -- Squeezed, no text is longer than that of all tokens.

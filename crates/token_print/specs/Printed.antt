@@ -17,14 +17,17 @@ abbrev pub final_newline : Skips → List ℕ
 final_newline skips = cond skips.newline (10 ∷ []) []
 
 module _ (skips : Skips) (start : List ℕ) (tokens : List PlacedToken) where
-  -- What is printed before a kept token, after the kept token before it. Squeezed, nothing is printed before the first one, and its separator before each other one. As it was, its own gap is printed where it follows the token before it in the start, or is the first of all; else its separator, or nothing where it is the first one that is kept.
+  -- What is printed before a kept token, after the kept token before it. Squeezed, nothing is printed before the first one,
+  -- and its separator before each other one. As it was, its own gap is printed where it follows the token before it in the
+  -- start, or is the first of all; else its separator, or nothing where it is the first one that is kept.
   abbrev pub before : Style → Option ℕ → ℕ → List ℕ
   before Style.Squeezed None i = []
   before Style.Squeezed (Some last) i = separator skips (gap_text start tokens i)
   before Style.AsWas None i = cond (nat_eq i 0) (gap_text start tokens i) []
   before Style.AsWas (Some last) i = cond (nat_eq i (suc last)) (gap_text start tokens i) (separator skips (gap_text start tokens i))
 
-  -- What is printed after the last kept token. Nothing where none is kept; as it was, the trailing gap where the token is the last of all; else a newline where newlines are skipped.
+  -- What is printed after the last kept token. Nothing where none is kept; as it was, the trailing
+  -- gap where the token is the last of all; else a newline where newlines are skipped.
   abbrev pub after : Style → Option ℕ → List ℕ
   after Style.Squeezed None = []
   after Style.Squeezed (Some last) = final_newline skips

@@ -9,7 +9,8 @@ use lexer::Tokens;
 /// Whether the number at the index is below the bound, and below the one after it.
 fn is_next(bound: usize, kept: &[u32], index: usize) -> bool
     requires { index < length kept.now }
-    ensures { IsTrue result ↔ ((slice_index kept.now index < bound) × (index + 1 < length kept.now → slice_index kept.now index < slice_index kept.now (index + 1))) }
+    ensures { IsTrue result ↔ ((slice_index kept.now index < bound)
+        × (index + 1 < length kept.now → slice_index kept.now index < slice_index kept.now (index + 1))) }
 {
     let number = kept[index];
     let rises = index + 1 >= kept.len() || number < kept[index + 1];

@@ -1,12 +1,14 @@
 //! What is printed before, between and after the kept tokens of a start.
 
-ghost use Rattle.std.specs.Prelude.{◌≡◌, ℕ, ◌<◌, ◌≤◌, ◌^◌, suc, nat_eq, true, false, cond, List, [], None, IfOk, length, map, string_bytes};
+ghost use Rattle.std.specs.Prelude.{◌≡◌, ℕ, ◌<◌, ◌≤◌, ◌^◌, suc, nat_eq, true, false, cond, List, [], ◌∷◌, None, IfOk, length, map, string_bytes};
 ghost use Rattle.std.specs.List.{All};
 ghost use Rattle.lexer.specs.Tokens.{token_of};
 ghost use Rattle.token_laws.specs.Laws.{AreInOrder};
 ghost use Rattle.token_laws.specs.Spelling.{gap_end, gap_start, gap_text, spelling_at};
 ghost use Rattle.token_print.specs.Printed.{after, before, final_newline, printed, printed_after, separator};
+ghost use Rattle.token_print.specs.Runs.{run_at, run_from, run_limit, run_to, runs, runs_at, stretches};
 
+use crate::runs::Run;
 use crate::spelling::spelling;
 use crate::style::{Skips, Style};
 use faults::Memory;
@@ -52,7 +54,7 @@ fn between(skips: Skips, gap: &str, last: u32, index: u32) -> &str
 }
 
 /// A start with its tokens, and how it is printed.
-#[derive(Drop)]
+#[derive(Clone, Copy)]
 pub(crate) struct Layout<'a> {
     pub(crate) start: &'a str,
     pub(crate) tokens: &'a [Token],
@@ -122,7 +124,8 @@ impl<'a> Layout<'a> {
     /// What is printed as it was after the last kept token.
     fn trailing(&self, last: u32) -> &'a str
         requires order { AreInOrder self.now.start.now (map token_of self.now.tokens.now) }
-        ensures { result.now ≡ cond (nat_eq (suc last) (length self.now.tokens.now)) (gap_text self.now.start.now (map token_of self.now.tokens.now) (length self.now.tokens.now)) (final_newline self.now.skips) }
+        ensures { result.now ≡ cond (nat_eq (suc last) (length self.now.tokens.now))
+            (gap_text self.now.start.now (map token_of self.now.tokens.now) (length self.now.tokens.now)) (final_newline self.now.skips) }
     {
         let count = self.tokens.len();
         if last as usize + 1 == count {
@@ -166,7 +169,8 @@ impl<'a> Layout<'a> {
     fn kept_text(&self, alloc: Global, kept: &[u32]) -> Result<String, Memory>
         requires kept { All (λ i. i < length self.now.tokens.now) kept.now }
         requires order { AreInOrder self.now.start.now (map token_of self.now.tokens.now) }
-        ensures { IfOk result (λ text. string_bytes text ≡ printed_after self.now.skips self.now.start.now (map token_of self.now.tokens.now) self.now.style None kept.now) }
+        ensures { IfOk result (λ text. string_bytes text ≡ printed_after self.now.skips self.now.start.now
+            (map token_of self.now.tokens.now) self.now.style None kept.now) }
     {
         let mut text = String::with_capacity(alloc, self.size(kept))?;
         let mut last = None;
@@ -180,10 +184,16 @@ impl<'a> Layout<'a> {
     }
 
     /// Whether the start is printed whole, as it has no tokens.
-    fn is_whole(&self) -> bool
-        ensures whole { result ≡ true → (kept : List ℕ) → printed self.now.skips self.now.start.now (map token_of self.now.tokens.now) kept self.now.style ≡ self.now.start.now }
+    pub(crate) fn is_whole(&self) -> bool
+        ensures whole { result ≡ true → (kept : List ℕ)
+            → printed self.now.skips self.now.start.now (map token_of self.now.tokens.now) kept self.now.style ≡ self.now.start.now }
         ensures kept { result ≡ false → (kept : List ℕ) → printed self.now.skips self.now.start.now (map token_of self.now.tokens.now) kept self.now.style
             ≡ printed_after self.now.skips self.now.start.now (map token_of self.now.tokens.now) self.now.style None kept }
+        ensures whole_run { result ≡ true → (kept : List ℕ)
+            → runs self.now.skips self.now.start.now (map token_of self.now.tokens.now) kept self.now.style
+            ≡ record { at = 0; from = 0; to = length self.now.start.now; limit = suc (length self.now.start.now) } ∷ [] }
+        ensures runs { result ≡ false → (kept : List ℕ) → runs self.now.skips self.now.start.now (map token_of self.now.tokens.now) kept self.now.style
+            ≡ runs_at self.now.skips self.now.start.now (map token_of self.now.tokens.now) self.now.style 0 (stretches self.now.style kept) }
     {
         match self.style {
             Style::AsWas => self.tokens.is_empty(),
@@ -191,11 +201,83 @@ impl<'a> Layout<'a> {
         }
     }
 
+    /// How many bytes are printed between two runs, by the first token of the later one.
+    pub(crate) fn separator_size(&self, index: u32) -> usize
+        requires index { index < length self.now.tokens.now }
+        requires order { AreInOrder self.now.start.now (map token_of self.now.tokens.now) }
+        ensures { result ≡ length (separator self.now.skips (gap_text self.now.start.now (map token_of self.now.tokens.now) index)) }
+    {
+        separator(self.skips, self.gap(index as usize)).len()
+    }
+
+    /// The run that is the whole start, where it is printed whole.
+    pub(crate) fn whole_run(&self) -> Run
+        requires { length self.now.start.now < 2 ^ 32 }
+        ensures { result ≡ record { at = 0; from = 0; to = length self.now.start.now; limit = suc (length self.now.start.now) } }
+    {
+        Run {
+            at: 0,
+            from: 0,
+            to: self.start.len(),
+            limit: self.start.len() + 1,
+        }
+    }
+
+    /// Where the run that begins with this token begins in the start.
+    fn run_start(&self, first: u32) -> usize
+        ensures { result ≡ run_from self.now.skips self.now.start.now (map token_of self.now.tokens.now) self.now.style first }
+    {
+        match self.style {
+            Style::AsWas if first == 0 => 0,
+            _ => self.gap_end(first as usize),
+        }
+    }
+
+    /// Whether the run that ends with this token has the trailing gap.
+    fn trails(&self, last: u32) -> bool
+        ensures to { run_to self.now.skips self.now.start.now (map token_of self.now.tokens.now) self.now.style last ≡ cond result (length self.now.start.now)
+            (gap_start self.now.start.now (map token_of self.now.tokens.now) (suc last)) }
+        ensures limit { run_limit self.now.skips self.now.start.now (map token_of self.now.tokens.now) self.now.style last ≡ cond result
+            (suc (length self.now.start.now)) (gap_start self.now.start.now (map token_of self.now.tokens.now) (suc last)) }
+    {
+        match self.style {
+            Style::AsWas => last as usize + 1 == self.tokens.len(),
+            Style::Squeezed => false,
+        }
+    }
+
+    /// The run of the tokens with the numbers from the first up to the last, which begins there in the
+    /// text.
+    pub(crate) fn run(&self, at: usize, first: u32, last: u32) -> Run
+        requires order { AreInOrder self.now.start.now (map token_of self.now.tokens.now) }
+        requires last { last < length self.now.tokens.now }
+        requires small { length self.now.start.now < 2 ^ 32 }
+        ensures { result ≡ run_at self.now.skips self.now.start.now (map token_of self.now.tokens.now) self.now.style at (first, last) }
+    {
+        let from = self.run_start(first);
+        if self.trails(last) {
+            return Run {
+                at,
+                from,
+                to: self.start.len(),
+                limit: self.start.len() + 1,
+            };
+        }
+        let to = self.gap_start(last as usize + 1);
+        Run {
+            at,
+            from,
+            to,
+            limit: to,
+        }
+    }
+
     /// The text of the kept tokens.
     pub(crate) fn text(&self, alloc: Global, kept: &[u32]) -> Result<String, Memory>
         requires kept { All (λ i. i < length self.now.tokens.now) kept.now }
         requires order { AreInOrder self.now.start.now (map token_of self.now.tokens.now) }
-        ensures { IfOk result (λ text. string_bytes text ≡ printed self.now.skips self.now.start.now (map token_of self.now.tokens.now) kept.now self.now.style) }
+        ensures { IfOk result (λ text. string_bytes text ≡ printed self.now.skips self.now.start.now
+            (map token_of self.now.tokens.now) kept.now self.now.style) }
     {
         if self.is_whole() {
             let text = String::from_str(alloc, self.start)?;

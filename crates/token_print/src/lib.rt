@@ -4,17 +4,25 @@
 //! `printed` in `specs/Printed.antt` first, then `KeepsTokens` in `specs/Kept.antt`; `specs/Laws.antt`
 //! has what is known of printed texts. All tokens as they were give the start itself
 //! ([`all_kept_is_start`]).
+//!
+//! [`keeps_printed`] answers the same of a printed text, and reads only what isn't carried over from the
+//! start: a printed text is made of runs that are as they are in the start (`runs`; `specs/Runs.antt`),
+//! and a piece in a run that has all that it has seen comes again (`joins`).
 #![tactic(auto)]
 
+mod joins;
 mod keeps;
 mod kept_numbers;
 mod laws;
 mod layout;
 mod print_kept;
+mod runs;
+mod same;
 mod spelling;
 mod style;
 
 pub use faults::Memory;
+pub use joins::keeps_printed;
 pub use keeps::keeps_tokens;
 pub use kept_numbers::are_kept;
 pub use laws::{
@@ -22,4 +30,5 @@ pub use laws::{
     printed_with_skips, start_keeps_tokens, worked_texts,
 };
 pub use print_kept::print;
+pub use runs::Run;
 pub use style::{Skips, Style};

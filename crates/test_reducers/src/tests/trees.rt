@@ -30,6 +30,6 @@ pub(crate) fn parts_of<'a>(
         lexer,
         tree,
     } = found;
-    let parts = TreeParts::new(text, tokens, lexer, compat, tree, guard, false);
+    let parts = TreeParts::new(text, tokens, lexer, compat, tree, guard, false)?;
     Ok(Some(parts))
 }

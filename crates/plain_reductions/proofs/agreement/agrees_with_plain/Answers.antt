@@ -1,4 +1,3 @@
-use Rattle.std.specs.Prelude.{string_bytes}
 use Rattle.reduce_trees_mode.specs.InputOf.{input_of}
 use Rattle.plain_reducer.specs.Results.{result_of}
 use Rattle.plain_reducer.specs.Verdicts.{verdicts_by}
@@ -11,7 +10,7 @@ returns-in-Perses g c =
     let parts = c.args.parts.now in
     let rule = c.args.rule in
     in_present Perses c.args.mode (verdicts_by rule.start.now rule.seed)
-    (input_of parts.lexer parts.formed parts.tree (string_bytes parts.start) parts.tokens.items.items (g.F.Relation.admits parts.guard) parts.squeezes)
+    (input_of parts.start.grammar parts.formed parts.tree parts.start.bytes parts.tokens.items.items (g.F.Relation.admits parts.guard) parts.squeezes)
     (result_of c.args.plain.now) c.is_perses.result c.in-Perses.is c.is_perses.ensures
 
 pub returns-in-Hdd : goal.returns-in-Hdd
@@ -19,5 +18,5 @@ returns-in-Hdd g c =
     let parts = c.args.parts.now in
     let rule = c.args.rule in
     in_present Hdd c.args.mode (verdicts_by rule.start.now rule.seed)
-    (input_of parts.lexer parts.formed parts.tree (string_bytes parts.start) parts.tokens.items.items (g.F.Relation.admits parts.guard) parts.squeezes)
+    (input_of parts.start.grammar parts.formed parts.tree parts.start.bytes parts.tokens.items.items (g.F.Relation.admits parts.guard) parts.squeezes)
     (result_of c.args.plain.now) c.is_hdd.result c.in-Hdd.is c.is_hdd.ensures

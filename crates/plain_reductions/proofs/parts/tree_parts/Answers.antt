@@ -5,5 +5,5 @@ use Rattle.plain_reductions.proofs.parts.tree_parts.Goals as goal
 
 pub returns : goal.returns
 returns c = λ formed.
-    c.new-2.ensures formed ∙ ap (λ (keeps : List (List ℕ)). tree_input c.args.found formed (keeps_admit keeps) c.args.squeezes)
+    c.in_ok-parts.ensures formed ∙ ap (λ (keeps : List (List ℕ)). tree_input c.args.found formed (keeps_admit keeps) c.args.squeezes)
     (c.new-guard.ensures ∙ c.new.ensures)

@@ -1,5 +1,4 @@
 use Rattle.std.proofs.Common.{◌≡◌, ◌∙◌, ap, sym, length, vec_len, arith, rules}
-use Rattle.std.specs.Prelude.{string_bytes}
 use Rattle.std.proofs.lemmas.List.{length-map}
 use Rattle.lexer.specs.Tokens.{token_of}
 use Rattle.reduce_rounds.specs.RoundsPlan.{plan_first}
@@ -24,15 +23,15 @@ pub new-requires-2-clause-text : goal.new-requires-2-clause-text
 new-requires-2-clause-text g c =
     let parts = c.args.parts.now in
     let input =
-    input_of parts.lexer parts.formed parts.tree (string_bytes parts.start) parts.tokens.items.items (g.F.Relation.admits parts.guard) parts.squeezes in
-    let bytes : c.in_ok-text.text.items ≡ string_bytes c.args.parts.now.start = search rules in
+    input_of parts.start.grammar parts.formed parts.tree parts.start.bytes parts.tokens.items.items (g.F.Relation.admits parts.guard) parts.squeezes in
+    let bytes : c.in_ok-text.text.items ≡ c.args.parts.now.start.bytes = search rules in
     bytes ∙ sym (c.whole_is_start.ensures input c.is_input.ensures.is).text
     ∙ ap (λ (other : TreeInput). text_of_state other (in_style Style.AsWas other.whole)) (sym c.in_ok-round.ensures.input)
 
 pub new-requires-2-clause-units : goal.new-requires-2-clause-units
 new-requires-2-clause-units g c =
     let parts = c.args.parts.now in
-    let input = input_of parts.lexer parts.formed parts.tree (string_bytes parts.start) parts.tokens.items.items
+    let input = input_of parts.start.grammar parts.formed parts.tree parts.start.bytes parts.tokens.items.items
     (g.F.Relation.admits parts.guard) parts.squeezes in
     let tokens = c.args.parts.now.tokens.items in
     let many : vec_len tokens ≡ length tokens.items = omega (arith, tokens.ok.0) in

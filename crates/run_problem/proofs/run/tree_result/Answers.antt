@@ -1,5 +1,4 @@
 use Rattle.std.proofs.Common.{ap, sym, subst}
-use Rattle.std.specs.Prelude.{string_bytes}
 use Rattle.keep_guard.specs.Keep.{keeps_admit}
 use Rattle.reduce_trees_mode.specs.Input.{TreeInput}
 use Rattle.reduce_trees_mode.specs.InputOf.{input_of}
@@ -31,7 +30,7 @@ pub returns-in-Ok-clause-problem : goal.returns-in-Ok-clause-problem
 returns-in-Ok-clause-problem g c keeps admits =
     let parts = c.args.parts.now in
     let input : TreeInput =
-    input_of parts.lexer parts.formed parts.tree (string_bytes parts.start) parts.tokens.items.items (keeps_admit parts.guard) parts.squeezes in
+    input_of parts.start.grammar parts.formed parts.tree parts.start.bytes parts.tokens.items.items (keeps_admit parts.guard) parts.squeezes in
     let run : Run =
     run_of g.G.Gate.log g.G.Gate.faults g.J.Sink.put_so_far g.J.Sink.faults c.args.workers.now c.walk_result.new.workers c.args.journal c.walk_result.result in
     subst (λ (mode : TreeMode). IsRunOf keeps (Problem.of_tree mode input) run) (sym c.in-Perses.is)
@@ -59,7 +58,7 @@ returns-in-Err-hdd_reducer-clause-problem g c keeps admits =
 pub returns-in-Ok-hdd_reducer-clause-problem : goal.returns-in-Ok-hdd_reducer-clause-problem
 returns-in-Ok-hdd_reducer-clause-problem g c keeps admits =
     let parts = c.args.parts.now in
-    let input : TreeInput = input_of parts.lexer parts.formed parts.tree (string_bytes parts.start) parts.tokens.items.items
+    let input : TreeInput = input_of parts.start.grammar parts.formed parts.tree parts.start.bytes parts.tokens.items.items
     (keeps_admit parts.guard) parts.squeezes in
     let run : Run =
     run_of g.G.Gate.log g.G.Gate.faults g.J.Sink.put_so_far g.J.Sink.faults c.args.workers.now c.walk_result-in-Ok-hdd_reducer.new.workers c.args.journal

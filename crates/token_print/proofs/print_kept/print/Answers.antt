@@ -9,7 +9,8 @@ use Rattle.token_print.proofs.print_kept.print.Goals as goal
 pub text-requires-clause-order : goal.text-requires-clause-order
 text-requires-clause-order c =
     let P : List Token → Type 0 = λ ts. AreInOrder c.args.start.now (map token_of ts) in
-    subst P (sym c.deref.ensures.value) (c.tokens_are_in_order.ensures c.args.lexer.now.grammar c.args.start.now (map token_of c.args.tokens.now.items.items) c.utf8.start c.requires.tokens)
+    subst P (sym c.deref.ensures.value) (c.tokens_are_in_order.ensures c.args.lexer.now.grammar c.args.start.now
+    (map token_of c.args.tokens.now.items.items) c.utf8.start c.requires.tokens)
 
 pub returns-clause-utf8 : goal.returns-clause-utf8
 returns-clause-utf8 c =

@@ -1,5 +1,4 @@
 use Rattle.std.proofs.Common.{ap, subst}
-use Rattle.std.specs.Prelude.{string_bytes}
 use Rattle.std.specs.Str.{IsUtf8}
 use Rattle.grammar_tree.specs.Written.{CheckedGrammar}
 use Rattle.grammar_tree.specs.Checked.{IsChecked}
@@ -11,8 +10,7 @@ pub returns-clause-is : goal.returns-clause-is
 returns-clause-is g c =
     let parts = c.args.self.now in
     let input : TreeInput =
-    input_of parts.lexer parts.formed parts.tree (string_bytes parts.start) parts.tokens.items.items (g.F.Relation.admits parts.guard) parts.squeezes in
-    let checked : IsChecked parts.lexer =
+    input_of parts.start.grammar parts.formed parts.tree parts.start.bytes parts.tokens.items.items (g.F.Relation.admits parts.guard) parts.squeezes in
+    let checked : IsChecked parts.start.grammar =
     record { well_formed = parts.formed; numbered = ap (λ (grammar : CheckedGrammar). grammar.kinds) parts.together.kinds; small = parts.together.small } in
-    (c.parts_join.ensures input).is checked (subst IsUtf8 c.as_str-text.ensures.value c.as_str-text.utf8) c.nodes-nodes.ensures.whole.whole
-    parts.together.joined
+    (c.parts_join.ensures input).is checked (subst IsUtf8 c.text-text.ensures c.text-text.utf8) c.nodes-nodes.ensures.whole.whole parts.together.joined

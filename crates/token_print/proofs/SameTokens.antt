@@ -20,7 +20,7 @@ module _ (text : List ℕ) (start : List ℕ) (tokens : List Token) where
   abbrev pub kept_one : ℕ → Piece
   kept_one i = kind_and_spelling start (token_of (slice_index_or tokens i no_token))
 
-  all_kept : (kept : List ℕ) → All (λ i. i < length tokens) kept → kinds_and_spellings start (map token_of tokens) kept ≡ map kept_one kept
+  pub all_kept : (kept : List ℕ) → All (λ i. i < length tokens) kept → kinds_and_spellings start (map token_of tokens) kept ≡ map kept_one kept
   all_kept [] all = refl
   all_kept (i ∷ kept) all =
       let P : ℕ → Type 0 = λ n. n < length tokens in
@@ -32,7 +32,8 @@ module _ (text : List ℕ) (start : List ℕ) (tokens : List Token) where
   all_found [] = refl
   all_found (t ∷ found) = ap (λ l. found_one t ∷ l) (all_found found)
 
-  each : (found : List Token) (kept : List ℕ) → length found ≡ length kept → ((k : ℕ) → k < length kept → found_one (slice_index_or found k no_token) ≡ kept_one (slice_index_or kept k 0)) → map found_one found ≡ map kept_one kept
+  each : (found : List Token) (kept : List ℕ) → length found ≡ length kept
+      → ((k : ℕ) → k < length kept → found_one (slice_index_or found k no_token) ≡ kept_one (slice_index_or kept k 0)) → map found_one found ≡ map kept_one kept
   each [] [] e same = refl
   each [] (i ∷ kept) e same = absurd (omega (arith, e))
   each (t ∷ found) [] e same = absurd (omega (arith, e))
@@ -46,7 +47,8 @@ module _ (text : List ℕ) (start : List ℕ) (tokens : List Token) where
     as_lists : AreSame → map found_one found ≡ map kept_one kept
     as_lists same = sym (all_found found) ∙ same ∙ all_kept kept all
 
-    pub all_same : length found ≡ length kept → ((k : ℕ) → k < length kept → found_one (slice_index_or found k no_token) ≡ kept_one (slice_index_or kept k 0)) → AreSame
+    pub all_same : length found ≡ length kept → ((k : ℕ) → k < length kept → found_one (slice_index_or found k no_token) ≡ kept_one (slice_index_or kept k 0))
+        → AreSame
     all_same e same = all_found found ∙ each found kept e same ∙ sym (all_kept kept all)
 
     pub same_length : AreSame → length found ≡ length kept

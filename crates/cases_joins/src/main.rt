@@ -1,0 +1,288 @@
+//! Compares, on all kept lists of small random starts, what is found round the joins with what is found
+//! by cutting the whole text, and prints how often pieces were read. Prints also up to where a text
+//! decides its pieces, for the gate to compare with what a model gave.
+#![tactic(auto)]
+
+ghost use Rattle.std.specs.Prelude.{◌<◌, ◌-◌, ◌^◌, IfOk, MatchOption, ⊤, length, map};
+ghost use Rattle.std.specs.Str.{chars};
+ghost use Rattle.lexer.specs.Pieces.{ArePiecesOf};
+ghost use Rattle.lexer.specs.Tokens.{HasTokens, token_of};
+
+use anyhow::{Result, bail};
+use lexer::{LexFault, LexReader, Lexer, Pieces, Tokens};
+use std::alloc::Global;
+use test_grammars::checked;
+use test_grammars::grammars::{JOINED, STATEMENTS};
+use token_print::{Style, are_kept, keeps_printed, keeps_tokens, print};
+
+/// A comment begins like an operator.
+const COMMENTED: &str =
+    "grammar C; s : ID* ; o : '/' '*' ; ID : [a-z]+ ; C : '/*' .*? '*/' -> skip ; WS : [ \\n]+ -> skip ;";
+
+/// Kept tokens with a space between them are gap text, and they come again from a gap.
+const HASHES: &str =
+    "grammar Z; s : 'a' '-'? 'q' EOF ; Z : 'a q#' -> skip ; H : '#' [a-z]* -> skip ; WS : ' ' -> skip ;";
+
+/// With characters of several bytes, and a token that sees far.
+const ACCENTS: &str =
+    "grammar U; s : ID* ; ID : [aé]+ ; M : '-' ; F : 'a' '-'* 'é' ; SP : ' ' -> skip ;";
+
+/// How many starts are made for a grammar.
+const STARTS: u32 = 200;
+
+/// So many tokens a start has at most of which all kept lists are tried.
+const MOST_TOKENS: usize = 6;
+
+/// Numbers that look random (Knuth's multiplier for 64 bits).
+#[derive(Drop)]
+struct Numbers {
+    state: u64,
+}
+
+impl Numbers {
+    /// A number below the bound, which isn't 0.
+    fn below(&mut self, bound: usize) -> usize
+        requires { 0 < bound }
+    {
+        self.state = self
+            .state
+            .wrapping_mul(6_364_136_223_846_793_005)
+            .wrapping_add(1_442_695_040_888_963_407);
+        (self.state >> 33) as usize % bound
+    }
+}
+
+/// What was counted.
+#[derive(Clone, Copy)]
+struct Counts {
+    /// Kept lists, each in one style.
+    lists: u64,
+
+    /// Those whose text keeps the tokens.
+    kept: u64,
+
+    /// Reads of pieces.
+    reads: u64,
+
+    /// Where the two calls answered differently.
+    wrong: u64,
+}
+
+/// Before anything is counted.
+const NOTHING: Counts = Counts {
+    lists: 0,
+    kept: 0,
+    reads: 0,
+    wrong: 0,
+};
+
+/// The tokens of the text. None where it isn't cut into any.
+fn tokens_of(lexer: &Lexer, text: &str) -> Result<Option<Tokens>>
+    requires { length text.now < 2 ^ 32 - 1 }
+    ensures { IfOk result (λ found. MatchOption found ⊤ (λ tokens. HasTokens lexer.now.grammar (chars text.now) (map token_of tokens.items.items))) }
+{
+    match lexer.lex(text) {
+        Ok(tokens) => Ok(Some(tokens)),
+        Err(LexFault::NoToken { .. }) => Ok(None),
+        Err(LexFault::Memory) => bail!("out of memory"),
+    }
+}
+
+/// The pieces of the text.
+fn pieces_of(lexer: &Lexer, text: &str) -> Result<Pieces>
+    requires { length text.now < 2 ^ 32 - 1 }
+    ensures { IfOk result (ArePiecesOf lexer.now.grammar text.now) }
+{
+    match lexer.pieces(text) {
+        Ok(pieces) => Ok(pieces),
+        Err(fault) => bail!("{fault}"),
+    }
+}
+
+/// A start with its lexer, its tokens and its pieces.
+#[derive(Clone, Copy)]
+struct Start<'a> {
+    alloc: Global,
+    lexer: &'a Lexer,
+    text: &'a str,
+    tokens: &'a Tokens,
+    pieces: &'a Pieces,
+}
+
+/// Counts what both calls answer on the kept tokens in the style.
+fn count(start: &Start, kept: &[u32], style: Style, counts: &mut Counts) -> Result<()>
+    requires small { length start.now.text.now < 2 ^ 32 - 1 }
+    requires tokens { HasTokens start.now.lexer.now.grammar (chars start.now.text.now) (map token_of start.now.tokens.now.items.items) }
+    requires pieces { ArePiecesOf start.now.lexer.now.grammar start.now.text.now start.now.pieces.now }
+{
+    if !are_kept(start.tokens, kept) {
+        bail!("no such tokens: {kept:?}");
+    }
+    let text = print(
+        start.alloc,
+        start.text,
+        start.tokens,
+        start.lexer,
+        kept,
+        style,
+    )?;
+    if text.len() >= u32::MAX as usize {
+        bail!("too long");
+    }
+    let keeps = keeps_tokens(start.text, start.tokens, start.lexer, kept, &text)?;
+    let mut reader = LexReader::new(start.lexer);
+    let found = keeps_printed(
+        start.text,
+        start.pieces,
+        start.tokens,
+        kept,
+        style,
+        &text,
+        &mut reader,
+    )?;
+    counts.lists = counts.lists.saturating_add(1);
+    counts.kept = counts.kept.saturating_add(u64::from(keeps));
+    counts.reads = counts.reads.saturating_add(reader.reads());
+    counts.wrong = counts.wrong.saturating_add(u64::from(keeps != found));
+    Ok(())
+}
+
+/// The numbers below the bound whose bits are set.
+fn numbers_in(alloc: Global, mask: u32, bound: u32) -> Result<Vec<u32>> {
+    let mut numbers = Vec::new(alloc);
+    for number in 0..bound.min(32) {
+        if mask >> number & 1 == 1 {
+            numbers.push(number)?;
+        }
+    }
+    Ok(numbers)
+}
+
+/// Counts on all kept lists of the start, if it is cut into few tokens.
+fn count_start(alloc: Global, lexer: &Lexer, text: &str, counts: &mut Counts) -> Result<()> {
+    if text.len() >= u32::MAX as usize {
+        bail!("too long");
+    }
+    let Some(tokens) = tokens_of(lexer, text)? else {
+        return Ok(());
+    };
+    let pieces = pieces_of(lexer, text)?;
+    let many = tokens.items.len();
+    if many > MOST_TOKENS {
+        return Ok(());
+    }
+    let start = Start {
+        alloc,
+        lexer,
+        text,
+        tokens: &tokens,
+        pieces: &pieces,
+    };
+    for mask in 0..1u32 << many as u32 {
+        let kept = numbers_in(alloc, mask, many as u32)?;
+        count(&start, &kept, Style::AsWas, counts)?;
+        count(&start, &kept, Style::Squeezed, counts)?;
+    }
+    Ok(())
+}
+
+/// A text of up to 10 of the characters.
+fn random_text(alloc: Global, numbers: &mut Numbers, characters: &[char]) -> Result<String> {
+    let mut text = String::new(alloc);
+    for _ in 0..numbers.below(11) {
+        if let Some(c) = characters.get(numbers.below(characters.len().max(1))) {
+            text.push(*c)?;
+        }
+    }
+    Ok(text)
+}
+
+/// The lexer of the grammar that the text spells.
+fn lexer_of(alloc: Global, grammar: &str) -> Result<Lexer> {
+    match checked(alloc, grammar, None) {
+        Ok(grammar) => Ok(Lexer::build(alloc, &grammar)?),
+        Err(refused) => bail!("refused: {refused:?}"),
+    }
+}
+
+/// Prints what was counted.
+fn show(rt: &impl Print, counts: Counts) -> Result<()> {
+    let Counts {
+        lists,
+        kept,
+        reads,
+        wrong,
+    } = counts;
+    println!(rt; "{lists} lists, {kept} kept, {reads} reads, {wrong} wrong")?;
+    Ok(())
+}
+
+/// Prints what is counted on the text of the tokens of the start from the first number on and before the
+/// other, as they were.
+fn show_part(rt: &impl Print, alloc: Global, text: &str, first: u32, end: u32) -> Result<()> {
+    let lexer = lexer_of(alloc, STATEMENTS)?;
+    if text.len() >= u32::MAX as usize {
+        bail!("too long");
+    }
+    let Some(tokens) = tokens_of(&lexer, text)? else {
+        bail!("no tokens");
+    };
+    let start = Start {
+        alloc,
+        lexer: &lexer,
+        text,
+        tokens: &tokens,
+        pieces: &pieces_of(&lexer, text)?,
+    };
+    let mut kept = Vec::new(alloc);
+    for number in first..end {
+        kept.push(number)?;
+    }
+    let mut counts = NOTHING;
+    count(&start, &kept, Style::AsWas, &mut counts)?;
+    show(rt, counts)
+}
+
+/// Prints what was counted on random starts of these characters.
+fn show_counts(rt: &impl Print, alloc: Global, grammar: &str, characters: &[char]) -> Result<()> {
+    let lexer = lexer_of(alloc, grammar)?;
+    let mut numbers = Numbers { state: 1 };
+    let mut counts = NOTHING;
+    for _ in 0..STARTS {
+        let text = random_text(alloc, &mut numbers, characters)?;
+        count_start(alloc, &lexer, text.as_str(), &mut counts)?;
+    }
+    show(rt, counts)
+}
+
+/// Prints up to where the text decides each of its pieces.
+fn show_seen(rt: &impl Print, alloc: Global, grammar: &str, text: &str) -> Result<()> {
+    let lexer = lexer_of(alloc, grammar)?;
+    if text.len() >= u32::MAX as usize {
+        bail!("too long");
+    }
+    for piece in &pieces_of(&lexer, text)?.items {
+        println!(rt; "{}-{} sees {}", piece.start, piece.end, piece.seen)?;
+    }
+    Ok(())
+}
+
+fn main(rt: HostRuntime) -> Result<()> {
+    let alloc = rt.alloc();
+    show_seen(&rt, alloc, STATEMENTS, "a=1;")?;
+    show_seen(&rt, alloc, STATEMENTS, "a")?;
+    show_seen(&rt, alloc, COMMENTED, "/* / /*a")?;
+    show_seen(&rt, alloc, ACCENTS, "a--éa--")?;
+    show_part(&rt, alloc, "a=1;b=2;c=3;", 4, 12)?;
+    show_part(&rt, alloc, "a=1;b=2;c=3;", 0, 4)?;
+    show_counts(
+        &rt,
+        alloc,
+        STATEMENTS,
+        &['a', 'b', '1', '=', ';', '{', '+', ' ', '\n'],
+    )?;
+    show_counts(&rt, alloc, JOINED, &['a', 'b', ','])?;
+    show_counts(&rt, alloc, COMMENTED, &['a', '/', '*', ' ', '\n'])?;
+    show_counts(&rt, alloc, HASHES, &['a', 'q', '-', '#', ' '])?;
+    show_counts(&rt, alloc, ACCENTS, &['a', 'é', '-', ' '])
+}
