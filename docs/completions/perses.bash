@@ -2,7 +2,7 @@
 
 _perses() {
     local word=${COMP_WORDS[COMP_CWORD]} previous=${COMP_WORDS[COMP_CWORD - 1]}
-    local command=${COMP_WORDS[1]} options='' by_grammar='--grammar --start --squeeze' given
+    local command=${COMP_WORDS[1]} options='' by_grammar='--grammar --lexer --start --squeeze' given
     COMPREPLY=()
     if ((COMP_CWORD == 1)); then
         mapfile -t COMPREPLY < <(compgen -W 'reduce normal selftest' -- "$word")
@@ -15,7 +15,7 @@ _perses() {
         previous=${COMP_WORDS[COMP_CWORD - 2]}
     fi
     case $previous in
-    --input | --output | --script | --grammar | --journal)
+    --input | --output | --script | --grammar | --lexer | --journal)
         mapfile -t COMPREPLY < <(compgen -f -- "$word")
         compopt -o filenames
         return
@@ -40,7 +40,7 @@ _perses() {
     [[ ${COMP_WORDS[*]} =~ \ --mode\ (=\ )?lines( |$) ]] && by_grammar=''
     case $command in
     reduce) options="--input --output --script --mode --jobs --journal --work --keep $by_grammar" ;;
-    normal) options='--grammar --start' ;;
+    normal) options='--grammar --lexer --start' ;;
     selftest) options='--number --size --mode' ;;
     esac
     # Each option once, but --keep.

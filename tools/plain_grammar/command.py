@@ -25,6 +25,8 @@ def words():
     parser.add_argument("--start", metavar="RULE", help="puts this parser rule first, so that the input is derived by it")
     lists_help = "writes two alternatives as one with an optional part, and recursion at a rule's end as a loop"
     parser.add_argument("--lists", action="store_true", help=lists_help)
+    pair_help = "of a parser file and its lexer file, writes a pair: the lexer to this file, and the parser alone to standard output"
+    parser.add_argument("--pair", metavar="LEXER.g4", help=pair_help)
     parser.add_argument("--check", action="store_true", help="asks `perses normal` about the result")
     parser.add_argument("--perses", metavar="PROGRAM", default=str(TOP / "perses"), help="the program for --check")
     return parser
@@ -40,10 +42,24 @@ def text_of(path, file):
         raise Fault((file, 1), f"not UTF-8 at byte {fault.start}") from None
 
 
+def grammars_of(arguments, notes):
+    """The grammars of the files."""
+    return [read(text_of(path, file), file, notes) for file, path in enumerate(arguments.files)]
+
+
 def converted(arguments, notes):
     """The changed grammar."""
-    grammars = [read(text_of(path, file), file, notes) for file, path in enumerate(arguments.files)]
-    grammar = joining.joined(grammars, notes)
+    return changed(joining.joined(grammars_of(arguments, notes), notes), arguments, notes)
+
+
+def converted_pair(arguments, notes):
+    """The changed lexer grammar and parser grammar."""
+    main, lexer = joining.paired(grammars_of(arguments, notes), notes)
+    return joining.parted(changed(main, arguments, notes), lexer, notes)
+
+
+def changed(grammar, arguments, notes):
+    """The grammar of all rules, changed to one that Perses takes."""
     if arguments.start:
         joining.start_with(grammar, arguments.start)
     names.plain_names(grammar, notes)
@@ -78,17 +94,35 @@ def put(text):
         os.dup2(os.open(os.devnull, os.O_WRONLY), sys.stdout.fileno())
 
 
+def keep(path, text):
+    """Writes the lexer of a pair."""
+    try:
+        Path(path).write_bytes(text.encode("utf-8"))
+    except OSError as fault:
+        raise Fault((0, 0), f"{path}: {fault.strerror}") from None
+
+
+def convert(arguments, notes):
+    """Puts what is made of the files, and asks about it."""
+    if arguments.pair:
+        lexer, parser = converted_pair(arguments, notes)
+        keep(arguments.pair, printed(lexer)[0])
+        made = [parser, lexer]
+    else:
+        made = [converted(arguments, notes)]
+    texts = [printed(grammar) for grammar in made]
+    put(texts[0][0])
+    if arguments.check:
+        fault = check.fault_of(arguments.perses, [text for text, _ in texts])
+        if fault:
+            notes.cannot(check.place_of_fault(fault, made, [places for _, places in texts]), f"perses: {fault}")
+
+
 def main():
     arguments = words().parse_args()
     notes = Notes(arguments.files)
     try:
-        grammar = converted(arguments, notes)
-        text, places = printed(grammar)
-        put(text)
-        if arguments.check:
-            fault = check.fault_of(arguments.perses, text)
-            if fault:
-                notes.cannot(check.place_of_fault(fault, grammar, places), f"perses: {fault}")
+        convert(arguments, notes)
     except Fault as fault:
         notes.cannot(fault.place, fault.text)
     sys.stderr.write(notes.printed())

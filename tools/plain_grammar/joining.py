@@ -1,4 +1,7 @@
-"""Makes one grammar of the files: imports are inlined, and the rules of a lexer follow those of its parser."""
+"""Makes one grammar of the files: imports are inlined, and the rules of a lexer follow those of its parser.
+
+A pair is changed as one grammar too, and then parted again.
+"""
 from .notes import Fault
 from .printing import comments_of
 from .tree import drop_rules, first_of
@@ -7,20 +10,65 @@ from .words import COMMENT
 
 def joined(grammars, notes):
     """The one grammar of all files, which imports and joins the others."""
+    main, others = roots_of(grammars, notes)
+    drop_vocabularies(grammars, notes)
+    for grammar in others:
+        join(main, grammar, notes)
+    if main.vocabulary and main.kind == "parser" and not any(grammar.kind == "lexer" for grammar in others):
+        notes.cannot(main.vocabulary.place, f"give the file of {main.vocabulary.text} too, which has the tokens")
+    name_combined(main)
+    report_same_names(main, notes)
+    return main
+
+
+def paired(grammars, notes):
+    """The grammar of a parser with the rules of its lexer too, and the lexer's grammar, which gets them back by `parted`."""
+    main, others = roots_of(grammars, notes)
+    if main.kind != "parser" or [grammar.kind for grammar in others] != ["lexer"]:
+        raise Fault(main.name.place, "a pair is a parser grammar and one lexer grammar")
+    lexer = others[0]
+    drop_vocabularies([grammar for grammar in grammars if grammar is not main], notes)
+    drop_same(main, lexer, notes)
+    main.rules += lexer.rules
+    main.tokens += lexer.tokens
+    report_same_names(main, notes)
+    return main, lexer
+
+
+def parted(main, lexer, notes):
+    """The two grammars of a pair: the lexer with its rules, and the parser, whose vocabulary is the lexer."""
+    for part in lexer.prequel:
+        if part[0].text != "tokens":
+            notes.add(part[0].place, "options dropped")
+    lexer.prequel = [part for part in lexer.prequel if part[0].text == "tokens"]
+    lexer.rules = main.lexer_rules()
+    main.rules = main.parser_rules()
+    main.prequel.insert(0, vocabulary_part(main.start[-1], lexer.name.text))
+    return lexer, main
+
+
+def vocabulary_part(word, name):
+    """The options that name the vocabulary."""
+    texts = [("options", "\n"), ("{", " "), ("tokenVocab", " "), ("=", " "), (name, " "), (";", ""), ("}", " ")]
+    return [word.made("name" if text.isidentifier() else "symbol", text, lead) for text, lead in texts]
+
+
+def drop_vocabularies(grammars, notes):
+    """Says that these grammars name no vocabulary any more."""
+    for grammar in grammars:
+        if grammar.vocabulary:
+            notes.add(grammar.vocabulary.place, f"option tokenVocab={grammar.vocabulary.text} dropped")
+
+
+def roots_of(grammars, notes):
+    """The grammar with the parser rules, and the others that none imports, each with its imports."""
     by_name = {grammar.name.text: grammar for grammar in grammars}
     imported = {name.text for grammar in grammars for name in grammar.imports}
     roots = [grammar for grammar in grammars if grammar.name.text not in imported] or grammars[:1]
     main = main_of(roots)
     for grammar in roots:
         inline(grammar, by_name, notes)
-    for grammar in roots:
-        if grammar is not main:
-            join(main, grammar, notes)
-    if main.vocabulary and main.kind == "parser" and not any(grammar.kind == "lexer" for grammar in roots):
-        notes.cannot(main.vocabulary.place, f"give the file of {main.vocabulary.text} too, which has the tokens")
-    name_combined(main)
-    report_same_names(main, notes)
-    return main
+    return main, [grammar for grammar in roots if grammar is not main]
 
 
 def main_of(roots):
@@ -57,12 +105,8 @@ def join(main, other, notes):
 
 def append(main, other, notes):
     """Appends the rules and the declared tokens of another grammar, but rules of a name that is there."""
-    names = {rule.name.text for rule in main.rules}
     lead = heading(other, main) + "\n\n"
-    same = [rule for rule in other.rules if rule.name.text in names]
-    for rule in same:
-        notes.add(rule.place, f"rule {rule.name.text} dropped: there is one of this name already")
-    drop_rules(other, same)
+    drop_same(main, other, notes)
     for rule in other.rules:
         first = first_of(rule)
         first.lead = lead + first.lead.lstrip("\n") if lead else first.lead
@@ -74,6 +118,15 @@ def append(main, other, notes):
             notes.add(part[0].place, "options dropped")
     main.prequel += declared
     main.tokens += other.tokens
+
+
+def drop_same(main, other, notes):
+    """Drops the rules of another grammar whose names are there."""
+    names = {rule.name.text for rule in main.rules}
+    same = [rule for rule in other.rules if rule.name.text in names]
+    for rule in same:
+        notes.add(rule.place, f"rule {rule.name.text} dropped: there is one of this name already")
+    drop_rules(other, same)
 
 
 def heading(other, main):

@@ -115,7 +115,6 @@ class Reader:
             name, value, words = self.option()
             if name.text == "tokenVocab":
                 grammar.vocabulary = value
-                self.notes.add(name.place, f"option tokenVocab={value.text} dropped")
             elif name.text == "caseInsensitive":
                 self.ignores_case = grammar.ignores_case = value.text == "true"
                 self.notes.add(name.place, f"option caseInsensitive={value.text} dropped")

@@ -1,9 +1,11 @@
 """Several files, all constructs at once, grammars that are plain, broken ones, and the command line."""
+import os
 import random
+import tempfile
 import unittest
 from pathlib import Path
 
-from support import TOOL, convert, run
+from support import TOOL, convert, convert_pair, run
 
 EXAMPLES = TOOL.parent.parent / "examples" / "grammars"
 
@@ -38,6 +40,17 @@ stat : ID '=' expr ;
 expr : expr '+' expr | ID ;
 
 // The lexer.
+
+SEMI : ';' ;
+IS : '=' ; // equals
+ADD : '+' ;
+ID : [a-z]+ ;
+NOTE : '#' ~[\\n]* -> channel(HIDDEN) ;
+WS : [ \\n]+ -> skip ;
+"""
+
+PAIR_LEXER = """// The lexer.
+lexer grammar XLexer;
 
 SEMI : ';' ;
 IS : '=' ; // equals
@@ -160,6 +173,36 @@ class FileTests(unittest.TestCase):
             ],
         )
 
+    def test_a_pair_stays_a_pair(self):
+        for files in ((PARSER, LEXER), (LEXER, PARSER)):
+            made = convert_pair(*files)
+            self.assertEqual(made.text, (PAIR_LEXER, PARSER))
+            lexer = files.index(LEXER)
+            self.assertEqual(made.notes, [f"{lexer}.g4:3: channels dropped", f"{lexer}.g4:9: channel NOTES made HIDDEN"])
+            self.assertEqual(convert_pair(*made.text).text, made.text)
+            self.assertEqual(convert_pair(*made.text).notes, [])
+
+    def test_each_text_of_a_pair_keeps_its_tokens_and_rules(self):
+        made = convert_pair("parser grammar P;\noptions { tokenVocab = L; }\ntokens { X }\na : A X Y Z ;\n", "lexer grammar L;\noptions { language = C; }\ntokens { Y }\nA : 'a' ;\n")
+        self.assertEqual(made.text[0], "lexer grammar L;\ntokens { Y }\nA : 'a' ;\n")
+        self.assertEqual(made.text[1], "parser grammar P;\noptions { tokenVocab = L; }\ntokens { X }\ntokens { Z }\na : A X Y Z ;\n")
+        self.assertEqual(made.notes, ["0.g4:4: token Z declared: there is no lexer rule for it", "1.g4:2: options dropped"])
+
+    def test_a_pair_is_a_parser_and_one_lexer(self):
+        error = "a pair is a parser grammar and one lexer grammar"
+        self.assertEqual(convert_pair("grammar G;\na : 'x' ;\n").notes, [f"1: error: {error}"])
+        self.assertEqual(convert_pair(PARSER).notes, [f"2: error: {error}"])
+        self.assertIn(f"0.g4:2: error: {error}", convert_pair(PARSER, LEXER, "lexer grammar M;\nB : 'b' ;\n").notes)
+
+    def test_the_lexer_of_a_pair_is_written_to_its_file(self):
+        with tempfile.TemporaryDirectory() as folder:
+            kept = Path(folder, "Plain.g4")
+            status, output, _ = run("--pair", str(kept), "P.g4", "L.g4", P=PARSER, L=LEXER)
+            self.assertEqual((status, output, kept.read_text(encoding="utf-8")), (0, PARSER, PAIR_LEXER))
+        status, output, errors = run("--pair", "none/L.g4", "P.g4", "L.g4", P=PARSER, L=LEXER)
+        self.assertEqual((status, output), (1, ""))
+        self.assertIn("error: none/L.g4: No such file or directory", errors)
+
     def test_order_of_files_does_not_matter(self):
         self.assertEqual(convert(LEXER, PARSER).text, JOINED)
 
@@ -213,6 +256,8 @@ class FileTests(unittest.TestCase):
         made = convert(*[(folder / name).read_text(encoding="utf-8") for name in ("SqlParser.g4", "SqlLexer.g4")], lists=True)
         self.assertEqual(made.text, (folder / "Sql.g4").read_text(encoding="utf-8"))
         self.assertEqual(convert(made.text).notes, [])
+        pair = convert_pair(*[(folder / name).read_text(encoding="utf-8") for name in ("SqlParser.g4", "SqlLexer.g4")], lists=True)
+        self.assertEqual(pair.text, tuple((folder / "plain" / name).read_text(encoding="utf-8") for name in ("SqlLexer.g4", "SqlParser.g4")))
 
     def test_blocks_64_deep_are_changed(self):
         inner = "(" * 64 + "'x'? {f();}" + ")*" * 64
@@ -281,11 +326,22 @@ class CommandTests(unittest.TestCase):
         status, _, errors = run("--check", "--perses", "./none", "G.g4", G="grammar G;\na : 'x' ;\n")
         self.assertEqual((status, errors), (1, "1: error: perses: ./none: No such file or directory\n"))
 
+    def test_check_of_a_pair_gives_both_texts_and_finds_the_lines_of_both(self):
+        for fault, error in (
+            ("in lexer: syntax at byte 37", "L.g4:5: error: perses: in lexer: syntax at byte 37"),
+            ("in parser: syntax at byte 86", "P.g4:6: error: perses: in parser: syntax at byte 86"),
+            ("empty token ADD", "L.g4:7: error: perses: empty token ADD"),
+        ):
+            with tempfile.TemporaryDirectory() as folder:
+                program = Path(folder, "program")
+                program.write_text(f"#!/bin/sh\ngrep -q '^parser' \"$3\" && test \"$4\" = --lexer && grep -q '^lexer' \"$5\" && printf 'perses: grammar: {fault}\\n'\nexit 5\n")
+                os.chmod(program, 0o755)
+                status, _, errors = run("--check", "--perses", str(program), "--pair", os.path.join(folder, "L.g4"), "P.g4", "L.g4", P=PARSER, L=LEXER)
+            self.assertEqual(status, 1)
+            self.assertIn(error, errors.splitlines())
+
     def check(self, script, errors):
         """Runs --check with a program in place of Perses."""
-        import os
-        import tempfile
-
         with tempfile.TemporaryDirectory() as folder:
             program = Path(folder, "program")
             program.write_text("#!/bin/sh\n" + script + "\n")

@@ -111,6 +111,7 @@ class Notices(unittest.TestCase):
             (["reduce", *TREES, "--script", "s", "--jobs", "17"], "--jobs wants a number from 1 to 16, without a leading zero: '17'"),
             (["reduce", *TREES, "--script", "s", "--keep"], "--keep lacks its value"),
             (["reduce", *LINES, "--script", "s", "--start", "r"], "--start doesn't go with --mode lines"),
+            (["reduce", *LINES, "--script", "s", "--lexer", "l"], "--lexer doesn't go with --mode lines"),
         ):
             with self.subTest(words=words):
                 ended, put, said = self.run_plain(*words)
@@ -142,6 +143,38 @@ class Notices(unittest.TestCase):
             with self.subTest(grammar=grammar):
                 self.write("g", grammar)
                 self.says(5, f"perses: {text}\n", "normal", "--grammar", "g")
+
+    def test_grammars_in_two_files(self):
+        lexer = "lexer grammar L;\nA : 'a' ;\nWS : ' ' -> skip ;\n"
+        parser = "parser grammar P;\ns : A EOF ;\n"
+        anew = "perses: tools/plain-grammar --pair FILE writes both anew without that"
+        for first, second, text in (
+            ("lexer grammar L;\nA : 'a' {x} ;\n", parser, f"l:2:9: in lexer: unsupported action at byte 25\nA : 'a' {{x}} ;\n        ^\n{anew}"),
+            (lexer, "parser grammar P;\ns : A ; ;\n", "g:2:9: in parser: syntax at byte 26\ns : A ; ;\n        ^"),
+            ("grammar L;\nA : 'a' ;\n", parser, "l:1:1: not a lexer grammar\ngrammar L;\n^"),
+            (lexer, "grammar P;\ns : A ;\n", "g:1:1: not a parser grammar\ngrammar P;\n^"),
+            (lexer, "parser grammar P;\noptions { tokenVocab=M; }\ns : A ;\n", "g:2:11: other vocabulary M\noptions { tokenVocab=M; }\n          ^"),
+            (lexer + "b : A ;\n", parser, "l:4:1: misplaced rule b\nb : A ;\n^"),
+            (lexer, parser + "B : 'b' ;\n", "g:3:1: misplaced rule B\nB : 'b' ;\n^"),
+            (lexer, "parser grammar P;\ns : 'b' ;\n", "g:2:5: no token for 'b'\ns : 'b' ;\n    ^"),
+            (lexer, "parser grammar P;\ns : b ;\n", "g:2:5: no rule b\ns : b ;\n    ^"),
+            ("lexer grammar L;\nA : 'x'* ;\n", parser, "l:2:1: empty token A\nA : 'x'* ;\n^"),
+        ):
+            with self.subTest(text=text):
+                self.write("l", first)
+                self.write("g", second)
+                self.says(5, f"perses: {text}\n", "normal", "--grammar", "g", "--lexer", "l")
+
+    def test_input_by_a_grammar_in_two_files(self):
+        self.write("g", "parser grammar P;\ns : A EOF ;\n")
+        words = ["reduce", *TREES, "--lexer", "l", "--script", "s"]
+        self.says(3, "perses: l: No such file or directory (os error 2)\n", *words)
+        self.write("l", "lexer grammar L;\nA : 'a' ;\n" + "\n" * 1048576)
+        self.says(10, "perses: l is too long: an input has at most 262144 bytes, a grammar 1048576\n", *words)
+        self.write("l", "lexer grammar L;\nA : 'a' ;\n")
+        self.says(6, "perses: t:1:2: no token at byte 1\na=1;\n ^\nperses: no lexer rule of l matches what begins there\n", *words)
+        self.write("t", "aa")
+        self.says(7, "perses: t:1:2: A can't be here; what can: the end\naa\n ^\n", *words)
 
     def test_inputs(self):
         for text, said in (

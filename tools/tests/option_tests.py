@@ -61,7 +61,7 @@ class Options(unittest.TestCase):
                 self.assertEqual(sorted(named(command)), sorted(options_of_table(command)))
 
     def test_table_is_found(self):
-        self.assertEqual([len(options_of_table(command)) for command in COMMANDS], [11, 2, 3])
+        self.assertEqual([len(options_of_table(command)) for command in COMMANDS], [12, 3, 3])
 
     def test_usage_names_each_option(self):
         self.are_those_of_the_table(options_of_usage)

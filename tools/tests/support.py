@@ -24,15 +24,27 @@ class Converted:
 
 def convert(*texts, lists=False, start=None):
     """Converts files with these texts."""
+    words = [*(["--lists"] if lists else []), *(["--start", start] if start else [])]
+    return converted_by(texts, words, lambda arguments, notes: printed(command.converted(arguments, notes))[0])
+
+
+def convert_pair(*texts, lists=False):
+    """Converts files with these texts to a pair. Its text is that of the lexer and that of the parser."""
+    words = ["--pair", "L.g4", *(["--lists"] if lists else [])]
+    return converted_by(texts, words, lambda arguments, notes: tuple(printed(made)[0] for made in command.converted_pair(arguments, notes)))
+
+
+def converted_by(texts, words, make):
+    """What is made of files with these texts."""
     with tempfile.TemporaryDirectory() as folder:
         files = []
         for number, text in enumerate(texts):
             files.append(os.path.join(folder, f"{number}.g4"))
             Path(files[-1]).write_text(text, encoding="utf-8", newline="")
-        arguments = command.words().parse_args([*files, *(["--lists"] if lists else []), *(["--start", start] if start else [])])
+        arguments = command.words().parse_args([*files, *words])
         notes = Notes([f"{number}.g4" for number in range(len(texts))])
         try:
-            text = printed(command.converted(arguments, notes))[0]
+            text = make(arguments, notes)
         except Fault as fault:
             notes.cannot(fault.place, fault.text)
             text = None

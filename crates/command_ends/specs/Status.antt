@@ -20,6 +20,7 @@ use Rattle.command_ends.specs.World.{PutsPrefix, CallFailed, FilesKept, IsQuiet,
 abbrev pub word_for : NamedFile → List ℕ
 word_for read.Input = codes "input"
 word_for read.Grammar = codes "grammar"
+word_for read.Lexer = codes "lexer grammar"
 
 -- the line of a grammar's fault
 abbrev pub fault_line : List ℕ → List ℕ

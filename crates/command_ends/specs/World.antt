@@ -57,7 +57,7 @@ line_of_text text = codes "perses: " ++ (text ++ 10 ∷ [])
 abbrev pub PutsMessage : List ℕ → SeenOut → SeenOut → Type 0
 PutsMessage text old new = PutsLine (line_of_text text) old new
 
--- the most bytes of an input, and of a grammar
+-- the most bytes of an input, and of each file of a grammar
 abbrev pub input_limit : ℕ
 input_limit = 262144
 

@@ -12,7 +12,7 @@ use edge_io::{FileFault, Files, WriteFault};
 /// The longest input, in bytes.
 const INPUT_LIMIT: u64 = 262_144;
 
-/// The longest grammar, in bytes.
+/// The longest file of a grammar, in bytes.
 pub const GRAMMAR_LIMIT: u64 = 1_048_576;
 
 /// The bytes of a file that has at most `limit` of them.

@@ -17,8 +17,10 @@ use std::alloc::Global;
 pub enum NamedFile {
     /// The file to be reduced.
     Input,
-    /// The file of the grammar.
+    /// The file of the grammar, or of its parser rules.
     Grammar,
+    /// The file of its lexer rules, where it is in two.
+    Lexer,
 }
 
 /// Why a command ends without its result.
@@ -111,6 +113,7 @@ impl Refusal {
             Refusal::Usage => (2, "perses: bad command line\n"),
             Refusal::CannotRead(NamedFile::Input) => (3, "perses: cannot read input\n"),
             Refusal::CannotRead(NamedFile::Grammar) => (3, "perses: cannot read grammar\n"),
+            Refusal::CannotRead(NamedFile::Lexer) => (3, "perses: cannot read lexer grammar\n"),
             Refusal::CannotWrite => (4, "perses: cannot write\n"),
             Refusal::Grammar(line) => (5, line.as_str()),
             Refusal::Uncut(line) => (6, line.as_str()),
@@ -119,6 +122,7 @@ impl Refusal {
             Refusal::KeepMissing(line) => (9, line.as_str()),
             Refusal::TooLong(NamedFile::Input) => (10, "perses: input is too long\n"),
             Refusal::TooLong(NamedFile::Grammar) => (10, "perses: grammar is too long\n"),
+            Refusal::TooLong(NamedFile::Lexer) => (10, "perses: lexer grammar is too long\n"),
             Refusal::Script(line) => (11, line.as_str()),
             Refusal::Journal => (12, "perses: journal fault\n"),
         }

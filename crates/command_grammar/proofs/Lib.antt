@@ -1,1 +1,3 @@
 mod GrammarLemmas
+mod TextLemmas
+pub mod Lent

@@ -1,31 +1,31 @@
--- The command `normal`: the printed normal form of the grammar in a file.
-use Rattle.std.specs.Prelude.{◌≡◌, ◌≢◌, ◌⊎◌, ℕ, List, None, Some, codes, encode_utf8_all}
+-- The command `normal`: the printed normal form of the grammar in one file or two.
+use Rattle.std.specs.Prelude.{◌≡◌, ◌≢◌, ◌⊎◌, ◌++◌, ℕ, List, None, Some, codes, encode_utf8_all}
 use Rattle.edge_io.specs.Files.{IsLonger, SameFiles}
 use Rattle.grammar_tree.specs.Written.{CheckedGrammar}
-use Rattle.grammar_load.specs.Answer.{Spells}
 use Rattle.normal_form.specs.Laws.{HasEqualLanguages}
 use Rattle.normal_form.specs.NormalOf.{normal_of}
 use Rattle.normal_form_print.specs.Print.{printed}
 use Rattle.command_grammar.specs.Grammar.{IsFaultIn, IsGrammarText}
-use Rattle.command_ends.specs.Status.{fault_line}
+use Rattle.command_grammar.specs.Texts.{AreSpelled, GrammarIsShown, GrammarTexts, GrammarWasRead, IsGrammarFile, path_of}
+use Rattle.command_ends.specs.declared.status.NamedFile.{NamedFile}
+use Rattle.command_ends.specs.Status.{fault_line, word_for}
 use Rattle.command_words.specs.Commands.{GrammarSource}
 use Rattle.command_grammar.specs.Grammar.{start_name}
-use Rattle.command_ends.specs.World.{PutsPrefix, CallFailed, IsOver, IsQuiet, IsShownWithin, Puts, PutsLine}
-use Rattle.command_ends.specs.World.{PutsMessage, SeenFiles, SeenOut, WasRead, grammar_limit}
+use Rattle.command_ends.specs.World.{PutsPrefix, CallFailed, IsOver, IsQuiet, Puts, PutsLine, PutsMessage, SeenFiles, SeenOut, grammar_limit}
 
--- The text is the printed normal form of the grammar that the bytes spell, with the start rule
--- that is named, or else its first parser rule, and the two have the same languages.
-pub record IsNormalOf (named : GrammarSource) (bytes text : List ℕ) : Type 0 where
+-- The text is the printed normal form of the grammar that the texts spell, with the start rule that is named, or else its first parser rule, and the two have
+-- the same languages.
+pub record IsNormalOf (named : GrammarSource) (texts : GrammarTexts) (text : List ℕ) : Type 0 where
   pub grammar : CheckedGrammar
-  pub spelled : Spells bytes (start_name named) grammar
+  pub spelled : AreSpelled texts (start_name named) grammar
   pub languages : HasEqualLanguages grammar (normal_of grammar)
   pub printed : text ≡ encode_utf8_all (printed grammar.kinds (normal_of grammar))
 
 -- How `normal` ends, by its status.
 pub data NormalEnds (grammar : GrammarSource) (files files' : SeenFiles) (out out' : SeenOut) : ℕ → Type 0 where
-  -- the printed normal form of the grammar in the file was put, and no call failed
+  -- the printed normal form of the grammar in the files was put, and no call failed
   done : (text : List ℕ)
-      → (read : WasRead grammar_limit (files.shown grammar.path) (λ bytes. IsNormalOf grammar bytes text))
+      → (read : GrammarWasRead grammar files (λ texts. IsNormalOf grammar texts text))
       → (quiet : IsQuiet files files')
       → (put : Puts text out out')
       → NormalEnds grammar files files' out out' 0
@@ -33,26 +33,30 @@ pub data NormalEnds (grammar : GrammarSource) (files files' : SeenFiles) (out ou
   memory : (quiet : IsQuiet files files')
       → (line : PutsMessage (codes "out of memory") out out')
       → NormalEnds grammar files files' out out' 1
-  -- a call of the files failed, and the line names the grammar
-  unread : (failed : CallFailed files files')
-      → (line : PutsMessage (codes "cannot read grammar") out out')
+  -- a call of the files failed, and the line names one of those that are read
+  unread : (file : NamedFile)
+      → (reached : IsGrammarFile grammar file files)
+      → (failed : CallFailed files files')
+      → (line : PutsMessage (codes "cannot read " ++ word_for file) out out')
       → NormalEnds grammar files files' out out' 3
   -- the put failed: some prefix of the printed normal form was put, and nothing more
   unput : (text : List ℕ)
-      → (read : WasRead grammar_limit (files.shown grammar.path) (λ bytes. IsNormalOf grammar bytes text))
+      → (read : GrammarWasRead grammar files (λ texts. IsNormalOf grammar texts text))
       → (quiet : IsQuiet files files')
       → (put : PutsPrefix text out out')
       → NormalEnds grammar files files' out out' 4
-  -- the file has no well-formed grammar, and the line says why
+  -- the files have no well-formed grammar, and the line says why
   faulty : (text : List ℕ)
-      → (read : WasRead grammar_limit (files.shown grammar.path) (λ bytes. IsFaultIn grammar bytes text))
+      → (read : GrammarWasRead grammar files (λ texts. IsFaultIn grammar texts text))
       → (quiet : IsQuiet files files')
       → (line : PutsLine (fault_line text) out out')
       → NormalEnds grammar files files' out out' 5
-  -- the grammar is longer than its limit
-  too_long : (longer : IsLonger grammar_limit (files.shown grammar.path))
+  -- a file that is read is longer than its limit, and the line names it
+  too_long : (file : NamedFile)
+      → (reached : IsGrammarFile grammar file files)
+      → (longer : IsLonger grammar_limit (files.shown (path_of grammar file)))
       → (quiet : IsQuiet files files')
-      → (line : PutsMessage (codes "grammar is too long") out out')
+      → (line : PutsMessage (word_for file ++ codes " is too long") out out')
       → NormalEnds grammar files files' out out' 10
 
 -- Which status it has to be. This follows from how `normal` ends.
@@ -61,11 +65,13 @@ pub record NormalMustEnd (grammar : GrammarSource) (files files' : SeenFiles) (o
   pub over : IsOver grammar_limit (files.shown grammar.path) → (status ≡ 10) ⊎ ((status ≡ 3) ⊎ (status ≡ 1))
   -- a grammar that isn't there can't be read
   pub missing : files.shown grammar.path ≡ Some None → (status ≡ 3) ⊎ (status ≡ 1)
+  -- so are a lexer over its limit, and one that isn't there, unless the other file is refused before
+  pub lexer_over : (lexer : List ℕ) → grammar.lexer ≡ Some lexer → IsOver grammar_limit (files.shown lexer) → (status ≡ 10) ⊎ ((status ≡ 3) ⊎ (status ≡ 1))
+  pub lexer_missing : (lexer : List ℕ) → grammar.lexer ≡ Some lexer → files.shown lexer ≡ Some None → (status ≡ 3) ⊎ ((status ≡ 10) ⊎ (status ≡ 1))
   -- a faulty grammar within its limit is refused as such
-  pub faulty : IsShownWithin grammar_limit (files.shown grammar.path) (λ bytes. ¬ IsGrammarText grammar bytes) → (status ≡ 5) ⊎ ((status ≡ 3) ⊎ (status ≡ 1))
+  pub faulty : GrammarIsShown grammar files (λ texts. ¬ IsGrammarText grammar texts) → (status ≡ 5) ⊎ ((status ≡ 3) ⊎ (status ≡ 1))
   -- a well-formed grammar within its limit has its normal form put, where no call failed
-  pub complete : IsShownWithin grammar_limit (files.shown grammar.path) (λ bytes. IsGrammarText grammar bytes) → ¬ CallFailed files files'
-      → ¬ CallFailed out out' → (status ≡ 0) ⊎ (status ≡ 1)
+  pub complete : GrammarIsShown grammar files (IsGrammarText grammar) → ¬ CallFailed files files' → ¬ CallFailed out out' → (status ≡ 0) ⊎ (status ≡ 1)
   -- where a call of the files failed, the grammar wasn't read
   pub files_failed : ¬ IsQuiet files files' → status ≡ 3
   -- where the put failed, it was that of the normal form (4) or of another status's line

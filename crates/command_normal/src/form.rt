@@ -1,17 +1,17 @@
 //! The command `normal`, step by step.
 
-ghost use Rattle.std.specs.Prelude.{IfErr, IfOk, List, OnOk, ℕ};
+ghost use Rattle.std.specs.Prelude.{IfErr, IfOk, OnOk};
 ghost use Rattle.edge_io.specs.Files.{SameFiles};
-ghost use Rattle.grammar_load.specs.Answer.{Spells};
 ghost use Rattle.command_normal.specs.Normal.{IsNormalOf, PrintsNormal};
 ghost use Rattle.command_normal.specs.inner.Normal.{NormalFails};
 ghost use Rattle.command_words.specs.Commands.{GrammarSource};
 ghost use Rattle.command_words.specs.Lines.{grammar_read};
 ghost use Rattle.command_grammar.specs.Grammar.{start_name};
-ghost use Rattle.command_ends.specs.World.{IsQuiet, WasRead, grammar_limit, seen};
+ghost use Rattle.command_grammar.specs.Texts.{AreSpelled, GrammarTexts, GrammarWasRead};
+ghost use Rattle.command_ends.specs.World.{IsQuiet, seen};
 
 use command_ends::{Refusal, end_with};
-use command_grammar::grammar_of_file;
+use command_grammar::grammar_of_files;
 use command_words::NamedGrammar;
 use edge_io::{Files, Sink};
 use faults::Memory;
@@ -22,31 +22,32 @@ use std::alloc::Global;
 
 /// The printed normal form of the grammar.
 fn form_of(alloc: Global, checked: &Checked) -> Result<Vec<u8>, Memory>
-    ensures { IfOk result (λ form. (named : GrammarSource) (bytes : List ℕ) → Spells bytes (start_name named) checked.now → IsNormalOf named bytes form.items) }
+    ensures { IfOk result (λ form. (named : GrammarSource) (texts : GrammarTexts) → AreSpelled texts (start_name named) checked.now
+        → IsNormalOf named texts form.items) }
 {
     let normal = normalise(alloc, checked)?;
     Ok(normal_text(alloc, checked, &normal)?)
 }
 
-/// The printed normal form of the grammar in a file.
-fn form_of_file<F: Files>(
+/// The printed normal form of the grammar in one file or two.
+fn form_of_files<F: Files>(
     alloc: Global,
     grammar: NamedGrammar<'_>,
     files: &mut F,
 ) -> Result<Vec<u8>, Refusal>
-    ensures form { IfOk result (λ form. WasRead grammar_limit (F.content files.old grammar.entry.path.now)
-        (λ bytes. IsNormalOf (grammar_read grammar.entry) bytes form.items)) }
+    ensures form { IfOk result (λ form. GrammarWasRead (grammar_read grammar.entry) (seen F.content F.faults files.old)
+        (λ texts. IsNormalOf (grammar_read grammar.entry) texts form.items)) }
     ensures quiet { OnOk result (IsQuiet (seen F.content F.faults files.old) (seen F.content F.faults files.new)) }
     ensures refused { IfErr result (λ refusal. NormalFails (grammar_read grammar.entry) (seen F.content F.faults files.old)
         (seen F.content F.faults files.new) refusal) }
     ensures same { SameFiles (F.content files.old) (F.content files.new) }
 {
-    let checked = grammar_of_file(alloc, grammar, files)?;
+    let checked = grammar_of_files(alloc, grammar, files)?;
     let form = form_of(alloc, &checked)?;
     Ok(form)
 }
 
-/// Puts the printed normal form of the grammar in a file on `out`, in one put, or the line that
+/// Puts the printed normal form of the grammar in one file or two on `out`, in one put, or the line that
 /// says why there is none, and gives the status. Where the normal form can't be put, nothing
 /// follows.
 pub fn normal<F: Files, O: Sink>(
@@ -58,6 +59,6 @@ pub fn normal<F: Files, O: Sink>(
     ensures { PrintsNormal (grammar_read grammar.entry) (seen F.content F.faults files.old) (seen F.content F.faults files.new)
         (seen O.put_so_far O.faults out.old) (seen O.put_so_far O.faults out.new) result }
 {
-    let outcome = form_of_file(alloc, grammar, files);
+    let outcome = form_of_files(alloc, grammar, files);
     end_with(out, &outcome)
 }

@@ -36,6 +36,8 @@ module _ (may_say : List ℕ → Verdict → Type 0) (old : World) (out : SeenOu
       must_end = record {
         grammar_over = λ g is over. refl;
         grammar_missing = λ g is none. refl;
+        lexer_over = λ g lexer is named over. refl;
+        lexer_missing = λ g lexer is named none. refl;
         faulty = λ g is shown. refl;
         input_over = λ fine over. refl;
         input_missing = λ fine none. refl;

@@ -6,7 +6,6 @@ use Rattle.edge_io.specs.Files.{FileContent, Holds}
 use Rattle.script_gate_trait.specs.declared.gate.Verdict.{Verdict}
 use Rattle.script_gate_trait.specs.declared.gate.Verdict.TheVariants.{Yes}
 use Rattle.grammar_tree.specs.Written.{CheckedGrammar}
-use Rattle.grammar_load.specs.Answer.{Spells}
 use Rattle.keep_guard.specs.Keep.{holds_all}
 use Rattle.reduce_journal.specs.History.{History, IsHistory, records_of}
 use Rattle.reduce_journal.specs.Journal.{journal_text}
@@ -17,10 +16,10 @@ use Rattle.run_gated.specs.Records.{OnlyNo}
 use Rattle.run_problem.specs.Committed.{questions_over}
 use Rattle.run_problem.specs.Ends.{AreOf, ReducesFrom}
 use Rattle.run_problem.specs.Laws.{AnswersAreBounded}
-use Rattle.run_problem.specs.Problem.{IsCandidateOf, Problem, start_of}
+use Rattle.run_problem.specs.Problem.{IsCandidateOf, Problem, start_text}
 use Rattle.run_problem.proofs.Lent.{none_of}
 use Rattle.command_words.specs.Commands.{Command, ModeOptions, ReduceOptions}
-use Rattle.command_grammar.specs.Grammar.{start_name}
+use Rattle.command_grammar.proofs.Lent.{one_grammar}
 use Rattle.command_ends.specs.Status.{IsOneOf}
 use Rattle.command_ends.specs.World.{Puts, SeenFiles, World}
 use Rattle.command_reduce_calls.specs.Journal.{JournalSoFar}
@@ -59,9 +58,7 @@ module _ (options : ReduceOptions) (files : SeenFiles) where
   one_in ModeOptions.lines problem other visible read read' =
       sym read'.holds ∙ ap Problem.of_lines (holds_once (files.shown options.input) read'.bytes read.bytes visible read'.read read.read) ∙ read.holds
   one_in (ModeOptions.by_grammar trees) problem other visible read read' =
-      let same_bytes = holds_once (files.shown trees.grammar.path) read'.1.bytes read.1.bytes visible.0 read'.1.read read.1.read in
-      let spelled = subst (λ (bytes : List ℕ). Spells bytes (start_name trees.grammar) read'.0) same_bytes read'.1.holds.spelled in
-      let same_grammar : read.0 ≡ read'.0 = read.1.holds.only read'.0 spelled in
+      let same_grammar : read.0 ≡ read'.0 = one_grammar trees.grammar files read.0 read'.0 visible.0 read.1 read'.1 in
       let same_text = holds_once (files.shown options.input) read'.2.bytes read.2.bytes visible.1 read'.2.read read.2.read in
       let input = read'.2.holds.0 in
       let of_text : IsInputOf read'.0 read.2.bytes input = subst (λ (text : List ℕ). IsInputOf read'.0 text input) same_text read'.2.holds.1.of_text in
@@ -71,7 +68,7 @@ module _ (options : ReduceOptions) (files : SeenFiles) where
 
   the_problem : (P : Problem → Type 0) → ProblemAccepted options files P → (problem : Problem) × IsProblemOf options files problem × P problem
   the_problem P accepted =
-      let Kept : Problem → Type 0 = λ problem. (holds_all options.keeps (start_of problem) ≡ true) × P problem in
+      let Kept : Problem → Type 0 = λ problem. (holds_all options.keeps (start_text problem) ≡ true) × P problem in
       let it : (problem : Problem) × ReadIn options.mode options files (λ one. one ≡ problem) × Kept problem = known_in options.mode Kept accepted in
       (it.0, record { read = it.1; kept = it.2.0; only = λ visible other read. one_in options.mode it.0 other visible it.1 read }, it.2.1)
 

@@ -14,8 +14,9 @@ use Rattle.reduce_rounds.specs.Verdicts.{HasVerdicts}
 use Rattle.run_gated.specs.Records.{BeginsAt, FirstIs, FirstIsNo, OnlyNo}
 use Rattle.run_problem.specs.Committed.{IsPrefix, committed_texts, questions_over, thread_over}
 use Rattle.run_problem.specs.Laws.{answer_count}
-use Rattle.run_problem.specs.Problem.{EndsMinimally, IsCandidateOf, Problem, counts_of, reduced_text, start_of}
+use Rattle.run_problem.specs.Problem.{EndsMinimally, IsCandidateOf, Problem, counts_of, reduced_text, start_text}
 use Rattle.command_words.specs.Commands.{ModeOptions, ReduceOptions}
+use Rattle.command_grammar.specs.Texts.{GrammarIsVisible}
 use Rattle.command_ends.specs.Status.{IsOneOf}
 use Rattle.command_ends.specs.World.{AnyGateFailed, CallFailed, NotReached, Puts, SeenFiles, World, logs_of}
 use Rattle.command_reduce_calls.specs.Journal.{JournalBroken, JournalSoFar, JournalWhole}
@@ -24,13 +25,13 @@ use Rattle.command_reduce.specs.Reduce.{GatesWereUsed, IsShownProblem, ProblemRe
 -- the content is visible of the files that are read
 abbrev pub AreVisible : ModeOptions → ReduceOptions → SeenFiles → Type 0
 AreVisible ModeOptions.lines options files = IsSome (files.shown options.input)
-AreVisible (ModeOptions.by_grammar trees) options files = IsSome (files.shown trees.grammar.path) × IsSome (files.shown options.input)
+AreVisible (ModeOptions.by_grammar trees) options files = GrammarIsVisible trees.grammar files × IsSome (files.shown options.input)
 
--- The problem is that of the files: the lines of the input; or its tree, by the grammar that its file spells.
+-- The problem is that of the files: the lines of the input; or its tree, by the grammar that its file spells, or the files of its lexer and its parser.
 -- Each keep text occurs in its start. Where the files are visible, they have no other.
 pub record IsProblemOf (options : ReduceOptions) (files : SeenFiles) (problem : Problem) : Type 0 where
   pub read : ProblemRead options files (λ one. one ≡ problem)
-  pub kept : holds_all options.keeps (start_of problem) ≡ true
+  pub kept : holds_all options.keeps (start_text problem) ≡ true
   pub only : AreVisible options.mode options files → (other : Problem) → ProblemRead options files (λ one. one ≡ other) → other ≡ problem
 
 -- the recorded verdicts; and the text that the recursive reduction ends with over them
@@ -60,7 +61,7 @@ pub record NoCallFailed (jobs : ℕ) (old new : World) : Type 0 where
 pub record Headline (may_say : List ℕ → Verdict → Type 0) (options : ReduceOptions) (old new : World) (status : ℕ) : Type 0 where
   -- the texts that have a verdict, with it, and which of these the reduction used, in their order
   pub history : History
-  -- what was reduced: where there is a history, the files' own problem as they were, by the grammar as it is written in its file
+  -- what was reduced: where there is a history, the files' own problem as they were, by the grammar as it is written in its file, or its two
   pub problem : Problem
   pub of_files : history ≢ [] → IsProblemOf options old.files problem
   -- ---- the result
@@ -70,7 +71,7 @@ pub record Headline (may_say : List ℕ → Verdict → Type 0) (options : Reduc
   pub other_files : SameOthers old.files.shown new.files.shown options.output
   pub files_kept : status ≢ 0 → status ≢ 4 → SameFiles old.files.shown new.files.shown
   -- the start's verdict is yes, and each text that the reduction asks has one
-  pub start_yes : HasResult status → FirstIs (start_of problem) Yes (records_of history)
+  pub start_yes : HasResult status → FirstIs (start_text problem) Yes (records_of history)
   pub defined : HasResult status → HasVerdicts (verdicts_of history) (questions_over options.keeps problem history)
   -- the result's verdict is yes; it is a candidate too, with each keep text
   pub yes_at_end : HasResult status → verdicts_of history (result_text options problem history) ≡ Some Yes
@@ -90,9 +91,9 @@ pub record Headline (may_say : List ℕ → Verdict → Type 0) (options : Reduc
   -- each text is of some of the start's lines or tokens, in the language of the grammar as it is written, and has each keep text
   pub candidates : All (λ r. IsCandidateOf options.keeps problem r.text) (records_of history)
   -- none is longer than the start
-  pub short : All (λ r. length r.text ≤ length (start_of problem)) (records_of history)
+  pub short : All (λ r. length r.text ≤ length (start_text problem)) (records_of history)
   -- the first is the start, and after its no nothing was asked
-  pub first : BeginsAt (start_of problem) (records_of history)
+  pub first : BeginsAt (start_text problem) (records_of history)
   pub ends_at_no : FirstIsNo (records_of history) → OnlyNo (records_of history)
   -- ---- the journal
   -- at 0, 4 and 8 it was opened under its name, and then got the bytes of the history, all of them and nothing else

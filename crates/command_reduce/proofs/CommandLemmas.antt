@@ -1,15 +1,14 @@
 -- How the steps of `reduce` end it.
-use Rattle.std.proofs.Common.{◌≡◌, inl, inr, ℕ, List, [], ◌∷◌, Option, true, drop, refl, sym, ap, ◌∙◌, subst, ⊎_elim, Result, Ok, Err, MatchResult}
+use Rattle.std.proofs.Common.{◌≡◌, inl, inr, ℕ, List, [], ◌∷◌, true, drop, refl, sym, ap, ◌∙◌, subst, ⊎_elim, Result, Ok, Err, MatchResult}
 use Rattle.std.specs.Global.{Vec}
 use Rattle.faults.specs.Count.{Rose}
 use Rattle.keep_guard.specs.Keep.{holds_all}
 use Rattle.edge_io.specs.Files.{SameFiles}
 use Rattle.script_gate_trait.specs.declared.gate.Verdict.{Verdict}
-use Rattle.script_gate_trait.specs.declared.log.Log.{Log}
 use Rattle.reduce_trees_input.specs.Laws.{InputFaultOnce, InputsAreInLanguage}
 use Rattle.command_ends.specs.declared.status.Refusal.{Refusal}
 use Rattle.command_ends.specs.declared.status.Refusal.TheVariants.{Memory, CannotRead, CannotWrite, Grammar, KeepMissing, NoParse, TooLong, Uncut}
-use Rattle.run_problem.specs.Problem.{Problem, start_of}
+use Rattle.run_problem.specs.Problem.{Problem, start_text}
 use Rattle.run_problem.specs.Ends.{AreOf, IsRefused, IsRunOf, IsUnfinished, ProblemEnds, ReducesFrom, RunFails}
 use Rattle.run_problem.specs.Read.{IsReadAs, start_read}
 use Rattle.run_problem.specs.declared.problem.ReadProblem.{ReadProblem}
@@ -108,13 +107,13 @@ module _ (options : ReduceOptions) (may_say : List ℕ → Verdict → Type 0) (
     outcome = outcome;
   }
 
-  some : (P : Problem → Type 0) → ProblemAccepted options old.files P → (problem : Problem) × ((holds_all options.keeps (start_of problem) ≡ true) × P problem)
-  some P read = any_problem options old.files (λ problem. (holds_all options.keeps (start_of problem) ≡ true) × P problem) read
+  some : (P : Problem → Type 0) → ProblemAccepted options old.files P → (problem : Problem) × ((holds_all options.keeps (start_text problem) ≡ true) × P problem)
+  some P read = any_problem options old.files (λ problem. (holds_all options.keeps (start_text problem) ≡ true) × P problem) read
 
   but : (P Q : Problem → Type 0) → ((problem : Problem) → P problem → Q problem) → ProblemAccepted options old.files P → ProblemAccepted options old.files Q
   but P Q then read =
-      problem_map options old.files (λ problem. (holds_all options.keeps (start_of problem) ≡ true) × P problem)
-      (λ problem. (holds_all options.keeps (start_of problem) ≡ true) × Q problem)
+      problem_map options old.files (λ problem. (holds_all options.keeps (start_text problem) ≡ true) × P problem)
+      (λ problem. (holds_all options.keeps (start_text problem) ≡ true) × Q problem)
       (λ problem is. (is.0, then problem is.1)) read
 
   abbrev Fails : RunFault → Problem → Type 0

@@ -1,6 +1,7 @@
 -- Which status `reduce` has to end with, from how it ends.
 use Rattle.std.proofs.Common.{◌≡◌, ℕ, List, [], ◌∷◌, Some, true, false, ⊎_elim, refl, sym, ap, ◌∙◌, subst}
 use Rattle.std.proofs.lemmas.Bool.{false≢true}
+use Rattle.edge_io.specs.Files.{IsLonger}
 use Rattle.keep_guard.specs.Keep.{first_missing, holds_all}
 use Rattle.keep_guard.proofs.Lent.{holds_all_or_misses}
 use Rattle.script_gate_trait.specs.declared.gate.Verdict.TheVariants.{Yes}
@@ -10,25 +11,30 @@ use Rattle.reduce_trees_input.specs.Faults.{IsInputFault}
 use Rattle.reduce_trees_input.specs.Laws.{InputFaultOnce, InputsAreInLanguage}
 use Rattle.reduce_trees_input.specs.declared.fault.InputFault.{InputFault}
 use Rattle.reduce_trees_input.specs.declared.fault.InputFault.TheVariants as input_fault
+use Rattle.command_ends.specs.declared.status.NamedFile.{NamedFile}
 use Rattle.command_ends.specs.declared.status.NamedFile.TheVariants as named
 use Rattle.command_grammar.specs.Grammar.{IsFaultIn}
-use Rattle.run_problem.specs.Problem.{Problem, start_of}
+use Rattle.command_grammar.specs.Texts.{GrammarWasRead}
+use Rattle.command_grammar.proofs.Lent.{grammar_not_missing as file_not_missing, grammar_not_over as file_not_over}
+use Rattle.command_grammar.proofs.Lent.{lexer_not_missing, lexer_not_over, no_grammar, not_faulty}
+use Rattle.run_problem.specs.Problem.{Problem, start_text}
 use Rattle.run_problem.specs.Ends.{AreOf, IsUnfinished, ReducesFrom}
 use Rattle.reduce_journal.specs.History.{History, records_of}
 use Rattle.reduce_journal.specs.Report.{report_text}
 use Rattle.reduce_journal.specs.declared.counts.Counts.{Counts}
 use Rattle.command_reduce_calls.specs.Journal.{JournalSoFar}
-use Rattle.command_reduce.specs.Reduce.{InputHas, IsShownFault, IsShownProblem, ProblemAccepted, ProblemRead, ReduceEnds, ReduceMustEnd, ReducesTo}
+use Rattle.command_reduce.specs.Reduce.{InputHas, IsGrammarReached, IsShownFault, IsShownProblem, ProblemAccepted}
+use Rattle.command_reduce.specs.Reduce.{ProblemRead, ReduceEnds, ReduceMustEnd, ReducesTo, grammar_in}
 use Rattle.command_reduce.specs.Reduce.ReduceEnds.{done, memory, unread, unwritten, unput, faulty, no_token, unparsed}
 use Rattle.command_reduce.specs.Reduce.ReduceEnds.{uninteresting, keep_missing, too_long, script, journal}
 use Rattle.command_ends.specs.Status.{IsUncut}
 use Rattle.command_words.specs.Commands.{GrammarOptions, GrammarSource, ModeOptions, ReduceOptions}
-use Rattle.command_ends.specs.World.{IsQuiet, IsShownWithin, SeenJournal, fault_counts_of, WasRead, World, grammar_limit, input_limit}
-use Rattle.command_ends.proofs.Lent.{longer_not_missing, not_longer, read_not_missing, read_not_over}
+use Rattle.command_ends.specs.World.{FilesKept, IsQuiet, IsShownWithin, NotReached, SeenJournal, fault_counts_of, World, grammar_limit, input_limit}
+use Rattle.command_ends.proofs.Lent.{longer_not_missing, read_not_missing, read_not_over}
 use Rattle.command_reduce.proofs.ProblemLemmas.{any_problem, fault_is, fault_not_shown, faulty_not_shown, grammar_not_faulty, grammar_not_missing}
-use Rattle.command_reduce.proofs.ProblemLemmas.{grammar_not_over, input_read, long_grammar, long_grammar_not_shown, long_input_no_fault, long_input_not_shown}
-use Rattle.command_reduce.proofs.ProblemLemmas.{no_fault, no_grammar, not_faulty, parse_caused, reached_grammar, read_and_shown, shown_not_faulty}
-use Rattle.command_reduce.proofs.ProblemLemmas.{shown_not_long, uncut_caused}
+use Rattle.command_reduce.proofs.ProblemLemmas.{grammar_not_over, input_read, long_grammar_hidden, long_grammar_not_shown, long_grammar_there}
+use Rattle.command_reduce.proofs.ProblemLemmas.{long_input_no_fault, long_input_not_shown, no_fault, no_lexer_missing, no_lexer_over, parse_caused}
+use Rattle.command_reduce.proofs.ProblemLemmas.{reached_grammar, read_and_shown, shown_not_faulty, shown_not_long, uncut_caused}
 
 yes_no : (start : List ℕ) (records : List Record) → FirstIs start Yes records → FirstIsNo records → ⊥
 yes_no start [] first first_no = first
@@ -57,34 +63,34 @@ module _ (faults : InputFaultOnce) (languages : InputsAreInLanguage) (options : 
   keeps_all : (P : Problem → Type 0) → ProblemAccepted options old.files P → IsShownProblem options old.files (λ start. holds_all options.keeps start ≡ false)
       → ⊥
   keeps_all P read shown =
-      let it : (problem : Problem) × ((holds_all options.keeps (start_of problem) ≡ true) × P problem) × (holds_all options.keeps (start_of problem) ≡ false) =
-      read_and_shown options old.files (λ problem. (holds_all options.keeps (start_of problem) ≡ true) × P problem)
+      let it : (problem : Problem) × ((holds_all options.keeps (start_text problem) ≡ true) × P problem) × (holds_all options.keeps (start_text problem) ≡ false) =
+      read_and_shown options old.files (λ problem. (holds_all options.keeps (start_text problem) ≡ true) × P problem)
       (λ start. holds_all options.keeps start ≡ false) read shown in
       false≢true (sym it.2 ∙ it.1.0)
 
-  missing_keeps : (index : ℕ) → ProblemRead options old.files (λ problem. first_missing options.keeps (start_of problem) ≡ Some index)
+  missing_keeps : (index : ℕ) → ProblemRead options old.files (λ problem. first_missing options.keeps (start_text problem) ≡ Some index)
       → IsShownProblem options old.files (λ start. holds_all options.keeps start ≡ true) → ⊥
   missing_keeps index read shown =
-      let it : (problem : Problem) × (first_missing options.keeps (start_of problem) ≡ Some index) × (holds_all options.keeps (start_of problem) ≡ true) =
-      read_and_shown options old.files (λ problem. first_missing options.keeps (start_of problem) ≡ Some index)
+      let it : (problem : Problem) × (first_missing options.keeps (start_text problem) ≡ Some index) × (holds_all options.keeps (start_text problem) ≡ true) =
+      read_and_shown options old.files (λ problem. first_missing options.keeps (start_text problem) ≡ Some index)
       (λ start. holds_all options.keeps start ≡ true) read shown in
-      none_missing options.keeps (start_of it.0) index it.2 it.1
+      none_missing options.keeps (start_text it.0) index it.2 it.1
 
   yes_first : (text report : List ℕ) → ReducesTo options old.files history text report → FirstIsNo records → ⊥
   yes_first text report reduces first_no =
       let P : Problem → Type 0 =
       λ problem. (counts : Counts) × ReducesFrom options.jobs options.keeps problem history text counts × (report ≡ report_text counts)
       × AreOf options.jobs options.keeps problem history in
-      let it : (problem : Problem) × ((holds_all options.keeps (start_of problem) ≡ true) × P problem) =
-      any_problem options old.files (λ problem. (holds_all options.keeps (start_of problem) ≡ true) × P problem) reduces in
-      yes_no (start_of it.0) records it.1.1.1.first first_no
+      let it : (problem : Problem) × ((holds_all options.keeps (start_text problem) ≡ true) × P problem) =
+      any_problem options old.files (λ problem. (holds_all options.keeps (start_text problem) ≡ true) × P problem) reduces in
+      yes_no (start_text it.0) records it.1.1.1.first first_no
 
   not_no : options.jobs ≡ 1 → ProblemAccepted options old.files (λ problem. options.jobs ≡ 1 → IsUnfinished options.keeps problem history) → FirstIsNo records
       → ⊥
   not_no alone read first_no =
       let P : Problem → Type 0 = λ problem. options.jobs ≡ 1 → IsUnfinished options.keeps problem history in
-      let it : (problem : Problem) × ((holds_all options.keeps (start_of problem) ≡ true) × P problem) =
-      any_problem options old.files (λ problem. (holds_all options.keeps (start_of problem) ≡ true) × P problem) read in
+      let it : (problem : Problem) × ((holds_all options.keeps (start_text problem) ≡ true) × P problem) =
+      any_problem options old.files (λ problem. (holds_all options.keeps (start_text problem) ≡ true) × P problem) read in
       (it.1.1 alone).not_no first_no
 
   so_far_quiet : (name : List ℕ) → JournalSoFar name history old.journal new.journal → IsQuiet old.journal new.journal
@@ -93,26 +99,54 @@ module _ (faults : InputFaultOnce) (languages : InputsAreInLanguage) (options : 
   so_far_quiet name (JournalSoFar.empty it) = it.quiet
 
   module _ {trees g : GrammarOptions} (mode : options.mode ≡ ModeOptions.by_grammar trees) (is : options.mode ≡ ModeOptions.by_grammar g) where
-    fault_at : {text : List ℕ} → WasRead grammar_limit (old.files.shown trees.grammar.path) (λ bytes. IsFaultIn trees.grammar bytes text)
-        → WasRead grammar_limit (old.files.shown g.grammar.path) (λ bytes. IsFaultIn g.grammar bytes text)
-    fault_at {text = text} read =
-        subst (λ (named : GrammarSource). WasRead grammar_limit (old.files.shown named.path) (λ bytes. IsFaultIn named bytes text)) (same_grammar mode is) read
+    fault_at : (text : List ℕ) → GrammarWasRead trees.grammar old.files (λ texts. IsFaultIn trees.grammar texts text)
+        → GrammarWasRead g.grammar old.files (λ texts. IsFaultIn g.grammar texts text)
+    fault_at text read =
+        subst (λ (named : GrammarSource). GrammarWasRead named old.files (λ texts. IsFaultIn named texts text)) (same_grammar mode is) read
 
-    faulty_no_fault : {text : List ℕ} → WasRead grammar_limit (old.files.shown trees.grammar.path) (λ bytes. IsFaultIn trees.grammar bytes text)
-        → (Q : InputFault → Type 0) → IsShownFault g.grammar options old.files Q → ⊥
-    faulty_no_fault {text = text} read Q shown =
-        no_grammar g.grammar (old.files.shown g.grammar.path) text (fault_at read)
+    faulty_no_fault : (text : List ℕ) → GrammarWasRead trees.grammar old.files (λ texts. IsFaultIn trees.grammar texts text) → (Q : InputFault → Type 0)
+        → IsShownFault g.grammar options old.files Q → ⊥
+    faulty_no_fault text read Q shown =
+        no_grammar g.grammar old.files text (fault_at text read)
         (λ c. IsShownWithin input_limit (old.files.shown options.input) (λ bytes. (fault : InputFault) × IsInputFault c bytes fault × Q fault)) shown
 
     has_at : (fault : InputFault) → InputHas trees.grammar (λ c bytes. IsInputFault c bytes fault) options old.files
         → InputHas g.grammar (λ c bytes. IsInputFault c bytes fault) options old.files
     has_at fault read = subst (λ (named : GrammarSource). InputHas named (λ c bytes. IsInputFault c bytes fault) options old.files) (same_grammar mode is) read
 
+  -- where a file of the grammar is too long
+  long_must_end : (file : NamedFile) → IsGrammarReached options.mode file old.files → IsLonger grammar_limit (old.files.shown (grammar_in options.mode file))
+      → FilesKept old.files new.files → NotReached history old new → ReduceMustEnd options records old new 10
+  long_must_end file reached longer files untouched = record {
+    grammar_over = λ g is over. refl;
+    grammar_missing = λ g is none. absurd (long_grammar_there options old.files g is file reached longer none);
+    lexer_over = λ g lexer is named over. refl;
+    lexer_missing = λ g lexer is named none. refl;
+    faulty = λ g is shown. absurd (long_grammar_hidden options old.files g is file reached longer _ shown);
+    input_over = λ fine over. refl;
+    input_missing = λ fine none. absurd (shown_not_long options old.files file fine reached longer);
+    over = λ over. refl;
+    missing = λ none. refl;
+    no_token = λ g is shown. absurd (long_grammar_hidden options old.files g is file reached longer _ shown);
+    unparsed = λ g is shown. absurd (long_grammar_hidden options old.files g is file reached longer _ shown);
+    keep_missing = λ shown. absurd (long_grammar_not_shown options old.files file _ reached longer shown);
+    complete = λ shown files_fine gate_fine journal_fine out_fine. absurd (long_grammar_not_shown options old.files file _ reached longer shown);
+    first_no = λ first_no. absurd (none_no records (ap records_of untouched.no_history) first_no);
+    first_no_alone = λ alone first_no. absurd (none_no records (ap records_of untouched.no_history) first_no);
+    files_failed = λ failed. absurd (failed files.quiet);
+    gate_failed = λ failed. absurd (failed (ap fault_counts_of untouched.gates));
+    gate_failed_alone = λ alone failed. absurd (failed (ap fault_counts_of untouched.gates));
+    journal_failed = λ failed. absurd (failed (ap (λ (j : SeenJournal). j.faults) untouched.journal));
+    out_failed = λ failed is. cc is;
+  }
+
   -- which status it has to be
   pub must_end : {status : ℕ} → ReduceEnds options history old new status → ReduceMustEnd options records old new status
   must_end (done report writes put) = record {
     grammar_over = λ g is over. absurd (grammar_not_over options old.files _ writes.reduced.reduces g is over);
     grammar_missing = λ g is none. absurd (grammar_not_missing options old.files _ writes.reduced.reduces g is none);
+    lexer_over = λ g lexer is named over. absurd (no_lexer_over options old.files _ writes.reduced.reduces g is lexer named over);
+    lexer_missing = λ g lexer is named none. absurd (no_lexer_missing options old.files _ writes.reduced.reduces g is lexer named none);
     faulty = λ g is shown. absurd (grammar_not_faulty options old.files _ writes.reduced.reduces g is shown);
     input_over = λ fine over. absurd (read_not_over (input_read options old.files _ writes.reduced.reduces) over);
     input_missing = λ fine none. absurd (read_not_missing (input_read options old.files _ writes.reduced.reduces) none);
@@ -135,6 +169,8 @@ module _ (faults : InputFaultOnce) (languages : InputsAreInLanguage) (options : 
   must_end (unput report writes put) = record {
     grammar_over = λ g is over. absurd (grammar_not_over options old.files _ writes.reduced.reduces g is over);
     grammar_missing = λ g is none. absurd (grammar_not_missing options old.files _ writes.reduced.reduces g is none);
+    lexer_over = λ g lexer is named over. absurd (no_lexer_over options old.files _ writes.reduced.reduces g is lexer named over);
+    lexer_missing = λ g lexer is named none. absurd (no_lexer_missing options old.files _ writes.reduced.reduces g is lexer named none);
     faulty = λ g is shown. absurd (grammar_not_faulty options old.files _ writes.reduced.reduces g is shown);
     input_over = λ fine over. absurd (read_not_over (input_read options old.files _ writes.reduced.reduces) over);
     input_missing = λ fine none. absurd (read_not_missing (input_read options old.files _ writes.reduced.reduces) none);
@@ -156,6 +192,8 @@ module _ (faults : InputFaultOnce) (languages : InputsAreInLanguage) (options : 
   must_end (memory files gates_quiet kept put) = record {
     grammar_over = λ g is over. refl;
     grammar_missing = λ g is none. refl;
+    lexer_over = λ g lexer is named over. refl;
+    lexer_missing = λ g lexer is named none. refl;
     faulty = λ g is shown. refl;
     input_over = λ fine over. refl;
     input_missing = λ fine none. refl;
@@ -176,6 +214,8 @@ module _ (faults : InputFaultOnce) (languages : InputsAreInLanguage) (options : 
   must_end (unread file reached call_failed same untouched put) = record {
     grammar_over = λ g is over. refl;
     grammar_missing = λ g is none. refl;
+    lexer_over = λ g lexer is named over. refl;
+    lexer_missing = λ g lexer is named none. refl;
     faulty = λ g is shown. refl;
     input_over = λ fine over. refl;
     input_missing = λ fine none. refl;
@@ -196,6 +236,8 @@ module _ (faults : InputFaultOnce) (languages : InputsAreInLanguage) (options : 
   must_end (unwritten call_failed text report reduces others gates_quiet kept put) = record {
     grammar_over = λ g is over. absurd (grammar_not_over options old.files _ reduces g is over);
     grammar_missing = λ g is none. absurd (grammar_not_missing options old.files _ reduces g is none);
+    lexer_over = λ g lexer is named over. absurd (no_lexer_over options old.files _ reduces g is lexer named over);
+    lexer_missing = λ g lexer is named none. absurd (no_lexer_missing options old.files _ reduces g is lexer named none);
     faulty = λ g is shown. absurd (grammar_not_faulty options old.files _ reduces g is shown);
     input_over = λ fine over. absurd (read_not_over (input_read options old.files _ reduces) over);
     input_missing = λ fine none. absurd (read_not_missing (input_read options old.files _ reduces) none);
@@ -214,15 +256,17 @@ module _ (faults : InputFaultOnce) (languages : InputsAreInLanguage) (options : 
     out_failed = λ failed is. cc is;
   }
   must_end (faulty trees text mode read files untouched put) = record {
-    grammar_over = λ g is over. absurd (read_not_over (fault_at mode is read) over);
-    grammar_missing = λ g is none. absurd (read_not_missing (fault_at mode is read) none);
+    grammar_over = λ g is over. absurd (file_not_over g.grammar old.files _ (fault_at mode is text read) over);
+    grammar_missing = λ g is none. absurd (file_not_missing g.grammar old.files _ (fault_at mode is text read) none);
+    lexer_over = λ g lexer is named over. absurd (lexer_not_over g.grammar old.files lexer named _ (fault_at mode is text read) over);
+    lexer_missing = λ g lexer is named none. absurd (lexer_not_missing g.grammar old.files lexer named _ (fault_at mode is text read) none);
     faulty = λ g is shown. refl;
-    input_over = λ fine over. absurd (shown_not_faulty options old.files mode read fine);
-    input_missing = λ fine none. absurd (shown_not_faulty options old.files mode read fine);
+    input_over = λ fine over. absurd (shown_not_faulty options old.files text mode read fine);
+    input_missing = λ fine none. absurd (shown_not_faulty options old.files text mode read fine);
     over = λ over. refl;
     missing = λ none. refl;
-    no_token = λ g is shown. absurd (faulty_no_fault mode is read IsUncut shown);
-    unparsed = λ g is shown. absurd (faulty_no_fault mode is read (λ fault. fault ≡ input_fault.NoParse) shown);
+    no_token = λ g is shown. absurd (faulty_no_fault mode is text read IsUncut shown);
+    unparsed = λ g is shown. absurd (faulty_no_fault mode is text read (λ fault. fault ≡ input_fault.NoParse) shown);
     keep_missing = λ shown. absurd (faulty_not_shown options old.files trees text _ mode read shown);
     complete = λ shown files_fine gate_fine journal_fine out_fine. absurd (faulty_not_shown options old.files trees text _ mode read shown);
     first_no = λ first_no. absurd (none_no records (ap records_of untouched.no_history) first_no);
@@ -234,9 +278,11 @@ module _ (faults : InputFaultOnce) (languages : InputsAreInLanguage) (options : 
     out_failed = λ failed is. cc is;
   }
   must_end (no_token trees fault mode uncut read files untouched put) = record {
-    grammar_over = λ g is over. absurd (read_not_over (has_at mode is fault read).1 over);
-    grammar_missing = λ g is none. absurd (read_not_missing (has_at mode is fault read).1 none);
-    faulty = λ g is shown. absurd (not_faulty _ _ _ (has_at mode is fault read).1 shown);
+    grammar_over = λ g is over. absurd (file_not_over g.grammar old.files _ (has_at mode is fault read).1 over);
+    grammar_missing = λ g is none. absurd (file_not_missing g.grammar old.files _ (has_at mode is fault read).1 none);
+    lexer_over = λ g lexer is named over. absurd (lexer_not_over g.grammar old.files lexer named _ (has_at mode is fault read).1 over);
+    lexer_missing = λ g lexer is named none. absurd (lexer_not_missing g.grammar old.files lexer named _ (has_at mode is fault read).1 none);
+    faulty = λ g is shown. absurd (not_faulty g.grammar old.files _ (has_at mode is fault read).1 shown);
     input_over = λ fine over. absurd (read_not_over read.2 over);
     input_missing = λ fine none. absurd (read_not_missing read.2 none);
     over = λ over. absurd (read_not_over read.2 over);
@@ -259,9 +305,11 @@ module _ (faults : InputFaultOnce) (languages : InputsAreInLanguage) (options : 
     out_failed = λ failed is. cc is;
   }
   must_end (unparsed trees mode read files untouched put) = record {
-    grammar_over = λ g is over. absurd (read_not_over (has_at mode is input_fault.NoParse read).1 over);
-    grammar_missing = λ g is none. absurd (read_not_missing (has_at mode is input_fault.NoParse read).1 none);
-    faulty = λ g is shown. absurd (not_faulty _ _ _ (has_at mode is input_fault.NoParse read).1 shown);
+    grammar_over = λ g is over. absurd (file_not_over g.grammar old.files _ (has_at mode is input_fault.NoParse read).1 over);
+    grammar_missing = λ g is none. absurd (file_not_missing g.grammar old.files _ (has_at mode is input_fault.NoParse read).1 none);
+    lexer_over = λ g lexer is named over. absurd (lexer_not_over g.grammar old.files lexer named _ (has_at mode is input_fault.NoParse read).1 over);
+    lexer_missing = λ g lexer is named none. absurd (lexer_not_missing g.grammar old.files lexer named _ (has_at mode is input_fault.NoParse read).1 none);
+    faulty = λ g is shown. absurd (not_faulty g.grammar old.files _ (has_at mode is input_fault.NoParse read).1 shown);
     input_over = λ fine over. absurd (read_not_over read.2 over);
     input_missing = λ fine none. absurd (read_not_missing read.2 none);
     over = λ over. absurd (read_not_over read.2 over);
@@ -286,6 +334,8 @@ module _ (faults : InputFaultOnce) (languages : InputsAreInLanguage) (options : 
   must_end (uninteresting read files gates_quiet kept put) = record {
     grammar_over = λ g is over. absurd (grammar_not_over options old.files _ read g is over);
     grammar_missing = λ g is none. absurd (grammar_not_missing options old.files _ read g is none);
+    lexer_over = λ g lexer is named over. absurd (no_lexer_over options old.files _ read g is lexer named over);
+    lexer_missing = λ g lexer is named none. absurd (no_lexer_missing options old.files _ read g is lexer named none);
     faulty = λ g is shown. absurd (grammar_not_faulty options old.files _ read g is shown);
     input_over = λ fine over. absurd (read_not_over (input_read options old.files _ read) over);
     input_missing = λ fine none. absurd (read_not_missing (input_read options old.files _ read) none);
@@ -306,6 +356,8 @@ module _ (faults : InputFaultOnce) (languages : InputsAreInLanguage) (options : 
   must_end (keep_missing index read files untouched put) = record {
     grammar_over = λ g is over. absurd (grammar_not_over options old.files _ read g is over);
     grammar_missing = λ g is none. absurd (grammar_not_missing options old.files _ read g is none);
+    lexer_over = λ g lexer is named over. absurd (no_lexer_over options old.files _ read g is lexer named over);
+    lexer_missing = λ g lexer is named none. absurd (no_lexer_missing options old.files _ read g is lexer named none);
     faulty = λ g is shown. absurd (grammar_not_faulty options old.files _ read g is shown);
     input_over = λ fine over. absurd (read_not_over (input_read options old.files _ read) over);
     input_missing = λ fine none. absurd (read_not_missing (input_read options old.files _ read) none);
@@ -325,8 +377,10 @@ module _ (faults : InputFaultOnce) (languages : InputsAreInLanguage) (options : 
   }
   must_end (too_long named.Input reached longer files untouched put) = record {
     grammar_over = λ g is over. refl;
-    grammar_missing = λ g is none. absurd (read_not_missing (reached_grammar options old.files g is reached).1 none);
-    faulty = λ g is shown. absurd (not_faulty _ _ _ (reached_grammar options old.files g is reached).1 shown);
+    grammar_missing = λ g is none. absurd (file_not_missing g.grammar old.files _ (reached_grammar options old.files g is reached).1 none);
+    lexer_over = λ g lexer is named over. refl;
+    lexer_missing = λ g lexer is named none. refl;
+    faulty = λ g is shown. absurd (not_faulty g.grammar old.files _ (reached_grammar options old.files g is reached).1 shown);
     input_over = λ fine over. refl;
     input_missing = λ fine none. absurd (longer_not_missing input_limit _ longer none);
     over = λ over. refl;
@@ -343,29 +397,13 @@ module _ (faults : InputFaultOnce) (languages : InputsAreInLanguage) (options : 
     journal_failed = λ failed. absurd (failed (ap (λ (j : SeenJournal). j.faults) untouched.journal));
     out_failed = λ failed is. cc is;
   }
-  must_end (too_long named.Grammar reached longer files untouched put) = record {
-    grammar_over = λ g is over. refl;
-    grammar_missing = λ g is none. absurd (longer_not_missing grammar_limit _ (long_grammar options old.files g is longer) none);
-    faulty = λ g is shown. absurd (not_longer grammar_limit _ _ shown (long_grammar options old.files g is longer));
-    input_over = λ fine over. refl;
-    input_missing = λ fine none. absurd (shown_not_long options old.files fine reached longer);
-    over = λ over. refl;
-    missing = λ none. refl;
-    no_token = λ g is shown. absurd (not_longer grammar_limit _ _ shown (long_grammar options old.files g is longer));
-    unparsed = λ g is shown. absurd (not_longer grammar_limit _ _ shown (long_grammar options old.files g is longer));
-    keep_missing = λ shown. absurd (long_grammar_not_shown options old.files _ reached longer shown);
-    complete = λ shown files_fine gate_fine journal_fine out_fine. absurd (long_grammar_not_shown options old.files _ reached longer shown);
-    first_no = λ first_no. absurd (none_no records (ap records_of untouched.no_history) first_no);
-    first_no_alone = λ alone first_no. absurd (none_no records (ap records_of untouched.no_history) first_no);
-    files_failed = λ failed. absurd (failed files.quiet);
-    gate_failed = λ failed. absurd (failed (ap fault_counts_of untouched.gates));
-    gate_failed_alone = λ alone failed. absurd (failed (ap fault_counts_of untouched.gates));
-    journal_failed = λ failed. absurd (failed (ap (λ (j : SeenJournal). j.faults) untouched.journal));
-    out_failed = λ failed is. cc is;
-  }
+  must_end (too_long named.Grammar reached longer files untouched put) = long_must_end named.Grammar reached longer files untouched
+  must_end (too_long named.Lexer reached longer files untouched put) = long_must_end named.Lexer reached longer files untouched
   must_end (script worker one_of call_failed read files kept put) = record {
     grammar_over = λ g is over. absurd (grammar_not_over options old.files _ read g is over);
     grammar_missing = λ g is none. absurd (grammar_not_missing options old.files _ read g is none);
+    lexer_over = λ g lexer is named over. absurd (no_lexer_over options old.files _ read g is lexer named over);
+    lexer_missing = λ g lexer is named none. absurd (no_lexer_missing options old.files _ read g is lexer named none);
     faulty = λ g is shown. absurd (grammar_not_faulty options old.files _ read g is shown);
     input_over = λ fine over. absurd (read_not_over (input_read options old.files _ read) over);
     input_missing = λ fine none. absurd (read_not_missing (input_read options old.files _ read) none);
@@ -386,6 +424,8 @@ module _ (faults : InputFaultOnce) (languages : InputsAreInLanguage) (options : 
   must_end (journal call_failed read broken gates_quiet files put) = record {
     grammar_over = λ g is over. absurd (grammar_not_over options old.files _ read g is over);
     grammar_missing = λ g is none. absurd (grammar_not_missing options old.files _ read g is none);
+    lexer_over = λ g lexer is named over. absurd (no_lexer_over options old.files _ read g is lexer named over);
+    lexer_missing = λ g lexer is named none. absurd (no_lexer_missing options old.files _ read g is lexer named none);
     faulty = λ g is shown. absurd (grammar_not_faulty options old.files _ read g is shown);
     input_over = λ fine over. absurd (read_not_over (input_read options old.files _ read) over);
     input_missing = λ fine none. absurd (read_not_missing (input_read options old.files _ read) none);

@@ -4,7 +4,6 @@ use Rattle.std.proofs.lemmas.Option.{same_Some}
 use Rattle.edge_io.specs.Files.{FileContent, Holds, IsLonger}
 use Rattle.keep_guard.specs.Keep.{holds_all}
 use Rattle.grammar_tree.specs.Written.{CheckedGrammar}
-use Rattle.grammar_load.specs.Answer.{Spells}
 use Rattle.reduce_trees_mode.specs.Candidates.{InLanguage}
 use Rattle.reduce_trees_mode.specs.Input.{TreeInput}
 use Rattle.reduce_trees_input.specs.Faults.{IsInputFault}
@@ -13,17 +12,20 @@ use Rattle.reduce_trees_input.specs.declared.fault.InputFault.{InputFault}
 use Rattle.reduce_trees_input.specs.declared.fault.InputFault.TheVariants as input_fault
 use Rattle.run_problem.specs.declared.problem.ReadProblem.{ReadProblem}
 use Rattle.run_problem.specs.declared.problem.ReadProblem.TheVariants as read_problem
+use Rattle.command_ends.specs.declared.status.NamedFile.{NamedFile}
 use Rattle.command_ends.specs.declared.status.NamedFile.TheVariants as named
 use Rattle.command_grammar.specs.Grammar.{GrammarRead, IsFaultIn, IsGrammarText}
-use Rattle.run_problem.specs.Problem.{Problem, start_of}
+use Rattle.command_grammar.specs.Texts.{GrammarIsShown, GrammarTexts, GrammarWasRead, IsGrammarFile, path_of}
+use Rattle.command_grammar.proofs.Lent.{fault_not_shown as file_fault_not_shown, grammar_not_missing as file_not_missing, grammar_not_over as file_not_over}
+use Rattle.command_grammar.proofs.Lent.{lexer_not_missing, lexer_not_over, long_not_missing, no_grammar, not_faulty, of_grammar, shown_not_longer}
+use Rattle.run_problem.specs.Problem.{Problem, start_text}
 use Rattle.run_problem.specs.Read.{IsReadAs, start_read}
-use Rattle.command_reduce.specs.Reduce.{InputHas, IsReached, IsShownFault, IsShownGrammar, IsTreeProblem}
+use Rattle.command_reduce.specs.Reduce.{InputHas, IsGrammarReached, IsReached, IsShownFault, IsShownGrammar, IsTreeProblem}
 use Rattle.command_reduce.specs.Reduce.{ProblemAccepted, ProblemRead, ReadIn, ShownIn, grammar_in}
 use Rattle.command_ends.specs.Status.{IsUncut}
-use Rattle.command_words.specs.Commands.{GrammarOptions, GrammarSource, ModeOptions, ReduceOptions}
-use Rattle.command_grammar.specs.Grammar.{start_name}
+use Rattle.command_words.specs.Commands.{GrammarOptions, ModeOptions, ReduceOptions}
 use Rattle.command_ends.specs.World.{IsOver, IsShownWithin, SeenFiles, WasRead, grammar_limit, input_limit}
-use Rattle.command_ends.proofs.Lent.{not_longer, read_not_missing, read_not_over}
+use Rattle.command_ends.proofs.Lent.{not_longer}
 
 -- what is visible of a file holds of the bytes that were read
 pub shown_holds : (limit : ℕ) (P : List ℕ → Type 0) (content : Option FileContent) → IsShownWithin limit content P → (bytes : List ℕ) → Holds bytes content
@@ -31,33 +33,6 @@ pub shown_holds : (limit : ℕ) (P : List ℕ → Type 0) (content : Option File
 shown_holds limit P None shown bytes here = absurd shown
 shown_holds limit P (Some None) shown bytes here = absurd shown
 shown_holds limit P (Some (Some held)) shown bytes here = subst P (same_Some held bytes here) shown.1
-
--- bytes that spell a grammar are the text of one
-pub is_text_of : (named : GrammarSource) (bytes : List ℕ) (c : CheckedGrammar) → Spells bytes (start_name named) c → IsGrammarText named bytes
-is_text_of named bytes c is = record { grammar = c.grammar; start = c.start; spelled = is.text; first = is.start; well_formed = is.checked.well_formed }
-
--- a grammar that was read isn't a faulty text
-pub not_faulty : (named : GrammarSource) (content : Option FileContent) (c : CheckedGrammar) → GrammarRead named content c
-    → IsShownWithin grammar_limit content (λ bytes. ¬ IsGrammarText named bytes) → ⊥
-not_faulty named content c read shown =
-    shown_holds grammar_limit (λ bytes. ¬ IsGrammarText named bytes) content shown read.bytes read.read (is_text_of named read.bytes c read.holds.spelled)
-
--- and it is the one that is visible
-pub of_grammar : (named : GrammarSource) (content : Option FileContent) (c : CheckedGrammar) → GrammarRead named content c → (S : CheckedGrammar → Type 0)
-    → IsShownWithin grammar_limit content (λ bytes. (other : CheckedGrammar) × Spells bytes (start_name named) other × S other) → S c
-of_grammar named content c read S shown =
-    let it : (other : CheckedGrammar) × Spells read.bytes (start_name named) other × S other =
-    shown_holds grammar_limit (λ bytes. (other : CheckedGrammar) × Spells bytes (start_name named) other × S other) content shown read.bytes read.read in
-    subst S (sym (read.holds.only it.0 it.1)) it.2
-
--- where a fault was read, no grammar is visible
-pub no_grammar : (named : GrammarSource) (content : Option FileContent) (text : List ℕ) → WasRead grammar_limit content (λ bytes. IsFaultIn named bytes text)
-    → (S : CheckedGrammar → Type 0)
-    → IsShownWithin grammar_limit content (λ bytes. (other : CheckedGrammar) × Spells bytes (start_name named) other × S other) → ⊥
-no_grammar named content text read S shown =
-    let it : (other : CheckedGrammar) × Spells read.bytes (start_name named) other × S other =
-    shown_holds grammar_limit (λ bytes. (other : CheckedGrammar) × Spells bytes (start_name named) other × S other) content shown read.bytes read.read in
-    read.holds.refused (is_text_of named read.bytes it.0 it.1)
 
 -- faults that bytes have aren't out of memory
 pub uncut_caused : (fault : InputFault) → IsUncut fault → fault ≢ input_fault.Memory
@@ -67,9 +42,9 @@ pub parse_caused : (fault : InputFault) → fault ≡ input_fault.NoParse → fa
 parse_caused fault no_parse is = cc (sym no_parse ∙ is)
 
 -- the start of what was read is its text
-pub start_as : (keeps : List (List ℕ)) (read : ReadProblem) (problem : Problem) → IsReadAs keeps read problem → start_of problem ≡ start_read read
-start_as keeps (read_problem.Lines start) problem is = ap start_of is
-start_as keeps (read_problem.Tree found mode squeeze) problem is = ap start_of is.1
+pub start_as : (keeps : List (List ℕ)) (read : ReadProblem) (problem : Problem) → IsReadAs keeps read problem → start_text problem ≡ start_read read
+start_as keeps (read_problem.Lines start) problem is = ap start_text is
+start_as keeps (read_problem.Tree found mode squeeze) problem is = ap start_text is.1
 
 module _ (options : ReduceOptions) (files : SeenFiles) where
   -- what holds of a problem that was read also holds of another fact
@@ -90,7 +65,7 @@ module _ (options : ReduceOptions) (files : SeenFiles) where
       → ((problem : Problem) → IsReadAs options.keeps read problem → Q problem)
       → ProblemRead options files (IsReadAs options.keeps read) → ProblemAccepted options files Q
   accepted_as read Q kept then was =
-      problem_map (IsReadAs options.keeps read) (λ problem. (holds_all options.keeps (start_of problem) ≡ true) × Q problem)
+      problem_map (IsReadAs options.keeps read) (λ problem. (holds_all options.keeps (start_text problem) ≡ true) × Q problem)
       (λ problem is. (ap (holds_all options.keeps) (start_as options.keeps read problem is) ∙ kept, then problem is)) was
 
   any_in : (mode : ModeOptions) (P : Problem → Type 0) → ReadIn mode options files P → (problem : Problem) × P problem
@@ -110,21 +85,20 @@ module _ (options : ReduceOptions) (files : SeenFiles) where
   input_read P read = input_in options.mode P read
 
   both_in : (mode : ModeOptions) (P : Problem → Type 0) (S : List ℕ → Type 0) → ReadIn mode options files P → ShownIn mode options files S → (problem : Problem)
-      × P problem × S (start_of problem)
+      × P problem × S (start_text problem)
   both_in ModeOptions.lines P S read shown =
       (Problem.of_lines read.bytes, read.holds, shown_holds input_limit S (files.shown options.input) shown read.bytes read.read)
   both_in (ModeOptions.by_grammar trees) P S read shown =
       let content = files.shown options.input in
       let visible : IsShownWithin input_limit content (λ text. InLanguage read.0 text × S text) =
-      of_grammar trees.grammar (files.shown trees.grammar.path) read.0 read.1
-      (λ c. IsShownWithin input_limit content (λ text. InLanguage c text × S text)) shown in
+      of_grammar trees.grammar files read.0 read.1 (λ c. IsShownWithin input_limit content (λ text. InLanguage c text × S text)) shown in
       let it : InLanguage read.0 read.2.bytes × S read.2.bytes =
       shown_holds input_limit (λ text. InLanguage read.0 text × S text) content visible read.2.bytes read.2.read in
       (Problem.of_tree trees.mode read.2.holds.0, read.2.holds.2, subst S (sym read.2.holds.1.of_text.same_text) it.1)
 
   -- what is visible of a problem holds of the one that was read
   pub read_and_shown : (P : Problem → Type 0) (S : List ℕ → Type 0) → ProblemRead options files P → ShownIn options.mode options files S → (problem : Problem)
-      × P problem × S (start_of problem)
+      × P problem × S (start_text problem)
   read_and_shown P S read shown = both_in options.mode P S read shown
 
   -- the grammar was read too
@@ -133,13 +107,20 @@ module _ (options : ReduceOptions) (files : SeenFiles) where
     grammar_read = subst (λ m. ReadIn m options files P) mode read
 
     pub grammar_not_over : IsOver grammar_limit (files.shown trees.grammar.path) → ⊥
-    grammar_not_over over = read_not_over grammar_read.1 over
+    grammar_not_over over = file_not_over trees.grammar files _ grammar_read.1 over
 
     pub grammar_not_missing : files.shown trees.grammar.path ≡ Some None → ⊥
-    grammar_not_missing none = read_not_missing grammar_read.1 none
+    grammar_not_missing none = file_not_missing trees.grammar files _ grammar_read.1 none
 
-    pub grammar_not_faulty : IsShownWithin grammar_limit (files.shown trees.grammar.path) (λ bytes. ¬ IsGrammarText trees.grammar bytes) → ⊥
-    grammar_not_faulty shown = not_faulty trees.grammar (files.shown trees.grammar.path) grammar_read.0 grammar_read.1 shown
+    module _ (lexer : List ℕ) (is : trees.grammar.lexer ≡ Some lexer) where
+      pub no_lexer_over : IsOver grammar_limit (files.shown lexer) → ⊥
+      no_lexer_over over = lexer_not_over trees.grammar files lexer is _ grammar_read.1 over
+
+      pub no_lexer_missing : files.shown lexer ≡ Some None → ⊥
+      no_lexer_missing none = lexer_not_missing trees.grammar files lexer is _ grammar_read.1 none
+
+    pub grammar_not_faulty : GrammarIsShown trees.grammar files (λ texts. ¬ IsGrammarText trees.grammar texts) → ⊥
+    grammar_not_faulty shown = not_faulty trees.grammar files grammar_read.0 grammar_read.1 shown
 
     -- and the input has no fault
     pub no_fault : InputFaultOnce → InputsAreInLanguage → (Q : InputFault → Type 0) → ((fault : InputFault) → Q fault → fault ≢ input_fault.Memory)
@@ -150,7 +131,7 @@ module _ (options : ReduceOptions) (files : SeenFiles) where
         let input : WasRead input_limit content (λ text. (input : TreeInput) × IsTreeProblem options.keeps c trees.squeeze text input
         × P (Problem.of_tree trees.mode input)) = grammar_read.2 in
         let visible : IsShownWithin input_limit content (λ text. (fault : InputFault) × IsInputFault c text fault × Q fault) =
-        of_grammar trees.grammar (files.shown trees.grammar.path) c grammar_read.1
+        of_grammar trees.grammar files c grammar_read.1
         (λ c. IsShownWithin input_limit content (λ text. (fault : InputFault) × IsInputFault c text fault × Q fault)) shown in
         let it : (fault : InputFault) × IsInputFault c input.bytes fault × Q fault =
         shown_holds input_limit (λ text. (fault : InputFault) × IsInputFault c text fault × Q fault) content visible input.bytes input.read in
@@ -167,7 +148,7 @@ module _ (options : ReduceOptions) (files : SeenFiles) where
     unfolding content
     fault_in mode S is shown =
         let visible : IsShownWithin input_limit content (λ text. InLanguage read.0 text × S text) =
-        of_grammar trees.grammar (files.shown trees.grammar.path) read.0 read.1 (λ c. IsShownWithin input_limit content (λ text. InLanguage c text × S text))
+        of_grammar trees.grammar files read.0 read.1 (λ c. IsShownWithin input_limit content (λ text. InLanguage c text × S text))
         (subst (λ m. ShownIn m options files S) is shown) in
         let it : InLanguage read.0 read.2.bytes × S read.2.bytes =
         shown_holds input_limit (λ text. InLanguage read.0 text × S text) content visible read.2.bytes read.2.read in
@@ -182,7 +163,7 @@ module _ (options : ReduceOptions) (files : SeenFiles) where
     unfolding content
     fault_is Q not_memory shown =
         let visible : IsShownWithin input_limit content (λ text. (fault : InputFault) × IsInputFault read.0 text fault × Q fault) =
-        of_grammar trees.grammar (files.shown trees.grammar.path) read.0 read.1
+        of_grammar trees.grammar files read.0 read.1
         (λ c. IsShownWithin input_limit content (λ text. (fault : InputFault) × IsInputFault c text fault × Q fault)) shown in
         let it : (fault : InputFault) × IsInputFault read.0 read.2.bytes fault × Q fault =
         shown_holds input_limit (λ text. (fault : InputFault) × IsInputFault read.0 text fault × Q fault) content visible read.2.bytes read.2.read in
@@ -190,10 +171,10 @@ module _ (options : ReduceOptions) (files : SeenFiles) where
 
   -- a grammar that has a fault isn't that of a problem
   pub faulty_not_shown : (trees : GrammarOptions) (text : List ℕ) (S : List ℕ → Type 0) → options.mode ≡ ModeOptions.by_grammar trees
-      → WasRead grammar_limit (files.shown trees.grammar.path) (λ bytes. IsFaultIn trees.grammar bytes text) → ShownIn options.mode options files S → ⊥
+      → GrammarWasRead trees.grammar files (λ texts. IsFaultIn trees.grammar texts text) → ShownIn options.mode options files S → ⊥
   faulty_not_shown trees text S is read shown =
-      no_grammar trees.grammar (files.shown trees.grammar.path) text read
-      (λ c. IsShownWithin input_limit (files.shown options.input) (λ bytes. InLanguage c bytes × S bytes)) (subst (λ m. ShownIn m options files S) is shown)
+      no_grammar trees.grammar files text read (λ c. IsShownWithin input_limit (files.shown options.input) (λ bytes. InLanguage c bytes × S bytes))
+      (subst (λ m. ShownIn m options files S) is shown)
 
   -- neither is one, nor an input, that is too long
   long_input_in : (mode : ModeOptions) (S : List ℕ → Type 0) → IsReached mode named.Input files → IsLonger input_limit (files.shown options.input)
@@ -201,53 +182,63 @@ module _ (options : ReduceOptions) (files : SeenFiles) where
   long_input_in ModeOptions.lines S reached longer shown = not_longer input_limit S (files.shown options.input) shown longer
   long_input_in (ModeOptions.by_grammar trees) S reached longer shown =
       not_longer input_limit (λ text. InLanguage reached.0 text × S text) (files.shown options.input)
-      (of_grammar trees.grammar (files.shown trees.grammar.path) reached.0 reached.1
+      (of_grammar trees.grammar files reached.0 reached.1
       (λ c. IsShownWithin input_limit (files.shown options.input) (λ text. InLanguage c text × S text)) shown) longer
 
   pub long_input_not_shown : (S : List ℕ → Type 0) → IsReached options.mode named.Input files → IsLonger input_limit (files.shown options.input)
       → ShownIn options.mode options files S → ⊥
   long_input_not_shown S reached longer shown = long_input_in options.mode S reached longer shown
 
-  long_grammar_in : (mode : ModeOptions) (S : List ℕ → Type 0) → IsReached mode named.Grammar files → IsLonger grammar_limit (files.shown (grammar_in mode))
-      → ShownIn mode options files S → ⊥
-  long_grammar_in ModeOptions.lines S reached longer shown = reached
-  long_grammar_in (ModeOptions.by_grammar trees) S reached longer shown = not_longer grammar_limit _ (files.shown trees.grammar.path) shown longer
+  long_grammar_in : (mode : ModeOptions) (file : NamedFile) (S : List ℕ → Type 0) → IsGrammarReached mode file files
+      → IsLonger grammar_limit (files.shown (grammar_in mode file)) → ShownIn mode options files S → ⊥
+  long_grammar_in ModeOptions.lines file S reached longer shown = reached
+  long_grammar_in (ModeOptions.by_grammar trees) file S reached longer shown = shown_not_longer trees.grammar files _ file reached shown longer
 
-  pub long_grammar_not_shown : (S : List ℕ → Type 0) → IsReached options.mode named.Grammar files
-      → IsLonger grammar_limit (files.shown (grammar_in options.mode)) → ShownIn options.mode options files S → ⊥
-  long_grammar_not_shown S reached longer shown = long_grammar_in options.mode S reached longer shown
+  pub long_grammar_not_shown : (file : NamedFile) (S : List ℕ → Type 0) → IsGrammarReached options.mode file files
+      → IsLonger grammar_limit (files.shown (grammar_in options.mode file)) → ShownIn options.mode options files S → ⊥
+  long_grammar_not_shown file S reached longer shown = long_grammar_in options.mode file S reached longer shown
 
   -- a grammar that is visible and well-formed has no fault
-  pub shown_not_faulty : {trees : GrammarOptions} {text : List ℕ} → options.mode ≡ ModeOptions.by_grammar trees
-      → WasRead grammar_limit (files.shown trees.grammar.path) (λ bytes. IsFaultIn trees.grammar bytes text) → IsShownGrammar options.mode files → ⊥
-  shown_not_faulty {trees = trees} is read shown =
-      read.holds.refused (shown_holds grammar_limit (IsGrammarText trees.grammar) (files.shown trees.grammar.path)
-      (subst (λ m. IsShownGrammar m files) is shown) read.bytes read.read)
+  pub shown_not_faulty : {trees : GrammarOptions} (text : List ℕ) → options.mode ≡ ModeOptions.by_grammar trees
+      → GrammarWasRead trees.grammar files (λ texts. IsFaultIn trees.grammar texts text) → IsShownGrammar options.mode files → ⊥
+  shown_not_faulty {trees = trees} text is read shown =
+      file_fault_not_shown trees.grammar files text read (subst (λ m. IsShownGrammar m files) is shown)
 
   -- and isn't too long
-  shown_short_in : (mode : ModeOptions) → IsShownGrammar mode files → IsReached mode named.Grammar files
-      → IsLonger grammar_limit (files.shown (grammar_in mode)) → ⊥
-  shown_short_in ModeOptions.lines shown reached longer = reached
-  shown_short_in (ModeOptions.by_grammar trees) shown reached longer =
-      not_longer grammar_limit (IsGrammarText trees.grammar) (files.shown trees.grammar.path) shown longer
+  shown_short_in : (mode : ModeOptions) (file : NamedFile) → IsShownGrammar mode files → IsGrammarReached mode file files
+      → IsLonger grammar_limit (files.shown (grammar_in mode file)) → ⊥
+  shown_short_in ModeOptions.lines file shown reached longer = reached
+  shown_short_in (ModeOptions.by_grammar trees) file shown reached longer = shown_not_longer trees.grammar files _ file reached shown longer
 
-  pub shown_not_long : IsShownGrammar options.mode files → IsReached options.mode named.Grammar files
-      → IsLonger grammar_limit (files.shown (grammar_in options.mode)) → ⊥
-  shown_not_long shown reached longer = shown_short_in options.mode shown reached longer
+  pub shown_not_long : (file : NamedFile) → IsShownGrammar options.mode files → IsGrammarReached options.mode file files
+      → IsLonger grammar_limit (files.shown (grammar_in options.mode file)) → ⊥
+  shown_not_long file shown reached longer = shown_short_in options.mode file shown reached longer
 
   module _ (trees : GrammarOptions) (mode : options.mode ≡ ModeOptions.by_grammar trees) where
     -- the grammar of an input that is reached was read
-    pub reached_grammar : IsReached options.mode named.Input files → (c : CheckedGrammar) × GrammarRead trees.grammar (files.shown trees.grammar.path) c
+    pub reached_grammar : IsReached options.mode named.Input files → (c : CheckedGrammar) × GrammarRead trees.grammar files c
     reached_grammar reached = subst (λ m. IsReached m named.Input files) mode reached
 
-    pub long_grammar : IsLonger grammar_limit (files.shown (grammar_in options.mode)) → IsLonger grammar_limit (files.shown trees.grammar.path)
-    long_grammar longer = subst (λ m. IsLonger grammar_limit (files.shown (grammar_in m))) mode longer
+    -- a file of the grammar that is too long is of this one, whose first file is there, and which isn't visible as a whole
+    module _ (file : NamedFile) (reached : IsGrammarReached options.mode file files)
+        (longer : IsLonger grammar_limit (files.shown (grammar_in options.mode file))) where
+      file_at : IsGrammarFile trees.grammar file files
+      file_at = subst (λ m. IsGrammarReached m file files) mode reached
+
+      longer_at : IsLonger grammar_limit (files.shown (path_of trees.grammar file))
+      longer_at = subst (λ m. IsLonger grammar_limit (files.shown (grammar_in m file))) mode longer
+
+      pub long_grammar_there : files.shown trees.grammar.path ≡ Some None → ⊥
+      long_grammar_there none = long_not_missing trees.grammar files file file_at longer_at none
+
+      pub long_grammar_hidden : (Q : GrammarTexts → Type 0) → GrammarIsShown trees.grammar files Q → ⊥
+      long_grammar_hidden Q shown = shown_not_longer trees.grammar files Q file file_at shown longer_at
 
     -- an input that is too long has no fault that is named
     pub long_input_no_fault : (Q : InputFault → Type 0) → IsReached options.mode named.Input files → IsLonger input_limit (files.shown options.input)
         → IsShownFault trees.grammar options files Q → ⊥
     long_input_no_fault Q reached longer shown =
-        let it : (c : CheckedGrammar) × GrammarRead trees.grammar (files.shown trees.grammar.path) c = reached_grammar reached in
+        let it : (c : CheckedGrammar) × GrammarRead trees.grammar files c = reached_grammar reached in
         not_longer input_limit (λ text. (fault : InputFault) × IsInputFault it.0 text fault × Q fault) (files.shown options.input)
-        (of_grammar trees.grammar (files.shown trees.grammar.path) it.0 it.1
+        (of_grammar trees.grammar files it.0 it.1
         (λ c. IsShownWithin input_limit (files.shown options.input) (λ text. (fault : InputFault) × IsInputFault c text fault × Q fault)) shown) longer

@@ -1,6 +1,6 @@
 -- What was read of the files, and why nothing was.
-use Rattle.std.proofs.Common.{arith, ◌≡◌, ◌≤◌, ℕ, List, length, Option, Some, true, false, refl, sym, ap, ◌∙◌, subst}
-use Rattle.edge_io.specs.Files.{FileContent, Holds, IsLonger}
+use Rattle.std.proofs.Common.{arith, ◌≡◌, ◌≤◌, ℕ, List, length, Some, true, false, refl, sym, ap, ◌∙◌, subst}
+use Rattle.edge_io.specs.Files.{Holds, IsLonger}
 use Rattle.grammar_tree.specs.Checked.{IsChecked}
 use Rattle.grammar_tree.specs.Written.{CheckedGrammar}
 use Rattle.keep_guard.specs.Keep.{first_missing, keeps_admit}
@@ -12,12 +12,12 @@ use Rattle.reduce_trees_input.specs.declared.fault.InputFault.{InputFault}
 use Rattle.reduce_trees_input.specs.declared.parsed.ParsedInput.{ParsedInput}
 use Rattle.run_problem.specs.declared.problem.ReadProblem.{ReadProblem}
 use Rattle.run_problem.specs.declared.problem.ReadProblem.TheVariants as read
-use Rattle.run_problem.specs.Problem.{start_of}
+use Rattle.run_problem.specs.Problem.{start_text}
 use Rattle.run_problem.specs.Read.{IsReadAs, start_read}
 use Rattle.command_ends.specs.declared.status.Refusal.{Refusal}
 use Rattle.command_ends.specs.declared.status.NamedFile.TheVariants as named
 use Rattle.command_ends.specs.declared.status.Refusal.TheVariants.{Memory, CannotRead, Grammar, KeepMissing, NoParse, TooLong, Uncut}
-use Rattle.command_grammar.specs.Grammar.{GrammarRead}
+use Rattle.command_grammar.specs.Grammar.{GrammarFails, GrammarRead}
 use Rattle.command_reduce.specs.inner.Read.{GivesTree, KeepRefused, TreeFails}
 use Rattle.command_reduce.specs.Reduce.{IsReached, ProblemRead, ReadIn, grammar_in}
 use Rattle.command_reduce.specs.inner.Reduce.{ProblemFails}
@@ -31,11 +31,24 @@ use Rattle.command_reduce.proofs.ProblemLemmas.{problem_map, start_as}
 within_more : {n : ℕ} → n ≤ input_limit → n ≤ text_limit
 within_more within = omega (arith, within)
 
+-- why there is no grammar is why there is no tree
+pub grammar_fails : (grammar : GrammarSource) (input : List ℕ) (files files' : SeenFiles) (refusal : Refusal) → GrammarFails grammar files files' refusal
+    → TreeFails grammar input files files' refusal
+grammar_fails grammar input files files' Memory why = why
+grammar_fails grammar input files files' (CannotRead named.Input) why = absurd why.0
+grammar_fails grammar input files files' (CannotRead named.Grammar) why = why
+grammar_fails grammar input files files' (CannotRead named.Lexer) why = why
+grammar_fails grammar input files files' (TooLong named.Input) why = absurd why.0
+grammar_fails grammar input files files' (TooLong named.Grammar) why = why
+grammar_fails grammar input files files' (TooLong named.Lexer) why = why
+grammar_fails grammar input files files' (Grammar line) why = why
+grammar_fails grammar input files files' _ why = absurd why
+
 -- what was found in the text that was read
-pub gives_tree : (named : GrammarSource) (grammar input : Option FileContent) (c : CheckedGrammar) (bytes : List ℕ) (found : ParsedInput)
-    → GrammarRead named grammar c → Holds bytes input → length bytes ≤ input_limit → IsChecked c → IsParsed c bytes found
-    → MakesInputOf c bytes found → GivesTree named grammar input found
-gives_tree named grammar input c bytes found spelled here within is parsed makes = record {
+pub gives_tree : (named : GrammarSource) (input : List ℕ) (files : SeenFiles) (c : CheckedGrammar) (bytes : List ℕ) (found : ParsedInput)
+    → GrammarRead named files c → Holds bytes (files.shown input) → length bytes ≤ input_limit → IsChecked c → IsParsed c bytes found
+    → MakesInputOf c bytes found → GivesTree named input files found
+gives_tree named input files c bytes found spelled here within is parsed makes = record {
   checked = c;
   spelled = spelled;
   read = record { bytes = bytes; read = here; within = within; holds = makes };
@@ -50,8 +63,7 @@ gives_tree named grammar input c bytes found spelled here within is parsed makes
       };
 }
 
-module _ (grammar : GrammarSource) (input : List ℕ) (files files' : SeenFiles) (c : CheckedGrammar)
-    (spelled : GrammarRead grammar (files.shown grammar.path) c) where
+module _ (grammar : GrammarSource) (input : List ℕ) (files files' : SeenFiles) (c : CheckedGrammar) (spelled : GrammarRead grammar files c) where
   -- the input has a fault
   pub fault_fails : (bytes : List ℕ) → Holds bytes (files.shown input) → length bytes ≤ input_limit → IsQuiet files files' → (fault : InputFault)
       → IsInputFault c bytes fault → (refusal : Refusal)
@@ -65,7 +77,7 @@ module _ (grammar : GrammarSource) (input : List ℕ) (files files' : SeenFiles)
 
 module _ (options : ReduceOptions) (files : SeenFiles) (trees : GrammarOptions) (mode : options.mode ≡ ModeOptions.by_grammar trees) where
   -- the tree of the input
-  pub tree_read : InputsAreOne → (found : ParsedInput) → GivesTree trees.grammar (files.shown trees.grammar.path) (files.shown options.input) found
+  pub tree_read : InputsAreOne → (found : ParsedInput) → GivesTree trees.grammar options.input files found
       → ProblemRead options files (IsReadAs options.keeps (read.Tree found trees.mode trees.squeeze))
   tree_read one found gives =
       let formed = gives.ready.checked.well_formed in
@@ -97,11 +109,15 @@ module _ (options : ReduceOptions) (files : SeenFiles) (trees : GrammarOptions) 
       → ProblemFails options files files' refusal
   tree_fails files' Memory why = why
   tree_fails files' (CannotRead named.Input) why = (subst (λ (m : ModeOptions). IsReached m named.Input files) (sym mode) why.0, why.1)
-  tree_fails files' (CannotRead named.Grammar) why = (subst (λ (m : ModeOptions). IsReached m named.Grammar files) (sym mode) tt, why)
+  tree_fails files' (CannotRead named.Grammar) why = (subst (λ (m : ModeOptions). IsReached m named.Grammar files) (sym mode) why.0, why.1)
+  tree_fails files' (CannotRead named.Lexer) why = (subst (λ (m : ModeOptions). IsReached m named.Lexer files) (sym mode) why.0, why.1)
   tree_fails files' (TooLong named.Input) why = (subst (λ (m : ModeOptions). IsReached m named.Input files) (sym mode) why.0, why.1, why.2)
   tree_fails files' (TooLong named.Grammar) why =
-      subst (λ (m : ModeOptions). IsReached m named.Grammar files × IsLonger grammar_limit (files.shown (grammar_in m)) × IsQuiet files files') (sym mode)
-      (tt, why.1, why.2)
+      subst (λ (m : ModeOptions). IsReached m named.Grammar files × IsLonger grammar_limit (files.shown (grammar_in m named.Grammar)) × IsQuiet files files')
+      (sym mode) why
+  tree_fails files' (TooLong named.Lexer) why =
+      subst (λ (m : ModeOptions). IsReached m named.Lexer files × IsLonger grammar_limit (files.shown (grammar_in m named.Lexer)) × IsQuiet files files')
+      (sym mode) why
   tree_fails files' (Grammar line) why = (trees, mode, why)
   tree_fails files' (Uncut line) why = (trees, why.0, mode, why.1, why.2, why.3, why.4)
   tree_fails files' NoParse why = (trees, mode, why.0, why.1)
@@ -114,7 +130,7 @@ pub keep_refused : (options : ReduceOptions) (files : SeenFiles) (problem : Read
 keep_refused options files problem start Memory is was why = tt
 keep_refused options files problem start (KeepMissing line) is was why = (
   why.0,
-  problem_map options files (IsReadAs options.keeps problem) (λ one. first_missing options.keeps (start_of one) ≡ Some why.0)
+  problem_map options files (IsReadAs options.keeps problem) (λ one. first_missing options.keeps (start_text one) ≡ Some why.0)
       (λ one as_one. ap (first_missing options.keeps) (start_as options.keeps problem one as_one ∙ sym is) ∙ why.1) was,
   why.2,
 )

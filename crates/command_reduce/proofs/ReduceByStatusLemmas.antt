@@ -13,7 +13,8 @@ use Rattle.command_ends.specs.declared.status.NamedFile.TheVariants as named
 use Rattle.command_ends.specs.declared.status.Refusal.TheVariants.{Memory, CannotRead, CannotWrite, NoParse, NotInteresting, TooLong, Journal}
 use Rattle.run_gated.specs.Records.{OnlyNo}
 use Rattle.command_grammar.specs.Grammar.{IsFaultIn}
-use Rattle.run_problem.specs.Problem.{start_of}
+use Rattle.command_grammar.specs.Texts.{GrammarWasRead}
+use Rattle.run_problem.specs.Problem.{start_text}
 use Rattle.run_problem.specs.Ends.{IsRefused}
 use Rattle.command_reduce_calls.specs.Journal.{JournalBroken, JournalSoFar, JournalWhole}
 use Rattle.command_reduce.proofs.ProblemLemmas.{any_problem}
@@ -23,7 +24,7 @@ use Rattle.command_reduce.specs.Reduce.ReduceEnds.{uninteresting, keep_missing, 
 use Rattle.command_reduce.specs.ReduceByStatus.{PutsItsLine, ReduceByStatus}
 use Rattle.command_words.specs.Commands.{GrammarOptions, ModeOptions, ReduceOptions}
 use Rattle.command_ends.specs.Status.{IsOneOf, IsUncut, fault_line, keep_text, script_text}
-use Rattle.command_ends.specs.World.{CallFailed, GateFailed, NotReached, Puts, PutsLine, PutsMessage, PutsPrefix, SeenFiles, WasRead, World, grammar_limit}
+use Rattle.command_ends.specs.World.{CallFailed, GateFailed, NotReached, Puts, PutsLine, PutsMessage, PutsPrefix, SeenFiles, World}
 
 -- some file is read in each mode
 file_of : (mode : ModeOptions) (files : SeenFiles) → (file : NamedFile) × IsReached mode file files
@@ -73,7 +74,7 @@ module _ (options : ReduceOptions) (history : History) (old new : World) where
 
   is_uninteresting : {status : ℕ} → Ends status → status ≡ 8 → OnlyNo (records_of history)
   is_uninteresting (uninteresting read files gates_quiet kept put) is =
-      (any_problem options old.files (λ problem. (holds_all options.keeps (start_of problem) ≡ true) × IsRefused options.jobs options.keeps problem history)
+      (any_problem options old.files (λ problem. (holds_all options.keeps (start_text problem) ≡ true) × IsRefused options.jobs options.keeps problem history)
       read).1.1.only
   is_uninteresting _ is = absurd (cc is)
 
@@ -104,14 +105,14 @@ module _ (options : ReduceOptions) (history : History) (old new : World) where
   is_script _ is = absurd (cc is)
 
   is_keep_missing : {status : ℕ} → Ends status → status ≡ 9 → (index : ℕ)
-      × ProblemRead options old.files (λ problem. first_missing options.keeps (start_of problem) ≡ Some index)
+      × ProblemRead options old.files (λ problem. first_missing options.keeps (start_text problem) ≡ Some index)
       × PutsMessage (keep_text (index + 1)) old.out new.out
   is_keep_missing (keep_missing index read files untouched put) is = (index, read, put)
   is_keep_missing _ is = absurd (cc is)
 
   is_fault : {status : ℕ} → Ends status → status ≡ 5
       → (trees : GrammarOptions) × (text : List ℕ) × (options.mode ≡ ModeOptions.by_grammar trees)
-      × WasRead grammar_limit (old.files.shown trees.grammar.path) (λ bytes. IsFaultIn trees.grammar bytes text) × PutsLine (fault_line text) old.out new.out
+      × GrammarWasRead trees.grammar old.files (λ texts. IsFaultIn trees.grammar texts text) × PutsLine (fault_line text) old.out new.out
   is_fault (faulty trees text mode read files untouched put) is = (trees, text, mode, read, put)
   is_fault _ is = absurd (cc is)
 

@@ -1,7 +1,7 @@
 pub use Rattle.run_problem.specs as RunProblem
-pub use Rattle.grammar_load.specs.Answer
 pub use Rattle.reduce_trees_input.specs as ReduceTreesInput
 pub use Rattle.command_reduce_calls.specs as CommandReduceCalls
+pub use Rattle.command_grammar.specs.Texts
 pub use Rattle.command_grammar.specs.Grammar
 pub mod Reduce
 pub mod ReduceByStatus

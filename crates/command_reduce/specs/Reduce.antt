@@ -15,7 +15,6 @@ use Rattle.verdict_table.specs.TableState.{texts_of}
 use Rattle.keep_guard.specs.Keep.{first_missing, holds_all, keeps_admit}
 use Rattle.run_gated.specs.Records.{FirstIsNo}
 use Rattle.grammar_tree.specs.Written.{CheckedGrammar}
-use Rattle.grammar_load.specs.Answer.{Spells}
 use Rattle.reduce_trees_mode.specs.Candidates.{InLanguage}
 use Rattle.reduce_trees_mode.specs.Input.{TreeInput}
 use Rattle.reduce_trees_input.specs.Parsed.{IsInputOf}
@@ -26,7 +25,8 @@ use Rattle.reduce_trees_input.specs.declared.fault.InputFault.TheVariants as inp
 use Rattle.command_ends.specs.declared.status.NamedFile.{NamedFile}
 use Rattle.command_ends.specs.declared.status.NamedFile.TheVariants as named
 use Rattle.command_grammar.specs.Grammar.{GrammarRead, IsFaultIn, IsGrammarText}
-use Rattle.run_problem.specs.Problem.{Problem, start_of}
+use Rattle.command_grammar.specs.Texts.{AreSpelled, GrammarIsShown, GrammarWasRead, IsGrammarFile, path_of}
+use Rattle.run_problem.specs.Problem.{Problem, start_text}
 use Rattle.run_problem.specs.Ends.{AreOf, IsRefused, IsUnfinished, ReducesFrom}
 use Rattle.command_ends.specs.Status.{IsOneOf, IsUncut, fault_line, keep_text, script_text, word_for}
 use Rattle.command_words.specs.Commands.{GrammarOptions, GrammarSource, ModeOptions, ReduceOptions}
@@ -44,12 +44,12 @@ pub record IsTreeProblem (keeps : List (List ℕ)) (grammar : CheckedGrammar) (s
   pub squeezes : input.squeezes ≡ squeeze
   pub only : (other : TreeInput) → IsInputOf grammar text other → other.admits ≡ keeps_admit keeps → other.squeezes ≡ squeeze → input ≡ other
 
--- The files were read whole, each within its limit, and the fact holds of what they have to be reduced: the lines of the input; or, where the grammar's bytes
+-- The files were read whole, each within its limit, and the fact holds of what they have to be reduced: the lines of the input; or, where the grammar's texts
 -- spell a grammar that has the input in its language, its tree.
 abbrev pub ReadIn : ModeOptions → ReduceOptions → SeenFiles → (Problem → Type 0) → Type 0
 ReadIn ModeOptions.lines options files P = WasRead input_limit (files.shown options.input) (λ start. P (Problem.of_lines start))
 ReadIn (ModeOptions.by_grammar trees) options files P =
-    (c : CheckedGrammar) × GrammarRead trees.grammar (files.shown trees.grammar.path) c
+    (c : CheckedGrammar) × GrammarRead trees.grammar files c
     × WasRead input_limit (files.shown options.input)
     (λ text. (input : TreeInput) × IsTreeProblem options.keeps c trees.squeeze text input × P (Problem.of_tree trees.mode input))
 
@@ -58,7 +58,7 @@ ProblemRead options files P = ReadIn options.mode options files P
 
 -- the same of a problem in whose start each keep text occurs
 abbrev pub ProblemAccepted : ReduceOptions → SeenFiles → (Problem → Type 0) → Type 0
-ProblemAccepted options files P = ProblemRead options files (λ problem. (holds_all options.keeps (start_of problem) ≡ true) × P problem)
+ProblemAccepted options files P = ProblemRead options files (λ problem. (holds_all options.keeps (start_text problem) ≡ true) × P problem)
 
 -- the problem, whose history this is, reduces to the text, and this is its report
 abbrev pub ReducesTo : ReduceOptions → SeenFiles → History → List ℕ → List ℕ → Type 0
@@ -113,30 +113,41 @@ pub record WritesReduced (options : ReduceOptions) (history : History) (report :
   pub gates_quiet : AreQuiet old.gates new.gates
   pub journal : JournalWhole options.journal history old.journal new.journal
 
--- the file is read: the grammar, where the mode has one; and the input, in such a mode once the grammar was read
+-- the input is read, in a mode with a grammar once that was read
+abbrev pub IsInputReached : ModeOptions → SeenFiles → Type 0
+IsInputReached ModeOptions.lines files = Unit {0}
+IsInputReached (ModeOptions.by_grammar trees) files = (c : CheckedGrammar) × GrammarRead trees.grammar files c
+
+-- a file of the grammar is read, where the mode has one
+abbrev pub IsGrammarReached : ModeOptions → NamedFile → SeenFiles → Type 0
+IsGrammarReached ModeOptions.lines file files = ⊥
+IsGrammarReached (ModeOptions.by_grammar trees) file files = IsGrammarFile trees.grammar file files
+
+-- the file is read
 abbrev pub IsReached : ModeOptions → NamedFile → SeenFiles → Type 0
-IsReached ModeOptions.lines named.Input files = Unit {0}
-IsReached ModeOptions.lines named.Grammar files = ⊥
-IsReached (ModeOptions.by_grammar trees) named.Input files = (c : CheckedGrammar) × GrammarRead trees.grammar (files.shown trees.grammar.path) c
-IsReached (ModeOptions.by_grammar trees) named.Grammar files = Unit {0}
+IsReached mode named.Input files = IsInputReached mode files
+IsReached mode named.Grammar files = IsGrammarReached mode named.Grammar files
+IsReached mode named.Lexer files = IsGrammarReached mode named.Lexer files
 
 -- the limit of such a file, and its path; of a mode without a grammar no path is asked for
 abbrev pub limit_of : NamedFile → ℕ
 limit_of named.Input = input_limit
 limit_of named.Grammar = grammar_limit
+limit_of named.Lexer = grammar_limit
 
-abbrev pub grammar_in : ModeOptions → List ℕ
-grammar_in ModeOptions.lines = []
-grammar_in (ModeOptions.by_grammar trees) = trees.grammar.path
+abbrev pub grammar_in : ModeOptions → NamedFile → List ℕ
+grammar_in ModeOptions.lines file = []
+grammar_in (ModeOptions.by_grammar trees) file = path_of trees.grammar file
 
 abbrev pub name_of : ReduceOptions → NamedFile → List ℕ
 name_of options named.Input = options.input
-name_of options named.Grammar = grammar_in options.mode
+name_of options named.Grammar = grammar_in options.mode named.Grammar
+name_of options named.Lexer = grammar_in options.mode named.Lexer
 
--- the grammar's file spells a grammar, the input was read within its limit, and the fact holds of the two
+-- the grammar's files spell a grammar, the input was read within its limit, and the fact holds of the two
 abbrev pub InputHas : GrammarSource → (CheckedGrammar → List ℕ → Type 0) → ReduceOptions → SeenFiles → Type 0
 InputHas grammar P options files =
-    (c : CheckedGrammar) × GrammarRead grammar (files.shown grammar.path) c × WasRead input_limit (files.shown options.input) (λ bytes. P c bytes)
+    (c : CheckedGrammar) × GrammarRead grammar files c × WasRead input_limit (files.shown options.input) (λ bytes. P c bytes)
 
 -- The gate of this worker wasn't opened; those of the workers before it were, and the other gates and the journal are as before.
 pub record GateUnopened (options : ReduceOptions) (history : History) (worker : ℕ) (logs logs' : List (Option Log)) (old new : SeenJournal) : Type 0 where
@@ -186,10 +197,10 @@ pub data ReduceEnds (options : ReduceOptions) (history : History) (old new : Wor
       → (writes : WritesReduced options history report old new)
       → (put : PutsPrefix report old.out new.out)
       → ReduceEnds options history old new 4
-  -- the file has no well-formed grammar, the line says why, and neither a gate nor the journal was reached
+  -- the grammar's files have no well-formed grammar, the line says why, and neither a gate nor the journal was reached
   faulty : (trees : GrammarOptions) (text : List ℕ)
       → (mode : options.mode ≡ ModeOptions.by_grammar trees)
-      → (read : WasRead grammar_limit (old.files.shown trees.grammar.path) (λ bytes. IsFaultIn trees.grammar bytes text))
+      → (read : GrammarWasRead trees.grammar old.files (λ texts. IsFaultIn trees.grammar texts text))
       → (files : FilesKept old.files new.files)
       → (untouched : NotReached history old new)
       → (line : PutsLine (fault_line text) old.out new.out)
@@ -220,7 +231,7 @@ pub data ReduceEnds (options : ReduceOptions) (history : History) (old new : Wor
       → ReduceEnds options history old new 8
   -- the input was read, a keep text doesn't occur in it, the line names the first such by its number from 1, and neither a gate nor the journal was reached
   keep_missing : (index : ℕ)
-      → (read : ProblemRead options old.files (λ problem. first_missing options.keeps (start_of problem) ≡ Some index))
+      → (read : ProblemRead options old.files (λ problem. first_missing options.keeps (start_text problem) ≡ Some index))
       → (files : FilesKept old.files new.files)
       → (untouched : NotReached history old new)
       → (line : PutsMessage (keep_text (index + 1)) old.out new.out)
@@ -255,7 +266,7 @@ pub data ReduceEnds (options : ReduceOptions) (history : History) (old new : Wor
 abbrev pub ShownIn : ModeOptions → ReduceOptions → SeenFiles → (List ℕ → Type 0) → Type 0
 ShownIn ModeOptions.lines options files P = IsShownWithin input_limit (files.shown options.input) P
 ShownIn (ModeOptions.by_grammar trees) options files P =
-    IsShownWithin grammar_limit (files.shown trees.grammar.path) (λ bytes. (c : CheckedGrammar) × Spells bytes (start_name trees.grammar) c
+    GrammarIsShown trees.grammar files (λ texts. (c : CheckedGrammar) × AreSpelled texts (start_name trees.grammar) c
     × IsShownWithin input_limit (files.shown options.input) (λ text. InLanguage c text × P text))
 
 abbrev pub IsShownProblem : ReduceOptions → SeenFiles → (List ℕ → Type 0) → Type 0
@@ -264,13 +275,13 @@ IsShownProblem options files P = ShownIn options.mode options files P
 -- what is visible of the files is a grammar within its limit, and an input within its limit with such a fault
 abbrev pub IsShownFault : GrammarSource → ReduceOptions → SeenFiles → (InputFault → Type 0) → Type 0
 IsShownFault grammar options files P =
-    IsShownWithin grammar_limit (files.shown grammar.path) (λ bytes. (c : CheckedGrammar) × Spells bytes (start_name grammar) c
+    GrammarIsShown grammar files (λ texts. (c : CheckedGrammar) × AreSpelled texts (start_name grammar) c
     × IsShownWithin input_limit (files.shown options.input) (λ text. (fault : InputFault) × IsInputFault c text fault × P fault))
 
 -- where the mode has a grammar, it is visible, within its limit and well-formed
 abbrev pub IsShownGrammar : ModeOptions → SeenFiles → Type 0
 IsShownGrammar ModeOptions.lines files = Unit {0}
-IsShownGrammar (ModeOptions.by_grammar trees) files = IsShownWithin grammar_limit (files.shown trees.grammar.path) (IsGrammarText trees.grammar)
+IsShownGrammar (ModeOptions.by_grammar trees) files = GrammarIsShown trees.grammar files (IsGrammarText trees.grammar)
 
 -- Which status it has to be. This follows from how `reduce` ends.
 pub record ReduceMustEnd (options : ReduceOptions) (records : List Record) (old new : World) (status : ℕ) : Type 0 where
@@ -280,9 +291,14 @@ pub record ReduceMustEnd (options : ReduceOptions) (records : List Record) (old 
   -- a grammar that isn't there can't be read
   pub grammar_missing : (trees : GrammarOptions) → options.mode ≡ ModeOptions.by_grammar trees → old.files.shown trees.grammar.path ≡ Some None
       → IsOneOf (3 ∷ 1 ∷ []) status
+  -- so are a lexer over its limit, and one that isn't there, unless the other file was refused before
+  pub lexer_over : (trees : GrammarOptions) (lexer : List ℕ) → options.mode ≡ ModeOptions.by_grammar trees → trees.grammar.lexer ≡ Some lexer
+      → IsOver grammar_limit (old.files.shown lexer) → IsOneOf (10 ∷ 3 ∷ 1 ∷ []) status
+  pub lexer_missing : (trees : GrammarOptions) (lexer : List ℕ) → options.mode ≡ ModeOptions.by_grammar trees → trees.grammar.lexer ≡ Some lexer
+      → old.files.shown lexer ≡ Some None → IsOneOf (3 ∷ 10 ∷ 1 ∷ []) status
   -- a faulty grammar within its limit is refused
   pub faulty : (trees : GrammarOptions) → options.mode ≡ ModeOptions.by_grammar trees
-      → IsShownWithin grammar_limit (old.files.shown trees.grammar.path) (λ bytes. ¬ IsGrammarText trees.grammar bytes) → IsOneOf (5 ∷ 3 ∷ 1 ∷ []) status
+      → GrammarIsShown trees.grammar old.files (λ texts. ¬ IsGrammarText trees.grammar texts) → IsOneOf (5 ∷ 3 ∷ 1 ∷ []) status
   -- an input over its limit is refused as such, where the mode has no grammar or a well-formed one
   pub input_over : IsShownGrammar options.mode old.files → IsOver input_limit (old.files.shown options.input) → IsOneOf (10 ∷ 3 ∷ 1 ∷ []) status
   -- an input that isn't there can't be read, where the mode has no grammar or a well-formed one

@@ -11,12 +11,12 @@ use Rattle.reduce_trees_input.specs.declared.fault.InputFault.{InputFault}
 use Rattle.reduce_trees_input.specs.declared.fault.InputFault.TheVariants as input_fault
 use Rattle.command_ends.specs.declared.status.NamedFile.{NamedFile}
 use Rattle.command_grammar.specs.Grammar.{IsFaultIn}
-use Rattle.run_problem.specs.Problem.{start_of}
+use Rattle.command_grammar.specs.Texts.{GrammarWasRead}
+use Rattle.run_problem.specs.Problem.{start_text}
 use Rattle.command_reduce.specs.Reduce.{InputHas, IsReached, IsReduced, ProblemRead, ReduceEnds, ReducesTo, ScriptLeaves, limit_of, name_of}
 use Rattle.command_ends.specs.Status.{IsOneOf, IsUncut, PutsRefusal, fault_line, keep_text, script_text}
 use Rattle.command_words.specs.Commands.{GrammarOptions, ModeOptions, ReduceOptions}
-use Rattle.command_ends.specs.World.{CallFailed, GateFailed, NotReached, Puts, PutsLine, PutsMessage, PutsPrefix}
-use Rattle.command_ends.specs.World.{SeenFiles, SeenOut, WasRead, World, grammar_limit}
+use Rattle.command_ends.specs.World.{CallFailed, GateFailed, NotReached, Puts, PutsLine, PutsMessage, PutsPrefix, SeenFiles, SeenOut, World}
 
 -- the line was put of a refusal that has this status, and names a file that is read if it names one
 abbrev pub PutsItsLine : ModeOptions → SeenFiles → SeenOut → SeenOut → ℕ → Type 0
@@ -34,7 +34,7 @@ pub record ReduceMeans (options : ReduceOptions) (history : History) (old new : 
   pub tried : status ≡ 4 → (text : List ℕ) × (report : List ℕ) × ReducesTo options old.files history text report
   pub fault : status ≡ 5
       → (trees : GrammarOptions) × (text : List ℕ) × (options.mode ≡ ModeOptions.by_grammar trees)
-      × WasRead grammar_limit (old.files.shown trees.grammar.path) (λ bytes. IsFaultIn trees.grammar bytes text) × PutsLine (fault_line text) old.out new.out
+      × GrammarWasRead trees.grammar old.files (λ texts. IsFaultIn trees.grammar texts text) × PutsLine (fault_line text) old.out new.out
   pub no_token : status ≡ 6
       → (trees : GrammarOptions) × (fault : InputFault) × (options.mode ≡ ModeOptions.by_grammar trees) × IsUncut fault
       × InputHas trees.grammar (λ c bytes. IsInputFault c bytes fault) options old.files × PutsMessage (input_fault_text fault) old.out new.out
@@ -43,7 +43,7 @@ pub record ReduceMeans (options : ReduceOptions) (history : History) (old new : 
       × InputHas trees.grammar (λ c bytes. IsInputFault c bytes input_fault.NoParse) options old.files
   pub not_interesting : status ≡ 8 → OnlyNo (records_of history)
   pub keep_missing : status ≡ 9
-      → (index : ℕ) × ProblemRead options old.files (λ problem. first_missing options.keeps (start_of problem) ≡ Some index)
+      → (index : ℕ) × ProblemRead options old.files (λ problem. first_missing options.keeps (start_text problem) ≡ Some index)
       × PutsMessage (keep_text (index + 1)) old.out new.out
   pub too_long : status ≡ 10 → (file : NamedFile) × IsReached options.mode file old.files × IsLonger (limit_of file) (old.files.shown (name_of options file))
   pub script : status ≡ 11

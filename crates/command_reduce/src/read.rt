@@ -11,7 +11,7 @@ ghost use Rattle.command_words.specs.Lines.{grammar_read, reduce_read};
 ghost use Rattle.command_ends.specs.World.{IsQuiet, seen};
 
 use command_ends::{Refusal, read_input};
-use command_grammar::grammar_of_file;
+use command_grammar::grammar_of_files;
 use command_words::{ModeLine, NamedGrammar, ReduceLine};
 use edge_io::Files;
 use reduce_step::TreeMode;
@@ -19,20 +19,20 @@ use reduce_trees_input::{ParsedInput, inputs_are_one, parsed_input};
 use run_problem::ReadProblem;
 use std::alloc::Global;
 
-/// What is found in the input by the grammar in a file.
+/// What is found in the input by the grammar in one file or two.
 fn read_tree<F: Files>(
     alloc: Global,
     grammar: NamedGrammar<'_>,
     input: &str,
     files: &mut F,
 ) -> Result<ParsedInput, Refusal>
-    ensures found { IfOk result (GivesTree (grammar_read grammar.entry) (F.content files.old grammar.entry.path.now) (F.content files.old input.now)) }
+    ensures found { IfOk result (GivesTree (grammar_read grammar.entry) input.now (seen F.content F.faults files.old)) }
     ensures quiet { OnOk result (IsQuiet (seen F.content F.faults files.old) (seen F.content F.faults files.new)) }
     ensures same { SameFiles (F.content files.old) (F.content files.new) }
     ensures refused { IfErr result (λ refusal. TreeFails (grammar_read grammar.entry) input.now (seen F.content F.faults files.old)
         (seen F.content F.faults files.new) refusal) }
 {
-    let checked = grammar_of_file(alloc, grammar, files)?;
+    let checked = grammar_of_files(alloc, grammar, files)?;
     checked.is_checked();
     let bytes = read_input(files, input)?;
     match parsed_input(alloc, &checked, &bytes) {

@@ -1,13 +1,18 @@
 -- A command line, put together from what its options give.
-use Rattle.std.proofs.Common.{◌≡◌, ◌∙◌, ℕ, ◌-◌, ◌<◌, ◌≤◌, Bool, true, false, ◌&&◌, List, [], ◌∷◌, ◌++◌, map, length, nat_le, Option, Some, None, MatchOption, refl, sym, ap, ap₂, bytes_eq, codes, is_some, slice_get, option_and_then, option_map, unwrap_or, if◌then◌else◌, String, arith, drop, get_or, string_bytes, take}
+use Rattle.std.proofs.Common.{◌≡◌, ◌∙◌, ℕ, ◌-◌, ◌<◌, ◌≤◌, Bool, true, false, ◌&&◌, List, [], ◌∷◌, ◌++◌, map, length, nat_le, Option, Some}
+use Rattle.std.proofs.Common.{None, MatchOption, refl, sym, ap, ap₂, bytes_eq, codes, is_some, slice_get, option_and_then, option_map}
+use Rattle.std.proofs.Common.{unwrap_or, if◌then◌else◌, String, arith, drop, get_or, string_bytes, take}
 use Rattle.std.proofs.lemmas.List.{take_all}
 use Rattle.std.specs.List.{list_all}
 use Rattle.std.specs.Str.Parse.{digits_value}
 use Rattle.clap.specs.declared.parser.matches.ArgMatches.{ArgMatches}
 use Rattle.command_words.specs.Options.{OptionRow, Use, Values, fits_table, is_number_in, options_in, takes_value, uses_from, values_for, where_fits}
 use Rattle.command_words.specs.Tables.{normal_table, reduce_table, selftest_table, tree_modes}
-use Rattle.command_words.specs.Commands.{Command, GrammarSource, ModeOptions, ReduceOptions, SelftestOptions, command_line_of, command_of, is_given, mode_options, named_grammar, normal_line, number_of, reduce_line, reduce_of, reduction_in, selftest_line, selftest_of, text_of, tree_mode_named, tree_mode_of, value_of, value_or}
-use Rattle.command_words.specs.inner.Found.{HasFound, fitting_jobs, fitting_keeps, fitting_mode, fitting_number, line_of_parts, line_with, names_files, values_fit}
+use Rattle.command_words.specs.Commands.{Command, GrammarSource, ModeOptions, ReduceOptions, SelftestOptions, command_line_of, command_of, is_given}
+use Rattle.command_words.specs.Commands.{mode_options, named_grammar, normal_line, number_of, reduce_line, reduce_of, reduction_in, selftest_line}
+use Rattle.command_words.specs.Commands.{selftest_of, text_of, tree_mode_named, tree_mode_of, value_of, value_or}
+use Rattle.command_words.specs.inner.Found.{HasFound, fitting_jobs, fitting_keeps, fitting_mode, fitting_number}
+use Rattle.command_words.specs.inner.Found.{line_of_parts, line_with, names_files, values_fit}
 use Rattle.command_words.specs.inner.Read.{IsAnswered, IsOnce, IsTable}
 use Rattle.reduce_step.specs.declared.mode.TreeMode.{TreeMode}
 use Rattle.command_words.proofs.Fits.{fits_once, flags_once, normal_fits, reduce_fits, selftest_fits}
@@ -26,19 +31,21 @@ none_in table words flags none = go (uses_from table None words) refl
     go None is = refl
     go (Some uses) is = fails uses is (fits_table table uses) refl
 
-pub these_in : (table : List OptionRow) (words : List (List ℕ)) (matches : ArgMatches) (read : IsAnswered table words (Some matches)) → where_fits table (Some read.uses) ≡ options_in table words
+pub these_in : (table : List OptionRow) (words : List (List ℕ)) (matches : ArgMatches) (read : IsAnswered table words (Some matches))
+    → where_fits table (Some read.uses) ≡ options_in table words
 these_in table words matches read = sym (ap (where_fits table) read.are)
 
-pub found_in_words : (table : List OptionRow) (words : List (List ℕ)) (matches : ArgMatches) (read : IsAnswered table words (Some matches)) → HasFound table read.uses matches
+pub found_in_words : (table : List OptionRow) (words : List (List ℕ)) (matches : ArgMatches) (read : IsAnswered table words (Some matches))
+    → HasFound table read.uses matches
 found_in_words table words matches read = record { once = read.once; has = read.has }
 
 -- ---- the tables
 
 pub reduce_is_table : IsTable reduce_table
-reduce_is_table = ((refl, (refl, (refl, (refl, (refl, (refl, (refl, (refl, (refl, (refl, (refl, tt))))))))))), refl)
+reduce_is_table = ((refl, (refl, (refl, (refl, (refl, (refl, (refl, (refl, (refl, (refl, (refl, (refl, tt)))))))))))), refl)
 
 pub normal_is_table : IsTable normal_table
-normal_is_table = ((refl, (refl, tt)), refl)
+normal_is_table = ((refl, (refl, (refl, tt))), refl)
 
 pub selftest_is_table : IsTable selftest_table
 selftest_is_table = ((refl, (refl, (refl, tt))), refl)
@@ -54,7 +61,9 @@ either_nothing false = refl
 
 -- part by part, or all at once
 by_parts : (uses : List Use) (files mode_fits jobs_fit keeps_fit : Bool) (mode : Option ModeOptions)
-    → (if files then line_of_parts uses (if mode_fits then mode else None) (if jobs_fit then Some (digits_value 10 (value_or (codes "1") (codes "jobs") uses)) else None) (if keeps_fit then Some (values_for (codes "keep") uses) else None) else nothing)
+    → (if files then line_of_parts uses (if mode_fits then mode else None)
+    (if jobs_fit then Some (digits_value 10 (value_or (codes "1") (codes "jobs") uses)) else None)
+    (if keeps_fit then Some (values_for (codes "keep") uses) else None) else nothing)
     ≡ (if files && (mode_fits && (jobs_fit && keeps_fit)) then option_map (reduction_in uses) mode else nothing)
 by_parts uses false mode_fits jobs_fit keeps_fit mode = refl
 by_parts uses true false jobs_fit keeps_fit mode = refl
@@ -67,9 +76,11 @@ where_true : (uses : List Use) (b : Bool) → (if b then reduce_of uses else Non
 where_true uses true = refl
 where_true uses false = refl
 
-pub reduce_found : (uses : List Use) → IsOnce reduce_table uses → line_with uses (fitting_keeps uses) ≡ option_and_then reduce_of (where_fits reduce_table (Some uses))
+pub reduce_found : (uses : List Use) → IsOnce reduce_table uses
+    → line_with uses (fitting_keeps uses) ≡ option_and_then reduce_of (where_fits reduce_table (Some uses))
 reduce_found uses once =
-    by_parts uses (names_files uses) (values_fit (Values.one_of (codes "lines" ∷ tree_modes)) (codes "mode") uses) (values_fit (Values.number 1 16) (codes "jobs") uses) (nat_le (length (values_for (codes "keep") uses)) 8) (mode_options uses)
+    by_parts uses (names_files uses) (values_fit (Values.one_of (codes "lines" ∷ tree_modes)) (codes "mode") uses)
+    (values_fit (Values.number 1 16) (codes "jobs") uses) (nat_le (length (values_for (codes "keep") uses)) 8) (mode_options uses)
     ∙ sym (ap (λ (b : Bool). if b then reduce_of uses else None) (reduce_fits uses once))
     ∙ where_true uses (fits_table reduce_table uses)
 
@@ -87,14 +98,17 @@ pub line_without_files : (uses : List Use) (keeps : Option (List (List ℕ))) �
 line_without_files uses keeps none = sym (ap (λ (b : Bool). if b then line_of_parts uses (fitting_mode uses) (fitting_jobs uses) keeps else None) none)
 
 pub line_without_mode : (uses : List Use) (keeps : Option (List (List ℕ))) → None ≡ fitting_mode uses → None ≡ line_with uses keeps
-line_without_mode uses keeps none = go (names_files uses) ∙ ap (λ (mode : Option ModeOptions). if names_files uses then line_of_parts uses mode (fitting_jobs uses) keeps else None) none
+line_without_mode uses keeps none =
+    go (names_files uses) ∙ ap (λ (mode : Option ModeOptions). if names_files uses then line_of_parts uses mode (fitting_jobs uses) keeps else None) none
   where
     go : (files : Bool) → None ≡ (if files then line_of_parts uses None (fitting_jobs uses) keeps else None)
     go true = refl
     go false = refl
 
 pub line_without_jobs : (uses : List Use) (keeps : Option (List (List ℕ))) → None ≡ fitting_jobs uses → None ≡ line_with uses keeps
-line_without_jobs uses keeps none = go (names_files uses) (fitting_mode uses) ∙ ap (λ (jobs : Option ℕ). if names_files uses then line_of_parts uses (fitting_mode uses) jobs keeps else None) none
+line_without_jobs uses keeps none =
+    go (names_files uses) (fitting_mode uses)
+    ∙ ap (λ (jobs : Option ℕ). if names_files uses then line_of_parts uses (fitting_mode uses) jobs keeps else None) none
   where
     go : (files : Bool) (mode : Option ModeOptions) → None ≡ (if files then line_of_parts uses mode None keeps else None)
     go false mode = refl
@@ -102,16 +116,40 @@ line_without_jobs uses keeps none = go (names_files uses) (fitting_mode uses) �
     go true (Some mode) = refl
 
 -- what is said of the files, of the journal and of the folder, by their options
-line_is : (uses : List Use) (mode : ModeOptions) (jobs : ℕ) (keeps : List (List ℕ)) (input output script : List ℕ) (journal : Option (List ℕ)) (work : List ℕ) → input ≡ text_of (codes "input") uses
-    → output ≡ text_of (codes "output") uses → script ≡ text_of (codes "script") uses → journal ≡ value_of (codes "journal") uses → work ≡ value_or (codes "perses-work") (codes "work") uses
-    → Some (record { mode = mode; input = input; output = output; script = script; journal = unwrap_or journal (output ++ codes ".journal"); work = work; jobs = jobs; keeps = keeps })
+line_is : (uses : List Use) (mode : ModeOptions) (jobs : ℕ) (keeps : List (List ℕ)) (input output script : List ℕ) (journal : Option (List ℕ)) (work : List ℕ)
+    → input ≡ text_of (codes "input") uses
+    → output ≡ text_of (codes "output") uses → script ≡ text_of (codes "script") uses → journal ≡ value_of (codes "journal") uses
+    → work ≡ value_or (codes "perses-work") (codes "work") uses
+    → Some
+    (record {
+      mode = mode;
+      input = input;
+      output = output;
+      script = script;
+      journal = unwrap_or journal (output ++ codes ".journal");
+      work = work;
+      jobs = jobs;
+      keeps = keeps;
+    })
     ≡ line_of_parts uses (Some mode) (Some jobs) (Some keeps)
-line_is uses mode jobs keeps input output script journal work input_is output_is script_is journal_is work_is = rw (input_is, output_is, script_is, journal_is, work_is) refl
+line_is uses mode jobs keeps input output script journal work input_is output_is script_is journal_is work_is =
+    rw (input_is, output_is, script_is, journal_is, work_is) refl
 
-pub this_line : (uses : List Use) (mode : ModeOptions) (jobs : ℕ) (keeps : List (List ℕ)) (input output script : List ℕ) (journal : Option (List ℕ)) (work : List ℕ)
+pub this_line : (uses : List Use) (mode : ModeOptions) (jobs : ℕ) (keeps : List (List ℕ)) (input output script : List ℕ) (journal : Option (List ℕ))
+    (work : List ℕ)
     → (names_files uses ≡ true) × (input ≡ text_of (codes "input") uses) × (output ≡ text_of (codes "output") uses) × (script ≡ text_of (codes "script") uses)
-    → journal ≡ value_of (codes "journal") uses → work ≡ value_or (codes "perses-work") (codes "work") uses → Some mode ≡ fitting_mode uses → Some jobs ≡ fitting_jobs uses
-    → Some (record { mode = mode; input = input; output = output; script = script; journal = unwrap_or journal (output ++ codes ".journal"); work = work; jobs = jobs; keeps = keeps })
+    → journal ≡ value_of (codes "journal") uses → work ≡ value_or (codes "perses-work") (codes "work") uses → Some mode ≡ fitting_mode uses
+    → Some jobs ≡ fitting_jobs uses
+    → Some (record {
+      mode = mode;
+      input = input;
+      output = output;
+      script = script;
+      journal = unwrap_or journal (output ++ codes ".journal");
+      work = work;
+      jobs = jobs;
+      keeps = keeps;
+    })
     ≡ line_with uses (Some keeps)
 this_line uses mode jobs keeps input output script journal work files journal_is work_is mode_is jobs_are =
     line_is uses mode jobs keeps input output script journal work files.1 files.2 files.3 journal_is work_is
@@ -121,12 +159,14 @@ this_line uses mode jobs keeps input output script journal work files journal_is
 -- ---- a line of `normal`
 
 abbrev grammar_at : List Use → List ℕ → GrammarSource
-grammar_at uses path = record { path = path; start = value_of (codes "start") uses }
+grammar_at uses path = record { path = path; lexer = value_of (codes "lexer") uses; start = value_of (codes "start") uses }
 
 pub normal_found : (uses : List Use) → IsOnce normal_table uses → named_grammar uses ≡ option_and_then named_grammar (where_fits normal_table (Some uses))
-normal_found uses once = go (value_of (codes "grammar") uses) refl ∙ sym (ap (λ (b : Bool). option_and_then named_grammar (if b then Some uses else None)) (normal_fits uses once))
+normal_found uses once =
+    go (value_of (codes "grammar") uses) refl ∙ sym (ap (λ (b : Bool). option_and_then named_grammar (if b then Some uses else None)) (normal_fits uses once))
   where
-    go : (path : Option (List ℕ)) → value_of (codes "grammar") uses ≡ path → named_grammar uses ≡ option_and_then named_grammar (if is_given (codes "grammar") uses then Some uses else None)
+    go : (path : Option (List ℕ)) → value_of (codes "grammar") uses ≡ path
+        → named_grammar uses ≡ option_and_then named_grammar (if is_given (codes "grammar") uses then Some uses else None)
     go None none =
         ap (option_map (grammar_at uses)) none
         ∙ sym (ap (λ (p : Option (List ℕ)). option_and_then named_grammar (if is_some {T = List ℕ} p then Some uses else None)) none)
@@ -137,24 +177,32 @@ normal_found uses once = go (value_of (codes "grammar") uses) refl ∙ sym (ap (
 -- the number that these values give, where there is one
 abbrev found_from : ℕ → ℕ → List (List ℕ) → Option ℕ
 found_from least most values =
-    if is_some {T = List ℕ} (slice_get values 0) && list_all (takes_value (Values.number least most)) values then Some (digits_value 10 (unwrap_or (slice_get values 0) [])) else None
+    if is_some {T = List ℕ} (slice_get values 0) && list_all (takes_value (Values.number least most)) values then Some
+    (digits_value 10 (unwrap_or (slice_get values 0) [])) else None
 
-pub this_number : (least most : ℕ) (name : List ℕ) (uses : List Use) (text : List ℕ) (r : Option ℕ) → length (values_for name uses) ≤ 1 → value_of name uses ≡ Some text
-    → MatchOption r (is_number_in least most text ≡ false) (λ n. (is_number_in least most text ≡ true) × (n ≡ digits_value 10 text)) → r ≡ fitting_number least most name uses
-this_number least most name uses text r few some reads = number_read least most text r reads ∙ sym (ap (found_from least most) (one_value (values_for name uses) text few some))
+pub this_number : (least most : ℕ) (name : List ℕ) (uses : List Use) (text : List ℕ) (r : Option ℕ) → length (values_for name uses) ≤ 1
+    → value_of name uses ≡ Some text
+    → MatchOption r (is_number_in least most text ≡ false) (λ n. (is_number_in least most text ≡ true) × (n ≡ digits_value 10 text))
+    → r ≡ fitting_number least most name uses
+this_number least most name uses text r few some reads =
+    number_read least most text r reads ∙ sym (ap (found_from least most) (one_value (values_for name uses) text few some))
 
 -- the mode that these values give, where they are one
 abbrev pub tree_mode_from : List (List ℕ) → Option TreeMode
-tree_mode_from values = if list_all (takes_value (Values.one_of tree_modes)) values then Some (tree_mode_named (unwrap_or (slice_get values 0) (codes "perses"))) else None
+tree_mode_from values =
+    if list_all (takes_value (Values.one_of tree_modes)) values then Some (tree_mode_named (unwrap_or (slice_get values 0) (codes "perses"))) else None
 
 abbrev pub fitting_tree_mode : List Use → Option TreeMode
 fitting_tree_mode uses = tree_mode_from (values_for (codes "mode") uses)
 
 -- the mode of this name, where it is one
 abbrev pub IsModeOf : List ℕ → Option TreeMode → Type 0
-IsModeOf text r = MatchOption r (takes_value (Values.one_of tree_modes) text ≡ false) (λ mode. (takes_value (Values.one_of tree_modes) text ≡ true) × (mode ≡ tree_mode_named text))
+IsModeOf text r =
+    MatchOption r (takes_value (Values.one_of tree_modes) text ≡ false)
+    (λ mode. (takes_value (Values.one_of tree_modes) text ≡ true) × (mode ≡ tree_mode_named text))
 
-mode_read : (text : List ℕ) (r : Option TreeMode) → IsModeOf text r → r ≡ (if takes_value (Values.one_of tree_modes) text then Some (tree_mode_named text) else None)
+mode_read : (text : List ℕ) (r : Option TreeMode) → IsModeOf text r
+    → r ≡ (if takes_value (Values.one_of tree_modes) text then Some (tree_mode_named text) else None)
 mode_read text None fails = sym (ap (λ (b : Bool). if b then Some (tree_mode_named text) else None) fails)
 mode_read text (Some mode) reads = ap (λ (m : TreeMode). Some m) reads.1 ∙ sym (ap (λ (b : Bool). if b then Some (tree_mode_named text) else None) reads.0)
 
@@ -162,16 +210,22 @@ and_none : (b : Bool) (mode : TreeMode) → (if b then Some mode else None) ≡ 
 and_none true mode = refl
 and_none false mode = refl
 
-pub this_mode : (uses : List Use) (text : List ℕ) (r : Option TreeMode) → length (values_for (codes "mode") uses) ≤ 1 → text ≡ value_or (codes "perses") (codes "mode") uses → IsModeOf text r → r ≡ fitting_tree_mode uses
-this_mode uses text r few is reads = mode_read text r reads ∙ ap (λ (t : List ℕ). if takes_value (Values.one_of tree_modes) t then Some (tree_mode_named t) else None) is ∙ go (value_of (codes "mode") uses) refl
+pub this_mode : (uses : List Use) (text : List ℕ) (r : Option TreeMode) → length (values_for (codes "mode") uses) ≤ 1
+    → text ≡ value_or (codes "perses") (codes "mode") uses → IsModeOf text r → r ≡ fitting_tree_mode uses
+this_mode uses text r few is reads =
+    mode_read text r reads ∙ ap (λ (t : List ℕ). if takes_value (Values.one_of tree_modes) t then Some (tree_mode_named t) else None) is
+    ∙ go (value_of (codes "mode") uses) refl
   where
     go : (o : Option (List ℕ)) → value_of (codes "mode") uses ≡ o
-        → (if takes_value (Values.one_of tree_modes) (value_or (codes "perses") (codes "mode") uses) then Some (tree_mode_named (value_or (codes "perses") (codes "mode") uses)) else None) ≡ fitting_tree_mode uses
+        → (if takes_value (Values.one_of tree_modes) (value_or (codes "perses") (codes "mode") uses) then Some
+        (tree_mode_named (value_or (codes "perses") (codes "mode") uses)) else None) ≡ fitting_tree_mode uses
     go None none =
-        ap (λ (x : Option (List ℕ)). if takes_value (Values.one_of tree_modes) (unwrap_or x (codes "perses")) then Some (tree_mode_named (unwrap_or x (codes "perses"))) else None) none
+        ap (λ (x : Option (List ℕ)). if takes_value (Values.one_of tree_modes) (unwrap_or x (codes "perses")) then Some
+        (tree_mode_named (unwrap_or x (codes "perses"))) else None) none
         ∙ sym (ap tree_mode_from (no_values (values_for (codes "mode") uses) none))
     go (Some t) some =
-        ap (λ (x : Option (List ℕ)). if takes_value (Values.one_of tree_modes) (unwrap_or x (codes "perses")) then Some (tree_mode_named (unwrap_or x (codes "perses"))) else None) some
+        ap (λ (x : Option (List ℕ)). if takes_value (Values.one_of tree_modes) (unwrap_or x (codes "perses")) then Some
+        (tree_mode_named (unwrap_or x (codes "perses"))) else None) some
         ∙ and_none (takes_value (Values.one_of tree_modes) t) (tree_mode_named t)
         ∙ sym (ap tree_mode_from (one_value (values_for (codes "mode") uses) t few some))
 
@@ -186,7 +240,8 @@ abbrev selftest_from : List Use → Option SelftestOptions
 selftest_from uses = selftest_parts (fitting_number 0 4294967295 (codes "number") uses) (fitting_number 1 1500 (codes "size") uses) (fitting_tree_mode uses)
 
 selftest_by_parts : (uses : List Use) (number size mode : Bool)
-    → selftest_parts (if number then Some (number_of (codes "number") uses) else None) (if size then Some (number_of (codes "size") uses) else None) (if mode then Some (tree_mode_of uses) else None)
+    → selftest_parts (if number then Some (number_of (codes "number") uses) else None) (if size then Some (number_of (codes "size") uses) else None)
+    (if mode then Some (tree_mode_of uses) else None)
     ≡ option_map selftest_of (if number && (size && mode) then Some uses else None)
 selftest_by_parts uses false size mode = refl
 selftest_by_parts uses true false mode = refl
@@ -195,15 +250,18 @@ selftest_by_parts uses true true true = refl
 
 selftest_found : (uses : List Use) → IsOnce selftest_table uses → selftest_from uses ≡ option_map selftest_of (where_fits selftest_table (Some uses))
 selftest_found uses once =
-    selftest_by_parts uses (is_given (codes "number") uses && values_fit (Values.number 0 4294967295) (codes "number") uses) (is_given (codes "size") uses && values_fit (Values.number 1 1500) (codes "size") uses)
+    selftest_by_parts uses (is_given (codes "number") uses && values_fit (Values.number 0 4294967295) (codes "number") uses)
+    (is_given (codes "size") uses && values_fit (Values.number 1 1500) (codes "size") uses)
     (values_fit (Values.one_of tree_modes) (codes "mode") uses)
     ∙ sym (ap (λ (b : Bool). option_map selftest_of (if b then Some uses else None)) (selftest_fits uses once))
 
-pub selftest_without_number : (uses : List Use) → IsOnce selftest_table uses → None ≡ fitting_number 0 4294967295 (codes "number") uses → None ≡ option_map selftest_of (where_fits selftest_table (Some uses))
+pub selftest_without_number : (uses : List Use) → IsOnce selftest_table uses → None ≡ fitting_number 0 4294967295 (codes "number") uses
+    → None ≡ option_map selftest_of (where_fits selftest_table (Some uses))
 selftest_without_number uses once none =
     ap (λ (n : Option ℕ). selftest_parts n (fitting_number 1 1500 (codes "size") uses) (fitting_tree_mode uses)) none ∙ selftest_found uses once
 
-pub selftest_without_size : (uses : List Use) → IsOnce selftest_table uses → None ≡ fitting_number 1 1500 (codes "size") uses → None ≡ option_map selftest_of (where_fits selftest_table (Some uses))
+pub selftest_without_size : (uses : List Use) → IsOnce selftest_table uses → None ≡ fitting_number 1 1500 (codes "size") uses
+    → None ≡ option_map selftest_of (where_fits selftest_table (Some uses))
 selftest_without_size uses once none =
     go (fitting_number 0 4294967295 (codes "number") uses)
     ∙ ap (λ (n : Option ℕ). selftest_parts (fitting_number 0 4294967295 (codes "number") uses) n (fitting_tree_mode uses)) none ∙ selftest_found uses once
@@ -212,17 +270,20 @@ selftest_without_size uses once none =
     go None = refl
     go (Some n) = refl
 
-pub selftest_without_mode : (uses : List Use) → IsOnce selftest_table uses → None ≡ fitting_tree_mode uses → None ≡ option_map selftest_of (where_fits selftest_table (Some uses))
+pub selftest_without_mode : (uses : List Use) → IsOnce selftest_table uses → None ≡ fitting_tree_mode uses
+    → None ≡ option_map selftest_of (where_fits selftest_table (Some uses))
 selftest_without_mode uses once none =
     go (fitting_number 0 4294967295 (codes "number") uses) (fitting_number 1 1500 (codes "size") uses)
-    ∙ ap (λ (m : Option TreeMode). selftest_parts (fitting_number 0 4294967295 (codes "number") uses) (fitting_number 1 1500 (codes "size") uses) m) none ∙ selftest_found uses once
+    ∙ ap (λ (m : Option TreeMode). selftest_parts (fitting_number 0 4294967295 (codes "number") uses) (fitting_number 1 1500 (codes "size") uses) m) none
+    ∙ selftest_found uses once
   where
     go : (n s : Option ℕ) → None ≡ selftest_parts n s None
     go None s = refl
     go (Some n) None = refl
     go (Some n) (Some s) = refl
 
-pub this_selftest : (uses : List Use) (number size : ℕ) (mode : TreeMode) → IsOnce selftest_table uses → Some number ≡ fitting_number 0 4294967295 (codes "number") uses
+pub this_selftest : (uses : List Use) (number size : ℕ) (mode : TreeMode) → IsOnce selftest_table uses
+    → Some number ≡ fitting_number 0 4294967295 (codes "number") uses
     → Some size ≡ fitting_number 1 1500 (codes "size") uses → Some mode ≡ fitting_tree_mode uses
     → Some (record { number = number; size = size; mode = mode }) ≡ option_map selftest_of (where_fits selftest_table (Some uses))
 this_selftest uses number size mode once number_is size_is mode_is =
@@ -234,7 +295,8 @@ this_selftest uses number size mode once number_is size_is mode_is =
 
 abbrev after_reduce : List ℕ → List (List ℕ) → Option Command
 after_reduce name words =
-    if bytes_eq name (codes "normal") then option_map Command.normal (normal_line words) else (if bytes_eq name (codes "selftest") then option_map Command.selftest (selftest_line words) else None)
+    if bytes_eq name (codes "normal") then option_map Command.normal (normal_line words) else
+    (if bytes_eq name (codes "selftest") then option_map Command.selftest (selftest_line words) else None)
 
 abbrev after_normal : List ℕ → List (List ℕ) → Option Command
 after_normal name words = if bytes_eq name (codes "selftest") then option_map Command.selftest (selftest_line words) else None
@@ -245,25 +307,30 @@ other_than_reduce name words no_reduce = sym (ap (λ (b : Bool). if b then optio
 other_than_normal : (name : List ℕ) (words : List (List ℕ)) → bytes_eq name (codes "normal") ≡ false → after_normal name words ≡ after_reduce name words
 other_than_normal name words no_normal = sym (ap (λ (b : Bool). if b then option_map Command.normal (normal_line words) else after_normal name words) no_normal)
 
-pub reduce_asked : (name : List ℕ) (words : List (List ℕ)) (line : Option ReduceOptions) → bytes_eq name (codes "reduce") ≡ true → line ≡ reduce_line words → option_map Command.reduce line ≡ command_of name words
+pub reduce_asked : (name : List ℕ) (words : List (List ℕ)) (line : Option ReduceOptions) → bytes_eq name (codes "reduce") ≡ true → line ≡ reduce_line words
+    → option_map Command.reduce line ≡ command_of name words
 reduce_asked name words line is line_is =
     ap (option_map Command.reduce) line_is ∙ sym (ap (λ (b : Bool). if b then option_map Command.reduce (reduce_line words) else after_reduce name words) is)
 
-pub normal_asked : (name : List ℕ) (words : List (List ℕ)) (line : Option GrammarSource) → bytes_eq name (codes "reduce") ≡ false → bytes_eq name (codes "normal") ≡ true → line ≡ normal_line words
+pub normal_asked : (name : List ℕ) (words : List (List ℕ)) (line : Option GrammarSource) → bytes_eq name (codes "reduce") ≡ false
+    → bytes_eq name (codes "normal") ≡ true → line ≡ normal_line words
     → option_map Command.normal line ≡ command_of name words
 normal_asked name words line no_reduce is line_is =
     ap (option_map Command.normal) line_is ∙ sym (ap (λ (b : Bool). if b then option_map Command.normal (normal_line words) else after_normal name words) is)
     ∙ other_than_reduce name words no_reduce
 
-pub selftest_asked : (name : List ℕ) (words : List (List ℕ)) (line : Option SelftestOptions) → bytes_eq name (codes "reduce") ≡ false → bytes_eq name (codes "normal") ≡ false
+pub selftest_asked : (name : List ℕ) (words : List (List ℕ)) (line : Option SelftestOptions) → bytes_eq name (codes "reduce") ≡ false
+    → bytes_eq name (codes "normal") ≡ false
     → bytes_eq name (codes "selftest") ≡ true → line ≡ selftest_line words → option_map Command.selftest line ≡ command_of name words
 selftest_asked name words line no_reduce no_normal is line_is =
     ap (option_map Command.selftest) line_is ∙ sym (ap (λ (b : Bool). if b then option_map Command.selftest (selftest_line words) else None) is)
     ∙ other_than_normal name words no_normal ∙ other_than_reduce name words no_reduce
 
-pub nothing_asked : (name : List ℕ) (words : List (List ℕ)) → bytes_eq name (codes "reduce") ≡ false → bytes_eq name (codes "normal") ≡ false → bytes_eq name (codes "selftest") ≡ false → None ≡ command_of name words
+pub nothing_asked : (name : List ℕ) (words : List (List ℕ)) → bytes_eq name (codes "reduce") ≡ false → bytes_eq name (codes "normal") ≡ false
+    → bytes_eq name (codes "selftest") ≡ false → None ≡ command_of name words
 nothing_asked name words no_reduce no_normal no_selftest =
-    sym (ap (λ (b : Bool). if b then option_map Command.selftest (selftest_line words) else None) no_selftest) ∙ other_than_normal name words no_normal ∙ other_than_reduce name words no_reduce
+    sym (ap (λ (b : Bool). if b then option_map Command.selftest (selftest_line words) else None) no_selftest) ∙ other_than_normal name words no_normal
+    ∙ other_than_reduce name words no_reduce
 
 -- ---- the words
 
@@ -279,7 +346,9 @@ after_two (program ∷ []) other enough = absurd (omega arith)
 after_two {Z} (program ∷ (name ∷ words)) other enough =
     ap (λ (ws : List (String Z)). command_of (string_bytes name) (map string_bytes ws)) (take_all (length (program ∷ (name ∷ words)) - 2) words (omega arith))
 
-pub after_program : {Z : Type 0} → (words : List (String Z)) (item : String Z) (name : List ℕ) → 2 ≤ length words → item ≡ get_or words 1 item → name ≡ string_bytes item
+pub after_program : {Z : Type 0} → (words : List (String Z)) (item : String Z) (name : List ℕ) → 2 ≤ length words → item ≡ get_or words 1 item
+    → name ≡ string_bytes item
     → command_of name (map string_bytes (take (length words - 2) (drop 2 words))) ≡ command_line_of (map string_bytes words)
 after_program words item name enough item_is name_is =
-    ap (λ (n : List ℕ). command_of n (map string_bytes (take (length words - 2) (drop 2 words)))) (name_is ∙ ap string_bytes item_is) ∙ after_two words item enough
+    ap (λ (n : List ℕ). command_of n (map string_bytes (take (length words - 2) (drop 2 words)))) (name_is ∙ ap string_bytes item_is)
+    ∙ after_two words item enough

@@ -1,12 +1,14 @@
 -- What the matches of a command line give for one option, where they have the options that were found.
-use Rattle.std.proofs.Common.{◌≡◌, ◌∙◌, ℕ, ◌≤◌, Bool, true, false, ◌&&◌, ◌||◌, List, [], ◌∷◌, length, Option, Some, None, refl, sym, ap, bytes_eq, codes, cond, is_some, slice_get, option_map, unwrap_or, true≢false}
+use Rattle.std.proofs.Common.{◌≡◌, ◌∙◌, ℕ, ◌≤◌, Bool, true, false, ◌&&◌, ◌||◌, List, [], ◌∷◌, length, Option, Some, None, refl, sym, ap}
+use Rattle.std.proofs.Common.{ap₂, bytes_eq, codes, cond, is_some, slice_get, option_map, unwrap_or, true≢false}
 use Rattle.std.specs.Borrow.{Bor}
 use Rattle.clap.specs.Words.{first_value, found_of, matched_of, raw_values}
 use Rattle.clap.specs.declared.parser.matches.ArgMatches.{ArgMatches}
 use Rattle.clap.specs.declared.parser.matches.MatchedArg.{MatchedArg}
 use Rattle.command_words.specs.Options.{OptionRow, Use, Values, takes_value, values_for}
 use Rattle.command_words.specs.Tables.{optional, reduce_table, tree_modes}
-use Rattle.command_words.specs.Commands.{GrammarSource, ModeOptions, is_given, lines_options, named_grammar, text_of, tree_mode_named, trees_options, value_of, value_or}
+use Rattle.command_words.specs.Commands.{GrammarSource, ModeOptions, is_given, lines_options, named_grammar, says_grammar}
+use Rattle.command_words.specs.Commands.{text_of, tree_mode_named, trees_options, value_of, value_or}
 use Rattle.command_words.specs.inner.Found.{HasFound, fitting_mode, names_files}
 use Rattle.command_words.specs.inner.Read.{flag_text, NamesValue, where_some}
 use Rattle.reduce_step.specs.declared.mode.TreeMode.{TreeMode}
@@ -14,14 +16,17 @@ use Rattle.command_words.proofs.FoundValues.{given_none, given_some, mode_defaul
 
 -- ---- the first value
 
-pub first_none : (table : List OptionRow) (uses : List Use) (m : ArgMatches) (name : List ℕ) → HasFound table uses m → NamesValue table name → None ≡ first_value (found_of m) name → value_of name uses ≡ None
+pub first_none : (table : List OptionRow) (uses : List Use) (m : ArgMatches) (name : List ℕ) → HasFound table uses m → NamesValue table name
+    → None ≡ first_value (found_of m) name → value_of name uses ≡ None
 first_none table uses m name has takes none = sym (has.has.first name takes) ∙ sym none
 
-pub first_some : (table : List OptionRow) (uses : List Use) (m : ArgMatches) (name text : List ℕ) → HasFound table uses m → NamesValue table name → Some text ≡ first_value (found_of m) name → value_of name uses ≡ Some text
+pub first_some : (table : List OptionRow) (uses : List Use) (m : ArgMatches) (name text : List ℕ) → HasFound table uses m → NamesValue table name
+    → Some text ≡ first_value (found_of m) name → value_of name uses ≡ Some text
 first_some table uses m name text has takes some = sym (has.has.first name takes) ∙ sym some
 
 -- that value, or another where there is none
-pub first_or : (table : List OptionRow) (uses : List Use) (m : ArgMatches) (name : List ℕ) → HasFound table uses m → NamesValue table name → (r : Option (Bor (List ℕ))) (other t : Bor (List ℕ))
+pub first_or : (table : List OptionRow) (uses : List Use) (m : ArgMatches) (name : List ℕ) → HasFound table uses m → NamesValue table name
+    → (r : Option (Bor (List ℕ))) (other t : Bor (List ℕ))
     → option_map (λ (s : Bor (List ℕ)). s.now) r ≡ first_value (found_of m) name → t ≡ unwrap_or r other → t.now ≡ value_or other.now name uses
 first_or table uses m name has takes None other t none is =
     ap (λ (s : Bor (List ℕ)). s.now) is ∙ sym (ap (λ (o : Option (List ℕ)). unwrap_or o other.now) (first_none table uses m name has takes none))
@@ -38,12 +43,14 @@ some_given : (values : List (List ℕ)) → is_some {T = List (List ℕ)} (where
 some_given [] = refl
 some_given (v ∷ vs) = refl
 
-pub is_there : (table : List OptionRow) (uses : List Use) (m : ArgMatches) (name : List ℕ) → HasFound table uses m → NamesValue table name → is_some {T = MatchedArg} (matched_of (found_of m) name) ≡ is_given name uses
+pub is_there : (table : List OptionRow) (uses : List Use) (m : ArgMatches) (name : List ℕ) → HasFound table uses m → NamesValue table name
+    → is_some {T = MatchedArg} (matched_of (found_of m) name) ≡ is_given name uses
 is_there table uses m name has takes =
     some_of_map raw_values (matched_of (found_of m) name) ∙ ap (is_some {T = List (List ℕ)}) (has.has.values name takes) ∙ some_given (values_for name uses)
 
 -- a flag, as `clap` reads its text
-pub flag_there : (values : List (List ℕ)) (text : Option (List ℕ)) (r : Bool) → text ≡ Some (flag_text values) → (text ≡ Some (codes "true") → r ≡ true) → (text ≡ Some (codes "false") → r ≡ false)
+pub flag_there : (values : List (List ℕ)) (text : Option (List ℕ)) (r : Bool) → text ≡ Some (flag_text values) → (text ≡ Some (codes "true") → r ≡ true)
+    → (text ≡ Some (codes "false") → r ≡ false)
     → r ≡ is_some {T = List ℕ} (slice_get values 0)
 flag_there [] text r is reads_true reads_false = reads_false is
 flag_there (v ∷ vs) text r is reads_true reads_false = reads_true is
@@ -74,7 +81,8 @@ no_output uses none = second_false (is_given (codes "input") uses) _ (is_given (
 pub no_script : (uses : List Use) → value_of (codes "script") uses ≡ None → names_files uses ≡ false
 no_script uses none = third_false (is_given (codes "input") uses) (is_given (codes "output") uses) _ (given_none (codes "script") uses none)
 
-pub these_files : (uses : List Use) (input output script : List ℕ) → value_of (codes "input") uses ≡ Some input → value_of (codes "output") uses ≡ Some output → value_of (codes "script") uses ≡ Some script
+pub these_files : (uses : List Use) (input output script : List ℕ) → value_of (codes "input") uses ≡ Some input → value_of (codes "output") uses ≡ Some output
+    → value_of (codes "script") uses ≡ Some script
     → (names_files uses ≡ true) × (input ≡ text_of (codes "input") uses) × (output ≡ text_of (codes "output") uses) × (script ≡ text_of (codes "script") uses)
 these_files uses input output script input_is output_is script_is =
     let i = given_some (codes "input") input uses input_is in
@@ -84,22 +92,25 @@ these_files uses input output script input_is output_is script_is =
 
 -- ---- a grammar
 
-abbrev grammar_with : List ℕ → Option (List ℕ) → GrammarSource
-grammar_with path start = record { path = path; start = start }
+abbrev grammar_with : List ℕ → Option (List ℕ) → Option (List ℕ) → GrammarSource
+grammar_with path lexer start = record { path = path; lexer = lexer; start = start }
 
 pub no_grammar : (uses : List Use) → value_of (codes "grammar") uses ≡ None → None ≡ named_grammar uses
-no_grammar uses none = sym (ap (option_map (λ (path : List ℕ). grammar_with path (value_of (codes "start") uses))) none)
+no_grammar uses none = sym (ap (option_map (λ (path : List ℕ). grammar_with path (value_of (codes "lexer") uses) (value_of (codes "start") uses))) none)
 
-pub this_grammar : (uses : List Use) (path : List ℕ) (start : Option (List ℕ)) → value_of (codes "grammar") uses ≡ Some path → start ≡ value_of (codes "start") uses → Some (grammar_with path start) ≡ named_grammar uses
-this_grammar uses path start is start_is =
-    ap (λ (s : Option (List ℕ)). Some (grammar_with path s)) start_is
-    ∙ sym (ap (option_map (λ (p : List ℕ). grammar_with p (value_of (codes "start") uses))) is)
+pub this_grammar : (uses : List Use) (path : List ℕ) (lexer start : Option (List ℕ)) → value_of (codes "grammar") uses ≡ Some path
+    → lexer ≡ value_of (codes "lexer") uses
+    → start ≡ value_of (codes "start") uses → Some (grammar_with path lexer start) ≡ named_grammar uses
+this_grammar uses path lexer start is lexer_is start_is =
+    ap₂ (λ (l s : Option (List ℕ)). Some (grammar_with path l s)) lexer_is start_is
+    ∙ sym (ap (option_map (λ (p : List ℕ). grammar_with p (value_of (codes "lexer") uses) (value_of (codes "start") uses))) is)
 
 abbrev with_mode : TreeMode → Bool → GrammarSource → ModeOptions
 with_mode mode squeeze grammar = ModeOptions.by_grammar (record { grammar = grammar; mode = mode; squeeze = squeeze })
 
 -- a mode of trees, by the grammar that is read and the flag
-pub trees_found : (uses : List Use) (mode : TreeMode) (grammar : Option GrammarSource) (squeeze : Bool) → grammar ≡ named_grammar uses → squeeze ≡ is_given (codes "squeeze") uses
+pub trees_found : (uses : List Use) (mode : TreeMode) (grammar : Option GrammarSource) (squeeze : Bool) → grammar ≡ named_grammar uses
+    → squeeze ≡ is_given (codes "squeeze") uses
     → option_map (with_mode mode squeeze) grammar ≡ trees_options mode uses
 trees_found uses mode grammar squeeze grammar_is squeeze_is =
     ap (λ (b : Bool). option_map (with_mode mode b) grammar) squeeze_is
@@ -114,16 +125,19 @@ mode_text = value_or (codes "perses") (codes "mode")
 pub mode_once : (uses : List Use) (m : ArgMatches) → HasFound reduce_table uses m → length (values_for (codes "mode") uses) ≤ 1
 mode_once uses m has = has.once (optional (codes "mode") (Values.one_of (codes "lines" ∷ tree_modes))) refl refl
 
-pub lines_mode : (uses : List Use) → length (values_for (codes "mode") uses) ≤ 1 → bytes_eq (mode_text uses) (codes "lines") ≡ true → lines_options uses ≡ fitting_mode uses
+pub lines_mode : (uses : List Use) → length (values_for (codes "mode") uses) ≤ 1 → bytes_eq (mode_text uses) (codes "lines") ≡ true
+    → lines_options uses ≡ fitting_mode uses
 lines_mode uses few is = go (value_of (codes "mode") uses) refl
   where
     go : (o : Option (List ℕ)) → value_of (codes "mode") uses ≡ o → lines_options uses ≡ fitting_mode uses
     go None none =
         let no : false ≡ true = sym (ap (λ (x : Option (List ℕ)). bytes_eq (unwrap_or x (codes "perses")) (codes "lines")) none) ∙ is in
         absurd (true≢false (sym no))
-    go (Some text) some = mode_of_lines uses text few some (sym (ap (λ (x : Option (List ℕ)). bytes_eq (unwrap_or x (codes "perses")) (codes "lines")) some) ∙ is)
+    go (Some text) some =
+        mode_of_lines uses text few some (sym (ap (λ (x : Option (List ℕ)). bytes_eq (unwrap_or x (codes "perses")) (codes "lines")) some) ∙ is)
 
-pub no_mode : (uses : List Use) → length (values_for (codes "mode") uses) ≤ 1 → bytes_eq (mode_text uses) (codes "lines") ≡ false → takes_value (Values.one_of tree_modes) (mode_text uses) ≡ false → None ≡ fitting_mode uses
+pub no_mode : (uses : List Use) → length (values_for (codes "mode") uses) ≤ 1 → bytes_eq (mode_text uses) (codes "lines") ≡ false
+    → takes_value (Values.one_of tree_modes) (mode_text uses) ≡ false → None ≡ fitting_mode uses
 no_mode uses few other takes = go (value_of (codes "mode") uses) refl
   where
     go : (o : Option (List ℕ)) → value_of (codes "mode") uses ≡ o → None ≡ fitting_mode uses
@@ -134,13 +148,15 @@ no_mode uses few other takes = go (value_of (codes "mode") uses) refl
         mode_unknown uses text few some (sym (ap (λ (x : Option (List ℕ)). bytes_eq (unwrap_or x (codes "perses")) (codes "lines")) some) ∙ other)
         (sym (ap (λ (x : Option (List ℕ)). takes_value (Values.one_of tree_modes) (unwrap_or x (codes "perses"))) some) ∙ takes)
 
-pub tree_mode : (uses : List Use) (mode : TreeMode) → length (values_for (codes "mode") uses) ≤ 1 → bytes_eq (mode_text uses) (codes "lines") ≡ false → takes_value (Values.one_of tree_modes) (mode_text uses) ≡ true
+pub tree_mode : (uses : List Use) (mode : TreeMode) → length (values_for (codes "mode") uses) ≤ 1 → bytes_eq (mode_text uses) (codes "lines") ≡ false
+    → takes_value (Values.one_of tree_modes) (mode_text uses) ≡ true
     → mode ≡ tree_mode_named (mode_text uses) → trees_options mode uses ≡ fitting_mode uses
 tree_mode uses mode few other takes named = go (value_of (codes "mode") uses) refl
   where
     go : (o : Option (List ℕ)) → value_of (codes "mode") uses ≡ o → trees_options mode uses ≡ fitting_mode uses
     go None none =
-        let same : tree_mode_named (mode_text uses) ≡ tree_mode_named (codes "perses") = ap (λ (x : Option (List ℕ)). tree_mode_named (unwrap_or x (codes "perses"))) none in
+        let same : tree_mode_named (mode_text uses) ≡ tree_mode_named (codes "perses") =
+        ap (λ (x : Option (List ℕ)). tree_mode_named (unwrap_or x (codes "perses"))) none in
         ap (λ (m : TreeMode). trees_options m uses) (named ∙ same) ∙ mode_default uses none
     go (Some text) some =
         mode_of_trees uses text mode few some (sym (ap (λ (x : Option (List ℕ)). bytes_eq (unwrap_or x (codes "perses")) (codes "lines")) some) ∙ other)
@@ -148,10 +164,10 @@ tree_mode uses mode few other takes named = go (value_of (codes "mode") uses) re
         (named ∙ ap (λ (x : Option (List ℕ)). tree_mode_named (unwrap_or x (codes "perses"))) some)
 
 -- with something said of a grammar, the mode isn't `lines`
-pub not_lines : (uses : List Use) → (is_given (codes "grammar") uses || (is_given (codes "start") uses || is_given (codes "squeeze") uses)) ≡ true → None ≡ lines_options uses
+pub not_lines : (uses : List Use) → says_grammar uses ≡ true → None ≡ lines_options uses
 not_lines uses some = sym (ap (λ (b : Bool). cond b None (Some ModeOptions.lines)) some)
 
-pub only_lines : (uses : List Use) → (is_given (codes "grammar") uses || (is_given (codes "start") uses || is_given (codes "squeeze") uses)) ≡ false → Some ModeOptions.lines ≡ lines_options uses
+pub only_lines : (uses : List Use) → says_grammar uses ≡ false → Some ModeOptions.lines ≡ lines_options uses
 only_lines uses none = sym (ap (λ (b : Bool). cond b None (Some ModeOptions.lines)) none)
 
 -- what is said of a grammar, asked for one option after the other

@@ -1,5 +1,6 @@
 -- Whether the options that are there are as the table says, row by row.
-use Rattle.std.proofs.Common.{◌≡◌, ◌∙◌, ℕ, ◌≤◌, ◌==◌, Bool, true, false, not, ◌&&◌, ◌||◌, List, [], ◌∷◌, length, nat_le, Some, find, refl, sym, ap, ap₂, subst, cond, is_some, slice_get, codes, arith, leb-true, eqb-true, true≢false, bytes_eq}
+use Rattle.std.proofs.Common.{◌≡◌, ◌∙◌, ℕ, ◌≤◌, ◌==◌, Bool, true, false, not, ◌&&◌, ◌||◌, List, [], ◌∷◌, length, nat_le, Some, find, refl, sym}
+use Rattle.std.proofs.Common.{ap, subst, cond, is_some, slice_get, codes, arith, leb-true, eqb-true, true≢false, bytes_eq}
 use Rattle.std.specs.List.{list_all}
 use Rattle.std.proofs.lemmas.Bool.{and_parts}
 use Rattle.command_words.specs.Options.{OptionRow, Use, Values, fits_row, fits_table, has_value, takes_value, values_for}
@@ -14,18 +15,21 @@ any_fits : (values : List (List ℕ)) → list_all (takes_value Values.any_text)
 any_fits [] = refl
 any_fits (v ∷ vs) = any_fits vs
 
-pub optional_fits : (values : List (List ℕ)) → length values ≤ 1 → ((nat_le (length values) 1 && (true || nat_le 1 (length values))) && list_all (takes_value Values.any_text) values) ≡ true
+pub optional_fits : (values : List (List ℕ)) → length values ≤ 1
+    → ((nat_le (length values) 1 && (true || nat_le 1 (length values))) && list_all (takes_value Values.any_text) values) ≡ true
 optional_fits [] few = refl
 optional_fits (v ∷ []) few = refl
 optional_fits (v ∷ (w ∷ vs)) few = absurd (omega arith)
 
-pub flag_fits : (values : List (List ℕ)) → length values ≤ 1 → ((nat_le (length values) 1 && (true || nat_le 1 (length values))) && list_all (takes_value Values.no_value) values) ≡ true
+pub flag_fits : (values : List (List ℕ)) → length values ≤ 1
+    → ((nat_le (length values) 1 && (true || nat_le 1 (length values))) && list_all (takes_value Values.no_value) values) ≡ true
 flag_fits [] few = refl
 flag_fits (v ∷ []) few = refl
 flag_fits (v ∷ (w ∷ vs)) few = absurd (omega arith)
 
 pub required_fits : (values : List (List ℕ)) → length values ≤ 1
-    → ((nat_le (length values) 1 && (false || nat_le 1 (length values))) && list_all (takes_value Values.any_text) values) ≡ is_some {T = List ℕ} (slice_get values 0)
+    → ((nat_le (length values) 1 && (false || nat_le 1 (length values))) && list_all (takes_value Values.any_text) values) ≡ is_some {T = List ℕ}
+    (slice_get values 0)
 required_fits [] few = refl
 required_fits (v ∷ []) few = refl
 required_fits (v ∷ (w ∷ vs)) few = absurd (omega arith)
@@ -37,7 +41,8 @@ optional_values_fit takes (v ∷ []) few = refl
 optional_values_fit takes (v ∷ (w ∷ vs)) few = absurd (omega arith)
 
 pub required_values_fit : (takes : Values) (values : List (List ℕ)) → length values ≤ 1
-    → ((nat_le (length values) 1 && (false || nat_le 1 (length values))) && list_all (takes_value takes) values) ≡ (is_some {T = List ℕ} (slice_get values 0) && list_all (takes_value takes) values)
+    → ((nat_le (length values) 1 && (false || nat_le 1 (length values))) && list_all (takes_value takes) values)
+    ≡ (is_some {T = List ℕ} (slice_get values 0) && list_all (takes_value takes) values)
 required_values_fit takes [] few = refl
 required_values_fit takes (v ∷ []) few = refl
 required_values_fit takes (v ∷ (w ∷ vs)) few = absurd (omega arith)
@@ -46,17 +51,22 @@ and_true : (b : Bool) → (b && true) ≡ b
 and_true true = refl
 and_true false = refl
 
-pub keeps_fit : (values : List (List ℕ)) → ((nat_le (length values) 8 && (true || nat_le 1 (length values))) && list_all (takes_value Values.any_text) values) ≡ nat_le (length values) 8
-keeps_fit values = ap (λ (b : Bool). (nat_le (length values) 8 && true) && b) (any_fits values) ∙ and_true (nat_le (length values) 8 && true) ∙ and_true (nat_le (length values) 8)
+pub keeps_fit : (values : List (List ℕ))
+    → ((nat_le (length values) 8 && (true || nat_le 1 (length values))) && list_all (takes_value Values.any_text) values) ≡ nat_le (length values) 8
+keeps_fit values =
+    ap (λ (b : Bool). (nat_le (length values) 8 && true) && b) (any_fits values) ∙ and_true (nat_le (length values) 8 && true)
+    ∙ and_true (nat_le (length values) 8)
 
 -- ---- tables
 
-reduce_conjuncts : (a b c e g j a' b' c' d e' f g' h i j' k : Bool) → a ≡ a' → b ≡ b' → c ≡ c' → d ≡ true → e ≡ e' → f ≡ true → g ≡ g' → h ≡ true → i ≡ true → j ≡ j' → k ≡ true
-    → (a && (b && (c && (d && (e && (f && (g && (h && (i && (j && (k && true))))))))))) ≡ ((a' && (b' && c')) && (e' && (g' && j')))
-reduce_conjuncts a b c e g j a' b' c' d e' f g' h i j' k a_is b_is c_is d_is e_is f_is g_is h_is i_is j_is k_is =
-    rw (a_is, b_is, c_is, d_is, e_is, f_is, g_is, h_is, i_is, j_is, k_is) (regroup a' b' c' e' g' j')
+reduce_conjuncts : (a b c e g j a' b' c' d l e' f g' h i j' k : Bool) → a ≡ a' → b ≡ b' → c ≡ c' → d ≡ true → l ≡ true → e ≡ e' → f ≡ true → g ≡ g' → h ≡ true
+    → i ≡ true → j ≡ j' → k ≡ true
+    → (a && (b && (c && (d && (l && (e && (f && (g && (h && (i && (j && (k && true)))))))))))) ≡ ((a' && (b' && c')) && (e' && (g' && j')))
+reduce_conjuncts a b c e g j a' b' c' d l e' f g' h i j' k a_is b_is c_is d_is l_is e_is f_is g_is h_is i_is j_is k_is =
+    rw (a_is, b_is, c_is, d_is, l_is, e_is, f_is, g_is, h_is, i_is, j_is, k_is) (regroup a' b' c' e' g' j')
   where
-    regroup : (a b c e g j : Bool) → (a && (b && (c && (true && (e && (true && (g && (true && (true && (j && (true && true))))))))))) ≡ ((a && (b && c)) && (e && (g && j)))
+    regroup : (a b c e g j : Bool) → (a && (b && (c && (true && (true && (e && (true && (g && (true && (true && (j && (true && true))))))))))))
+        ≡ ((a && (b && c)) && (e && (g && j)))
     regroup false b c e g j = refl
     regroup true false c e g j = refl
     regroup true true false e g j = refl
@@ -66,15 +76,18 @@ reduce_conjuncts a b c e g j a' b' c' d e' f g' h i j' k a_is b_is c_is d_is e_i
 pub reduce_fits : (uses : List Use) → IsOnce reduce_table uses
     → fits_table reduce_table uses
     ≡ (names_files uses
-    && (values_fit (Values.one_of (codes "lines" ∷ tree_modes)) (codes "mode") uses && (values_fit (Values.number 1 16) (codes "jobs") uses && nat_le (length (values_for (codes "keep") uses)) 8)))
+    && (values_fit (Values.one_of (codes "lines" ∷ tree_modes)) (codes "mode") uses &&
+    (values_fit (Values.number 1 16) (codes "jobs") uses && nat_le (length (values_for (codes "keep") uses)) 8)))
 reduce_fits uses once =
     let g : List ℕ → List (List ℕ) = λ name. values_for name uses in
-    reduce_conjuncts _ _ _ _ _ _ _ _ _ _ _ _ _ _ _ _ _
+    reduce_conjuncts _ _ _ _ _ _ _ _ _ _ _ _ _ _ _ _ _ _
     (required_fits (g (codes "input")) (once (required (codes "input") Values.any_text) refl refl))
     (required_fits (g (codes "output")) (once (required (codes "output") Values.any_text) refl refl))
     (required_fits (g (codes "script")) (once (required (codes "script") Values.any_text) refl refl))
     (optional_fits (g (codes "grammar")) (once (optional (codes "grammar") Values.any_text) refl refl))
-    (optional_values_fit (Values.one_of (codes "lines" ∷ tree_modes)) (g (codes "mode")) (once (optional (codes "mode") (Values.one_of (codes "lines" ∷ tree_modes))) refl refl))
+    (optional_fits (g (codes "lexer")) (once (optional (codes "lexer") Values.any_text) refl refl))
+    (optional_values_fit (Values.one_of (codes "lines" ∷ tree_modes)) (g (codes "mode"))
+    (once (optional (codes "mode") (Values.one_of (codes "lines" ∷ tree_modes))) refl refl))
     (optional_fits (g (codes "start")) (once (optional (codes "start") Values.any_text) refl refl))
     (optional_values_fit (Values.number 1 16) (g (codes "jobs")) (once (optional (codes "jobs") (Values.number 1 16)) refl refl))
     (optional_fits (g (codes "journal")) (once (optional (codes "journal") Values.any_text) refl refl))
@@ -82,12 +95,15 @@ reduce_fits uses once =
     (keeps_fit (g (codes "keep")))
     (flag_fits (g (codes "squeeze")) (once (optional (codes "squeeze") Values.no_value) refl refl))
 
+normal_conjuncts : (a b c a' : Bool) → a ≡ a' → b ≡ true → c ≡ true → (a && (b && (c && true))) ≡ a'
+normal_conjuncts a b c a' a_is b_is c_is = rw (a_is, b_is, c_is) (and_true a')
+
 pub normal_fits : (uses : List Use) → IsOnce normal_table uses → fits_table normal_table uses ≡ is_given (codes "grammar") uses
 normal_fits uses once =
     let g : List ℕ → List (List ℕ) = λ name. values_for name uses in
-    ap₂ (λ (a b : Bool). a && (b && true)) (required_fits (g (codes "grammar")) (once (required (codes "grammar") Values.any_text) refl refl))
+    normal_conjuncts _ _ _ _ (required_fits (g (codes "grammar")) (once (required (codes "grammar") Values.any_text) refl refl))
+    (optional_fits (g (codes "lexer")) (once (optional (codes "lexer") Values.any_text) refl refl))
     (optional_fits (g (codes "start")) (once (optional (codes "start") Values.any_text) refl refl))
-    ∙ and_true (is_given (codes "grammar") uses)
 
 selftest_conjuncts : (a b c a' b' c' : Bool) → a ≡ a' → b ≡ b' → c ≡ c' → (a && (b && (c && true))) ≡ (a' && (b' && c'))
 selftest_conjuncts a b c a' b' c' a_is b_is c_is = rw (a_is, b_is, c_is) (ap (λ (x : Bool). a' && (b' && x)) (and_true c'))
@@ -128,6 +144,10 @@ fits_once table flags uses fits row found single =
     let row_fits = found_in (λ (r : OptionRow). bytes_eq r.name row.name) (fits_row uses) table row fits found in
     let flag = found_in (λ (r : OptionRow). bytes_eq r.name row.name) (λ (r : OptionRow). has_value r.values || r.most == 1) table row flags found in
     let most : row.most ≡ 1 = eqb-true row.most 1 (single_most (has_value row.values) (row.most == 1) single flag) in
-    let counts = (and_parts (nat_le (length (values_for row.name uses)) row.most && (not row.is_required || nat_le 1 (length (values_for row.name uses)))) (list_all (takes_value row.values) (values_for row.name uses)) row_fits).0 in
-    let few : length (values_for row.name uses) ≤ row.most = leb-true _ _ (and_parts (nat_le (length (values_for row.name uses)) row.most) (not row.is_required || nat_le 1 (length (values_for row.name uses))) counts).0 in
+    let counts =
+    (and_parts (nat_le (length (values_for row.name uses)) row.most && (not row.is_required || nat_le 1 (length (values_for row.name uses))))
+    (list_all (takes_value row.values) (values_for row.name uses)) row_fits).0 in
+    let few : length (values_for row.name uses) ≤ row.most =
+    leb-true _ _ (and_parts (nat_le (length (values_for row.name uses)) row.most)
+    (not row.is_required || nat_le 1 (length (values_for row.name uses))) counts).0 in
     omega arith

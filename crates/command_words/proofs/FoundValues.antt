@@ -1,5 +1,6 @@
 -- What the values that were found give, option by option.
-use Rattle.std.proofs.Common.{◌≡◌, ◌∙◌, ℕ, ◌<◌, ◌≤◌, Bool, true, false, ◌&&◌, ◌||◌, List, [], ◌∷◌, length, nat_le, Option, Some, None, MatchOption, refl, sym, ap, ap₂, bytes_eq, is_some, slice_get, unwrap_or, if◌then◌else◌, codes, arith}
+use Rattle.std.proofs.Common.{◌≡◌, ◌∙◌, ℕ, ◌<◌, ◌≤◌, Bool, true, false, ◌&&◌, ◌||◌, List, [], ◌∷◌, length, nat_le, Option, Some, None}
+use Rattle.std.proofs.Common.{MatchOption, refl, sym, ap, ap₂, bytes_eq, is_some, slice_get, unwrap_or, if◌then◌else◌, codes, arith}
 use Rattle.std.proofs.lemmas.Bool.{le-leb, lt-leb}
 use Rattle.std.specs.List.{list_all}
 use Rattle.std.specs.Str.Parse.{digits_value}
@@ -41,10 +42,12 @@ one_value (v ∷ (w ∷ vs)) text few some = absurd (omega arith)
 
 -- the number that these values give, where there is one
 abbrev number_from : ℕ → ℕ → List (List ℕ) → Option ℕ
-number_from least most values = if list_all (takes_value (Values.number least most)) values then Some (digits_value 10 (unwrap_or (slice_get values 0) (codes "1"))) else None
+number_from least most values =
+    if list_all (takes_value (Values.number least most)) values then Some (digits_value 10 (unwrap_or (slice_get values 0) (codes "1"))) else None
 
 -- what is read of the text, as a test of it
-pub number_read : (least most : ℕ) (text : List ℕ) (r : Option ℕ) → MatchOption r (is_number_in least most text ≡ false) (λ n. (is_number_in least most text ≡ true) × (n ≡ digits_value 10 text))
+pub number_read : (least most : ℕ) (text : List ℕ) (r : Option ℕ)
+    → MatchOption r (is_number_in least most text ≡ false) (λ n. (is_number_in least most text ≡ true) × (n ≡ digits_value 10 text))
     → r ≡ (if is_number_in least most text && true then Some (digits_value 10 text) else None)
 number_read least most text None fails = sym (ap (λ (b : Bool). if b && true then Some (digits_value 10 text) else None) fails)
 number_read least most text (Some n) reads =
@@ -60,16 +63,19 @@ jobs_read uses text r few some reads = number_read 1 16 text r reads ∙ sym (ap
 abbrev mode_from : List Use → List (List ℕ) → Option ModeOptions
 mode_from uses values =
     if list_all (takes_value (Values.one_of (codes "lines" ∷ tree_modes))) values
-    then (if bytes_eq (unwrap_or (slice_get values 0) []) (codes "lines") then lines_options uses else trees_options (tree_mode_named (unwrap_or (slice_get values 0) (codes "perses"))) uses)
+    then (if bytes_eq (unwrap_or (slice_get values 0) []) (codes "lines") then lines_options uses else trees_options
+    (tree_mode_named (unwrap_or (slice_get values 0) (codes "perses"))) uses)
     else None
 
 pub mode_default : (uses : List Use) → value_of (codes "mode") uses ≡ None → trees_options Perses uses ≡ fitting_mode uses
 mode_default uses none = sym (ap (mode_from uses) (no_values (values_for (codes "mode") uses) none))
 
-mode_is : (uses : List Use) (text : List ℕ) → length (values_for (codes "mode") uses) ≤ 1 → value_of (codes "mode") uses ≡ Some text → mode_from uses (text ∷ []) ≡ fitting_mode uses
+mode_is : (uses : List Use) (text : List ℕ) → length (values_for (codes "mode") uses) ≤ 1 → value_of (codes "mode") uses ≡ Some text
+    → mode_from uses (text ∷ []) ≡ fitting_mode uses
 mode_is uses text few some = sym (ap (mode_from uses) (one_value (values_for (codes "mode") uses) text few some))
 
-pub mode_of_lines : (uses : List Use) (text : List ℕ) → length (values_for (codes "mode") uses) ≤ 1 → value_of (codes "mode") uses ≡ Some text → bytes_eq text (codes "lines") ≡ true → lines_options uses ≡ fitting_mode uses
+pub mode_of_lines : (uses : List Use) (text : List ℕ) → length (values_for (codes "mode") uses) ≤ 1 → value_of (codes "mode") uses ≡ Some text
+    → bytes_eq text (codes "lines") ≡ true → lines_options uses ≡ fitting_mode uses
 mode_of_lines uses text few some is =
     sym (ap (λ (t : List ℕ). mode_from uses (t ∷ [])) (text_same text (codes "lines") is)) ∙ mode_is uses text few some
 
@@ -81,17 +87,21 @@ other_mode text other = go (bytes_eq (codes "lines") text) refl
     go false is = refl
     go true is = absurd (both_answers (bytes_eq text (codes "lines")) (text_equal text (codes "lines") (sym (text_same (codes "lines") text is))) other)
 
-mode_takes : (text : List ℕ) (b : Bool) → bytes_eq text (codes "lines") ≡ false → takes_value (Values.one_of tree_modes) text ≡ b → takes_value (Values.one_of (codes "lines" ∷ tree_modes)) text ≡ b
+mode_takes : (text : List ℕ) (b : Bool) → bytes_eq text (codes "lines") ≡ false → takes_value (Values.one_of tree_modes) text ≡ b
+    → takes_value (Values.one_of (codes "lines" ∷ tree_modes)) text ≡ b
 mode_takes text b other takes = ap₂ (λ (x y : Bool). x || y) (other_mode text other) takes
 
-pub mode_unknown : (uses : List Use) (text : List ℕ) → length (values_for (codes "mode") uses) ≤ 1 → value_of (codes "mode") uses ≡ Some text → bytes_eq text (codes "lines") ≡ false
+pub mode_unknown : (uses : List Use) (text : List ℕ) → length (values_for (codes "mode") uses) ≤ 1 → value_of (codes "mode") uses ≡ Some text
+    → bytes_eq text (codes "lines") ≡ false
     → takes_value (Values.one_of tree_modes) text ≡ false → None ≡ fitting_mode uses
 mode_unknown uses text few some other takes =
     sym (ap (λ (b : Bool). if b && true
-    then (if bytes_eq text (codes "lines") then lines_options uses else trees_options (tree_mode_named text) uses) else None) (mode_takes text false other takes))
+    then (if bytes_eq text (codes "lines") then lines_options uses else trees_options (tree_mode_named text) uses) else None)
+    (mode_takes text false other takes))
     ∙ mode_is uses text few some
 
-pub mode_of_trees : (uses : List Use) (text : List ℕ) (mode : TreeMode) → length (values_for (codes "mode") uses) ≤ 1 → value_of (codes "mode") uses ≡ Some text → bytes_eq text (codes "lines") ≡ false
+pub mode_of_trees : (uses : List Use) (text : List ℕ) (mode : TreeMode) → length (values_for (codes "mode") uses) ≤ 1 → value_of (codes "mode") uses ≡ Some text
+    → bytes_eq text (codes "lines") ≡ false
     → takes_value (Values.one_of tree_modes) text ≡ true → mode ≡ tree_mode_named text → trees_options mode uses ≡ fitting_mode uses
 mode_of_trees uses text mode few some other takes named =
     ap (λ (m : TreeMode). trees_options m uses) named
@@ -118,8 +128,10 @@ no_keeps uses none = sym (ap few_of (where_none (values_for (codes "keep") uses)
 pub keeps_are : (uses : List Use) (texts : List (List ℕ)) → where_some (values_for (codes "keep") uses) ≡ Some texts → few_of texts ≡ fitting_keeps uses
 keeps_are uses texts some = sym (ap few_of (where_these (values_for (codes "keep") uses) texts some))
 
-pub too_many : (uses : List Use) (texts : List (List ℕ)) → 8 < length texts → where_some (values_for (codes "keep") uses) ≡ Some texts → None ≡ fitting_keeps uses
+pub too_many : (uses : List Use) (texts : List (List ℕ)) → 8 < length texts → where_some (values_for (codes "keep") uses) ≡ Some texts
+    → None ≡ fitting_keeps uses
 too_many uses texts many some = sym (ap (λ (b : Bool). if b then Some texts else None) (lt-leb (length texts) 8 many)) ∙ keeps_are uses texts some
 
-pub few_enough : (uses : List Use) (texts : List (List ℕ)) → length texts ≤ 8 → where_some (values_for (codes "keep") uses) ≡ Some texts → Some texts ≡ fitting_keeps uses
+pub few_enough : (uses : List Use) (texts : List (List ℕ)) → length texts ≤ 8 → where_some (values_for (codes "keep") uses) ≡ Some texts
+    → Some texts ≡ fitting_keeps uses
 few_enough uses texts few some = sym (ap (λ (b : Bool). if b then Some texts else None) (le-leb (length texts) 8 few)) ∙ keeps_are uses texts some

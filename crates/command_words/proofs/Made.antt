@@ -23,14 +23,16 @@ use Rattle.command_words.proofs.Answered.{answered_err, answered_ok, app, are_we
 abbrev pub bare_app : Text → App
 bare_app name = record { top = record (new_shape name) { no_binary_name = true; disable_help_flag = true }; subs = [] }
 
-pub bare : (name : Text) (a b c : Command) → app_of a ≡ new_app name → fields_of b ≡ record (fields_of a) { no_binary_name = true } → fields_of c ≡ record (fields_of b) { disable_help_flag = true }
+pub bare : (name : Text) (a b c : Command) → app_of a ≡ new_app name → fields_of b ≡ record (fields_of a) { no_binary_name = true }
+    → fields_of c ≡ record (fields_of b) { disable_help_flag = true }
     → app_of c ≡ bare_app name
 bare name a b c new no_name no_help =
     ap app_of_fields no_help
     ∙ ap (on_top (λ s. record s { disable_help_flag = true })) (ap app_of_fields no_name ∙ ap (on_top (λ s. record s { no_binary_name = true })) new)
 
 -- each word, as text
-pub all_formed : {Z : Type 0} → (words : List (String Z)) → list_all (λ word. is_well_formed (string_bytes word)) words ≡ list_all is_well_formed (map string_bytes words)
+pub all_formed : {Z : Type 0} → (words : List (String Z))
+    → list_all (λ word. is_well_formed (string_bytes word)) words ≡ list_all is_well_formed (map string_bytes words)
 all_formed words = sym (list_all-map is_well_formed string_bytes words)
 
 rules_added : (a : App) (rules : List Rule) → fold with_rule a rules ≡ on_top (λ s. record s { rules = s.rules ++ rules }) a
@@ -49,7 +51,8 @@ command_app name table rows bare made bare_is made_is same =
     made_is ∙ ap₂ (λ (a : App) (rules : List Rule). fold with_rule a rules) bare_is (two_maps rows ∙ ap (map option_rule) same)
     ∙ rules_added (bare_app name) (map option_rule (map table_row table))
 
-pub answer_of_matches : (name : Text) (table : List OptionRow) (words : List Text) → list_all is_well_formed words ≡ true → IsTable table → (made : App) → made ≡ app name table → (m : ArgMatches)
+pub answer_of_matches : (name : Text) (table : List OptionRow) (words : List Text) → list_all is_well_formed words ≡ true → IsTable table → (made : App)
+    → made ≡ app name table → (m : ArgMatches)
     → HasMatchesOf made words m → (is_simple_and_free made ≡ true → fault_of made words ≡ []) → IsAnswered table words (Some m)
 answer_of_matches name table words good is_table made is m matches none =
     let plain = is_plain_command name (map table_row table) in
@@ -57,7 +60,8 @@ answer_of_matches name table words good is_table made is m matches none =
     answered_ok name table words good is_table.0 m (subst (λ (a : App). HasMatchesOf a words m) is matches) simple.0
     (sym (ap (λ (a : App). fault_of a words) is) ∙ none (ap is_simple_and_free is ∙ plain))
 
-pub answer_of_error : (name : Text) (table : List OptionRow) (words : List Text) → list_all is_well_formed words ≡ true → (made : App) → made ≡ app name table → (e : Error)
+pub answer_of_error : (name : Text) (table : List OptionRow) (words : List Text) → list_all is_well_formed words ≡ true → (made : App) → made ≡ app name table
+    → (e : Error)
     → (is_simple_and_free made ≡ true → HasKind (fault_of made words) e) → (kind_of e ≡ OutOfMemory → ⊥) → IsAnswered table words None
 answer_of_error name table words good made is e fails other = go (fails (ap is_simple_and_free is ∙ is_plain_command name (map table_row table)))
   where
@@ -66,4 +70,5 @@ answer_of_error name table words good made is e fails other = go (fails (ap is_s
     go (inr among) = answered_err name table words good (kind_of e) (subst (λ (a : App). IsAmong (kind_of e) (fault_of a words)) is among)
 
 pub answer_of_others : (table : List OptionRow) (words : List Text) → IsTable table → list_all is_well_formed words ≡ false → IsAnswered table words None
-answer_of_others table words is_table bad uses reads once = both_answers (list_all is_well_formed words) (are_well_formed table is_table.1 words None uses reads) bad
+answer_of_others table words is_table bad uses reads once =
+    both_answers (list_all is_well_formed words) (are_well_formed table is_table.1 words None uses reads) bad

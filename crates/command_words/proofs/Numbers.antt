@@ -1,5 +1,6 @@
 -- Numbers as they are written in words.
-use Rattle.std.proofs.Common.{◌≡◌, ℕ, ◌<◌, ◌≤◌, ◌^◌, ◌==◌, Bool, true, false, not, List, [], ◌∷◌, length, nat_le, Result, Err, rules, refl, sym, arith, leb-true, true≢false}
+use Rattle.std.proofs.Common.{◌≡◌, ℕ, ◌<◌, ◌≤◌, ◌^◌, ◌==◌, Bool, true, false, not, List, [], ◌∷◌, length, nat_le}
+use Rattle.std.proofs.Common.{Result, Err, rules, refl, sym, arith, leb-true, true≢false}
 use Rattle.std.specs.Char.{is_ascii_digit}
 use Rattle.std.specs.List.{list_all}
 use Rattle.std.specs.Result.{OkIff}
@@ -29,7 +30,8 @@ pub parsed : {E : Type 0} → (text : List ℕ) (r : Result ℕ E) → is_decima
 parsed text r is h = parse_digits numerals 32 text r h (decimal_digits text is)
 
 -- a number that can't be read is none in the bounds
-pub too_great : (least most : ℕ) (text : List ℕ) → is_decimal text ≡ true → most < 2 ^ 32 → ((0 < length text) × (digits_value 10 text < 2 ^ 32) → ⊥) → is_number_in least most text ≡ false
+pub too_great : (least most : ℕ) (text : List ℕ) → is_decimal text ≡ true → most < 2 ^ 32 → ((0 < length text) × (digits_value 10 text < 2 ^ 32) → ⊥)
+    → is_number_in least most text ≡ false
 too_great least most text is bound none = go (is_number_in least most text) refl
   where
     go : (b : Bool) → is_number_in least most text ≡ b → b ≡ false
@@ -39,5 +41,6 @@ too_great least most text is bound none = go (is_number_in least most text) refl
         let below : digits_value 10 text ≤ most = leb-true (digits_value 10 text) most bounds.1 in
         absurd (none (decimal_some text is, omega arith))
 
-pub not_parsed : (least most : ℕ) (text : List ℕ) → is_decimal text ≡ true → most < 2 ^ 32 → ParsesUnsigned {E = ℕ} 32 10 text (Err 0) → is_number_in least most text ≡ false
+pub not_parsed : (least most : ℕ) (text : List ℕ) → is_decimal text ≡ true → most < 2 ^ 32 → ParsesUnsigned {E = ℕ} 32 10 text (Err 0)
+    → is_number_in least most text ≡ false
 not_parsed least most text is bound h = too_great least most text is bound (parsed {E = ℕ} text (Err 0) is h)

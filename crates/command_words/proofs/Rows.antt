@@ -1,5 +1,6 @@
 -- What is found for an option after a use of it.
-use Rattle.std.proofs.Common.{◌≡◌, ◌∙◌, Bool, true, false, cond, ◌||◌, List, [], ◌∷◌, ◌++◌, Option, Some, None, find, refl, sym, ap, bytes_eq, option_map, is_some, if◌then◌else◌, map, filter, append-nil, subst, true≢false}
+use Rattle.std.proofs.Common.{◌≡◌, ◌∙◌, Bool, true, false, cond, ◌||◌, List, [], ◌∷◌, ◌++◌, Option, Some, None, find, refl, sym, ap}
+use Rattle.std.proofs.Common.{bytes_eq, option_map, is_some, if◌then◌else◌, map, filter, append-nil, subst, true≢false}
 use Rattle.std.proofs.lemmas.List.{map-append}
 use Rattle.std.proofs.lemmas.List.Elements.{filter-append}
 use Rattle.clap.specs.Walk.{Row, Text, has_row, more_values, stronger, with_values, without}
@@ -23,7 +24,8 @@ row_is_seen id [] = refl
 row_is_seen id (r ∷ rs) = go (bytes_eq r.id id) (row_is_seen id rs)
   where
     go : (b : Bool) → has_row id rs ≡ is_some {T = List Text × Reading} (seen id rs)
-        → (b || has_row id rs) ≡ is_some {T = List Text × Reading} (option_map (λ (x : Row). (x.values, x.reading)) (cond b (Some r) (find (λ (x : Row). bytes_eq x.id id) rs)))
+        → (b || has_row id rs) ≡ is_some {T = List Text × Reading}
+        (option_map (λ (x : Row). (x.values, x.reading)) (cond b (Some r) (find (λ (x : Row). bytes_eq x.id id) rs)))
     go true later = refl
     go false later = later
 
@@ -57,19 +59,23 @@ pub seen_after : (id name : Text) (source : ValueSource) (values : List Text) (r
     → seen id (with_values name AsWritten source values rows) ≡ with_more (bytes_eq name id) values (seen id rows)
 seen_after id name source values [] = go (bytes_eq name id)
   where
-    go : (b : Bool) → option_map shown_row (cond b (Some (record { id = name; values = values; count = None; source = Some source; reading = AsWritten })) None) ≡ with_more b values None
+    go : (b : Bool) → option_map shown_row (cond b (Some (record { id = name; values = values; count = None; source = Some source; reading = AsWritten })) None)
+        ≡ with_more b values None
     go true = refl
     go false = refl
 seen_after id name source values (r ∷ rs) = go (bytes_eq r.id name) refl (seen_after id name source values rs)
   where
     go : (b : Bool) → bytes_eq r.id name ≡ b → seen id (with_values name AsWritten source values rs) ≡ with_more (bytes_eq name id) values (seen id rs)
-        → seen id (if b then more_values source values r ++ rs else r ∷ with_values name AsWritten source values rs) ≡ with_more (bytes_eq name id) values (seen id (r ∷ rs))
+        → seen id (if b then more_values source values r ++ rs else r ∷ with_values name AsWritten source values rs) ≡ with_more (bytes_eq name id) values
+        (seen id (r ∷ rs))
     go true is later =
         let same : bytes_eq r.id id ≡ bytes_eq name id = ap (λ (x : Text). bytes_eq x id) (text_same r.id name is) in
         subst (λ (b : Bool). seen id (more_values source values r ++ rs) ≡ with_more b values (seen id (r ∷ rs))) same
-        (hit (bytes_eq r.id id) r (record r { values = r.values ++ values; source = Some (stronger r.source source) }) values (find (λ (x : Row). bytes_eq x.id id) rs) refl)
+        (hit (bytes_eq r.id id) r (record r { values = r.values ++ values; source = Some (stronger r.source source) }) values
+        (find (λ (x : Row). bytes_eq x.id id) rs) refl)
     go false is later =
-        miss (bytes_eq r.id id) (bytes_eq name id) r values (find (λ (x : Row). bytes_eq x.id id) rs) (find (λ (x : Row). bytes_eq x.id id) (with_values name AsWritten source values rs))
+        miss (bytes_eq r.id id) (bytes_eq name id) r values (find (λ (x : Row). bytes_eq x.id id) rs)
+        (find (λ (x : Row). bytes_eq x.id id) (with_values name AsWritten source values rs))
         (λ mine other. both_answers (bytes_eq r.id name) (text_equal r.id name (text_same r.id id mine ∙ sym (text_same name id other))) is) later
 
 -- ---- the values that are given
@@ -96,7 +102,8 @@ given_one name one = go (bytes_eq one.name name)
     go true = refl
     go false = refl
 
-pub given_after : (name : Text) (uses : List Use) (one : Use) → values_for name (uses ++ one ∷ []) ≡ values_for name uses ++ own_value (bytes_eq one.name name) one.value
+pub given_after : (name : Text) (uses : List Use) (one : Use)
+    → values_for name (uses ++ one ∷ []) ≡ values_for name uses ++ own_value (bytes_eq one.name name) one.value
 given_after name uses one = given_append name uses (one ∷ []) ∙ ap (λ (more : List Text). values_for name uses ++ more) (given_one name one)
 
 more_shown : (b : Bool) (value : Text) (values : List Text) → with_more b (value ∷ []) (shown values) ≡ shown (values ++ own_value b value)

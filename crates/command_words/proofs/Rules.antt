@@ -1,5 +1,6 @@
 -- The options as `clap` builds them.
-use Rattle.std.proofs.Common.{◌≡◌, ◌∙◌, ℕ, Bool, true, false, cond, not, ◌&&◌, ◌||◌, List, [], ◌∷◌, map, Option, Some, None, find, refl, sym, ap, bytes_eq, option_map, if◌then◌else◌, count_by, is_some}
+use Rattle.std.proofs.Common.{◌≡◌, ◌∙◌, ℕ, Bool, true, false, cond, not, ◌&&◌, ◌||◌, List, [], ◌∷◌, map, Option, Some, None}
+use Rattle.std.proofs.Common.{find, refl, sym, ap, bytes_eq, option_map, if◌then◌else◌, count_by, is_some}
 use Rattle.std.specs.List.{list_all, list_any}
 use Rattle.clap.specs.Walk.{Row, Rule, arg_by_id, arg_by_index, arg_by_long, has_row, is_early_multiple, is_empty, with_default}
 use Rattle.clap.specs.Simple.{App, Shape, built, filled, filled_from, new_shape}
@@ -47,7 +48,8 @@ none_by_index (row ∷ rows) i = none_by_index rows i
 default_none : (found : List Row) (row : PlainRow) → default_fault found (built_rule row) ≡ []
 default_none found row = go (has_row row.name found) row.takes
   where
-    go : (b : Bool) (takes : Takes) → let rule = built_rule (record { name = row.name; takes = takes }) in (if b || is_empty rule.defaults then [] else given_default_fault rule rule.defaults) ≡ []
+    go : (b : Bool) (takes : Takes) → let rule =
+        built_rule (record { name = row.name; takes = takes }) in (if b || is_empty rule.defaults then [] else given_default_fault rule rule.defaults) ≡ []
     go true takes = refl
     go false Value = refl
     go false Several = refl
@@ -57,7 +59,8 @@ pub no_defaults_fail : (found : List Row) (rows : List PlainRow) → defaults_fa
 unfolding defaults_fault
 no_defaults_fail found [] = refl
 no_defaults_fail found (row ∷ rows) =
-    ap (λ (k : Kinds). or_else k (defaults_fault (with_default found (built_rule row)) (rules_for rows))) (default_none found row) ∙ no_defaults_fail (with_default found (built_rule row)) rows
+    ap (λ (k : Kinds). or_else k (defaults_fault (with_default found (built_rule row)) (rules_for rows))) (default_none found row)
+    ∙ no_defaults_fail (with_default found (built_rule row)) rows
 
 pub none_required : (found : List Row) (rows : List PlainRow) → list_any (λ a. a.required && not (is_given a.id found)) (rules_for rows) ≡ false
 none_required found [] = refl
@@ -65,7 +68,8 @@ none_required found (row ∷ rows) = none_required found rows
 
 -- the command as it is built
 abbrev pub shape_for : List ℕ → List PlainRow → Shape
-shape_for command rows = record (new_shape command) { rules = rules_for rows; no_binary_name = true; disable_help_flag = true; disable_help_subcommand = true; is_built = true }
+shape_for command rows =
+    record (new_shape command) { rules = rules_for rows; no_binary_name = true; disable_help_flag = true; disable_help_subcommand = true; is_built = true }
 
 pub no_check_fails : (command : List ℕ) (found : List Row) (rows : List PlainRow) → check_fault (shape_for command rows) found false ≡ []
 no_check_fails command found rows = ap (λ (b : Bool). check_kinds false false b) (none_required found rows)

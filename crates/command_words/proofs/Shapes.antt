@@ -1,5 +1,6 @@
 -- What a word that options may have looks like.
-use Rattle.std.proofs.Common.{◌≡◌, ◌∙◌, ℕ, ◌==◌, Bool, true, false, not, ◌&&◌, List, [], ◌∷◌, Option, Some, None, refl, sym, ap, bytes_eq, if◌then◌else◌, true≢false, option_and_then}
+use Rattle.std.proofs.Common.{◌≡◌, ◌∙◌, ℕ, ◌==◌, Bool, true, false, not, ◌&&◌, List, [], ◌∷◌, Option, Some, None, refl}
+use Rattle.std.proofs.Common.{sym, ap, bytes_eq, if◌then◌else◌, true≢false, option_and_then}
 use Rattle.clap.specs.Walk.{Text}
 use Rattle.clap.specs.Lexer.{long_of, long_of_rest, short_of, short_of_rest, strip_byte}
 use Rattle.command_words.specs.Options.{OptionWord, is_value, name_and_value, option_word}
@@ -11,7 +12,8 @@ dashes = 45 ∷ 45 ∷ []
 
 -- the word is an option's, with its value or without; or it is a value
 pub data Shape (word : Text) : Type 0 where
-  is_option : (name : Text) (value : Option Text) → option_word word ≡ Some (record { name = name; value = value }) → long_of word ≡ Some (name, value) → bytes_eq word dashes ≡ false
+  is_option : (name : Text) (value : Option Text) → option_word word ≡ Some (record { name = name; value = value }) → long_of word ≡ Some (name, value)
+      → bytes_eq word dashes ≡ false
       → is_value word ≡ false → ((v : Text) → value ≡ Some v → is_value v ≡ true) → Shape word
   is_plain : option_word word ≡ None → is_value word ≡ true → long_of word ≡ None → short_of word ≡ None → bytes_eq word dashes ≡ false → Shape word
 
@@ -40,7 +42,8 @@ value_is_good word part v is = go word.value is part
     go None is part = absurd (cc is)
     go (Some w) is part = let same : w ≡ v = cc is in sym (ap is_value same) ∙ part
 
-after_hyphens : (a b : ℕ) (text : List ℕ) → (a == 45) ≡ true → (b == 45) ≡ true → is_part_of (a ∷ (b ∷ text)) (Some (name_and_value text)) ≡ true → Shape (a ∷ (b ∷ text))
+after_hyphens : (a b : ℕ) (text : List ℕ) → (a == 45) ≡ true → (b == 45) ≡ true → is_part_of (a ∷ (b ∷ text)) (Some (name_and_value text)) ≡ true
+    → Shape (a ∷ (b ∷ text))
 after_hyphens a b [] a_is b_is part = absurd (true≢false (sym part))
 after_hyphens a b (x ∷ xs) a_is b_is part = option_shape a b x xs a_is b_is (value_is_good (name_and_value (x ∷ xs)) part)
 

@@ -1,5 +1,6 @@
 -- Which words are a command line, and what it asks for.
-use Rattle.std.specs.Prelude.{ℕ, ◌||◌, Bool, List, [], ◌∷◌, ◌++◌, Option, Some, None, if◌then◌else◌, codes, is_some, option_and_then, option_map, slice_get, unwrap_or}
+use Rattle.std.specs.Prelude.{ℕ, ◌||◌, Bool, List, [], ◌∷◌, ◌++◌, Option, Some, None, if◌then◌else◌, codes}
+use Rattle.std.specs.Prelude.{is_some, option_and_then, option_map, slice_get, unwrap_or}
 use Rattle.std.specs.Str.{bytes_eq}
 use Rattle.std.specs.Str.Parse.{digits_value}
 use Rattle.command_words.specs.Options.{Use, options_in, values_for}
@@ -7,9 +8,10 @@ use Rattle.command_words.specs.Tables.{normal_table, reduce_table, selftest_tabl
 use Rattle.reduce_step.specs.declared.mode.TreeMode.{TreeMode}
 use Rattle.reduce_step.specs.declared.mode.TreeMode.TheVariants.{Hdd, Perses}
 
--- a grammar by its path and the name of its start rule, where one is given
+-- a grammar by its path, that of its lexer, where it is in two files, and the name of its start rule, where one is given
 pub record GrammarSource : Type 0 where
   pub path : List ℕ
+  pub lexer : Option (List ℕ)
   pub start : Option (List ℕ)
 
 -- what is said of a reduction by a grammar: the grammar, how a round goes through a tree, and whether the squeezed text of the whole tree is tried
@@ -23,7 +25,8 @@ pub data ModeOptions : Type 0 where
   lines : ModeOptions
   by_grammar : GrammarOptions → ModeOptions
 
--- what a command line of `reduce` gives: the mode; the paths of the input, the output, the script and the journal; the folder of the candidates; the number of workers; and the keep texts
+-- what a command line of `reduce` gives: the mode; the paths of the input, the output, the script and
+-- the journal; the folder of the candidates; the number of workers; and the keep texts
 pub record ReduceOptions : Type 0 where
   pub mode : ModeOptions
   pub input : List ℕ
@@ -73,17 +76,27 @@ tree_mode_named name = if bytes_eq name (codes "hdd") then Hdd else Perses
 abbrev pub tree_mode_of : List Use → TreeMode
 tree_mode_of uses = tree_mode_named (value_or (codes "perses") (codes "mode") uses)
 
+-- a file of a grammar is named
+abbrev pub names_grammar : List Use → Bool
+names_grammar uses = is_given (codes "grammar") uses || is_given (codes "lexer") uses
+
+-- something is said of a grammar
+abbrev pub says_grammar : List Use → Bool
+says_grammar uses = names_grammar uses || (is_given (codes "start") uses || is_given (codes "squeeze") uses)
+
 -- with `--mode lines` nothing is said of a grammar
 abbrev pub lines_options : List Use → Option ModeOptions
-lines_options uses = if is_given (codes "grammar") uses || (is_given (codes "start") uses || is_given (codes "squeeze") uses) then None else Some ModeOptions.lines
+lines_options uses = if says_grammar uses then None else Some ModeOptions.lines
 
--- the grammar of `--grammar` and `--start`, where one is given
+-- the grammar of `--grammar`, `--lexer` and `--start`, where one is given
 abbrev pub named_grammar : List Use → Option GrammarSource
-named_grammar uses = option_map (λ path. record { path = path; start = value_of (codes "start") uses }) (value_of (codes "grammar") uses)
+named_grammar uses =
+    option_map (λ path. record { path = path; lexer = value_of (codes "lexer") uses; start = value_of (codes "start") uses }) (value_of (codes "grammar") uses)
 
 -- with another mode there is a grammar
 abbrev pub trees_options : TreeMode → List Use → Option ModeOptions
-trees_options mode uses = option_map (λ grammar. ModeOptions.by_grammar (record { grammar = grammar; mode = mode; squeeze = is_given (codes "squeeze") uses })) (named_grammar uses)
+trees_options mode uses =
+    option_map (λ grammar. ModeOptions.by_grammar (record { grammar = grammar; mode = mode; squeeze = is_given (codes "squeeze") uses })) (named_grammar uses)
 
 abbrev pub mode_options : List Use → Option ModeOptions
 mode_options uses = if bytes_eq (text_of (codes "mode") uses) (codes "lines") then lines_options uses else trees_options (tree_mode_of uses) uses

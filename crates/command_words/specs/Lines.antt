@@ -10,7 +10,8 @@ use Rattle.command_words.specs.declared.commands.ReduceLine.{ReduceLine}
 use Rattle.command_words.specs.declared.commands.SelftestLine.{SelftestLine}
 
 abbrev pub grammar_read : NamedGrammar → GrammarSource
-grammar_read grammar = record { path = grammar.path.now; start = option_map (λ start. start.now) grammar.start }
+grammar_read grammar =
+    record { path = grammar.path.now; lexer = option_map (λ lexer. lexer.now) grammar.lexer; start = option_map (λ start. start.now) grammar.start }
 
 abbrev pub mode_of : ModeLine → ModeOptions
 mode_of mode_read.Lines = ModeOptions.lines

@@ -1,5 +1,6 @@
 -- The options in the words of a command, by a table of the options that it has.
-use Rattle.std.specs.Prelude.{ℕ, ◌==◌, nat_le, not, ◌&&◌, ◌||◌, Bool, true, false, List, [], ◌∷◌, Option, Some, None, if◌then◌else◌, codes, length, map, filter, find, option_map}
+use Rattle.std.specs.Prelude.{ℕ, ◌==◌, nat_le, not, ◌&&◌, ◌||◌, Bool, true, false, List, [], ◌∷◌, Option, Some, None}
+use Rattle.std.specs.Prelude.{if◌then◌else◌, codes, length, map, filter, find, option_map}
 use Rattle.std.specs.List.{after_first, before_first, list_all, list_any}
 use Rattle.std.specs.Char.{is_ascii_digit}
 use Rattle.std.specs.Str.{bytes_eq}
@@ -79,13 +80,15 @@ kind_of_word table (Some word) = kind_by_row (row_of table word.name) word.value
 abbrev pub then_uses : Use → Option (List Use) → Option (List Use)
 then_uses one rest = option_map (λ uses. one ∷ uses) rest
 
--- the options in the words after this one, which is an option or begins one; `after` gives those of the words after it, where an option waits for its value or none does
+-- the options in the words after this one, which is an option or begins one; `after` gives
+-- those of the words after it, where an option waits for its value or none does
 abbrev pub uses_after : WordKind → (Option (List ℕ) → Option (List Use)) → Option (List Use)
 uses_after WordKind.unknown after = None
 uses_after (WordKind.whole one) after = then_uses one (after None)
 uses_after (WordKind.begun name) after = after (Some name)
 
--- The options in the words, in their order: each is `--name` or `--name=value` or `--name value` with a name of the table. None where the words are anything else. The option of the given name, if any, waits for the first word as its value.
+-- The options in the words, in their order: each is `--name` or `--name=value` or `--name value` with a name of the table. None
+-- where the words are anything else. The option of the given name, if any, waits for the first word as its value.
 abbrev pub uses_from : List OptionRow → Option (List ℕ) → List (List ℕ) → Option (List Use)
 uses_from table None [] = Some []
 uses_from table (Some name) [] = None

@@ -18,13 +18,14 @@ repeated most name values = record { name = name; values = values; most = most; 
 abbrev pub tree_modes : List (List ℕ)
 tree_modes = codes "perses" ∷ codes "hdd" ∷ []
 
--- `--grammar` must be there unless the mode is `lines`, in which it may not be, nor may `--start` or `--squeeze`: `mode_options` says so
+-- `--grammar` must be there unless the mode is `lines`, in which it may not be, nor may `--lexer`, `--start` or `--squeeze`: `mode_options` says so
 abbrev pub reduce_table : List OptionRow
 reduce_table =
     required (codes "input") Values.any_text
     ∷ (required (codes "output") Values.any_text
     ∷ (required (codes "script") Values.any_text
     ∷ (optional (codes "grammar") Values.any_text
+    ∷ (optional (codes "lexer") Values.any_text
     ∷ (optional (codes "mode") (Values.one_of (codes "lines" ∷ tree_modes))
     ∷ (optional (codes "start") Values.any_text
     ∷ (optional (codes "jobs") (Values.number 1 16)
@@ -32,10 +33,14 @@ reduce_table =
     ∷ (optional (codes "work") Values.any_text
     ∷ (repeated 8 (codes "keep") Values.any_text
     ∷ (optional (codes "squeeze") Values.no_value
-    ∷ []))))))))))
+    ∷ [])))))))))))
 
 abbrev pub normal_table : List OptionRow
-normal_table = required (codes "grammar") Values.any_text ∷ (optional (codes "start") Values.any_text ∷ [])
+normal_table =
+    required (codes "grammar") Values.any_text
+    ∷ (optional (codes "lexer") Values.any_text
+    ∷ (optional (codes "start") Values.any_text
+    ∷ []))
 
 abbrev pub selftest_table : List OptionRow
 selftest_table =

@@ -22,15 +22,30 @@ is_usage line = is_none (asked line)
 
 -- a reduction of the file `i` to the file `o` by the script `s`, with nothing more
 abbrev pub plain_reduction : ModeOptions → Command
-plain_reduction mode = Command.reduce (record { mode = mode; input = codes "i"; output = codes "o"; script = codes "s"; journal = codes "o.journal"; work = codes "perses-work"; jobs = 1; keeps = [] })
+plain_reduction mode =
+    Command.reduce
+    (record {
+      mode = mode;
+      input = codes "i";
+      output = codes "o";
+      script = codes "s";
+      journal = codes "o.journal";
+      work = codes "perses-work";
+      jobs = 1;
+      keeps = [];
+    })
 
 abbrev pub by_g : ModeOptions
-by_g = ModeOptions.by_grammar (record { grammar = record { path = codes "g"; start = None }; mode = Perses; squeeze = false })
+by_g = ModeOptions.by_grammar (record { grammar = record { path = codes "g"; lexer = None; start = None }; mode = Perses; squeeze = false })
 
 -- a reduction with each option
 abbrev pub with_all : ReduceOptions
 with_all = record {
-  mode = ModeOptions.by_grammar (record { grammar = record { path = codes "g"; start = Some (codes "r") }; mode = Hdd; squeeze = true });
+  mode = ModeOptions.by_grammar (record {
+    grammar = record { path = codes "g"; lexer = Some (codes "l"); start = Some (codes "r") };
+    mode = Hdd;
+    squeeze = true;
+  });
   input = codes "i";
   output = codes "o";
   script = codes "s";
@@ -56,6 +71,9 @@ refused_lines =
     ∷ codes "perses selftest --number 0 --size 1501"
     ∷ codes "perses selftest --jobs 1 --number 0 --size 300"
     ∷ codes "perses normal --grammar g --input i"
+    ∷ codes "perses normal --lexer l"
+    ∷ codes "perses reduce --lexer l --input i --output o --script s"
+    ∷ after_lines (codes " --lexer l")
     ∷ after_lines (codes " --squeeze")
     ∷ after_lines (codes " --jobs 0")
     ∷ after_lines (codes " --jobs 17")
@@ -71,7 +89,13 @@ pub record WorkedLines : Type 0 where
   pub apart : asked (after_lines []) ≡ Some (plain_reduction ModeOptions.lines)
   pub joined : asked (codes "perses reduce --script=s --output=o --mode=lines --input=i") ≡ Some (plain_reduction ModeOptions.lines)
   pub by_grammar : asked (codes "perses reduce --grammar g --input i --output o --script s") ≡ Some (plain_reduction by_g)
-  pub normal : asked (codes "perses normal --start r --grammar g") ≡ Some (Command.normal (record { path = codes "g"; start = Some (codes "r") }))
+  pub normal : asked (codes "perses normal --start r --grammar g")
+      ≡ Some (Command.normal (record { path = codes "g"; lexer = None; start = Some (codes "r") }))
+  pub split : asked (codes "perses normal --grammar=g --lexer=l")
+      ≡ Some (Command.normal (record { path = codes "g"; lexer = Some (codes "l"); start = None }))
   pub selftest : asked (codes "perses selftest --size 1500 --number 0") ≡ Some (Command.selftest (record { number = 0; size = 1500; mode = Perses }))
-  pub in_mode : asked (codes "perses selftest --mode hdd --number=4294967295 --size=1") ≡ Some (Command.selftest (record { number = 4294967295; size = 1; mode = Hdd }))
-  pub all : asked (codes "p reduce --squeeze --keep a=b --mode=hdd --start r --journal j --work w --jobs=16 --keep=c --grammar g --input i --output o --script s") ≡ Some (Command.reduce with_all)
+  pub in_mode : asked (codes "perses selftest --mode hdd --number=4294967295 --size=1") ≡ Some
+      (Command.selftest (record { number = 4294967295; size = 1; mode = Hdd }))
+  pub all : asked
+      (codes "p reduce --squeeze --keep a=b --mode=hdd --start r --journal j --work w --jobs=16 --keep=c --lexer l --grammar g --input i --output o --script s")
+      ≡ Some (Command.reduce with_all)

@@ -5,8 +5,10 @@ use reduce_step::TreeMode;
 /// A grammar.
 #[derive(Clone, Copy, Debug)]
 pub struct NamedGrammar<'a> {
-    /// Its file.
+    /// Its file, or that of its parser rules.
     pub path: &'a str,
+    /// The file of its lexer rules; none where one file has all.
+    pub lexer: Option<&'a str>,
     /// The name of its start rule; none where it is the first parser rule.
     pub start: Option<&'a str>,
 }

@@ -11,9 +11,13 @@ use faults::Memory;
 use std::alloc::Global;
 
 /// The options of `normal`.
-static OPTIONS: [ClapOption; 2] = [
+static OPTIONS: [ClapOption; 3] = [
     ClapOption {
         name: "grammar",
+        takes: Takes::Value,
+    },
+    ClapOption {
+        name: "lexer",
         takes: Takes::Value,
     },
     ClapOption {

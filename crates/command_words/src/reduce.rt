@@ -1,10 +1,10 @@
 //! Command lines of `reduce`.
 
-ghost use Rattle.std.specs.Prelude.{◌≡◌, ◌||◌, List, IfOk, MatchOption, codes, false, map, option_and_then, option_map, string_bytes, true, IfSome, ◌≤◌};
+ghost use Rattle.std.specs.Prelude.{◌≡◌, List, IfOk, MatchOption, codes, false, map, option_and_then, option_map, string_bytes, true, IfSome, ◌≤◌};
 ghost use Rattle.command_words.specs.Options.{Use, Values, takes_value, where_fits};
 ghost use Rattle.command_words.specs.Tables.{reduce_table, tree_modes};
 ghost use Rattle.command_words.specs.inner.Found.{HasFound, fitting_jobs, fitting_keeps, fitting_mode, line_with, names_files};
-ghost use Rattle.command_words.specs.Commands.{is_given, lines_options, reduce_line, reduce_of, text_of, tree_mode_named, trees_options};
+ghost use Rattle.command_words.specs.Commands.{lines_options, names_grammar, reduce_line, reduce_of, says_grammar, text_of, tree_mode_named, trees_options};
 ghost use Rattle.command_words.specs.Lines.{journal_of, mode_of, reduce_read};
 
 use crate::commands::{GrammarLine, ModeLine, ReduceLine};
@@ -17,7 +17,7 @@ use reduce_step::TreeMode;
 use std::alloc::Global;
 
 /// The options of `reduce`.
-static OPTIONS: [ClapOption; 11] = [
+static OPTIONS: [ClapOption; 12] = [
     ClapOption {
         name: "input",
         takes: Takes::Value,
@@ -32,6 +32,10 @@ static OPTIONS: [ClapOption; 11] = [
     },
     ClapOption {
         name: "grammar",
+        takes: Takes::Value,
+    },
+    ClapOption {
+        name: "lexer",
         takes: Takes::Value,
     },
     ClapOption {
@@ -131,7 +135,8 @@ struct Files<'a> {
 fn files_of<'a>(matches: &ArgMatches<'a>) -> Option<Files<'a>>
     ensures { (uses : List Use) → HasFound reduce_table uses matches.now → MatchOption result
         (names_files uses ≡ false)
-        (λ files. (names_files uses ≡ true) × (files.input.now ≡ text_of (codes "input") uses) × (files.output.now ≡ text_of (codes "output") uses) × (files.script.now ≡ text_of (codes "script") uses)) }
+        (λ files. (names_files uses ≡ true) × (files.input.now ≡ text_of (codes "input") uses) × (files.output.now ≡ text_of (codes "output") uses)
+        × (files.script.now ≡ text_of (codes "script") uses)) }
 {
     let input = matches.get_str("input")?;
     let output = matches.get_str("output")?;
@@ -167,12 +172,18 @@ fn lines_of<'a>(matches: &ArgMatches<'a>) -> Option<ModeLine<'a>>
     }
 }
 
+/// Whether a file of a grammar is named.
+fn names_grammar(matches: &ArgMatches<'_>) -> bool
+    ensures { (uses : List Use) → HasFound reduce_table uses matches.now → result ≡ names_grammar uses }
+{
+    matches.contains_id("grammar") || matches.contains_id("lexer")
+}
+
 /// Whether something is said of a grammar.
 fn says_grammar(matches: &ArgMatches<'_>) -> bool
-    ensures { (uses : List Use) → HasFound reduce_table uses matches.now
-        → result ≡ (is_given (codes "grammar") uses || (is_given (codes "start") uses || is_given (codes "squeeze") uses)) }
+    ensures { (uses : List Use) → HasFound reduce_table uses matches.now → result ≡ says_grammar uses }
 {
-    matches.contains_id("grammar") || matches.contains_id("start") || matches.get_flag("squeeze")
+    names_grammar(matches) || matches.contains_id("start") || matches.get_flag("squeeze")
 }
 
 /// A reduction by a grammar, where there is one.

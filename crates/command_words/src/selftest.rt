@@ -52,7 +52,8 @@ pub(crate) fn read_selftest<'a>(
 /// What the options that were found ask for. None where one is missing, or a value is none that the
 /// option takes.
 fn line_of(matches: &ArgMatches<'_>) -> Option<SelftestLine>
-    ensures line { (uses : List Use) → HasFound selftest_table uses matches.now → option_map selftest_read result ≡ option_map selftest_of (where_fits selftest_table (Some uses)) }
+    ensures line { (uses : List Use) → HasFound selftest_table uses matches.now
+        → option_map selftest_read result ≡ option_map selftest_of (where_fits selftest_table (Some uses)) }
     ensures size { IfSome result (λ line. (1 ≤ line.size) × (line.size ≤ 1500)) }
 {
     let number = number_of(matches, "number", 0, u32::MAX)?;

@@ -10,7 +10,9 @@ use Rattle.grammar_reader_machine.specs.Machine as m
 use Rattle.grammar_reader_machine.specs.Machine.{State, AtStart, AtEnd, step}
 use Rattle.grammar_reader_laws.specs.WordByWord.{run}
 use Rattle.grammar_reader_notation.specs.Notation.{IsTextOf, BeginsOf, IsText}
-use Rattle.grammar_reader_laws.proofs.Lent.{Region, starting, heading, between, prequel, named, opening, body, suffixed, looped, last, command, finished, next, Keeps, region_of, region_of_owner, region_of_value, keeps_step, reached, stuck, accepts, further, accepted, EndsText, end_step}
+use Rattle.grammar_reader_laws.proofs.Lent.{Region, starting, heading, between, prequel, named, opening, body, suffixed, looped, last, command, finished, next}
+use Rattle.grammar_reader_laws.proofs.Lent.{Keeps, region_of, region_of_owner, region_of_value, keeps_step, reached, stuck, accepts, further, accepted}
+use Rattle.grammar_reader_laws.proofs.Lent.{EndsText, end_step}
 use Rattle.std.specs.Str.{IsUtf8}
 use Rattle.grammar_reader_notation.specs.declared.fault.ReadFault.{ReadFault}
 use Rattle.grammar_reader_notation.specs.declared.fault.ReadFault.TheVariants as f
@@ -150,7 +152,8 @@ pub record IsReading (bytes : List ℕ) (remaining : List Placed) (s : State) : 
   pub read : run 64 AtStart (only_words before) ≡ Some s
   pub some : remaining ≡ [] → ⊥
 
-parted : (before : List Placed) (p : Placed) (remaining : List Placed) → only_words (before ++ p ∷ remaining) ≡ (only_words before ++ p.word ∷ []) ++ only_words remaining
+parted : (before : List Placed) (p : Placed) (remaining : List Placed)
+    → only_words (before ++ p ∷ remaining) ≡ (only_words before ++ p.word ∷ []) ++ only_words remaining
 parted [] p remaining = refl
 parted (x ∷ before) p remaining = ap (λ ws. x.word ∷ ws) (parted before p remaining)
 
@@ -165,7 +168,8 @@ module _ (bytes : List ℕ) (remaining more : List Placed) (p : Placed) (s : Sta
   now : (o : Option State) → step 64 s p.word ≡ o → run 64 AtStart (only_words r.before ++ p.word ∷ []) ≡ o
   now o f = further 64 (only_words r.before) p.word s o r.read f
 
-  pub goes_on : (t : State) → step 64 s p.word ≡ Some t → ((G : WrittenGrammar) → t ≡ AtEnd G → ⊥) → (is_last p.word ≡ false → more ≡ [] → ⊥) → IsReading bytes more t
+  pub goes_on : (t : State) → step 64 s p.word ≡ Some t → ((G : WrittenGrammar) → t ≡ AtEnd G → ⊥) → (is_last p.word ≡ false → more ≡ [] → ⊥)
+      → IsReading bytes more t
   goes_on t f k goes = record {
     before = r.before ++ p ∷ [];
     cut = whole ∙ sym (append_assoc r.before (p ∷ []) more);
@@ -189,13 +193,15 @@ module _ (bytes : List ℕ) (remaining more : List Placed) (p : Placed) (s : Sta
       stuck 64 (only_words r.before ++ p.word ∷ []) (now None f)
       (only_words more, G, subst (λ ws. IsTextOf 64 ws G) (ap (λ ps. only_words ps) whole ∙ parted r.before p more) t)
 
-  ends : (G : WrittenGrammar) → step 64 s p.word ≡ Some (AtEnd G) → (is_last p.word ≡ true → more ≡ []) → only_words (words_of bytes) ≡ only_words r.before ++ p.word ∷ []
+  ends : (G : WrittenGrammar) → step 64 s p.word ≡ Some (AtEnd G) → (is_last p.word ≡ true → more ≡ [])
+      → only_words (words_of bytes) ≡ only_words r.before ++ p.word ∷ []
   ends G f over = ap (λ ps. only_words ps) (whole ∙ ap (λ ps. r.before ++ p ∷ ps) (over (at_last s p.word G f))) ∙ snoc r.before p
 
   pub is_text : (G : WrittenGrammar) → step 64 s p.word ≡ Some (AtEnd G) → (is_last p.word ≡ true → more ≡ []) → IsText (only_words (words_of bytes)) G
   is_text G f over = subst (λ ws. IsTextOf 64 ws G) (sym (ends G f over)) (accepts 64 (only_words r.before ++ p.word ∷ []) G (now (Some (AtEnd G)) f))
 
-  pub same_text : (G H : WrittenGrammar) → step 64 s p.word ≡ Some (AtEnd G) → (is_last p.word ≡ true → more ≡ []) → IsText (only_words (words_of bytes)) H → G ≡ H
+  pub same_text : (G H : WrittenGrammar) → step 64 s p.word ≡ Some (AtEnd G) → (is_last p.word ≡ true → more ≡ []) → IsText (only_words (words_of bytes)) H
+      → G ≡ H
   same_text G H f over t =
       let last : p.word ≡ w.End = is_end s p.word G f in
       let shown : IsTextOf 64 (only_words r.before ++ w.End ∷ []) H =

@@ -8,9 +8,11 @@
 //! The reader is a pushdown machine (`grammar_reader_machine`, whose step is
 //! `grammar_reader_step::step`). `grammar_reader_laws` proves that it reads exactly the texts of the
 //! notation, and that `grammar_reader_faults` calls a word that can't follow what the notation calls
-//! it. Only memory can keep a text of the notation from being read.
+//! it. Only memory can keep a text of the notation from being read. [`word_at`] says where the words of a
+//! text are.
 #![tactic(auto)]
 
 mod reader;
 
+pub use grammar_reader_words::{Span, word_at};
 pub use reader::read_grammar;

@@ -1,18 +1,21 @@
 -- How the words go on.
-use Rattle.std.proofs.Common.{◌≡◌, ℕ, zero, suc, ◌+◌, ◌-◌, ◌<◌, Bool, true, false, cond, ◌&&◌, ◌||◌, ◌==◌, List, [], ◌∷◌, Option, Some, None, length, drop, refl, ap, sym, subst, ◌∙◌, arith, length-drop}
+use Rattle.std.proofs.Common.{◌≡◌, ℕ, zero, suc, ◌+◌, ◌-◌, ◌<◌, Bool, true, false, cond, ◌&&◌, ◌||◌, ◌==◌, List, [], ◌∷◌, Option}
+use Rattle.std.proofs.Common.{Some, None, length, drop, refl, ap, sym, subst, ◌∙◌, arith, length-drop}
 use Rattle.std.specs.List.{prefix_len}
 use Rattle.std.specs.Char.{is_ascii_digit, is_ascii_alphabetic}
 use Rattle.std.specs.Int.{is_in_range}
 use Rattle.grammar_reader_words.specs.Names.{is, is_part, word_before_brace}
 use Rattle.grammar_reader_words.specs.Quoted.{begins, literal_piece, set_piece, Pieces, pieces_from}
-use Rattle.grammar_reader_words.specs.Words.{after_close, comment, gap, is_blank, is_on_line, symbol, single, literal_word, set_word, name_at, word, is_last, at_brace, brace_from, settled, placed, listed, listed_gap, words_from}
+use Rattle.grammar_reader_words.specs.Words.{after_close, comment, gap, is_blank, is_on_line, symbol, single, literal_word, set_word, name_at, word}
+use Rattle.grammar_reader_words.specs.Words.{is_last, at_brace, brace_from, settled, placed, listed, listed_gap, words_from}
 use Rattle.grammar_reader_words.specs.inner.Words.{words_left}
 use Rattle.grammar_reader_words.specs.declared.quoted.Mark.{Mark}
 use Rattle.grammar_reader_words.specs.declared.word.Word.{Word}
 use Rattle.grammar_reader_words.specs.declared.word.Word.TheVariants as w
 use Rattle.grammar_reader_words.specs.declared.word.Reserved.TheVariants as r
 use Rattle.grammar_reader_words.specs.declared.word.Placed.{Placed}
-use Rattle.grammar_reader_words.proofs.Tails.{Ends, EndsIn, RestEnds, whole, least, one_more, pieces_ends, literal_piece_ends, set_piece_ends, passed_len, choose}
+use Rattle.grammar_reader_words.proofs.Tails.{Ends, EndsIn, RestEnds, whole, least, one_more, pieces_ends}
+use Rattle.grammar_reader_words.proofs.Tails.{literal_piece_ends, set_piece_ends, passed_len, choose}
 
 if_so : {A : Type 0} (P : A → Type 0) (b : Bool) {x y : A} → (b ≡ true → P x) → (b ≡ false → P y) → P (cond b x y)
 if_so P true p q = p refl
@@ -25,7 +28,8 @@ rest_more c cs (Some rest) e = one_more c e
 close_ends : (cs : List ℕ) → RestEnds cs (after_close cs)
 close_ends [] = tt
 close_ends (c ∷ cs) =
-    choose (RestEnds (c ∷ cs)) (c == 42 && begins (λ d. d == 47) cs) {x = Some (drop 1 cs)} {y = after_close cs} (one_more c (least 1 cs)) (rest_more c cs (after_close cs) (close_ends cs))
+    choose (RestEnds (c ∷ cs)) (c == 42 && begins (λ d. d == 47) cs) {x = Some (drop 1 cs)} {y = after_close cs} (one_more c (least 1 cs))
+    (rest_more c cs (after_close cs) (close_ends cs))
 
 comment_ends : (cs : List ℕ) → RestEnds cs (comment cs)
 comment_ends [] = tt
@@ -34,7 +38,7 @@ comment_ends (c ∷ cs) =
     (choose (RestEnds (c ∷ cs)) (c == 42) {x = after_close cs} {y = None} (rest_more c cs (after_close cs) (close_ends cs)) tt)
 
 -- a blank or comment is more than nothing
-gap_ends : (c : ℕ) (cs : List ℕ) → RestEnds cs (gap (c ∷ cs))
+pub gap_ends : (c : ℕ) (cs : List ℕ) → RestEnds cs (gap (c ∷ cs))
 gap_ends c cs = choose (RestEnds cs) (is_blank c) {x = Some cs} (whole cs) (choose (RestEnds cs) (c == 47) {x = comment cs} {y = None} (comment_ends cs) tt)
 
 among : (d u l x : Bool) → (u || l) ≡ true → (((d || u) || l) || x) ≡ true
@@ -46,7 +50,7 @@ among false false false x h = cc h
 letter_is_part : (c : ℕ) → is_ascii_alphabetic c ≡ true → is_part c ≡ true
 letter_is_part c h = among (is_in_range 48 57 c) (is_in_range 65 90 c) (is_in_range 97 122 c) (c == 95) h
 
-abbrev WordEnds : List ℕ → Word × List ℕ → Type 0
+abbrev pub WordEnds : List ℕ → Word × List ℕ → Type 0
 WordEnds cs p = Ends cs p.1
 
 name_ends : (c : ℕ) (cs : List ℕ) → is_ascii_alphabetic c ≡ true → WordEnds cs (name_at c (c ∷ cs))
@@ -72,12 +76,14 @@ symbol_ends c cs =
     choose (WordEnds cs) (c == 43) (two_ends (begins (λ d. d == 61) cs) w.PlusEquals w.Plus cs) (
     choose (WordEnds cs) (c == 45) {y = (single c, cs)} (two_ends (begins (λ d. d == 62) cs) w.Arrow w.Bad cs) (whole cs)))
 
-word_ends : (c : ℕ) (cs : List ℕ) → WordEnds cs (word (c ∷ cs))
+pub word_ends : (c : ℕ) (cs : List ℕ) → WordEnds cs (word (c ∷ cs))
 word_ends c cs =
     if_so (WordEnds cs) (is_ascii_alphabetic c) {x = name_at c (c ∷ cs)} (name_ends c cs) (λ _.
     choose (WordEnds cs) (is_ascii_digit c) {x = (w.Number, drop (prefix_len is_ascii_digit cs) cs)} (least (prefix_len is_ascii_digit cs) cs) (
-    choose (WordEnds cs) (c == 39) {x = literal_word cs (pieces_from literal_piece 0 cs)} (literal_ends cs (pieces_from literal_piece 0 cs) (pieces_ends literal_piece literal_piece_ends 0 cs)) (
-    choose (WordEnds cs) (c == 91) {x = set_word cs (pieces_from set_piece 0 cs)} {y = symbol c cs} (set_ends cs (pieces_from set_piece 0 cs) (pieces_ends set_piece set_piece_ends 0 cs)) (symbol_ends c cs))))
+    choose (WordEnds cs) (c == 39) {x = literal_word cs (pieces_from literal_piece 0 cs)}
+    (literal_ends cs (pieces_from literal_piece 0 cs) (pieces_ends literal_piece literal_piece_ends 0 cs)) (
+    choose (WordEnds cs) (c == 91) {x = set_word cs (pieces_from set_piece 0 cs)} {y = symbol c cs}
+    (set_ends cs (pieces_from set_piece 0 cs) (pieces_ends set_piece set_piece_ends 0 cs)) (symbol_ends c cs))))
 
 module _ (total : ℕ) where
   words_skip : (k : ℕ) (cs : List ℕ) → words_from total k cs ≡ words_from total 0 (drop k cs)
@@ -92,17 +98,21 @@ module _ (total : ℕ) where
   pub gap_passed : (cs rest : List ℕ) → Some rest ≡ gap cs → words_from total 0 cs ≡ words_from total 0 rest
   gap_passed [] rest e = absurd (cc e)
   gap_passed (c ∷ cs) rest e =
-      ap (λ o. listed_gap o (λ rest. words_from total (length cs - length rest) cs) (listed total (c ∷ cs) (word (c ∷ cs)) (λ rest. words_from total (length cs - length rest) cs))) (sym e)
+      ap (λ o. listed_gap o (λ rest. words_from total (length cs - length rest) cs)
+      (listed total (c ∷ cs) (word (c ∷ cs)) (λ rest. words_from total (length cs - length rest) cs))) (sym e)
       ∙ words_past cs rest (subst (RestEnds cs) (sym e) (gap_ends c cs))
 
-  listed_same : (all cs : List ℕ) (p : Word × List ℕ) → Ends cs p.1 → listed total all p (λ rest. words_from total (length cs - length rest) cs) ≡ listed total all p (λ rest. words_from total 0 rest)
-  listed_same all cs p e = ap (λ ws. cond (is_last p.0) (placed total all p.0 ∷ []) (placed total all (settled p.0 (brace_from 0 p.1)) ∷ ws)) (words_past cs p.1 e)
+  listed_same : (all cs : List ℕ) (p : Word × List ℕ) → Ends cs p.1
+      → listed total all p (λ rest. words_from total (length cs - length rest) cs) ≡ listed total all p (λ rest. words_from total 0 rest)
+  listed_same all cs p e =
+      ap (λ ws. cond (is_last p.0) (placed total all p.0 ∷ []) (placed total all (settled p.0 (brace_from 0 p.1)) ∷ ws)) (words_past cs p.1 e)
 
   -- the current word, and those after it
   pub first_word : (cs : List ℕ) → gap cs ≡ None → words_from total 0 cs ≡ listed total cs (word cs) (λ rest. words_from total 0 rest)
   first_word [] e = refl
   first_word (c ∷ cs) e =
-      ap (λ o. listed_gap o (λ rest. words_from total (length cs - length rest) cs) (listed total (c ∷ cs) (word (c ∷ cs)) (λ rest. words_from total (length cs - length rest) cs))) e
+      ap (λ o. listed_gap o (λ rest. words_from total (length cs - length rest) cs)
+      (listed total (c ∷ cs) (word (c ∷ cs)) (λ rest. words_from total (length cs - length rest) cs))) e
       ∙ listed_same (c ∷ cs) cs (word (c ∷ cs)) (word_ends c cs)
 
 brace_skip : (k : ℕ) (cs : List ℕ) → brace_from k cs ≡ brace_from 0 (drop k cs)
@@ -114,11 +124,16 @@ pub brace_passed : (cs rest : List ℕ) → Some rest ≡ gap cs → brace_from 
 brace_passed [] rest e = absurd (cc e)
 brace_passed (c ∷ cs) rest e =
     ap (λ o. at_brace c o (λ rest. brace_from (length cs - length rest) cs)) (sym e)
-    ∙ brace_skip (length cs - length rest) cs ∙ ap (brace_from 0) (passed_len cs rest (subst (RestEnds cs) (sym e) (gap_ends c cs)) (length cs - length rest) refl)
+    ∙ brace_skip (length cs - length rest) cs
+    ∙ ap (brace_from 0) (passed_len cs rest (subst (RestEnds cs) (sym e) (gap_ends c cs)) (length cs - length rest) refl)
 
 pub brace_here : (cs : List ℕ) → gap cs ≡ None → brace_from 0 cs ≡ begins (λ c. c == 123) cs
 brace_here [] e = refl
 brace_here (c ∷ cs) e = ap (λ o. at_brace c o (λ rest. brace_from (length cs - length rest) cs)) e
+
+pub gap_part : (cs rest : List ℕ) → Some rest ≡ gap cs → Ends cs rest
+gap_part [] rest e = absurd (cc e)
+gap_part (c ∷ cs) rest e = one_more c (subst (RestEnds cs) (sym e) (gap_ends c cs))
 
 -- what follows a blank or comment is shorter
 pub gap_shorter : (cs rest : List ℕ) → Some rest ≡ gap cs → length rest < length cs
@@ -137,11 +152,14 @@ module _ (total : ℕ) (cs rest : List ℕ) (wo : Word) (e : ◌≡◌ {A = Word
   start = first_word total cs none ∙ ap (λ p. listed total cs p (λ rest. words_from total 0 rest)) (sym e)
 
   -- after one word
-  pub word_passed : (b : Bool) → is_last wo ≡ b → (found : Placed) → found ≡ placed total cs (settled wo (brace_from 0 rest)) → words_from total 0 cs ≡ found ∷ words_left b total rest
+  pub word_passed : (b : Bool) → is_last wo ≡ b → (found : Placed) → found ≡ placed total cs (settled wo (brace_from 0 rest))
+      → words_from total 0 cs ≡ found ∷ words_left b total rest
   word_passed true l found f =
       start ∙ ap (λ b. cond b (placed total cs wo ∷ []) (placed total cs (settled wo (brace_from 0 rest)) ∷ words_from total 0 rest)) l
       ∙ ap (λ x. placed total cs x ∷ []) (sym (last_settled wo (brace_from 0 rest) l)) ∙ ap (λ p. p ∷ []) (sym f)
-  word_passed false l found f = start ∙ ap (λ b. cond b (placed total cs wo ∷ []) (placed total cs (settled wo (brace_from 0 rest)) ∷ words_from total 0 rest)) l ∙ ap (λ p. p ∷ words_from total 0 rest) (sym f)
+  word_passed false l found f =
+      start ∙ ap (λ b. cond b (placed total cs wo ∷ []) (placed total cs (settled wo (brace_from 0 rest)) ∷ words_from total 0 rest)) l
+      ∙ ap (λ p. p ∷ words_from total 0 rest) (sym f)
 
 -- there is a word at least: the last one
 pub words_some : (total k : ℕ) (cs : List ℕ) → words_from total k cs ≡ [] → ⊥
@@ -149,10 +167,13 @@ words_some total k [] e = cc e
 words_some total (suc k) (c ∷ cs) e = words_some total k cs e
 words_some total zero (c ∷ cs) e = gapped (gap (c ∷ cs)) (λ rest. words_some total (length cs - length rest) cs) e where
   here_some : (p : Word × List ℕ) (go : List ℕ → List Placed) → listed total (c ∷ cs) p go ≡ [] → ⊥
-  here_some p go e = choose (λ ws. ws ≡ [] → ⊥) (is_last p.0) {x = placed total (c ∷ cs) p.0 ∷ []} {y = placed total (c ∷ cs) (settled p.0 (brace_from 0 p.1)) ∷ go p.1} (λ f. cc f) (λ f. cc f) e
+  here_some p go e =
+      choose (λ ws. ws ≡ [] → ⊥) (is_last p.0) {x = placed total (c ∷ cs) p.0 ∷ []} {y = placed total (c ∷ cs) (settled p.0 (brace_from 0 p.1)) ∷ go p.1}
+      (λ f. cc f) (λ f. cc f) e
 
   gapped : (o : Option (List ℕ)) → ((rest : List ℕ) → words_from total (length cs - length rest) cs ≡ [] → ⊥) →
-      listed_gap o (λ rest. words_from total (length cs - length rest) cs) (listed total (c ∷ cs) (word (c ∷ cs)) (λ rest. words_from total (length cs - length rest) cs)) ≡ [] → ⊥
+      listed_gap o (λ rest. words_from total (length cs - length rest) cs)
+      (listed total (c ∷ cs) (word (c ∷ cs)) (λ rest. words_from total (length cs - length rest) cs)) ≡ [] → ⊥
   gapped None k e = here_some (word (c ∷ cs)) (λ rest. words_from total (length cs - length rest) cs) e
   gapped (Some rest) k e = k rest e
 
@@ -160,7 +181,8 @@ pub last_is_last : (wo : Word) (b : Bool) → is_last wo ≡ true → is_last (s
 last_is_last wo b h = ap is_last (last_settled wo b h) ∙ h
 
 -- where the words go on, there is one more
-pub left_some : (wo : Word) (b last : Bool) (total : ℕ) (rest : List ℕ) → last ≡ is_last wo → is_last (settled wo b) ≡ false → words_left last total rest ≡ [] → ⊥
+pub left_some : (wo : Word) (b last : Bool) (total : ℕ) (rest : List ℕ) → last ≡ is_last wo → is_last (settled wo b) ≡ false → words_left last total rest ≡ []
+    → ⊥
 left_some wo b true total rest h e f = let g : is_last (settled wo b) ≡ true = last_is_last wo b (sym h) in cc (sym g ∙ e)
 left_some wo b false total rest h e f = words_some total 0 rest f
 
@@ -170,7 +192,7 @@ before_brace_goes_on n =
     choose (λ x. is_last x ≡ false) (is n "tokens") {x = w.Tokens} refl (
     choose (λ x. is_last x ≡ false) (is n "channels") {x = w.Reserved r.Channels} {y = w.Lower n} refl refl))
 
-settled_goes_on : (wo : Word) (b : Bool) → is_last wo ≡ false → is_last (settled wo b) ≡ false
+pub settled_goes_on : (wo : Word) (b : Bool) → is_last wo ≡ false → is_last (settled wo b) ≡ false
 settled_goes_on (w.Lower n) true h = before_brace_goes_on n
 settled_goes_on (w.Lower n) false h = refl
 settled_goes_on _ b h = h

@@ -19,7 +19,8 @@ grown k v d h l =
     omega arith
 
 -- one digit more
-pub further : (remaining less v c : ℕ) (all cs : List ℕ) → Some (c, cs) ≡ uncons all → remaining ≡ suc less → hex_after (v * 16 + hex_digit c) (take less cs) ≡ hex_after v (take remaining all)
+pub further : (remaining less v c : ℕ) (all cs : List ℕ) → Some (c, cs) ≡ uncons all → remaining ≡ suc less
+    → hex_after (v * 16 + hex_digit c) (take less cs) ≡ hex_after v (take remaining all)
 further remaining less v c [] cs e h = absurd (cc e)
 further remaining less v c (x ∷ xs) cs e h =
     let pair : ◌≡◌ {A = ℕ × List ℕ} (c, cs) (x, xs) = cc in

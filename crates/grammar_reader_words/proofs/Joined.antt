@@ -1,5 +1,6 @@
 -- Marks and ranges, as far as they are read.
-use Rattle.std.proofs.Common.{◌≡◌, ◌&&◌, ℕ, zero, suc, Bool, false, take, List, [], ◌∷◌, ◌++◌, Option, Some, None, true, refl, ap, sym, ◌∙◌, length, get_or, arith, append_assoc, append-nil}
+use Rattle.std.proofs.Common.{◌≡◌, ◌&&◌, ℕ, zero, suc, Bool, false, take, List, [], ◌∷◌, ◌++◌, Option, Some, None, true}
+use Rattle.std.proofs.Common.{refl, ap, sym, ◌∙◌, length, get_or, arith, append_assoc, append-nil}
 use Rattle.std.proofs.Math.ListN.{set}
 use Rattle.std.proofs.lemmas.Str.{chars-encodes, encodes-append, scalars-chars}
 use Rattle.grammar_reader_words.specs.Cursor.{uncons}
@@ -76,17 +77,21 @@ uncons_some c cs (x ∷ xs) e =
     ap (λ p. p.0 ∷ p.1) pair
 
 -- the bytes so far, and those of the characters to come
-pub front_more : (bytes next : List ℕ) (c remaining less : ℕ) (all cs : List ℕ) → remaining ≡ suc less → Some (c, cs) ≡ uncons all → next ≡ bytes ++ encode_utf8 c →
+pub front_more : (bytes next : List ℕ) (c remaining less : ℕ) (all cs : List ℕ) → remaining ≡ suc less → Some (c, cs) ≡ uncons all
+    → next ≡ bytes ++ encode_utf8 c →
     next ++ encode_utf8_all (take less cs) ≡ bytes ++ encode_utf8_all (take remaining all)
 front_more bytes next c remaining less all cs h e n =
     ap (λ b. b ++ encode_utf8_all (take less cs)) n ∙ append_assoc bytes (encode_utf8 c) (encode_utf8_all (take less cs))
     ∙ ap (λ p. bytes ++ encode_utf8_all (take p (c ∷ cs))) (sym h) ∙ ap (λ l. bytes ++ encode_utf8_all (take remaining l)) (sym (uncons_some c cs all e))
 
-pub read_more : (bytes next : List ℕ) (o remaining all : Pieces ℕ) (c : ℕ) → IsRead bytes o all → scalar c ≡ true → o ≡ put c remaining → next ≡ bytes ++ encode_utf8 c → IsRead next remaining all
+pub read_more : (bytes next : List ℕ) (o remaining all : Pieces ℕ) (c : ℕ) → IsRead bytes o all → scalar c ≡ true → o ≡ put c remaining
+    → next ≡ bytes ++ encode_utf8 c → IsRead next remaining all
 read_more bytes next o remaining all c r k e n = record {
   read = r.read ++ c ∷ [];
   scalars = scalars_more r.read c r.scalars k;
-  spelled = n ∙ ap (λ b. b ++ encode_utf8 c) r.spelled ∙ ap (λ b. encode_utf8_all r.read ++ b) (sym (append-nil (encode_utf8 c))) ∙ sym (encodes-append r.read (c ∷ []));
+  spelled =
+      n ∙ ap (λ b. b ++ encode_utf8 c) r.spelled ∙ ap (λ b. encode_utf8_all r.read ++ b) (sym (append-nil (encode_utf8 c)))
+      ∙ sym (encodes-append r.read (c ∷ []));
   same = joined_put r.read c remaining ∙ ap (joined r.read) (sym e) ∙ r.same;
 }
 

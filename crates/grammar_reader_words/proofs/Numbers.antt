@@ -8,11 +8,14 @@ use Rattle.grammar_reader_words.specs.declared.word.Placed.{Placed}
 use Rattle.grammar_reader_words.proofs.Tails.{choose}
 
 module _ (total : ℕ) where
-  listed_few : (all cs : List ℕ) (p : Word × List ℕ) (go : List ℕ → List Placed) → ((rest : List ℕ) → length (go rest) ≤ suc (length cs)) → length (listed total all p go) ≤ suc (suc (length cs))
+  listed_few : (all cs : List ℕ) (p : Word × List ℕ) (go : List ℕ → List Placed) → ((rest : List ℕ) → length (go rest) ≤ suc (length cs))
+      → length (listed total all p go) ≤ suc (suc (length cs))
   listed_few all cs p go h =
-      choose (λ ws. length ws ≤ suc (suc (length cs))) (is_last p.0) {x = placed total all p.0 ∷ []} {y = placed total all (settled p.0 (brace_from 0 p.1)) ∷ go p.1} (omega arith) (omega (arith, h p.1))
+      choose (λ ws. length ws ≤ suc (suc (length cs))) (is_last p.0) {x = placed total all p.0 ∷ []}
+      {y = placed total all (settled p.0 (brace_from 0 p.1)) ∷ go p.1} (omega arith) (omega (arith, h p.1))
 
-  gap_few : (cs : List ℕ) (o : Option (List ℕ)) (go : List ℕ → List Placed) (start : List Placed) → ((rest : List ℕ) → length (go rest) ≤ suc (length cs)) → length start ≤ suc (suc (length cs)) →
+  gap_few : (cs : List ℕ) (o : Option (List ℕ)) (go : List ℕ → List Placed) (start : List Placed) → ((rest : List ℕ) → length (go rest) ≤ suc (length cs))
+      → length start ≤ suc (suc (length cs)) →
       length (listed_gap o go start) ≤ suc (suc (length cs))
   gap_few cs None go start h k = k
   gap_few cs (Some rest) go start h k = omega (arith, h rest)

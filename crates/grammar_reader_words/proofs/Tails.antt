@@ -1,12 +1,14 @@
 -- What follows a piece is the end of what stood there.
-use Rattle.std.proofs.Common.{◌≡◌, ℕ, zero, suc, ◌+◌, ◌-◌, ◌≤◌, ◌<◌, Bool, true, false, cond, ◌&&◌, ◌==◌, nat_le, List, [], ◌∷◌, Option, Some, None, length, take, drop, refl, ap, sym, subst, ◌∙◌, arith, length-drop}
+use Rattle.std.proofs.Common.{◌≡◌, ℕ, zero, suc, ◌+◌, ◌-◌, ◌≤◌, ◌<◌, Bool, true, false, cond, ◌&&◌, ◌==◌, nat_le, List, [], ◌∷◌}
+use Rattle.std.proofs.Common.{Option, Some, None, length, take, drop, refl, ap, sym, subst, ◌∙◌, arith, length-drop}
 use Rattle.std.proofs.lemmas.List.{drop-drop}
 use Rattle.std.specs.List.{prefix_len}
 use Rattle.std.specs.Char.{is_ascii_hexdigit, is_ascii_alphabetic}
 use lib.Utf8.{scalar}
 use Rattle.grammar_reader_words.specs.Cursor.{uncons}
 use Rattle.grammar_reader_words.specs.Names.{is_part}
-use Rattle.grammar_reader_words.specs.Quoted.{begins, hex_after, braced_hex, plain_hex, hex_escape, escape_by, escape, Piece, as_character, literal_piece, as_code, property_name, property, set_escape_by, set_escape, set_piece, Pieces, put, gathered, pieces_from}
+use Rattle.grammar_reader_words.specs.Quoted.{begins, hex_after, braced_hex, plain_hex, hex_escape, escape_by, escape, Piece, as_character, literal_piece}
+use Rattle.grammar_reader_words.specs.Quoted.{as_code, property_name, property, set_escape_by, set_escape, set_piece, Pieces, put, gathered, pieces_from}
 use Rattle.grammar_reader_words.specs.declared.quoted.Mark.TheVariants.{Code, Dash, Property}
 
 -- the last characters of `cs`
@@ -53,7 +55,8 @@ over {cs} {mid} {rest} e f =
 braced_ends : (cs : List ℕ) → EndsIn cs (braced_hex cs)
 braced_ends cs =
     let n : ℕ = prefix_len is_ascii_hexdigit cs in
-    choose (EndsIn cs) ((nat_le 1 n && nat_le n 6) && begins (λ c. c == 125) (drop n cs)) {x = Some (hex_after 0 (take n cs), drop (n + 1) cs)} {y = None} (least (n + 1) cs) tt
+    choose (EndsIn cs) ((nat_le 1 n && nat_le n 6) && begins (λ c. c == 125) (drop n cs)) {x = Some (hex_after 0 (take n cs), drop (n + 1) cs)} {y = None}
+    (least (n + 1) cs) tt
 
 plain_ends : (cs : List ℕ) → EndsIn cs (plain_hex cs)
 plain_ends cs = choose (EndsIn cs) (nat_le 4 (prefix_len is_ascii_hexdigit cs)) {x = Some (hex_after 0 (take 4 cs), drop 4 cs)} {y = None} (least 4 cs) tt
@@ -64,7 +67,8 @@ more c cs (Some (a, rest)) e = one_more c e
 
 hex_ends : (cs : List ℕ) → EndsIn cs (hex_escape cs)
 hex_ends [] = tt
-hex_ends (c ∷ cs) = choose (EndsIn (c ∷ cs)) (c == 123) {x = braced_hex cs} {y = plain_hex (c ∷ cs)} (more c cs (braced_hex cs) (braced_ends cs)) (plain_ends (c ∷ cs))
+hex_ends (c ∷ cs) =
+    choose (EndsIn (c ∷ cs)) (c == 123) {x = braced_hex cs} {y = plain_hex (c ∷ cs)} (more c cs (braced_hex cs) (braced_ends cs)) (plain_ends (c ∷ cs))
 
 escape_by_ends : (c : ℕ) (cs : List ℕ) → EndsIn cs (escape_by c cs)
 escape_by_ends c cs =
@@ -98,7 +102,8 @@ code_ends cs (Some (v, rest)) e = choose (EndsIn cs) (nat_le v 0x10FFFF) {x = So
 property_name_ends : (cs : List ℕ) → EndsIn cs (property_name cs)
 property_name_ends cs =
     let n : ℕ = prefix_len is_part cs in
-    choose (EndsIn cs) (begins is_ascii_alphabetic cs && begins (λ c. c == 125) (drop n cs)) {x = Some (Some Property, drop 1 (drop n cs))} {y = None} (over (least n cs) (least 1 (drop n cs))) tt
+    choose (EndsIn cs) (begins is_ascii_alphabetic cs && begins (λ c. c == 125) (drop n cs)) {x = Some (Some Property, drop 1 (drop n cs))} {y = None}
+    (over (least n cs) (least 1 (drop n cs))) tt
 
 property_ends : (cs : List ℕ) → EndsIn cs (property cs)
 property_ends [] = tt
@@ -136,7 +141,8 @@ module _ {A : Type 0} (piece : ℕ → List ℕ → Piece A) where
   pieces_skip (suc k) (c ∷ cs) = pieces_skip k cs
 
   -- one piece more
-  pub pieces_more : (c : ℕ) (cs : List ℕ) (a : A) (rest : List ℕ) → piece c cs ≡ Some (Some a, rest) → Ends cs rest → pieces_from piece 0 (c ∷ cs) ≡ put a (pieces_from piece 0 rest)
+  pub pieces_more : (c : ℕ) (cs : List ℕ) (a : A) (rest : List ℕ) → piece c cs ≡ Some (Some a, rest) → Ends cs rest
+      → pieces_from piece 0 (c ∷ cs) ≡ put a (pieces_from piece 0 rest)
   pieces_more c cs a rest e t =
       ap (λ o. gathered o (λ rest. pieces_from piece (length cs - length rest) cs)) e
       ∙ ap (put a) (pieces_skip (length cs - length rest) cs ∙ ap (pieces_from piece 0) (passed_len cs rest t (length cs - length rest) refl))

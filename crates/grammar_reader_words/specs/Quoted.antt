@@ -1,5 +1,6 @@
 -- Literals and sets. What is between their quotes or brackets is read piece by piece: a piece is one character or one escape.
-use Rattle.std.specs.Prelude.{ℕ, zero, suc, ◌+◌, ◌-◌, ◌*◌, Bool, true, false, ◌&&◌, ◌==◌, cond, nat_le, nat_lt, List, [], ◌∷◌, Option, Some, None, length, take, drop}
+use Rattle.std.specs.Prelude.{ℕ, zero, suc, ◌+◌, ◌-◌, ◌*◌, Bool, true, false, ◌&&◌, ◌==◌, cond, nat_le, nat_lt}
+use Rattle.std.specs.Prelude.{List, [], ◌∷◌, Option, Some, None, length, take, drop}
 use Rattle.std.specs.List.{prefix_len}
 use Rattle.std.specs.Char.{digit_value, is_ascii_hexdigit, is_ascii_alphabetic}
 use lib.Utf8.{scalar}
@@ -145,7 +146,8 @@ abbrev pub with_range : ℕ × ℕ → Option (List (ℕ × ℕ)) → Option (Li
 with_range r None = None
 with_range r (Some rs) = Some (r ∷ rs)
 
--- The ranges that the marks write, in their order; a single character is a range of one. Nothing where a `-` is no sign of a range, or a range's first end is above its last.
+-- The ranges that the marks write, in their order; a single character is a range of one. Nothing
+-- where a `-` is no sign of a range, or a range's first end is above its last.
 abbrev pub ranges_of : List Mark → Option (List (ℕ × ℕ))
 ranges_of [] = Some []
 ranges_of (Dash ∷ ms) = None

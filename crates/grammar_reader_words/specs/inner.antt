@@ -1,3 +1,5 @@
 pub mod Cursor
 pub mod Next
+pub mod Parts
+pub mod Spans
 pub mod Words

@@ -2,6 +2,8 @@
 
 ghost use Rattle.std.specs.Prelude.{◌≡◌, ◌≢◌, ◌≤◌, ◌∷◌, [], ℕ, IfOk, MatchOption, IfSome, length, None, false, true};
 ghost use Rattle.std.specs.Str.{chars};
+ghost use Rattle.grammar_reader_words.specs.Spans.{spans_from};
+ghost use Rattle.grammar_reader_words.specs.inner.Spans.{AreLast};
 ghost use Rattle.grammar_reader_words.specs.Words.{brace_from, gap, is_last, settled, without_mark, words_from, words_of};
 
 use crate::names::word_before_brace;
@@ -32,8 +34,10 @@ impl<'a> Model for Words<'a> {
 }
 
 /// The text after blanks and comments.
-fn skip_gaps(text: &str) -> &str
+pub fn skip_gaps(text: &str) -> &str
     ensures same { (total : ℕ) → words_from total 0 (chars text.now) ≡ words_from total 0 (chars result.now) }
+    ensures spans { (total : ℕ) → spans_from total 0 (chars text.now) ≡ spans_from total 0 (chars result.now) }
+    ensures last { AreLast (chars text.now) (chars result.now) }
     ensures brace { brace_from 0 (chars text.now) ≡ brace_from 0 (chars result.now) }
     ensures none { gap (chars result.now) ≡ None }
     ensures fits { length result.now ≤ length text.now }
@@ -45,7 +49,7 @@ fn skip_gaps(text: &str) -> &str
     rest
 }
 
-fn is_last(word: &Word) -> bool
+pub fn is_last(word: &Word) -> bool
     ensures { result ≡ is_last word.now }
 {
     matches!(word, Word::End | Word::Bad | Word::Property)
@@ -75,7 +79,7 @@ fn settled(word: Word, rest: &str) -> Word
 }
 
 /// The text after a byte order mark at its start.
-fn without_mark(text: &str) -> &str
+pub fn without_mark(text: &str) -> &str
     ensures same { chars result.now ≡ without_mark (chars text.now) }
     ensures fits { length result.now ≤ length text.now }
 {

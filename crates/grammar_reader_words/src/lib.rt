@@ -7,14 +7,18 @@
 #![tactic(auto)]
 
 mod cursor;
+mod laws;
 mod names;
 mod quoted;
 mod sets;
+mod span;
 mod text;
 mod word;
 mod words;
 
 pub use cursor::Words;
+pub use laws::{words_are_at_spans, words_from_on};
 pub use names::is;
+pub use span::{Span, word_at};
 pub use text::first_char;
 pub use word::{Placed, Ranges, Reserved, Word};

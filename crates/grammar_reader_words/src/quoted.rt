@@ -4,7 +4,8 @@ ghost use Rattle.std.specs.Prelude.{◌≡◌, ◌<◌, ◌≤◌, ◌+◌, ◌*
 ghost use Rattle.std.specs.Str.{chars};
 ghost use Rattle.grammar_reader_words.specs.Cursor.{seen};
 ghost use Rattle.grammar_reader_words.specs.inner.Cursor.{seen_piece};
-ghost use Rattle.grammar_reader_words.specs.Quoted.{as_character, as_code, braced_hex, escape, escape_by, hex_after, hex_digit, hex_escape, literal_piece, plain_hex, property, property_name, set_escape, set_escape_by, set_piece};
+ghost use Rattle.grammar_reader_words.specs.Quoted.{as_character, as_code, braced_hex, escape, escape_by, hex_after, hex_digit, hex_escape};
+ghost use Rattle.grammar_reader_words.specs.Quoted.{literal_piece, plain_hex, property, property_name, set_escape, set_escape_by, set_piece};
 
 use crate::text::{begins_with, begins_with_letter, first_char, hex_len, name_len, skip};
 

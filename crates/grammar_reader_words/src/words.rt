@@ -8,7 +8,8 @@ ghost use Rattle.grammar_reader_words.specs.Names.{is_part, name_word};
 ghost use Rattle.grammar_reader_words.specs.Quoted.{literal_piece, outer_dashes_plain, pieces_from, ranges_of, set_piece};
 ghost use Rattle.std.specs.List.{prefix_len};
 ghost use Rattle.grammar_reader_words.specs.declared.word.Word.TheVariants.{Property, Set};
-ghost use Rattle.grammar_reader_words.specs.Words.{after_close, comment, content_word, gap, is_blank, literal_word, marked_word, name_at, set_word, single, symbol, word};
+ghost use Rattle.grammar_reader_words.specs.Words.{after_close, comment, content_word, gap, is_blank, literal_word};
+ghost use Rattle.grammar_reader_words.specs.Words.{marked_word, name_at, set_word, single, symbol, word};
 
 use crate::names::{lower_word, word_before_brace};
 use crate::quoted::{Mark, Piece, literal_piece};
@@ -103,7 +104,7 @@ fn single(c: char) -> Word
 }
 
 /// The longest symbol that begins with `c`, and what follows it.
-fn symbol(c: char, rest: &str) -> (Word, &str)
+pub fn symbol(c: char, rest: &str) -> (Word, &str)
     ensures { (result.0, chars result.1.now) ≡ symbol c (chars rest.now) }
 {
     match c {

@@ -1,7 +1,7 @@
 //! What is said at the end, by status.
 
 use crate::files::{add_failure, add_too_long};
-use crate::grammar::add_grammar;
+use crate::grammar::GrammarFiles;
 use crate::input::{add_no_parse, add_no_tokens};
 use crate::quote::Quoted;
 use crate::script::{LastAsk, add_fault, add_no};
@@ -41,6 +41,8 @@ pub struct Ending<'a> {
     pub reasons: Reasons,
     /// The bytes of the grammar, where they were read.
     pub grammar: Option<&'a [u8]>,
+    /// Those of its lexer, where one is named and they were read.
+    pub lexer: Option<&'a [u8]>,
     /// The bytes of the input, where they were read.
     pub input: Option<&'a [u8]>,
     /// The last ask of a worker whose script failed, or else that was asked.
@@ -61,11 +63,23 @@ fn grammar_of<'a>(line: &CommandLine<'a>) -> Option<NamedGrammar<'a>> {
     }
 }
 
-/// The file that couldn't be read: the grammar is read first.
+/// The file of the grammar that couldn't be read; none where all were.
+fn unread_grammar<'a>(ending: &Ending<'a>) -> Option<&'a str> {
+    let grammar = grammar_of(ending.line)?;
+    if ending.grammar.is_none() {
+        return Some(grammar.path);
+    }
+    match ending.lexer {
+        None => grammar.lexer,
+        Some(_) => None,
+    }
+}
+
+/// The file that couldn't be read: the grammar is read first, and its lexer next.
 fn unread<'a>(ending: &Ending<'a>) -> &'a str {
-    match (grammar_of(ending.line), ending.line) {
-        (Some(grammar), _) if ending.grammar.is_none() => grammar.path,
-        (_, CommandLine::Reduce(line)) => line.input,
+    match (unread_grammar(ending), ending.line) {
+        (Some(path), _) => path,
+        (None, CommandLine::Reduce(line)) => line.input,
         _ => "the grammar",
     }
 }
@@ -90,15 +104,24 @@ fn add_keep(text: &mut String, line: &ReduceLine<'_>, input: &[u8]) -> Result<()
     Ok(())
 }
 
-/// The grammar as it was read, and the name of its start rule where it has one.
-fn grammar_file<'a>(ending: &Ending<'a>) -> Option<(TextFile<'a>, Option<&'a str>)> {
+/// A file of this path as it was read.
+fn text_file<'a>(path: &'a str, bytes: Option<&'a [u8]>, width: usize) -> Option<TextFile<'a>> {
+    let bytes = bytes?;
+    Some(TextFile { path, bytes, width })
+}
+
+/// The grammar as it was read.
+fn grammar_files<'a>(ending: &Ending<'a>) -> Option<GrammarFiles<'a>> {
     let grammar = grammar_of(ending.line)?;
-    let file = TextFile {
-        path: grammar.path,
-        bytes: ending.grammar?,
-        width: ending.width,
+    let lexer = match grammar.lexer {
+        None => None,
+        Some(path) => Some(text_file(path, ending.lexer, ending.width)?),
     };
-    Some((file, grammar.start))
+    Some(GrammarFiles {
+        file: text_file(grammar.path, ending.grammar, ending.width)?,
+        lexer,
+        start: grammar.start,
+    })
 }
 
 /// The input as it was read.
@@ -106,22 +129,18 @@ fn input_file<'a>(ending: &Ending<'a>) -> Option<TextFile<'a>> {
     let CommandLine::Reduce(line) = ending.line else {
         return None;
     };
-    Some(TextFile {
-        path: line.input,
-        bytes: ending.input?,
-        width: ending.width,
-    })
+    text_file(line.input, ending.input, ending.width)
 }
 
 /// What the status says of the grammar, or of an input by it.
 fn add_language(text: &mut String, alloc: Global, ending: &Ending<'_>) -> Result<(), AllocError> {
-    let Some((grammar, start)) = grammar_file(ending) else {
+    let Some(grammar) = grammar_files(ending) else {
         return Ok(());
     };
     match (ending.status, input_file(ending)) {
-        (5, _) => add_grammar(text, alloc, grammar, start),
-        (6, Some(input)) => add_no_tokens(text, alloc, grammar, start, input),
-        (7, Some(input)) => add_no_parse(text, alloc, grammar, start, input),
+        (5, _) => grammar.add_fault(text, alloc),
+        (6, Some(input)) => add_no_tokens(text, alloc, grammar, input),
+        (7, Some(input)) => add_no_parse(text, alloc, grammar, input),
         _ => Ok(()),
     }
 }

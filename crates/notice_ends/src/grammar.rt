@@ -1,9 +1,15 @@
-//! Grammars that can't be used.
+//! Grammars in one file or two, and why they can't be used.
+
+ghost use Rattle.std.specs.Prelude.{◌≤◌, length};
 
 use crate::text_file::TextFile;
 use grammar_check::CheckFault;
 use grammar_load::{GrammarFault, checked_grammar};
+use grammar_load_pair::{PairGrammarFault, checked_pair};
+use grammar_pair::PairFault;
 use grammar_reader_notation::ReadFault;
+use grammar_tree::Checked;
+use memchr::memmem;
 use std::alloc::{AllocError, Global};
 
 /// Whether the byte can be in a name.
@@ -82,16 +88,74 @@ fn place_of(bytes: &[u8], fault: &GrammarFault) -> Option<usize> {
     }
 }
 
-/// What is wrong with a grammar whose start rule has this name, or is the first one.
-pub(crate) fn add_grammar(
+/// The rule of this name, and its file: a parser rule begins with a small letter.
+fn place_of_rule<'a>(
+    lexer: TextFile<'a>,
+    parser: TextFile<'a>,
+    name: &str,
+) -> Option<(TextFile<'a>, usize)> {
+    let name = name.as_bytes();
+    let (own, other) = match name.first() {
+        Some(letter) if letter.is_ascii_lowercase() => (parser, lexer),
+        _ => (lexer, parser),
+    };
+    match place_of_name(own.bytes, name) {
+        Some(offset) => Some((own, offset)),
+        None => Some((other, place_of_name(other.bytes, name)?)),
+    }
+}
+
+/// Where a text has this literal between quotes.
+fn place_of_literal(alloc: Global, bytes: &[u8], literal: &str) -> Option<usize> {
+    let quoted = format!(in alloc; "'{literal}'").ok()?;
+    memmem::find(bytes, quoted.as_bytes())
+}
+
+/// The text that a fault of a lexer grammar and its parser grammar is in, and where.
+fn place_of_pair<'a>(
+    alloc: Global,
+    lexer: TextFile<'a>,
+    parser: TextFile<'a>,
+    fault: &PairFault,
+) -> Option<(TextFile<'a>, usize)> {
+    match fault {
+        PairFault::LexerText(fault) => Some((lexer, offset_of(fault)?)),
+        PairFault::NotLexer => Some((lexer, place_of_name(lexer.bytes, b"grammar")?)),
+        PairFault::ParserText(fault) => Some((parser, offset_of(fault)?)),
+        PairFault::NotParser => Some((parser, place_of_name(parser.bytes, b"grammar")?)),
+        PairFault::OtherVocab { .. } => Some((parser, place_of_name(parser.bytes, b"tokenVocab")?)),
+        PairFault::WrongRule { name } => place_of_rule(parser, lexer, name.as_str()),
+        PairFault::NoLiteral { literal } => {
+            let offset = place_of_literal(alloc, parser.bytes, literal.as_str())?;
+            Some((parser, offset))
+        }
+        PairFault::Memory => None,
+    }
+}
+
+/// The text that their fault is in, and where, also that of the grammar that they are together.
+fn place_in_pair<'a>(
+    alloc: Global,
+    lexer: TextFile<'a>,
+    parser: TextFile<'a>,
+    fault: &PairGrammarFault,
+) -> Option<(TextFile<'a>, usize)> {
+    match fault {
+        PairGrammarFault::Pair(fault) => place_of_pair(alloc, lexer, parser, fault),
+        PairGrammarFault::Check(fault) => place_of_rule(lexer, parser, name_in(fault)?),
+        PairGrammarFault::Memory => None,
+    }
+}
+
+/// What is wrong with a grammar in one text.
+fn add_one(
     text: &mut String,
     alloc: Global,
     grammar: TextFile<'_>,
     start: Option<&str>,
-) -> Result<(), AllocError> {
-    if grammar.is_too_long() {
-        return Ok(());
-    }
+) -> Result<(), AllocError>
+    requires { length grammar.bytes.now ≤ 1048576 }
+{
     let Err(fault) = checked_grammar(alloc, grammar.bytes, start) else {
         return Ok(());
     };
@@ -107,5 +171,80 @@ pub(crate) fn add_grammar(
             )
         }
         _ => Ok(()),
+    }
+}
+
+/// What is wrong with a lexer grammar and its parser grammar.
+fn add_pair(
+    text: &mut String,
+    alloc: Global,
+    lexer: TextFile<'_>,
+    parser: TextFile<'_>,
+    start: Option<&str>,
+) -> Result<(), AllocError>
+    requires lexer { length lexer.bytes.now ≤ 1048576 }
+    requires parser { length parser.bytes.now ≤ 1048576 }
+{
+    let Err(fault) = checked_pair(alloc, lexer.bytes, parser.bytes, start) else {
+        return Ok(());
+    };
+    match place_in_pair(alloc, lexer, parser, &fault) {
+        Some((file, offset)) => file.add_place(text, alloc, offset, &fault)?,
+        None => write!(text, "perses: {}: {fault}\n", parser.path)?,
+    }
+    match fault {
+        PairGrammarFault::Pair(
+            PairFault::LexerText(ReadFault::Unsupported { .. })
+            | PairFault::ParserText(ReadFault::Unsupported { .. }),
+        ) => write!(
+            text,
+            "perses: tools/plain-grammar --pair FILE writes both anew without that\n"
+        ),
+        _ => Ok(()),
+    }
+}
+
+/// A grammar as it was read.
+#[derive(Clone, Copy, Debug)]
+pub(crate) struct GrammarFiles<'a> {
+    /// Its file, or that of its parser rules.
+    pub(crate) file: TextFile<'a>,
+    /// That of its lexer rules, where it is in two.
+    pub(crate) lexer: Option<TextFile<'a>>,
+    /// The name of its start rule; none where it is the first parser rule.
+    pub(crate) start: Option<&'a str>,
+}
+
+impl GrammarFiles<'_> {
+    /// The checked grammar, where it is one that can be looked at again.
+    pub(crate) fn checked(&self, alloc: Global) -> Option<Checked> {
+        if self.file.is_too_long() {
+            return None;
+        }
+        match self.lexer {
+            None => checked_grammar(alloc, self.file.bytes, self.start).ok(),
+            Some(lexer) if lexer.is_too_long() => None,
+            Some(lexer) => checked_pair(alloc, lexer.bytes, self.file.bytes, self.start).ok(),
+        }
+    }
+
+    /// The path of its lexer rules.
+    pub(crate) fn lexer_path(&self) -> &str {
+        match &self.lexer {
+            None => self.file.path,
+            Some(lexer) => lexer.path,
+        }
+    }
+
+    /// What is wrong with it.
+    pub(crate) fn add_fault(&self, text: &mut String, alloc: Global) -> Result<(), AllocError> {
+        if self.file.is_too_long() {
+            return Ok(());
+        }
+        match self.lexer {
+            None => add_one(text, alloc, self.file, self.start),
+            Some(lexer) if lexer.is_too_long() => Ok(()),
+            Some(lexer) => add_pair(text, alloc, lexer, self.file, self.start),
+        }
     }
 }

@@ -1,10 +1,10 @@
 //! Inputs that aren't cut into tokens, or whose tokens aren't derived.
 
 use crate::following::Stop;
+use crate::grammar::GrammarFiles;
 use crate::quote::Quoted;
 use crate::text_file::{MOST_BYTES, TextFile};
 use chart_parser_prefix::{LongestPrefix, longest_prefix};
-use grammar_load::checked_grammar;
 use grammar_tree::Checked;
 use lexer::{Lexer, Token};
 use normal_form::Sym;
@@ -12,14 +12,6 @@ use normal_form_build::normalise;
 use reduce_trees_input::{InputFault, parsed_input};
 use std::alloc::{AllocError, Global};
 use std::str;
-
-/// The checked grammar, where it is one.
-fn grammar_in(alloc: Global, grammar: TextFile<'_>, start: Option<&str>) -> Option<Checked> {
-    if grammar.is_too_long() {
-        return None;
-    }
-    checked_grammar(alloc, grammar.bytes, start).ok()
-}
 
 /// The byte of a fault of an input.
 fn offset_of(fault: &InputFault) -> Option<usize> {
@@ -33,14 +25,13 @@ fn offset_of(fault: &InputFault) -> Option<usize> {
 pub(crate) fn add_no_tokens(
     text: &mut String,
     alloc: Global,
-    grammar: TextFile<'_>,
-    start: Option<&str>,
+    grammar: GrammarFiles<'_>,
     input: TextFile<'_>,
 ) -> Result<(), AllocError> {
     if input.is_too_long() {
         return Ok(());
     }
-    let Some(checked) = grammar_in(alloc, grammar, start) else {
+    let Some(checked) = grammar.checked(alloc) else {
         return Ok(());
     };
     let Err(fault) = parsed_input(alloc, &checked, input.bytes) else {
@@ -60,7 +51,7 @@ pub(crate) fn add_no_tokens(
         InputFault::NoToken { .. } => write!(
             text,
             "perses: no lexer rule of {} matches what begins there\n",
-            grammar.path
+            grammar.lexer_path()
         ),
         InputFault::NoParse | InputFault::Memory => Ok(()),
     }
@@ -129,17 +120,16 @@ fn add_stop(
 pub(crate) fn add_no_parse(
     text: &mut String,
     alloc: Global,
-    grammar: TextFile<'_>,
-    start: Option<&str>,
+    grammar: GrammarFiles<'_>,
     input: TextFile<'_>,
 ) -> Result<(), AllocError> {
-    if let Some(checked) = grammar_in(alloc, grammar, start)
+    if let Some(checked) = grammar.checked(alloc)
         && add_stop(text, alloc, &checked, input)?
     {
         return Ok(());
     }
-    let (path, input) = (grammar.path, input.path);
-    match start {
+    let (path, input) = (grammar.file.path, input.path);
+    match grammar.start {
         Some(rule) => write!(
             text,
             "perses: {input}: rule {rule} of {path} doesn't derive it\n"

@@ -1,4 +1,4 @@
-ghost use Rattle.std.specs.Prelude.{◌≡◌, ◌<◌, ◌^◌, length, false};
+ghost use Rattle.std.specs.Prelude.{◌≡◌, ◌≤◌, length, false};
 
 use notice_places::excerpt_at;
 use std::alloc::{AllocError, Global};
@@ -21,7 +21,7 @@ pub(crate) struct TextFile<'a> {
 impl TextFile<'_> {
     /// Whether it is too long to be looked at again.
     pub(crate) fn is_too_long(&self) -> bool
-        ensures { (result ≡ false) → length self.now.bytes.now < 2 ^ 32 }
+        ensures { (result ≡ false) → length self.now.bytes.now ≤ 1048576 }
     {
         self.bytes.len() > MOST_BYTES
     }

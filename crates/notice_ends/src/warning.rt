@@ -66,6 +66,17 @@ fn add_candidates<R: Files + AllocGlobal>(
     Ok(())
 }
 
+/// Warns of those of the files that are one, or that a worker's candidates are written to.
+fn add_one_file<R: Files + AllocGlobal>(
+    text: &mut String,
+    rt: &R,
+    line: &ReduceLine<'_>,
+    files: &[Named<'_>],
+) -> Result<(), AllocError> {
+    add_same(text, rt, files)?;
+    add_candidates(text, rt, line, files)
+}
+
 fn add_empty<R: Files>(text: &mut String, rt: &R, file: Named<'_>) -> Result<(), AllocError> {
     match fs::metadata(rt, file.path) {
         Ok(found) if found.is_file() && found.len() == 0 => {
@@ -185,17 +196,22 @@ pub fn warnings<R: Files + AllocGlobal + Clone + Drop>(
     let journal = written("the journal", journal);
     add_empty(&mut text, rt, input)?;
     match line.mode {
-        ModeLine::Lines => {
-            let files = [input, script, output, journal];
-            add_same(&mut text, rt, &files)?;
-            add_candidates(&mut text, rt, line, &files)?;
-        }
+        ModeLine::Lines => add_one_file(&mut text, rt, line, &[input, script, output, journal])?,
         ModeLine::ByGrammar(by) => {
             let grammar = read("the grammar", by.grammar.path);
-            let files = [input, grammar, script, output, journal];
             add_empty(&mut text, rt, grammar)?;
-            add_same(&mut text, rt, &files)?;
-            add_candidates(&mut text, rt, line, &files)?;
+            match by.grammar.lexer {
+                None => {
+                    let files = [input, grammar, script, output, journal];
+                    add_one_file(&mut text, rt, line, &files)?;
+                }
+                Some(path) => {
+                    let lexer = read("the lexer grammar", path);
+                    add_empty(&mut text, rt, lexer)?;
+                    let files = [input, grammar, lexer, script, output, journal];
+                    add_one_file(&mut text, rt, line, &files)?;
+                }
+            }
         }
     }
     add_script(&mut text, rt, line.script)?;

@@ -30,12 +30,12 @@ pub(crate) struct Row {
     pub(crate) required: bool,
 }
 
-static REDUCE: [&str; 11] = [
-    "input", "output", "script", "grammar", "mode", "start", "jobs", "journal", "work", "keep",
-    "squeeze",
+static REDUCE: [&str; 12] = [
+    "input", "output", "script", "grammar", "lexer", "mode", "start", "jobs", "journal", "work",
+    "keep", "squeeze",
 ];
 
-static NORMAL: [&str; 2] = ["grammar", "start"];
+static NORMAL: [&str; 3] = ["grammar", "lexer", "start"];
 
 static SELFTEST: [&str; 3] = ["number", "size", "mode"];
 

@@ -41,7 +41,12 @@ fn names_the_word_or_the_option(rt: HostRuntime) -> Result<(), AllocError> {
             "perses selftest --number 0 --size 1 --mode lines",
             "no mode 'lines'",
         ),
+        ("perses normal --lexer l", "normal lacks --grammar"),
         ("{files}", "reduce lacks --grammar"),
+        (
+            "{files} --mode lines --lexer l",
+            "--lexer doesn't go with --mode lines",
+        ),
         (
             "{files} --mode lines --squeeze",
             "--squeeze doesn't go with --mode lines",
@@ -52,6 +57,7 @@ fn names_the_word_or_the_option(rt: HostRuntime) -> Result<(), AllocError> {
         ),
         ("{files} --mode lines", "nothing"),
         ("{files} --grammar g --jobs 16", "nothing"),
+        ("{files} --grammar g --lexer l", "nothing"),
     ];
     for (line, wanted) in rows {
         let line = line.replace(rt.alloc(), "{files}", files)?;

@@ -2,7 +2,7 @@
 pub const USAGE: &str = "\
 usage: perses reduce --input F --output F --script F --grammar F [option ..]
        perses reduce --mode lines --input F --output F --script F [option ..]
-       perses normal --grammar F [--start R]
+       perses normal --grammar F [--lexer F] [--start R]
        perses selftest --number N --size K [--mode M]
 Of an input that makes something fail, reduce writes what matters: the script
 gets the name of a file as its argument, and ends with 0 if that still fails.
@@ -10,6 +10,7 @@ gets the name of a file as its argument, and ends with 0 if that still fails.
   --output F   where the result is written
   --script F   the script
   --grammar F  the grammar of the input, in the notation of ANTLR 4
+  --lexer F    the file of its lexer rules, where it is in two
   --mode M     perses (the default), hdd (deletes alone) or lines (no grammar)
   --start R    the rule that the input is of; else the first one
   --jobs N     so many scripts run at once, from 1 to 16; else 1

@@ -110,7 +110,7 @@ fn check_grammar<'a>(command: &'a str, words: &'a [String]) -> Result<(), WordFa
         }
         return Ok(());
     }
-    for option in ["grammar", "start", "squeeze"] {
+    for option in ["grammar", "lexer", "start", "squeeze"] {
         if count_of(words, option) > 0 {
             return Err(WordFault::NotWithLines { option });
         }

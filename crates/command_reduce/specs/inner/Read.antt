@@ -1,11 +1,11 @@
 -- What was found in an input by a grammar, why nothing was, and why a problem wasn't accepted.
-use Rattle.std.specs.Prelude.{◌≡◌, ◌⊎◌, ℕ, ◌+◌, List, Option, Some, string_bytes}
-use Rattle.edge_io.specs.Files.{FileContent, IsLonger}
+use Rattle.std.specs.Prelude.{◌≡◌, ◌⊎◌, ℕ, ◌+◌, List, Some, string_bytes}
+use Rattle.edge_io.specs.Files.{IsLonger}
 use Rattle.grammar_tree.specs.Written.{CheckedGrammar}
 use Rattle.keep_guard.specs.Keep.{first_missing}
 use Rattle.reduce_trees_input.specs.Parsed.{MakesInputOf}
 use Rattle.reduce_trees_input.specs.declared.parsed.ParsedInput.{ParsedInput}
-use Rattle.run_problem.specs.Problem.{start_of}
+use Rattle.run_problem.specs.Problem.{start_text}
 use Rattle.run_problem.specs.Read.{IsFoundIn}
 use Rattle.reduce_trees_input.specs.Faults.{IsInputFault}
 use Rattle.reduce_trees_input.specs.FaultText.{input_fault_text}
@@ -22,37 +22,40 @@ use Rattle.command_words.specs.Commands.{GrammarSource, ReduceOptions}
 use Rattle.command_ends.specs.World.{CallFailed, IsQuiet, SeenFiles, WasRead, input_limit, line_of_text}
 
 -- The grammar was read, and the input, of whose text what was found makes the input of a reduction.
-pub record GivesTree (named : GrammarSource) (grammar input : Option FileContent) (found : ParsedInput) : Type 0 where
+pub record GivesTree (named : GrammarSource) (input : List ℕ) (files : SeenFiles) (found : ParsedInput) : Type 0 where
   pub checked : CheckedGrammar
-  pub spelled : GrammarRead named grammar checked
-  pub read : WasRead input_limit input (λ text. MakesInputOf checked text found)
+  pub spelled : GrammarRead named files checked
+  pub read : WasRead input_limit (files.shown input) (λ text. MakesInputOf checked text found)
   pub ready : IsFoundIn found
 
 -- the grammar was read, and the input, which has this fault
-abbrev pub InputIsFaulty : GrammarSource → Option FileContent → Option FileContent → InputFault → Type 0
-InputIsFaulty named grammar input fault = (c : CheckedGrammar) × GrammarRead named grammar c × WasRead input_limit input (λ bytes. IsInputFault c bytes fault)
+abbrev pub InputIsFaulty : GrammarSource → List ℕ → SeenFiles → InputFault → Type 0
+InputIsFaulty named input files fault =
+    (c : CheckedGrammar) × GrammarRead named files c × WasRead input_limit (files.shown input) (λ bytes. IsInputFault c bytes fault)
 
 -- why nothing is found: a file wasn't read, the grammar is faulty, or the input isn't in its language
 abbrev pub TreeFails : GrammarSource → List ℕ → SeenFiles → SeenFiles → Refusal → Type 0
 TreeFails grammar input files files' Memory = IsQuiet files files'
 TreeFails grammar input files files' (CannotRead named.Input) =
-    ((c : CheckedGrammar) × GrammarRead grammar (files.shown grammar.path) c) × CallFailed files files'
-TreeFails grammar input files files' (CannotRead named.Grammar) = CallFailed files files'
+    ((c : CheckedGrammar) × GrammarRead grammar files c) × CallFailed files files'
+TreeFails grammar input files files' (CannotRead named.Grammar) = GrammarFails grammar files files' (CannotRead named.Grammar)
+TreeFails grammar input files files' (CannotRead named.Lexer) = GrammarFails grammar files files' (CannotRead named.Lexer)
 TreeFails grammar input files files' (TooLong named.Input) =
-    ((c : CheckedGrammar) × GrammarRead grammar (files.shown grammar.path) c) × IsLonger input_limit (files.shown input) × IsQuiet files files'
+    ((c : CheckedGrammar) × GrammarRead grammar files c) × IsLonger input_limit (files.shown input) × IsQuiet files files'
 TreeFails grammar input files files' (TooLong named.Grammar) = GrammarFails grammar files files' (TooLong named.Grammar)
+TreeFails grammar input files files' (TooLong named.Lexer) = GrammarFails grammar files files' (TooLong named.Lexer)
 TreeFails grammar input files files' (Grammar line) = GrammarFails grammar files files' (Grammar line)
 TreeFails grammar input files files' (Uncut line) =
-    (fault : InputFault) × IsUncut fault × InputIsFaulty grammar (files.shown grammar.path) (files.shown input) fault
+    (fault : InputFault) × IsUncut fault × InputIsFaulty grammar input files fault
     × (string_bytes line ≡ line_of_text (input_fault_text fault)) × IsQuiet files files'
-TreeFails grammar input files files' NoParse = InputIsFaulty grammar (files.shown grammar.path) (files.shown input) input_fault.NoParse × IsQuiet files files'
+TreeFails grammar input files files' NoParse = InputIsFaulty grammar input files input_fault.NoParse × IsQuiet files files'
 TreeFails grammar input files files' _ = ⊥
 
 -- why a problem that was read wasn't accepted: this keep text is the first that doesn't occur in its start, or out of memory
 abbrev pub KeepRefused : ReduceOptions → SeenFiles → Refusal → Type 0
 KeepRefused options files Memory = Unit {0}
 KeepRefused options files (KeepMissing line) =
-    (index : ℕ) × ProblemRead options files (λ problem. first_missing options.keeps (start_of problem) ≡ Some index)
+    (index : ℕ) × ProblemRead options files (λ problem. first_missing options.keeps (start_text problem) ≡ Some index)
     × IsKeepRefusal (index + 1) (KeepMissing line)
 KeepRefused options files _ = ⊥
 

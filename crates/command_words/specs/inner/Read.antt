@@ -84,7 +84,8 @@ NamesValue table name = (row : OptionRow) → row_of table name ≡ Some row →
 pub record HasUses (table : List OptionRow) (uses : List Use) (found : Found) : Type 0 where
   pub values : (name : List ℕ) → NamesValue table name → option_map raw_values (matched_of found name) ≡ where_some (values_for name uses)
   pub first : (name : List ℕ) → NamesValue table name → first_value found name ≡ slice_get (values_for name uses) 0
-  pub flags : (row : OptionRow) → row_of table row.name ≡ Some row → has_value row.values ≡ false → one_text found row.name ≡ Some (flag_text (values_for row.name uses))
+  pub flags : (row : OptionRow) → row_of table row.name ≡ Some row → has_value row.values ≡ false
+      → one_text found row.name ≡ Some (flag_text (values_for row.name uses))
 
 -- the words are options of the table, none of them twice that may be there once, and the matches have them
 pub record HasRead (table : List OptionRow) (words : List (List ℕ)) (found : Found) : Type 0 where

@@ -23,14 +23,22 @@ fn mode_name(mode: TreeMode) -> &'static str {
     }
 }
 
+fn grammar_text(alloc: Global, grammar: NamedGrammar<'_>) -> Result<String, Fail> {
+    let start = grammar.start.unwrap_or("-");
+    match grammar.lexer {
+        None => Ok(format!(in alloc; "{} from {start}", grammar.path)?),
+        Some(lexer) => Ok(format!(in alloc; "{} with {lexer} from {start}", grammar.path)?),
+    }
+}
+
 fn mode_text(alloc: Global, mode: ModeLine<'_>) -> Result<String, Fail> {
     match mode {
         ModeLine::Lines => Ok(String::from_str(alloc, "lines")?),
         ModeLine::ByGrammar(line) => {
-            let start = line.grammar.start.unwrap_or("-");
+            let grammar = grammar_text(alloc, line.grammar)?;
             let mode = mode_name(line.mode);
             let squeeze = if line.squeeze { " squeezed" } else { "" };
-            Ok(format!(in alloc; "{mode} by {} from {start}{squeeze}", line.grammar.path)?)
+            Ok(format!(in alloc; "{mode} by {grammar}{squeeze}")?)
         }
     }
 }
@@ -50,8 +58,8 @@ fn reduce_text(alloc: Global, line: &ReduceLine<'_>) -> Result<String, Fail> {
 }
 
 fn normal_text(alloc: Global, grammar: NamedGrammar<'_>) -> Result<String, Fail> {
-    let start = grammar.start.unwrap_or("-");
-    Ok(format!(in alloc; "normal {} from {start}", grammar.path)?)
+    let grammar = grammar_text(alloc, grammar)?;
+    Ok(format!(in alloc; "normal {grammar}")?)
 }
 
 fn selftest_text(alloc: Global, line: SelftestLine) -> Result<String, Fail> {
@@ -81,7 +89,7 @@ const LINES: &str = "lines: i to o asking s, o.journal, perses-work, 1";
 const TREES: &str = "perses by g from -: i to o asking s, o.journal, perses-work, 1";
 
 /// Command lines, each with what it asks for.
-const ACCEPTED: [(&str, &str); 18] = [
+const ACCEPTED: [(&str, &str); 20] = [
     (
         "perses reduce --mode lines --input i --output o --script s",
         LINES,
@@ -120,6 +128,11 @@ const ACCEPTED: [(&str, &str); 18] = [
     ),
     ("p normal --grammar g", "normal g from -"),
     ("p normal --start r --grammar=g", "normal g from r"),
+    ("p normal --lexer=l --grammar g", "normal g with l from -"),
+    (
+        "p reduce --lexer l --grammar g --start r --input i --output o --script s",
+        "perses by g with l from r: i to o asking s, o.journal, perses-work, 1",
+    ),
     ("p selftest --number 0 --size 300", "selftest 0 300 perses"),
     (
         "p selftest --size=1500 --number=4294967295",
@@ -155,9 +168,10 @@ fn reads_command_lines_in_any_order(rt: HostRuntime) -> Result<(), Fail> {
 }
 
 /// What is no command line where it comes after the words of mode `lines`.
-const REFUSED_AFTER_LINES: [&str; 24] = [
+const REFUSED_AFTER_LINES: [&str; 25] = [
     "--squeeze",
     "--grammar g",
+    "--lexer l",
     "--start r",
     "--keep 1 --keep 2 --keep 3 --keep 4 --keep 5 --keep 6 --keep 7 --keep 8 --keep 9",
     "--mode lines",
@@ -183,7 +197,7 @@ const REFUSED_AFTER_LINES: [&str; 24] = [
 ];
 
 /// Lines that are no command line.
-const REFUSED: [&str; 36] = [
+const REFUSED: [&str; 40] = [
     "",
     "perses",
     "perses shrink",
@@ -209,9 +223,13 @@ const REFUSED: [&str; 36] = [
     "perses reduce -grammar g --input i --output o --script s",
     "perses reduce --=g --grammar g --input i --output o --script s",
     "perses reduce --grammar g -- --input i --output o --script s",
+    "perses reduce --lexer l --input i --output o --script s",
     "perses normal",
+    "perses normal --lexer l",
+    "perses normal --grammar g --lexer l --lexer l",
     "perses normal --grammar g --input i",
     "perses normal --grammar g g",
+    "perses selftest --number 0 --size 1 --lexer l",
     "perses selftest --number 0",
     "perses selftest --size 300",
     "perses selftest --number 0 --size 0",

@@ -4,6 +4,6 @@ use Rattle.command_normal.proofs.form.normal.Goals as goal
 
 pub returns : goal.returns
 returns g c = prints_normal (grammar_read c.args.grammar) _ _ _ _
-    (normal_ends (grammar_read c.args.grammar) _ _ _ _ c.form_of_file-outcome.result c.end_with.result c.form_of_file-outcome.ensures.form
-    c.form_of_file-outcome.ensures.quiet c.form_of_file-outcome.ensures.refused c.end_with.ensures)
-    c.form_of_file-outcome.ensures.same
+    (normal_ends (grammar_read c.args.grammar) _ _ _ _ c.form_of_files-outcome.result c.end_with.result c.form_of_files-outcome.ensures.form
+    c.form_of_files-outcome.ensures.quiet c.form_of_files-outcome.ensures.refused c.end_with.ensures)
+    c.form_of_files-outcome.ensures.same

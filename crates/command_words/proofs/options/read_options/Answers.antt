@@ -10,12 +10,14 @@ pub returns-in-Ok : goal.returns-in-Ok
 returns-in-Ok c = λ table same is_table.
     let name = c.args.command.now in
     answer_of_matches name table (map string_bytes c.args.words.now) (sym (all_formed c.args.words.now) ∙ sym c.if-not-are_well_formed.ensures) is_table _
-    (command_app name table c.args.rows.now _ _ (bare name _ _ _ c.new.ensures.app c.no_binary_name.ensures c.disable_help_flag-command.ensures) c.in_ok-command.ensures same)
+    (command_app name table c.args.rows.now _ _
+    (bare name _ _ _ c.new.ensures.app c.no_binary_name.ensures c.disable_help_flag-command.ensures) c.in_ok-command.ensures same)
     c.in-Ok.matches c.in-Ok.ensures.matches c.in-Ok.ensures.kinds
 
 pub returns : goal.returns
 returns c = λ table same is_table.
     let name = c.args.command.now in
     answer_of_error name table (map string_bytes c.args.words.now) (sym (all_formed c.args.words.now) ∙ sym c.if-not-are_well_formed.ensures) _
-    (command_app name table c.args.rows.now _ _ (bare name _ _ _ c.new.ensures.app c.no_binary_name.ensures c.disable_help_flag-command.ensures) c.in_ok-command.ensures same)
+    (command_app name table c.args.rows.now _ _ (bare name _ _ _ c.new.ensures.app c.no_binary_name.ensures c.disable_help_flag-command.ensures)
+    c.in_ok-command.ensures same)
     c.in-Err.error c.in-Err.ensures.kinds (λ memory. c.in_default.not-OutOfMemory (c.kind.ensures ∙ memory))

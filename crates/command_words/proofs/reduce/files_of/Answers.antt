@@ -12,12 +12,14 @@ returns-in_err-input c = λ uses has.
 pub returns-in_err-output : goal.returns-in_err-output
 returns-in_err-output c = λ uses has.
     rw c.from_residual-in_err-output.ensures
-    (no_output uses (first_none reduce_table uses c.args.matches.now (codes "output") has (named_by reduce_table (codes "output") refl) c.in_err-output.ensures))
+    (no_output uses (first_none reduce_table uses c.args.matches.now (codes "output") has
+    (named_by reduce_table (codes "output") refl) c.in_err-output.ensures))
 
 pub returns-in_err-script : goal.returns-in_err-script
 returns-in_err-script c = λ uses has.
     rw c.from_residual-in_err-script.ensures
-    (no_script uses (first_none reduce_table uses c.args.matches.now (codes "script") has (named_by reduce_table (codes "script") refl) c.in_err-script.ensures))
+    (no_script uses (first_none reduce_table uses c.args.matches.now (codes "script") has
+    (named_by reduce_table (codes "script") refl) c.in_err-script.ensures))
 
 pub returns : goal.returns
 returns c = λ uses has.

@@ -8,20 +8,24 @@ use Rattle.command_words.proofs.reduce.mode_of.Goals as goal
 
 pub returns-then-eq : goal.returns-then-eq
 returns-then-eq c = λ uses has.
-    let text = first_or reduce_table uses c.args.matches.now (codes "mode") has (named_by reduce_table (codes "mode") refl) _ _ _ c.get_str.ensures c.unwrap_or-mode.ensures in
+    let text =
+    first_or reduce_table uses c.args.matches.now (codes "mode") has
+    (named_by reduce_table (codes "mode") refl) _ _ _ c.get_str.ensures c.unwrap_or-mode.ensures in
     c.lines_of.ensures uses has
     ∙ lines_mode uses (mode_once uses c.args.matches.now has) (subst (λ (t : List ℕ). bytes_eq t (codes "lines") ≡ true) text (sym c.if-eq.ensures))
 
 pub returns-in_err-mode : goal.returns-in_err-mode
 returns-in_err-mode c = λ uses has.
-    let text = first_or reduce_table uses c.args.matches.now (codes "mode") has (named_by reduce_table (codes "mode") refl) _ _ _ c.get_str.ensures c.unwrap_or-mode.ensures in
+    let text = first_or reduce_table uses c.args.matches.now (codes "mode") has
+    (named_by reduce_table (codes "mode") refl) _ _ _ c.get_str.ensures c.unwrap_or-mode.ensures in
     rw c.from_residual.ensures
     (no_mode uses (mode_once uses c.args.matches.now has) (subst (λ (t : List ℕ). bytes_eq t (codes "lines") ≡ false) text (sym c.if-eq.ensures))
     (subst (λ (t : List ℕ). takes_value (Values.one_of tree_modes) t ≡ false) text c.in_err-mode.ensures))
 
 pub returns-in_ok-mode : goal.returns-in_ok-mode
 returns-in_ok-mode c = λ uses has.
-    let text = first_or reduce_table uses c.args.matches.now (codes "mode") has (named_by reduce_table (codes "mode") refl) _ _ _ c.get_str.ensures c.unwrap_or-mode.ensures in
+    let text = first_or reduce_table uses c.args.matches.now
+    (codes "mode") has (named_by reduce_table (codes "mode") refl) _ _ _ c.get_str.ensures c.unwrap_or-mode.ensures in
     let mode = c.in_ok-mode.mode in
     c.trees_of.ensures uses has
     ∙ tree_mode uses mode (mode_once uses c.args.matches.now has) (subst (λ (t : List ℕ). bytes_eq t (codes "lines") ≡ false) text (sym c.if-eq.ensures))

@@ -8,7 +8,9 @@ use Rattle.command_words.proofs.reduce.read_reduce.Goals as goal
 
 pub returns-in_default-clause-line : goal.returns-in_default-clause-line
 returns-in_default-clause-line c =
-    sym (ap (option_and_then reduce_of) (none_in reduce_table (map string_bytes c.args.words.now) refl (rw c.in_default.is at (c.in_ok-matches.ensures reduce_table refl reduce_is_table))))
+    sym
+    (ap (option_and_then reduce_of) (none_in reduce_table (map string_bytes c.args.words.now) refl
+    (rw c.in_default.is at (c.in_ok-matches.ensures reduce_table refl reduce_is_table))))
 
 pub returns-clause-line : goal.returns-clause-line
 returns-clause-line c =

@@ -4,15 +4,18 @@ use Rattle.command_words.proofs.Assembled.{normal_asked, nothing_asked, reduce_a
 use Rattle.command_words.proofs.words.read_command.Goals as goal
 
 pub returns-in-None-clause-line : goal.returns-in-None-clause-line
-returns-in-None-clause-line c = reduce_asked c.args.name.now (map string_bytes c.args.words.now) None (sym c.if-eq.ensures) (rw c.in-None.is at c.in_ok-read_reduce.ensures.line)
+returns-in-None-clause-line c =
+    reduce_asked c.args.name.now (map string_bytes c.args.words.now) None (sym c.if-eq.ensures) (rw c.in-None.is at c.in_ok-read_reduce.ensures.line)
 
 pub returns-in-Some-clause-line : goal.returns-in-Some-clause-line
 returns-in-Some-clause-line c =
-    reduce_asked c.args.name.now (map string_bytes c.args.words.now) (Some (reduce_read c.in-Some.line)) (sym c.if-eq.ensures) (rw c.in-Some.is at c.in_ok-read_reduce.ensures.line)
+    reduce_asked c.args.name.now (map string_bytes c.args.words.now) (Some (reduce_read c.in-Some.line)) (sym c.if-eq.ensures)
+    (rw c.in-Some.is at c.in_ok-read_reduce.ensures.line)
 
 pub returns-in-None-2-clause-line : goal.returns-in-None-2-clause-line
 returns-in-None-2-clause-line c =
-    normal_asked c.args.name.now (map string_bytes c.args.words.now) None (sym c.if-eq.ensures) (sym c.if-eq-2.ensures) (rw c.in-None-2.is at c.in_ok-read_normal.ensures)
+    normal_asked c.args.name.now (map string_bytes c.args.words.now) None (sym c.if-eq.ensures) (sym c.if-eq-2.ensures)
+    (rw c.in-None-2.is at c.in_ok-read_normal.ensures)
 
 pub returns-in-Some-2-clause-line : goal.returns-in-Some-2-clause-line
 returns-in-Some-2-clause-line c =
@@ -21,12 +24,15 @@ returns-in-Some-2-clause-line c =
 
 pub returns-in-None-3-clause-line : goal.returns-in-None-3-clause-line
 returns-in-None-3-clause-line c =
-    selftest_asked c.args.name.now (map string_bytes c.args.words.now) None (sym c.if-eq.ensures) (sym c.if-eq-2.ensures) (sym c.if-eq-3.ensures) (rw c.in-None-3.is at c.in_ok-read_selftest.ensures.line)
+    selftest_asked c.args.name.now (map string_bytes c.args.words.now) None (sym c.if-eq.ensures) (sym c.if-eq-2.ensures) (sym c.if-eq-3.ensures)
+    (rw c.in-None-3.is at c.in_ok-read_selftest.ensures.line)
 
 pub returns-in-Some-3-clause-line : goal.returns-in-Some-3-clause-line
 returns-in-Some-3-clause-line c =
-    selftest_asked c.args.name.now (map string_bytes c.args.words.now) (Some (selftest_read c.in-Some-3.line)) (sym c.if-eq.ensures) (sym c.if-eq-2.ensures) (sym c.if-eq-3.ensures)
+    selftest_asked c.args.name.now (map string_bytes c.args.words.now) (Some (selftest_read c.in-Some-3.line)) (sym c.if-eq.ensures) (sym c.if-eq-2.ensures)
+    (sym c.if-eq-3.ensures)
     (rw c.in-Some-3.is at c.in_ok-read_selftest.ensures.line)
 
 pub returns-else-eq-3-clause-line : goal.returns-else-eq-3-clause-line
-returns-else-eq-3-clause-line c = nothing_asked c.args.name.now (map string_bytes c.args.words.now) (sym c.if-eq.ensures) (sym c.if-eq-2.ensures) (sym c.if-eq-3.ensures)
+returns-else-eq-3-clause-line c =
+    nothing_asked c.args.name.now (map string_bytes c.args.words.now) (sym c.if-eq.ensures) (sym c.if-eq-2.ensures) (sym c.if-eq-3.ensures)

@@ -10,4 +10,5 @@ returns-in_default-clause-line c = too_few c.args.words.now c.in_default.len_bel
 pub returns-clause-line : goal.returns-clause-line
 returns-clause-line c =
     subst (λ (o : Option Command). IfOk c.read_command.result (λ line. option_map command_read line ≡ o))
-    (after_program c.args.words.now c.command-item.result c.as_str.result.now c.in-len2-up.len_at_least c.command-item.is c.as_str.ensures.value) c.read_command.ensures.line
+    (after_program c.args.words.now c.command-item.result c.as_str.result.now c.in-len2-up.len_at_least c.command-item.is c.as_str.ensures.value)
+    c.read_command.ensures.line

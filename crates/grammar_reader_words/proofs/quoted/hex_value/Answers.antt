@@ -23,7 +23,8 @@ loop-read-preserved c =
       count = omega arith;
       same =
           ap (λ d. hex_after (c.loop-read.value * 16 + d) (take (c.args.n - (c.loop-read.read + 1)) (chars c.in-Some.after.now))) c.hex_digit.ensures.same
-          ∙ further (c.args.n - c.loop-read.read) (c.args.n - (c.loop-read.read + 1)) c.loop-read.value c.in-Some.c (chars c.loop-read.rest.now) (chars c.in-Some.after.now) found.same more
+          ∙ further (c.args.n - c.loop-read.read) (c.args.n - (c.loop-read.read + 1)) c.loop-read.value c.in-Some.c (chars c.loop-read.rest.now)
+          (chars c.in-Some.after.now) found.same more
           ∙ c.loop-read.invariant.same;
       small = grown c.loop-read.read c.loop-read.value c.hex_digit.result c.loop-read.invariant.small c.hex_digit.ensures.small;
     }

@@ -10,7 +10,8 @@ loop-remaining-preserved c =
     record {
       text = search rules;
       same =
-          front_more (string_bytes c.loop-remaining.name) (string_bytes c.push.new.self) c.in-Some.c c.loop-remaining.remaining (c.loop-remaining.remaining - 1) (chars c.loop-remaining.rest.now) (chars c.in-Some.after.now)
+          front_more (string_bytes c.loop-remaining.name) (string_bytes c.push.new.self) c.in-Some.c c.loop-remaining.remaining (c.loop-remaining.remaining - 1)
+          (chars c.loop-remaining.rest.now) (chars c.in-Some.after.now)
           (omega arith) c.in-Some.ensures.same pushed.bytes
           ∙ c.loop-remaining.invariant.same;
     }

@@ -14,5 +14,7 @@ returns c =
     let cs : List ℕ = chars c.args.text.now in
     let n : ℕ = c.name_len-n.result in
     let name : c.in_ok-name-2.name ≡ take n cs =
-    c.in_ok-name-2.ensures ∙ ap chars c.as_str.ensures.value ∙ front_chars (string_bytes c.in_ok-name.name) c.args.text.now n c.utf8.text c.in_ok-name.ensures in
-    both _ _ _ _ (c.named.ensures ∙ ap (name_word c.args.c) (name ∙ ap (λ k. take k cs) c.name_len-n.ensures)) (c.skip.ensures.same ∙ ap (λ k. drop k cs) c.name_len-n.ensures)
+    c.in_ok-name-2.ensures ∙ ap chars c.as_str.ensures.value
+    ∙ front_chars (string_bytes c.in_ok-name.name) c.args.text.now n c.utf8.text c.in_ok-name.ensures in
+    both _ _ _ _ (c.named.ensures ∙ ap (name_word c.args.c) (name ∙ ap (λ k. take k cs) c.name_len-n.ensures))
+    (c.skip.ensures.same ∙ ap (λ k. drop k cs) c.name_len-n.ensures)

@@ -10,4 +10,5 @@ word_from-requires c = uncons_some c.in-Some.c (chars c.in-Some.rest.now) (chars
 
 pub returns-in-Some : goal.returns-in-Some
 returns-in-Some c =
-    subst (λ cs. IfOk c.word_from.result (λ p. seen_word p ≡ word cs)) (sym (uncons_some c.in-Some.c (chars c.in-Some.rest.now) (chars c.args.text.now) c.in-Some.ensures.same)) c.word_from.ensures
+    subst (λ cs. IfOk c.word_from.result (λ p. seen_word p ≡ word cs))
+    (sym (uncons_some c.in-Some.c (chars c.in-Some.rest.now) (chars c.args.text.now) c.in-Some.ensures.same)) c.word_from.ensures

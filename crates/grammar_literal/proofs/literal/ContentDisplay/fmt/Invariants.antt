@@ -1,0 +1,7 @@
+use Rattle.std.specs.Prelude.{encode_utf8_all}
+use Rattle.std.specs.Fmt.{HasWritten, IsPlainFormatter}
+use Rattle.grammar_literal.specs.Literal.{content}
+use Rattle.grammar_literal.proofs.literal.ContentDisplay.fmt.Given as goal
+
+abbrev pub invariant-loop-c : goal.invariant-loop-c
+invariant-loop-c g l = IsPlainFormatter l.initial.f → HasWritten g.W.Write.write_str_gives l.initial.f (encode_utf8_all (content l.yielded)) l.f

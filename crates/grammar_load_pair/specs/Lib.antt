@@ -1,0 +1,4 @@
+pub use Rattle.grammar_pair.specs.Joined
+pub use Rattle.grammar_check.specs.CheckFaults
+pub mod Answer
+pub mod Message

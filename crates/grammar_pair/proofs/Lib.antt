@@ -1,0 +1,10 @@
+mod Bodies
+mod EntryWords
+mod Fits
+mod JoinedKinds
+mod Loops
+mod Making
+mod Pairs
+mod Rules
+mod Unnamed
+pub mod Lent

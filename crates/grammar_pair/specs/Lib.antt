@@ -1,0 +1,9 @@
+pub use Rattle.grammar_reader_notation.specs.Reads
+pub use Rattle.grammar_reader_words.specs.Spans
+pub use Rattle.grammar_tree.specs.Written
+pub use Rattle.grammar_tree.specs.Lexes
+pub use Rattle.grammar_tree.specs.Derives
+pub mod Bodies
+pub mod Joined
+pub mod Message
+pub mod inner
