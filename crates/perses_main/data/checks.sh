@@ -121,6 +121,12 @@ cmp put form
 cmp grammar statements
 ends 3 'perses: cannot read grammar' normal --grammar missing
 
+# A grammar may be in two files, that of its lexer and that of its parser.
+printf "lexer grammar L;\nA : 'a' ;\n" > lexer
+printf "parser grammar P;\ns : A 'a' ;\n" > parser
+ends 0 's : A A ;' normal --grammar parser --lexer lexer
+ends 3 'perses: cannot read lexer grammar' normal --grammar parser --lexer missing
+
 # A word that is no text is no command line.
 ends 2 'perses: bad command line' normal --grammar "$(printf '\377')"
 # The program's own path isn't looked at, and need not be text.
@@ -163,6 +169,54 @@ ends 9 'perses: keep text 2 is missing' reduce --mode lines --input mixed --outp
 test "$(cat kept)" = old
 test ! -e perses-work
 test ! -e kept.journal
+
+# The longest input is read, asked, recorded and written whole; of one byte more, and of a device without
+# an end, nothing is asked.
+head -c 262144 /dev/zero | tr '\000' x > long
+make_script only-long 'cmp -s "$1" long'
+whole=$(report '1 -> 1' '262144 -> 262144' 1 2 2)
+reduces_long() {
+    "$program" reduce --mode lines --script only-long --input "$@" > put
+    printf '%s\n' "$whole" | cmp - put
+}
+reduces_long long --output long.o
+cmp long.o long
+{
+    printf 'perses-journal 1\nR y 262144\n'
+    cat long
+    printf '\nC 1\nR n 0\n\nC 2\n'
+} > long.journal
+cmp long.o.journal long.journal
+# Of two lines of more than 64 KiB the first is wanted whole.
+{
+    head -c 65537 long
+    echo
+} > half
+cat half half > halves
+make_script has-half 'head -n 1 "$1" | cmp -s - half'
+ends 0 "$(report '2 -> 1' '131076 -> 65538' 2 4 3)" reduce --mode lines --input halves --output o --script has-half
+cmp o half
+# Pipes as the input, the result and the journal.
+cat long | reduces_long /dev/stdin --output long.o --journal log
+cmp long.o long
+cmp log long.journal
+"$program" reduce --mode lines --script only-long --input long --output /dev/stdout --journal log | {
+    head -c 262144 | cmp - long
+    cat > put
+}
+printf '%s\n' "$whole" | cmp - put
+mkfifo pipe
+cat pipe > log &
+reduces_long long --output long.o --journal pipe
+wait
+cmp log long.journal
+rm -r perses-work
+printf x >> long
+ends 10 'perses: input is too long' reduce --mode lines --input long --output o --script always
+ends 10 'perses: input is too long' reduce --mode lines --input /dev/zero --output o --script always
+ends 10 'perses: grammar is too long' normal --grammar /dev/zero
+ends 10 'perses: lexer grammar is too long' normal --grammar parser --lexer /dev/zero
+test ! -e perses-work
 
 # Options in another order and form: the folder of the candidates is made with the one that it is in,
 # and the journal has the name that is given.
@@ -214,6 +268,8 @@ says 'perses: normal has no option '\''--gramar'\' normal --gramar g
 says 'perses: missing: No such file or directory (os error 2)' normal --grammar missing
 printf "grammar G;\na : b ;\n" > faulty
 says 'perses: faulty:2:5: no rule b' normal --grammar faulty
+printf "lexer grammar L;\nA : 'a' {x} ;\n" > lexer
+says 'perses: lexer:2:9: in lexer: unsupported action at byte 25' normal --grammar parser --lexer lexer
 trees='reduce --grammar grammar --output o --script always --input'
 printf 'a=1;\nb = $;\n' > uncut
 says 'perses: uncut:2:5: no token at byte 9' $trees uncut
@@ -227,5 +283,11 @@ says 'perses: ./no-run-bit: Permission denied (os error 13)' $byline no-run-bit 
 says 'perses: warning: the script no-run-bit isn'\''t executable: chmod +x no-run-bit' $byline no-run-bit --output o
 # Where standard error is closed, nothing is said in another file.
 "$program" $byline has-a --output o > put 2>&-
+test "$(cat o)" = a
+journal_is o 'R y 4\na\nb\n\nC 1\nR n 0\n\nC 2\nR y 2\na\n\nC 3\nC 2\n'
+# Where standard output is closed, no other file gets the report: that is a put that fails.
+status=0
+"$program" $byline has-a --output o >&- 2> said || status=$?
+test $status = 4
 test "$(cat o)" = a
 journal_is o 'R y 4\na\nb\n\nC 1\nR n 0\n\nC 2\nR y 2\na\n\nC 3\nC 2\n'

@@ -19,11 +19,12 @@ use args::words_of;
 use command_perses::{add_worker, no_workers, perses};
 use edge_io::DiskFiles;
 use notices::{Notices, ScriptGate};
-use std::io;
 use std::process::ExitCode;
+use std::rt::Files;
 use std::sync::Wait;
 use std::thread::Threads;
 use std::time::Clock;
+use std::{fs, io};
 use worker_pool::Worker;
 
 /// The most workers.
@@ -41,12 +42,25 @@ fn all_workers(rt: &HostRuntime, notices: &Notices) -> io::Result<Vec<Worker<Scr
     Ok(workers)
 }
 
+/// Where standard output is closed, two files that can't be written: while they are held, one of them or
+/// standard input has its number. Else the journal would have it, and get the report too.
+fn in_place_of_output<R: Files>(rt: &R) -> Option<(R::File, R::File)> {
+    if fs::metadata(rt, "/dev/fd/1").is_ok() {
+        return None;
+    }
+    Some((
+        fs::open(rt, "/dev/null").ok()?,
+        fs::open(rt, "/dev/null").ok()?,
+    ))
+}
+
 /// Runs the program over the machine's threads, files, processes and standard output.
 fn run_program<W: Threads + Wait + Clock + Copy + Send + Sync + 'static>(
     threads: &W,
     rt: &HostRuntime,
 ) -> io::Result<u8> {
     let notices = Notices::new(rt)?;
+    let in_place = in_place_of_output(rt);
     let words = words_of(rt)?;
     let mut files = DiskFiles::new(rt.clone()?, rt.alloc());
     let mut workers = all_workers(rt, &notices)?;
@@ -66,6 +80,7 @@ fn run_program<W: Threads + Wait + Clock + Copy + Send + Sync + 'static>(
     if let Some(drawing) = drawing {
         drawing.join(threads);
     }
+    drop(in_place);
     Ok(ended.status)
 }
 

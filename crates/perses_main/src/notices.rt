@@ -1,7 +1,7 @@
 //! What the program says on standard error. Nothing of it changes a result or a status.
 
 use command_perses::Ended;
-use command_words::{CommandLine, ModeLine, ReduceLine, journal_name, read_words};
+use command_words::{CommandLine, ModeLine, NamedGrammar, ReduceLine, journal_name, read_words};
 use edge_io::{DiskFiles, StreamSink};
 use notice_counts::{
     CountedGate, CountedJournal, Counts, Plan, RunKind, Screen, ScreenOutput, Style, draw_until_end,
@@ -164,7 +164,11 @@ impl Notices {
         out: &Output,
     ) {
         let journal = journal_of(rt, line);
-        let (grammar, input) = names_in(line);
+        let Names {
+            grammar,
+            lexer,
+            input,
+        } = names_in(line);
         let ending = Ending {
             line,
             status: ended.status,
@@ -177,6 +181,7 @@ impl Notices {
                 out: out.inner().reason(),
             },
             grammar: files.first_read(grammar),
+            lexer: files.first_read(lexer),
             input: files.first_read(input),
             ask: last_ask(workers),
             width: self.width,
@@ -219,15 +224,40 @@ fn journal_of(rt: &HostRuntime, line: &CommandLine<'_>) -> String {
     }
 }
 
-/// The paths of grammar and input; empty where there is none.
-fn names_in<'a>(line: &CommandLine<'a>) -> (&'a str, &'a str) {
+/// The paths of the files that are read; empty where there is none.
+struct Names<'a> {
+    grammar: &'a str,
+    lexer: &'a str,
+    input: &'a str,
+}
+
+/// This input, without a grammar.
+fn input_alone<'a>(input: &'a str) -> Names<'a> {
+    Names {
+        grammar: "",
+        lexer: "",
+        input,
+    }
+}
+
+/// The files of this grammar, and this input.
+fn names_of<'a>(grammar: NamedGrammar<'a>, input: &'a str) -> Names<'a> {
+    Names {
+        grammar: grammar.path,
+        lexer: grammar.lexer.unwrap_or(""),
+        input,
+    }
+}
+
+/// The paths of the files that the command reads.
+fn names_in<'a>(line: &CommandLine<'a>) -> Names<'a> {
     match line {
-        CommandLine::Normal(grammar) => (grammar.path, ""),
+        CommandLine::Normal(grammar) => names_of(*grammar, ""),
         CommandLine::Reduce(line) => match line.mode {
-            ModeLine::ByGrammar(by) => (by.grammar.path, line.input),
-            ModeLine::Lines => ("", line.input),
+            ModeLine::ByGrammar(by) => names_of(by.grammar, line.input),
+            ModeLine::Lines => input_alone(line.input),
         },
-        CommandLine::Selftest(_) => ("", ""),
+        CommandLine::Selftest(_) => input_alone(""),
     }
 }
 
