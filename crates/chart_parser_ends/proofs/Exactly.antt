@@ -27,8 +27,10 @@ pub exactly_same : (P Q : ℕ → Type 0) (xs : List ℕ) → ((x : ℕ) → P x
 exactly_same P Q xs f g h = record { rising = h.rising; only = λ x c. f x (h.only x c); all = λ x q. h.all x (g x q) }
 
 -- What is in the old list or is added, and nothing else.
-pub exactly_grown : (P Q R : ℕ → Type 0) (old new : List ℕ) → HasExactly P old → IsStrictlyIncreasing new → IsGrown Q old new → HasAll Q new → ((x : ℕ) → P x → R x) → ((x : ℕ) → Q x → R x) → ((x : ℕ) → R x → P x ⊎ Q x) → HasExactly R new
-exactly_grown P Q R old new h rising grown all first second either = record { rising = rising; only = λ x c. only x (grown.only x c); all = λ x r. each x (either x r) }
+pub exactly_grown : (P Q R : ℕ → Type 0) (old new : List ℕ) → HasExactly P old → IsStrictlyIncreasing new → IsGrown Q old new → HasAll Q new
+    → ((x : ℕ) → P x → R x) → ((x : ℕ) → Q x → R x) → ((x : ℕ) → R x → P x ⊎ Q x) → HasExactly R new
+exactly_grown P Q R old new h rising grown all first second either =
+    record { rising = rising; only = λ x c. only x (grown.only x c); all = λ x r. each x (either x r) }
   where
     only : (x : ℕ) → Contains old x ⊎ Q x → R x
     only x (inl c) = first x (h.only x c)
@@ -43,7 +45,9 @@ pub taken_before : (xs : List ℕ) (i x : ℕ) → i < length xs → Contains (t
 taken_before xs i x l h = subst (λ l. Contains l x) (sym (take_more xs i 0 l)) (Contains-append_left (take i xs) (get_or xs i 0 ∷ []) x h)
 
 pub taken_last : (xs : List ℕ) (i : ℕ) → i < length xs → Contains (take (i + 1) xs) (get_or xs i 0)
-taken_last xs i l = subst (λ l. Contains l (get_or xs i 0)) (sym (take_more xs i 0 l)) (Contains-append_right (take i xs) (get_or xs i 0 ∷ []) (get_or xs i 0) (0, omega arith, refl))
+taken_last xs i l =
+    subst (λ l. Contains l (get_or xs i 0)) (sym (take_more xs i 0 l))
+    (Contains-append_right (take i xs) (get_or xs i 0 ∷ []) (get_or xs i 0) (0, omega arith, refl))
 
 -- What has grown by an exact list has grown by what that list has.
 pub grown_exactly : {P : ℕ → Type 0} (old new more : List ℕ) → HasExactly P more → IsGrown (Contains more) old new → IsGrown P old new

@@ -1,15 +1,18 @@
 -- What a symbol can begin with, where the rows are closed.
-use Rattle.std.proofs.Common.{◌≡◌, ℕ, zero, suc, ◌+◌, ◌<◌, ◌≤◌, ◌⊎◌, inl, inr, true, List, [], ◌∷◌, ◌++◌, length, Some, slice_get, get_or, refl, sym, ap, ◌∙◌, subst, arith}
+use Rattle.std.proofs.Common.{◌≡◌, ℕ, zero, suc, ◌+◌, ◌<◌, ◌≤◌, ◌⊎◌, inl, inr, true, List, [], ◌∷◌, ◌++◌, length}
+use Rattle.std.proofs.Common.{Some, slice_get, get_or, refl, sym, ap, ◌∙◌, subst, arith}
 use Rattle.std.proofs.lemmas.List.Edits.{between_none}
 use Rattle.std.specs.List.{Contains, between}
 use Rattle.normal_form.specs.declared.normal.Sym.{Sym}
 use Rattle.normal_form.specs.declared.normal.Sym.TheVariants.{Kind, Set, Rule}
 use Rattle.normal_form.specs.Form.{RuleForm, NormalForm}
-use Rattle.normal_form.specs.NormalDerives.{NormalDerives, NormalDerivesSeq, NormalDerivesMany, of_kind, of_set, of_regular, of_absent, of_present, of_star, of_plus, of_done, of_next, of_end, of_more}
+use Rattle.normal_form.specs.NormalDerives.{NormalDerives, NormalDerivesSeq, NormalDerivesMany, of_kind, of_set, of_regular, of_absent}
+use Rattle.normal_form.specs.NormalDerives.{of_present, of_star, of_plus, of_done, of_next, of_end, of_more}
 use Rattle.normal_form_spans.specs.Spans.{DerivesSpan, DerivesSpanMany}
 use Rattle.normal_form_spans.proofs.Lent.{between_append, between_one}
 use Rattle.chart_parser_ends.specs.declared.firsts.FirstRow.{FirstRow}
-use Rattle.chart_parser_ends.specs.inner.Firsts.{AreClosed, AreFirsts, CanBeLeftOut, CoversAlternative, HasKind, HasWhatBegins, MayBeEmpty, MayBeEmptyBefore, MayBegin}
+use Rattle.chart_parser_ends.specs.inner.Firsts.{AreClosed, AreFirsts, CanBeLeftOut, CoversAlternative, HasKind}
+use Rattle.chart_parser_ends.specs.inner.Firsts.{HasWhatBegins, MayBeEmpty, MayBeEmptyBefore, MayBegin}
 use Rattle.chart_parser_ends.specs.Positions.{HasExactly}
 use Rattle.chart_parser_ends.proofs.Exactly.{exactly_none, exactly_one}
 use Rattle.chart_parser_ends.proofs.Rising.{order}
@@ -37,7 +40,11 @@ module _ (N : NormalForm) (rows : List FirstRow) (closed : AreClosed N rows) whe
   IsInRow row w = (w ≡ [] → row.empty ≡ true) × ((k : ℕ) (u : List ℕ) → w ≡ k ∷ u → HasKind row k)
 
   tail_covers : (s : Sym) (ss : List Sym) (row : FirstRow) → MayBeEmpty rows s → CoversAlternative N rows (s ∷ ss) row → CoversAlternative N rows ss row
-  tail_covers s ss row e c = record { empty = λ all. c.empty (λ i t l at. before (length ss) all i t l at); begins = λ i t at all. c.begins (suc i) t at (λ j u m here. before i all j u m here) }
+  tail_covers s ss row e c =
+      record {
+        empty = λ all. c.empty (λ i t l at. before (length ss) all i t l at);
+        begins = λ i t at all. c.begins (suc i) t at (λ j u m here. before i all j u m here);
+      }
     where
       same : (t : Sym) → Some s ≡ Some t → s ≡ t
       same t x = cc
@@ -47,11 +54,16 @@ module _ (N : NormalForm) (rows : List FirstRow) (closed : AreClosed N rows) whe
       before n all (suc i) t l at = all i t (omega (arith, l)) at
 
   -- what one symbol and then others begin with
-  next_in : (s : Sym) (ss : List Sym) (row : FirstRow) (u v : List ℕ) → CoversAlternative N rows (s ∷ ss) row → IsIn s u → (CoversAlternative N rows ss row → IsInRow row v) → IsInRow row (u ++ v)
+  next_in : (s : Sym) (ss : List Sym) (row : FirstRow) (u v : List ℕ) → CoversAlternative N rows (s ∷ ss) row → IsIn s u
+      → (CoversAlternative N rows ss row → IsInRow row v) → IsInRow row (u ++ v)
   next_in s ss row [] v c one rest = rest (tail_covers s ss row (one.0 refl) c)
-  next_in s ss row (j ∷ u) v c one rest = (λ e. absurd (one_is_not_none j (u ++ v) e), λ k t e. c.begins 0 s refl (λ i t l at. absurd (omega (arith, l))) k (subst (MayBegin N rows s) (head_of j k (u ++ v) t e) (one.1 j u refl)))
+  next_in s ss row (j ∷ u) v c one rest = (
+    λ e. absurd (one_is_not_none j (u ++ v) e),
+    λ k t e. c.begins 0 s refl (λ i t l at. absurd (omega (arith, l))) k (subst (MayBegin N rows s) (head_of j k (u ++ v) t e) (one.1 j u refl)),
+  )
 
-  more_in : (s : Sym) (row : FirstRow) (u v : List ℕ) → HasWhatBegins N rows s row → IsIn s u → ((k : ℕ) (t : List ℕ) → v ≡ k ∷ t → HasKind row k) → (k : ℕ) (t : List ℕ) → u ++ v ≡ k ∷ t → HasKind row k
+  more_in : (s : Sym) (row : FirstRow) (u v : List ℕ) → HasWhatBegins N rows s row → IsIn s u → ((k : ℕ) (t : List ℕ) → v ≡ k ∷ t → HasKind row k)
+      → (k : ℕ) (t : List ℕ) → u ++ v ≡ k ∷ t → HasKind row k
   more_in s row [] v has one rest k t e = rest k t e
   more_in s row (j ∷ u) v has one rest k t e = has k (subst (MayBegin N rows s) (head_of j k (u ++ v) t e) (one.1 j u refl))
 
@@ -59,12 +71,20 @@ module _ (N : NormalForm) (rows : List FirstRow) (closed : AreClosed N rows) whe
     one_in : (s : Sym) (w : List ℕ) → NormalDerives N s w → IsIn s w
     one_in (Kind own) w (of_kind k) = (λ e. absurd (one_is_not_none own [] e), λ k u e. head_of own k [] u e)
     one_in (Set i) w (of_set j k ks at c) = (λ e. absurd (one_is_not_none k [] e), λ k' u e. (ks, at, subst (Contains ks) (head_of k k' [] u e) c))
-    one_in (Rule r) w (of_regular q alts alt v at c ds) = (λ e row h. (seq_in alt row w (closed r (RuleForm.regular alts) at row h alt c) ds).0 e, λ k u e row h. (seq_in alt row w (closed r (RuleForm.regular alts) at row h alt c) ds).1 k u e)
+    one_in (Rule r) w (of_regular q alts alt v at c ds) = (
+      λ e row h. (seq_in alt row w (closed r (RuleForm.regular alts) at row h alt c) ds).0 e,
+      λ k u e row h. (seq_in alt row w (closed r (RuleForm.regular alts) at row h alt c) ds).1 k u e,
+    )
     one_in (Rule r) w (of_absent q s at) = (λ e row h. (closed r (RuleForm.opt s) at row h).0, λ k u e. absurd (none_begins k u e))
-    one_in (Rule r) w (of_present q s v at d) = (λ e row h. (closed r (RuleForm.opt s) at row h).0, λ k u e row h. (closed r (RuleForm.opt s) at row h).1 k ((one_in s w d).1 k u e))
-    one_in (Rule r) w (of_star q s v at ds) = (λ e row h. (closed r (RuleForm.star s) at row h).0, λ k u e row h. many_in s row w (closed r (RuleForm.star s) at row h).1 ds k u e)
-    one_in (Rule r) w (of_plus q s u v at d ds) =
-        (λ e row h. (closed r (RuleForm.plus s) at row h).0 ((one_in s u d).0 (first_none u v e)), λ k t e row h. more_in s row u v (closed r (RuleForm.plus s) at row h).1 (one_in s u d) (many_in s row v (closed r (RuleForm.plus s) at row h).1 ds) k t e)
+    one_in (Rule r) w (of_present q s v at d) =
+        (λ e row h. (closed r (RuleForm.opt s) at row h).0, λ k u e row h. (closed r (RuleForm.opt s) at row h).1 k ((one_in s w d).1 k u e))
+    one_in (Rule r) w (of_star q s v at ds) =
+        (λ e row h. (closed r (RuleForm.star s) at row h).0, λ k u e row h. many_in s row w (closed r (RuleForm.star s) at row h).1 ds k u e)
+    one_in (Rule r) w (of_plus q s u v at d ds) = (
+      λ e row h. (closed r (RuleForm.plus s) at row h).0 ((one_in s u d).0 (first_none u v e)),
+      λ k t e row h. more_in s row u v (closed r (RuleForm.plus s) at row h).1 (one_in s u d)
+          (many_in s row v (closed r (RuleForm.plus s) at row h).1 ds) k t e,
+    )
 
     seq_in : (ss : List Sym) (row : FirstRow) (w : List ℕ) → CoversAlternative N rows ss row → NormalDerivesSeq N ss w → IsInRow row w
     seq_in [] row w c of_done = (λ e. c.empty (λ i s l at. absurd (omega (arith, l))), λ k u e. absurd (none_begins k u e))
@@ -77,7 +97,8 @@ module _ (N : NormalForm) (rows : List FirstRow) (closed : AreClosed N rows) whe
   pub closed_firsts : AreFirsts N rows
   closed_firsts = record { empty = λ s d. (one_in s [] d).0 refl; begins = λ s k w d. (one_in s (k ∷ w) d).1 k w refl }
 
-module _ (N : NormalForm) (K : List ℕ) (rows : List FirstRow) (firsts : AreFirsts N rows) (r first : ℕ) (no-kind : first < length K → MayBegin N rows (Rule r) (get_or K first 0) → ⊥) where
+module _ (N : NormalForm) (K : List ℕ) (rows : List FirstRow) (firsts : AreFirsts N rows) (r first : ℕ)
+    (no-kind : first < length K → MayBegin N rows (Rule r) (get_or K first 0) → ⊥) where
   -- It can end only where it begins.
   ends_here : (j : ℕ) → DerivesSpan N K (Rule r) first j → j ≡ first
   ends_here j d = by (order first j)
@@ -85,7 +106,8 @@ module _ (N : NormalForm) (K : List ℕ) (rows : List FirstRow) (firsts : AreFir
       longer : first < j → NormalDerives N (Rule r) (get_or K first 0 ∷ between (first + 1) j K)
       longer l =
           let l' : first < length K = omega (arith, l, d.within) in
-          subst (NormalDerives N (Rule r)) (sym (between_append K first (first + 1) j (omega arith) (omega (arith, l))) ∙ ap (λ xs. xs ++ between (first + 1) j K) (between_one K first l')) d.derived
+          subst (NormalDerives N (Rule r)) (sym (between_append K first (first + 1) j (omega arith) (omega (arith, l)))
+          ∙ ap (λ xs. xs ++ between (first + 1) j K) (between_one K first l')) d.derived
 
       by : (first < j) ⊎ (j ≤ first) → j ≡ first
       by (inl l) = absurd (no-kind (omega (arith, l, d.within)) (firsts.begins (Rule r) (get_or K first 0) (between (first + 1) j K) (longer l)))
@@ -95,7 +117,10 @@ module _ (N : NormalForm) (K : List ℕ) (rows : List FirstRow) (firsts : AreFir
   none_exact cannot = exactly_none (DerivesSpan N K (Rule r) first) none
     where
       none : (j : ℕ) → DerivesSpan N K (Rule r) first j → ⊥
-      none j d = cannot (firsts.empty (Rule r) (subst (NormalDerives N (Rule r)) (between_none K first) (subst (λ i. NormalDerives N (Rule r) (between first i K)) (ends_here j d) d.derived)))
+      none j d =
+          cannot
+          (firsts.empty (Rule r) (subst (NormalDerives N (Rule r)) (between_none K first)
+          (subst (λ i. NormalDerives N (Rule r) (between first i K)) (ends_here j d) d.derived)))
 
   pub here_exact : DerivesSpan N K (Rule r) first first → HasExactly (DerivesSpan N K (Rule r) first) (first ∷ [])
   here_exact d = exactly_one (DerivesSpan N K (Rule r) first) first d ends_here

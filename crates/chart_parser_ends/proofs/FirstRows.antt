@@ -1,5 +1,6 @@
 -- How a row grows while it is made.
-use Rattle.std.proofs.Common.{◌≡◌, ℕ, zero, suc, ◌+◌, ◌<◌, ◌≤◌, ◌⊎◌, inl, inr, true, List, [], ◌∷◌, length, Some, slice_get, get_or, refl, sym, ap, ◌∙◌, subst, arith}
+use Rattle.std.proofs.Common.{◌≡◌, ℕ, zero, suc, ◌+◌, ◌<◌, ◌≤◌, ◌⊎◌, inl, inr, true, List, [], ◌∷◌, length}
+use Rattle.std.proofs.Common.{Some, slice_get, get_or, refl, sym, ap, ◌∙◌, subst, arith}
 use Rattle.std.specs.Global.{Vec}
 use Rattle.std.specs.List.{Contains}
 use Rattle.normal_form.specs.declared.normal.Sym.{Sym}
@@ -10,7 +11,8 @@ use Rattle.chart_parser_ends.specs.declared.firsts.FirstRow.{FirstRow}
 use Rattle.chart_parser_ends.specs.inner.Firsts.{Covers, CoversAlternative, HasKind, HasWhatBegins, IsCovered, Keeps, MayBeEmpty, MayBeEmptyBefore}
 use Rattle.chart_parser_ends.proofs.Rising.{order}
 
-pub covers_more : (N : NormalForm) (rows : List FirstRow) (alt : List Sym) (a b : FirstRow) → Keeps a b → CoversAlternative N rows alt a → CoversAlternative N rows alt b
+pub covers_more : (N : NormalForm) (rows : List FirstRow) (alt : List Sym) (a b : FirstRow) → Keeps a b → CoversAlternative N rows alt a
+    → CoversAlternative N rows alt b
 covers_more N rows alt a b x c = record { empty = λ h. x.empty (c.empty h); begins = λ i s at before k h. x.kinds k (c.begins i s at before k h) }
 
 -- The row has what the first symbols begin with, fewer than n.
@@ -22,7 +24,8 @@ same_at [] i s d e = absurd (cc)
 same_at (t ∷ alt) zero s d e = cc
 same_at (t ∷ alt) (suc i) s d e = same_at alt i s d e
 
-pub first_more : (N : NormalForm) (rows : List FirstRow) (alt : List Sym) (n : ℕ) (d : Sym) (a b : FirstRow) → Keeps a b → HasWhatBegins N rows (get_or alt n d) b → HasFirst N rows alt n a → HasFirst N rows alt (n + 1) b
+pub first_more : (N : NormalForm) (rows : List FirstRow) (alt : List Sym) (n : ℕ) (d : Sym) (a b : FirstRow) → Keeps a b
+    → HasWhatBegins N rows (get_or alt n d) b → HasFirst N rows alt n a → HasFirst N rows alt (n + 1) b
 first_more N rows alt n d a b x h has i s l at = by (order i n)
   where
     by : (i < n) ⊎ (n ≤ i) → HasWhatBegins N rows s b
@@ -38,8 +41,10 @@ some_at (t ∷ alt) zero d l = refl
 some_at (t ∷ alt) (suc n) d l = some_at alt n d (omega (arith, l))
 
 -- A symbol that isn't empty comes before all after it.
-pub covers_stopped : (N : NormalForm) (rows : List FirstRow) (alt : List Sym) (n : ℕ) (d : Sym) (row : FirstRow) → n < length alt → (MayBeEmpty rows (get_or alt n d) → ⊥) → HasFirst N rows alt (n + 1) row → CoversAlternative N rows alt row
-covers_stopped N rows alt n d row l stops has = record { empty = λ all. absurd (stops (all n (get_or alt n d) l (some_at alt n d l))); begins = λ i s at before. by i s at before (order n i) }
+pub covers_stopped : (N : NormalForm) (rows : List FirstRow) (alt : List Sym) (n : ℕ) (d : Sym) (row : FirstRow) → n < length alt
+    → (MayBeEmpty rows (get_or alt n d) → ⊥) → HasFirst N rows alt (n + 1) row → CoversAlternative N rows alt row
+covers_stopped N rows alt n d row l stops has =
+    record { empty = λ all. absurd (stops (all n (get_or alt n d) l (some_at alt n d l))); begins = λ i s at before. by i s at before (order n i) }
   where
     by : (i : ℕ) (s : Sym) → slice_get alt i ≡ Some s → MayBeEmptyBefore rows alt i → (n < i) ⊎ (i ≤ n) → HasWhatBegins N rows s row
     by i s at before (inl m) = absurd (stops (before n (get_or alt n d) m (some_at alt n d l)))
@@ -54,7 +59,8 @@ alt_at [] i alt d e = absurd (cc)
 alt_at (t ∷ alts) zero alt d e = cc
 alt_at (t ∷ alts) (suc i) alt d e = alt_at alts i alt d e
 
-pub covers_first_more : (N : NormalForm) (rows : List FirstRow) (alts : List (Vec Sym)) (n : ℕ) (d : Vec Sym) (a b : FirstRow) → Keeps a b → CoversAlternative N rows (get_or alts n d).items b → CoversFirst N rows alts n a → CoversFirst N rows alts (n + 1) b
+pub covers_first_more : (N : NormalForm) (rows : List FirstRow) (alts : List (Vec Sym)) (n : ℕ) (d : Vec Sym) (a b : FirstRow) → Keeps a b
+    → CoversAlternative N rows (get_or alts n d).items b → CoversFirst N rows alts n a → CoversFirst N rows alts (n + 1) b
 covers_first_more N rows alts n d a b x h has i alt l at = by (order i n)
   where
     by : (i < n) ⊎ (n ≤ i) → CoversAlternative N rows alt b
@@ -68,7 +74,8 @@ number_of [] x (k, l, e) = absurd (omega (arith, l))
 number_of (y ∷ xs) x (zero, l, e) = (0, omega arith, ap Some e)
 number_of (y ∷ xs) x (suc k, l, e) = let (i, m, at) = number_of xs x (k, omega (arith, l), e) in (suc i, omega (arith, m), at)
 
-pub covers_all : (N : NormalForm) (rows : List FirstRow) (alts : List (Vec Sym)) (n : ℕ) (row : FirstRow) → length (alts_form alts) ≤ n → CoversFirst N rows alts n row → (alt : List Sym) → Contains (alts_form alts) alt → CoversAlternative N rows alt row
+pub covers_all : (N : NormalForm) (rows : List FirstRow) (alts : List (Vec Sym)) (n : ℕ) (row : FirstRow) → length (alts_form alts) ≤ n
+    → CoversFirst N rows alts n row → (alt : List Sym) → Contains (alts_form alts) alt → CoversAlternative N rows alt row
 covers_all N rows alts n row all has alt c = let (i, l, at) = number_of (alts_form alts) alt c in has i alt (omega (arith, l, all)) at
 
 -- What one row covers, another one covers that has all of it.
@@ -89,7 +96,8 @@ AreFirstClosed N rows n = (r : ℕ) (form : RuleForm) → r < n → slice_get N.
 same_form : (a b : RuleForm) → Some a ≡ Some b → a ≡ b
 same_form a b e = cc
 
-pub closed_more : (N : NormalForm) (rows : List FirstRow) (n : ℕ) (this : RuleForm) → slice_get N.rules n ≡ Some this → IsCovered N rows n this → AreFirstClosed N rows n → AreFirstClosed N rows (n + 1)
+pub closed_more : (N : NormalForm) (rows : List FirstRow) (n : ℕ) (this : RuleForm) → slice_get N.rules n ≡ Some this → IsCovered N rows n this
+    → AreFirstClosed N rows n → AreFirstClosed N rows (n + 1)
 closed_more N rows n this there covered before r form l at = by (order r n)
   where
     by : (r < n) ⊎ (n ≤ r) → IsCovered N rows r form
@@ -103,5 +111,6 @@ pub same_row : (a b : FirstRow) → Some a ≡ Some b → a ≡ b
 same_row a b e = cc
 
 -- What a row says of its rule, as far as it says that this may be empty.
-pub empty_by_row : (rows : List FirstRow) (r : ℕ) (row : FirstRow) → slice_get rows r ≡ Some row → (row.empty ≡ true → MayBeEmpty rows (Rule r)) × (MayBeEmpty rows (Rule r) → row.empty ≡ true)
+pub empty_by_row : (rows : List FirstRow) (r : ℕ) (row : FirstRow) → slice_get rows r ≡ Some row → (row.empty ≡ true → MayBeEmpty rows (Rule r))
+    × (MayBeEmpty rows (Rule r) → row.empty ≡ true)
 empty_by_row rows r row there = (λ e other at. subst (λ x. x.empty ≡ true) (same_row row other (sym there ∙ at)) e, λ h. h row there)

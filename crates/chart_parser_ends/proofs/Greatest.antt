@@ -1,5 +1,6 @@
 -- The first and the greatest of rising positions.
-use Rattle.std.proofs.Common.{◌≡◌, ℕ, zero, suc, ◌+◌, ◌<◌, ◌≤◌, ◌⊎◌, inl, inr, List, [], ◌∷◌, length, get_or, take, Option, Some, None, nat_cmp, refl, sym, ap, ◌∙◌, subst, arith}
+use Rattle.std.proofs.Common.{◌≡◌, ℕ, zero, suc, ◌+◌, ◌<◌, ◌≤◌, ◌⊎◌, inl, inr, List, [], ◌∷◌, length, get_or, take}
+use Rattle.std.proofs.Common.{Option, Some, None, nat_cmp, refl, sym, ap, ◌∙◌, subst, arith}
 use Rattle.std.proofs.lemmas.Grind.{get_or_default_zero}
 use Rattle.std.proofs.lemmas.List.Elements.{Contains-get_or}
 use Rattle.std.proofs.lemmas.List.Kept.{AllPairs-from_increasing}
@@ -16,15 +17,23 @@ abbrev pub IsCut : List ℕ → ℕ → ℕ → Type 0
 IsCut xs x n = (n ≤ length xs) × ((k : ℕ) → k < n → get_or xs k 0 ≤ x) × ((k : ℕ) → n ≤ k → k < length xs → x < get_or xs k 0)
 
 abbrev Search : List ℕ → ℕ → Result ℕ ℕ → Type 0
-Search xs x s = MatchResult s (λ i. (i < length xs) × (get_or xs i 0 ≡ x)) (λ i. (i ≤ length xs) × ((k : ℕ) → k < i → get_or xs k 0 < x) × ((k : ℕ) → i ≤ k → k < length xs → x < get_or xs k 0))
+Search xs x s =
+    MatchResult s (λ i. (i < length xs) × (get_or xs i 0 ≡ x))
+    (λ i. (i ≤ length xs) × ((k : ℕ) → k < i → get_or xs k 0 < x) × ((k : ℕ) → i ≤ k → k < length xs → x < get_or xs k 0))
 
-pub cut_found : (xs : List ℕ) (x : ℕ) (s : Result ℕ ℕ) (i : ℕ) → IsBinarySearchResult (λ y. nat_cmp y x) xs s → IsStrictlyIncreasing xs → s ≡ Ok i → IsCut xs x (i + 1)
+pub cut_found : (xs : List ℕ) (x : ℕ) (s : Result ℕ ℕ) (i : ℕ) → IsBinarySearchResult (λ y. nat_cmp y x) xs s → IsStrictlyIncreasing xs → s ≡ Ok i
+    → IsCut xs x (i + 1)
 cut_found xs x s i b r e = by (subst (Search xs x) e (searched xs x s b (not_falling xs r)))
   where
     by : (i < length xs) × (get_or xs i 0 ≡ x) → IsCut xs x (i + 1)
-    by (l, at) = (omega (arith, l), λ k h. omega (arith, at, not_falling xs r k i (omega (arith, h)) l), λ k h m. omega (arith, at, AllPairs-from_increasing xs r i k 0 (omega (arith, h)) m))
+    by (l, at) = (
+      omega (arith, l),
+      λ k h. omega (arith, at, not_falling xs r k i (omega (arith, h)) l),
+      λ k h m. omega (arith, at, AllPairs-from_increasing xs r i k 0 (omega (arith, h)) m),
+    )
 
-pub cut_missing : (xs : List ℕ) (x : ℕ) (s : Result ℕ ℕ) (i : ℕ) → IsBinarySearchResult (λ y. nat_cmp y x) xs s → IsStrictlyIncreasing xs → s ≡ Err i → IsCut xs x i
+pub cut_missing : (xs : List ℕ) (x : ℕ) (s : Result ℕ ℕ) (i : ℕ) → IsBinarySearchResult (λ y. nat_cmp y x) xs s → IsStrictlyIncreasing xs → s ≡ Err i
+    → IsCut xs x i
 cut_missing xs x s i b r e = by (subst (Search xs x) e (searched xs x s b (not_falling xs r)))
   where
     by : (i ≤ length xs) × ((k : ℕ) → k < i → get_or xs k 0 < x) × ((k : ℕ) → i ≤ k → k < length xs → x < get_or xs k 0) → IsCut xs x i
@@ -71,7 +80,8 @@ none_more P xs n m e here none k l h p = by (order m k)
     by (inl j) = none k (omega (arith, e, j)) h p
     by (inr j) = let same : k ≡ m = omega (arith, l, j) in here (subst (λ i. P (get_or xs i 0)) same p)
 
-pub greatest_at : (P : ℕ → Type 0) (xs : List ℕ) (n m : ℕ) → IsStrictlyIncreasing xs → n ≡ m + 1 → n ≤ length xs → P (get_or xs m 0) → NoneAfter P xs n → IsGreatest P xs (get_or xs m 0)
+pub greatest_at : (P : ℕ → Type 0) (xs : List ℕ) (n m : ℕ) → IsStrictlyIncreasing xs → n ≡ m + 1 → n ≤ length xs → P (get_or xs m 0) → NoneAfter P xs n
+    → IsGreatest P xs (get_or xs m 0)
 greatest_at P xs n m r e l p none = record { has = Contains-get_or xs m 0 (omega (arith, l, e)); holds = p; greatest = λ y c q. by y c q (order m c.0) }
   where
     by : (y : ℕ) (c : Contains xs y) → P y → (m < c.0) ⊎ (c.0 ≤ m) → y ≤ get_or xs m 0
@@ -93,12 +103,15 @@ last_exactly P ends among (Some x) e h = record { has = h.has; holds = e.only x 
 abbrev UpTo : (ℕ → Type 0) → ℕ → ℕ → Type 0
 UpTo P last x = P x × (x ≤ last)
 
-pub grown_up_to : (P : ℕ → Type 0) (ends some old new : List ℕ) (last : ℕ) → HasExactly P ends → ((x : ℕ) → (Contains some x → IsUpTo ends last x) × (IsUpTo ends last x → Contains some x)) → IsGrown (Contains some) old new → IsGrown (UpTo P last) old new
+pub grown_up_to : (P : ℕ → Type 0) (ends some old new : List ℕ) (last : ℕ) → HasExactly P ends
+    → ((x : ℕ) → (Contains some x → IsUpTo ends last x) × (IsUpTo ends last x → Contains some x)) → IsGrown (Contains some) old new
+    → IsGrown (UpTo P last) old new
 grown_up_to P ends some old new last e up g = record { only = λ x c. by x (g.only x c); kept = g.kept }
   where
     by : (x : ℕ) → Contains old x ⊎ Contains some x → Contains old x ⊎ UpTo P last x
     by x (inl c) = inl c
     by x (inr c) = let (h, l) = (up x).0 c in inr (e.only x h, l)
 
-pub all_up_to : (P : ℕ → Type 0) (ends some new : List ℕ) (last : ℕ) → HasExactly P ends → ((x : ℕ) → (Contains some x → IsUpTo ends last x) × (IsUpTo ends last x → Contains some x)) → HasAll (Contains some) new → HasAll (UpTo P last) new
+pub all_up_to : (P : ℕ → Type 0) (ends some new : List ℕ) (last : ℕ) → HasExactly P ends
+    → ((x : ℕ) → (Contains some x → IsUpTo ends last x) × (IsUpTo ends last x → Contains some x)) → HasAll (Contains some) new → HasAll (UpTo P last) new
 all_up_to P ends some new last e up all x (p, l) = all x ((up x).1 (e.all x p, l))

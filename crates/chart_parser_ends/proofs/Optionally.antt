@@ -10,8 +10,10 @@ use Rattle.chart_parser_ends.proofs.Exactly.{exactly_grown, exactly_one}
 use Rattle.chart_parser_ends.proofs.Spans.{spans}
 
 -- It can end where it begins, and where its symbol can end.
-pub optional_ends : (N : NormalForm) (K : List ℕ) (rule first : ℕ) (s : Sym) (begun new : List ℕ) → slice_get N.rules rule ≡ Some (RuleForm.opt s) → first ≤ length K → begun ≡ first ∷ [] →
-    IsStrictlyIncreasing new → IsGrown (DerivesSpan N K s first) begun new → HasAll (DerivesSpan N K s first) new → HasExactly (DerivesSpan N K (Rule rule) first) new
+pub optional_ends : (N : NormalForm) (K : List ℕ) (rule first : ℕ) (s : Sym) (begun new : List ℕ) → slice_get N.rules rule ≡ Some (RuleForm.opt s)
+    → first ≤ length K → begun ≡ first ∷ [] →
+    IsStrictlyIncreasing new → IsGrown (DerivesSpan N K s first) begun new → HasAll (DerivesSpan N K s first) new
+    → HasExactly (DerivesSpan N K (Rule rule) first) new
 optional_ends N K rule first s begun new at l e rising grown all =
     exactly_grown (λ j. j ≡ first) (DerivesSpan N K s first) (DerivesSpan N K (Rule rule) first) (first ∷ []) new
     (exactly_one (λ j. j ≡ first) first refl (λ j same. same)) rising (subst (λ l. IsGrown (DerivesSpan N K s first) l new) e grown) all here there either

@@ -30,12 +30,17 @@ pub entries_stay : (ends more : List ℕ) (rs : List EndsRange) → AreWithin en
 entries_stay ends more [] l = refl
 entries_stay ends more (r ∷ rs) l =
     let head = range_stays ends more r.from r.count (l 0 r (omega arith)) in
-    ap (λ es. entry r.rule r.first es ∷ entries_in (ends ++ more) rs) head ∙ ap (λ es. entry_in ends r ∷ es) (entries_stay ends more rs (λ k d h. l (suc k) d (omega (arith, h))))
+    ap (λ es. entry r.rule r.first es ∷ entries_in (ends ++ more) rs) head
+    ∙ ap (λ es. entry_in ends r ∷ es) (entries_stay ends more rs (λ k d h. l (suc k) d (omega (arith, h))))
 
 -- One more entry, whose ends come after all others.
-pub entries_pushed : (ends more : List ℕ) (rs : List EndsRange) (r : EndsRange) → AreWithin ends rs → r.from ≡ length ends → r.count ≡ length more → entries_in (ends ++ more) (rs ++ r ∷ []) ≡ entries_in ends rs ++ entry r.rule r.first more ∷ []
+pub entries_pushed : (ends more : List ℕ) (rs : List EndsRange) (r : EndsRange) → AreWithin ends rs → r.from ≡ length ends → r.count ≡ length more
+    → entries_in (ends ++ more) (rs ++ r ∷ []) ≡ entries_in ends rs ++ entry r.rule r.first more ∷ []
 entries_pushed ends more rs r l from count =
-    map_push (entry_in (ends ++ more)) rs r ∙ ap (λ es. es ++ entry_in (ends ++ more) r ∷ []) (entries_stay ends more rs l) ∙ ap (λ es. entries_in ends rs ++ entry r.rule r.first es ∷ []) range
+    map_push (entry_in (ends ++ more)) rs r ∙ ap (λ es. es ++ entry_in (ends ++ more) r ∷ []) (entries_stay ends more rs l)
+    ∙ ap (λ es. entries_in ends rs ++ entry r.rule r.first es ∷ []) range
   where
     range : slice_range (ends ++ more) r.from (r.from + r.count) ≡ more
-    range = ap (λ f. slice_range (ends ++ more) f (f + r.count)) from ∙ ap (λ n. slice_range (ends ++ more) (length ends) (length ends + n)) count ∙ last_range ends more
+    range =
+        ap (λ f. slice_range (ends ++ more) f (f + r.count)) from ∙ ap (λ n. slice_range (ends ++ more) (length ends) (length ends + n)) count
+        ∙ last_range ends more

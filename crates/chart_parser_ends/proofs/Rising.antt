@@ -1,5 +1,6 @@
 -- Rising lists of positions.
-use Rattle.std.proofs.Common.{◌≡◌, ℕ, zero, suc, ◌+◌, ◌<◌, ◌≤◌, ◌⊎◌, inl, inr, List, ◌∷◌, ◌++◌, length, get_or, take, drop, length-append, nat_cmp, refl, sym, ap, ◌∙◌, subst, arith}
+use Rattle.std.proofs.Common.{◌≡◌, ℕ, zero, suc, ◌+◌, ◌<◌, ◌≤◌, ◌⊎◌, inl, inr, List, ◌∷◌, ◌++◌, length, get_or, take}
+use Rattle.std.proofs.Common.{drop, length-append, nat_cmp, refl, sym, ap, ◌∙◌, subst, arith}
 use Rattle.std.proofs.lemmas.List.{take-append-drop, take_more}
 use Rattle.std.proofs.lemmas.List.Elements.{Contains-append_left, Contains-append_right, Contains-append_cases, Contains-push_cases, Contains-get_or}
 use Rattle.std.proofs.lemmas.Grind.{get_or_default_zero}
@@ -24,7 +25,12 @@ later : (y : ℕ) (xs : List ℕ) (x : ℕ) → Contains xs x → Contains (y �
 later y xs x (k, l, e) = (suc k, omega (arith, l), e)
 
 pub inserted : (xs : List ℕ) (i y : ℕ) → IsWith xs y (insert xs i y)
-inserted xs i y = record { only = λ x h. only x (Contains-append_cases (take i xs) (y ∷ drop i xs) x h); kept = λ x h. kept x (Contains-append_cases (take i xs) (drop i xs) x (subst (λ l. Contains l x) (sym (take-append-drop i xs)) h)); has = Contains-append_right (take i xs) (y ∷ drop i xs) y (contains_head y (drop i xs)) }
+inserted xs i y =
+    record {
+      only = λ x h. only x (Contains-append_cases (take i xs) (y ∷ drop i xs) x h);
+      kept = λ x h. kept x (Contains-append_cases (take i xs) (drop i xs) x (subst (λ l. Contains l x) (sym (take-append-drop i xs)) h));
+      has = Contains-append_right (take i xs) (y ∷ drop i xs) y (contains_head y (drop i xs));
+    }
   where
     whole : (x : ℕ) → Contains (take i xs ++ drop i xs) x → Contains xs x
     whole x h = subst (λ l. Contains l x) (take-append-drop i xs) h
@@ -65,29 +71,49 @@ not_falling xs r i j l m = by (order i j)
     by (inl k) = omega (arith, AllPairs-from_increasing xs r i j 0 k m)
     by (inr k) = let e : i ≡ j = omega (arith, l, k) in subst (λ n. get_or xs i 0 ≤ get_or xs n 0) e (omega arith)
 
-pub insert_rises : (xs : List ℕ) (i y : ℕ) → IsStrictlyIncreasing xs → i ≤ length xs → ((k : ℕ) → k < i → get_or xs k 0 < y) → ((k : ℕ) → i ≤ k → k < length xs → y < get_or xs k 0) → (n : ℕ) → n ≡ length xs + 1 → (k : ℕ) → k + 1 < n → get_or (insert xs i y) k 0 < get_or (insert xs i y) (k + 1) 0
+pub insert_rises : (xs : List ℕ) (i y : ℕ) → IsStrictlyIncreasing xs → i ≤ length xs → ((k : ℕ) → k < i → get_or xs k 0 < y)
+    → ((k : ℕ) → i ≤ k → k < length xs → y < get_or xs k 0) → (n : ℕ) → n ≡ length xs + 1 → (k : ℕ) → k + 1 < n
+    → get_or (insert xs i y) k 0 < get_or (insert xs i y) (k + 1) 0
 insert_rises xs i y r l low high n e k h = by (order (k + 1) i) (order k i)
   where
     by : (k + 1 < i) ⊎ (i ≤ k + 1) → (k < i) ⊎ (i ≤ k) → get_or (insert xs i y) k 0 < get_or (insert xs i y) (k + 1) 0
     by (inl a) b = omega (arith, get_or-insert_below xs i y 0 k (omega (arith, a)) l, get_or-insert_below xs i y 0 (k + 1) a l, r k (omega (arith, h, e, a, l)))
-    by (inr a) (inl b) = let same : k + 1 ≡ i = omega (arith, a, b) in omega (arith, get_or-insert_below xs i y 0 k b l, subst (λ j. get_or (insert xs i y) j 0 ≡ y) (sym same) (get_or-insert_at xs i y 0 l), low k b)
+    by (inr a) (inl b) = let same : k + 1 ≡ i =
+        omega (arith, a, b) in
+        omega (arith, get_or-insert_below xs i y 0 k b l, subst (λ j. get_or (insert xs i y) j 0 ≡ y) (sym same) (get_or-insert_at xs i y 0 l), low k b)
     by (inr a) (inr b) = above (order i k)
       where
         above : (i < k) ⊎ (k ≤ i) → get_or (insert xs i y) k 0 < get_or (insert xs i y) (k + 1) 0
-        above (inr c) = let same : i ≡ k = omega (arith, b, c) in omega (arith, subst (λ j. get_or (insert xs i y) j 0 ≡ y) same (get_or-insert_at xs i y 0 l), get_or-insert_above xs i y 0 k b l, high k b (omega (arith, h, e)))
+        above (inr c) = let same : i ≡ k =
+            omega (arith, b, c) in
+            omega (
+              arith,
+              subst (λ j. get_or (insert xs i y) j 0 ≡ y) same (get_or-insert_at xs i y 0 l),
+              get_or-insert_above xs i y 0 k b l,
+              high k b (omega (arith, h, e)),
+            )
         above (inl c) = earlier k c (omega (arith, h, e))
           where
             earlier : (k : ℕ) → i < k → k < length xs → get_or (insert xs i y) k 0 < get_or (insert xs i y) (k + 1) 0
             earlier zero c d = absurd (omega (arith, c))
             earlier (suc m) c d =
                 let e : m + 1 ≡ suc m = omega arith in
-                let up : get_or (insert xs i y) (suc m) 0 ≡ get_or xs m 0 = subst (λ j. get_or (insert xs i y) j 0 ≡ get_or xs m 0) e (get_or-insert_above xs i y 0 m (omega (arith, c)) l) in
-                omega (arith, up, get_or-insert_above xs i y 0 (suc m) (omega (arith, c)) l, subst (λ j. get_or xs m 0 < get_or xs j 0) e (r m (omega (arith, d))))
+                let up : get_or (insert xs i y) (suc m) 0 ≡ get_or xs m 0 =
+                subst (λ j. get_or (insert xs i y) j 0 ≡ get_or xs m 0) e (get_or-insert_above xs i y 0 m (omega (arith, c)) l) in
+                omega (
+                  arith,
+                  up,
+                  get_or-insert_above xs i y 0 (suc m) (omega (arith, c)) l,
+                  subst (λ j. get_or xs m 0 < get_or xs j 0) e (r m (omega (arith, d))),
+                )
 
-pub search_has : (xs : List ℕ) (x : ℕ) (s : Result ℕ ℕ) → IsBinarySearchResult (λ y. nat_cmp y x) xs s → IsStrictlyIncreasing xs → (IsTrue (is_ok s) → Contains xs x) × (Contains xs x → IsTrue (is_ok s))
+pub search_has : (xs : List ℕ) (x : ℕ) (s : Result ℕ ℕ) → IsBinarySearchResult (λ y. nat_cmp y x) xs s → IsStrictlyIncreasing xs
+    → (IsTrue (is_ok s) → Contains xs x) × (Contains xs x → IsTrue (is_ok s))
 search_has xs x s b r = by s (searched xs x s b (not_falling xs r))
   where
-    by : (s : Result ℕ ℕ) → MatchResult s (λ i. (i < length xs) × (get_or xs i 0 ≡ x)) (λ i. (i ≤ length xs) × ((k : ℕ) → k < i → get_or xs k 0 < x) × ((k : ℕ) → i ≤ k → k < length xs → x < get_or xs k 0)) → (IsTrue (is_ok s) → Contains xs x) × (Contains xs x → IsTrue (is_ok s))
+    by : (s : Result ℕ ℕ) → MatchResult s (λ i. (i < length xs) × (get_or xs i 0 ≡ x))
+        (λ i. (i ≤ length xs) × ((k : ℕ) → k < i → get_or xs k 0 < x) × ((k : ℕ) → i ≤ k → k < length xs → x < get_or xs k 0))
+        → (IsTrue (is_ok s) → Contains xs x) × (Contains xs x → IsTrue (is_ok s))
     by (Ok i) (l, e) = ((λ t. (i, l, get_or_default_zero xs i x l ∙ e)), (λ h. refl))
     by (Err i) (l, low, high) = ((λ t. absurd (cc)), (λ h. absurd (none h (order h.0 i))))
       where
@@ -102,7 +128,8 @@ take_cases xs i d x l h = turned (Contains-push_cases (take i xs) (get_or xs i d
     turned (inl a) = inl a
     turned (inr e) = inr (sym e)
 
-pub all_more : (xs ys : List ℕ) (i y : ℕ) (new : List ℕ) → i < length xs → y ≡ slice_index_or xs i 0 → HasAll (Contains (take i xs)) ys → IsWith ys y new → HasAll (Contains (take (i + 1) xs)) new
+pub all_more : (xs ys : List ℕ) (i y : ℕ) (new : List ℕ) → i < length xs → y ≡ slice_index_or xs i 0 → HasAll (Contains (take i xs)) ys → IsWith ys y new
+    → HasAll (Contains (take (i + 1) xs)) new
 all_more xs ys i y new l e h w x c = by (take_cases xs i 0 x l c)
   where
     by : Contains (take i xs) x ⊎ (x ≡ slice_index_or xs i 0) → Contains new x
@@ -112,26 +139,38 @@ all_more xs ys i y new l e h w x c = by (take_cases xs i 0 x l c)
 length-insert : (xs : List ℕ) (i y : ℕ) → i ≤ length xs → length (insert xs i y) ≡ length xs + 1
 length-insert xs i y l = omega (arith, length-append (take i xs) (y ∷ drop i xs), length-append (take i xs) (drop i xs), ap length (take-append-drop i xs))
 
-pub search_missing : (xs : List ℕ) (x : ℕ) (s : Result ℕ ℕ) (i : ℕ) → IsBinarySearchResult (λ y. nat_cmp y x) xs s → IsStrictlyIncreasing xs → s ≡ Err i → IsStrictlyIncreasing (insert xs i x)
-search_missing xs x s i b r e = by (subst (λ s. MatchResult s (λ i. (i < length xs) × (get_or xs i 0 ≡ x)) (λ i. (i ≤ length xs) × ((k : ℕ) → k < i → get_or xs k 0 < x) × ((k : ℕ) → i ≤ k → k < length xs → x < get_or xs k 0))) e (searched xs x s b (not_falling xs r)))
+pub search_missing : (xs : List ℕ) (x : ℕ) (s : Result ℕ ℕ) (i : ℕ) → IsBinarySearchResult (λ y. nat_cmp y x) xs s → IsStrictlyIncreasing xs → s ≡ Err i
+    → IsStrictlyIncreasing (insert xs i x)
+search_missing xs x s i b r e =
+    by (subst (λ s. MatchResult s (λ i. (i < length xs) × (get_or xs i 0 ≡ x))
+    (λ i. (i ≤ length xs) × ((k : ℕ) → k < i → get_or xs k 0 < x) × ((k : ℕ) → i ≤ k → k < length xs → x < get_or xs k 0))) e
+    (searched xs x s b (not_falling xs r)))
   where
     by : (i ≤ length xs) × ((k : ℕ) → k < i → get_or xs k 0 < x) × ((k : ℕ) → i ≤ k → k < length xs → x < get_or xs k 0) → IsStrictlyIncreasing (insert xs i x)
     by (l, low, high) k h = insert_rises xs i x r l low high (length (insert xs i x)) (length-insert xs i x l) k h
 
-search_missed : (xs : List ℕ) (x : ℕ) (s : Result ℕ ℕ) (i : ℕ) → IsBinarySearchResult (λ y. nat_cmp y x) xs s → IsStrictlyIncreasing xs → s ≡ Err i → (i ≤ length xs) × ((k : ℕ) → k < i → get_or xs k 0 < x) × ((k : ℕ) → i ≤ k → k < length xs → x < get_or xs k 0)
-search_missed xs x s i b r e = subst (λ s. MatchResult s (λ i. (i < length xs) × (get_or xs i 0 ≡ x)) (λ i. (i ≤ length xs) × ((k : ℕ) → k < i → get_or xs k 0 < x) × ((k : ℕ) → i ≤ k → k < length xs → x < get_or xs k 0))) e (searched xs x s b (not_falling xs r))
+search_missed : (xs : List ℕ) (x : ℕ) (s : Result ℕ ℕ) (i : ℕ) → IsBinarySearchResult (λ y. nat_cmp y x) xs s → IsStrictlyIncreasing xs → s ≡ Err i
+    → (i ≤ length xs) × ((k : ℕ) → k < i → get_or xs k 0 < x) × ((k : ℕ) → i ≤ k → k < length xs → x < get_or xs k 0)
+search_missed xs x s i b r e =
+    subst (λ s. MatchResult s (λ i. (i < length xs) × (get_or xs i 0 ≡ x))
+    (λ i. (i ≤ length xs) × ((k : ℕ) → k < i → get_or xs k 0 < x) × ((k : ℕ) → i ≤ k → k < length xs → x < get_or xs k 0))) e
+    (searched xs x s b (not_falling xs r))
 
 read_at : (xs : List ℕ) (y : ℕ) → (h : Contains xs y) → get_or xs h.0 0 ≡ y
 read_at xs y h = sym (get_or_default_zero xs h.0 y h.1) ∙ h.2
 
-pub next_missing : (xs : List ℕ) (x : ℕ) (s : Result ℕ ℕ) (i : ℕ) → IsBinarySearchResult (λ y. nat_cmp y x) xs s → IsStrictlyIncreasing xs → s ≡ Err i → i < length xs → IsNext xs x (get_or xs i 0)
-next_missing xs x s i b r e l = let m = search_missed xs x s i b r e in record { has = Contains-get_or xs i 0 l; above = omega (arith, m.2 i (omega arith) l); least = λ y h k. least y h k (order h.0 i) }
+pub next_missing : (xs : List ℕ) (x : ℕ) (s : Result ℕ ℕ) (i : ℕ) → IsBinarySearchResult (λ y. nat_cmp y x) xs s → IsStrictlyIncreasing xs → s ≡ Err i
+    → i < length xs → IsNext xs x (get_or xs i 0)
+next_missing xs x s i b r e l = let m =
+    search_missed xs x s i b r e in
+    record { has = Contains-get_or xs i 0 l; above = omega (arith, m.2 i (omega arith) l); least = λ y h k. least y h k (order h.0 i) }
   where
     least : (y : ℕ) → (h : Contains xs y) → x ≤ y → (h.0 < i) ⊎ (i ≤ h.0) → get_or xs i 0 ≤ y
     least y h k (inl a) = absurd (omega (arith, k, read_at xs y h, (search_missed xs x s i b r e).1 h.0 a))
     least y h k (inr a) = omega (arith, read_at xs y h, not_falling xs r i h.0 a h.1)
 
-pub none_left : (xs : List ℕ) (x : ℕ) (s : Result ℕ ℕ) (i : ℕ) → IsBinarySearchResult (λ y. nat_cmp y x) xs s → IsStrictlyIncreasing xs → s ≡ Err i → length xs ≤ i → (y : ℕ) → Contains xs y → y < x
+pub none_left : (xs : List ℕ) (x : ℕ) (s : Result ℕ ℕ) (i : ℕ) → IsBinarySearchResult (λ y. nat_cmp y x) xs s → IsStrictlyIncreasing xs → s ≡ Err i
+    → length xs ≤ i → (y : ℕ) → Contains xs y → y < x
 none_left xs x s i b r e l y h = let m = search_missed xs x s i b r e in by (order h.0 i)
   where
     by : (h.0 < i) ⊎ (i ≤ h.0) → y < x

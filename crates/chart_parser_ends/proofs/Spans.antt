@@ -20,6 +20,7 @@ pub many_within : {N : NormalForm} {K : List ℕ} {s : Sym} {i j : ℕ} → Deri
 many_within {N} {K} {s} {i} {j} d = let x = ((lists N K).many s i j).0 d in (x.0, x.1)
 
 -- A set of positions that is closed under the symbol has each position that any number of them reach.
-pub closed_many : {N : NormalForm} {K : List ℕ} {s : Sym} (In : ℕ → Type 0) → ((p q : ℕ) → In p → DerivesSpan N K s p q → In q) → {i j : ℕ} → In i → DerivesSpanMany N K s i j → In j
+pub closed_many : {N : NormalForm} {K : List ℕ} {s : Sym} (In : ℕ → Type 0) → ((p q : ℕ) → In p → DerivesSpan N K s p q → In q) → {i j : ℕ} → In i
+    → DerivesSpanMany N K s i j → In j
 closed_many In closed first (DerivesSpanMany.of_end i l) = first
 closed_many In closed first (DerivesSpanMany.of_more i m j d ds) = closed_many In closed (closed i m first d) ds

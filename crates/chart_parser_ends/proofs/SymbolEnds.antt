@@ -1,5 +1,6 @@
 -- The ends of one symbol from one position.
-use Rattle.std.proofs.Common.{◌≡◌, ℕ, zero, suc, ◌+◌, ◌<◌, Bool, true, false, ◌||◌, List, [], ◌∷◌, ◌++◌, length, Option, Some, None, slice_get, get_or, refl, sym, ap, ◌∙◌, subst, arith}
+use Rattle.std.proofs.Common.{◌≡◌, ℕ, zero, suc, ◌+◌, ◌<◌, Bool, true, false, ◌||◌, List, [], ◌∷◌, ◌++◌, length, Option}
+use Rattle.std.proofs.Common.{Some, None, slice_get, get_or, refl, sym, ap, ◌∙◌, subst, arith}
 use Rattle.std.proofs.lemmas.Bool.{eqb-true, eq-eqb}
 use Rattle.std.proofs.lemmas.Option.{get_or_from_slice_get, slice_get-get_or, slice_get_within}
 use Rattle.std.proofs.lemmas.List.Elements.{All-contains, All-push}
@@ -73,8 +74,10 @@ module _ (N : NormalForm) (K : List ℕ) where
   token_of (Rule r) i k here h = absurd h
 
   -- The position after a token of the symbol, and no position where there is none.
-  pub token_exact : (s : Sym) (i : ℕ) → ((r : ℕ) → s ≡ Rule r → ⊥) → i < length K → IsTokenOf N s (get_or K i 0) → HasExactly (DerivesSpan N K s i) ((i + 1) ∷ [])
-  token_exact s i token l is = exactly_one (DerivesSpan N K s i) (i + 1) (token_of s i (get_or K i 0) (slice_get-get_or K i 0 l) is) (λ x d. (token_in s i x token d).1)
+  pub token_exact : (s : Sym) (i : ℕ) → ((r : ℕ) → s ≡ Rule r → ⊥) → i < length K → IsTokenOf N s (get_or K i 0)
+      → HasExactly (DerivesSpan N K s i) ((i + 1) ∷ [])
+  token_exact s i token l is =
+      exactly_one (DerivesSpan N K s i) (i + 1) (token_of s i (get_or K i 0) (slice_get-get_or K i 0 l) is) (λ x d. (token_in s i x token d).1)
 
   pub no_token : (s : Sym) (i : ℕ) → ((r : ℕ) → s ≡ Rule r → ⊥) → (i < length K → IsTokenOf N s (get_or K i 0) → ⊥) → HasExactly (DerivesSpan N K s i) []
   no_token s i token none = exactly_none (DerivesSpan N K s i) (λ x d. absurd (no_end x d))
@@ -85,10 +88,12 @@ module _ (N : NormalForm) (K : List ℕ) where
           none (slice_get_within K i k here) (subst (IsTokenOf N s) (sym (get_or_from_slice_get K i k 0 here)) is)
 
 -- The ends of an entry that is exact.
-pub entry_exact : (N : NormalForm) (K : List ℕ) (entries : List Entry) (rule first : ℕ) (ends : List ℕ) → All (IsExact N K) entries → Contains entries (entry rule first ends) → HasExactly (DerivesSpan N K (Rule rule) first) ends
+pub entry_exact : (N : NormalForm) (K : List ℕ) (entries : List Entry) (rule first : ℕ) (ends : List ℕ) → All (IsExact N K) entries
+    → Contains entries (entry rule first ends) → HasExactly (DerivesSpan N K (Rule rule) first) ends
 entry_exact N K entries rule first ends all h = All-contains (IsExact N K) entries (entry rule first ends) all h
 
 -- One more entry that is exact, or none.
-pub exact_stored : {T E : Type 0} (N : NormalForm) (K : List ℕ) (old new : List Entry) (e : Entry) (r : Result T E) → All (IsExact N K) old → IsExact N K e → OnOk r (new ≡ old ++ e ∷ []) → OnErr r (new ≡ old) → All (IsExact N K) new
+pub exact_stored : {T E : Type 0} (N : NormalForm) (K : List ℕ) (old new : List Entry) (e : Entry) (r : Result T E) → All (IsExact N K) old → IsExact N K e
+    → OnOk r (new ≡ old ++ e ∷ []) → OnErr r (new ≡ old) → All (IsExact N K) new
 exact_stored N K old new e (Ok x) all exact more same = subst (All (IsExact N K)) (sym more) (All-push (IsExact N K) old e all exact)
 exact_stored N K old new e (Err x) all exact more same = subst (All (IsExact N K)) (sym same) all

@@ -5,7 +5,8 @@ ghost use Rattle.std.specs.List.{Contains};
 ghost use Rattle.normal_form.specs.View.{alts_form, rule_form};
 ghost use Rattle.normal_form.specs.declared.normal.Sym;
 ghost use Rattle.chart_parser_ends.specs.inner.Exact.{IsTokenOf};
-ghost use Rattle.chart_parser_ends.specs.inner.Firsts.{AreClosed, AreFirsts, CanBeLeftOut, Covers, CoversAlternative, HasKind, HasWhatBegins, IsCovered, Keeps, MayBeEmpty, MayBegin};
+ghost use Rattle.chart_parser_ends.specs.inner.Firsts.{AreClosed, AreFirsts, CanBeLeftOut, Covers, CoversAlternative, HasKind};
+ghost use Rattle.chart_parser_ends.specs.inner.Firsts.{HasWhatBegins, IsCovered, Keeps, MayBeEmpty, MayBegin};
 
 use faults::Memory;
 use normal_form::{Normal, NormalRule, Sym};

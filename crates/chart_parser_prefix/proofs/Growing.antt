@@ -1,5 +1,6 @@
 -- How the lists of expected symbols grow.
-use Rattle.std.proofs.Common.{◌≡◌, ◌≢◌, ◌⊎◌, inl, inr, ℕ, zero, suc, ◌+◌, ◌<◌, ◌≤◌, List, [], ◌∷◌, ◌++◌, length, take, get_or, refl, sym, ap, ◌∙◌, subst, arith, append_assoc}
+use Rattle.std.proofs.Common.{◌≡◌, ◌≢◌, ◌⊎◌, inl, inr, ℕ, zero, suc, ◌+◌, ◌<◌, ◌≤◌, List, [], ◌∷◌, ◌++◌, length}
+use Rattle.std.proofs.Common.{take, get_or, refl, sym, ap, ◌∙◌, subst, arith, append_assoc}
 use Rattle.std.proofs.lemmas.Bool.{cases_eq}
 use Rattle.std.proofs.lemmas.List.{append-nil, length-set, take_more}
 use Rattle.std.proofs.lemmas.List.Elements.{Contains-append_left, Contains-push, Contains-push_cases}
@@ -59,8 +60,12 @@ grown_weaker {P} {Q} {old} {new} f g = record { count = g.count; longer = g.long
     by s m (inr p) = inr (f s m p)
 
 -- one symbol was added at a position
-pub added_at : (old : List (Vec Sym)) (p : ℕ) (symbol : Sym) (v w : Vec Sym) → p < length old → v ≡ get_or old p v → HasOneMore v.items symbol w.items → IsGrownBy (IsAtOneOf symbol (p ∷ [])) old (set old p w) × ExpectsAll (IsAtOneOf symbol (p ∷ [])) (set old p w)
-added_at old p symbol v w l is more = (record { count = length-set old p w; longer = λ m. longer m (cases_eq m p); only = λ s m h. only s m (cases_eq m p) h }, λ s m (e, c). subst (λ i. Expects new s i) (sym (one m c)) (subst (λ t. Expects new t p) (sym e) (has more)))
+pub added_at : (old : List (Vec Sym)) (p : ℕ) (symbol : Sym) (v w : Vec Sym) → p < length old → v ≡ get_or old p v → HasOneMore v.items symbol w.items
+    → IsGrownBy (IsAtOneOf symbol (p ∷ [])) old (set old p w) × ExpectsAll (IsAtOneOf symbol (p ∷ [])) (set old p w)
+added_at old p symbol v w l is more = (
+  record { count = length-set old p w; longer = λ m. longer m (cases_eq m p); only = λ s m h. only s m (cases_eq m p) h },
+  λ s m (e, c). subst (λ i. Expects new s i) (sym (one m c)) (subst (λ t. Expects new t p) (sym e) (has more)),
+)
   where
     new : List (Vec Sym)
     new = set old p w
@@ -124,9 +129,11 @@ pub taken_last : {X : Type 0} (xs : List X) (i : ℕ) (d : X) → i < length xs 
 taken_last xs i d l = subst (λ ys. Contains ys (get_or xs i d)) (sym (take_more xs i d l)) (Contains-push (take i xs) (get_or xs i d))
 
 pub each_more : (symbol : Sym) (positions : List ℕ) (i p : ℕ) (old mid new : List (Vec Sym)) → i < length positions → p ≡ get_or positions i 0 →
-    IsGrownBy (IsAtOneOf symbol (take i positions)) old mid → ExpectsAll (IsAtOneOf symbol (take i positions)) mid → IsGrownBy (IsAtOneOf symbol (p ∷ [])) mid new → ExpectsAll (IsAtOneOf symbol (p ∷ [])) new →
+    IsGrownBy (IsAtOneOf symbol (take i positions)) old mid → ExpectsAll (IsAtOneOf symbol (take i positions)) mid
+    → IsGrownBy (IsAtOneOf symbol (p ∷ [])) mid new → ExpectsAll (IsAtOneOf symbol (p ∷ [])) new →
     IsGrownBy (IsAtOneOf symbol (take (i + 1) positions)) old new × ExpectsAll (IsAtOneOf symbol (take (i + 1) positions)) new
-each_more symbol positions i p old mid new l is before has grown all = (grown_then (grown_weaker first before) (grown_weaker second grown), λ s m (e, c). by s m e (taken_cases positions i 0 m l c))
+each_more symbol positions i p old mid new l is before has grown all =
+    (grown_then (grown_weaker first before) (grown_weaker second grown), λ s m (e, c). by s m e (taken_cases positions i 0 m l c))
   where
     first : (s : Sym) (m : ℕ) → IsAtOneOf symbol (take i positions) s m → IsAtOneOf symbol (take (i + 1) positions) s m
     first s m (e, c) = (e, taken_before positions i 0 m l c)

@@ -1,5 +1,6 @@
 -- The least table that is closed under the rules says exactly which of them derive something.
-use Rattle.std.proofs.Common.{◌≡◌, ◌⊎◌, inl, inr, ◌↔◌, ℕ, zero, suc, ◌<◌, Bool, true, false, ◌||◌, ◌&&◌, List, [], ◌∷◌, ◌++◌, Option, Some, None, length, slice_get, slice_set, get_or-set_other, refl, sym, ap, ◌∙◌, subst, arith, true≢false}
+use Rattle.std.proofs.Common.{◌≡◌, ◌⊎◌, inl, inr, ◌↔◌, ℕ, zero, suc, ◌<◌, Bool, true, false, ◌||◌, ◌&&◌, List, [], ◌∷◌, ◌++◌, Option, Some, None}
+use Rattle.std.proofs.Common.{length, slice_get, slice_set, get_or-set_other, refl, sym, ap, ◌∙◌, subst, arith, true≢false}
 use Rattle.std.specs.Global.{Vec}
 use Rattle.std.specs.List.{Contains, list_all, list_any}
 use Rattle.std.specs.Option.{option_map_or}
@@ -10,7 +11,8 @@ use Rattle.grammar_check_tables.specs.Marking.{IsClosedAt, IsMarked}
 use Rattle.normal_form.specs.declared.normal.Sym.{Sym}
 use Rattle.normal_form.specs.declared.normal.Sym.TheVariants.{Kind, Set, Rule}
 use Rattle.normal_form.specs.Form.{RuleForm, NormalForm}
-use Rattle.normal_form.specs.NormalDerives.{NormalDerives, NormalDerivesSeq, of_kind, of_set, of_regular, of_absent, of_present, of_star, of_plus, of_done, of_next, of_end}
+use Rattle.normal_form.specs.NormalDerives.{NormalDerives, NormalDerivesSeq, of_kind, of_set, of_regular, of_absent}
+use Rattle.normal_form.specs.NormalDerives.{of_present, of_star, of_plus, of_done, of_next, of_end}
 use Rattle.normal_form.specs.View.{alts_form}
 use Rattle.chart_parser_prefix.specs.inner.Productive.{AreProductive, DerivesSome, DerivesSomeSeq, form_passes, has_some, numbered_passes, passes}
 
@@ -124,9 +126,13 @@ module _ (N : NormalForm) where
   are_sound (IsMarked.by_none flags none) = λ r h. absurd (true≢false (sym h ∙ none r))
   are_sound (IsMarked.by_one flags n before lt h) = marked flags n h (are_sound before)
 
-  pub are_productive : (flags : List Bool) → IsMarked (numbered_passes N) flags → ((n : ℕ) → n < length N.rules → IsClosedAt (numbered_passes N) flags n) → AreProductive N flags
-  are_productive flags marks closed r =
-      (are_sound marks r, λ (w, d). one_passes N flags (λ q form at h. closed q (slice_get_within N.rules q form at) (ap (λ o. option_map_or (form_passes N flags) o false) at ∙ h)) d)
+  pub are_productive : (flags : List Bool) → IsMarked (numbered_passes N) flags → ((n : ℕ) → n < length N.rules → IsClosedAt (numbered_passes N) flags n)
+      → AreProductive N flags
+  are_productive flags marks closed r = (
+    are_sound marks r,
+    λ (w, d). one_passes N flags
+        (λ q form at h. closed q (slice_get_within N.rules q form at) (ap (λ o. option_map_or (form_passes N flags) o false) at ∙ h)) d,
+  )
 
 -- alternatives that are read from a normal form
 pub any_form : (p : List Sym → Bool) (alts : List (Vec Sym)) → list_any p (alts_form alts) ≡ list_any (λ (a : Vec Sym). p a.items) alts

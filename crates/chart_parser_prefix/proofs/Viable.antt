@@ -1,5 +1,6 @@
 -- The kinds that can follow a viable beginning are those of the token symbols that are expected after it.
-use Rattle.std.proofs.Common.{◌≡◌, ◌⊎◌, inl, inr, ◌↔◌, ℕ, ◌≤◌, List, [], ◌∷◌, ◌++◌, length, take, Some, slice_get, refl, sym, ap, ◌∙◌, subst, arith, append_assoc}
+use Rattle.std.proofs.Common.{◌≡◌, ◌⊎◌, inl, inr, ◌↔◌, ℕ, ◌≤◌, List, [], ◌∷◌, ◌++◌, length, take, Some}
+use Rattle.std.proofs.Common.{slice_get, refl, sym, ap, ◌∙◌, subst, arith, append_assoc}
 use Rattle.std.specs.List.{Contains, between}
 use Rattle.std.proofs.lemmas.List.{append-nil}
 use Rattle.std.proofs.lemmas.List.Edits.{between_none}
@@ -7,14 +8,16 @@ use Rattle.std.proofs.lemmas.Slice.{between_from_start}
 use Rattle.normal_form.specs.declared.normal.Sym.{Sym}
 use Rattle.normal_form.specs.declared.normal.Sym.TheVariants.{Kind, Set, Rule}
 use Rattle.normal_form.specs.Form.{RuleForm, NormalForm}
-use Rattle.normal_form.specs.NormalDerives.{NormalDerives, NormalDerivesSeq, NormalDerivesMany, of_kind, of_set, of_regular, of_absent, of_present, of_star, of_plus, of_done, of_next, of_end, of_more}
+use Rattle.normal_form.specs.NormalDerives.{NormalDerives, NormalDerivesSeq, NormalDerivesMany, of_kind, of_set, of_regular, of_absent}
+use Rattle.normal_form.specs.NormalDerives.{of_present, of_star, of_plus, of_done, of_next, of_end, of_more}
 use Rattle.normal_form.specs.FormLaws.{NormalDerivesByForm}
 use Rattle.normal_form.proofs.Lent as forms
 use Rattle.normal_form_spans.specs.Spans.{DerivesSpan, DerivesSpanSeq, DerivesSpanMany}
 use Rattle.normal_form_spans.proofs.Lent.{between_append, cut, none_between}
 use Rattle.chart_parser_ends.specs.inner.Exact.{IsTokenOf}
 use Rattle.chart_parser_ends.proofs.Lent.{joins, lists, many_within}
-use Rattle.chart_parser_prefix.specs.inner.Expected.{IsExpected, Predicts, of_start, of_symbol, of_alternative, of_optional, of_star as star_predicts, of_plus as plus_predicts}
+use Rattle.chart_parser_prefix.specs.inner.Expected.{IsExpected, Predicts, of_start, of_symbol, of_alternative, of_optional}
+use Rattle.chart_parser_prefix.specs.inner.Expected.{of_star as star_predicts, of_plus as plus_predicts}
 use Rattle.chart_parser_prefix.specs.Prefixes.{CanFollow, IsViablePrefix}
 use Rattle.chart_parser_prefix.specs.inner.Productive.{DerivesSomeSeq}
 use Rattle.chart_parser_prefix.proofs.Cons.{first_same, no_list, rest_same}
@@ -64,7 +67,8 @@ module _ (N : NormalForm) (K : List ℕ) where
   one_more s u v many d = (by_form N).many_append s u v many (subst (NormalDerivesMany N s) (append-nil v) (of_more s v [] d (of_end s)))
 
   -- the same for a plus, which has at least one
-  plus_more : (r : ℕ) {s : Sym} {u : List ℕ} (v : List ℕ) → slice_get N.rules r ≡ Some (RuleForm.plus s) → NormalDerivesMany N s u → NormalDerives N s v → NormalDerives N (Rule r) (u ++ v)
+  plus_more : (r : ℕ) {s : Sym} {u : List ℕ} (v : List ℕ) → slice_get N.rules r ≡ Some (RuleForm.plus s) → NormalDerivesMany N s u → NormalDerives N s v
+      → NormalDerives N (Rule r) (u ++ v)
   plus_more r v at (of_end s) d = subst (NormalDerives N (Rule r)) (append-nil v) (of_plus r s v [] at d (of_end s))
   plus_more r v at (of_more s a b da mb) d = subst (NormalDerives N (Rule r)) (sym (append_assoc a b v)) (of_plus r s a (b ++ v) at da (one_more s b v mb d))
 
@@ -75,15 +79,18 @@ module _ (N : NormalForm) (K : List ℕ) where
       let (b1, b2, e2, one, others) = ((by_form N).next s after b).0 back in
       let x = ((lists N K).seq before i m).0 span in
       let tail : NormalDerivesSeq N (s ∷ after) ((w ++ rest) ++ b2) = of_next s after (w ++ rest) b2 d others in
-      let whole : NormalDerivesSeq N (before ++ s ∷ after) (between i m K ++ ((w ++ rest) ++ b2)) = ((by_form N).append before (s ∷ after) (between i m K ++ ((w ++ rest) ++ b2))).1 (between i m K, (w ++ rest) ++ b2, refl, x.2, tail) in
-      let derived : NormalDerives N (Rule r) (between i m K ++ ((w ++ rest) ++ b2)) = of_regular r alts (before ++ s ∷ after) (between i m K ++ ((w ++ rest) ++ b2)) at has whole in
+      let whole : NormalDerivesSeq N (before ++ s ∷ after) (between i m K ++ ((w ++ rest) ++ b2)) =
+      ((by_form N).append before (s ∷ after) (between i m K ++ ((w ++ rest) ++ b2))).1 (between i m K, (w ++ rest) ++ b2, refl, x.2, tail) in
+      let derived : NormalDerives N (Rule r) (between i m K ++ ((w ++ rest) ++ b2)) =
+      of_regular r alts (before ++ s ∷ after) (between i m K ++ ((w ++ rest) ++ b2)) at has whole in
       (rest ++ b2, subst (NormalDerives N (Rule r)) (sym (regroup (between i m K) w rest b2)) derived)
   predicted (of_optional r i s at) w (rest, d) =
       let none : w ++ rest ≡ (between i i K ++ w) ++ rest = ap (λ l. (l ++ w) ++ rest) (sym (between_none K i)) in
       (rest, subst (NormalDerives N (Rule r)) none (of_present r s (w ++ rest) at d))
   predicted (star_predicts r i s m at span) w (rest, d) =
       let x = ((lists N K).many s i m).0 span in
-      let derived : NormalDerives N (Rule r) (between i m K ++ (w ++ rest)) = of_star r s (between i m K ++ (w ++ rest)) at (one_more s (between i m K) (w ++ rest) x.2 d) in
+      let derived : NormalDerives N (Rule r) (between i m K ++ (w ++ rest)) =
+      of_star r s (between i m K ++ (w ++ rest)) at (one_more s (between i m K) (w ++ rest) x.2 d) in
       (rest, subst (NormalDerives N (Rule r)) (sym (append_assoc (between i m K) w rest)) derived)
   predicted (plus_predicts r i s m at span) w (rest, d) =
       let x = ((lists N K).many s i m).0 span in
@@ -114,14 +121,17 @@ module _ (N : NormalForm) (K : List ℕ) (start : Sym) where
 
   module _ (n k : ℕ) (v : List ℕ) (l : n ≤ length K) where
     -- the first symbol has the kind, or it ends before, and what follows has it
-    parts : (s : Sym) (u w : List ℕ) (i : ℕ) → i ≤ n → NormalDerives N s u → u ++ w ≡ between i n K ++ k ∷ v → ((rest : List ℕ) → u ≡ between i n K ++ k ∷ rest → IsNext n k) → ((m : ℕ) → m ≤ n → DerivesSpan N K s i m → w ≡ between m n K ++ k ∷ v → IsNext n k) → IsNext n k
+    parts : (s : Sym) (u w : List ℕ) (i : ℕ) → i ≤ n → NormalDerives N s u → u ++ w ≡ between i n K ++ k ∷ v
+        → ((rest : List ℕ) → u ≡ between i n K ++ k ∷ rest → IsNext n k) → ((m : ℕ) → m ≤ n → DerivesSpan N K s i m → w ≡ between m n K ++ k ∷ v → IsNext n k)
+        → IsNext n k
     parts s u w i le d e first second = by (split (between i n K) u w v k e)
       where
         by : IsFirst (between i n K) u k ⊎ IsSecond (between i n K) u w v k → IsNext n k
         by (inl (rest, f)) = first rest f
         by (inr (y, f, g)) =
             let (m, c) = cut K u y i n le l f in
-            second m c.before (record { rises = c.after; within = omega (arith, c.before, l); derived = subst (NormalDerives N s) (sym c.first) d }) (g ∙ ap (λ z. z ++ k ∷ v) (sym c.second))
+            second m c.before (record { rises = c.after; within = omega (arith, c.before, l); derived = subst (NormalDerives N s) (sym c.first) d })
+            (g ∙ ap (λ z. z ++ k ∷ v) (sym c.second))
 
   module _ (n k : ℕ) (l : n ≤ length K) where
     mutual
@@ -135,25 +145,31 @@ module _ (N : NormalForm) (K : List ℕ) (start : Sym) where
       one (of_regular r alts alt w at c ds) v i le x e = seq ds v r i alts [] at c (w, ds) x i le (DerivesSpanSeq.of_done i (omega (arith, le, l))) e
       one (of_absent r s at) v i le x e = absurd (none_begins (between i n K) v k e)
       one (of_present r s w at d) v i le x e = one d v i le (of_symbol (Rule r) i s i x (of_optional r i s at)) e
-      one (of_star r s w at ds) v i le x e = many ds v i i (λ m span. of_symbol (Rule r) i s m x (star_predicts r i s m at span)) le (DerivesSpanMany.of_end i (omega (arith, le, l))) e
+      one (of_star r s w at ds) v i le x e =
+          many ds v i i (λ m span. of_symbol (Rule r) i s m x (star_predicts r i s m at span)) le (DerivesSpanMany.of_end i (omega (arith, le, l))) e
       one (of_plus r s u w at d ds) v i le x e =
           let expect : (m : ℕ) → DerivesSpanMany N K s i m → IsExpected N K start s m = λ m span. of_symbol (Rule r) i s m x (plus_predicts r i s m at span) in
           let here : DerivesSpanMany N K s i i = DerivesSpanMany.of_end i (omega (arith, le, l)) in
-          parts n k v l s u w i le d e (λ rest f. one d rest i le (expect i here) f) (λ m lm span f. many ds v i m expect lm ((joins N K).one_more s i i m here span) f)
+          parts n k v l s u w i le d e (λ rest f. one d rest i le (expect i here) f)
+          (λ m lm span f. many ds v i m expect lm ((joins N K).one_more s i i m here span) f)
 
-      seq : {ss : List Sym} {w : List ℕ} → NormalDerivesSeq N ss w → (v : List ℕ) (r i : ℕ) (alts : List (List Sym)) (before : List Sym) → slice_get N.rules r ≡ Some (RuleForm.regular alts) → Contains alts (before ++ ss) → DerivesSomeSeq N (before ++ ss) →
+      seq : {ss : List Sym} {w : List ℕ} → NormalDerivesSeq N ss w → (v : List ℕ) (r i : ℕ) (alts : List (List Sym)) (before : List Sym)
+          → slice_get N.rules r ≡ Some (RuleForm.regular alts) → Contains alts (before ++ ss) → DerivesSomeSeq N (before ++ ss) →
           IsExpected N K start (Rule r) i → (m : ℕ) → m ≤ n → DerivesSpanSeq N K before i m → w ≡ between m n K ++ k ∷ v → IsNext n k
       seq of_done v r i alts before at has some x m le span e = absurd (none_begins (between m n K) v k e)
       seq (of_next s ss u w d ds) v r i alts before at has some x m le span e =
           let regrouped : before ++ s ∷ ss ≡ (before ++ s ∷ []) ++ ss = sym (append_assoc before (s ∷ []) ss) in
           parts n k v l s u w m le d e (λ rest f. one d rest m le (of_symbol (Rule r) i s m x (of_alternative r i alts before s ss m at has some span)) f)
           (λ q lq one-span f.
-          seq ds v r i alts (before ++ s ∷ []) at (subst (Contains alts) regrouped has) (subst (DerivesSomeSeq N) regrouped some) x q lq (((joins N K).append before (s ∷ []) i q).1 (m, span, ((joins N K).one s m q).1 one-span)) f)
+          seq ds v r i alts (before ++ s ∷ []) at (subst (Contains alts) regrouped has) (subst (DerivesSomeSeq N) regrouped some) x q lq
+          (((joins N K).append before (s ∷ []) i q).1 (m, span, ((joins N K).one s m q).1 one-span)) f)
 
-      many : {s : Sym} {w : List ℕ} → NormalDerivesMany N s w → (v : List ℕ) (i m : ℕ) → ((j : ℕ) → DerivesSpanMany N K s i j → IsExpected N K start s j) → m ≤ n → DerivesSpanMany N K s i m → w ≡ between m n K ++ k ∷ v → IsNext n k
+      many : {s : Sym} {w : List ℕ} → NormalDerivesMany N s w → (v : List ℕ) (i m : ℕ) → ((j : ℕ) → DerivesSpanMany N K s i j → IsExpected N K start s j)
+          → m ≤ n → DerivesSpanMany N K s i m → w ≡ between m n K ++ k ∷ v → IsNext n k
       many (of_end s) v i m expect le span e = absurd (none_begins (between m n K) v k e)
       many (of_more s u w d ds) v i m expect le span e =
-          parts n k v l s u w m le d e (λ rest f. one d rest m le (expect m span) f) (λ q lq more f. many ds v i q expect lq ((joins N K).one_more s i m q span more) f)
+          parts n k v l s u w m le d e (λ rest f. one d rest m le (expect m span) f)
+          (λ q lq more f. many ds v i q expect lq ((joins N K).one_more s i m q span more) f)
 
     -- Each kind that can follow is one of an expected token symbol.
     complete : CanFollow N start (take n K) k → IsNext n k

@@ -88,7 +88,8 @@ fn add_elements(
     last: u32,
     lists: &mut Vec<Vec<Sym>>,
 ) -> Result<(), Memory>
-    requires repeats { (slice_get chart.old.normal.rules rule ≡ Some (RuleForm.star symbol)) ⊎ (slice_get chart.old.normal.rules rule ≡ Some (RuleForm.plus symbol)) }
+    requires repeats { (slice_get chart.old.normal.rules rule ≡ Some (RuleForm.star symbol))
+        ⊎ (slice_get chart.old.normal.rules rule ≡ Some (RuleForm.plus symbol)) }
     requires last { last ≡ length chart.old.kinds }
     requires within { first ≤ length chart.old.kinds }
     requires count { length lists.old.items ≡ length chart.old.kinds + 1 }
@@ -133,7 +134,8 @@ fn is_next(chart: &mut Chart<'_>, symbol: Sym, position: u32, end: u32) -> Resul
     requires { end ≡ position + 1 }
     ensures same { chart.new ≡ chart.old }
     ensures yes { IfOk result (λ answer. IsTrue answer → DerivesSpan chart.old.normal chart.old.kinds symbol position (position + 1)) }
-    ensures no { IfOk result (λ answer. answer ≡ false → is_token symbol ≡ true → ¬ DerivesSpan chart.old.normal chart.old.kinds symbol position (position + 1)) }
+    ensures no { IfOk result (λ answer. answer ≡ false → is_token symbol ≡ true
+        → ¬ DerivesSpan chart.old.normal chart.old.kinds symbol position (position + 1)) }
 {
     if let Sym::Rule(_) = symbol {
         return Ok(false);
@@ -186,7 +188,8 @@ impl PrefixSearch<'_> {
         requires within { first ≤ length self.now.kinds.now }
         requires count { length lists.old.items ≡ length self.now.kinds.now + 1 }
         ensures same { chart.new ≡ chart.old }
-        ensures grown { OnOk result (IsGrownBy (IsInAlternatives self.now.normal.now self.now.kinds.now (alts_form alternatives.now) first) lists.old.items lists.new.items) }
+        ensures grown { OnOk result (IsGrownBy (IsInAlternatives self.now.normal.now self.now.kinds.now (alts_form alternatives.now) first) lists.old.items
+            lists.new.items) }
         ensures all { OnOk result (ExpectsAll (IsInAlternatives self.now.normal.now self.now.kinds.now (alts_form alternatives.now) first) lists.new.items) }
     {
         for symbols in alternatives {

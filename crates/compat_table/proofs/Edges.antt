@@ -1,5 +1,6 @@
 -- What fits a rule is what its edges lead to, what is in the sets there, and the pluses of the stars there.
-use Rattle.std.proofs.Common.{◌≡◌, ◌⊎◌, inl, inr, ℕ, Bool, List, [], ◌∷◌, Option, Some, None, slice_get, refl, sym, ap, ◌∙◌, subst, ◌+◌, ◌<◌, ◌≤◌, ◌++◌, length, take, get_or, arith}
+use Rattle.std.proofs.Common.{◌≡◌, ◌⊎◌, inl, inr, ℕ, Bool, List, [], ◌∷◌, Option, Some, None, slice_get, refl, sym}
+use Rattle.std.proofs.Common.{ap, ◌∙◌, subst, ◌+◌, ◌<◌, ◌≤◌, ◌++◌, length, take, get_or, arith}
 use Rattle.std.specs.Prelude.{◌≢◌}
 use Rattle.std.specs.Global.{Vec}
 use Rattle.std.specs.List.{Contains, flat_map}
@@ -23,19 +24,23 @@ use Rattle.grammar_tree.proofs.Lent.{contains_cases, contains_first, contains_no
 use Rattle.compat_table.proofs.Nulling.{alone_in, alone_of}
 
 -- one alternative more
-pub lone_more : (f : List Sym → List Sym) (alts : List (Vec Sym)) (i : ℕ) (d : Vec Sym) → i < length alts → flat_map f (alts_form (take (i + 1) alts)) ≡ flat_map f (alts_form (take i alts)) ++ f (get_or alts i d).items
+pub lone_more : (f : List Sym → List Sym) (alts : List (Vec Sym)) (i : ℕ) (d : Vec Sym) → i < length alts
+    → flat_map f (alts_form (take (i + 1) alts)) ≡ flat_map f (alts_form (take i alts)) ++ f (get_or alts i d).items
 lone_more f alts i d lt =
-    rw (add-one, take-suc alts i d lt, map-append, flat_map-append) (ap (λ l. flat_map f (alts_form (take i alts)) ++ l) (append-nil (f (get_or alts i d).items)))
+    rw (add-one, take-suc alts i d lt, map-append, flat_map-append)
+    (ap (λ l. flat_map f (alts_form (take i alts)) ++ l) (append-nil (f (get_or alts i d).items)))
 
 -- What fits the symbol t fits the rule r: t can be alone in an alternative of it, or the rule is a plus of t.
 abbrev pub Passes : NormalForm → ℕ → Sym → Type 0
-Passes N r t = ((alts : List (List Sym)) × (slice_get N.rules r ≡ Some (RuleForm.regular alts)) × CanBeAlone N alts t) ⊎ (slice_get N.rules r ≡ Some (RuleForm.plus t))
+Passes N r t =
+    ((alts : List (List Sym)) × (slice_get N.rules r ≡ Some (RuleForm.regular alts)) × CanBeAlone N alts t) ⊎ (slice_get N.rules r ≡ Some (RuleForm.plus t))
 
 pub pass_on : (N : NormalForm) (s t : Sym) (r : ℕ) → Passes N r t → Fits N s t → Fits N s (Rule r)
 pass_on N s t r (inl (alts, at, c)) f = by_alternative s t r alts at c f
 pass_on N s t r (inr at) f = by_plus s t r at f
 
-form_at : (nulls : ℕ → Bool) (rules : List RuleForm) (o : Option RuleForm) (r : ℕ) (row : List Sym) → slice_get rules r ≡ o → option_map (next_symbols nulls) o ≡ Some row → (form : RuleForm) × (slice_get rules r ≡ Some form) × (next_symbols nulls form ≡ row)
+form_at : (nulls : ℕ → Bool) (rules : List RuleForm) (o : Option RuleForm) (r : ℕ) (row : List Sym) → slice_get rules r ≡ o
+    → option_map (next_symbols nulls) o ≡ Some row → (form : RuleForm) × (slice_get rules r ≡ Some form) × (next_symbols nulls form ≡ row)
 form_at nulls rules None r row at e = absurd (none-some row e)
 form_at nulls rules (Some form) r row at e = (form, at, same_Some (next_symbols nulls form) row e)
 
@@ -59,7 +64,12 @@ module _ (N : NormalForm) (nulls : ℕ → Bool) (exact : AreNullable N nulls) w
       passes_of found.0 r t found.1 (subst P (sym found.2) c)
 
   pub edge_of : (r : ℕ) (t : Sym) → Passes N r t → HasEdge Edges r t
-  edge_of r t (inl (alts, at, c)) = (flat_map (lone_symbols nulls) alts, slice_get-map (next_symbols nulls) N.rules r ∙ ap (option_map (next_symbols nulls)) at, alone_of N nulls exact alts t c)
+  edge_of r t (inl (alts, at, c)) = (
+    flat_map (lone_symbols nulls) alts,
+    slice_get-map (next_symbols nulls) N.rules r
+        ∙ ap (option_map (next_symbols nulls)) at,
+    alone_of N nulls exact alts t c,
+  )
   edge_of r t (inr at) = (t ∷ [], slice_get-map (next_symbols nulls) N.rules r ∙ ap (option_map (next_symbols nulls)) at, contains_first t [] t refl)
 
   -- what fits a symbol that a rule leads to fits the rule
@@ -110,7 +120,9 @@ module _ (N : NormalForm) (nulls : ℕ → Bool) (exact : AreNullable N nulls) w
 
   -- each rule that an edge leads to is one of the form's
   known_rule : HasKnownSymbols N → (r q : ℕ) → Passes N r (Rule q) → q < length N.rules
-  known_rule known r q (inl (alts, at, c)) = known.known r (RuleForm.regular alts) (Rule q) at (c.before ++ Rule q ∷ c.after, c.there, Contains-append_right c.before (Rule q ∷ c.after) (Rule q) (contains_first (Rule q) c.after (Rule q) refl))
+  known_rule known r q (inl (alts, at, c)) =
+      known.known r (RuleForm.regular alts) (Rule q) at
+      (c.before ++ Rule q ∷ c.after, c.there, Contains-append_right c.before (Rule q ∷ c.after) (Rule q) (contains_first (Rule q) c.after (Rule q) refl))
   known_rule known r q (inr at) = known.known r (RuleForm.plus (Rule q)) (Rule q) at refl
 
   pub closed : HasKnownSymbols N → IsClosed Edges
@@ -122,7 +134,8 @@ module _ (N : NormalForm) (nulls : ℕ → Bool) (exact : AreNullable N nulls) w
 
   -- the rule, or one that it leads to, is a rule of the form only where the rule is
   begins_or : (r q : ℕ) (t : Sym) → IsOrLeads r q → slice_get N.rules q ≡ Some (RuleForm.star t) → r < length Edges
-  begins_or r q t (inl same) star = let below = slice_get_within N.rules q (RuleForm.star t) star in omega (arith, below, same, length-map N.rules (next_symbols nulls))
+  begins_or r q t (inl same) star = let below =
+      slice_get_within N.rules q (RuleForm.star t) star in omega (arith, below, same, length-map N.rules (next_symbols nulls))
   begins_or r q t (inr path) star = begins r (Rule q) path
 
   module _ (rows stars : List Symbols) (are : AreRowsOf Edges rows) (stars_are : AreStarsOf N.rules rows stars) where
@@ -136,18 +149,21 @@ module _ (N : NormalForm) (nulls : ℕ → Bool) (exact : AreNullable N nulls) w
         let P : Sym → Type 0 = λ x. Fits N x (Rule r) in
         subst P (sym e) (fits_along r (Rule p) (Rule q) ((are.are r row at).sound (Rule q) found) (in_star t p q plus star))
 
-    pub row_fits : (row symbols : Symbols) (r : ℕ) (s : Sym) → slice_get rows r ≡ Some row → slice_get stars r ≡ Some symbols → IsInRow N row symbols s → Fits N s (Rule r)
+    pub row_fits : (row symbols : Symbols) (r : ℕ) (s : Sym) → slice_get rows r ≡ Some row → slice_get stars r ≡ Some symbols → IsInRow N row symbols s
+        → Fits N s (Rule r)
     row_fits row symbols r s at with_stars (inl found) = fits_along r s s ((are.are r row at).sound s found) (itself s)
     row_fits row symbols r s at with_stars (inr (inl (i, found, (k, ks, e, in_it, c)))) =
         let P : Sym → Type 0 = λ x. Fits N x (Rule r) in
         subst P (sym e) (fits_along r (Kind k) (Set i) ((are.are r row at).sound (Set i) found) (in_set k i ks in_it c))
     row_fits row symbols r s at with_stars (inr (inr (t, plus, found))) = star_fits row r s t at plus ((stars_are.are r row symbols at with_stars t).0 found)
 
-    has_star : (row : Symbols) (r q : ℕ) (t : Sym) → slice_get rows r ≡ Some row → IsOrLeads r q → slice_get N.rules q ≡ Some (RuleForm.star t) → HasStar N.rules r row.rules t
+    has_star : (row : Symbols) (r q : ℕ) (t : Sym) → slice_get rows r ≡ Some row → IsOrLeads r q → slice_get N.rules q ≡ Some (RuleForm.star t)
+        → HasStar N.rules r row.rules t
     has_star row r q t at (inl same) star = (q, inl same, star)
     has_star row r q t at (inr path) star = (q, inr ((are.are r row at).complete (Rule q) path), star)
 
-    pub fits_row : (row symbols : Symbols) (r : ℕ) (s : Sym) → slice_get rows r ≡ Some row → slice_get stars r ≡ Some symbols → s ≢ Rule r → Fits N s (Rule r) → IsInRow N row symbols s
+    pub fits_row : (row symbols : Symbols) (r : ℕ) (s : Sym) → slice_get rows r ≡ Some row → slice_get stars r ≡ Some symbols → s ≢ Rule r → Fits N s (Rule r)
+        → IsInRow N row symbols s
     fits_row row symbols r s at with_stars apart f = elim (led s r f) [
       | inl same ↦ absurd (apart same)
       | inr (inl path) ↦ inl ((are.are r row at).complete s path)

@@ -1,5 +1,6 @@
 -- The symbols of the stars among rules.
-use Rattle.std.proofs.Common.{◌≡◌, ◌⊎◌, inl, inr, ℕ, false, List, [], ◌∷◌, ◌++◌, Option, Some, length, map, slice_get, refl, sym, ap, ◌∙◌, subst, arith, true≢false}
+use Rattle.std.proofs.Common.{◌≡◌, ◌⊎◌, inl, inr, ℕ, false, List, [], ◌∷◌, ◌++◌, Option, Some, length, map}
+use Rattle.std.proofs.Common.{slice_get, refl, sym, ap, ◌∙◌, subst, arith, true≢false}
 use Rattle.std.specs.Prelude.{◌↔◌}
 use Rattle.std.proofs.Math.Dec.{ltb}
 use Rattle.std.proofs.lemmas.Bool.{lt-ltb}
@@ -14,7 +15,8 @@ use Rattle.normal_form.specs.View.{rule_form}
 use Rattle.compat_table.specs.inner.Rows.{AreStars, HasStar, IsAmong, IsGrown, Symbols}
 
 -- a symbol that is read off the form of a rule is read off the rule with its number
-pub form_found : (rules : List RuleForm) (r : ℕ) (form other : RuleForm) (o : Option Sym) (t : Sym) → slice_get rules r ≡ Some form → (o ≡ Some t) ↔ (form ≡ other) → (o ≡ Some t) ↔ (slice_get rules r ≡ Some other)
+pub form_found : (rules : List RuleForm) (r : ℕ) (form other : RuleForm) (o : Option Sym) (t : Sym) → slice_get rules r ≡ Some form → (o ≡ Some t)
+    ↔ (form ≡ other) → (o ≡ Some t) ↔ (slice_get rules r ≡ Some other)
 form_found rules r form other o t at law = (λ e. at ∙ ap Some (law.0 e), λ f. law.1 (same_Some form other (sym at ∙ f)))
 
 -- and none where no rule has it
@@ -55,7 +57,8 @@ module _ (rules : List RuleForm) where
     pub stars_begun : (none new : Symbols) → ((t : Sym) → IsAmong none t → ⊥) → IsPushed r none new → AreStars rules r [] new
     stars_begun none new empty pushed t = (
       λ c. elim ((pushed t).0 c) [ inl old ↦ absurd (empty t old) | inr star ↦ (r, inl refl, star) ],
-      λ (q, at, star). (pushed t).1 (inr (elim at [ inl same ↦ subst (λ (x : ℕ). slice_get rules x ≡ Some (RuleForm.star t)) same star | inr c ↦ absurd (contains_none q c) ])),
+      λ (q, at, star). (pushed t).1
+          (inr (elim at [ inl same ↦ subst (λ (x : ℕ). slice_get rules x ≡ Some (RuleForm.star t)) same star | inr c ↦ absurd (contains_none q c) ])),
     )
 
     -- with one rule more

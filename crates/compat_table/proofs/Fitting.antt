@@ -14,7 +14,8 @@ use Rattle.compat_table.specs.Laws.{FitsByForm, FitsThrough, SlotsDeriveMore}
 
 module _ (N : NormalForm) where
   -- a symbol among others that derive the empty list
-  around : (before after : List Sym) (t : Sym) (w : List ℕ) → NormalDerivesSeq N before [] → NormalDerivesSeq N after [] → NormalDerives N t w → NormalDerivesSeq N (before ++ t ∷ after) w
+  around : (before after : List Sym) (t : Sym) (w : List ℕ) → NormalDerivesSeq N before [] → NormalDerivesSeq N after [] → NormalDerives N t w
+      → NormalDerivesSeq N (before ++ t ∷ after) w
   around before after t w b a d =
       let forms = derives_by_form N in
       (forms.append before (t ∷ after) w).1 ([], w, refl, b, (forms.next t after w).1 (w, [], sym (append-nil w), d, a))
@@ -25,13 +26,16 @@ module _ (N : NormalForm) where
   plus_derives : (u : Sym) (r : ℕ) (w : List ℕ) → slice_get N.rules r ≡ Some (RuleForm.plus u) → NormalDerives N u w → NormalDerives N (Rule r) w
   plus_derives u r w at d = let P : List ℕ → Type 0 = λ x. NormalDerives N (Rule r) x in subst P (append-nil w) (of_plus r u w [] at d (of_end u))
 
-  star_derives : (u : Sym) (r : ℕ) (w : List ℕ) → slice_get N.rules r ≡ Some (RuleForm.star u) → CutsInto (NormalDerives N u) (NormalDerivesMany N u) w → NormalDerives N (Rule r) w
-  star_derives u r w at (a, b, e, d, m) = let P : List ℕ → Type 0 = λ x. NormalDerives N (Rule r) x in subst P (sym e) (of_star r u (a ++ b) at (of_more u a b d m))
+  star_derives : (u : Sym) (r : ℕ) (w : List ℕ) → slice_get N.rules r ≡ Some (RuleForm.star u) → CutsInto (NormalDerives N u) (NormalDerivesMany N u) w
+      → NormalDerives N (Rule r) w
+  star_derives u r w at (a, b, e, d, m) = let P : List ℕ → Type 0 =
+      λ x. NormalDerives N (Rule r) x in subst P (sym e) (of_star r u (a ++ b) at (of_more u a b d m))
 
   derives : (s t : Sym) → Fits N s t → (w : List ℕ) → NormalDerives N s w → NormalDerives N t w
   derives s t (itself s') w d = d
   derives s t (in_set k i ks at c) w d = in_set_derives k i ks w at c d
-  derives s t (by_alternative s' u r alts at c f) w d = of_regular r alts (c.before ++ u ∷ c.after) w at c.there (around c.before c.after u w c.nothing_before c.nothing_after (derives s u f w d))
+  derives s t (by_alternative s' u r alts at c f) w d =
+      of_regular r alts (c.before ++ u ∷ c.after) w at c.there (around c.before c.after u w c.nothing_before c.nothing_after (derives s u f w d))
   derives s t (by_plus s' u r at f) w d = plus_derives u r w at (derives s u f w d)
   derives s t (in_star u p r plus star) w d = star_derives u r w star (((derives_by_form N).plus p u w plus).0 d)
 

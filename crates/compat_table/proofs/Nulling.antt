@@ -1,5 +1,7 @@
 -- The least table that is closed under the rules says exactly which of them derive the empty list.
-use Rattle.std.proofs.Common.{◌≡◌, ◌⊎◌, inl, inr, ◌↔◌, ℕ, zero, suc, ◌+◌, ◌<◌, ◌≤◌, Bool, true, false, ◌||◌, ◌&&◌, List, [], ◌∷◌, ◌++◌, Option, Some, None, length, take, drop, drop-cons, length-append, slice_get, slice_set, get_or-set_other, refl, sym, ap, ◌∙◌, subst, arith, true≢false}
+use Rattle.std.proofs.Common.{◌≡◌, ◌⊎◌, inl, inr, ◌↔◌, ℕ, zero, suc, ◌+◌, ◌<◌, ◌≤◌, Bool, true, false, ◌||◌, ◌&&◌, List, [], ◌∷◌, ◌++◌, Option, Some, None}
+use Rattle.std.proofs.Common.{length, take, drop, drop-cons, length-append, slice_get, slice_set, get_or-set_other, refl, sym, ap, ◌∙◌, subst, arith}
+use Rattle.std.proofs.Common.{true≢false}
 use Rattle.std.specs.Prelude.{if◌then◌else◌, nat_eq}
 use Rattle.std.specs.Global.{Vec}
 use Rattle.std.specs.List.{Contains, flat_map, list_all, list_any}
@@ -15,7 +17,8 @@ use Rattle.grammar_tree.proofs.Lent.{contains_cases, contains_filter, contains_n
 use Rattle.normal_form.specs.declared.normal.Sym.{Sym}
 use Rattle.normal_form.specs.declared.normal.Sym.TheVariants.{Kind, Set, Rule}
 use Rattle.normal_form.specs.Form.{RuleForm, NormalForm}
-use Rattle.normal_form.specs.NormalDerives.{NormalDerives, NormalDerivesSeq, of_kind, of_set, of_regular, of_absent, of_present, of_star, of_plus, of_done, of_next, of_end}
+use Rattle.normal_form.specs.NormalDerives.{NormalDerives, NormalDerivesSeq, of_kind, of_set, of_regular, of_absent}
+use Rattle.normal_form.specs.NormalDerives.{of_present, of_star, of_plus, of_done, of_next, of_end}
 use Rattle.normal_form.specs.View.{alts_form}
 use Rattle.compat_table.specs.Fits.{CanBeAlone}
 use Rattle.compat_table.specs.Nullable.{AreNullable, form_is_nullable, is_nullable, numbered_is_nullable}
@@ -61,7 +64,8 @@ module _ (N : NormalForm) (nulls : ℕ → Bool) where
 
     all_derive : (ss : List Sym) → list_all (is_nullable nulls) ss ≡ true → NormalDerivesSeq N ss []
     all_derive [] h = of_done
-    all_derive (s ∷ ss) h = let both = and_both (is_nullable nulls s) (list_all (is_nullable nulls) ss) h in of_next s ss [] [] (one_derives s both.0) (all_derive ss both.1)
+    all_derive (s ∷ ss) h = let both =
+        and_both (is_nullable nulls s) (list_all (is_nullable nulls) ss) h in of_next s ss [] [] (one_derives s both.0) (all_derive ss both.1)
 
     form_derives : (r : ℕ) (form : RuleForm) → slice_get N.rules r ≡ Some form → form_is_nullable nulls form ≡ true → NormalDerives N (Rule r) []
     form_derives r (RuleForm.regular alts) at h =
@@ -71,7 +75,8 @@ module _ (N : NormalForm) (nulls : ℕ → Bool) where
     form_derives r (RuleForm.opt s) at h = of_absent r s at
     form_derives r (RuleForm.plus s) at h = of_plus r s [] [] at (one_derives s h) (of_end s)
 
-    pub numbered_derives : (r : ℕ) (o : Option RuleForm) → slice_get N.rules r ≡ o → option_map_or (form_is_nullable nulls) o false ≡ true → NormalDerives N (Rule r) []
+    pub numbered_derives : (r : ℕ) (o : Option RuleForm) → slice_get N.rules r ≡ o → option_map_or (form_is_nullable nulls) o false ≡ true
+        → NormalDerives N (Rule r) []
     numbered_derives r None at h = absurd (true≢false (sym h))
     numbered_derives r (Some form) at h = form_derives r form at h
 
@@ -88,7 +93,9 @@ module _ (N : NormalForm) (nulls : ℕ → Bool) where
 
       all_pass : {ss : List Sym} {w : List ℕ} → NormalDerivesSeq N ss w → length w ≡ 0 → list_all (is_nullable nulls) ss ≡ true
       all_pass of_done e = refl
-      all_pass (of_next s ss u v d ds) e = from_both (is_nullable nulls s) (list_all (is_nullable nulls) ss) (one_passes d (omega (arith, e, length-append u v))) (all_pass ds (omega (arith, e, length-append u v)))
+      all_pass (of_next s ss u v d ds) e =
+          from_both (is_nullable nulls s) (list_all (is_nullable nulls) ss) (one_passes d (omega (arith, e, length-append u v)))
+          (all_pass ds (omega (arith, e, length-append u v)))
 
   -- Where the table says exactly which rules derive the empty list, so do the tests by it.
   module _ (exact : AreNullable N nulls) where
@@ -157,7 +164,8 @@ module _ (N : NormalForm) (nulls : ℕ → Bool) where
         let P : List Sym → Type 0 = λ l. Contains alts l in
         record { before = before; after = after; there = subst P e has; nothing_before = b; nothing_after = a }
 
-    among_all : (alts : List (List Sym)) (alt : List Sym) (t : Sym) → Contains alts alt → Contains (lone_symbols nulls alt) t → Contains (flat_map (lone_symbols nulls) alts) t
+    among_all : (alts : List (List Sym)) (alt : List Sym) (t : Sym) → Contains alts alt → Contains (lone_symbols nulls alt) t
+        → Contains (flat_map (lone_symbols nulls) alts) t
     among_all [] alt t has c = absurd (contains_none alt has)
     among_all (first ∷ alts) alt t has c = elim (contains_cases first alts alt has) [
       | inl same ↦
@@ -167,7 +175,8 @@ module _ (N : NormalForm) (nulls : ℕ → Bool) where
     ]
 
     pub alone_of : (alts : List (List Sym)) (t : Sym) → CanBeAlone N alts t → Contains (flat_map (lone_symbols nulls) alts) t
-    alone_of alts t c = among_all alts (c.before ++ t ∷ c.after) t c.there (lone_of (c.before ++ t ∷ c.after) t (c.before, c.after, refl, c.nothing_before, c.nothing_after))
+    alone_of alts t c =
+        among_all alts (c.before ++ t ∷ c.after) t c.there (lone_of (c.before ++ t ∷ c.after) t (c.before, c.after, refl, c.nothing_before, c.nothing_after))
 
 module _ (N : NormalForm) where
   abbrev IsSound : (ℕ → Bool) → Type 0
@@ -187,8 +196,11 @@ module _ (N : NormalForm) where
   are_sound (IsMarked.by_one flags n before lt h) = marked flags n h (are_sound before)
 
   pub are_nullable : (flags : List Bool) → IsMarked test flags → ((n : ℕ) → n < length N.rules → IsClosedAt test flags n) → AreNullable N (flag flags)
-  are_nullable flags marks closed r =
-      (are_sound marks r, λ d. one_passes N (flag flags) (λ q form at h. closed q (slice_get_within N.rules q form at) (ap (λ o. option_map_or (form_is_nullable (flag flags)) o false) at ∙ h)) d refl)
+  are_nullable flags marks closed r = (
+    are_sound marks r,
+    λ d. one_passes N (flag flags)
+        (λ q form at h. closed q (slice_get_within N.rules q form at) (ap (λ o. option_map_or (form_is_nullable (flag flags)) o false) at ∙ h)) d refl,
+  )
 
 -- no more symbols are needed than there are
 pub needed_within : (nulls : ℕ → Bool) (ss : List Sym) → needed nulls ss ≤ length ss

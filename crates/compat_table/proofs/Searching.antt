@@ -1,5 +1,6 @@
 -- A search from a rule finds exactly the symbols that it leads to.
-use Rattle.std.proofs.Common.{◌≡◌, ◌⊎◌, inl, inr, ℕ, zero, suc, ◌+◌, ◌<◌, ◌≤◌, List, [], ◌∷◌, ◌++◌, Some, length, map, slice_get, slice_index, get_or, refl, sym, ap, ◌∙◌, subst, arith, true≢false}
+use Rattle.std.proofs.Common.{◌≡◌, ◌⊎◌, inl, inr, ℕ, zero, suc, ◌+◌, ◌<◌, ◌≤◌, List, [], ◌∷◌, ◌++◌, Some, length, map}
+use Rattle.std.proofs.Common.{slice_get, slice_index, get_or, refl, sym, ap, ◌∙◌, subst, arith, true≢false}
 use Rattle.std.specs.Prelude.{◌≢◌, if◌then◌else◌, nat_eq, slice_set}
 use Rattle.std.specs.Global.{Vec}
 use Rattle.std.specs.List.{All, Contains}
@@ -52,12 +53,14 @@ abbrev other_mark : ℕ → ℕ → ℕ
 other_mark number m = if nat_eq m number then 0 else 1
 
 -- A rule that isn't marked is added and marked.
-pub marked_more : (marks : List ℕ) (number r : ℕ) (row new : Symbols) → r < length marks → (slice_index marks r ≡ number → ⊥) → new.rules ≡ row.rules ++ r ∷ [] → IsMarked marks number row → IsMarked (slice_set marks r number) number new
+pub marked_more : (marks : List ℕ) (number r : ℕ) (row new : Symbols) → r < length marks → (slice_index marks r ≡ number → ⊥) → new.rules ≡ row.rules ++ r ∷ []
+    → IsMarked marks number row → IsMarked (slice_set marks r number) number new
 marked_more marks number r row new lt differs e m =
     let len : length (slice_set marks r number) ≡ length marks = length-set marks r number in
     record {
       known = λ q below is. elim (cases_Bool (nat_eq q r)) [
-        | inl same ↦ let at : r ≡ q = sym ((Decides-eqb q r).0 same) in let P : ℕ → Type 0 = λ x. Contains new.rules x in subst P at (one_more_there row.rules new.rules r e)
+        | inl same ↦ let at : r ≡ q = sym ((Decides-eqb q r).0 same) in let P : ℕ → Type 0 =
+            λ x. Contains new.rules x in subst P at (one_more_there row.rules new.rules r e)
         | inr other ↦
             let apart : q ≢ r = (λ same. true≢false (sym ((Decides-eqb q r).1 same) ∙ other)) in
             one_more_kept row.rules new.rules r q e (m.known q (omega (arith, below, len)) (sym (get_or-set_other marks r q number 0 apart) ∙ is))
@@ -104,11 +107,13 @@ got_at f (y ∷ xs) zero x lt e = ap (λ z. Some (f z)) (sym e)
 got_at f (y ∷ xs) (suc i) x lt e = got_at f xs i x (omega arith) e
 
 -- the edges of a rule that were read
-pub row_at : (edges : List (Vec Sym)) (i : ℕ) (x : Vec Sym) (row : List Sym) → i < length edges → x ≡ get_or edges i x → row ≡ x.items → slice_get (edges_of edges) i ≡ Some row
+pub row_at : (edges : List (Vec Sym)) (i : ℕ) (x : Vec Sym) (row : List Sym) → i < length edges → x ≡ get_or edges i x → row ≡ x.items
+    → slice_get (edges_of edges) i ≡ Some row
 row_at edges i x row lt e f = got_at (λ (v : Vec Sym). v.items) edges i x lt e ∙ ap Some (sym f)
 
 -- what is at an index of a list with one more
-pub got_more : {X Y : Type 0} (f : X → Y) (xs : List X) (x : X) (i : ℕ) (y : Y) → slice_get (map f (xs ++ x ∷ [])) i ≡ Some y → (slice_get (map f xs) i ≡ Some y) ⊎ ((i ≡ length xs) × (f x ≡ y))
+pub got_more : {X Y : Type 0} (f : X → Y) (xs : List X) (x : X) (i : ℕ) (y : Y) → slice_get (map f (xs ++ x ∷ [])) i ≡ Some y
+    → (slice_get (map f xs) i ≡ Some y) ⊎ ((i ≡ length xs) × (f x ≡ y))
 got_more f [] x zero y e = inr (refl, same_Some (f x) y e)
 got_more f [] x (suc i) y e = absurd (none-some y e)
 got_more f (z ∷ xs) x zero y e = inl e
@@ -119,7 +124,8 @@ module _ (edges : List (List Sym)) (r : ℕ) where
   same_row : (i : ℕ) (t : Sym) (row : List Sym) → slice_get edges i ≡ Some row → HasEdge edges i t → Contains row t
   same_row i t row at (other, at', c) = let P : List Sym → Type 0 = λ l. Contains l t in subst P (same_Some other row (sym at' ∙ at)) c
 
-  pub search_begun : (none row : Symbols) (symbols : List Sym) → slice_get edges r ≡ Some symbols → ((t : Sym) → IsAmong none t → ⊥) → IsGrown symbols none row → IsSearched edges r row 0
+  pub search_begun : (none row : Symbols) (symbols : List Sym) → slice_get edges r ≡ Some symbols → ((t : Sym) → IsAmong none t → ⊥) → IsGrown symbols none row
+      → IsSearched edges r row 0
   search_begun none row symbols at empty g =
       record {
         sound = λ t c. elim (g.only t c) [ inl old ↦ absurd (empty t old) | inr new ↦ LeadsTo.by_edge r t (symbols, at, new) ];
@@ -129,13 +135,15 @@ module _ (edges : List (List Sym)) (r : ℕ) where
 
   -- what a rule leads to, and one symbol more
   further_from : (i q : ℕ) (u t : Sym) → u ≡ Rule q → LeadsTo edges i u → HasEdge edges q t → LeadsTo edges i t
-  further_from i q u t e (LeadsTo.by_edge i' u' first) edge = let P : Sym → Type 0 = λ x. HasEdge edges i x in LeadsTo.by_edges i q t (subst P e first) (LeadsTo.by_edge q t edge)
+  further_from i q u t e (LeadsTo.by_edge i' u' first) edge = let P : Sym → Type 0 =
+      λ x. HasEdge edges i x in LeadsTo.by_edges i q t (subst P e first) (LeadsTo.by_edge q t edge)
   further_from i q u t e (LeadsTo.by_edges i' p u' first path) edge = LeadsTo.by_edges i p t first (further_from p q u t e path edge)
 
   further : (i q : ℕ) (t : Sym) → LeadsTo edges i (Rule q) → HasEdge edges q t → LeadsTo edges i t
   further i q t path edge = further_from i q (Rule q) t refl path edge
 
-  pub search_more : (old new : Symbols) (symbols : List Sym) (done q : ℕ) → IsSearched edges r old done → done < length old.rules → q ≡ slice_index old.rules done → slice_get edges q ≡ Some symbols → IsGrown symbols old new → IsSearched edges r new (done + 1)
+  pub search_more : (old new : Symbols) (symbols : List Sym) (done q : ℕ) → IsSearched edges r old done → done < length old.rules
+      → q ≡ slice_index old.rules done → slice_get edges q ≡ Some symbols → IsGrown symbols old new → IsSearched edges r new (done + 1)
   search_more old new symbols done q s lt is at g =
       let there : Contains old.rules q = (done, lt, get_or_default old.rules done q 0 lt ∙ sym is) in
       record {
@@ -147,15 +155,18 @@ module _ (edges : List (List Sym)) (r : ℕ) where
             let before = subst P front edge in
             elim (cases_lt k done) [
               | inl earlier ↦ g.kept t (s.closed k t earlier before)
-              | inr last ↦ let same : slice_index old.rules k ≡ q = ap (λ i. slice_index old.rules i) (omega arith) ∙ sym is in g.added t (same_row q t symbols at (subst P same before))
+              | inr last ↦ let same : slice_index old.rules k ≡ q =
+                  ap (λ i. slice_index old.rules i) (omega arith) ∙ sym is in g.added t (same_row q t symbols at (subst P same before))
             ];
       }
 
-  all_found : (i : ℕ) (t : Sym) (row : Symbols) → IsSearched edges r row (length row.rules) → ((u : Sym) → HasEdge edges i u → IsAmong row u) → LeadsTo edges i t → IsAmong row t
+  all_found : (i : ℕ) (t : Sym) (row : Symbols) → IsSearched edges r row (length row.rules) → ((u : Sym) → HasEdge edges i u → IsAmong row u)
+      → LeadsTo edges i t → IsAmong row t
   all_found i t row s first (LeadsTo.by_edge i' t' edge) = first t edge
   all_found i t row s first (LeadsTo.by_edges i' q t' edge path) =
       let it = first (Rule q) edge in
-      all_found q t row s (λ u e. let P : ℕ → Type 0 = λ x. HasEdge edges x u in s.closed it.0 u it.1 (subst P (sym (get_or_default row.rules it.0 0 q it.1 ∙ it.2)) e)) path
+      all_found q t row s (λ u e. let P : ℕ → Type 0 = λ x. HasEdge edges x u in
+      s.closed it.0 u it.1 (subst P (sym (get_or_default row.rules it.0 0 q it.1 ∙ it.2)) e)) path
 
   pub searched_whole : (row : Symbols) (done : ℕ) → IsSearched edges r row done → length row.rules ≤ done → done ≤ length row.rules → IsRowOf edges r row
   searched_whole row done s over under =

@@ -21,7 +21,8 @@ pub data Fits (N : NormalForm) : Sym → Sym → Type 0 where
   -- a kind fits a set that has it
   in_set : (k i : ℕ) (ks : List ℕ) → slice_get N.sets i ≡ Some ks → Contains ks k → Fits N (Kind k) (Set i)
   -- a symbol fits a regular rule where it fits a symbol that can be alone in an alternative
-  by_alternative : (s t : Sym) (r : ℕ) (alts : List (List Sym)) → slice_get N.rules r ≡ Some (RuleForm.regular alts) → CanBeAlone N alts t → Fits N s t → Fits N s (Rule r)
+  by_alternative : (s t : Sym) (r : ℕ) (alts : List (List Sym)) → slice_get N.rules r ≡ Some (RuleForm.regular alts) → CanBeAlone N alts t → Fits N s t
+      → Fits N s (Rule r)
   -- a symbol fits a plus whose symbol it fits
   by_plus : (s t : Sym) (r : ℕ) → slice_get N.rules r ≡ Some (RuleForm.plus t) → Fits N s t → Fits N s (Rule r)
   -- a plus fits a star with the same symbol

@@ -111,7 +111,8 @@ impl Row {
     /// The same symbols, each once, by rising numbers.
     pub(crate) fn sorted(self) -> Row
         ensures sorted { IsSortedRow (symbols_of result) }
-        ensures same { (t : Symbol) → (IsAmong (symbols_of result) t → IsAmong (symbols_of self) t) × (IsAmong (symbols_of self) t → IsAmong (symbols_of result) t) }
+        ensures same { (t : Symbol) → (IsAmong (symbols_of result) t → IsAmong (symbols_of self) t)
+            × (IsAmong (symbols_of self) t → IsAmong (symbols_of result) t) }
     {
         let Row { kinds, sets, rules } = self;
         Row {

@@ -55,7 +55,8 @@ fn star_symbol(rules: &[NormalRule], rule: u32) -> Option<Sym>
 
 /// Adds the symbol of the rule with this number, where that is a star.
 fn push_star(stars: &mut Row, rules: &[NormalRule], rule: u32) -> Result<(), Memory>
-    ensures { OnOk result ((t : Symbol) → IsAmong (symbols_of stars.new) t ↔ (IsAmong (symbols_of stars.old) t ⊎ (slice_get (map rule_form rules.now) rule ≡ Some (RuleForm.star t)))) }
+    ensures { OnOk result ((t : Symbol) → IsAmong (symbols_of stars.new) t
+        ↔ (IsAmong (symbols_of stars.old) t ⊎ (slice_get (map rule_form rules.now) rule ≡ Some (RuleForm.star t)))) }
 {
     match star_symbol(rules, rule) {
         Some(symbol) => {

@@ -16,7 +16,8 @@ use Rattle.grammar_check_faults.specs.Twins.{IsTwinAt}
 use Rattle.grammar_check_faults.specs.Unknown.{IsFirstUnknown, IsUnknownAt}
 use Rattle.grammar_check.specs.declared.fault.CheckFault.{CheckFault}
 use Rattle.grammar_check.specs.declared.fault.CheckFault.TheVariants as variant
-use Rattle.grammar_check_faults.proofs.Lent.{HasRules, baseless_are_rules, empty_loops_in_rules, eof_in_rules, loops_are_rules, recursive_are_rules, shorts_are_rules, tokens_are_rules, no_two}
+use Rattle.grammar_check_faults.proofs.Lent.{HasRules, baseless_are_rules, empty_loops_in_rules, eof_in_rules, loops_are_rules}
+use Rattle.grammar_check_faults.proofs.Lent.{recursive_are_rules, shorts_are_rules, tokens_are_rules, no_two}
 use Rattle.grammar_check.proofs.Table.{IsOfRow, first_at, first_named, none_at_all, passed}
 
 module _ (G : WrittenGrammar) (wanted : Option (List ℕ)) where
@@ -55,7 +56,8 @@ module _ (G : WrittenGrammar) (wanted : Option (List ℕ)) where
   no_rule name one is = first_at G wanted (variant.NoRule name) (IsUnknownAt G) unknown (before_unknown one) is.0 is.2 is.1.before
 
   pub no_start : (name : List ℕ) → Nowhere (IsTwinAt G) → Nowhere (IsUnknownAt G) → NoStart G wanted name → IsFirstInTable G wanted (variant.NoStart name)
-  no_start name one known h = first_at G wanted (variant.NoStart name) (λ i. (n : List ℕ) × NoStart G wanted n) missing (before_start one known) 0 h (λ j lt. omega (arith, lt))
+  no_start name one known h =
+      first_at G wanted (variant.NoStart name) (λ i. (n : List ℕ) × NoStart G wanted n) missing (before_start one known) 0 h (λ j lt. omega (arith, lt))
 
   module _ (start : ℕ) (found : start_of G wanted ≡ Some start) where
     eof : IsOfRow G wanted 4 (fault.EofPlace G start)
@@ -64,7 +66,8 @@ module _ (G : WrittenGrammar) (wanted : Option (List ℕ)) where
         subst P (same_Some h.1.0 start (sym h.1.1 ∙ found)) h.1.2
 
     pub before_eof : Nowhere (IsTwinAt G) → Nowhere (IsUnknownAt G) → HasNoneBefore G wanted 4
-    before_eof one known = passed G wanted 3 (λ i. (n : List ℕ) × NoStart G wanted n) missing (before_start one known) (λ i h. (start_is_found G).there wanted start found h.0 h.1)
+    before_eof one known =
+        passed G wanted 3 (λ i. (n : List ℕ) × NoStart G wanted n) missing (before_start one known) (λ i h. (start_is_found G).there wanted start found h.0 h.1)
 
     pub eof_at : (name : List ℕ) → HasNoneBefore G wanted 4 → IsFirstNamed G (fault.EofPlace G start) name → IsFirstInTable G wanted (variant.EofPlace name)
     eof_at name none is = first_named G wanted (variant.EofPlace name) (fault.EofPlace G start) name eof none (λ i at p. (at, (start, found, p))) is
@@ -72,7 +75,8 @@ module _ (G : WrittenGrammar) (wanted : Option (List ℕ)) where
     pub before_loops : HasNoneBefore G wanted 4 → Nowhere (fault.EofPlace G start) → HasNoneBefore G wanted 5
     before_loops none ends = passed G wanted 4 (fault.EofPlace G start) eof none ends
 
-  pub fragment_loop : (name : List ℕ) → HasNoneBefore G wanted 5 → IsFirstNamed G (fault.FragmentLoop G) name → IsFirstInTable G wanted (variant.FragmentLoop name)
+  pub fragment_loop : (name : List ℕ) → HasNoneBefore G wanted 5 → IsFirstNamed G (fault.FragmentLoop G) name
+      → IsFirstInTable G wanted (variant.FragmentLoop name)
   fragment_loop name none is = first_named G wanted (variant.FragmentLoop name) (fault.FragmentLoop G) name (λ i n c h. h.1) none (λ i at p. (at, p)) is
 
   pub before_short_uses : HasNoneBefore G wanted 5 → Nowhere (fault.FragmentLoop G) → HasNoneBefore G wanted 6
@@ -102,7 +106,8 @@ module _ (G : WrittenGrammar) (wanted : Option (List ℕ)) where
   pub before_recursion : HasNoneBefore G wanted 9 → Nowhere (fault.EmptyLoop G) → HasNoneBefore G wanted 10
   before_recursion none here = passed G wanted 9 (fault.EmptyLoop G) (λ i n c h. h.1) none here
 
-  pub left_recursion : (name : List ℕ) → HasNoneBefore G wanted 10 → IsFirstNamed G (fault.LeftRecursion G) name → IsFirstInTable G wanted (variant.LeftRecursion name)
+  pub left_recursion : (name : List ℕ) → HasNoneBefore G wanted 10 → IsFirstNamed G (fault.LeftRecursion G) name
+      → IsFirstInTable G wanted (variant.LeftRecursion name)
   left_recursion name none is = first_named G wanted (variant.LeftRecursion name) (fault.LeftRecursion G) name (λ i n c h. h.1) none (λ i at p. (at, p)) is
 
   pub before_count : HasNoneBefore G wanted 10 → Nowhere (fault.LeftRecursion G) → HasNoneBefore G wanted 11
@@ -120,7 +125,8 @@ module _ (G : WrittenGrammar) (wanted : Option (List ℕ)) where
 
   module _ (none : HasNoneBefore G wanted 12) where
     -- a fact of rules that a row names holds nowhere
-    row_nowhere : (P : ℕ → Type 0) → HasRules G P → (fault_of : List ℕ → CheckFault) → ((name : List ℕ) → row (fault_of name) < 12) → ((i : ℕ) (name : List ℕ) → IsNamedAt G i name → P i → HoldsAt G wanted i (fault_of name)) → Nowhere P
+    row_nowhere : (P : ℕ → Type 0) → HasRules G P → (fault_of : List ℕ → CheckFault) → ((name : List ℕ) → row (fault_of name) < 12)
+        → ((i : ℕ) (name : List ℕ) → IsNamedAt G i name → P i → HoldsAt G wanted i (fault_of name)) → Nowhere P
     row_nowhere P rules fault_of below holds i p =
         let it = rules i p in
         let name = rule_name it.0 in none (fault_of name) i (below name) (holds i name (named i it.0 it.1) p)

@@ -10,7 +10,8 @@ use Rattle.grammar_check.specs.CheckFaults.{HoldsAt, IsFirstInTable, IsNamedAt, 
 use Rattle.grammar_check.specs.inner.CheckFaults.{HasNoneBefore}
 use Rattle.grammar_check.specs.Laws.{FirstFaultOnce}
 use Rattle.grammar_check.specs.declared.fault.CheckFault.{CheckFault}
-use Rattle.grammar_check.specs.declared.fault.CheckFault.TheVariants.{TwoRules, NoRule, NoStart as NoStartFault, EofPlace, FragmentLoop, ShortUse, EmptyToken, NoBase, EmptyLoop, LeftRecursion, TooManyRules as TooManyRulesFault, Memory}
+use Rattle.grammar_check.specs.declared.fault.CheckFault.TheVariants.{TwoRules, NoRule, NoStart as NoStartFault, EofPlace, FragmentLoop, ShortUse, EmptyToken}
+use Rattle.grammar_check.specs.declared.fault.CheckFault.TheVariants.{NoBase, EmptyLoop, LeftRecursion, TooManyRules as TooManyRulesFault, Memory}
 
 -- the fault of a row with this name or count
 abbrev pub fault_of : ℕ → List ℕ → ℕ → CheckFault
@@ -123,7 +124,8 @@ module _ (G : WrittenGrammar) (wanted : Option (List ℕ)) where
   same_start n m (NoStart.not_there name some missing) (NoStart.not_there name' some' missing') = refl
 
   -- a row has one fault at an index
-  one_at : (i : ℕ) (k : ℕ) (n m : List ℕ) (c d : ℕ) → HoldsAt G wanted i (fault_of k n c) → HoldsAt G wanted i (fault_of k m d) → fault_of k n c ≡ fault_of k m d
+  one_at : (i : ℕ) (k : ℕ) (n m : List ℕ) (c d : ℕ) → HoldsAt G wanted i (fault_of k n c) → HoldsAt G wanted i (fault_of k m d)
+      → fault_of k n c ≡ fault_of k m d
   one_at i (suc zero) n m c d a b = ap TwoRules (same_at i n m a.0 b.0)
   one_at i (suc (suc zero)) n m c d a b = ap NoRule (same_use i n m a b)
   one_at i (suc (suc (suc zero))) n m c d a b = ap NoStartFault (same_start n m a b)
@@ -142,7 +144,8 @@ module _ (G : WrittenGrammar) (wanted : Option (List ℕ)) where
       let k = row other in
       let one_is = in_row k one e in
       let other_is = in_row k other refl in
-      one_is ∙ one_at i k (name_in one) (name_in other) (count_in one) (count_in other) (subst (HoldsAt G wanted i) one_is a) (subst (HoldsAt G wanted i) other_is b) ∙ sym other_is
+      one_is ∙ one_at i k (name_in one) (name_in other) (count_in one) (count_in other) (subst (HoldsAt G wanted i) one_is a)
+      (subst (HoldsAt G wanted i) other_is b) ∙ sym other_is
 
   module _ (one other : CheckFault) (a : IsFirstInTable G wanted one) (b : IsFirstInTable G wanted other) where
     at_index : row one ≡ row other → a.index ≡ b.index → one ≡ other

@@ -4,7 +4,8 @@ use Rattle.grammar_tree.specs.Faults as fault
 use Rattle.grammar_tree.specs.Written.{WrittenGrammar}
 use Rattle.grammar_check_faults.specs.Answer.{name_at}
 use Rattle.grammar_check.specs.declared.fault.CheckFault.{CheckFault}
-use Rattle.grammar_check.specs.declared.fault.CheckFault.TheVariants.{TwoRules, NoRule, NoStart, EofPlace, FragmentLoop, ShortUse, EmptyToken, NoBase, EmptyLoop, LeftRecursion, TooManyRules, Memory}
+use Rattle.grammar_check.specs.declared.fault.CheckFault.TheVariants.{TwoRules, NoRule, NoStart, EofPlace, FragmentLoop, ShortUse, EmptyToken}
+use Rattle.grammar_check.specs.declared.fault.CheckFault.TheVariants.{NoBase, EmptyLoop, LeftRecursion, TooManyRules, Memory}
 
 -- the row of the table that a fault is in
 abbrev pub row : CheckFault → ℕ
@@ -25,7 +26,8 @@ row Memory = 12
 abbrev pub IsNamedAt : WrittenGrammar → ℕ → List ℕ → Type 0
 IsNamedAt G i name = name_at G (Some i) ≡ Some name
 
--- The fault, with its name, holds at this index: of the rule, or the use of a name, with this index in written order. A fault of the whole grammar holds at each index, and out of memory at none.
+-- The fault, with its name, holds at this index: of the rule, or the use of a name, with this index in
+-- written order. A fault of the whole grammar holds at each index, and out of memory at none.
 abbrev pub HoldsAt : WrittenGrammar → Option (List ℕ) → ℕ → CheckFault → Type 0
 HoldsAt G wanted i (TwoRules name) = IsNamedAt G i name × fault.TwoRules G name
 HoldsAt G wanted i (NoRule name) = fault.NoRuleAt G i name

@@ -17,4 +17,5 @@ NoFaultIsWellFormed = (G : WrittenGrammar) (wanted : Option (List ℕ)) → ((it
 
 -- A grammar has one first fault at most.
 abbrev pub FirstFaultOnce : Type 0
-FirstFaultOnce = (G : WrittenGrammar) (wanted : Option (List ℕ)) (one other : CheckFault) → IsFirstInTable G wanted one → IsFirstInTable G wanted other → one ≡ other
+FirstFaultOnce =
+    (G : WrittenGrammar) (wanted : Option (List ℕ)) (one other : CheckFault) → IsFirstInTable G wanted one → IsFirstInTable G wanted other → one ≡ other

@@ -2,7 +2,8 @@
 use Rattle.std.specs.Prelude.{ℕ, List, ◌++◌, codes, decimal, encode_utf8_all, if◌then◌else◌}
 use Rattle.grammar_check_lexer_rules.specs.Lexer.{is_nil}
 use Rattle.grammar_check.specs.declared.fault.CheckFault.{CheckFault}
-use Rattle.grammar_check.specs.declared.fault.CheckFault.TheVariants.{TwoRules, NoRule, NoStart, EofPlace, FragmentLoop, ShortUse, EmptyToken, NoBase, EmptyLoop, LeftRecursion, TooManyRules, Memory}
+use Rattle.grammar_check.specs.declared.fault.CheckFault.TheVariants.{TwoRules, NoRule, NoStart, EofPlace, FragmentLoop, ShortUse, EmptyToken}
+use Rattle.grammar_check.specs.declared.fault.CheckFault.TheVariants.{NoBase, EmptyLoop, LeftRecursion, TooManyRules, Memory}
 
 abbrev pub check_fault_text : CheckFault → List ℕ
 check_fault_text (TwoRules name) = codes "two rules " ++ encode_utf8_all name

@@ -22,7 +22,8 @@ fn add_distinct(
     seen: &mut Index,
     found: &mut Vec<Text>,
 ) -> Result<(), Memory>
-    ensures { (texts : List (List ℕ)) → Finds seen.old (seen_in texts) → OnOk result (Finds seen.new (seen_in (texts ++ text.now ∷ [])) × (found.new.items ≡ found.old.items ++ unless_seen texts text.now)) }
+    ensures { (texts : List (List ℕ)) → Finds seen.old (seen_in texts)
+        → OnOk result (Finds seen.new (seen_in (texts ++ text.now ∷ [])) × (found.new.items ≡ found.old.items ++ unless_seen texts text.now)) }
 {
     if seen.get(text).is_some() {
         return Ok(());
@@ -75,7 +76,8 @@ fn add_absent(
     source: KindSource,
     kinds: &mut Vec<Kind>,
 ) -> Result<(), Memory>
-    ensures { (f : List ℕ → Option ℕ) → Finds indices.now f → OnOk result (map kind_of kinds.new.items ≡ map kind_of kinds.old.items ++ map (plain_kind (source_of source)) (absent f (text.now ∷ []))) }
+    ensures { (f : List ℕ → Option ℕ) → Finds indices.now f
+        → OnOk result (map kind_of kinds.new.items ≡ map kind_of kinds.old.items ++ map (plain_kind (source_of source)) (absent f (text.now ∷ []))) }
 {
     if indices.get(text).is_some() {
         return Ok(());
@@ -95,7 +97,8 @@ fn add_all_absent(
     source: KindSource,
     kinds: &mut Vec<Kind>,
 ) -> Result<(), Memory>
-    ensures { (f : List ℕ → Option ℕ) → Finds indices.now f → OnOk result (map kind_of kinds.new.items ≡ map kind_of kinds.old.items ++ map (plain_kind (source_of source)) (absent f texts.now)) }
+    ensures { (f : List ℕ → Option ℕ) → Finds indices.now f
+        → OnOk result (map kind_of kinds.new.items ≡ map kind_of kinds.old.items ++ map (plain_kind (source_of source)) (absent f texts.now)) }
 {
     for text in texts {
         add_absent(text, indices, source, kinds)?;

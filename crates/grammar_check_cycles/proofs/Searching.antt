@@ -1,5 +1,6 @@
 -- A search from a node finds exactly what the node reaches.
-use Rattle.std.proofs.Common.{◌≡◌, ◌⊎◌, inl, inr, ℕ, zero, suc, ◌+◌, ◌<◌, ◌≤◌, Bool, true, false, ◌||◌, List, [], ◌∷◌, Some, map, length, slice_get, slice_index, slice_index_or, refl, sym, ap, ◌∙◌, subst, arith, true≢false, nat_eq}
+use Rattle.std.proofs.Common.{◌≡◌, ◌⊎◌, inl, inr, ℕ, zero, suc, ◌+◌, ◌<◌, ◌≤◌, Bool, true, false, ◌||◌, List, [], ◌∷◌, Some, map, length}
+use Rattle.std.proofs.Common.{slice_get, slice_index, slice_index_or, refl, sym, ap, ◌∙◌, subst, arith, true≢false, nat_eq}
 use Rattle.std.specs.List.{All, Contains}
 use Rattle.std.proofs.lemmas.Bool.{cases_Bool, cases_lt}
 use Rattle.std.proofs.lemmas.Bool.Decides.{Decides-eqb}
@@ -50,7 +51,8 @@ new_kept : (found : List ℕ) (j x : ℕ) → Contains found x → Contains (wit
 new_kept found j x c = elim (cases_Bool (is_among found j)) [ inl e ↦ rw e c | inr e ↦ rw e (Contains-append_left found (j ∷ []) x c) ]
 
 new_there : (found : List ℕ) (j : ℕ) → Contains (with_new found j) j
-new_there found j = elim (cases_Bool (is_among found j)) [ inl e ↦ rw e (among_contains found j e) | inr e ↦ rw e (Contains-append_right found (j ∷ []) j (here j [] j refl)) ]
+new_there found j =
+    elim (cases_Bool (is_among found j)) [ inl e ↦ rw e (among_contains found j e) | inr e ↦ rw e (Contains-append_right found (j ∷ []) j (here j [] j refl)) ]
 
 new_only : (found : List ℕ) (j x : ℕ) → Contains (with_new found j) x → Contains found x ⊎ (j ≡ x)
 new_only found j x c = elim (cases_Bool (is_among found j)) [
@@ -97,7 +99,8 @@ flag_within (f ∷ flags) zero e = omega arith
 flag_within (f ∷ flags) (suc j) e = omega (arith, flag_within flags j e)
 
 -- the row of a node that was read
-pub row_at : {X : Type 0} (items : X → List ℕ) (edges : List X) (i : ℕ) (x : X) (row : List ℕ) → i < length edges → x ≡ slice_index_or edges i x → row ≡ items x → slice_get (map items edges) i ≡ Some row
+pub row_at : {X : Type 0} (items : X → List ℕ) (edges : List X) (i : ℕ) (x : X) (row : List ℕ) → i < length edges → x ≡ slice_index_or edges i x → row ≡ items x
+    → slice_get (map items edges) i ≡ Some row
 row_at items [] i x row lt e f = absurd (omega (arith, lt))
 row_at items (y ∷ edges) zero x row lt e f = ap Some (sym (f ∙ ap items e))
 row_at items (y ∷ edges) (suc i) x row lt e f = row_at items edges i x row (omega arith) e f
@@ -119,7 +122,8 @@ module _ (rows : List (List ℕ)) (node : ℕ) where
   further (Reaches.by_edge i m edge) j more = Reaches.by_edges i m j edge (Reaches.by_edge m j more)
   further (Reaches.by_edges i k m edge path) j more = Reaches.by_edges i k j edge (further path j more)
 
-  pub step : (found row : List ℕ) (done next : ℕ) → IsSearched rows node found done → done < length found → next ≡ slice_index found done → slice_get rows next ≡ Some row → IsSearched rows node (with_row found row) (done + 1)
+  pub step : (found row : List ℕ) (done next : ℕ) → IsSearched rows node found done → done < length found → next ≡ slice_index found done
+      → slice_get rows next ≡ Some row → IsSearched rows node (with_row found row) (done + 1)
   step found row done next s lt is at =
       record {
         sound = λ j c. elim (row_only row found j c) [
@@ -133,11 +137,13 @@ module _ (rows : List (List ℕ)) (node : ℕ) where
             let old = subst P front edge in
             elim (cases_lt k done) [
               | inl before ↦ row_kept row found j (s.closed k j before old)
-              | inr last ↦ let same : slice_index found k ≡ next = ap (λ i. slice_index found i) (omega arith) ∙ sym is in row_there row found j (same_row next j row at (subst P same old))
+              | inr last ↦ let same : slice_index found k ≡ next =
+                  ap (λ i. slice_index found i) (omega arith) ∙ sym is in row_there row found j (same_row next j row at (subst P same old))
             ];
       }
 
-  found_all : {found : List ℕ} {i j : ℕ} → IsSearched rows node found (length found) → Reaches rows i j → ((m : ℕ) → HasEdge rows i m → Contains found m) → Contains found j
+  found_all : {found : List ℕ} {i j : ℕ} → IsSearched rows node found (length found) → Reaches rows i j → ((m : ℕ) → HasEdge rows i m → Contains found m)
+      → Contains found j
   found_all s (Reaches.by_edge i j edge) first = first j edge
   found_all {found = found} s (Reaches.by_edges i m j edge path) first =
       let it = first m edge in
@@ -154,12 +160,14 @@ module _ (rows : List (List ℕ)) (node : ℕ) where
       last closed (Reaches.by_edges i k m edge path) = last closed path
 
 -- the nodes of a row are within the graph
-pub row_within : {X : Type 0} (items : X → List ℕ) (edges : List X) (i : ℕ) (row : List ℕ) → IsClosed (map items edges) → slice_get (map items edges) i ≡ Some row → (k d : ℕ) → k < length row → slice_index_or row k d < length edges
+pub row_within : {X : Type 0} (items : X → List ℕ) (edges : List X) (i : ℕ) (row : List ℕ) → IsClosed (map items edges)
+    → slice_get (map items edges) i ≡ Some row → (k d : ℕ) → k < length row → slice_index_or row k d < length edges
 row_within items edges i row closed at k d lt =
     omega (arith, closed i (slice_index_or row k d) (row, at, Contains-get_or row k d lt), length-map edges items)
 
 -- so are those that a search has found
-pub next_within : {X : Type 0} (items : X → List ℕ) (edges : List X) (node : ℕ) (found : List ℕ) (done next : ℕ) → IsClosed (map items edges) → IsSearched (map items edges) node found done → done < length found → next ≡ slice_index_or found done next → next < length edges
+pub next_within : {X : Type 0} (items : X → List ℕ) (edges : List X) (node : ℕ) (found : List ℕ) (done next : ℕ) → IsClosed (map items edges)
+    → IsSearched (map items edges) node found done → done < length found → next ≡ slice_index_or found done next → next < length edges
 next_within items edges node found done next closed s lt is =
     omega (arith, within (map items edges) node found done next closed s (done, lt, sym is), length-map edges items)
 
@@ -172,14 +180,16 @@ reaches_below numbers never (Reaches.by_edges i m j edge path) = omega (arith, n
 abbrev pub FallsAt : List (List ℕ) → List ℕ → ℕ → Type 0
 FallsAt rows numbers i = (j : ℕ) → HasEdge rows i j → slice_index numbers j < slice_index numbers i
 
-reaches_lower : {rows : List (List ℕ)} {i j : ℕ} (numbers : List ℕ) → NeverRises rows numbers → FallsAt rows numbers i → Reaches rows i j → slice_index numbers j < slice_index numbers i
+reaches_lower : {rows : List (List ℕ)} {i j : ℕ} (numbers : List ℕ) → NeverRises rows numbers → FallsAt rows numbers i → Reaches rows i j
+    → slice_index numbers j < slice_index numbers i
 reaches_lower numbers never falls (Reaches.by_edge i j edge) = falls j edge
 reaches_lower numbers never falls (Reaches.by_edges i m j edge path) = omega (arith, falls m edge, reaches_below numbers never path)
 
 pub not_on_cycle : (rows : List (List ℕ)) (numbers : List ℕ) (i : ℕ) → NeverRises rows numbers → FallsAt rows numbers i → IsOnCycle rows i → ⊥
 not_on_cycle rows numbers i never falls cycle = omega (arith, reaches_lower numbers never falls cycle)
 
-pub falls_at : (rows : List (List ℕ)) (numbers : List ℕ) (i : ℕ) (row : List ℕ) → slice_get rows i ≡ Some row → ((j : ℕ) → Contains row j → slice_index numbers j < slice_index numbers i) → FallsAt rows numbers i
+pub falls_at : (rows : List (List ℕ)) (numbers : List ℕ) (i : ℕ) (row : List ℕ) → slice_get rows i ≡ Some row
+    → ((j : ℕ) → Contains row j → slice_index numbers j < slice_index numbers i) → FallsAt rows numbers i
 falls_at rows numbers i row at below j edge = below j (same_row rows i i j row at edge)
 
 -- a node that reaches any has a row
@@ -191,7 +201,8 @@ pub on_cycle_within : {X : Type 0} (items : X → List ℕ) (edges : List X) (i 
 on_cycle_within items edges i cycle = omega (arith, has_row cycle, length-map edges items)
 
 -- rows whose nodes are within the graph
-pub closed_rows : {X : Type 0} (items : X → List ℕ) (edges : List X) (n : ℕ) → n ≡ length edges → All (λ row. All (λ r. r < n) (items row)) edges → IsClosed (map items edges)
+pub closed_rows : {X : Type 0} (items : X → List ℕ) (edges : List X) (n : ℕ) → n ≡ length edges → All (λ row. All (λ r. r < n) (items row)) edges
+    → IsClosed (map items edges)
 closed_rows {X = X} items edges n e all i j (row, at, c) = omega (arith, All-contains (λ r. r < n) row j (at_row edges i all at) c, length-map edges items)
   where
     at_row : (xs : List X) (k : ℕ) → All (λ x. All (λ r. r < n) (items x)) xs → slice_get (map items xs) k ≡ Some row → All (λ r. r < n) row
@@ -207,11 +218,13 @@ module _ (rows : List (List ℕ)) where
         only = λ j c. elim (row_only row found j c) [ inl old ↦ are.only j old | inr new ↦ (n, (row, at, new)) ];
         all = λ i j lt edge. elim (cases_lt i n) [
           | inl before ↦ row_kept row found j (are.all i j before edge)
-          | inr last ↦ let same : i ≡ n = omega arith in let P : ℕ → Type 0 = λ k. HasEdge rows k j in row_there row found j (same_row rows n n j row at (subst P same edge))
+          | inr last ↦ let same : i ≡ n = omega arith in let P : ℕ → Type 0 =
+              λ k. HasEdge rows k j in row_there row found j (same_row rows n n j row at (subst P same edge))
         ];
       }
 
-  pub targets : (found : List ℕ) (flags : List Bool) → AreFound rows found (length rows) → IsClosed rows → length flags ≡ length rows → ((j : ℕ) → j < length flags → slice_index_or flags j false ≡ is_among found j) → AreTargets rows flags
+  pub targets : (found : List ℕ) (flags : List Bool) → AreFound rows found (length rows) → IsClosed rows → length flags ≡ length rows
+      → ((j : ℕ) → j < length flags → slice_index_or flags j false ≡ is_among found j) → AreTargets rows flags
   targets found flags are closed len agree j = (
     λ h. are.only j (among_contains found j (sym (agree j (flag_within j h)) ∙ h)),
     λ i edge. agree j (omega (arith, closed i j edge, len)) ∙ contains_among found j (are.all i j (edge_within i edge) edge),

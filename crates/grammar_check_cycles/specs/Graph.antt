@@ -21,4 +21,5 @@ IsClosed rows = (i j : ℕ) → HasEdge rows i j → j < length rows
 
 -- The table says exactly which nodes some edge leads to.
 abbrev pub AreTargets : List (List ℕ) → List Bool → Type 0
-AreTargets rows flags = (j : ℕ) → (slice_index_or flags j false ≡ true → (i : ℕ) × HasEdge rows i j) × ((i : ℕ) → HasEdge rows i j → slice_index_or flags j false ≡ true)
+AreTargets rows flags =
+    (j : ℕ) → (slice_index_or flags j false ≡ true → (i : ℕ) × HasEdge rows i j) × ((i : ℕ) → HasEdge rows i j → slice_index_or flags j false ≡ true)

@@ -55,7 +55,8 @@ fn empty_rows(alloc: Global, nodes: usize) -> Result<Vec<Vec<u32>>, Memory>
 fn add_to_row(rows: &mut Vec<Vec<u32>>, place: usize, node: u32) -> Result<(), Memory>
     requires place { place < vec_len rows.old }
     ensures len { vec_len rows.new ≡ vec_len rows.old }
-    ensures within { (n : ℕ) → node < n → All (λ row. All (λ j. j < n) row.items) rows.old.items → OnOk result (All (λ row. All (λ j. j < n) row.items) rows.new.items) }
+    ensures within { (n : ℕ) → node < n → All (λ row. All (λ j. j < n) row.items) rows.old.items
+        → OnOk result (All (λ row. All (λ j. j < n) row.items) rows.new.items) }
 {
     rows[place].push(node)?;
     Ok(())
@@ -65,7 +66,8 @@ fn add_to_row(rows: &mut Vec<Vec<u32>>, place: usize, node: u32) -> Result<(), M
 fn add_reversed(rows: &mut Vec<Vec<u32>>, row: &[u32], node: u32) -> Result<(), Memory>
     requires row { All (λ j. j < vec_len rows.old) row.now }
     ensures len { vec_len rows.new ≡ vec_len rows.old }
-    ensures within { (n : ℕ) → node < n → All (λ row. All (λ j. j < n) row.items) rows.old.items → OnOk result (All (λ row. All (λ j. j < n) row.items) rows.new.items) }
+    ensures within { (n : ℕ) → node < n → All (λ row. All (λ j. j < n) row.items) rows.old.items → OnOk result
+        (All (λ row. All (λ j. j < n) row.items) rows.new.items) }
 {
     for target in row {
         add_to_row(rows, *target as usize, node)?;

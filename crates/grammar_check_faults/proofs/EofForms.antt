@@ -1,5 +1,6 @@
 -- Where `EOF` is, by the parts.
-use Rattle.std.proofs.Common.{◌≡◌, ◌≢◌, ◌⊎◌, inl, inr, cond, ◌+◌, ◌<◌, ◌≤◌, ℕ, zero, suc, Bool, true, false, not, ◌||◌, ◌&&◌, List, [], ◌∷◌, Some, None, is_some, length, map, drop, slice_get, slice_index_or, nat_eq, refl, sym, ap, ◌∙◌, subst, arith, true≢false}
+use Rattle.std.proofs.Common.{◌≡◌, ◌≢◌, ◌⊎◌, inl, inr, cond, ◌+◌, ◌<◌, ◌≤◌, ℕ, zero, suc, Bool, true, false, not, ◌||◌, ◌&&◌, List, [], ◌∷◌, Some, None}
+use Rattle.std.proofs.Common.{is_some, length, map, drop, slice_get, slice_index_or, nat_eq, refl, sym, ap, ◌∙◌, subst, arith, true≢false}
 use Rattle.std.specs.List.{Contains, filter_map, list_any}
 use Rattle.std.proofs.lemmas.Bool.{cases_Bool, cases_eq, false≢true}
 use Rattle.std.proofs.lemmas.Bool.Decides.{Decides-eqb}
@@ -31,14 +32,16 @@ eof_seqs : (ss : List ParserTerms) → any_has_eof (written_alts (map parser_ter
 eof_seqs [] = refl
 eof_seqs (s ∷ ss) = ap (λ b. seq_has_eof (written_seq (parser_terms s)) || b) (eof_seqs ss)
 
-pub eof_alts : (a : ParserAlts) → any_has_eof (written_alts (parser_alts a)) ≡ list_any (λ s. seq_has_eof (written_seq (parser_terms s))) (out-ParserAlts a).items.items
+pub eof_alts : (a : ParserAlts) → any_has_eof (written_alts (parser_alts a)) ≡ list_any (λ s. seq_has_eof (written_seq (parser_terms s)))
+    (out-ParserAlts a).items.items
 eof_alts a = ap (λ ss. any_has_eof (written_alts ss)) (alts_view a) ∙ eof_seqs (out-ParserAlts a).items.items
 
 misplaced_seqs : (ss : List ParserTerms) → is_misplaced (written_alts (map parser_terms ss)) ≡ list_any (λ s. is_misplaced_in (written_seq (parser_terms s))) ss
 misplaced_seqs [] = refl
 misplaced_seqs (s ∷ ss) = ap (λ b. is_misplaced_in (written_seq (parser_terms s)) || b) (misplaced_seqs ss)
 
-pub misplaced_alts : (a : ParserAlts) → is_misplaced (written_alts (parser_alts a)) ≡ list_any (λ s. is_misplaced_in (written_seq (parser_terms s))) (out-ParserAlts a).items.items
+pub misplaced_alts : (a : ParserAlts) → is_misplaced (written_alts (parser_alts a)) ≡ list_any (λ s. is_misplaced_in (written_seq (parser_terms s)))
+    (out-ParserAlts a).items.items
 misplaced_alts a = ap (λ ss. is_misplaced (written_alts ss)) (alts_view a) ∙ misplaced_seqs (out-ParserAlts a).items.items
 
 -- one term, and what comes after it
@@ -46,7 +49,8 @@ no_term : List WrittenTerm → Bool
 no_term [] = true
 no_term (t ∷ ts) = false
 
-first_term : (t : WrittenTerm) (ts : List WrittenTerm) → is_misplaced_in (written_seq (t ∷ ts)) ≡ (is_misplaced_term t (no_term ts) || is_misplaced_in (written_seq ts))
+first_term : (t : WrittenTerm) (ts : List WrittenTerm)
+    → is_misplaced_in (written_seq (t ∷ ts)) ≡ (is_misplaced_term t (no_term ts) || is_misplaced_in (written_seq ts))
 unfolding no_term
 first_term (WrittenTerm.literal x) ts = refl
 first_term (WrittenTerm.name x) ts = refl
@@ -86,16 +90,22 @@ last_of ts i n len lt = elim (cases_eq (i + 1) n) [
 abbrev pub from : ParserTerms → ℕ → Bool
 from s i = is_misplaced_in (written_seq (drop i (parser_terms s)))
 
-pub misplaced_at : (s : ParserTerms) (i n : ℕ) (t : ParserTerm) → n ≡ length (out-ParserTerms s).items.items → i < n → t ≡ slice_index_or (out-ParserTerms s).items.items i t →
+pub misplaced_at : (s : ParserTerms) (i n : ℕ) (t : ParserTerm) → n ≡ length (out-ParserTerms s).items.items → i < n
+    → t ≡ slice_index_or (out-ParserTerms s).items.items i t →
     from s i ≡ (is_misplaced_term (parser_term t) (nat_eq (i + 1) n) || from s (i + 1))
 misplaced_at s i n t len lt is =
     let items = (out-ParserTerms s).items.items in
     let terms = map parser_term items in
-    let P : ℕ → Type 0 = λ j. is_misplaced_in (written_seq (drop i terms)) ≡ (is_misplaced_term (parser_term t) (nat_eq (i + 1) n) || is_misplaced_in (written_seq (drop j terms))) in
-    let Q : List WrittenTerm → Type 0 = λ ts. is_misplaced_in (written_seq (drop i ts)) ≡ (is_misplaced_term (parser_term t) (nat_eq (i + 1) n) || is_misplaced_in (written_seq (drop (i + 1) ts))) in
+    let P : ℕ → Type 0 =
+    λ j. is_misplaced_in (written_seq (drop i terms))
+    ≡ (is_misplaced_term (parser_term t) (nat_eq (i + 1) n) || is_misplaced_in (written_seq (drop j terms))) in
+    let Q : List WrittenTerm → Type 0 =
+    λ ts. is_misplaced_in (written_seq (drop i ts))
+    ≡ (is_misplaced_term (parser_term t) (nat_eq (i + 1) n) || is_misplaced_in (written_seq (drop (i + 1) ts))) in
     let next : suc i ≡ i + 1 = omega arith in
     let cut = ap (λ ts. is_misplaced_in (written_seq ts)) (drop_at parser_term items i t (omega arith) is) ∙ first_term (parser_term t) (drop (suc i) terms)
-    ∙ ap (λ b. is_misplaced_term (parser_term t) b || is_misplaced_in (written_seq (drop (suc i) terms))) (last_of terms i n (len ∙ sym (length-map items parser_term)) lt) in
+    ∙ ap (λ b. is_misplaced_term (parser_term t) b || is_misplaced_in (written_seq (drop (suc i) terms)))
+    (last_of terms i n (len ∙ sym (length-map items parser_term)) lt) in
     subst Q (sym (seq_view s)) (subst P next cut)
 
 pub misplaced_end : (s : ParserTerms) (i : ℕ) → length (out-ParserTerms s).items.items ≤ i → from s i ≡ false
@@ -167,11 +177,17 @@ module _ (G : WrittenGrammar) (start i : ℕ) (rule : WrittenRule) (at : slice_g
   pub not_misplaced : is_misplaced_rule rule (nat_eq i start) is_used ≡ false → ¬ EofPlace G start i
   not_misplaced h (r, at', inl index) =
       let same : rule ≡ WrittenRule.parser_rule r = same_Some rule (WrittenRule.parser_rule r) (sym at ∙ at') in
-      true≢false (sym (ap (λ x. is_misplaced_rule x (nat_eq i start) is_used) same ∙ from_first (is_misplaced r.alts) ((not (nat_eq i start) && any_has_eof r.alts) && is_used) index) ∙ h)
+      true≢false
+      (sym (ap (λ x. is_misplaced_rule x (nat_eq i start) is_used) same
+      ∙ from_first (is_misplaced r.alts) ((not (nat_eq i start) && any_has_eof r.alts) && is_used) index) ∙ h)
   not_misplaced h (r, at', inr (eof, other, used)) =
       let same : rule ≡ WrittenRule.parser_rule r = same_Some rule (WrittenRule.parser_rule r) (sym at ∙ at') in
-      let part = from_both (not (nat_eq i start) && any_has_eof r.alts) is_used (from_both (not (nat_eq i start)) (any_has_eof r.alts) (start_not other) eof) (there_used r.name (ap rule_name same) used) in
-      true≢false (sym (ap (λ x. is_misplaced_rule x (nat_eq i start) is_used) same ∙ from_second (is_misplaced r.alts) ((not (nat_eq i start) && any_has_eof r.alts) && is_used) part) ∙ h)
+      let part =
+      from_both (not (nat_eq i start) && any_has_eof r.alts) is_used (from_both (not (nat_eq i start)) (any_has_eof r.alts) (start_not other) eof)
+      (there_used r.name (ap rule_name same) used) in
+      true≢false
+      (sym (ap (λ x. is_misplaced_rule x (nat_eq i start) is_used) same
+      ∙ from_second (is_misplaced r.alts) ((not (nat_eq i start) && any_has_eof r.alts) && is_used) part) ∙ h)
 
 -- `EOF` is where it may not be only in a rule that is used and isn't the start
 pub may_not : (is_start has is_used : Bool) → not (is_start || not is_used) ≡ true → ((not is_start && has) && is_used) ≡ has

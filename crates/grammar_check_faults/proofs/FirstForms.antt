@@ -1,5 +1,6 @@
 -- The first index of a fact, found by a loop over the indices.
-use Rattle.std.proofs.Common.{◌≡◌, inl, inr, ℕ, ◌+◌, ◌<◌, Bool, true, false, List, [], Option, Some, None, Result, Ok, Err, IfOk, slice_get, refl, sym, ap, ◌∙◌, subst, arith, true≢false}
+use Rattle.std.proofs.Common.{◌≡◌, inl, inr, ℕ, ◌+◌, ◌<◌, Bool, true, false, List, [], Option, Some, None, Result, Ok}
+use Rattle.std.proofs.Common.{Err, IfOk, slice_get, refl, sym, ap, ◌∙◌, subst, arith, true≢false}
 use Rattle.std.proofs.lemmas.Bool.{cases_lt}
 use Rattle.std.proofs.lemmas.Option.{same_Some}
 use Rattle.grammar_tree.specs.Corners.{HasEmptyLoopAlts, bases, rests}
@@ -52,8 +53,10 @@ module _ (G : List Alts) (r : ℕ) (a : Alts) (at : slice_get G r ≡ Some a) wh
     no_loop h k (b, at', inl loop) =
         let P : Alts → Type 0 = λ x. HasEmptyLoopAlts G x in true≢false (sym (looped_alts G flags exact a (subst P (same_body b at') loop)) ∙ h)
     no_loop h k (b, at', inr rest) =
-        let P : Alts → Type 0 = λ x. DerivesAlts G (rests r x) [] in true≢false (sym (alts_is_empty_of G flags exact (rests r a) (subst P (same_body b at') rest)) ∙ k)
+        let P : Alts → Type 0 =
+        λ x. DerivesAlts G (rests r x) [] in true≢false (sym (alts_is_empty_of G flags exact (rests r a) (subst P (same_body b at') rest)) ∙ k)
 
-pub ok_first : {E : Type 0} (P Q : ℕ → Type 0) (r : Result (Option ℕ) E) → ((i : ℕ) → P i → Q i) → ((i : ℕ) → Q i → P i) → IfOk r (IsFirstOrNone P) → IfOk r (IsFirstOrNone Q)
+pub ok_first : {E : Type 0} (P Q : ℕ → Type 0) (r : Result (Option ℕ) E) → ((i : ℕ) → P i → Q i) → ((i : ℕ) → Q i → P i) → IfOk r (IsFirstOrNone P)
+    → IfOk r (IsFirstOrNone Q)
 ok_first P Q (Ok o) there back h = same_first P Q there back o h
 ok_first P Q (Err e) there back h = tt

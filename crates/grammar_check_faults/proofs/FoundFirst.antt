@@ -1,5 +1,6 @@
 -- A loop that looks for the first element that passes a test.
-use Rattle.std.proofs.Common.{◌≡◌, inl, inr, ℕ, ◌+◌, ◌<◌, ◌≤◌, Bool, true, false, cond, List, [], ◌∷◌, Option, Some, None, length, slice_get, slice_index_or, refl, sym, ap, ◌∙◌, arith, true≢false}
+use Rattle.std.proofs.Common.{◌≡◌, inl, inr, ℕ, ◌+◌, ◌<◌, ◌≤◌, Bool, true, false, cond, List, [], ◌∷◌, Option, Some, None}
+use Rattle.std.proofs.Common.{length, slice_get, slice_index_or, refl, sym, ap, ◌∙◌, arith, true≢false}
 use Rattle.std.specs.Prelude.{nat_lt, position}
 use Rattle.std.specs.List.{position_or_len}
 use Rattle.std.proofs.lemmas.Bool.{cases_lt, lt-ltb}
@@ -15,7 +16,8 @@ module _ {X : Type 0} (p : X → Bool) (xs : List X) where
   pub found_first : (i : ℕ) (x : X) → PassesNone i → slice_get xs i ≡ Some x → p x ≡ true → position p xs ≡ Some i
   found_first i x before at h =
       let lt = slice_get_within xs i x at in
-      let none : (k : ℕ) → k < i → p (slice_index_or xs k x) ≡ false = λ k below. before k (slice_index_or xs k x) below (slice_get-get_or xs k x (omega arith)) in
+      let none : (k : ℕ) → k < i → p (slice_index_or xs k x) ≡ false =
+      λ k below. before k (slice_index_or xs k x) below (slice_get-get_or xs k x (omega arith)) in
       let here : p (slice_index_or xs i x) ≡ true = ap p (get_or_from_slice_get xs i x x at) ∙ h in
       let is : position_or_len p xs ≡ i = position_or_len_is p xs i x (omega arith) none (λ _. here) in
       ap (λ n. cond (nat_lt n (length xs)) (Some n) None) is ∙ ap (λ b. cond b (Some i) None) (lt-ltb i (length xs) lt)

@@ -1,5 +1,6 @@
 -- The first index of a parser rule's fault, from the first number.
-use Rattle.std.proofs.Common.{◌≡◌, inl, inr, ℕ, zero, suc, ◌+◌, ◌<◌, ◌≤◌, ◌⊎◌, List, [], ◌∷◌, ◌++◌, Option, Some, None, length, take, slice_get, refl, sym, ap, ◌∙◌, subst, arith}
+use Rattle.std.proofs.Common.{◌≡◌, inl, inr, ℕ, zero, suc, ◌+◌, ◌<◌, ◌≤◌, ◌⊎◌, List, [], ◌∷◌, ◌++◌, Option, Some}
+use Rattle.std.proofs.Common.{None, length, take, slice_get, refl, sym, ap, ◌∙◌, subst, arith}
 use Rattle.std.proofs.lemmas.Bool.{cases_lt}
 use Rattle.std.proofs.lemmas.List.{length-map}
 use Rattle.std.proofs.lemmas.Option.{none-some, same_Some, slice_get_within}
@@ -17,8 +18,10 @@ use Rattle.grammar_check_faults.specs.inner.ParserIndices.{earlier_index, index_
 
 pub indices_append : (from : ℕ) (xs ys : List WrittenRule) → indices_from from (xs ++ ys) ≡ indices_from from xs ++ indices_from (length xs + from) ys
 indices_append from [] ys = ap (λ n. indices_from n ys) (omega arith)
-indices_append from (WrittenRule.parser_rule r ∷ xs) ys = ap (λ l. from ∷ l) (indices_append (suc from) xs ys) ∙ ap (λ n. indices_from from (WrittenRule.parser_rule r ∷ xs) ++ indices_from n ys) (omega arith)
-indices_append from (WrittenRule.lexer_rule r ∷ xs) ys = indices_append (suc from) xs ys ∙ ap (λ n. indices_from (suc from) xs ++ indices_from n ys) (omega arith)
+indices_append from (WrittenRule.parser_rule r ∷ xs) ys =
+    ap (λ l. from ∷ l) (indices_append (suc from) xs ys) ∙ ap (λ n. indices_from from (WrittenRule.parser_rule r ∷ xs) ++ indices_from n ys) (omega arith)
+indices_append from (WrittenRule.lexer_rule r ∷ xs) ys =
+    indices_append (suc from) xs ys ∙ ap (λ n. indices_from (suc from) xs ++ indices_from n ys) (omega arith)
 
 -- what is at a number is the index of the parser rule that has it
 record IsIndex (rules : List WrittenRule) (from r i : ℕ) : Type 0 where
@@ -30,7 +33,8 @@ record IsIndex (rules : List WrittenRule) (from r i : ℕ) : Type 0 where
 
 found : (from : ℕ) (rules : List WrittenRule) (r i : ℕ) → slice_get (indices_from from rules) r ≡ Some i → IsIndex rules from r i
 found from [] r i at = absurd (none-some i at)
-found from (WrittenRule.parser_rule p ∷ rules) zero i at = let same = same_Some from i at in record { index = 0; is = omega (arith, same); rule = p; there = refl; number = refl }
+found from (WrittenRule.parser_rule p ∷ rules) zero i at = let same =
+    same_Some from i at in record { index = 0; is = omega (arith, same); rule = p; there = refl; number = refl }
 found from (WrittenRule.parser_rule p ∷ rules) (suc r) i at =
     let it = found (suc from) rules r i at in
     record { index = suc it.index; is = omega (arith, it.is); rule = it.rule; there = it.there; number = ap suc it.number }
@@ -45,13 +49,15 @@ has_index from (WrittenRule.parser_rule p ∷ rules) (suc r) lt = has_index (suc
 has_index from (WrittenRule.lexer_rule l ∷ rules) r lt = has_index (suc from) rules r lt
 
 -- numbers rise with indices
-numbers_rise : (rules : List WrittenRule) (j i : ℕ) (rule : ParserRule) → j < i → slice_get rules j ≡ Some (WrittenRule.parser_rule rule) → length (parser_rules (take j rules)) < length (parser_rules (take i rules))
+numbers_rise : (rules : List WrittenRule) (j i : ℕ) (rule : ParserRule) → j < i → slice_get rules j ≡ Some (WrittenRule.parser_rule rule)
+    → length (parser_rules (take j rules)) < length (parser_rules (take i rules))
 numbers_rise [] j i rule lt at = absurd (none-some (WrittenRule.parser_rule rule) at)
 numbers_rise (WrittenRule.parser_rule p ∷ rules) j zero rule lt at = absurd (omega (arith, lt))
 numbers_rise (WrittenRule.parser_rule p ∷ rules) zero (suc i) rule lt at = omega arith
 numbers_rise (WrittenRule.parser_rule p ∷ rules) (suc j) (suc i) rule lt at = let rest = numbers_rise rules j i rule (omega arith) at in omega (arith, rest)
 numbers_rise (WrittenRule.lexer_rule l ∷ rules) j zero rule lt at = absurd (omega (arith, lt))
-numbers_rise (WrittenRule.lexer_rule l ∷ rules) zero (suc i) rule lt at = absurd (no_lexer (same_Some (WrittenRule.lexer_rule l) (WrittenRule.parser_rule rule) at))
+numbers_rise (WrittenRule.lexer_rule l ∷ rules) zero (suc i) rule lt at =
+    absurd (no_lexer (same_Some (WrittenRule.lexer_rule l) (WrittenRule.parser_rule rule) at))
   where
     no_lexer : WrittenRule.lexer_rule l ≡ WrittenRule.parser_rule rule → ⊥
     no_lexer e = absurd cc
@@ -87,7 +93,8 @@ module _ (G : WrittenGrammar) where
   body_within : (r : ℕ) (a : Alts) → slice_get (bodies G) r ≡ Some a → r < length (parser_rules G.rules)
   body_within r a at = omega (arith, few_bodies, slice_get_within (bodies G) r a at)
 
-  the_body : (i : ℕ) (it : ParserRule) (a : Alts) → slice_get G.rules i ≡ Some (WrittenRule.parser_rule it) → slice_get (bodies G) (number_at G i) ≡ Some a → a ≡ resolved_alts G it.alts
+  the_body : (i : ℕ) (it : ParserRule) (a : Alts) → slice_get G.rules i ≡ Some (WrittenRule.parser_rule it) → slice_get (bodies G) (number_at G i) ≡ Some a
+      → a ≡ resolved_alts G it.alts
   the_body i it a at body = same_Some a (resolved_alts G it.alts) (sym body ∙ (numbers G).body i it at)
 
   pub bases_by_index : AreSame G (HasNoBaseAt (bodies G)) (NoBase G)

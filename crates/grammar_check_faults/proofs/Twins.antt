@@ -1,5 +1,6 @@
 -- Rules of one name, by their indices.
-use Rattle.std.proofs.Common.{◌≡◌, inl, inr, ℕ, suc, ◌+◌, ◌<◌, ◌≤◌, Bool, true, cond, List, [], ◌∷◌, Option, Some, length, position, slice_get, slice_index_or, refl, sym, ap, ◌∙◌, subst, arith, true≢false}
+use Rattle.std.proofs.Common.{◌≡◌, inl, inr, ℕ, suc, ◌+◌, ◌<◌, ◌≤◌, Bool, true, cond, List, [], ◌∷◌, Option, Some, length}
+use Rattle.std.proofs.Common.{position, slice_get, slice_index_or, refl, sym, ap, ◌∙◌, subst, arith, true≢false}
 use Rattle.std.specs.Prelude.{min}
 use Rattle.std.specs.List.{count_by}
 use Rattle.std.proofs.lemmas.Bool.{cases_Bool, cases_lt}
@@ -28,7 +29,8 @@ module _ {X : Type 0} (p : X → Bool) where
         let it = some_passes xs (omega (arith, h, sum_by-cons (λ z. cond (p z) 1 0) x xs, none)) in (suc it.0, it.1, it.2, it.3)
   ]
 
-  two_pass : (xs : List X) → 2 ≤ count_by p xs → (i : ℕ) × (j : ℕ) × (x : X) × (y : X) × (i < j) × (slice_get xs i ≡ Some x) × (slice_get xs j ≡ Some y) × (p x ≡ true) × (p y ≡ true)
+  two_pass : (xs : List X) → 2 ≤ count_by p xs → (i : ℕ) × (j : ℕ) × (x : X) × (y : X) × (i < j) × (slice_get xs i ≡ Some x) × (slice_get xs j ≡ Some y)
+      × (p x ≡ true) × (p y ≡ true)
   two_pass [] h = absurd (omega (arith, h))
   two_pass (x ∷ xs) h = elim (cases_Bool (p x)) [
     | inl here ↦
@@ -56,7 +58,8 @@ module _ (G : WrittenGrammar) where
   index_of n = position (has_key Name n) G.rules
 
   -- an index that a name has is a rule's of this name, and no later than any other such rule's
-  rule_of_index : (n : List ℕ) (i : ℕ) → index_of n ≡ Some i → (rule : WrittenRule) × (slice_get G.rules i ≡ Some rule) × (rule_name rule ≡ n) × ((k : ℕ) (x : WrittenRule) → slice_get G.rules k ≡ Some x → rule_name x ≡ n → i ≤ k)
+  rule_of_index : (n : List ℕ) (i : ℕ) → index_of n ≡ Some i → (rule : WrittenRule) × (slice_get G.rules i ≡ Some rule) × (rule_name rule ≡ n)
+      × ((k : ℕ) (x : WrittenRule) → slice_get G.rules k ≡ Some x → rule_name x ≡ n → i ≤ k)
   rule_of_index n i e =
       let none = WrittenRule.parser_rule (record { name = []; alts = WrittenAlts.none }) in
       let found = position-Some (has_key Name n) G.rules i none e in
@@ -76,10 +79,14 @@ module _ (G : WrittenGrammar) where
   has_index k x at = some_position (has_key Name (rule_name x)) G.rules x (contains_at G.rules k x at) ((bytes_eq-Decides (rule_name x) (rule_name x)).1 refl)
 
   -- two indices of one name
-  twins : (i j : ℕ) (a b : WrittenRule) (n : List ℕ) → i < j → slice_get G.rules i ≡ Some a → slice_get G.rules j ≡ Some b → rule_name a ≡ n → rule_name b ≡ n → TwoRules G n
-  twins i j a b n lt at at' e f = passes_twice (λ rule. same_text (rule_name rule) n) G.rules i j a b lt at at' ((bytes_eq-Decides (rule_name a) n).1 e) ((bytes_eq-Decides (rule_name b) n).1 f)
+  twins : (i j : ℕ) (a b : WrittenRule) (n : List ℕ) → i < j → slice_get G.rules i ≡ Some a → slice_get G.rules j ≡ Some b → rule_name a ≡ n → rule_name b ≡ n
+      → TwoRules G n
+  twins i j a b n lt at at' e f =
+      passes_twice (λ rule. same_text (rule_name rule) n) G.rules i j a b lt at at' ((bytes_eq-Decides (rule_name a) n).1 e)
+      ((bytes_eq-Decides (rule_name b) n).1 f)
 
-  pub one_more : (first index : ℕ) (rule : WrittenRule) (least : ℕ) → AreFirstSoFar G first index → slice_get G.rules index ≡ Some rule → IsEarliest (index_of (rule_name rule)) index first least → AreFirstSoFar G least (index + 1)
+  pub one_more : (first index : ℕ) (rule : WrittenRule) (least : ℕ) → AreFirstSoFar G first index → slice_get G.rules index ≡ Some rule
+      → IsEarliest (index_of (rule_name rule)) index first least → AreFirstSoFar G least (index + 1)
   one_more first index rule least far at is =
       record {
         least = λ k p x lt at' e below. elim (cases_lt k index) [

@@ -1,5 +1,6 @@
 -- The test of a use says what holds of it, and the first use that fails it is the first unknown one.
-use Rattle.std.proofs.Common.{◌≡◌, inl, inr, ℕ, zero, suc, ◌<◌, Bool, true, false, not, ◌&&◌, cond, List, [], ◌∷◌, Option, Some, None, map, slice_get, slice_index_or, refl, sym, ap, ◌∙◌, subst, arith, true≢false}
+use Rattle.std.proofs.Common.{◌≡◌, inl, inr, ℕ, zero, suc, ◌<◌, Bool, true, false, not, ◌&&◌, cond, List, [], ◌∷◌, Option, Some, None}
+use Rattle.std.proofs.Common.{map, slice_get, slice_index_or, refl, sym, ap, ◌∙◌, subst, arith, true≢false}
 use Rattle.std.specs.Prelude.{filter, find, is_none, option_map}
 use Rattle.std.specs.List.{Contains}
 use Rattle.std.proofs.lemmas.Bool.{cases_Bool, false≢true}
@@ -7,9 +8,11 @@ use Rattle.std.proofs.lemmas.List.Quantifiers.{position-Some}
 use Rattle.std.proofs.lemmas.Option.{none-some, same_Some, slice_get-get_or}
 use Rattle.std.proofs.lemmas.Slice.Eq.{bytes_eq-Decides}
 use Rattle.grammar_tree.specs.Faults.{IsUnknown, NameUse, NamesNothing, name_uses, used_name}
-use Rattle.grammar_tree.specs.Kinds.{declared_kind, declared_names, distinct, has_name, implicit_kind, implicit_literals, kinds_of, lexer_rules, makes_token, name_kind, parser_rules, rule_number, same_text, written_kinds}
+use Rattle.grammar_tree.specs.Kinds.{declared_kind, declared_names, distinct, has_name, implicit_kind, implicit_literals, kinds_of}
+use Rattle.grammar_tree.specs.Kinds.{lexer_rules, makes_token, name_kind, parser_rules, rule_number, same_text, written_kinds}
 use Rattle.grammar_tree.specs.Written.{ParserRule, LexerRule, WrittenRule, WrittenGrammar, Source, TokenKind}
-use Rattle.grammar_tree.proofs.Lent.{kind_cases, kinds_are_rules, contains_cases, contains_filter, contains_first, elements_contains_later as contains_later, contains_map, contains_none, filtered, mapped, some_position, contains_at, lexer_places, numbers, names_nothing}
+use Rattle.grammar_tree.proofs.Lent.{kind_cases, kinds_are_rules, contains_cases, contains_filter, contains_first, elements_contains_later as contains_later}
+use Rattle.grammar_tree.proofs.Lent.{contains_map, contains_none, filtered, mapped, some_position, contains_at, lexer_places, numbers, names_nothing}
 use Rattle.grammar_check_lexer_rules.specs.Lexer.{lexer_index}
 use Rattle.grammar_check_parser_rules.specs.Rules.{has_key}
 use Rattle.grammar_check_parser_rules.specs.declared.rules.Key.TheVariants.{LexerName}
@@ -24,7 +27,8 @@ distinct_are (u ∷ ts) t c = elim (contains_cases u (filter (λ v. not (same_te
   | inr later ↦ contains_later u ts t (distinct_are ts t (filtered (λ v. not (same_text u v)) (distinct ts) t later).0)
 ]
 
-written_source : (from : ℕ) (rules : List WrittenRule) (kind : TokenKind) → Contains (written_kinds from rules) kind → (i : ℕ) × (kind.source ≡ Source.written i)
+written_source : (from : ℕ) (rules : List WrittenRule) (kind : TokenKind) → Contains (written_kinds from rules) kind → (i : ℕ)
+    × (kind.source ≡ Source.written i)
 written_source from [] kind c = absurd (contains_none kind c)
 written_source from (WrittenRule.parser_rule r ∷ rules) kind c = written_source (suc from) rules kind c
 written_source from (WrittenRule.lexer_rule r ∷ rules) kind c = elim (cases_Bool r.fragment) [
@@ -59,7 +63,8 @@ module _ (G : WrittenGrammar) where
         by (Some r) e =
             let it = (numbers G).named n r e in
             let P : List ℕ → Type 0 = λ x. Contains parser_names x in
-            absurd (h.no_parser_rule (subst P it.2 (contains_map (λ (r : ParserRule). r.name) (parser_rules G.rules) it.0 (contains_at (parser_rules G.rules) r it.0 it.1))))
+            absurd (h.no_parser_rule
+            (subst P it.2 (contains_map (λ (r : ParserRule). r.name) (parser_rules G.rules) it.0 (contains_at (parser_rules G.rules) r it.0 it.1))))
 
     no_such_kind : (kind : TokenKind) → Contains (kinds_of G) kind → has_name n kind ≡ true → ⊥
     no_such_kind kind c named = by kind.source refl
@@ -70,12 +75,14 @@ module _ (G : WrittenGrammar) where
             let same : same_text kind.name n ≡ true = rw e at named in
             let it = (kinds_are_rules G).rule kind i c e in
             let P : List ℕ → Type 0 = λ x. Contains token_names x in
-            h.no_token_rule (subst P (it.2.1 ∙ (bytes_eq-Decides kind.name n).0 same) (contains_map (λ (r : LexerRule). r.name) (filter (λ (r : LexerRule). not r.fragment) (lexer_rules G.rules)) it.0
+            h.no_token_rule (subst P (it.2.1 ∙ (bytes_eq-Decides kind.name n).0 same)
+            (contains_map (λ (r : LexerRule). r.name) (filter (λ (r : LexerRule). not r.fragment) (lexer_rules G.rules)) it.0
             (contains_filter (λ (r : LexerRule). not r.fragment) (lexer_rules G.rules) it.0 (ap not it.2.0) (contains_rule G.rules i it.0 it.1))))
         by Source.declared e =
             let same : same_text kind.name n ≡ true = rw e at named in
             elim (kind_cases G kind c) [
-              | inl a ↦ let it = mapped implicit_kind (implicit_literals G.rules) kind a in let bad : Source.implicit ≡ Source.declared = ap (λ (k : TokenKind). k.source) it.2 ∙ e in absurd cc
+              | inl a ↦ let it = mapped implicit_kind (implicit_literals G.rules) kind a in let bad : Source.implicit ≡ Source.declared =
+                  ap (λ (k : TokenKind). k.source) it.2 ∙ e in absurd cc
               | inr (inl b) ↦ let it = written_source 0 G.rules kind b in let bad : Source.written it.0 ≡ Source.declared = sym it.1 ∙ e in absurd cc
               | inr (inr d) ↦
                   let it = mapped declared_kind (declared_names G) kind d in
@@ -102,7 +109,8 @@ module _ (G : WrittenGrammar) where
   is_lexer_rule n c =
       let it = mapped (λ (r : LexerRule). r.name) (lexer_rules G.rules) n c in
       let at = lexer_places G it.0 it.1 in
-      some_position (has_key LexerName n) G.rules (WrittenRule.lexer_rule it.0) (contains_at G.rules at.0 (WrittenRule.lexer_rule it.0) at.1) ((bytes_eq-Decides it.0.name n).1 it.2)
+      some_position (has_key LexerName n) G.rules (WrittenRule.lexer_rule it.0) (contains_at G.rules at.0 (WrittenRule.lexer_rule it.0) at.1)
+      ((bytes_eq-Decides it.0.name n).1 it.2)
 
   not_lexer_rule : (n : List ℕ) (i : ℕ) → lexer_index G.rules n ≡ Some i → Contains lexer_names n
   not_lexer_rule n i e =
@@ -160,7 +168,8 @@ module _ (G : WrittenGrammar) where
   pub first_unknown_is : (o : Option (List ℕ)) → o ≡ option_map used_name (find (is_unknown G) (name_uses G)) → IsFirstUnknown G o
   first_unknown_is o e = by (find (is_unknown G) (name_uses G)) refl o e
     where
-      by : (f : Option NameUse) → find (is_unknown G) (name_uses G) ≡ f → (o : Option (List ℕ)) → o ≡ option_map used_name (find (is_unknown G) (name_uses G)) → IsFirstUnknown G o
+      by : (f : Option NameUse) → find (is_unknown G) (name_uses G) ≡ f → (o : Option (List ℕ)) → o ≡ option_map used_name (find (is_unknown G) (name_uses G))
+          → IsFirstUnknown G o
       by None g None e = λ u h. none_passes (is_unknown G) (name_uses G) g u h.0 h.1 (says_so G h.0 h.2)
       by None g (Some name) e = absurd (none-some name (sym (e ∙ ap (option_map used_name) g)))
       by (Some it) g None e = absurd (none-some (used_name it) (e ∙ ap (option_map used_name) g))

@@ -100,7 +100,8 @@ fn some_is_misplaced(alts: &ParserAlts) -> bool
 
 /// Adds the name that the reference is.
 fn add_used(alloc: Global, reference: &TokenRef, used: &mut Index) -> Result<(), Memory>
-    ensures { (texts : List (List ℕ)) → Finds used.old (seen_in texts) → OnOk result (Finds used.new (seen_in (texts ++ filter_map as_name (token_ref reference.now ∷ [])))) }
+    ensures { (texts : List (List ℕ)) → Finds used.old (seen_in texts)
+        → OnOk result (Finds used.new (seen_in (texts ++ filter_map as_name (token_ref reference.now ∷ [])))) }
 {
     match reference {
         TokenRef::Literal(_) => Ok(()),

@@ -27,7 +27,8 @@ fn means_nothing(name: &Text, names: &Names) -> bool
 
 /// The name that the reference is, where it names nothing.
 fn unknown_reference<'a>(reference: &'a TokenRef, names: &Names) -> Option<&'a Text>
-    ensures { option_map (λ n. n.now) result ≡ option_map used_name (find (is_unknown names.now) (map NameUse.by_parser_rule (filter_map as_name (token_ref reference.now ∷ [])))) }
+    ensures { option_map (λ n. n.now) result ≡ option_map used_name
+        (find (is_unknown names.now) (map NameUse.by_parser_rule (filter_map as_name (token_ref reference.now ∷ [])))) }
 {
     match reference {
         TokenRef::Literal(_) => None,
@@ -43,7 +44,8 @@ fn unknown_reference<'a>(reference: &'a TokenRef, names: &Names) -> Option<&'a T
 
 /// The first of the references whose name names nothing.
 fn first_unknown_reference(references: &[TokenRef], names: &Names) -> Result<Option<Text>, Memory>
-    ensures { IfOk result (λ name. name ≡ option_map used_name (find (is_unknown names.now) (map NameUse.by_parser_rule (filter_map as_name (map token_ref references.now))))) }
+    ensures { IfOk result (λ name. name ≡ option_map used_name
+        (find (is_unknown names.now) (map NameUse.by_parser_rule (filter_map as_name (map token_ref references.now))))) }
 {
     for reference in references {
         if let Some(name) = unknown_reference(reference, names) {

@@ -1,5 +1,6 @@
 -- Which lexer terms match the empty text.
-use Rattle.std.proofs.Common.{◌≡◌, inl, inr, ℕ, Bool, true, false, List, [], ◌∷◌, Option, Some, None, slice_get, slice_index_or, slice_set, length, ◌<◌, get_or-set_other, refl, sym, ap, ◌∙◌, subst}
+use Rattle.std.proofs.Common.{◌≡◌, inl, inr, ℕ, Bool, true, false, List, [], ◌∷◌, Option, Some, None, slice_get}
+use Rattle.std.proofs.Common.{slice_index_or, slice_set, length, ◌<◌, get_or-set_other, refl, sym, ap, ◌∙◌, subst}
 use Rattle.std.specs.List.{Contains}
 use Rattle.std.specs.Option.{option_map_or}
 use Rattle.std.proofs.lemmas.Bool.{cases_eq, false≢true}
@@ -12,7 +13,8 @@ use Rattle.grammar_tree.proofs.Lent.{contains_filter_map, some_position, at_of_c
 use Rattle.grammar_tree.specs.Matches.{Matches, MatchesAlts, MatchesMany, MatchesSeq}
 use Rattle.grammar_tree.specs.Written.{LexerTerm, LexerSeq, LexerAlts, LexerRule, WrittenAlts, WrittenRule}
 use Rattle.grammar_check_tables.specs.Flags.{flag}
-use Rattle.grammar_check_lexer_rules.specs.Lexer.{AreEmptyLexerRules, OneRule, is_nil, lexer_alts_are_empty, lexer_alts_have_loop, lexer_has_loop, lexer_is_empty, lexer_index, lexer_seq_has_loop, lexer_seq_is_empty}
+use Rattle.grammar_check_lexer_rules.specs.Lexer.{AreEmptyLexerRules, OneRule, is_nil, lexer_alts_are_empty, lexer_alts_have_loop}
+use Rattle.grammar_check_lexer_rules.specs.Lexer.{lexer_has_loop, lexer_is_empty, lexer_index, lexer_seq_has_loop, lexer_seq_is_empty}
 use Rattle.grammar_check_lexer_rules.specs.inner.Lexer.{lexer_rule_is_empty, rule_is_empty}
 use Rattle.grammar_check_tables.specs.Marking.{IsClosedAt, IsMarked}
 use Rattle.grammar_check_parser_rules.specs.Rules.{has_key}
@@ -21,11 +23,14 @@ use Rattle.grammar_check_parser_rules.proofs.Lent.{and_both, from_both, from_fir
 
 -- The table has no rule whose alternatives don't match the empty text.
 abbrev HasOnlyEmptyLexerRules : List WrittenRule → List Bool → Type 0
-HasOnlyEmptyLexerRules rules flags = (i : ℕ) (rule : LexerRule) → slice_get rules i ≡ Some (WrittenRule.lexer_rule rule) → flag flags i ≡ true → MatchesAlts (lexer_rules rules) rule.alts []
+HasOnlyEmptyLexerRules rules flags =
+    (i : ℕ) (rule : LexerRule) → slice_get rules i ≡ Some (WrittenRule.lexer_rule rule) → flag flags i ≡ true → MatchesAlts (lexer_rules rules) rule.alts []
 
 -- The table has the rule at this index, where its alternatives match the empty text by the rules in the table.
 abbrev IsSettledAt : List WrittenRule → List Bool → ℕ → Type 0
-IsSettledAt rules flags i = (rule : LexerRule) → slice_get rules i ≡ Some (WrittenRule.lexer_rule rule) → lexer_alts_are_empty (lexer_index rules) (flag flags) rule.alts ≡ true → flag flags i ≡ true
+IsSettledAt rules flags i =
+    (rule : LexerRule) → slice_get rules i ≡ Some (WrittenRule.lexer_rule rule) → lexer_alts_are_empty (lexer_index rules) (flag flags) rule.alts ≡ true
+    → flag flags i ≡ true
 
 nil_of : (t : List ℕ) → is_nil t ≡ true → t ≡ []
 nil_of [] e = refl
@@ -43,7 +48,8 @@ module _ (rules : List WrittenRule) where
   named_key n (WrittenRule.parser_rule r) e = absurd (false≢true e)
   named_key n (WrittenRule.lexer_rule r) e = (r, refl, (bytes_eq-Decides r.name n).0 e)
 
-  pub rule_of_index : (n : List ℕ) (i : ℕ) → lexer_index rules n ≡ Some i → (r : LexerRule) × (slice_get rules i ≡ Some (WrittenRule.lexer_rule r)) × (r.name ≡ n)
+  pub rule_of_index : (n : List ℕ) (i : ℕ) → lexer_index rules n ≡ Some i → (r : LexerRule) × (slice_get rules i ≡ Some (WrittenRule.lexer_rule r))
+      × (r.name ≡ n)
   rule_of_index n i e =
       let none = WrittenRule.parser_rule (record { name = []; alts = WrittenAlts.none }) in
       let found = position-Some (has_key LexerName n) rules i none e in
@@ -53,7 +59,9 @@ module _ (rules : List WrittenRule) where
   -- the index of a lexer rule is what its name has
   pub index_of_name : OneRule rules → (i : ℕ) (r : LexerRule) → slice_get rules i ≡ Some (WrittenRule.lexer_rule r) → lexer_index rules r.name ≡ Some i
   index_of_name one i r at =
-      let found = some_position (has_key LexerName r.name) rules (WrittenRule.lexer_rule r) (contains_at rules i (WrittenRule.lexer_rule r) at) ((bytes_eq-Decides r.name r.name).1 refl) in
+      let found =
+      some_position (has_key LexerName r.name) rules (WrittenRule.lexer_rule r) (contains_at rules i (WrittenRule.lexer_rule r) at)
+      ((bytes_eq-Decides r.name r.name).1 refl) in
       let it = rule_of_index r.name found.0 found.1 in
       found.1 ∙ ap Some (one found.0 i (WrittenRule.lexer_rule it.0) (WrittenRule.lexer_rule r) it.1 at it.2)
 
@@ -120,7 +128,8 @@ module _ (rules : List WrittenRule) where
 
         seq_found : {s : LexerSeq} {w : List ℕ} → MatchesSeq L s w → w ≡ [] → lexer_seq_is_empty f e s ≡ true
         seq_found MatchesSeq.by_done h = refl
-        seq_found (MatchesSeq.by_next t s u v m more) h = from_both (lexer_is_empty f e t) (lexer_seq_is_empty f e s) (is_found m (nil_parts u v h).0) (seq_found more (nil_parts u v h).1)
+        seq_found (MatchesSeq.by_next t s u v m more) h =
+            from_both (lexer_is_empty f e t) (lexer_seq_is_empty f e s) (is_found m (nil_parts u v h).0) (seq_found more (nil_parts u v h).1)
 
         alts_found : {a : LexerAlts} {w : List ℕ} → MatchesAlts L a w → w ≡ [] → lexer_alts_are_empty f e a ≡ true
         alts_found (MatchesAlts.by_first s a w m) h = from_first (lexer_seq_is_empty f e s) (lexer_alts_are_empty f e a) (seq_found m h)
@@ -133,7 +142,8 @@ module _ (rules : List WrittenRule) where
   exact one flags sound settled = λ i rule at. (sound i rule at, λ m. settled i rule at (found_in_alts flags one settled m))
 
   -- one more rule that matches the empty text
-  marked : (flags : List Bool) (n : ℕ) (rule : LexerRule) → slice_get rules n ≡ Some (WrittenRule.lexer_rule rule) → lexer_alts_are_empty (lexer_index rules) (flag flags) rule.alts ≡ true →
+  marked : (flags : List Bool) (n : ℕ) (rule : LexerRule) → slice_get rules n ≡ Some (WrittenRule.lexer_rule rule)
+      → lexer_alts_are_empty (lexer_index rules) (flag flags) rule.alts ≡ true →
       HasOnlyEmptyLexerRules rules flags → HasOnlyEmptyLexerRules rules (slice_set flags n true)
   marked flags n rule at h sound i r at' k = elim (cases_eq i n) [
     | inl same ↦
@@ -147,7 +157,9 @@ module _ (rules : List WrittenRule) where
       lexer_same : (a b : LexerRule) → Some (WrittenRule.lexer_rule a) ≡ Some (WrittenRule.lexer_rule b) → a ≡ b
       lexer_same a b e' = cc
 
-  sound_more : (flags : List Bool) (n : ℕ) (o : Option WrittenRule) → slice_get rules n ≡ o → option_map_or (rule_is_empty (lexer_index rules) (flag flags)) o false ≡ true → HasOnlyEmptyLexerRules rules flags → HasOnlyEmptyLexerRules rules (slice_set flags n true)
+  sound_more : (flags : List Bool) (n : ℕ) (o : Option WrittenRule) → slice_get rules n ≡ o
+      → option_map_or (rule_is_empty (lexer_index rules) (flag flags)) o false ≡ true → HasOnlyEmptyLexerRules rules flags
+      → HasOnlyEmptyLexerRules rules (slice_set flags n true)
   sound_more flags n None at h sound = absurd (false≢true h)
   sound_more flags n (Some (WrittenRule.parser_rule r)) at h sound = absurd (false≢true h)
   sound_more flags n (Some (WrittenRule.lexer_rule r)) at h sound = marked flags n r at h sound
@@ -156,9 +168,11 @@ module _ (rules : List WrittenRule) where
   are_sound (IsMarked.by_none flags none) = λ i rule at h. absurd (false≢true (sym (none i) ∙ h))
   are_sound (IsMarked.by_one flags n before lt passes) = sound_more flags n (slice_get rules n) refl passes (are_sound before)
 
-  pub are_empty : OneRule rules → (flags : List Bool) → IsMarked (lexer_rule_is_empty rules) flags → ((i : ℕ) → i < length rules → IsClosedAt (lexer_rule_is_empty rules) flags i) → AreEmptyLexerRules rules flags
+  pub are_empty : OneRule rules → (flags : List Bool) → IsMarked (lexer_rule_is_empty rules) flags
+      → ((i : ℕ) → i < length rules → IsClosedAt (lexer_rule_is_empty rules) flags i) → AreEmptyLexerRules rules flags
   are_empty one flags marks closed = exact one flags (are_sound marks)
-      (λ i rule at h. closed i (slice_get_within rules i (WrittenRule.lexer_rule rule) at) (ap (λ o. option_map_or (rule_is_empty (lexer_index rules) (flag flags)) o false) at ∙ h))
+      (λ i rule at h. closed i (slice_get_within rules i (WrittenRule.lexer_rule rule) at)
+      (ap (λ o. option_map_or (rule_is_empty (lexer_index rules) (flag flags)) o false) at ∙ h))
 
   -- from an exact table: what matches the empty text, and loops
   module _ (flags : List Bool) (one : OneRule rules) (are : AreEmptyLexerRules rules flags) where
@@ -178,17 +192,28 @@ module _ (rules : List WrittenRule) where
       loop (LexerTerm.name n) h = false≢true h
       loop (LexerTerm.block a) h = loop_alts a h
       loop (LexerTerm.opt t) h = loop t h
-      loop (LexerTerm.star t) h = elim (or_one (lexer_is_empty (lexer_index rules) (flag flags) t) (lexer_has_loop (lexer_index rules) (flag flags) t) h) [ inl x ↦ inl (empty flags sound t x) | inr y ↦ inr (loop t y) ]
-      loop (LexerTerm.plus t) h = elim (or_one (lexer_is_empty (lexer_index rules) (flag flags) t) (lexer_has_loop (lexer_index rules) (flag flags) t) h) [ inl x ↦ inl (empty flags sound t x) | inr y ↦ inr (loop t y) ]
+      loop (LexerTerm.star t) h =
+          elim (or_one (lexer_is_empty (lexer_index rules) (flag flags) t) (lexer_has_loop (lexer_index rules) (flag flags) t) h)
+          [ inl x ↦ inl (empty flags sound t x) | inr y ↦ inr (loop t y) ]
+      loop (LexerTerm.plus t) h =
+          elim (or_one (lexer_is_empty (lexer_index rules) (flag flags) t) (lexer_has_loop (lexer_index rules) (flag flags) t) h) [
+            | inl x ↦ inl
+                (empty flags sound t x)
+            | inr y ↦ inr (loop t y)
+          ]
       loop (LexerTerm.short s) h = false≢true h
 
       loop_seq : (s : LexerSeq) → lexer_seq_has_loop (lexer_index rules) (flag flags) s ≡ true → LexerHasEmptyLoopSeq L s
       loop_seq LexerSeq.done h = false≢true h
-      loop_seq (LexerSeq.next t s) h = elim (or_one (lexer_has_loop (lexer_index rules) (flag flags) t) (lexer_seq_has_loop (lexer_index rules) (flag flags) s) h) [ inl x ↦ inl (loop t x) | inr y ↦ inr (loop_seq s y) ]
+      loop_seq (LexerSeq.next t s) h =
+          elim (or_one (lexer_has_loop (lexer_index rules) (flag flags) t) (lexer_seq_has_loop (lexer_index rules) (flag flags) s) h)
+          [ inl x ↦ inl (loop t x) | inr y ↦ inr (loop_seq s y) ]
 
       pub loop_alts : (a : LexerAlts) → lexer_alts_have_loop (lexer_index rules) (flag flags) a ≡ true → LexerHasEmptyLoopAlts L a
       loop_alts LexerAlts.none h = false≢true h
-      loop_alts (LexerAlts.or s a) h = elim (or_one (lexer_seq_has_loop (lexer_index rules) (flag flags) s) (lexer_alts_have_loop (lexer_index rules) (flag flags) a) h) [ inl x ↦ inl (loop_seq s x) | inr y ↦ inr (loop_alts a y) ]
+      loop_alts (LexerAlts.or s a) h =
+          elim (or_one (lexer_seq_has_loop (lexer_index rules) (flag flags) s) (lexer_alts_have_loop (lexer_index rules) (flag flags) a) h)
+          [ inl x ↦ inl (loop_seq s x) | inr y ↦ inr (loop_alts a y) ]
 
     mutual
       looped : (t : LexerTerm) → LexerHasEmptyLoop L t → lexer_has_loop (lexer_index rules) (flag flags) t ≡ true
@@ -197,18 +222,26 @@ module _ (rules : List WrittenRule) where
       looped (LexerTerm.name n) h = absurd h
       looped (LexerTerm.block a) h = looped_alts a h
       looped (LexerTerm.opt t) h = looped t h
-      looped (LexerTerm.star t) (inl h) = from_first (lexer_is_empty (lexer_index rules) (flag flags) t) (lexer_has_loop (lexer_index rules) (flag flags) t) (is_empty t h)
-      looped (LexerTerm.star t) (inr h) = from_second (lexer_is_empty (lexer_index rules) (flag flags) t) (lexer_has_loop (lexer_index rules) (flag flags) t) (looped t h)
-      looped (LexerTerm.plus t) (inl h) = from_first (lexer_is_empty (lexer_index rules) (flag flags) t) (lexer_has_loop (lexer_index rules) (flag flags) t) (is_empty t h)
-      looped (LexerTerm.plus t) (inr h) = from_second (lexer_is_empty (lexer_index rules) (flag flags) t) (lexer_has_loop (lexer_index rules) (flag flags) t) (looped t h)
+      looped (LexerTerm.star t) (inl h) =
+          from_first (lexer_is_empty (lexer_index rules) (flag flags) t) (lexer_has_loop (lexer_index rules) (flag flags) t) (is_empty t h)
+      looped (LexerTerm.star t) (inr h) =
+          from_second (lexer_is_empty (lexer_index rules) (flag flags) t) (lexer_has_loop (lexer_index rules) (flag flags) t) (looped t h)
+      looped (LexerTerm.plus t) (inl h) =
+          from_first (lexer_is_empty (lexer_index rules) (flag flags) t) (lexer_has_loop (lexer_index rules) (flag flags) t) (is_empty t h)
+      looped (LexerTerm.plus t) (inr h) =
+          from_second (lexer_is_empty (lexer_index rules) (flag flags) t) (lexer_has_loop (lexer_index rules) (flag flags) t) (looped t h)
       looped (LexerTerm.short s) h = absurd h
 
       looped_seq : (s : LexerSeq) → LexerHasEmptyLoopSeq L s → lexer_seq_has_loop (lexer_index rules) (flag flags) s ≡ true
       looped_seq LexerSeq.done h = absurd h
-      looped_seq (LexerSeq.next t s) (inl h) = from_first (lexer_has_loop (lexer_index rules) (flag flags) t) (lexer_seq_has_loop (lexer_index rules) (flag flags) s) (looped t h)
-      looped_seq (LexerSeq.next t s) (inr h) = from_second (lexer_has_loop (lexer_index rules) (flag flags) t) (lexer_seq_has_loop (lexer_index rules) (flag flags) s) (looped_seq s h)
+      looped_seq (LexerSeq.next t s) (inl h) =
+          from_first (lexer_has_loop (lexer_index rules) (flag flags) t) (lexer_seq_has_loop (lexer_index rules) (flag flags) s) (looped t h)
+      looped_seq (LexerSeq.next t s) (inr h) =
+          from_second (lexer_has_loop (lexer_index rules) (flag flags) t) (lexer_seq_has_loop (lexer_index rules) (flag flags) s) (looped_seq s h)
 
       pub looped_alts : (a : LexerAlts) → LexerHasEmptyLoopAlts L a → lexer_alts_have_loop (lexer_index rules) (flag flags) a ≡ true
       looped_alts LexerAlts.none h = absurd h
-      looped_alts (LexerAlts.or s a) (inl h) = from_first (lexer_seq_has_loop (lexer_index rules) (flag flags) s) (lexer_alts_have_loop (lexer_index rules) (flag flags) a) (looped_seq s h)
-      looped_alts (LexerAlts.or s a) (inr h) = from_second (lexer_seq_has_loop (lexer_index rules) (flag flags) s) (lexer_alts_have_loop (lexer_index rules) (flag flags) a) (looped_alts a h)
+      looped_alts (LexerAlts.or s a) (inl h) =
+          from_first (lexer_seq_has_loop (lexer_index rules) (flag flags) s) (lexer_alts_have_loop (lexer_index rules) (flag flags) a) (looped_seq s h)
+      looped_alts (LexerAlts.or s a) (inr h) =
+          from_second (lexer_seq_has_loop (lexer_index rules) (flag flags) s) (lexer_alts_have_loop (lexer_index rules) (flag flags) a) (looped_alts a h)

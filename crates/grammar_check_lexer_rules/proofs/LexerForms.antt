@@ -7,7 +7,8 @@ use Rattle.grammar_tree.specs.Written.{LexerTerm, lexer_alts, lexer_seq}
 use Rattle.grammar_tree.specs.declared.lex_term.LexAlts.{LexAlts, out-LexAlts, fold_out-LexAlts}
 use Rattle.grammar_tree.specs.declared.lex_term.LexTerm.{LexTerm}
 use Rattle.grammar_tree.specs.declared.lex_term.LexTerms.{LexTerms, out-LexTerms, fold_out-LexTerms}
-use Rattle.grammar_check_lexer_rules.specs.Lexer.{lexer_alts_are_empty, lexer_alts_have_loop, lexer_has_loop, lexer_is_empty, lexer_seq_has_loop, lexer_seq_is_empty}
+use Rattle.grammar_check_lexer_rules.specs.Lexer.{lexer_alts_are_empty, lexer_alts_have_loop, lexer_has_loop}
+use Rattle.grammar_check_lexer_rules.specs.Lexer.{lexer_is_empty, lexer_seq_has_loop, lexer_seq_is_empty}
 
 seq_view : (s : LexTerms) → lex_terms s ≡ map lex_term (out-LexTerms s).items.items
 seq_view s = fold_out-LexTerms LexerTerm (List (List LexerTerm)) (List LexerTerm) lex_node lex_alts_node lex_seq_node s
@@ -20,14 +21,17 @@ module _ (f : List ℕ → Option ℕ) (e : ℕ → Bool) where
   empty_terms [] = refl
   empty_terms (t ∷ ts) = ap (λ x. lexer_is_empty f e (lex_term t) && x) (empty_terms ts)
 
-  pub empty_seq : (s : LexTerms) → lexer_seq_is_empty f e (lexer_seq (lex_terms s)) ≡ list_all (λ t. lexer_is_empty f e (lex_term t)) (out-LexTerms s).items.items
+  pub empty_seq : (s : LexTerms) → lexer_seq_is_empty f e (lexer_seq (lex_terms s)) ≡ list_all (λ t. lexer_is_empty f e (lex_term t))
+      (out-LexTerms s).items.items
   empty_seq s = ap (λ ts. lexer_seq_is_empty f e (lexer_seq ts)) (seq_view s) ∙ empty_terms (out-LexTerms s).items.items
 
-  empty_seqs : (ss : List LexTerms) → lexer_alts_are_empty f e (lexer_alts (map lex_terms ss)) ≡ list_any (λ s. lexer_seq_is_empty f e (lexer_seq (lex_terms s))) ss
+  empty_seqs : (ss : List LexTerms) → lexer_alts_are_empty f e (lexer_alts (map lex_terms ss)) ≡ list_any
+      (λ s. lexer_seq_is_empty f e (lexer_seq (lex_terms s))) ss
   empty_seqs [] = refl
   empty_seqs (s ∷ ss) = ap (λ x. lexer_seq_is_empty f e (lexer_seq (lex_terms s)) || x) (empty_seqs ss)
 
-  pub empty_alts : (a : LexAlts) → lexer_alts_are_empty f e (lexer_alts (lex_alts a)) ≡ list_any (λ s. lexer_seq_is_empty f e (lexer_seq (lex_terms s))) (out-LexAlts a).items.items
+  pub empty_alts : (a : LexAlts) → lexer_alts_are_empty f e (lexer_alts (lex_alts a)) ≡ list_any (λ s. lexer_seq_is_empty f e (lexer_seq (lex_terms s)))
+      (out-LexAlts a).items.items
   empty_alts a = ap (λ ss. lexer_alts_are_empty f e (lexer_alts ss)) (alts_view a) ∙ empty_seqs (out-LexAlts a).items.items
 
 module _ (f : List ℕ → Option ℕ) (e : ℕ → Bool) where
@@ -35,14 +39,17 @@ module _ (f : List ℕ → Option ℕ) (e : ℕ → Bool) where
   loop_terms [] = refl
   loop_terms (t ∷ ts) = ap (λ x. lexer_has_loop f e (lex_term t) || x) (loop_terms ts)
 
-  pub loop_seq : (s : LexTerms) → lexer_seq_has_loop f e (lexer_seq (lex_terms s)) ≡ list_any (λ t. lexer_has_loop f e (lex_term t)) (out-LexTerms s).items.items
+  pub loop_seq : (s : LexTerms) → lexer_seq_has_loop f e (lexer_seq (lex_terms s)) ≡ list_any (λ t. lexer_has_loop f e (lex_term t))
+      (out-LexTerms s).items.items
   loop_seq s = ap (λ ts. lexer_seq_has_loop f e (lexer_seq ts)) (seq_view s) ∙ loop_terms (out-LexTerms s).items.items
 
-  loop_seqs : (ss : List LexTerms) → lexer_alts_have_loop f e (lexer_alts (map lex_terms ss)) ≡ list_any (λ s. lexer_seq_has_loop f e (lexer_seq (lex_terms s))) ss
+  loop_seqs : (ss : List LexTerms) → lexer_alts_have_loop f e (lexer_alts (map lex_terms ss)) ≡ list_any
+      (λ s. lexer_seq_has_loop f e (lexer_seq (lex_terms s))) ss
   loop_seqs [] = refl
   loop_seqs (s ∷ ss) = ap (λ x. lexer_seq_has_loop f e (lexer_seq (lex_terms s)) || x) (loop_seqs ss)
 
-  pub loop_alts : (a : LexAlts) → lexer_alts_have_loop f e (lexer_alts (lex_alts a)) ≡ list_any (λ s. lexer_seq_has_loop f e (lexer_seq (lex_terms s))) (out-LexAlts a).items.items
+  pub loop_alts : (a : LexAlts) → lexer_alts_have_loop f e (lexer_alts (lex_alts a)) ≡ list_any (λ s. lexer_seq_has_loop f e (lexer_seq (lex_terms s)))
+      (out-LexAlts a).items.items
   loop_alts a = ap (λ ss. lexer_alts_have_loop f e (lexer_alts ss)) (alts_view a) ∙ loop_seqs (out-LexAlts a).items.items
 
 names_terms : (ts : List LexTerm) → seq_names (lexer_seq (map lex_term ts)) ≡ flat_map (λ t. term_names (lex_term t)) ts

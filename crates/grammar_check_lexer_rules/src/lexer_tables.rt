@@ -27,7 +27,8 @@ fn add_index(name: &Text, names: &LexerNames, successors: &mut Vec<u32>) -> Resu
 
 /// The indices of the rules that the alternatives use.
 fn alts_successors(alloc: Global, alts: &LexAlts, names: &LexerNames) -> Result<Vec<u32>, Memory>
-    ensures { IfOk result (λ successors. successors.items ≡ filter_map (lexer_index (map rule_of names.now.rules.now)) (used_names (lexer_alts (lex_alts alts.now)))) }
+    ensures { IfOk result (λ successors. successors.items ≡ filter_map (lexer_index (map rule_of names.now.rules.now))
+        (used_names (lexer_alts (lex_alts alts.now)))) }
 {
     let mut used = Vec::new(alloc);
     add_names(alts, &mut used)?;

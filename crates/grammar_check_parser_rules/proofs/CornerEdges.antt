@@ -1,5 +1,6 @@
 -- The edges of left corners, one after another, and that they lead to rules.
-use Rattle.std.proofs.Common.{◌≡◌, inl, inr, ℕ, zero, suc, ◌+◌, ◌<◌, Bool, List, [], ◌∷◌, ◌++◌, Option, Some, None, length, map, slice_get, refl, sym, ap, ◌∙◌, subst, arith, if◌then◌else◌}
+use Rattle.std.proofs.Common.{◌≡◌, inl, inr, ℕ, zero, suc, ◌+◌, ◌<◌, Bool, List, [], ◌∷◌, ◌++◌, Option, Some, None}
+use Rattle.std.proofs.Common.{length, map, slice_get, refl, sym, ap, ◌∙◌, subst, arith, if◌then◌else◌}
 use Rattle.std.specs.List.{Contains}
 use Rattle.std.proofs.lemmas.Bool.{cases_Bool, cases_lt}
 use Rattle.std.proofs.lemmas.List.{length-map, map-append}
@@ -36,13 +37,15 @@ module _ {X : Type 0} where
   get_last (x ∷ xs) y (suc r) e = get_last xs y r (omega (arith, e))
 
 -- one more successors
-pub successors_push : {X : Type 0} (items : X → List ℕ) (G : List Alts) (e : ℕ → Bool) (edges : List X) (successors : X) (n : ℕ) (b : Alts) → n ≡ length edges → slice_get G n ≡ Some b → items successors ≡ rule_corners e n b →
+pub successors_push : {X : Type 0} (items : X → List ℕ) (G : List Alts) (e : ℕ → Bool) (edges : List X) (successors : X) (n : ℕ) (b : Alts) → n ≡ length edges
+    → slice_get G n ≡ Some b → items successors ≡ rule_corners e n b →
     ((r : ℕ) (a : Alts) → r < n → slice_get G r ≡ Some a → slice_get (map items edges) r ≡ Some (rule_corners e r a)) →
     (r : ℕ) (a : Alts) → r < n + 1 → slice_get G r ≡ Some a → slice_get (map items (edges ++ successors ∷ [])) r ≡ Some (rule_corners e r a)
 successors_push items G e edges successors n b len at is so_far r a lt at' =
     let cut = map-append items edges (successors ∷ []) in
     elim (cases_lt r n) [
-      | inl below ↦ ap (λ l. slice_get l r) cut ∙ get_front (map items edges) (items successors ∷ []) r (omega (arith, length-map edges items)) ∙ so_far r a below at'
+      | inl below ↦ ap (λ l. slice_get l r) cut ∙ get_front (map items edges) (items successors ∷ []) r (omega (arith, length-map edges items))
+          ∙ so_far r a below at'
       | inr above ↦
           let same : n ≡ r = omega arith in
           let P : ℕ → Type 0 = λ m. slice_get G m ≡ Some b in
@@ -121,7 +124,8 @@ module _ (G : WrittenGrammar) where
 
 -- a rest is the alternative without its first part
 rest_within : (n r : ℕ) (s : Seq) (rest : Seq) → rest_of r s ≡ Some rest → WithinSeq n s → WithinSeq n rest
-rest_within n r s rest e w = let P : Seq → Type 0 = λ x. WithinSeq n x in let whole : WithinSeq n (Seq.next (Term.rule r) rest) = subst P (front r s rest e) w in whole.1
+rest_within n r s rest e w = let P : Seq → Type 0 = λ x. WithinSeq n x in let whole : WithinSeq n (Seq.next (Term.rule r) rest) =
+    subst P (front r s rest e) w in whole.1
 
 base_step : (n : ℕ) (s : Seq) (o : Option Seq) (a : Alts) → WithinSeq n s → WithinAlts n a → WithinAlts n (and_base s o a)
 base_step n s None a w v = (w, v)
@@ -166,13 +170,14 @@ module _ (e : ℕ → Bool) (n q : ℕ) where
     ]
 
   rule_corner_within : (r : ℕ) (a : Alts) → WithinAlts n a → Contains (rule_corners e r a) q → q < n
-  rule_corner_within r a w c = elim (Contains-append_cases (alts_corners e (bases r a)) (if alts_is_empty e (bases r a) then alts_corners e (rests r a) else []) q c) [
-    | inl base ↦ alts_corner_within (bases r a) (bases_within n r a w) base
-    | inr rest ↦ elim (cases_Bool (alts_is_empty e (bases r a))) [
-      | inl h ↦ alts_corner_within (rests r a) (rests_within n r a w) (rw h at rest)
-      | inr h ↦ absurd (nothing q (rw h at rest))
-    ]
-  ]
+  rule_corner_within r a w c =
+      elim (Contains-append_cases (alts_corners e (bases r a)) (if alts_is_empty e (bases r a) then alts_corners e (rests r a) else []) q c) [
+        | inl base ↦ alts_corner_within (bases r a) (bases_within n r a w) base
+        | inr rest ↦ elim (cases_Bool (alts_is_empty e (bases r a))) [
+          | inl h ↦ alts_corner_within (rests r a) (rests_within n r a w) (rw h at rest)
+          | inr h ↦ absurd (nothing q (rw h at rest))
+        ]
+      ]
 
 some_body : (G : List Alts) (r : ℕ) → r < length G → (a : Alts) × (slice_get G r ≡ Some a)
 some_body [] r lt = absurd (omega (arith, lt))
@@ -180,7 +185,8 @@ some_body (a ∷ G) zero lt = (a, refl)
 some_body (b ∷ G) (suc r) lt = some_body G r (omega arith)
 
 module _ (G : WrittenGrammar) (e : ℕ → Bool) (edges : List (List ℕ)) (are : AreCornerEdges (bodies G) e edges) where
-  pub successors_are : (r : ℕ) (successors : List ℕ) → slice_get edges r ≡ Some successors → (a : Alts) × (slice_get (bodies G) r ≡ Some a) × (successors ≡ rule_corners e r a)
+  pub successors_are : (r : ℕ) (successors : List ℕ) → slice_get edges r ≡ Some successors → (a : Alts) × (slice_get (bodies G) r ≡ Some a)
+      × (successors ≡ rule_corners e r a)
   successors_are r successors at =
       let it = some_body (bodies G) r (omega (arith, slice_get_within edges r successors at, are.only)) in
       (it.0, it.1, same_Some successors (rule_corners e r it.0) (sym at ∙ are.there r it.0 it.1))
@@ -192,8 +198,10 @@ module _ (G : WrittenGrammar) (e : ℕ → Bool) (edges : List (List ℕ)) (are 
       omega (arith, rule_corner_within e (length (bodies G)) q r it.0 (body_within G r it.0 it.1) (subst P it.2 c), are.only)
 
 -- A rule is on a cycle of the edges exactly where it is on a cycle of left corners.
-pub leads_back : (G : WrittenGrammar) (flags : List Bool) (edges : List (List ℕ)) → AreEmptyRules (bodies G) flags → AreCornerEdges (bodies G) (flag flags) edges → (r : ℕ) → IsOnCycle edges r → LeadsTo (bodies G) r r
+pub leads_back : (G : WrittenGrammar) (flags : List Bool) (edges : List (List ℕ)) → AreEmptyRules (bodies G) flags
+    → AreCornerEdges (bodies G) (flag flags) edges → (r : ℕ) → IsOnCycle edges r → LeadsTo (bodies G) r r
 leads_back G flags edges exact are r cycle = leads (bodies G) flags exact edges (successors_are G (flag flags) edges are) are.there cycle
 
-pub back_leads : (G : WrittenGrammar) (flags : List Bool) (edges : List (List ℕ)) → AreEmptyRules (bodies G) flags → AreCornerEdges (bodies G) (flag flags) edges → (r : ℕ) → LeadsTo (bodies G) r r → IsOnCycle edges r
+pub back_leads : (G : WrittenGrammar) (flags : List Bool) (edges : List (List ℕ)) → AreEmptyRules (bodies G) flags
+    → AreCornerEdges (bodies G) (flag flags) edges → (r : ℕ) → LeadsTo (bodies G) r r → IsOnCycle edges r
 back_leads G flags edges exact are r path = reaches (bodies G) flags exact edges (successors_are G (flag flags) edges are) are.there path

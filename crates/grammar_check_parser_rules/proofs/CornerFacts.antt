@@ -94,25 +94,28 @@ module _ (G : List Alts) (flags : List Bool) (exact : AreEmptyRules G flags) whe
     corner_alts q (Alts.or s a) (inr later) = Contains-append_right (seq_corners e s) (alts_corners e a) q (corner_alts q a later)
 
   pub is_corner : (r q : ℕ) (a : Alts) → slice_get G r ≡ Some a → Contains (rule_corners e r a) q → IsLeftCorner G r q
-  is_corner r q a at c = elim (Contains-append_cases (alts_corners e (bases r a)) (if alts_is_empty e (bases r a) then alts_corners e (rests r a) else []) q c) [
-    | inl base ↦ IsLeftCorner.in_base a at (begins_alts q (bases r a) base)
-    | inr rest ↦ elim (cases_Bool (alts_is_empty e (bases r a))) [
-      | inl h ↦ IsLeftCorner.in_rest a at (alts_empty_of (bases r a) h) (begins_alts q (rests r a) (rw h at rest))
-      | inr h ↦ absurd (nothing q (rw h at rest))
-    ]
-  ]
+  is_corner r q a at c =
+      elim (Contains-append_cases (alts_corners e (bases r a)) (if alts_is_empty e (bases r a) then alts_corners e (rests r a) else []) q c) [
+        | inl base ↦ IsLeftCorner.in_base a at (begins_alts q (bases r a) base)
+        | inr rest ↦ elim (cases_Bool (alts_is_empty e (bases r a))) [
+          | inl h ↦ IsLeftCorner.in_rest a at (alts_empty_of (bases r a) h) (begins_alts q (rests r a) (rw h at rest))
+          | inr h ↦ absurd (nothing q (rw h at rest))
+        ]
+      ]
 
   pub corner_of : (r q : ℕ) (a : Alts) → slice_get G r ≡ Some a → IsLeftCorner G r q → Contains (rule_corners e r a) q
   corner_of r q a at (IsLeftCorner.in_base b at' h) =
       let same : b ≡ a = same_Some b a (sym at' ∙ at) in
       let P : Alts → Type 0 = λ x. BeginsAlts G q (bases r x) in
-      Contains-append_left (alts_corners e (bases r a)) (if alts_is_empty e (bases r a) then alts_corners e (rests r a) else []) q (corner_alts q (bases r a) (subst P same h))
+      Contains-append_left (alts_corners e (bases r a)) (if alts_is_empty e (bases r a) then alts_corners e (rests r a) else []) q
+      (corner_alts q (bases r a) (subst P same h))
   corner_of r q a at (IsLeftCorner.in_rest b at' d h) =
       let same : b ≡ a = same_Some b a (sym at' ∙ at) in
       let P : Alts → Type 0 = λ x. BeginsAlts G q (rests r x) in
       let Q : Alts → Type 0 = λ x. DerivesAlts G (bases r x) [] in
       let is = alts_is_empty_of (bases r a) (subst Q same d) in
-      Contains-append_right (alts_corners e (bases r a)) (if alts_is_empty e (bases r a) then alts_corners e (rests r a) else []) q (rw is (corner_alts q (rests r a) (subst P same h)))
+      Contains-append_right (alts_corners e (bases r a)) (if alts_is_empty e (bases r a) then alts_corners e (rests r a) else []) q
+      (rw is (corner_alts q (rests r a) (subst P same h)))
 
   mutual
     loop : (t : Term) → has_loop e t ≡ true → HasEmptyLoop G t
@@ -157,7 +160,8 @@ module _ (G : List Alts) (flags : List Bool) (exact : AreEmptyRules G flags) whe
     looped_alts (Alts.or s a) (inr h) = from_second (seq_has_loop e s) (alts_has_loop e a) (looped_alts a h)
 
   -- The edges are those of the rules, in the order of their numbers.
-  module _ (edges : List (List ℕ)) (are : (r : ℕ) (successors : List ℕ) → slice_get edges r ≡ Some successors → (a : Alts) × (slice_get G r ≡ Some a) × (successors ≡ rule_corners e r a))
+  module _ (edges : List (List ℕ)) (are : (r : ℕ) (successors : List ℕ) → slice_get edges r ≡ Some successors → (a : Alts) × (slice_get G r ≡ Some a)
+      × (successors ≡ rule_corners e r a))
       (has : (r : ℕ) (a : Alts) → slice_get G r ≡ Some a → slice_get edges r ≡ Some (rule_corners e r a)) where
     edge_corner : (r q : ℕ) → HasEdge edges r q → IsLeftCorner G r q
     edge_corner r q (successors, at, c) =

@@ -1,5 +1,6 @@
 -- Sums over lists, and the count of the rules of the normal form.
-use Rattle.std.proofs.Common.{◌≡◌, ℕ, zero, suc, Some, drop, slice_get, ◌+◌, ◌<◌, ◌≤◌, List, [], ◌∷◌, length, sum_by, take, slice_index_or, sym, ap, ◌∙◌, subst, arith}
+use Rattle.std.proofs.Common.{◌≡◌, ℕ, zero, suc, Some, drop, slice_get, ◌+◌, ◌<◌, ◌≤◌, List, [], ◌∷◌, length}
+use Rattle.std.proofs.Common.{sum_by, take, slice_index_or, sym, ap, ◌∙◌, subst, arith}
 use Rattle.std.proofs.lemmas.List.Sums.{sum_by_more, sum_by_more_le}
 use Rattle.std.proofs.lemmas.Option.{none-some, same_Some}
 use Rattle.grammar_tree.specs.Corners.{group_size, normal_count_from}
@@ -14,7 +15,8 @@ module _ {X : Type 0} (f : X → ℕ) (xs : List X) (i : ℕ) where
   next_summed x lt is = sum_by_more f xs i x lt ∙ ap (λ y. sum_by f (take i xs) + f y) (sym is)
 
 -- the count of the rules from a number on, of which one is taken
-pub one_counted : (G : List Alts) (r : ℕ) (a : Alts) → slice_get G r ≡ Some a → normal_count_from r (drop r G) ≡ group_size r a + normal_count_from (r + 1) (drop (r + 1) G)
+pub one_counted : (G : List Alts) (r : ℕ) (a : Alts) → slice_get G r ≡ Some a
+    → normal_count_from r (drop r G) ≡ group_size r a + normal_count_from (r + 1) (drop (r + 1) G)
 one_counted G r a at =
     let next : suc r ≡ r + 1 = omega arith in
     ap (normal_count_from r) (drop_is G r at) ∙ ap (λ n. group_size r a + normal_count_from n (drop n G)) next

@@ -1,5 +1,6 @@
 -- The least table that is closed under the rules says exactly which of them can be empty.
-use Rattle.std.proofs.Common.{◌≡◌, ◌⊎◌, inl, inr, ℕ, Bool, true, false, ◌||◌, ◌&&◌, List, [], ◌∷◌, ◌++◌, Option, Some, None, zero, suc, ◌<◌, length, map, slice_get, slice_index_or, slice_set, get_or-set_other, arith, refl, sym, ap, ◌∙◌, subst, true≢false}
+use Rattle.std.proofs.Common.{◌≡◌, ◌⊎◌, inl, inr, ℕ, Bool, true, false, ◌||◌, ◌&&◌, List, [], ◌∷◌, ◌++◌, Option, Some, None, zero, suc, ◌<◌, length, map}
+use Rattle.std.proofs.Common.{slice_get, slice_index_or, slice_set, get_or-set_other, arith, refl, sym, ap, ◌∙◌, subst, true≢false}
 use Rattle.std.specs.Option.{option_map, option_map_or}
 use Rattle.std.proofs.lemmas.Bool.{cases_eq}
 use Rattle.std.proofs.lemmas.Option.{same_Some, slice_get-map, slice_get_within}
@@ -73,7 +74,8 @@ module _ (G : List Alts) (e : ℕ → Bool) where
 
       seq_found : {s : Seq} {w : List ℕ} → DerivesSeq G s w → w ≡ [] → seq_is_empty e s ≡ true
       seq_found DerivesSeq.by_done h = refl
-      seq_found (DerivesSeq.by_next t s u v d m) h = from_both (is_empty e t) (seq_is_empty e s) (is_found d (nil_parts u v h).0) (seq_found m (nil_parts u v h).1)
+      seq_found (DerivesSeq.by_next t s u v d m) h =
+          from_both (is_empty e t) (seq_is_empty e s) (is_found d (nil_parts u v h).0) (seq_found m (nil_parts u v h).1)
 
       alts_found : {a : Alts} {w : List ℕ} → DerivesAlts G a w → w ≡ [] → alts_is_empty e a ≡ true
       alts_found (DerivesAlts.by_first s a w d) h = from_first (seq_is_empty e s) (alts_is_empty e a) (seq_found d h)
@@ -97,17 +99,20 @@ exact : (G : List Alts) (flags : List Bool) → IsSound G flags → IsComplete G
 exact G flags sound complete = λ r. (sound r, λ d. found G (flag flags) complete d)
 
 -- the alternatives of the rule with a number, where they were read
-pub body_at : {X : Type 0} (view : X → List (List WrittenTerm)) (G : WrittenGrammar) (xs : List X) → AreBodies G (map view xs) → (i : ℕ) (x : X) → i < length xs → x ≡ slice_index_or xs i x →
+pub body_at : {X : Type 0} (view : X → List (List WrittenTerm)) (G : WrittenGrammar) (xs : List X) → AreBodies G (map view xs) → (i : ℕ) (x : X) → i < length xs
+    → x ≡ slice_index_or xs i x →
     slice_get (bodies G) i ≡ Some (resolved_alts G (written_alts (view x)))
 body_at {X = X} view G xs e i x lt is = ap (λ bs. slice_get bs i) e ∙ at xs i lt is
   where
-    at : (ys : List X) (k : ℕ) → k < length ys → x ≡ slice_index_or ys k x → slice_get (map (λ a. resolved_alts G (written_alts a)) (map view ys)) k ≡ Some (resolved_alts G (written_alts (view x)))
+    at : (ys : List X) (k : ℕ) → k < length ys → x ≡ slice_index_or ys k x
+        → slice_get (map (λ a. resolved_alts G (written_alts a)) (map view ys)) k ≡ Some (resolved_alts G (written_alts (view x)))
     at [] k lt is = absurd (omega (arith, lt))
     at (y ∷ ys) zero lt is = ap (λ z. Some (resolved_alts G (written_alts (view z)))) (sym is)
     at (y ∷ ys) (suc k) lt is = at ys k (omega arith) is
 
 -- one more rule that can be empty
-marked : (G : List Alts) (flags : List Bool) (n : ℕ) (a : Alts) → slice_get G n ≡ Some a → alts_is_empty (flag flags) a ≡ true → IsSound G flags → IsSound G (slice_set flags n true)
+marked : (G : List Alts) (flags : List Bool) (n : ℕ) (a : Alts) → slice_get G n ≡ Some a → alts_is_empty (flag flags) a ≡ true → IsSound G flags
+    → IsSound G (slice_set flags n true)
 marked G flags n a at h sound r e = elim (cases_eq r n) [
   | inl same ↦
       let P : ℕ → Type 0 = λ m. Derives G (Term.rule m) [] in
@@ -122,7 +127,8 @@ module _ (G : WrittenGrammar) (alts : List (List (List WrittenTerm))) (are : Are
   at_number : (n : ℕ) (x : List (List WrittenTerm)) → slice_get alts n ≡ Some x → slice_get (bodies G) n ≡ Some (body x)
   at_number n x at = ap (λ l. slice_get l n) are ∙ slice_get-map body alts n ∙ ap (option_map body) at
 
-  sound_more : (flags : List Bool) (n : ℕ) (o : Option (List (List WrittenTerm))) → slice_get alts n ≡ o → option_map_or (λ a. alts_is_empty (flag flags) (body a)) o false ≡ true → IsSound (bodies G) flags → IsSound (bodies G) (slice_set flags n true)
+  sound_more : (flags : List Bool) (n : ℕ) (o : Option (List (List WrittenTerm))) → slice_get alts n ≡ o
+      → option_map_or (λ a. alts_is_empty (flag flags) (body a)) o false ≡ true → IsSound (bodies G) flags → IsSound (bodies G) (slice_set flags n true)
   sound_more flags n None at h sound = absurd (true≢false (sym h))
   sound_more flags n (Some x) at h sound = marked (bodies G) flags n (body x) (at_number n x at) h sound
 
@@ -131,11 +137,13 @@ module _ (G : WrittenGrammar) (alts : List (List (List WrittenTerm))) (are : Are
   are_sound (IsMarked.by_one flags n before lt passes) = sound_more flags n (slice_get alts n) refl passes (are_sound before)
 
   module _ (flags : List Bool) (closed : (n : ℕ) → n < length alts → IsClosedAt (body_is_empty G alts) flags n) where
-    closed_at : (r : ℕ) (a : Alts) (o : Option (List (List WrittenTerm))) → slice_get alts r ≡ o → slice_get (bodies G) r ≡ Some a → alts_is_empty (flag flags) a ≡ true → flag flags r ≡ true
+    closed_at : (r : ℕ) (a : Alts) (o : Option (List (List WrittenTerm))) → slice_get alts r ≡ o → slice_get (bodies G) r ≡ Some a
+        → alts_is_empty (flag flags) a ≡ true → flag flags r ≡ true
     closed_at r a None at has h = let x : None ≡ Some a = sym (ap (λ l. slice_get l r) are ∙ slice_get-map body alts r ∙ ap (option_map body) at) ∙ has in cc x
     closed_at r a (Some x) at has h =
         let same : body x ≡ a = same_Some (body x) a (sym (at_number r x at) ∙ has) in
-        closed r (slice_get_within alts r x at) (ap (λ o. option_map_or (λ b. alts_is_empty (flag flags) (body b)) o false) at ∙ ap (alts_is_empty (flag flags)) same ∙ h)
+        closed r (slice_get_within alts r x at) (ap (λ o. option_map_or (λ b. alts_is_empty (flag flags) (body b)) o false) at
+        ∙ ap (alts_is_empty (flag flags)) same ∙ h)
 
     pub are_empty : IsMarked (body_is_empty G alts) flags → AreEmptyRules (bodies G) flags
     are_empty marks = exact (bodies G) flags (are_sound marks) (λ r a has h. closed_at r a (slice_get alts r) refl has h)

@@ -1,5 +1,6 @@
 -- Bases and rests, by the alternatives.
-use Rattle.std.proofs.Common.{◌≡◌, ◌<◌, ◌≤◌, ◌+◌, ℕ, suc, Bool, true, false, not, ◌||◌, ◌&&◌, List, [], ◌∷◌, ◌++◌, Option, Some, None, is_some, length, map, drop, slice_index_or, refl, sym, ap, ◌∙◌, subst, arith}
+use Rattle.std.proofs.Common.{◌≡◌, ◌<◌, ◌≤◌, ◌+◌, ℕ, suc, Bool, true, false, not, ◌||◌, ◌&&◌, List, [], ◌∷◌, ◌++◌, Option, Some, None}
+use Rattle.std.proofs.Common.{is_some, length, map, drop, slice_index_or, refl, sym, ap, ◌∙◌, subst, arith}
 use Rattle.std.specs.List.{flat_map, list_any}
 use Rattle.std.specs.Option.{option_map_or}
 use Rattle.grammar_tree.specs.Corners.{and_base, and_rest, bases, rest_of, rests}
@@ -61,15 +62,19 @@ module _ (G : WrittenGrammar) (r : ℕ) where
     rests_empty (s ∷ ss) =
         rest_empty (seq s) (rests r (body ss)) e (rest_of r (seq s)) ∙ ap (λ b. option_map_or (seq_is_empty e) (rest_of r (seq s)) false || b) (rests_empty ss)
 
-    pub rests_by_any : (a : ParserAlts) → alts_is_empty e (rests r (alts a)) ≡ list_any (λ s. option_map_or (seq_is_empty e) (rest_of r (seq s)) false) (items a)
+    pub rests_by_any : (a : ParserAlts) → alts_is_empty e (rests r (alts a)) ≡ list_any (λ s. option_map_or (seq_is_empty e) (rest_of r (seq s)) false)
+        (items a)
     rests_by_any a = ap (λ b. alts_is_empty e (rests r b)) (alts_are a) ∙ rests_empty (items a)
 
-    bases_corners : (ss : List ParserTerms) → alts_corners e (bases r (body ss)) ≡ flat_map (λ s. option_map_or (λ _. []) (rest_of r (seq s)) (seq_corners e (seq s))) ss
+    bases_corners : (ss : List ParserTerms) → alts_corners e (bases r (body ss)) ≡ flat_map
+        (λ s. option_map_or (λ _. []) (rest_of r (seq s)) (seq_corners e (seq s))) ss
     bases_corners [] = refl
     bases_corners (s ∷ ss) =
-        base_corners (seq s) (bases r (body ss)) e (rest_of r (seq s)) ∙ ap (λ l. option_map_or (λ _. []) (rest_of r (seq s)) (seq_corners e (seq s)) ++ l) (bases_corners ss)
+        base_corners (seq s) (bases r (body ss)) e (rest_of r (seq s))
+        ∙ ap (λ l. option_map_or (λ _. []) (rest_of r (seq s)) (seq_corners e (seq s)) ++ l) (bases_corners ss)
 
-    pub base_corners_by_flat : (a : ParserAlts) → alts_corners e (bases r (alts a)) ≡ flat_map (λ s. option_map_or (λ _. []) (rest_of r (seq s)) (seq_corners e (seq s))) (items a)
+    pub base_corners_by_flat : (a : ParserAlts)
+        → alts_corners e (bases r (alts a)) ≡ flat_map (λ s. option_map_or (λ _. []) (rest_of r (seq s)) (seq_corners e (seq s))) (items a)
     base_corners_by_flat a = ap (λ b. alts_corners e (bases r b)) (alts_are a) ∙ bases_corners (items a)
 
     rests_corners : (ss : List ParserTerms) → alts_corners e (rests r (body ss)) ≡ flat_map (λ s. option_map_or (seq_corners e) (rest_of r (seq s)) []) ss
@@ -77,7 +82,8 @@ module _ (G : WrittenGrammar) (r : ℕ) where
     rests_corners (s ∷ ss) =
         rest_corners (seq s) (rests r (body ss)) e (rest_of r (seq s)) ∙ ap (λ l. option_map_or (seq_corners e) (rest_of r (seq s)) [] ++ l) (rests_corners ss)
 
-    pub rest_corners_by_flat : (a : ParserAlts) → alts_corners e (rests r (alts a)) ≡ flat_map (λ s. option_map_or (seq_corners e) (rest_of r (seq s)) []) (items a)
+    pub rest_corners_by_flat : (a : ParserAlts)
+        → alts_corners e (rests r (alts a)) ≡ flat_map (λ s. option_map_or (seq_corners e) (rest_of r (seq s)) []) (items a)
     rest_corners_by_flat a = ap (λ b. alts_corners e (rests r b)) (alts_are a) ∙ rests_corners (items a)
 
 -- the terms of a sequence from an index on
@@ -85,12 +91,16 @@ module _ (e : ℕ → Bool) (G : WrittenGrammar) where
   abbrev from : ParserTerms → ℕ → Bool
   from s i = seq_is_empty e (resolved_seq G (written_seq (drop i (parser_terms s))))
 
-  pub empty_at : (s : ParserTerms) (i : ℕ) (t : ParserTerm) → i < length (out-ParserTerms s).items.items → t ≡ slice_index_or (out-ParserTerms s).items.items i t → from s i ≡ (is_empty e (resolved G (parser_term t)) && from s (i + 1))
+  pub empty_at : (s : ParserTerms) (i : ℕ) (t : ParserTerm) → i < length (out-ParserTerms s).items.items
+      → t ≡ slice_index_or (out-ParserTerms s).items.items i t → from s i ≡ (is_empty e (resolved G (parser_term t)) && from s (i + 1))
   empty_at s i t lt is =
       let P : ℕ → Type 0 = λ j. from s i ≡ (is_empty e (resolved G (parser_term t)) && from s j) in
-      let Q : List WrittenTerm → Type 0 = λ ts. seq_is_empty e (resolved_seq G (written_seq (drop i ts))) ≡ (is_empty e (resolved G (parser_term t)) && seq_is_empty e (resolved_seq G (written_seq (drop (suc i) ts)))) in
+      let Q : List WrittenTerm → Type 0 =
+      λ ts. seq_is_empty e (resolved_seq G (written_seq (drop i ts)))
+      ≡ (is_empty e (resolved G (parser_term t)) && seq_is_empty e (resolved_seq G (written_seq (drop (suc i) ts)))) in
       let next : suc i ≡ i + 1 = omega arith in
-      subst P next (subst Q (sym (seq_view s)) (ap (λ ts. seq_is_empty e (resolved_seq G (written_seq ts))) (drop_at parser_term (out-ParserTerms s).items.items i t lt is)))
+      subst P next (subst Q (sym (seq_view s))
+      (ap (λ ts. seq_is_empty e (resolved_seq G (written_seq ts))) (drop_at parser_term (out-ParserTerms s).items.items i t lt is)))
 
   pub empty_end : (s : ParserTerms) (i : ℕ) → length (out-ParserTerms s).items.items ≤ i → from s i ≡ true
   empty_end s i le =

@@ -16,14 +16,16 @@ by_terms : (ts : List ParserTerm) → seq_references (written_seq (map parser_te
 by_terms [] = refl
 by_terms (t ∷ ts) = ap (λ l. term_references (parser_term t) ++ l) (by_terms ts)
 
-pub seq_by_flat : (s : ParserTerms) → seq_references (written_seq (parser_terms s)) ≡ flat_map (λ t. term_references (parser_term t)) (out-ParserTerms s).items.items
+pub seq_by_flat : (s : ParserTerms) → seq_references (written_seq (parser_terms s)) ≡ flat_map (λ t. term_references (parser_term t))
+    (out-ParserTerms s).items.items
 seq_by_flat s = ap (λ ts. seq_references (written_seq ts)) (seq_view s) ∙ by_terms (out-ParserTerms s).items.items
 
 by_seqs : (ss : List ParserTerms) → references (written_alts (map parser_terms ss)) ≡ flat_map (λ s. seq_references (written_seq (parser_terms s))) ss
 by_seqs [] = refl
 by_seqs (s ∷ ss) = ap (λ l. seq_references (written_seq (parser_terms s)) ++ l) (by_seqs ss)
 
-pub alts_by_flat : (a : ParserAlts) → references (written_alts (parser_alts a)) ≡ flat_map (λ s. seq_references (written_seq (parser_terms s))) (out-ParserAlts a).items.items
+pub alts_by_flat : (a : ParserAlts) → references (written_alts (parser_alts a)) ≡ flat_map (λ s. seq_references (written_seq (parser_terms s)))
+    (out-ParserAlts a).items.items
 alts_by_flat a = ap (λ ss. references (written_alts ss)) (alts_view a) ∙ by_seqs (out-ParserAlts a).items.items
 
 pub by_written_rules : (rules : List WrittenRule) → all_references rules ≡ flat_map rule_references rules

@@ -16,7 +16,8 @@ use std::alloc::Global;
 
 /// Adds the alternatives of the rule, where it is a parser rule.
 fn add_body<'a>(rule: &'a Rule, found: &mut Vec<&'a ParserAlts>) -> Result<(), Memory>
-    ensures { OnOk result (map (λ a. written_alts (parser_alts a.now)) found.new.items ≡ map (λ a. written_alts (parser_alts a.now)) found.old.items ++ filter_map body_of (rule_of rule.now ∷ [])) }
+    ensures { OnOk result (map (λ a. written_alts (parser_alts a.now)) found.new.items ≡ map (λ a. written_alts (parser_alts a.now)) found.old.items
+        ++ filter_map body_of (rule_of rule.now ∷ [])) }
 {
     match rule {
         Rule::Parser { alts, .. } => {

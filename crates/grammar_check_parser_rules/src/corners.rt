@@ -51,7 +51,8 @@ pub(crate) fn add_seq_corners(
     flags: &[bool],
     found: &mut Vec<u32>,
 ) -> Result<(), Memory>
-    ensures { OnOk result (found.new.items ≡ found.old.items ++ seq_corners (flag flags.now) (resolved_seq names.now (written_seq (drop from (parser_terms terms.now))))) }
+    ensures { OnOk result (found.new.items ≡ found.old.items ++ seq_corners (flag flags.now)
+        (resolved_seq names.now (written_seq (drop from (parser_terms terms.now))))) }
 {
     for i in from..terms.items.len() {
         let term = &terms.items[i];

@@ -77,7 +77,8 @@ fn add_base_corners(
     number: u32,
     found: &mut Vec<u32>,
 ) -> Result<(), Memory>
-    ensures { OnOk result (found.new.items ≡ found.old.items ++ alts_corners (flag flags.now) (bases number (resolved_alts names.now (written_alts (parser_alts alts.now))))) }
+    ensures { OnOk result (found.new.items ≡ found.old.items ++ alts_corners (flag flags.now)
+        (bases number (resolved_alts names.now (written_alts (parser_alts alts.now))))) }
 {
     for terms in alts.items.iter() {
         if !is_recursive(terms, names, number) {
@@ -95,7 +96,8 @@ fn add_rest_corners(
     number: u32,
     found: &mut Vec<u32>,
 ) -> Result<(), Memory>
-    ensures { OnOk result (found.new.items ≡ found.old.items ++ alts_corners (flag flags.now) (rests number (resolved_alts names.now (written_alts (parser_alts alts.now))))) }
+    ensures { OnOk result (found.new.items ≡ found.old.items ++ alts_corners (flag flags.now)
+        (rests number (resolved_alts names.now (written_alts (parser_alts alts.now))))) }
 {
     for terms in alts.items.iter() {
         if is_recursive(terms, names, number) {

@@ -47,7 +47,8 @@ module _ (bytes : List ℕ) where
   no_profile fault (inl (invalid, e)) G it = invalid it.utf8
   no_profile fault (inr (utf8, first)) G it =
       let begun = first.before ++ first.current ∷ [] in
-      let cut : only_words (words_of bytes) ≡ only_words begun ++ only_words first.after = ap only_words (first.cut ∙ sym (append_assoc first.before (first.current ∷ []) first.after)) ∙ both_words begun first.after in
+      let cut : only_words (words_of bytes) ≡ only_words begun ++ only_words first.after =
+      ap only_words (first.cut ∙ sym (append_assoc first.before (first.current ∷ []) first.after)) ∙ both_words begun first.after in
       first.stuck (only_words first.after, G, subst (λ ws. IsText ws G) cut it.text)
 
   module _ (wanted : Option (List ℕ)) where

@@ -32,10 +32,13 @@ added_other None number = refl
 added_other (Some k) number = refl
 
 module _ {Y : Type 0} where
-  pub added : (m n : BTreeMap (String Y) ℕ) (text : List ℕ) (number : ℕ) → IsUtf8 text → ((bytes : List ℕ) → get_by_text n bytes ≡ update bytes_eq (get_by_text m) text (Some number) bytes) → is_some (get_by_text m text) ≡ false → (f : List ℕ → Option ℕ) → MapFinds m f → MapFinds n (λ t. or_added (f t) (same_text (chars text) t) number)
+  pub added : (m n : BTreeMap (String Y) ℕ) (text : List ℕ) (number : ℕ) → IsUtf8 text
+      → ((bytes : List ℕ) → get_by_text n bytes ≡ update bytes_eq (get_by_text m) text (Some number) bytes) → is_some (get_by_text m text) ≡ false
+      → (f : List ℕ → Option ℕ) → MapFinds m f → MapFinds n (λ t. or_added (f t) (same_text (chars text) t) number)
   added m n text number u updates absent f finds bytes ub = updates bytes ∙ go (bytes_eq text bytes) refl
     where
-      go : (b : Bool) → bytes_eq text bytes ≡ b → cond b (Some number) (get_by_text m bytes) ≡ or_added (f (chars bytes)) (same_text (chars text) (chars bytes)) number
+      go : (b : Bool) → bytes_eq text bytes ≡ b
+          → cond b (Some number) (get_by_text m bytes) ≡ or_added (f (chars bytes)) (same_text (chars text) (chars bytes)) number
       go true h =
           let same : text ≡ bytes = (bytes_eq-Decides text bytes).0 h in
           let test : same_text (chars text) (chars bytes) ≡ true = (bytes_eq-Decides (chars text) (chars bytes)).1 (ap chars same) in
@@ -46,8 +49,10 @@ module _ {Y : Type 0} where
           finds bytes ub ∙ sym (ap (λ b. or_added (f (chars bytes)) b number) test ∙ added_other (f (chars bytes)) number)
 
 -- a number that is added by tests which agree, and one that is added to no text
-pub added_so : {E : Type 0} (r : Result (Unit {0}) E) (old new : Index) (test other : List ℕ → Bool) (number : ℕ) → ((t : List ℕ) → test t ≡ other t) → OnOk r (IsAdded old new test number) → OnOk r (IsAdded old new other number)
-added_so (Ok u) old new test other number same d = λ f finds bytes utf8. d f finds bytes utf8 ∙ ap (λ b. or_added (f (chars bytes)) b number) (same (chars bytes))
+pub added_so : {E : Type 0} (r : Result (Unit {0}) E) (old new : Index) (test other : List ℕ → Bool) (number : ℕ) → ((t : List ℕ) → test t ≡ other t)
+    → OnOk r (IsAdded old new test number) → OnOk r (IsAdded old new other number)
+added_so (Ok u) old new test other number same d =
+    λ f finds bytes utf8. d f finds bytes utf8 ∙ ap (λ b. or_added (f (chars bytes)) b number) (same (chars bytes))
 added_so (Err e) old new test other number same d = tt
 
 pub added_to_none : (index : Index) (test : List ℕ → Bool) (number : ℕ) → ((t : List ℕ) → test t ≡ false) → IsAdded index index test number

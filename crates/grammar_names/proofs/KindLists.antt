@@ -1,5 +1,6 @@
 -- Lists of numbers that rise, and what is in them.
-use Rattle.std.proofs.Common.{Less, Equal, Greater, ◌≡◌, ℕ, suc, ◌+◌, ◌<◌, ◌≤◌, ◌&&◌, ◌||◌, ◌⊎◌, inl, inr, Bool, true, false, not, cond, List, [], ◌∷◌, ◌++◌, length, take, Result, Ok, Err, get_or, refl, sym, ap, ◌∙◌, subst, arith, true≢false}
+use Rattle.std.proofs.Common.{Less, Equal, Greater, ◌≡◌, ℕ, suc, ◌+◌, ◌<◌, ◌≤◌, ◌&&◌, ◌||◌, ◌⊎◌, inl, inr, Bool, true, false, not, cond, List, []}
+use Rattle.std.proofs.Common.{◌∷◌, ◌++◌, length, take, Result, Ok, Err, get_or, refl, sym, ap, ◌∙◌, subst, arith, true≢false}
 use Rattle.std.specs.Prelude.{filter, is_ok, nat_eq, nat_lt}
 use Rattle.std.specs.BTreeMap.{is_at}
 use Rattle.std.specs.BTreeSet.{BTreeSet}
@@ -38,7 +39,8 @@ in_later false c e = e
 
 pub filter_agree_on : (p q : ℕ → Bool) (xs : List ℕ) → ((k : ℕ) → is_in xs k ≡ true → p k ≡ q k) → filter p xs ≡ filter q xs
 filter_agree_on p q [] same = refl
-filter_agree_on p q (x ∷ xs) same = filter_first p q x xs (same x (in_first x xs)) (filter_agree_on p q xs (λ k h. same k (in_later (nat_eq x k) (is_in xs k) h)))
+filter_agree_on p q (x ∷ xs) same =
+    filter_first p q x xs (same x (in_first x xs)) (filter_agree_on p q xs (λ k h. same k (in_later (nat_eq x k) (is_in xs k) h)))
 
 -- Two lists that rise and have the same numbers are equal.
 by_order : (q x : ℕ) (b : Bool) → nat_lt q x ≡ b → (c : Bool) → nat_eq q x ≡ c → is_eq (cond b Less (cond c Equal Greater)) ≡ nat_eq x q
@@ -57,7 +59,8 @@ pub same_rising : (xs ys : List ℕ) → IsStrictlyIncreasing xs → IsStrictlyI
 same_rising xs ys up_xs up_ys same =
     let s : BTreeSet ℕ = record { keys = xs } in
     let t : BTreeSet ℕ = record { keys = ys } in
-    btree_set_from_contains nat_cmp_total s t (sorted_from_strictly_increasing xs up_xs) (sorted_from_strictly_increasing ys up_ys) (λ q. any_at q xs ∙ same q ∙ sym (any_at q ys)) exact_unsigned
+    btree_set_from_contains nat_cmp_total s t (sorted_from_strictly_increasing xs up_xs) (sorted_from_strictly_increasing ys up_ys)
+    (λ q. any_at q xs ∙ same q ∙ sym (any_at q ys)) exact_unsigned
 
 and_swap : (a b : Bool) → (a && b) ≡ (b && a)
 and_swap true true = refl
@@ -68,7 +71,8 @@ and_swap false false = refl
 -- what two lists that rise have in common, taken from either
 pub common_of : (xs ys : List ℕ) → IsStrictlyIncreasing xs → IsStrictlyIncreasing ys → filter (is_in xs) ys ≡ filter (is_in ys) xs
 common_of xs ys up_xs up_ys =
-    same_rising (filter (is_in xs) ys) (filter (is_in ys) xs) (IsStrictlyIncreasing-filter (is_in xs) ys up_ys) (IsStrictlyIncreasing-filter (is_in ys) xs up_xs)
+    same_rising (filter (is_in xs) ys) (filter (is_in ys) xs) (IsStrictlyIncreasing-filter (is_in xs) ys up_ys)
+    (IsStrictlyIncreasing-filter (is_in ys) xs up_xs)
     (λ k. in_filter (is_in xs) ys k ∙ and_swap (is_in xs k) (is_in ys k) ∙ sym (in_filter (is_in ys) xs k))
 
 -- A list that rises doesn't fall.
@@ -82,9 +86,11 @@ search_finds xs x (Ok i) found up =
     sym (list_any_at (λ other. nat_eq other x) xs i 0 at.0 (eq-eqb (get_or xs i 0) x at.1))
 search_finds xs x (Err i) found up =
     let at = searched xs x (Err i) found (λ i j h k. up i j 0 h k) in
-    sym (list_any_none (λ other. nat_eq other x) xs (λ k d h. ne_eqb (get_or xs k d) x (λ same. apart k d (get_or_default xs k d 0 h) same h at (cases_lt k i))))
+    sym (list_any_none (λ other. nat_eq other x) xs
+    (λ k d h. ne_eqb (get_or xs k d) x (λ same. apart k d (get_or_default xs k d 0 h) same h at (cases_lt k i))))
   where
-    apart : (k d : ℕ) → get_or xs k d ≡ get_or xs k 0 → get_or xs k d ≡ x → k < length xs → (i ≤ length xs) × ((j : ℕ) → j < i → get_or xs j 0 < x) × ((j : ℕ) → i ≤ j → j < length xs → x < get_or xs j 0) → (k < i) ⊎ (i ≤ k) → ⊥
+    apart : (k d : ℕ) → get_or xs k d ≡ get_or xs k 0 → get_or xs k d ≡ x → k < length xs → (i ≤ length xs) × ((j : ℕ) → j < i → get_or xs j 0 < x)
+        × ((j : ℕ) → i ≤ j → j < length xs → x < get_or xs j 0) → (k < i) ⊎ (i ≤ k) → ⊥
     apart k d same e h at (inl before) = omega (arith, same, e, at.1 k before)
     apart k d same e h at (inr after) = omega (arith, same, e, at.2 k after h)
 
@@ -115,7 +121,8 @@ below_all : (n k : ℕ) (kinds : List TokenKind) → n < k → AllByRecursion (�
 below_all n k [] h = tt
 below_all n k (kind ∷ kinds) h = by_gap kind.name kind.gap kind.source (below_all n (suc k) kinds (omega (arith, h)))
   where
-    by_gap : (name : List ℕ) (gap : Bool) (source : Source) → AllByRecursion (λ y. nat_cmp n y ≡ Less) (visible_from (suc k) kinds) → AllByRecursion (λ y. nat_cmp n y ≡ Less) (visible_from k (record { name = name; gap = gap; source = source } ∷ kinds))
+    by_gap : (name : List ℕ) (gap : Bool) (source : Source) → AllByRecursion (λ y. nat_cmp n y ≡ Less) (visible_from (suc k) kinds)
+        → AllByRecursion (λ y. nat_cmp n y ≡ Less) (visible_from k (record { name = name; gap = gap; source = source } ∷ kinds))
     by_gap name true source rest = rest
     by_gap name false source rest = (ap (λ b. cond b Less (cond (nat_eq n k) Equal Greater)) (lt-ltb n k h), rest)
 
@@ -124,7 +131,8 @@ unfolding IsStrictlySortedBy
 visible_sorted k [] = tt
 visible_sorted k (kind ∷ kinds) = by_gap kind.name kind.gap kind.source (visible_sorted (suc k) kinds)
   where
-    by_gap : (name : List ℕ) (gap : Bool) (source : Source) → IsStrictlySortedBy nat_cmp (visible_from (suc k) kinds) → IsStrictlySortedBy nat_cmp (visible_from k (record { name = name; gap = gap; source = source } ∷ kinds))
+    by_gap : (name : List ℕ) (gap : Bool) (source : Source) → IsStrictlySortedBy nat_cmp (visible_from (suc k) kinds)
+        → IsStrictlySortedBy nat_cmp (visible_from k (record { name = name; gap = gap; source = source } ∷ kinds))
     by_gap name true source rest = rest
     by_gap name false source rest = (below_all k (suc k) kinds (omega arith), rest)
 
@@ -132,6 +140,7 @@ pub visible_rise : (kinds : List TokenKind) → IsStrictlyIncreasing (visible_fr
 visible_rise kinds = IsStrictlyIncreasing-from_sorted (visible_from 0 kinds) (visible_sorted 0 kinds)
 
 -- a number that a filter by what is not in the list keeps, or leaves out
-pub lacking_more : (left_out xs : List ℕ) (i x : ℕ) → i < length xs → x ≡ get_or xs i x → lacking (take (i + 1) xs) left_out ≡ lacking (take i xs) left_out ++ cond (not (is_in left_out x)) (x ∷ []) []
+pub lacking_more : (left_out xs : List ℕ) (i x : ℕ) → i < length xs → x ≡ get_or xs i x
+    → lacking (take (i + 1) xs) left_out ≡ lacking (take i xs) left_out ++ cond (not (is_in left_out x)) (x ∷ []) []
 lacking_more left_out xs i x h is =
     filter_more (λ k. not (is_in left_out k)) xs i x h ∙ ap (λ y. lacking (take i xs) left_out ++ cond (not (is_in left_out y)) (y ∷ []) []) (sym is)

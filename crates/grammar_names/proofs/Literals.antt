@@ -19,7 +19,8 @@ alts_are a = fold_out-LexAlts LexerTerm (List (List LexerTerm)) (List LexerTerm)
 abbrev no_literal : LexTerm → Type 0
 no_literal x = (text : List ℕ) → x ≡ LexTerm.Literal text → ⊥
 
-other_node : (f : LexTerm-F LexTerm LexAlts LexTerms) (t : List ℕ) → no_literal (roll-LexTerm f) → is_just t (lexer_alts ((lex_term (roll-LexTerm f) ∷ []) ∷ [])) ≡ false
+other_node : (f : LexTerm-F LexTerm LexAlts LexTerms) (t : List ℕ) → no_literal (roll-LexTerm f)
+    → is_just t (lexer_alts ((lex_term (roll-LexTerm f) ∷ []) ∷ [])) ≡ false
 other_node (LexTerm-F.Literal u) t h = absurd (h u (rolls-Literal u))
 other_node (LexTerm-F.Set u) t h =
     let P : LexerTerm → Type 0 = λ z. is_just t (lexer_alts ((z ∷ []) ∷ [])) ≡ false in
@@ -86,18 +87,22 @@ only (y ∷ []) x e is = ap (λ z. z ∷ []) (sym is)
 only (y ∷ z ∷ xs) x e is = absurd (omega (arith, e))
 
 -- the same of terms in memory, whose items are given
-pub not_one_in : (ts : LexTerms) (items : List LexTerm) (t : List ℕ) → items ≡ (out-LexTerms ts).items.items → (length items ≡ 1 → ⊥) → is_just t (lexer_alts (lex_terms ts ∷ [])) ≡ false
+pub not_one_in : (ts : LexTerms) (items : List LexTerm) (t : List ℕ) → items ≡ (out-LexTerms ts).items.items → (length items ≡ 1 → ⊥)
+    → is_just t (lexer_alts (lex_terms ts ∷ [])) ≡ false
 not_one_in ts items t e h =
     let P : List LexerTerm → Type 0 = λ l. is_just t (lexer_alts (l ∷ [])) ≡ false in
     subst P (ap (map lex_term) e ∙ sym (terms_are ts)) (not_one_term (map lex_term items) t (λ k. h (sym (length-map items lex_term) ∙ k)))
 
-pub one_in : (ts : LexTerms) (items : List LexTerm) (x : LexTerm) → items ≡ (out-LexTerms ts).items.items → length items ≡ 1 → x ≡ get_or items 0 x → lex_terms ts ≡ lex_term x ∷ []
+pub one_in : (ts : LexTerms) (items : List LexTerm) (x : LexTerm) → items ≡ (out-LexTerms ts).items.items → length items ≡ 1 → x ≡ get_or items 0 x
+    → lex_terms ts ≡ lex_term x ∷ []
 one_in ts items x e k is = terms_are ts ∙ ap (map lex_term) (sym e ∙ only items x k is)
 
-pub not_one_of : (a : LexAlts) (items : List LexTerms) (t : List ℕ) → items ≡ (out-LexAlts a).items.items → (length items ≡ 1 → ⊥) → is_just t (lexer_alts (lex_alts a)) ≡ false
+pub not_one_of : (a : LexAlts) (items : List LexTerms) (t : List ℕ) → items ≡ (out-LexAlts a).items.items → (length items ≡ 1 → ⊥)
+    → is_just t (lexer_alts (lex_alts a)) ≡ false
 not_one_of a items t e h =
     let P : List (List LexerTerm) → Type 0 = λ l. is_just t (lexer_alts l) ≡ false in
     subst P (ap (map lex_terms) e ∙ sym (alts_are a)) (not_one_alt (map lex_terms items) t (λ k. h (sym (length-map items lex_terms) ∙ k)))
 
-pub one_of : (a : LexAlts) (items : List LexTerms) (x : LexTerms) → items ≡ (out-LexAlts a).items.items → length items ≡ 1 → x ≡ get_or items 0 x → lex_alts a ≡ lex_terms x ∷ []
+pub one_of : (a : LexAlts) (items : List LexTerms) (x : LexTerms) → items ≡ (out-LexAlts a).items.items → length items ≡ 1 → x ≡ get_or items 0 x
+    → lex_alts a ≡ lex_terms x ∷ []
 one_of a items x e k is = alts_are a ∙ ap (map lex_terms) (sym e ∙ only items x k is)

@@ -1,5 +1,6 @@
 -- The first place of an element that passes a test, in a list that grows at its end.
-use Rattle.std.proofs.Common.{◌≡◌, ℕ, ◌+◌, ◌<◌, ◌≤◌, ◌⊎◌, inl, inr, Bool, true, false, not, cond, List, [], ◌∷◌, ◌++◌, length, map, take, get_or, Option, Some, None, refl, sym, ap, ◌∙◌, subst, arith, length-append}
+use Rattle.std.proofs.Common.{◌≡◌, ℕ, ◌+◌, ◌<◌, ◌≤◌, ◌⊎◌, inl, inr, Bool, true, false, not, cond, List, [], ◌∷◌, ◌++◌, length, map}
+use Rattle.std.proofs.Common.{take, get_or, Option, Some, None, refl, sym, ap, ◌∙◌, subst, arith, length-append}
 use Rattle.std.specs.Prelude.{nat_lt, nat_eq, position}
 use Rattle.std.specs.List.{position_or_len}
 use Rattle.std.proofs.lemmas.Bool.{lt-ltb, ltb-true, cases_lt}
@@ -38,7 +39,9 @@ module _ {X : Type 0} (p : X → Bool) (xs : List X) (y : X) where
   found_before : position_or_len p xs < length xs → or_added (position p xs) (p y) (length xs) ≡ position p (xs ++ y ∷ [])
   found_before h = go (eqb_tells (position_or_len p xs) (length xs))
     where
-      go : ((nat_eq (position_or_len p xs) (length xs) ≡ true) × (position_or_len p xs ≡ length xs)) ⊎ ((nat_eq (position_or_len p xs) (length xs) ≡ false) × (position_or_len p xs ≡ length xs → ⊥)) → or_added (position p xs) (p y) (length xs) ≡ position p (xs ++ y ∷ [])
+      go : ((nat_eq (position_or_len p xs) (length xs) ≡ true) × (position_or_len p xs ≡ length xs))
+          ⊎ ((nat_eq (position_or_len p xs) (length xs) ≡ false) × (position_or_len p xs ≡ length xs → ⊥))
+          → or_added (position p xs) (p y) (length xs) ≡ position p (xs ++ y ∷ [])
       go (inl (t, e)) = absurd (omega (arith, h, e))
       go (inr (f, other)) =
           let k = position_or_len p xs in
@@ -66,7 +69,8 @@ module _ {X : Type 0} (p : X → Bool) (xs : List X) (y : X) where
           let past : length (xs ++ y ∷ []) ≤ position_or_len p (xs ++ y ∷ []) = omega (arith, same, length-append xs (y ∷ [])) in
           sym (position_none p (xs ++ y ∷ []) past)
 
-      go : ((nat_eq (position_or_len p xs) (length xs) ≡ true) × (position_or_len p xs ≡ length xs)) ⊎ ((nat_eq (position_or_len p xs) (length xs) ≡ false) × (position_or_len p xs ≡ length xs → ⊥)) → or_added (position p xs) (p y) (length xs) ≡ position p (xs ++ y ∷ [])
+      go : ((nat_eq (position_or_len p xs) (length xs) ≡ true) × (position_or_len p xs ≡ length xs)) ⊎ ((nat_eq (position_or_len p xs) (length xs) ≡ false)
+          × (position_or_len p xs ≡ length xs → ⊥)) → or_added (position p xs) (p y) (length xs) ≡ position p (xs ++ y ∷ [])
       go (inl (t, e)) = ap (λ o. or_added o (p y) (length xs)) (position_none p xs h) ∙ by_test t (p y) refl
       go (inr (f, other)) = absurd (other at_end)
 
@@ -83,24 +87,31 @@ added_nothing None number = refl
 added_nothing (Some k) number = refl
 
 -- an index of elements in a list, by tests, after one more element
-pub index_push : {X : Type 0} (p : List ℕ → X → Bool) (old new : Index) (xs : List X) (y : X) (number : ℕ) → number ≡ length xs → Finds old (λ t. position (p t) xs) → IsAdded old new (λ t. p t y) number → Finds new (λ t. position (p t) (xs ++ y ∷ []))
+pub index_push : {X : Type 0} (p : List ℕ → X → Bool) (old new : Index) (xs : List X) (y : X) (number : ℕ) → number ≡ length xs
+    → Finds old (λ t. position (p t) xs) → IsAdded old new (λ t. p t y) number → Finds new (λ t. position (p t) (xs ++ y ∷ []))
 index_push p old new xs y number e finds added bytes u =
-    added (λ t. position (p t) xs) finds bytes u ∙ ap (λ k. or_added (position (p (chars bytes)) xs) (p (chars bytes) y) k) e ∙ position_push (p (chars bytes)) xs y
+    added (λ t. position (p t) xs) finds bytes u ∙ ap (λ k. or_added (position (p (chars bytes)) xs) (p (chars bytes) y) k) e
+    ∙ position_push (p (chars bytes)) xs y
 
 -- the index of parser rules after one more rule
-pub rules_push : (old new : Index) (rules : List WrittenRule) (rule : WrittenRule) (number : ℕ) → number ≡ length (parser_rules rules) → Finds old (λ n. position (λ (r : ParserRule). same_text r.name n) (parser_rules rules)) → IsAdded old new (is_parser_rule_of rule) number → Finds new (λ n. position (λ (r : ParserRule). same_text r.name n) (parser_rules (rules ++ rule ∷ [])))
+pub rules_push : (old new : Index) (rules : List WrittenRule) (rule : WrittenRule) (number : ℕ) → number ≡ length (parser_rules rules)
+    → Finds old (λ n. position (λ (r : ParserRule). same_text r.name n) (parser_rules rules)) → IsAdded old new (is_parser_rule_of rule) number
+    → Finds new (λ n. position (λ (r : ParserRule). same_text r.name n) (parser_rules (rules ++ rule ∷ [])))
 rules_push old new rules (WrittenRule.parser_rule r) number e finds added bytes u =
-    let list : parser_rules (rules ++ WrittenRule.parser_rule r ∷ []) ≡ parser_rules rules ++ r ∷ [] = filter_map-append as_parser_rule rules (WrittenRule.parser_rule r ∷ []) in
+    let list : parser_rules (rules ++ WrittenRule.parser_rule r ∷ []) ≡ parser_rules rules ++ r ∷ [] =
+    filter_map-append as_parser_rule rules (WrittenRule.parser_rule r ∷ []) in
     index_push (λ n (x : ParserRule). same_text x.name n) old new (parser_rules rules) r number e finds added bytes u
     ∙ ap (position (λ (x : ParserRule). same_text x.name (chars bytes))) (sym list)
 rules_push old new rules (WrittenRule.lexer_rule r) number e finds added bytes u =
-    let list : parser_rules (rules ++ WrittenRule.lexer_rule r ∷ []) ≡ parser_rules rules = filter_map-append as_parser_rule rules (WrittenRule.lexer_rule r ∷ []) ∙ append-nil (parser_rules rules) in
+    let list : parser_rules (rules ++ WrittenRule.lexer_rule r ∷ []) ≡ parser_rules rules =
+    filter_map-append as_parser_rule rules (WrittenRule.lexer_rule r ∷ []) ∙ append-nil (parser_rules rules) in
     added (λ n. position (λ (x : ParserRule). same_text x.name n) (parser_rules rules)) finds bytes u
     ∙ added_nothing (position (λ (x : ParserRule). same_text x.name (chars bytes)) (parser_rules rules)) number
     ∙ ap (position (λ (x : ParserRule). same_text x.name (chars bytes))) (sym list)
 
 -- how many there are then
-pub number_push : (rules : List WrittenRule) (rule : WrittenRule) (number : ℕ) → number ≡ length (parser_rules rules) → next_number rule number ≡ length (parser_rules (rules ++ rule ∷ []))
+pub number_push : (rules : List WrittenRule) (rule : WrittenRule) (number : ℕ) → number ≡ length (parser_rules rules)
+    → next_number rule number ≡ length (parser_rules (rules ++ rule ∷ []))
 number_push rules (WrittenRule.parser_rule r) number e =
     omega (arith, e, ap length (filter_map-append as_parser_rule rules (WrittenRule.parser_rule r ∷ [])), length-append (parser_rules rules) (r ∷ []))
 number_push rules (WrittenRule.lexer_rule r) number e =
@@ -111,11 +122,14 @@ next-le (WrittenRule.parser_rule r) number = omega arith
 next-le (WrittenRule.lexer_rule r) number = omega arith
 
 -- one more element of a slice, as a contract sees it
-pub mapped_more : {X Y : Type 0} (f : X → Y) (xs : List X) (i : ℕ) (x : X) → i < length xs → x ≡ get_or xs i x → map f (take (i + 1) xs) ≡ map f (take i xs) ++ f x ∷ []
+pub mapped_more : {X Y : Type 0} (f : X → Y) (xs : List X) (i : ℕ) (x : X) → i < length xs → x ≡ get_or xs i x
+    → map f (take (i + 1) xs) ≡ map f (take i xs) ++ f x ∷ []
 mapped_more f xs i x h e = ap (map f) (take_more xs i x h) ∙ map-append f (take i xs) (get_or xs i x ∷ []) ∙ ap (λ y. map f (take i xs) ++ f y ∷ []) (sym e)
 
 -- the index of kinds after one more kind
-pub kinds_push : (p : List ℕ → TokenKind → Bool) (old new : Index) (kinds : List Kind) (i : ℕ) (kind : Kind) → i < length kinds → kind ≡ get_or kinds i kind → Finds old (λ t. position (p t) (map kind_of (take i kinds))) → IsAdded old new (λ t. p t (kind_of kind)) i → Finds new (λ t. position (p t) (map kind_of (take (i + 1) kinds)))
+pub kinds_push : (p : List ℕ → TokenKind → Bool) (old new : Index) (kinds : List Kind) (i : ℕ) (kind : Kind) → i < length kinds → kind ≡ get_or kinds i kind
+    → Finds old (λ t. position (p t) (map kind_of (take i kinds))) → IsAdded old new (λ t. p t (kind_of kind)) i
+    → Finds new (λ t. position (p t) (map kind_of (take (i + 1) kinds)))
 kinds_push p old new kinds i kind h is finds added =
     let many : i ≡ length (map kind_of (take i kinds)) = omega (arith, h, length-map (take i kinds) kind_of, length-take i kinds) in
     let P : List TokenKind → Type 0 = λ l. Finds new (λ t. position (p t) l) in

@@ -5,7 +5,8 @@ ghost use Rattle.std.specs.List.{filter_map};
 ghost use Rattle.std.specs.List.Sorted.{IsStrictlyIncreasing};
 ghost use Rattle.std.specs.Option.{option_map_or};
 ghost use Rattle.grammar_tree.specs.GrammarView.{grammar_of, kind_of, rule_of};
-ghost use Rattle.grammar_tree.specs.Kinds.{any_kinds, has_name, is_just, is_named_by, kinds_of, literal_kind, name_kind, other_kinds, parser_rules, reference_kind, rule_number, same_text};
+ghost use Rattle.grammar_tree.specs.Kinds.{any_kinds, has_name, is_just, is_named_by, kinds_of, literal_kind, name_kind};
+ghost use Rattle.grammar_tree.specs.Kinds.{other_kinds, parser_rules, reference_kind, rule_number, same_text};
 ghost use Rattle.grammar_tree.specs.Size.{grammar_size};
 ghost use Rattle.grammar_tree.specs.View.{lex_alts, lex_terms, token_ref};
 ghost use Rattle.grammar_tree.specs.Written.{ParserRule, lexer_alts};
@@ -235,7 +236,8 @@ pub fn literal_of(rule: &Rule) -> Option<&Text>
 
 /// The literal that can name the rule at this place.
 fn literal_at(rules: &[Rule], place: u32) -> Option<&Text>
-    ensures { (t : List ℕ) → option_map_or (is_named_by t) (slice_get (map rule_of rules.now) place) false ≡ option_map_or (λ u. same_text u.now t) result false }
+    ensures { (t : List ℕ) → option_map_or (is_named_by t) (slice_get (map rule_of rules.now) place) false ≡ option_map_or
+        (λ u. same_text u.now t) result false }
 {
     match rules.get(place as usize) {
         Some(rule) => literal_of(rule),

@@ -8,7 +8,8 @@ use Rattle.grammar_reader_words.specs.declared.word.Reserved.{Reserved}
 use Rattle.grammar_reader_words.specs.declared.word.Reserved.TheVariants as r
 use Rattle.grammar_reader_notation.specs.Notation.{is_eof}
 use Rattle.grammar_reader_machine.specs.Machine as m
-use Rattle.grammar_reader_faults.specs.Positions.{at_start, at_rule, at_colon, at_option, after_name, within_parser_rule, within_lexer_rule, after_suffix, after_loop, after_last, after_arrow, ends_lex_alt, at_block, at_arrow, takes_action}
+use Rattle.grammar_reader_faults.specs.Positions.{at_start, at_rule, at_colon, at_option, after_name, within_parser_rule, within_lexer_rule, after_suffix}
+use Rattle.grammar_reader_faults.specs.Positions.{after_loop, after_last, after_arrow, ends_lex_alt, at_block, at_arrow, takes_action}
 use Rattle.grammar_reader_notation.specs.declared.fault.What.{What}
 use Rattle.grammar_reader_notation.specs.declared.fault.What.TheVariants as x
 use Rattle.grammar_reader_notation.specs.declared.fault.ReadFault.{ReadFault}

@@ -3,7 +3,8 @@
 ghost use Rattle.std.specs.Prelude.{◌≡◌, ◌&&◌, Some, None, cond};
 ghost use Rattle.grammar_reader_notation.specs.Notation.{is_eof};
 ghost use Rattle.grammar_reader_faults.specs.Positions as at;
-ghost use Rattle.grammar_reader_faults.specs.Rows.{breaks_command, fault_at, is_deep, last_row, later_row, loop_row, of_loop, option_row, own_row, reserved_row};
+ghost use Rattle.grammar_reader_faults.specs.Rows.{breaks_command, fault_at, is_deep, last_row, later_row, loop_row};
+ghost use Rattle.grammar_reader_faults.specs.Rows.{of_loop, option_row, own_row, reserved_row};
 ghost use Rattle.grammar_reader_machine.specs.View.{state_of};
 
 use crate::positions::{

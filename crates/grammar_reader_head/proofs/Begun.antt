@@ -12,9 +12,16 @@ parser_rule_begun g n fs f e h =
     ap (λ gs. Some (m.AtAlt (record { text = g; name = n; blocks_left = 64; enclosing = frames_around [] gs; current = f }))) e
     ∙ ap (λ x. Some (m.AtAlt (record { text = g; name = n; blocks_left = 64; enclosing = []; current = x }))) h
 
-pub lexer_rule_begun : (g : WrittenGrammar) (n : List ℕ) (fragment : Bool) (known : Option Bool) (fs : List LexFrame) (f : m.Frame LexerTerm) → known ≡ m.no_commands fragment → fs ≡ [] → f ≡ m.fresh →
-    Some (m.InLex (record { text = g; name = n; fragment = fragment; known = known; blocks_left = 64; enclosing = lex_frames_around [] fs; current = f })) ≡ Some (m.body_at 64 g (m.LexerHead n fragment))
+pub lexer_rule_begun : (g : WrittenGrammar) (n : List ℕ) (fragment : Bool) (known : Option Bool) (fs : List LexFrame) (f : m.Frame LexerTerm)
+    → known ≡ m.no_commands fragment → fs ≡ [] → f ≡ m.fresh →
+    Some (m.InLex (record { text = g; name = n; fragment = fragment; known = known; blocks_left = 64; enclosing = lex_frames_around [] fs; current = f }))
+    ≡ Some (m.body_at 64 g (m.LexerHead n fragment))
 lexer_rule_begun g n fragment known fs f k e h =
-    ap (λ o. Some (m.InLex (record { text = g; name = n; fragment = fragment; known = o; blocks_left = 64; enclosing = lex_frames_around [] fs; current = f }))) k
-    ∙ ap (λ gs. Some (m.InLex (record { text = g; name = n; fragment = fragment; known = m.no_commands fragment; blocks_left = 64; enclosing = lex_frames_around [] gs; current = f }))) e
-    ∙ ap (λ x. Some (m.InLex (record { text = g; name = n; fragment = fragment; known = m.no_commands fragment; blocks_left = 64; enclosing = []; current = x }))) h
+    ap (λ o. Some (m.InLex (record { text = g; name = n; fragment = fragment; known = o; blocks_left = 64; enclosing = lex_frames_around [] fs; current = f })))
+    k
+    ∙ ap
+    (λ gs. Some
+    (m.InLex
+    (record { text = g; name = n; fragment = fragment; known = m.no_commands fragment; blocks_left = 64; enclosing = lex_frames_around [] gs; current = f }))) e
+    ∙ ap
+    (λ x. Some (m.InLex (record { text = g; name = n; fragment = fragment; known = m.no_commands fragment; blocks_left = 64; enclosing = []; current = x }))) h

@@ -14,6 +14,7 @@ pub no_path : (v : m.ValueOf) (word : Word) → (word ≡ w.Dot → ⊥) → m.s
 no_path v w.Dot h = absurd (h refl)
 no_path v _ h = refl
 
-pub no_options : (depth : ℕ) (g : WrittenGrammar) (head : m.Head) (word : Word) → (word ≡ w.Options → ⊥) → m.step_head depth g head word ≡ m.step_colon depth g head word
+pub no_options : (depth : ℕ) (g : WrittenGrammar) (head : m.Head) (word : Word) → (word ≡ w.Options → ⊥)
+    → m.step_head depth g head word ≡ m.step_colon depth g head word
 no_options depth g head w.Options h = absurd (h refl)
 no_options depth g head _ h = refl

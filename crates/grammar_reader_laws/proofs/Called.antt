@@ -58,13 +58,15 @@ module _ (before : List Word) (s : m.State) (read : run 64 m.AtStart before ≡ 
     tried true k = k
     tried false k = absurd (none_read 65 (before ++ w.Open ∷ []) (m.step 65 (deeper s) w.Open) there (ap reads (shut s k e)) h)
 
-  named_row : (current : Placed) → (IsTooDeep before current.word → ⊥) → (o : Option What) → row s current.word ≡ o → IsNamed before current (fault_of o current.offset)
+  named_row : (current : Placed) → (IsTooDeep before current.word → ⊥) → (o : Option What) → row s current.word ≡ o
+      → IsNamed before current (fault_of o current.offset)
   named_row current h (Some what) e = unsupported h (fits_first before s read current.word what e)
   named_row current h None e = syntax h (none_fits before s read current.word e)
 
   -- the word can't follow
   pub named : (current : Placed) → m.step 64 s current.word ≡ None → IsNamed before current (fault_at s current.word current.offset)
   named current e = tried (is_deep s current.word) refl where
-    tried : (b : Bool) → is_deep s current.word ≡ b → IsNamed before current (cond b (f.NestedTooDeep current.offset) (fault_of (row s current.word) current.offset))
+    tried : (b : Bool) → is_deep s current.word ≡ b
+        → IsNamed before current (cond b (f.NestedTooDeep current.offset) (fault_of (row s current.word) current.offset))
     tried true k = nested_too_deep (deep_in current.word k)
     tried false k = named_row current (λ h. let x : false ≡ true = sym k ∙ deep_out current.word e h in cc x) (row s current.word) refl

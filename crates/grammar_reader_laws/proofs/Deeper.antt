@@ -13,7 +13,16 @@ abbrev pub deeper_body : m.Body → m.Body
 deeper_body b = record { text = b.text; name = b.name; blocks_left = suc b.blocks_left; enclosing = b.enclosing; current = b.current }
 
 abbrev pub deeper_lex : m.LexBody → m.LexBody
-deeper_lex b = record { text = b.text; name = b.name; fragment = b.fragment; known = b.known; blocks_left = suc b.blocks_left; enclosing = b.enclosing; current = b.current }
+deeper_lex b =
+    record {
+      text = b.text;
+      name = b.name;
+      fragment = b.fragment;
+      known = b.known;
+      blocks_left = suc b.blocks_left;
+      enclosing = b.enclosing;
+      current = b.current;
+    }
 
 abbrev pub deeper_value : m.ValueOf → m.ValueOf
 deeper_value (m.InEntry g o) = m.InEntry g o
@@ -190,7 +199,8 @@ deep_finished : (b : m.Body) (enclosing : List (m.Frame WrittenTerm)) → Deepen
 deep_finished b [] = refl
 deep_finished b (f ∷ enclosing) = tt
 
-deep_hashed : (b : m.Body) (enclosing : List (m.Frame WrittenTerm)) → Deepens (m.before_alternative_name b enclosing) (m.before_alternative_name (deeper_body b) enclosing)
+deep_hashed : (b : m.Body) (enclosing : List (m.Frame WrittenTerm))
+    → Deepens (m.before_alternative_name b enclosing) (m.before_alternative_name (deeper_body b) enclosing)
 deep_hashed b [] = refl
 deep_hashed b (f ∷ enclosing) = tt
 
@@ -295,7 +305,8 @@ deep_inner_end b w.Bar = refl
 deep_inner_end b w.Close = deep_lex_closed b b.enclosing
 deep_inner_end b _ = tt
 
-deep_lex_end : (b : m.LexBody) (enclosing : List (m.Frame LexerTerm)) (word : Word) → Deepens (m.step_lex_end b enclosing word) (m.step_lex_end (deeper_lex b) enclosing word)
+deep_lex_end : (b : m.LexBody) (enclosing : List (m.Frame LexerTerm)) (word : Word)
+    → Deepens (m.step_lex_end b enclosing word) (m.step_lex_end (deeper_lex b) enclosing word)
 deep_lex_end b [] word = deep_done b word
 deep_lex_end b (f ∷ enclosing) word = deep_inner_end b word
 
@@ -326,7 +337,8 @@ deep_literal b k word = deep_lex_after b (LexerTerm.literal k) word
 deep_range_end : (b : m.LexBody) (a : ℕ) (word : Word) → Deepens (m.step_range_end b a word) (m.step_range_end (deeper_lex b) a word)
 deep_range_end b a (w.Literal []) = tt
 deep_range_end b a (w.Literal (c ∷ [])) =
-    provided_deep (nat_le a c) (m.AfterLexAtom b (LexerTerm.set (within ((a, c) ∷ [])))) (m.AfterLexAtom (deeper_lex b) (LexerTerm.set (within ((a, c) ∷ [])))) refl
+    provided_deep (nat_le a c) (m.AfterLexAtom b (LexerTerm.set (within ((a, c) ∷ []))))
+    (m.AfterLexAtom (deeper_lex b) (LexerTerm.set (within ((a, c) ∷ [])))) refl
 deep_range_end b a (w.Literal (c ∷ (e ∷ es))) = tt
 deep_range_end b a _ = tt
 
@@ -334,7 +346,8 @@ deep_set : (b : m.LexBody) (s : List (ℕ × ℕ)) (word : Word) → Deepens (m.
 deep_set b s w.Star = refl
 deep_set b s word = deep_lex_after b (LexerTerm.set s) word
 
-deep_looped : (b : m.LexBody) (s : List (ℕ × ℕ)) (enclosing : List (m.Frame LexerTerm)) (f : Bool) → Deepens (m.loop_end b s enclosing f) (m.loop_end (deeper_lex b) s enclosing f)
+deep_looped : (b : m.LexBody) (s : List (ℕ × ℕ)) (enclosing : List (m.Frame LexerTerm)) (f : Bool)
+    → Deepens (m.loop_end b s enclosing f) (m.loop_end (deeper_lex b) s enclosing f)
 deep_looped b s [] true = tt
 deep_looped b s [] false = refl
 deep_looped b s (f' ∷ enclosing) f = tt
@@ -366,27 +379,32 @@ deep_item : (b : m.LexBody) (word : Word) → Deepens (m.step_item b word) (m.st
 deep_item b w.Open = refl
 deep_item b word = deep_item_in b m.Alone word
 
-deep_after_item : (b : m.LexBody) (ranges : List (ℕ × ℕ)) (word : Word) → Deepens (m.step_after_item b ranges word) (m.step_after_item (deeper_lex b) ranges word)
+deep_after_item : (b : m.LexBody) (ranges : List (ℕ × ℕ)) (word : Word)
+    → Deepens (m.step_after_item b ranges word) (m.step_after_item (deeper_lex b) ranges word)
 deep_after_item b ranges w.Bar = refl
 deep_after_item b ranges w.Close = refl
 deep_after_item b ranges _ = tt
 
-deep_one : (b : m.LexBody) (p : m.ItemPosition) (i : List (ℕ × ℕ)) (word : Word) → Deepens (m.step_after_one b p i word) (m.step_after_one (deeper_lex b) p i word)
+deep_one : (b : m.LexBody) (p : m.ItemPosition) (i : List (ℕ × ℕ)) (word : Word)
+    → Deepens (m.step_after_one b p i word) (m.step_after_one (deeper_lex b) p i word)
 deep_one b m.Alone i word = deep_set b (outside i) word
 deep_one b (m.Listed ranges) i word = deep_after_item b (ranges ++ i) word
 
-deep_item_char : (b : m.LexBody) (p : m.ItemPosition) (c : ℕ) (word : Word) → Deepens (m.step_after_item_char b p c word) (m.step_after_item_char (deeper_lex b) p c word)
+deep_item_char : (b : m.LexBody) (p : m.ItemPosition) (c : ℕ) (word : Word)
+    → Deepens (m.step_after_item_char b p c word) (m.step_after_item_char (deeper_lex b) p c word)
 deep_item_char b p c w.Dots = refl
 deep_item_char b p c word = deep_one b p ((c, c) ∷ []) word
 
 deep_item_end : (b : m.LexBody) (p : m.ItemPosition) (a : ℕ) (word : Word) → Deepens (m.step_item_end b p a word) (m.step_item_end (deeper_lex b) p a word)
 deep_item_end b p a (w.Literal []) = tt
-deep_item_end b p a (w.Literal (c ∷ [])) = provided_deep (nat_le a c) (m.after_item b p ((a, c) ∷ [])) (m.after_item (deeper_lex b) p ((a, c) ∷ [])) (deep_placed b p ((a, c) ∷ []))
+deep_item_end b p a (w.Literal (c ∷ [])) =
+    provided_deep (nat_le a c) (m.after_item b p ((a, c) ∷ [])) (m.after_item (deeper_lex b) p ((a, c) ∷ [])) (deep_placed b p ((a, c) ∷ []))
 deep_item_end b p a (w.Literal (c ∷ (e ∷ es))) = tt
 deep_item_end b p a _ = tt
 
 deep_either : (k : List ℕ) (b : m.LexBody) (t : Bool) →
-    Deepens (cond t (Some (m.AfterCommand b)) (m.provided (is k "channel") (m.AtChannelOpen b))) (cond t (Some (m.AfterCommand (deeper_lex b))) (m.provided (is k "channel") (m.AtChannelOpen (deeper_lex b))))
+    Deepens (cond t (Some (m.AfterCommand b)) (m.provided (is k "channel") (m.AtChannelOpen b)))
+    (cond t (Some (m.AfterCommand (deeper_lex b))) (m.provided (is k "channel") (m.AtChannelOpen (deeper_lex b))))
 deep_either k b true = refl
 deep_either k b false = provided_deep (is k "channel") (m.AtChannelOpen b) (m.AtChannelOpen (deeper_lex b)) refl
 
@@ -464,7 +482,8 @@ deep_step d (m.AtChannelClose b) word = deep_channel_close b word
 deep_step d (m.AfterCommand b) word = deep_after_command b word
 deep_step d (m.AtEnd g) word = tt
 
-after : (d : ℕ) (words : List Word) (t : m.State) (o p : Option m.State) → Deepens o p → ((s : m.State) → run d s words ≡ Some t → run (suc d) (deeper s) words ≡ Some (deeper t)) →
+after : (d : ℕ) (words : List Word) (t : m.State) (o p : Option m.State) → Deepens o p
+    → ((s : m.State) → run d s words ≡ Some t → run (suc d) (deeper s) words ≡ Some (deeper t)) →
     and_then o (λ s. run d s words) ≡ Some t → and_then p (λ s. run (suc d) s words) ≡ Some (deeper t)
 after d words t None p h k e = cc e
 after d words t (Some s) p h k e = ap (λ q. and_then q (λ s. run (suc d) s words)) h ∙ k s e

@@ -21,7 +21,9 @@ own_first : (b : Bool) (what : What) (o : Option What) → option_or (cond b (So
 own_first true what o = refl
 own_first false what o = refl
 
-option_first : (a b c : Bool) (o : Option What) → option_or (cond a (cond b (Some x.CaseInsensitive) (cond c (Some x.TokenVocab) None)) None) o ≡ cond (a && b) (Some x.CaseInsensitive) (cond (a && c) (Some x.TokenVocab) o)
+option_first : (a b c : Bool) (o : Option What)
+    → option_or (cond a (cond b (Some x.CaseInsensitive) (cond c (Some x.TokenVocab) None)) None) o ≡ cond (a && b) (Some x.CaseInsensitive)
+    (cond (a && c) (Some x.TokenVocab) o)
 option_first true true c o = refl
 option_first true false true o = refl
 option_first true false false o = refl
@@ -48,17 +50,20 @@ row_found s w.OpenBrace = own_first (takes_action s) x.Action (after_command s w
 row_found s w.At = own_first (at_rule s || at_colon s) x.Action (after_command s w.At)
 row_found s (w.Set ranges) = own_first (after_name s || within_parser_rule s) x.Argument (after_command s (w.Set ranges))
 row_found s (w.Lower k) =
-    ap (λ o. cond (breaks_command s (w.Lower k)) (Some x.Command) o) (option_first (at_option s) (is k "caseInsensitive") (is k "tokenVocab") (loop_row s (w.Lower k)))
+    ap (λ o. cond (breaks_command s (w.Lower k)) (Some x.Command) o)
+    (option_first (at_option s) (is k "caseInsensitive") (is k "tokenVocab") (loop_row s (w.Lower k)))
 row_found s (w.Upper k) =
     ap (λ o. cond (breaks_command s (w.Upper k)) (Some x.Command) o) (own_first (of_loop s) x.NonGreedy (row_if (within_lexer_rule s && is_eof k) x.Eof))
 row_found s _ = refl
 
 -- the first of the rows that pass
-module _ (before : List Word) (current : Word) (P : What → Bool) (pass : (what : What) → P what ≡ true → Fits before current what) (passed : (what : What) → Fits before current what → P what ≡ true) where
+module _ (before : List Word) (current : Word) (P : What → Bool) (pass : (what : What) → P what ≡ true → Fits before current what)
+    (passed : (what : What) → Fits before current what → P what ≡ true) where
   first_of : (rows : List What) (what : What) → find P rows ≡ Some what → FitsFirst before current rows what
   first_of [] what e = cc e
   first_of (row ∷ rows) what e = tried (P row) refl e (λ e. first_of rows what e) where
-    tried : (b : Bool) → P row ≡ b → cond b (Some row) (find P rows) ≡ Some what → (find P rows ≡ Some what → FitsFirst before current rows what) → FitsFirst before current (row ∷ rows) what
+    tried : (b : Bool) → P row ≡ b → cond b (Some row) (find P rows) ≡ Some what → (find P rows ≡ Some what → FitsFirst before current rows what)
+        → FitsFirst before current (row ∷ rows) what
     tried true f e go_on = let g : row ≡ what = cc e in subst (λ x. FitsFirst before current (row ∷ rows) x) g (this (pass row f))
     tried false f e go_on = later (λ h. let g : false ≡ true = sym f ∙ passed row h in cc g) (go_on e)
 
@@ -82,11 +87,23 @@ among x.Throws = further (further (further (further (further (further (further (
 among x.Catch = further (further (further (further (further (further (further (further (further (further (further first))))))))))
 among x.Finally = further (further (further (further (further (further (further (further (further (further (further (further first)))))))))))
 among x.Command = further (further (further (further (further (further (further (further (further (further (further (further (further first))))))))))))
-among x.Property = further (further (further (further (further (further (further (further (further (further (further (further (further (further first)))))))))))))
-among x.CaseInsensitive = further (further (further (further (further (further (further (further (further (further (further (further (further (further (further first))))))))))))))
-among x.TokenVocab = further (further (further (further (further (further (further (further (further (further (further (further (further (further (further (further first)))))))))))))))
-among x.NonGreedy = further (further (further (further (further (further (further (further (further (further (further (further (further (further (further (further (further first))))))))))))))))
-among x.Eof = further (further (further (further (further (further (further (further (further (further (further (further (further (further (further (further (further (further first)))))))))))))))))
+among x.Property =
+    further (further (further (further (further (further (further (further (further (further (further (further (further (further first)))))))))))))
+among x.CaseInsensitive =
+    further (further (further (further (further (further (further (further (further (further (further (further (further (further (further first))))))))))))))
+among x.TokenVocab =
+    further
+    (further (further (further (further (further (further (further (further (further (further (further (further (further (further (further first)))))))))))))))
+among x.NonGreedy =
+    further
+    (further
+    (further (further (further (further (further (further (further (further (further (further (further (further (further (further (further first))))))))))))))))
+among x.Eof =
+    further
+    (further
+    (further
+    (further
+    (further (further (further (further (further (further (further (further (further (further (further (further (further (further first)))))))))))))))))
 
 none_passes : {what : What} {rows : List What} (P : What → Bool) → find P rows ≡ None → IsAmong what rows → P what ≡ false
 none_passes {what} P e (first {rows = rows}) = tried (P what) e where
@@ -101,7 +118,8 @@ none_passes {what} P e (further {row = row} {rows = rows} i) = none_passes P (tr
 module _ (before : List Word) (s : m.State) (read : run 64 m.AtStart before ≡ Some s) (word : Word) where
   pub fits_first : (what : What) → row s word ≡ Some what → FitsFirst before word table what
   fits_first what e =
-      first_of before word (λ what. fits what s word) (λ what e. fits_in before s read word what e) (λ what h. fits_out before s read word what h) table what (sym (row_found s word) ∙ e)
+      first_of before word (λ what. fits what s word) (λ what e. fits_in before s read word what e) (λ what h. fits_out before s read word what h) table what
+      (sym (row_found s word) ∙ e)
 
   pub none_fits : row s word ≡ None → (what : What) → Fits before word what → ⊥
   none_fits e what h =

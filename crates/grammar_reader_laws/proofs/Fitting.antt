@@ -7,7 +7,8 @@ use Rattle.grammar_reader_words.specs.declared.word.Reserved.TheVariants as r
 use Rattle.grammar_reader_notation.specs.Notation.{is_eof}
 use Rattle.grammar_reader_machine.specs.Machine as m
 use Rattle.grammar_reader_laws.specs.WordByWord.{run}
-use Rattle.grammar_reader_faults.specs.Positions.{at_start, at_rule, at_colon, at_option, after_name, within_parser_rule, within_lexer_rule, after_suffix, after_loop, after_last, after_arrow, at_lex_element, ends_lex_alt, at_arrow, takes_action}
+use Rattle.grammar_reader_faults.specs.Positions.{at_start, at_rule, at_colon, at_option, after_name, within_parser_rule, within_lexer_rule, after_suffix}
+use Rattle.grammar_reader_faults.specs.Positions.{after_loop, after_last, after_arrow, at_lex_element, ends_lex_alt, at_arrow, takes_action}
 use Rattle.grammar_reader_faults.specs.Rows.{breaks_command, of_loop}
 use Rattle.grammar_reader_notation.specs.declared.fault.What.{What}
 use Rattle.grammar_reader_notation.specs.declared.fault.What.TheVariants as x
@@ -168,14 +169,18 @@ module _ (before : List Word) (s : m.State) (read : run 64 m.AtStart before ≡ 
   action_in e = from_acts (g.acts s e)
 
   named_in : (at_rule s || at_colon s) ≡ true → TakesNamedAction before
-  named_in e = or_by (TakesNamedAction before) (at_rule s) (at_colon s) e (λ f. n.at_outside (outside_in f)) (λ f. n.at_colon (may_follow before s read (w.Colon ∷ []) (g.colon_goes s f)))
+  named_in e =
+      or_by (TakesNamedAction before) (at_rule s) (at_colon s) e (λ f. n.at_outside (outside_in f))
+      (λ f. n.at_colon (may_follow before s read (w.Colon ∷ []) (g.colon_goes s f)))
 
   argument_in : (after_name s || within_parser_rule s) ≡ true → TakesArgument before
   argument_in e =
-      or_by (TakesArgument before) (after_name s) (within_parser_rule s) e (λ f. n.after_name (seen.name_in before s read f)) (λ f. n.in_rule (seen.parser_in before s read f))
+      or_by (TakesArgument before) (after_name s) (within_parser_rule s) e (λ f. n.after_name (seen.name_in before s read f))
+      (λ f. n.in_rule (seen.parser_in before s read f))
 
   alt_in : ends_lex_alt s ≡ true → EndsLexAlt before
-  alt_in e = or_by (EndsLexAlt before) (at_lex_element s) (after_last s) e (λ f. n.after_elements (element_in f)) (λ f. n.after_last (seen.last_in before s read f))
+  alt_in e =
+      or_by (EndsLexAlt before) (at_lex_element s) (after_last s) e (λ f. n.after_elements (element_in f)) (λ f. n.after_last (seen.last_in before s read f))
 
   arrow_in : at_arrow s ≡ true → n.MayFollow before (w.Arrow ∷ [])
   arrow_in e = may_follow before s read (w.Arrow ∷ []) (g.goes_arrow s ∙ e)
@@ -194,10 +199,12 @@ module _ (before : List Word) (s : m.State) (read : run 64 m.AtStart before ≡ 
 
   loop_in : {word : Word} → of_loop s ≡ true → Fits before word x.NonGreedy
   loop_in {word} e =
-      or_by (Fits before word x.NonGreedy) (after_loop s) (after_last s) e (λ f. n.Fits.after_loop (seen.loop_in before s read f)) (λ f. n.Fits.after_last (seen.last_in before s read f))
+      or_by (Fits before word x.NonGreedy) (after_loop s) (after_last s) e (λ f. n.Fits.after_loop (seen.loop_in before s read f))
+      (λ f. n.Fits.after_last (seen.last_in before s read f))
 
   greedy_in : (word : Word) → fits x.NonGreedy s word ≡ true → Fits before word x.NonGreedy
-  greedy_in w.Question e = or_by (Fits before w.Question x.NonGreedy) (of_loop s) (after_suffix s) e (λ f. loop_in f) (λ f. n.second_suffix (seen.suffix_in before s read f))
+  greedy_in w.Question e =
+      or_by (Fits before w.Question x.NonGreedy) (of_loop s) (after_suffix s) e (λ f. loop_in f) (λ f. n.second_suffix (seen.suffix_in before s read f))
   greedy_in _ e = loop_in e
 
   pub fits_in : (word : Word) (what : What) → fits what s word ≡ true → Fits before word what
@@ -219,7 +226,8 @@ module _ (before : List Word) (s : m.State) (read : run 64 m.AtStart before ≡ 
   fits_in (w.Reserved r.Finally) x.Finally e = n.finally (rule_in e)
   fits_in word x.Command e = command_in word e
   fits_in w.Property x.Property e = n.property
-  fits_in (w.Lower k) x.CaseInsensitive e = and_by (Fits before (w.Lower k) x.CaseInsensitive) (at_option s) (is k "caseInsensitive") e (λ a b. n.case_insensitive (option_in a) b)
+  fits_in (w.Lower k) x.CaseInsensitive e =
+      and_by (Fits before (w.Lower k) x.CaseInsensitive) (at_option s) (is k "caseInsensitive") e (λ a b. n.case_insensitive (option_in a) b)
   fits_in (w.Lower k) x.TokenVocab e = and_by (Fits before (w.Lower k) x.TokenVocab) (at_option s) (is k "tokenVocab") e (λ a b. n.token_vocab (option_in a) b)
   fits_in word x.NonGreedy e = greedy_in word e
   fits_in (w.Upper k) x.Eof e = and_by (Fits before (w.Upper k) x.Eof) (within_lexer_rule s) (is_eof k) e (λ a b. n.eof (seen.lexer_in before s read a) b)

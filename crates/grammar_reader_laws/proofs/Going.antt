@@ -10,7 +10,8 @@ use Rattle.grammar_reader_notation.specs.Notation.{may_name_option}
 use Rattle.grammar_reader_machine.specs.Machine as m
 use Rattle.grammar_reader_laws.specs.WordByWord.{run, and_then}
 use Rattle.grammar_reader_notation.specs.Naming.{a_name, a_set}
-use Rattle.grammar_reader_faults.specs.Positions.{at_rule, at_colon, at_option, at_element, at_lex_element, no_block, may_command, at_arrow, after_loop, takes_action}
+use Rattle.grammar_reader_faults.specs.Positions.{at_rule, at_colon, at_option, at_element, at_lex_element, no_block}
+use Rattle.grammar_reader_faults.specs.Positions.{may_command, at_arrow, after_loop, takes_action}
 use Rattle.grammar_reader_laws.proofs.Following.{reads, goes}
 
 -- the words with which an alternative of a lexer rule may end
@@ -141,7 +142,8 @@ goes_option (m.AfterLexAtom b t) e = absurd (stuck_at (m.lex_add b t) b.enclosin
 goes_option (m.AfterLiteral b k) e = absurd (stuck_at (m.lex_add b (LexerTerm.literal k)) b.enclosing (w.Lower a_name) option_words refl e)
 goes_option (m.AfterSet b s) e = absurd (stuck_at (m.lex_add b (LexerTerm.set s)) b.enclosing (w.Lower a_name) option_words refl e)
 goes_option (m.AfterSetStar b s) e = absurd (stuck_at (m.lex_add b (LexerTerm.star (LexerTerm.set s))) b.enclosing (w.Lower a_name) option_words refl e)
-goes_option (m.AfterItemChar b m.Alone c) e = absurd (stuck_at (m.lex_add b (LexerTerm.set (outside ((c, c) ∷ [])))) b.enclosing (w.Lower a_name) option_words refl e)
+goes_option (m.AfterItemChar b m.Alone c) e =
+    absurd (stuck_at (m.lex_add b (LexerTerm.set (outside ((c, c) ∷ [])))) b.enclosing (w.Lower a_name) option_words refl e)
 goes_option (m.AfterItemChar b (m.Listed ranges) c) e = cc e
 goes_option (m.AtCommand b) e = absurd (commanded a_name b (is a_name "skip") option_words refl refl e)
 goes_option _ e = cc e
@@ -174,7 +176,8 @@ goes_element (m.AfterLexAtom b t) e = absurd (stuck_at (m.lex_add b t) b.enclosi
 goes_element (m.AfterLiteral b k) e = absurd (stuck_at (m.lex_add b (LexerTerm.literal k)) b.enclosing (w.Lower a_name) label_words refl e)
 goes_element (m.AfterSet b s) e = absurd (stuck_at (m.lex_add b (LexerTerm.set s)) b.enclosing (w.Lower a_name) label_words refl e)
 goes_element (m.AfterSetStar b s) e = absurd (stuck_at (m.lex_add b (LexerTerm.star (LexerTerm.set s))) b.enclosing (w.Lower a_name) label_words refl e)
-goes_element (m.AfterItemChar b m.Alone c) e = absurd (stuck_at (m.lex_add b (LexerTerm.set (outside ((c, c) ∷ [])))) b.enclosing (w.Lower a_name) label_words refl e)
+goes_element (m.AfterItemChar b m.Alone c) e =
+    absurd (stuck_at (m.lex_add b (LexerTerm.set (outside ((c, c) ∷ [])))) b.enclosing (w.Lower a_name) label_words refl e)
 goes_element (m.AfterItemChar b (m.Listed ranges) c) e = cc e
 goes_element (m.AtCommand b) e = absurd (commanded a_name b (is a_name "skip") label_words refl refl e)
 goes_element _ e = cc e
@@ -214,7 +217,8 @@ command_arrow t None = refl
 command_arrow t (Some true) = refl
 command_arrow t (Some false) = refl
 
-end_arrow : (b : m.LexBody) (enclosing : List (m.Frame LexerTerm)) → reads (and_then (m.step_lex_end b enclosing w.Arrow) (λ u. Some u)) ≡ (no_block enclosing && may_command b.known)
+end_arrow : (b : m.LexBody) (enclosing : List (m.Frame LexerTerm))
+    → reads (and_then (m.step_lex_end b enclosing w.Arrow) (λ u. Some u)) ≡ (no_block enclosing && may_command b.known)
 end_arrow b [] = command_arrow (m.AtCommand b) b.known
 end_arrow b (f ∷ enclosing) = refl
 

@@ -5,8 +5,10 @@ use Rattle.grammar_reader_words.specs.declared.word.Word.{Word}
 use Rattle.grammar_reader_words.specs.declared.word.Word.TheVariants as w
 use Rattle.grammar_reader_machine.specs.Machine as m
 use Rattle.grammar_reader_laws.specs.WordByWord.{run, and_then}
-use Rattle.grammar_reader_notation.specs.Naming.{MayFollow, Without, IsWithinRule, IsAfterArrow, IsSuffix, question, star, plus, IsAfterSuffix, after_suffix, IsAfterLoop, after_loop, IsAfterLast, after_last}
-use Rattle.grammar_reader_laws.proofs.Regions.{Side, parsing, lexing, Region, starting, heading, between, prequel, named, opening, body, suffixed, looped, last, command, finished, next}
+use Rattle.grammar_reader_notation.specs.Naming.{MayFollow, Without, IsWithinRule, IsAfterArrow, IsSuffix, question, star, plus}
+use Rattle.grammar_reader_notation.specs.Naming.{IsAfterSuffix, after_suffix, IsAfterLoop, after_loop, IsAfterLast, after_last}
+use Rattle.grammar_reader_laws.proofs.Regions.{Side, parsing, lexing, Region, starting, heading, between, prequel, named}
+use Rattle.grammar_reader_laws.proofs.Regions.{opening, body, suffixed, looped, last, command, finished, next}
 use Rattle.grammar_reader_laws.proofs.RegionSteps.{Keeps, region_of, region_of_owner, region_of_value, keeps_step}
 use Rattle.grammar_reader_laws.proofs.Runs.{further}
 use Rattle.grammar_reader_laws.proofs.Following.{goes, may_follow}
@@ -49,7 +51,8 @@ pub data IsNameOf : Side → Word → Type 0 where
   lower : {n : List ℕ} → IsNameOf parsing (w.Lower n)
   upper : {n : List ℕ} → IsNameOf lexing (w.Upper n)
 
-colon_goes : {side : Side} {word : Word} {s : m.State} (t : m.State) → IsBetween s → IsNameOf side word → m.step 64 s word ≡ Some t → goes s (word ∷ w.Colon ∷ []) ≡ true
+colon_goes : {side : Side} {word : Word} {s : m.State} (t : m.State) → IsBetween s → IsNameOf side word → m.step 64 s word ≡ Some t
+    → goes s (word ∷ w.Colon ∷ []) ≡ true
 colon_goes t (at_prequel g) lower e = refl
 colon_goes t (at_prequel g) upper e = refl
 colon_goes t (at_rule g) lower e = refl
@@ -115,7 +118,9 @@ more {before = before} word h k =
         start = r.start;
         options = r.options;
         part = r.part ++ word ∷ [];
-        cut = longer before r.start (k.word ∷ (r.options ++ w.Colon ∷ r.part)) word r.cut ∙ ap (λ ws. r.start ++ k.word ∷ ws) (append_assoc r.options (w.Colon ∷ r.part) (word ∷ []));
+        cut =
+            longer before r.start (k.word ∷ (r.options ++ w.Colon ∷ r.part)) word r.cut
+            ∙ ap (λ ws. r.start ++ k.word ∷ ws) (append_assoc r.options (w.Colon ∷ r.part) (word ∷ []));
         names = r.names;
         closed = r.closed;
         within = without_more r.part word r.within h;
@@ -126,7 +131,8 @@ named_body : {side : Side} {before : List Word} → Named side before → Within
 named_body {before = before} k = record {
   word = k.word;
   is_name = k.is_name;
-  rule = record { start = k.start; options = []; part = []; cut = longer before k.start (k.word ∷ []) w.Colon k.cut; names = k.names; closed = tt; within = tt };
+  rule =
+      record { start = k.start; options = []; part = []; cut = longer before k.start (k.word ∷ []) w.Colon k.cut; names = k.names; closed = tt; within = tt };
 }
 
 named_opened : {side : Side} {before : List Word} (word : Word) → (word ≡ w.Colon → ⊥) → Named side before → Opened side (before ++ word ∷ [])
@@ -144,7 +150,16 @@ opened_body : {side : Side} {before : List Word} → Opened side before → With
 opened_body {before = before} k = record {
   word = k.word;
   is_name = k.is_name;
-  rule = record { start = k.start; options = k.options; part = []; cut = longer before k.start (k.word ∷ k.options) w.Colon k.cut; names = k.names; closed = k.closed; within = tt };
+  rule =
+      record {
+        start = k.start;
+        options = k.options;
+        part = [];
+        cut = longer before k.start (k.word ∷ k.options) w.Colon k.cut;
+        names = k.names;
+        closed = k.closed;
+        within = tt;
+      };
 }
 
 opened_more : {side : Side} {before : List Word} (word : Word) → (word ≡ w.Colon → ⊥) → Opened side before → Opened side (before ++ word ∷ [])
@@ -178,11 +193,13 @@ loop_ends t e (by_other start word c i k) = let x : None ≡ Some t = sym k ∙ 
 last_follows : {before : List Word} (word : Word) → IsAfterLoop before → IsAfterLast (before ++ word ∷ [])
 last_follows {before = before} word (after_loop start c) = after_last start word (longer before start (w.Star ∷ w.Question ∷ []) word c)
 
-name_read : {side : Side} (word : Word) (s t : m.State) (before : List Word) → IsNameOf side word → run 64 m.AtStart before ≡ Some s → region_of s ≡ between → m.step 64 s word ≡ Some t → Named side (before ++ word ∷ [])
+name_read : {side : Side} (word : Word) (s t : m.State) (before : List Word) → IsNameOf side word → run 64 m.AtStart before ≡ Some s → region_of s ≡ between
+    → m.step 64 s word ≡ Some t → Named side (before ++ word ∷ [])
 name_read word s t before i r q e =
     record { start = before; word = word; cut = refl; is_name = i; names = may_follow before s r (word ∷ w.Colon ∷ []) (colon_goes t (between_of s q) i e) }
 
-knows_next : (p : Region) (word : Word) (s t : m.State) (before : List Word) → run 64 m.AtStart before ≡ Some s → region_of s ≡ p → m.step 64 s word ≡ Some t → Knows p s before → Knows (next p word) t (before ++ word ∷ [])
+knows_next : (p : Region) (word : Word) (s t : m.State) (before : List Word) → run 64 m.AtStart before ≡ Some s → region_of s ≡ p → m.step 64 s word ≡ Some t
+    → Knows p s before → Knows (next p word) t (before ++ word ∷ [])
 knows_next starting word s t before r q e k = tt
 knows_next heading w.Semicolon s t before r q e k = tt
 knows_next heading _ s t before r q e k = tt
@@ -219,17 +236,20 @@ knows_next (command side) w.Bar s t before r q e k = more w.Bar (λ x. cc x) k.0
 knows_next (command side) word s t before r q e k = (more word (λ x. cc x) k.0, arrow_more word (λ x. cc x) (λ x. cc x) k.1)
 knows_next finished word s t before r q e k = tt
 
-knows_run : (words before : List Word) (s t : m.State) → run 64 m.AtStart before ≡ Some s → Knows (region_of s) s before → run 64 s words ≡ Some t → Knows (region_of t) t (before ++ words)
+knows_run : (words before : List Word) (s t : m.State) → run 64 m.AtStart before ≡ Some s → Knows (region_of s) s before → run 64 s words ≡ Some t
+    → Knows (region_of t) t (before ++ words)
 knows_run [] before s t r k e =
     let f : s ≡ t = cc e in subst (λ ws. Knows (region_of t) t ws) (sym (append-nil before)) (subst (λ u. Knows (region_of u) u before) f k)
 knows_run (word ∷ words) before s t r k e = goes_on (m.step 64 s word) refl e (λ u r' k' e'. knows_run words (before ++ word ∷ []) u t r' k' e') where
   goes_on : (o : Option m.State) → m.step 64 s word ≡ o → and_then o (λ u. run 64 u words) ≡ Some t →
-      ((u : m.State) → run 64 m.AtStart (before ++ word ∷ []) ≡ Some u → Knows (region_of u) u (before ++ word ∷ []) → run 64 u words ≡ Some t → Knows (region_of t) t ((before ++ word ∷ []) ++ words)) →
+      ((u : m.State) → run 64 m.AtStart (before ++ word ∷ []) ≡ Some u → Knows (region_of u) u (before ++ word ∷ []) → run 64 u words ≡ Some t
+      → Knows (region_of t) t ((before ++ word ∷ []) ++ words)) →
       Knows (region_of t) t (before ++ word ∷ words)
   goes_on None f e further_on = cc e
   goes_on (Some u) f e further_on =
       let p : next (region_of s) word ≡ region_of u = subst (Keeps (region_of s) word) f (keeps_step 64 s word) in
-      let current : Knows (region_of u) u (before ++ word ∷ []) = subst (λ q. Knows q u (before ++ word ∷ [])) p (knows_next (region_of s) word s u before r refl f k) in
+      let current : Knows (region_of u) u (before ++ word ∷ []) =
+      subst (λ q. Knows q u (before ++ word ∷ [])) p (knows_next (region_of s) word s u before r refl f k) in
       subst (λ ws. Knows (region_of t) t ws) (append_assoc before (word ∷ []) words) (further_on u (further 64 before word s (Some u) r f) current e)
 
 pub knows : (before : List Word) (s : m.State) → run 64 m.AtStart before ≡ Some s → Knows (region_of s) s before

@@ -31,7 +31,8 @@ star_suffixes (m.AfterLexAtom b k) t e = after after_suffix e refl
 star_suffixes (m.AfterLiteral b k) t e = after after_suffix e refl
 star_suffixes (m.AfterSet b k) t e = after after_suffix e refl
 star_suffixes (m.AfterSetStar b k) t e =
-    let c : m.LexBody = m.lex_add b (LexerTerm.star (LexerTerm.set k)) in absurd (not_some (m.step_lex_end c b.enclosing w.Star) (no_end c b.enclosing w.Star refl) e)
+    let c : m.LexBody =
+    m.lex_add b (LexerTerm.star (LexerTerm.set k)) in absurd (not_some (m.step_lex_end c b.enclosing w.Star) (no_end c b.enclosing w.Star refl) e)
 star_suffixes (m.AfterItemChar b m.Alone k) t e = after after_suffix e refl
 star_suffixes (m.AfterItemChar b (m.Listed ranges) k) t e = cc e
 star_suffixes _ t e = cc e
@@ -59,12 +60,14 @@ plus_closes (m.AfterLexAtom b k) t e = lex_closed_by (m.lex_add b (LexerTerm.plu
 plus_closes (m.AfterLiteral b k) t e = lex_closed_by (m.lex_add b (LexerTerm.plus (LexerTerm.literal k))) e
 plus_closes (m.AfterSet b k) t e = lex_closed_by (m.lex_add b (LexerTerm.plus (LexerTerm.set k))) e
 plus_closes (m.AfterSetStar b k) t e =
-    let c : m.LexBody = m.lex_add b (LexerTerm.star (LexerTerm.set k)) in absurd (not_some (m.step_lex_end c b.enclosing w.Plus) (no_end c b.enclosing w.Plus refl) e)
+    let c : m.LexBody =
+    m.lex_add b (LexerTerm.star (LexerTerm.set k)) in absurd (not_some (m.step_lex_end c b.enclosing w.Plus) (no_end c b.enclosing w.Plus refl) e)
 plus_closes (m.AfterItemChar b m.Alone k) t e = lex_closed_by (m.lex_add b (LexerTerm.plus (LexerTerm.set (outside ((k, k) ∷ []))))) e
 plus_closes (m.AfterItemChar b (m.Listed ranges) k) t e = cc e
 plus_closes _ t e = cc e
 
-loop_closes : (b : m.LexBody) (k : List (ℕ × ℕ)) (enclosing : List (m.Frame LexerTerm)) (fragment : Bool) (t : m.State) → m.loop_end b k enclosing fragment ≡ Some t → Closes t
+loop_closes : (b : m.LexBody) (k : List (ℕ × ℕ)) (enclosing : List (m.Frame LexerTerm)) (fragment : Bool) (t : m.State)
+    → m.loop_end b k enclosing fragment ≡ Some t → Closes t
 loop_closes b k [] true t e = cc e
 loop_closes b k [] false t e = closed_by e refl refl
 loop_closes b k (f ∷ enclosing) fragment t e = cc e

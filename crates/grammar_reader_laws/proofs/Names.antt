@@ -41,7 +41,8 @@ lower_between (m.AfterLexAtom b t) k e = absurd (stuck_at (m.lex_add b t) b.encl
 lower_between (m.AfterLiteral b t) k e = absurd (stuck_at (m.lex_add b (LexerTerm.literal t)) b.enclosing (w.Lower k) (w.Colon ∷ []) refl e)
 lower_between (m.AfterSet b s) k e = absurd (stuck_at (m.lex_add b (LexerTerm.set s)) b.enclosing (w.Lower k) (w.Colon ∷ []) refl e)
 lower_between (m.AfterSetStar b s) k e = absurd (stuck_at (m.lex_add b (LexerTerm.star (LexerTerm.set s))) b.enclosing (w.Lower k) (w.Colon ∷ []) refl e)
-lower_between (m.AfterItemChar b m.Alone c) k e = absurd (stuck_at (m.lex_add b (LexerTerm.set (outside ((c, c) ∷ [])))) b.enclosing (w.Lower k) (w.Colon ∷ []) refl e)
+lower_between (m.AfterItemChar b m.Alone c) k e =
+    absurd (stuck_at (m.lex_add b (LexerTerm.set (outside ((c, c) ∷ [])))) b.enclosing (w.Lower k) (w.Colon ∷ []) refl e)
 lower_between (m.AfterItemChar b (m.Listed ranges) c) k e = cc e
 lower_between (m.AtCommand b) k e = absurd (commanded k b (is k "skip") (w.Colon ∷ []) refl refl e)
 lower_between _ k e = cc e
@@ -63,13 +64,18 @@ upper_between (m.AtRef b) k e = absurd (untested (is_eof k) (m.AfterAtom b (Writ
 upper_between (m.AtRefIn b rs) k e = absurd (untested (is_eof k) (m.AfterRef b (rs ++ Reference.name k ∷ [])) (w.Colon ∷ []) refl e)
 upper_between (m.InLex b) k e = absurd (untested (is_eof k) (m.AfterLexAtom b (LexerTerm.name k)) (w.Colon ∷ []) (after_colon b k) e)
 upper_between (m.LexSuffixed b) k e = absurd (untested (is_eof k) (m.AfterLexAtom b (LexerTerm.name k)) (w.Colon ∷ []) (after_colon b k) e)
-upper_between (m.AfterLexAtom b t) k e = let c : m.LexBody = m.lex_add b t in absurd (untested (is_eof k) (m.AfterLexAtom c (LexerTerm.name k)) (w.Colon ∷ []) (after_colon c k) e)
-upper_between (m.AfterLiteral b t) k e = let c : m.LexBody = m.lex_add b (LexerTerm.literal t) in absurd (untested (is_eof k) (m.AfterLexAtom c (LexerTerm.name k)) (w.Colon ∷ []) (after_colon c k) e)
-upper_between (m.AfterSet b s) k e = let c : m.LexBody = m.lex_add b (LexerTerm.set s) in absurd (untested (is_eof k) (m.AfterLexAtom c (LexerTerm.name k)) (w.Colon ∷ []) (after_colon c k) e)
+upper_between (m.AfterLexAtom b t) k e = let c : m.LexBody =
+    m.lex_add b t in absurd (untested (is_eof k) (m.AfterLexAtom c (LexerTerm.name k)) (w.Colon ∷ []) (after_colon c k) e)
+upper_between (m.AfterLiteral b t) k e = let c : m.LexBody =
+    m.lex_add b (LexerTerm.literal t) in absurd (untested (is_eof k) (m.AfterLexAtom c (LexerTerm.name k)) (w.Colon ∷ []) (after_colon c k) e)
+upper_between (m.AfterSet b s) k e = let c : m.LexBody =
+    m.lex_add b (LexerTerm.set s) in absurd (untested (is_eof k) (m.AfterLexAtom c (LexerTerm.name k)) (w.Colon ∷ []) (after_colon c k) e)
 upper_between (m.AfterSetStar b s) k e =
-    let c : m.LexBody = m.lex_add b (LexerTerm.star (LexerTerm.set s)) in absurd (untested (is_eof k) (m.AfterLexAtom c (LexerTerm.name k)) (w.Colon ∷ []) (after_colon c k) e)
+    let c : m.LexBody =
+    m.lex_add b (LexerTerm.star (LexerTerm.set s)) in absurd (untested (is_eof k) (m.AfterLexAtom c (LexerTerm.name k)) (w.Colon ∷ []) (after_colon c k) e)
 upper_between (m.AfterItemChar b m.Alone a) k e =
-    let c : m.LexBody = m.lex_add b (LexerTerm.set (outside ((a, a) ∷ []))) in absurd (untested (is_eof k) (m.AfterLexAtom c (LexerTerm.name k)) (w.Colon ∷ []) (after_colon c k) e)
+    let c : m.LexBody =
+    m.lex_add b (LexerTerm.set (outside ((a, a) ∷ []))) in absurd (untested (is_eof k) (m.AfterLexAtom c (LexerTerm.name k)) (w.Colon ∷ []) (after_colon c k) e)
 upper_between (m.AfterItemChar b (m.Listed ranges) c) k e = cc e
 upper_between (m.AtChannelName b) k e = absurd (tested (is k "HIDDEN") (m.AtChannelClose b) (w.Colon ∷ []) refl e)
 upper_between _ k e = cc e

@@ -8,7 +8,8 @@ use Rattle.grammar_reader_notation.specs.Notation.{is_eof, may_name_option}
 use Rattle.grammar_reader_notation.specs.Sets.{within, outside}
 use Rattle.grammar_reader_machine.specs.Machine as m
 use Rattle.grammar_reader_laws.specs.WordByWord.{run, and_then}
-use Rattle.grammar_reader_laws.proofs.Regions.{Side, parsing, lexing, Region, starting, heading, between, prequel, named, opening, body, suffixed, looped, last, command, finished, next, region_from}
+use Rattle.grammar_reader_laws.proofs.Regions.{Side, parsing, lexing, Region, starting, heading, between, prequel, named, opening}
+use Rattle.grammar_reader_laws.proofs.Regions.{body, suffixed, looped, last, command, finished, next, region_from}
 
 abbrev side_of : m.Head → Side
 side_of (m.ParserHead name) = parsing
@@ -222,7 +223,8 @@ keeps_rule_end s plain b [] = refl
 keeps_rule_end s with_a_suffix b [] = refl
 keeps_rule_end s i b (f ∷ enclosing) = tt
 
-keeps_before_alternative_name : (s : Region) → InBody parsing s → (b : m.Body) (enclosing : List (m.Frame WrittenTerm)) → Keeps s w.Hash (m.before_alternative_name b enclosing)
+keeps_before_alternative_name : (s : Region) → InBody parsing s → (b : m.Body) (enclosing : List (m.Frame WrittenTerm))
+    → Keeps s w.Hash (m.before_alternative_name b enclosing)
 keeps_before_alternative_name s plain b [] = refl
 keeps_before_alternative_name s with_a_suffix b [] = refl
 keeps_before_alternative_name s i b (f ∷ enclosing) = tt
@@ -348,7 +350,8 @@ keeps_inner_end s with_a_suffix b w.Bar = refl
 keeps_inner_end s i b w.Close = keeps_lex_closed s i b b.enclosing
 keeps_inner_end s i b _ = tt
 
-keeps_lex_end : (s : Region) → InBody lexing s → (b : m.LexBody) (enclosing : List (m.Frame LexerTerm)) (word : Word) → Keeps s word (m.step_lex_end b enclosing word)
+keeps_lex_end : (s : Region) → InBody lexing s → (b : m.LexBody) (enclosing : List (m.Frame LexerTerm)) (word : Word)
+    → Keeps s word (m.step_lex_end b enclosing word)
 keeps_lex_end s plain b [] word = keeps_done (body lexing) in_body b word
 keeps_lex_end s with_a_suffix b [] word = keeps_done (suffixed lexing) after_suffix b word
 keeps_lex_end s i b (f ∷ enclosing) word = keeps_inner_end s i b word
@@ -384,7 +387,8 @@ keeps_literal b k word = keeps_lex_after b (LexerTerm.literal k) word
 
 keeps_range_end : (b : m.LexBody) (a : ℕ) (word : Word) → Keeps (body lexing) word (m.step_range_end b a word)
 keeps_range_end b a (w.Literal []) = tt
-keeps_range_end b a (w.Literal (c ∷ [])) = provided_keeps (body lexing) (w.Literal (c ∷ [])) (nat_le a c) (m.AfterLexAtom b (LexerTerm.set (within ((a, c) ∷ [])))) refl
+keeps_range_end b a (w.Literal (c ∷ [])) =
+    provided_keeps (body lexing) (w.Literal (c ∷ [])) (nat_le a c) (m.AfterLexAtom b (LexerTerm.set (within ((a, c) ∷ [])))) refl
 keeps_range_end b a (w.Literal (c ∷ (e ∷ es))) = tt
 keeps_range_end b a _ = tt
 
@@ -392,7 +396,8 @@ keeps_set : (b : m.LexBody) (s : List (ℕ × ℕ)) (word : Word) → Keeps (bod
 keeps_set b s w.Star = refl
 keeps_set b s word = keeps_lex_after b (LexerTerm.set s) word
 
-keeps_looped : (b : m.LexBody) (s : List (ℕ × ℕ)) (enclosing : List (m.Frame LexerTerm)) (f : Bool) → Keeps (suffixed lexing) w.Question (m.loop_end b s enclosing f)
+keeps_looped : (b : m.LexBody) (s : List (ℕ × ℕ)) (enclosing : List (m.Frame LexerTerm)) (f : Bool)
+    → Keeps (suffixed lexing) w.Question (m.loop_end b s enclosing f)
 keeps_looped b s [] true = tt
 keeps_looped b s [] false = refl
 keeps_looped b s (f' ∷ enclosing) f = tt
@@ -439,11 +444,13 @@ keeps_item_char b p c word = keeps_one b p ((c, c) ∷ []) word
 
 keeps_item_end : (b : m.LexBody) (p : m.ItemPosition) (a : ℕ) (word : Word) → Keeps (body lexing) word (m.step_item_end b p a word)
 keeps_item_end b p a (w.Literal []) = tt
-keeps_item_end b p a (w.Literal (c ∷ [])) = provided_keeps (body lexing) (w.Literal (c ∷ [])) (nat_le a c) (m.after_item b p ((a, c) ∷ [])) (placed_body b p ((a, c) ∷ []))
+keeps_item_end b p a (w.Literal (c ∷ [])) =
+    provided_keeps (body lexing) (w.Literal (c ∷ [])) (nat_le a c) (m.after_item b p ((a, c) ∷ [])) (placed_body b p ((a, c) ∷ []))
 keeps_item_end b p a (w.Literal (c ∷ (e ∷ es))) = tt
 keeps_item_end b p a _ = tt
 
-keeps_either : (k : List ℕ) (b : m.LexBody) (t : Bool) → Keeps (command lexing) (w.Lower k) (cond t (Some (m.AfterCommand b)) (m.provided (is k "channel") (m.AtChannelOpen b)))
+keeps_either : (k : List ℕ) (b : m.LexBody) (t : Bool)
+    → Keeps (command lexing) (w.Lower k) (cond t (Some (m.AfterCommand b)) (m.provided (is k "channel") (m.AtChannelOpen b)))
 keeps_either k b true = refl
 keeps_either k b false = provided_keeps (command lexing) (w.Lower k) (is k "channel") (m.AtChannelOpen b) refl
 
@@ -526,7 +533,8 @@ abbrev Leads : Region → List Word → Option m.State → Type 0
 Leads s words None = Unit {0}
 Leads s words (Some t) = region_from s words ≡ region_of t
 
-leads_after : (d : ℕ) (s : Region) (word : Word) (words : List Word) (o : Option m.State) → Keeps s word o → ((t : m.State) → Leads (region_of t) words (run d t words)) →
+leads_after : (d : ℕ) (s : Region) (word : Word) (words : List Word) (o : Option m.State) → Keeps s word o
+    → ((t : m.State) → Leads (region_of t) words (run d t words)) →
     Leads s (word ∷ words) (and_then o (λ t. run d t words))
 leads_after d s word words None k h = tt
 leads_after d s word words (Some t) k h = shown (run d t words) (h t) where

@@ -1,12 +1,16 @@
--- The words that may still come at each state of the reader, and the grammar that the whole text then gives. Each family goes on one step at a time, as the reader does.
+-- The words that may still come at each state of the reader, and the grammar that the whole
+-- text then gives. Each family goes on one step at a time, as the reader does.
 use Rattle.std.proofs.Common.{ℕ, suc, ◌≡◌, ◌≤◌, Bool, true, false, List, [], ◌∷◌, ◌++◌, Option, Some, None}
 use Rattle.grammar_tree.specs.Written.{Reference, WrittenTerm, LexerTerm, WrittenGrammar, written_alts, lexer_alts}
 use Rattle.grammar_reader_words.specs.Names.{is}
 use Rattle.grammar_reader_words.specs.declared.word.Word.{Word}
 use Rattle.grammar_reader_words.specs.declared.word.Word.TheVariants as w
 use Rattle.grammar_reader_notation.specs.Sets.{within, outside}
-use Rattle.grammar_reader_notation.specs.Notation.{IsName, IsPath, IsValue, IsEntries, MayBeOptions, IsRef, IsSuffixed, IsLabel, IsOpening, IsAltName, IsAtom, IsAlts, IsItem, IsCharSet, IsLexSuffixed, IsCommand, IsLast, top, IsLexAtom, IsLexAlts, parser_rule, lexer_rule, IsTextOf}
-use Rattle.grammar_reader_machine.specs.Machine.{Frame, with_term, whole, next_alt, fresh, Head, ParserHead, LexerHead, Owner, OfText, OfRule, Body, LexBody, ValueOf, InEntry, InOpening, ItemPosition, Alone, Listed, with_rule, with_token}
+use Rattle.grammar_reader_notation.specs.Notation.{IsName, IsPath, IsValue, IsEntries, MayBeOptions, IsRef, IsSuffixed, IsLabel, IsOpening, IsAltName, IsAtom}
+use Rattle.grammar_reader_notation.specs.Notation.{IsAlts, IsItem, IsCharSet, IsLexSuffixed, IsCommand, IsLast, top, IsLexAtom, IsLexAlts, parser_rule}
+use Rattle.grammar_reader_notation.specs.Notation.{lexer_rule, IsTextOf}
+use Rattle.grammar_reader_machine.specs.Machine.{Frame, with_term, whole, next_alt, fresh, Head, ParserHead, LexerHead, Owner, OfText, OfRule, Body}
+use Rattle.grammar_reader_machine.specs.Machine.{LexBody, ValueOf, InEntry, InOpening, ItemPosition, Alone, Listed, with_rule, with_token}
 use Rattle.grammar_reader_machine.specs.Machine as m
 
 -- further rules, and the end
@@ -16,10 +20,12 @@ pub data RulesRest (d : ℕ) : WrittenGrammar → List Word → WrittenGrammar �
       MayBeOptions words (w.Colon ∷ body) → IsAlts true d body alts (w.Semicolon ∷ next) → RulesRest d (with_rule g (parser_rule n alts)) next G →
       RulesRest d g (w.Lower n ∷ words) G
   lexer : {g G : WrittenGrammar} {n : List ℕ} {gap : Bool} {words body next : List Word} {alts : List (List LexerTerm)} →
-      MayBeOptions words (w.Colon ∷ body) → IsLexAlts (top false gap) d body alts (w.Semicolon ∷ next) → RulesRest d (with_rule g (lexer_rule n false gap alts)) next G →
+      MayBeOptions words (w.Colon ∷ body) → IsLexAlts (top false gap) d body alts (w.Semicolon ∷ next)
+      → RulesRest d (with_rule g (lexer_rule n false gap alts)) next G →
       RulesRest d g (w.Upper n ∷ words) G
   fragment : {g G : WrittenGrammar} {n : List ℕ} {words body next : List Word} {alts : List (List LexerTerm)} →
-      MayBeOptions words (w.Colon ∷ body) → IsLexAlts (top true false) d body alts (w.Semicolon ∷ next) → RulesRest d (with_rule g (lexer_rule n true false alts)) next G →
+      MayBeOptions words (w.Colon ∷ body) → IsLexAlts (top true false) d body alts (w.Semicolon ∷ next)
+      → RulesRest d (with_rule g (lexer_rule n true false alts)) next G →
       RulesRest d g (w.Fragment ∷ w.Upper n ∷ words) G
 
 mutual
@@ -48,8 +54,10 @@ mutual
   pub data Closes (d : ℕ) (g : WrittenGrammar) (n : List ℕ) : ℕ → List (Frame WrittenTerm) → List (List WrittenTerm) → List Word → WrittenGrammar → Type 0 where
     rule_ends : {blocks_left : ℕ} {alts : List (List WrittenTerm)} {words : List Word} {G : WrittenGrammar} →
         RulesRest d (with_rule g (parser_rule n alts)) words G → Closes d g n blocks_left [] alts (w.Semicolon ∷ words) G
-    block_ends : {blocks_left : ℕ} {f : Frame WrittenTerm} {enclosing : List (Frame WrittenTerm)} {alts : List (List WrittenTerm)} {words : List Word} {G : WrittenGrammar} →
-        After d g n (suc blocks_left) enclosing f (WrittenTerm.block (written_alts alts)) words G → Closes d g n blocks_left (f ∷ enclosing) alts (w.Close ∷ words) G
+    block_ends : {blocks_left : ℕ} {f : Frame WrittenTerm} {enclosing : List (Frame WrittenTerm)} {alts : List (List WrittenTerm)} {words : List Word}
+        {G : WrittenGrammar} →
+        After d g n (suc blocks_left) enclosing f (WrittenTerm.block (written_alts alts)) words G
+        → Closes d g n blocks_left (f ∷ enclosing) alts (w.Close ∷ words) G
 
   -- the current alternative is whole
   pub data AltEnd (d : ℕ) (g : WrittenGrammar) (n : List ℕ) : ℕ → List (Frame WrittenTerm) → Frame WrittenTerm → List Word → WrittenGrammar → Type 0 where
@@ -65,11 +73,13 @@ mutual
   pub data Within (d : ℕ) (g : WrittenGrammar) (n : List ℕ) : ℕ → List (Frame WrittenTerm) → Frame WrittenTerm → List Word → WrittenGrammar → Type 0 where
     ends : {blocks_left : ℕ} {enclosing : List (Frame WrittenTerm)} {f : Frame WrittenTerm} {words mid : List Word} {G : WrittenGrammar} →
         IsAltName (is_top enclosing) words mid → AltEnd d g n blocks_left enclosing f mid G → Within d g n blocks_left enclosing f words G
-    goes_on : {blocks_left : ℕ} {enclosing : List (Frame WrittenTerm)} {f : Frame WrittenTerm} {words labelled mid : List Word} {a : WrittenTerm} {G : WrittenGrammar} →
+    goes_on : {blocks_left : ℕ} {enclosing : List (Frame WrittenTerm)} {f : Frame WrittenTerm} {words labelled mid : List Word} {a : WrittenTerm}
+        {G : WrittenGrammar} →
         IsLabel words labelled → IsAtom blocks_left labelled a mid → After d g n blocks_left enclosing f a mid G → Within d g n blocks_left enclosing f words G
 
   -- after an atom
-  pub data After (d : ℕ) (g : WrittenGrammar) (n : List ℕ) : ℕ → List (Frame WrittenTerm) → Frame WrittenTerm → WrittenTerm → List Word → WrittenGrammar → Type 0 where
+  pub data After (d : ℕ) (g : WrittenGrammar) (n : List ℕ) : ℕ → List (Frame WrittenTerm) → Frame WrittenTerm → WrittenTerm → List Word → WrittenGrammar
+      → Type 0 where
     after : {blocks_left : ℕ} {enclosing : List (Frame WrittenTerm)} {f : Frame WrittenTerm} {t u : WrittenTerm} {words mid : List Word} {G : WrittenGrammar} →
         IsSuffixed t words u mid → Within d g n blocks_left enclosing (with_term f u) mid G → After d g n blocks_left enclosing f t words G
 
@@ -105,7 +115,8 @@ mutual
 
 -- after `~`
 pub data RefRest (d : ℕ) (b : Body) : List Word → WrittenGrammar → Type 0 where
-  ref : {r : Reference} {word : Word} {words : List Word} {G : WrittenGrammar} → IsRef word r → AfterRest d b (WrittenTerm.but (r ∷ [])) words G → RefRest d b (word ∷ words) G
+  ref : {r : Reference} {word : Word} {words : List Word} {G : WrittenGrammar} → IsRef word r → AfterRest d b (WrittenTerm.but (r ∷ [])) words G
+      → RefRest d b (word ∷ words) G
   refs : {words : List Word} {G : WrittenGrammar} → RefInRest d b [] words G → RefRest d b (w.Open ∷ words) G
 
 pub data AltNameRest (d : ℕ) (b : Body) : List Word → WrittenGrammar → Type 0 where
@@ -117,41 +128,55 @@ Agrees None gap = Unit {0}
 Agrees (Some known) gap = known ≡ gap
 
 mutual
-  pub data LexCloses (d : ℕ) (g : WrittenGrammar) (n : List ℕ) (frag : Bool) : Option Bool → ℕ → List (Frame LexerTerm) → List (List LexerTerm) → List Word → WrittenGrammar → Type 0 where
+  pub data LexCloses (d : ℕ) (g : WrittenGrammar) (n : List ℕ) (frag : Bool) : Option Bool → ℕ → List (Frame LexerTerm) → List (List LexerTerm) → List Word
+      → WrittenGrammar → Type 0 where
     rule_ends : {gap : Bool} {blocks_left : ℕ} {alts : List (List LexerTerm)} {words : List Word} {G : WrittenGrammar} →
         RulesRest d (with_rule g (lexer_rule n frag gap alts)) words G → LexCloses d g n frag (Some gap) blocks_left [] alts (w.Semicolon ∷ words) G
-    block_ends : {known : Option Bool} {blocks_left : ℕ} {f : Frame LexerTerm} {enclosing : List (Frame LexerTerm)} {alts : List (List LexerTerm)} {words : List Word} {G : WrittenGrammar} →
-        LexAfter d g n frag known (suc blocks_left) enclosing f (LexerTerm.block (lexer_alts alts)) words G → LexCloses d g n frag known blocks_left (f ∷ enclosing) alts (w.Close ∷ words) G
+    block_ends : {known : Option Bool} {blocks_left : ℕ} {f : Frame LexerTerm} {enclosing : List (Frame LexerTerm)} {alts : List (List LexerTerm)}
+        {words : List Word} {G : WrittenGrammar} →
+        LexAfter d g n frag known (suc blocks_left) enclosing f (LexerTerm.block (lexer_alts alts)) words G
+        → LexCloses d g n frag known blocks_left (f ∷ enclosing) alts (w.Close ∷ words) G
 
-  pub data LexAltEnd (d : ℕ) (g : WrittenGrammar) (n : List ℕ) (frag : Bool) : Option Bool → ℕ → List (Frame LexerTerm) → Frame LexerTerm → List Word → WrittenGrammar → Type 0 where
+  pub data LexAltEnd (d : ℕ) (g : WrittenGrammar) (n : List ℕ) (frag : Bool) : Option Bool → ℕ → List (Frame LexerTerm) → Frame LexerTerm → List Word
+      → WrittenGrammar → Type 0 where
     alts_end : {known : Option Bool} {blocks_left : ℕ} {enclosing : List (Frame LexerTerm)} {f : Frame LexerTerm} {words : List Word} {G : WrittenGrammar} →
         LexCloses d g n frag known blocks_left enclosing (whole f) words G → LexAltEnd d g n frag known blocks_left enclosing f words G
     alts_go_on : {known : Option Bool} {blocks_left : ℕ} {enclosing : List (Frame LexerTerm)} {f : Frame LexerTerm} {words : List Word} {G : WrittenGrammar} →
         LexWithin d g n frag known blocks_left enclosing (next_alt f) words G → LexAltEnd d g n frag known blocks_left enclosing f (w.Bar ∷ words) G
 
-  pub data LexWithin (d : ℕ) (g : WrittenGrammar) (n : List ℕ) (frag : Bool) : Option Bool → ℕ → List (Frame LexerTerm) → Frame LexerTerm → List Word → WrittenGrammar → Type 0 where
-    ends_inner : {known : Option Bool} {blocks_left : ℕ} {f' : Frame LexerTerm} {enclosing : List (Frame LexerTerm)} {f : Frame LexerTerm} {words : List Word} {G : WrittenGrammar} →
+  pub data LexWithin (d : ℕ) (g : WrittenGrammar) (n : List ℕ) (frag : Bool) : Option Bool → ℕ → List (Frame LexerTerm) → Frame LexerTerm → List Word
+      → WrittenGrammar → Type 0 where
+    ends_inner : {known : Option Bool} {blocks_left : ℕ} {f' : Frame LexerTerm} {enclosing : List (Frame LexerTerm)} {f : Frame LexerTerm} {words : List Word}
+        {G : WrittenGrammar} →
         LexAltEnd d g n frag known blocks_left (f' ∷ enclosing) f words G → LexWithin d g n frag known blocks_left (f' ∷ enclosing) f words G
     ends_plain : {known : Option Bool} {blocks_left : ℕ} {f : Frame LexerTerm} {words : List Word} {G : WrittenGrammar} →
         LexDone d g n frag known blocks_left f words G → LexWithin d g n frag known blocks_left [] f words G
     ends_loop : {known : Option Bool} {blocks_left : ℕ} {f : Frame LexerTerm} {s : List (ℕ × ℕ)} {words mid : List Word} {G : WrittenGrammar} →
-        frag ≡ false → IsCharSet words s (w.Star ∷ w.Question ∷ mid) → LexLoop d g n frag known blocks_left f s mid G → LexWithin d g n frag known blocks_left [] f words G
-    goes_on : {known : Option Bool} {blocks_left : ℕ} {enclosing : List (Frame LexerTerm)} {f : Frame LexerTerm} {words mid : List Word} {a : LexerTerm} {G : WrittenGrammar} →
-        IsLexAtom blocks_left words a mid → LexAfter d g n frag known blocks_left enclosing f a mid G → LexWithin d g n frag known blocks_left enclosing f words G
+        frag ≡ false → IsCharSet words s (w.Star ∷ w.Question ∷ mid) → LexLoop d g n frag known blocks_left f s mid G
+        → LexWithin d g n frag known blocks_left [] f words G
+    goes_on : {known : Option Bool} {blocks_left : ℕ} {enclosing : List (Frame LexerTerm)} {f : Frame LexerTerm} {words mid : List Word} {a : LexerTerm}
+        {G : WrittenGrammar} →
+        IsLexAtom blocks_left words a mid → LexAfter d g n frag known blocks_left enclosing f a mid G
+        → LexWithin d g n frag known blocks_left enclosing f words G
 
   -- after a non-greedy loop
-  pub data LexLoop (d : ℕ) (g : WrittenGrammar) (n : List ℕ) (frag : Bool) : Option Bool → ℕ → Frame LexerTerm → List (ℕ × ℕ) → List Word → WrittenGrammar → Type 0 where
+  pub data LexLoop (d : ℕ) (g : WrittenGrammar) (n : List ℕ) (frag : Bool) : Option Bool → ℕ → Frame LexerTerm → List (ℕ × ℕ) → List Word → WrittenGrammar
+      → Type 0 where
     loop_rest : {known : Option Bool} {blocks_left : ℕ} {f : Frame LexerTerm} {s : List (ℕ × ℕ)} {t : LexerTerm} {words mid : List Word} {G : WrittenGrammar} →
-        IsLast words t mid → LexDone d g n frag known blocks_left (with_term (with_term f (LexerTerm.short s)) t) mid G → LexLoop d g n frag known blocks_left f s words G
+        IsLast words t mid → LexDone d g n frag known blocks_left (with_term (with_term f (LexerTerm.short s)) t) mid G
+        → LexLoop d g n frag known blocks_left f s words G
 
   -- after what an alternative of the rule itself consists of
   pub data LexDone (d : ℕ) (g : WrittenGrammar) (n : List ℕ) (frag : Bool) : Option Bool → ℕ → Frame LexerTerm → List Word → WrittenGrammar → Type 0 where
     done : {known : Option Bool} {gap : Bool} {blocks_left : ℕ} {f : Frame LexerTerm} {words mid : List Word} {G : WrittenGrammar} →
         Agrees known gap → IsCommand gap words mid → LexAltEnd d g n frag (Some gap) blocks_left [] f mid G → LexDone d g n frag known blocks_left f words G
 
-  pub data LexAfter (d : ℕ) (g : WrittenGrammar) (n : List ℕ) (frag : Bool) : Option Bool → ℕ → List (Frame LexerTerm) → Frame LexerTerm → LexerTerm → List Word → WrittenGrammar → Type 0 where
-    after : {known : Option Bool} {blocks_left : ℕ} {enclosing : List (Frame LexerTerm)} {f : Frame LexerTerm} {t u : LexerTerm} {words mid : List Word} {G : WrittenGrammar} →
-        IsLexSuffixed t words u mid → LexWithin d g n frag known blocks_left enclosing (with_term f u) mid G → LexAfter d g n frag known blocks_left enclosing f t words G
+  pub data LexAfter (d : ℕ) (g : WrittenGrammar) (n : List ℕ) (frag : Bool) : Option Bool → ℕ → List (Frame LexerTerm) → Frame LexerTerm → LexerTerm → List Word
+      → WrittenGrammar → Type 0 where
+    after : {known : Option Bool} {blocks_left : ℕ} {enclosing : List (Frame LexerTerm)} {f : Frame LexerTerm} {t u : LexerTerm} {words mid : List Word}
+        {G : WrittenGrammar} →
+        IsLexSuffixed t words u mid → LexWithin d g n frag known blocks_left enclosing (with_term f u) mid G
+        → LexAfter d g n frag known blocks_left enclosing f t words G
 
 abbrev pub LexRest : ℕ → LexBody → List Word → WrittenGrammar → Type 0
 LexRest d b words G = LexWithin d b.text b.name b.fragment b.known b.blocks_left b.enclosing b.current words G
@@ -176,7 +201,8 @@ pub data LiteralRest (d : ℕ) (b : LexBody) : List ℕ → List Word → Writte
       LiteralRest d b (a ∷ []) (w.Dots ∷ w.Literal (c ∷ []) ∷ words) G
 
 pub data RangeRest (d : ℕ) (b : LexBody) (a : ℕ) : List Word → WrittenGrammar → Type 0 where
-  range_end : {c : ℕ} {words : List Word} {G : WrittenGrammar} → a ≤ c → LexAfterRest d b (LexerTerm.set (within ((a, c) ∷ []))) words G → RangeRest d b a (w.Literal (c ∷ []) ∷ words) G
+  range_end : {c : ℕ} {words : List Word} {G : WrittenGrammar} → a ≤ c → LexAfterRest d b (LexerTerm.set (within ((a, c) ∷ []))) words G
+      → RangeRest d b a (w.Literal (c ∷ []) ∷ words) G
 
 abbrev pub IsTop : LexBody → Type 0
 IsTop b = (is_top b.enclosing ≡ true) × (b.fragment ≡ false)
@@ -188,16 +214,19 @@ pub data SetRest (d : ℕ) (b : LexBody) (s : List (ℕ × ℕ)) : List Word →
 
 pub data StarRest (d : ℕ) (b : LexBody) (s : List (ℕ × ℕ)) : List Word → WrittenGrammar → Type 0 where
   greedy : {words : List Word} {G : WrittenGrammar} →
-      LexWithin d b.text b.name b.fragment b.known b.blocks_left b.enclosing (with_term b.current (LexerTerm.star (LexerTerm.set s))) words G → StarRest d b s words G
+      LexWithin d b.text b.name b.fragment b.known b.blocks_left b.enclosing (with_term b.current (LexerTerm.star (LexerTerm.set s))) words G
+      → StarRest d b s words G
   not_greedy : {words : List Word} {G : WrittenGrammar} → IsTop b → LexLoopRest d b s words G → StarRest d b s (w.Question ∷ words) G
 
 mutual
   -- items in brackets
   pub data ItemInRest (d : ℕ) (b : LexBody) : List (ℕ × ℕ) → List Word → WrittenGrammar → Type 0 where
-    item_in : {ranges i : List (ℕ × ℕ)} {words mid : List Word} {G : WrittenGrammar} → IsItem words i mid → ItemsRest d b (ranges ++ i) mid G → ItemInRest d b ranges words G
+    item_in : {ranges i : List (ℕ × ℕ)} {words mid : List Word} {G : WrittenGrammar} → IsItem words i mid → ItemsRest d b (ranges ++ i) mid G
+        → ItemInRest d b ranges words G
 
   pub data ItemsRest (d : ℕ) (b : LexBody) : List (ℕ × ℕ) → List Word → WrittenGrammar → Type 0 where
-    items_end : {ranges : List (ℕ × ℕ)} {words : List Word} {G : WrittenGrammar} → SetRest d b (outside ranges) words G → ItemsRest d b ranges (w.Close ∷ words) G
+    items_end : {ranges : List (ℕ × ℕ)} {words : List Word} {G : WrittenGrammar} → SetRest d b (outside ranges) words G
+        → ItemsRest d b ranges (w.Close ∷ words) G
     items_go_on : {ranges : List (ℕ × ℕ)} {words : List Word} {G : WrittenGrammar} → ItemInRest d b ranges words G → ItemsRest d b ranges (w.Bar ∷ words) G
 
 -- after an item, alone or in brackets
@@ -215,16 +244,19 @@ pub data ItemRest (d : ℕ) (b : LexBody) : List Word → WrittenGrammar → Typ
 
 pub data ItemCharRest (d : ℕ) (b : LexBody) (p : ItemPosition) (a : ℕ) : List Word → WrittenGrammar → Type 0 where
   no_range : {words : List Word} {G : WrittenGrammar} → AfterItemRest d b p ((a, a) ∷ []) words G → ItemCharRest d b p a words G
-  range : {c : ℕ} {words : List Word} {G : WrittenGrammar} → a ≤ c → AfterItemRest d b p ((a, c) ∷ []) words G → ItemCharRest d b p a (w.Dots ∷ w.Literal (c ∷ []) ∷ words) G
+  range : {c : ℕ} {words : List Word} {G : WrittenGrammar} → a ≤ c → AfterItemRest d b p ((a, c) ∷ []) words G
+      → ItemCharRest d b p a (w.Dots ∷ w.Literal (c ∷ []) ∷ words) G
 
 pub data ItemEndRest (d : ℕ) (b : LexBody) (p : ItemPosition) (a : ℕ) : List Word → WrittenGrammar → Type 0 where
-  item_end : {c : ℕ} {words : List Word} {G : WrittenGrammar} → a ≤ c → AfterItemRest d b p ((a, c) ∷ []) words G → ItemEndRest d b p a (w.Literal (c ∷ []) ∷ words) G
+  item_end : {c : ℕ} {words : List Word} {G : WrittenGrammar} → a ≤ c → AfterItemRest d b p ((a, c) ∷ []) words G
+      → ItemEndRest d b p a (w.Literal (c ∷ []) ∷ words) G
 
 pub data ChannelCloseRest (d : ℕ) (b : LexBody) : List Word → WrittenGrammar → Type 0 where
   channel_close : {words : List Word} {G : WrittenGrammar} → CommandedRest d b words G → ChannelCloseRest d b (w.Close ∷ words) G
 
 pub data ChannelNameRest (d : ℕ) (b : LexBody) : List Word → WrittenGrammar → Type 0 where
-  channel_name : {n : List ℕ} {words : List Word} {G : WrittenGrammar} → is n "HIDDEN" ≡ true → ChannelCloseRest d b words G → ChannelNameRest d b (w.Upper n ∷ words) G
+  channel_name : {n : List ℕ} {words : List Word} {G : WrittenGrammar} → is n "HIDDEN" ≡ true → ChannelCloseRest d b words G
+      → ChannelNameRest d b (w.Upper n ∷ words) G
 
 pub data ChannelOpenRest (d : ℕ) (b : LexBody) : List Word → WrittenGrammar → Type 0 where
   channel_open : {words : List Word} {G : WrittenGrammar} → ChannelNameRest d b words G → ChannelOpenRest d b (w.Open ∷ words) G
@@ -237,7 +269,8 @@ pub data CommandRest (d : ℕ) (b : LexBody) : List Word → WrittenGrammar → 
 
 pub data ColonRest (d : ℕ) (g : WrittenGrammar) : Head → List Word → WrittenGrammar → Type 0 where
   parser_colon : {n : List ℕ} {words : List Word} {G : WrittenGrammar} → Opens d g n d [] fresh words G → ColonRest d g (ParserHead n) (w.Colon ∷ words) G
-  lexer_colon : {n : List ℕ} {frag : Bool} {words : List Word} {G : WrittenGrammar} → LexWithin d g n frag (m.no_commands frag) d [] fresh words G → ColonRest d g (LexerHead n frag) (w.Colon ∷ words) G
+  lexer_colon : {n : List ℕ} {frag : Bool} {words : List Word} {G : WrittenGrammar} → LexWithin d g n frag (m.no_commands frag) d [] fresh words G
+      → ColonRest d g (LexerHead n frag) (w.Colon ∷ words) G
 
 abbrev pub AfterOptionsRest : ℕ → WrittenGrammar → Owner → List Word → WrittenGrammar → Type 0
 AfterOptionsRest d g OfText words G = TextRest d g words G
@@ -252,7 +285,8 @@ pub data HeadRest (d : ℕ) (g : WrittenGrammar) (head : Head) : List Word → W
 
 -- after a value
 pub data ValueEndRest (d : ℕ) : ValueOf → List Word → WrittenGrammar → Type 0 where
-  entry_ends : {g : WrittenGrammar} {o : Owner} {words : List Word} {G : WrittenGrammar} → EntriesRest d g o words G → ValueEndRest d (InEntry g o) (w.Semicolon ∷ words) G
+  entry_ends : {g : WrittenGrammar} {o : Owner} {words : List Word} {G : WrittenGrammar} → EntriesRest d g o words G
+      → ValueEndRest d (InEntry g o) (w.Semicolon ∷ words) G
   opening_ends : {b : Body} {words : List Word} {G : WrittenGrammar} → WithinRest d b words G → ValueEndRest d (InOpening b) (w.Greater ∷ words) G
 
 pub data ValueRest (d : ℕ) (v : ValueOf) : List Word → WrittenGrammar → Type 0 where
@@ -268,7 +302,8 @@ pub data EqualsRest (d : ℕ) (v : ValueOf) : List Word → WrittenGrammar → T
   equals : {words : List Word} {G : WrittenGrammar} → ValueRest d v words G → EqualsRest d v (w.Equals ∷ words) G
 
 pub data OpeningNameRest (d : ℕ) (b : Body) : List Word → WrittenGrammar → Type 0 where
-  opening_name : {word : Word} {n : List ℕ} {words : List Word} {G : WrittenGrammar} → IsName word n → EqualsRest d (InOpening b) words G → OpeningNameRest d b (word ∷ words) G
+  opening_name : {word : Word} {n : List ℕ} {words : List Word} {G : WrittenGrammar} → IsName word n → EqualsRest d (InOpening b) words G
+      → OpeningNameRest d b (word ∷ words) G
 
 pub data OptionsBraceRest (d : ℕ) (g : WrittenGrammar) (o : Owner) : List Word → WrittenGrammar → Type 0 where
   options_brace : {words : List Word} {G : WrittenGrammar} → EntriesRest d g o words G → OptionsBraceRest d g o (w.OpenBrace ∷ words) G

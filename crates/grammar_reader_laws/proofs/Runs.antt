@@ -13,11 +13,13 @@ use Rattle.grammar_reader_laws.proofs.LexerSteps.{Alive}
 use Rattle.grammar_reader_laws.proofs.Steps.{sound, complete, alive}
 
 module _ (d : ℕ) where
-  over : (words more : List Word) {G : WrittenGrammar} (o : Option State) → ((s : State) → Goes d (run d s words) more G → Rest d s (words ++ more) G) → Goes d (and_then o (λ s. run d s words)) more G → Goes d o (words ++ more) G
+  over : (words more : List Word) {G : WrittenGrammar} (o : Option State) → ((s : State) → Goes d (run d s words) more G → Rest d s (words ++ more) G)
+      → Goes d (and_then o (λ s. run d s words)) more G → Goes d o (words ++ more) G
   over words more None k h = absurd h
   over words more (Some s) k h = k s h
 
-  under : (words more : List Word) {G : WrittenGrammar} (o : Option State) → ((s : State) → Rest d s (words ++ more) G → Goes d (run d s words) more G) → Goes d o (words ++ more) G → Goes d (and_then o (λ s. run d s words)) more G
+  under : (words more : List Word) {G : WrittenGrammar} (o : Option State) → ((s : State) → Rest d s (words ++ more) G → Goes d (run d s words) more G)
+      → Goes d o (words ++ more) G → Goes d (and_then o (λ s. run d s words)) more G
   under words more None k h = absurd h
   under words more (Some s) k h = k s h
 
@@ -97,11 +99,13 @@ module _ (d : ℕ) where
     spread (Some t) k = k t
 
   -- one word further
-  pub further : (before : List Word) (word : Word) (s : State) (o : Option State) → run d AtStart before ≡ Some s → step d s word ≡ o → run d AtStart (before ++ word ∷ []) ≡ o
+  pub further : (before : List Word) (word : Word) (s : State) (o : Option State) → run d AtStart before ≡ Some s → step d s word ≡ o
+      → run d AtStart (before ++ word ∷ []) ≡ o
   further before word s o e f = one_more AtStart before word ∙ ap (λ o. and_then o (λ t. step d t word)) e ∙ f
 
   -- a text gives the grammar that the reader ends with
-  pub accepted : (before : List Word) (s : State) (G : WrittenGrammar) → run d AtStart before ≡ Some s → IsTextOf d (before ++ w.End ∷ []) G → step d s w.End ≡ Some (AtEnd G)
+  pub accepted : (before : List Word) (s : State) (G : WrittenGrammar) → run d AtStart before ≡ Some s → IsTextOf d (before ++ w.End ∷ []) G
+      → step d s w.End ≡ Some (AtEnd G)
   accepted before s G e t =
       let whole : List Word = before ++ w.End ∷ [] in
       let rest : Goes d (run d AtStart whole) [] G = run_complete AtStart whole [] G (subst (λ ws. IsTextOf d ws G) (sym (append-nil whole)) t) in

@@ -4,15 +4,20 @@ use Rattle.grammar_reader_words.specs.declared.word.Word.{Word}
 use Rattle.grammar_reader_words.specs.declared.word.Word.TheVariants as w
 use Rattle.grammar_reader_machine.specs.Machine as m
 use Rattle.grammar_reader_laws.specs.WordByWord.{run}
-use Rattle.grammar_reader_notation.specs.Naming.{MayFollow, Without, IsWithinRule, IsAfterParserName, parser_name, IsWithinParserRule, parser_rule, IsWithinLexerRule, lexer_rule, IsAfterArrow, IsSuffix, question, star, plus, IsAfterSuffix, after_suffix, IsAfterLoop, after_loop, IsAfterLast, after_last}
+use Rattle.grammar_reader_notation.specs.Naming.{MayFollow, Without, IsWithinRule, IsAfterParserName, parser_name, IsWithinParserRule, parser_rule}
+use Rattle.grammar_reader_notation.specs.Naming.{IsWithinLexerRule, lexer_rule, IsAfterArrow, IsSuffix, question, star, plus, IsAfterSuffix}
+use Rattle.grammar_reader_notation.specs.Naming.{after_suffix, IsAfterLoop, after_loop, IsAfterLast, after_last}
 use Rattle.grammar_reader_faults.specs.Positions as at
-use Rattle.grammar_reader_laws.proofs.Regions.{Side, parsing, lexing, Region, starting, between, named, opening, body, suffixed, looped, last, command, next, region_from}
+use Rattle.grammar_reader_laws.proofs.Regions.{Side, parsing, lexing, Region, starting, between, named, opening, body}
+use Rattle.grammar_reader_laws.proofs.Regions.{suffixed, looped, last, command, next, region_from}
 use Rattle.grammar_reader_laws.proofs.RegionSteps.{Keeps, region_of, keeps_step, region_after, region_read}
 use Rattle.grammar_reader_laws.proofs.Following.{goes, Following, following, Passed, passed, Led, led}
 use Rattle.grammar_reader_laws.proofs.Leading.{star_suffixes, plus_closes, question_closes, arrow_leads, no_semicolon}
 use Rattle.grammar_reader_laws.proofs.Known.{IsBetween, region_between, IsNameOf, lower, upper, Named, Within, as_suffix, Knows, knows}
 use Rattle.grammar_reader_laws.proofs.Names.{lower_between, upper_between, lower_heads}
-use Rattle.grammar_reader_laws.proofs.Classes.{side_within, is_suffixed, is_looped, is_last, is_command, is_side, in_side, loop_region, region_loop, last_region, region_last, arrow_region, region_arrow, suffix_region, name_region, start_region, parser_region, region_parser, lexer_region, region_lexer}
+use Rattle.grammar_reader_laws.proofs.Classes.{side_within, is_suffixed, is_looped, is_last, is_command, is_side, in_side, loop_region}
+use Rattle.grammar_reader_laws.proofs.Classes.{region_loop, last_region, region_last, arrow_region, region_arrow, suffix_region, name_region}
+use Rattle.grammar_reader_laws.proofs.Classes.{start_region, parser_region, region_parser, lexer_region, region_lexer}
 
 -- from a region to the words
 
@@ -50,7 +55,8 @@ within_words side (last other) s before e k = sided side other e k.0
 within_words side (command other) s before e k = sided side other e k.0
 within_words side _ s before e k = absurd (unsided side e)
 
-parser_named : {before : List Word} (start : List Word) (word : Word) → IsNameOf parsing word → before ≡ start ++ word ∷ [] → MayFollow start (word ∷ w.Colon ∷ []) → IsAfterParserName before
+parser_named : {before : List Word} (start : List Word) (word : Word) → IsNameOf parsing word → before ≡ start ++ word ∷ []
+    → MayFollow start (word ∷ w.Colon ∷ []) → IsAfterParserName before
 parser_named start _ lower c h = parser_name (record { start = start; cut = c; names = h })
 
 parser_within : {before : List Word} (word : Word) → IsNameOf parsing word → IsWithinRule word before → IsWithinParserRule before
@@ -78,7 +84,8 @@ head_ends : (side : Side) (p : Region) (part : List Word) → IsHead side p → 
 head_ends side _ part is_named = refl
 head_ends side _ part is_opening = refl
 
-opened_on : (side : Side) (p : Region) (options part : List Word) → IsHead side p → Without w.Colon options → region_from p (options ++ w.Colon ∷ part) ≡ region_from (body side) part
+opened_on : (side : Side) (p : Region) (options part : List Word) → IsHead side p → Without w.Colon options
+    → region_from p (options ++ w.Colon ∷ part) ≡ region_from (body side) part
 opened_on side p [] part i h = head_ends side p part i
 opened_on side p (word ∷ options) part i h = opened_on side (next p word) options part (head_on side p word i h.0) h.1
 
@@ -122,10 +129,12 @@ name_on _ _ lower = refl
 name_on _ _ upper = refl
 
 -- after the words from a rule's `:` on
-rule_on : {before : List Word} (side : Side) (word : Word) (r : IsWithinRule word before) → IsNameOf side word → region_from starting r.start ≡ between → side_within (region_from starting before) ≡ Some side
+rule_on : {before : List Word} (side : Side) (word : Word) (r : IsWithinRule word before) → IsNameOf side word → region_from starting r.start ≡ between
+    → side_within (region_from starting before) ≡ Some side
 rule_on {before} side word r i e =
     let whole : region_from starting before ≡ region_from (body side) r.part =
-    ap (region_from starting) r.cut ∙ region_append starting r.start (word ∷ (r.options ++ w.Colon ∷ r.part)) ∙ ap (λ p. region_from (next p word) (r.options ++ w.Colon ∷ r.part)) e
+    ap (region_from starting) r.cut ∙ region_append starting r.start (word ∷ (r.options ++ w.Colon ∷ r.part))
+    ∙ ap (λ p. region_from (next p word) (r.options ++ w.Colon ∷ r.part)) e
     ∙ ap (λ p. region_from p (r.options ++ w.Colon ∷ r.part)) (name_on side word i) ∙ opened_on side (named side) r.options r.part is_named r.closed in
     ap side_within whole ∙ side_on (body side) side r.part refl r.within
 
@@ -183,7 +192,8 @@ module _ (before : List Word) (s : m.State) (r : run 64 m.AtStart before ≡ Som
   pub parser_out : IsWithinParserRule before → at.within_parser_rule s ≡ true
   parser_out (parser_rule {n = n} k) =
       let st : Following k.start (w.Lower n ∷ w.Colon ∷ []) = following k.start (w.Lower n ∷ w.Colon ∷ []) k.names in
-      let e : side_within (region_from starting before) ≡ Some parsing = rule_on parsing (w.Lower n) k lower (between_at k.start (w.Lower n ∷ w.Colon ∷ []) st (lower_between st.state n st.goes_on)) in
+      let e : side_within (region_from starting before) ≡ Some parsing =
+      rule_on parsing (w.Lower n) k lower (between_at k.start (w.Lower n ∷ w.Colon ∷ []) st (lower_between st.state n st.goes_on)) in
       region_parser s (ap (λ p. in_side parsing p) (sym (region_read 64 before s r)) ∙ ap (is_side parsing) e)
 
   pub lexer_in : at.within_lexer_rule s ≡ true → IsWithinLexerRule before
@@ -192,7 +202,8 @@ module _ (before : List Word) (s : m.State) (r : run 64 m.AtStart before ≡ Som
   pub lexer_out : IsWithinLexerRule before → at.within_lexer_rule s ≡ true
   lexer_out (lexer_rule {n = n} k) =
       let st : Following k.start (w.Upper n ∷ w.Colon ∷ []) = following k.start (w.Upper n ∷ w.Colon ∷ []) k.names in
-      let e : side_within (region_from starting before) ≡ Some lexing = rule_on lexing (w.Upper n) k upper (between_at k.start (w.Upper n ∷ w.Colon ∷ []) st (upper_between st.state n st.goes_on)) in
+      let e : side_within (region_from starting before) ≡ Some lexing =
+      rule_on lexing (w.Upper n) k upper (between_at k.start (w.Upper n ∷ w.Colon ∷ []) st (upper_between st.state n st.goes_on)) in
       region_lexer s (ap (λ p. in_side lexing p) (sym (region_read 64 before s r)) ∙ ap (is_side lexing) e)
 
   pub arrow_in : at.after_arrow s ≡ true → IsAfterArrow before
@@ -233,15 +244,19 @@ module _ (before : List Word) (s : m.State) (r : run 64 m.AtStart before ≡ Som
       let q : Led l.to w.Question (word ∷ []) s = led l.to w.Question (word ∷ []) s l.remaining in
       let x : Led q.to word [] s = led q.to word [] s q.remaining in
       let e : m.step 64 q.to word ≡ Some s = subst (λ u. m.step 64 q.to word ≡ Some u) (at_end x.to s x.remaining) x.step in
-      let i : is_looped (region_of q.to) ≡ true = star_leads_on (region_of l.to) (region_of q.to) (suffix_region l.to (star_suffixes p.from l.to l.step)) (kept l.to q.to w.Question q.step) in
+      let i : is_looped (region_of q.to) ≡ true =
+      star_leads_on (region_of l.to) (region_of q.to) (suffix_region l.to (star_suffixes p.from l.to l.step)) (kept l.to q.to w.Question q.step) in
       let j : at.after_loop q.to ≡ true = region_loop q.to i in
-      region_last s (loop_leads_on (region_of q.to) (region_of s) word i (λ f. no_semicolon q.to s j (subst (λ u. m.step 64 q.to u ≡ Some s) f e)) (kept q.to s word e))
+      region_last s (loop_leads_on (region_of q.to) (region_of s) word i (λ f. no_semicolon q.to s j (subst (λ u. m.step 64 q.to u ≡ Some s) f e))
+      (kept q.to s word e))
 
   pub arrow_out : IsAfterArrow before → at.after_arrow s ≡ true
   arrow_out k =
       let p : Passed k.start (w.Arrow ∷ k.part) s = ending k.start (w.Arrow ∷ k.part) k.cut in
       let l : Led p.from w.Arrow k.part s = led p.from w.Arrow k.part s p.remaining in
-      region_arrow s (commanded (region_of l.to) (region_of s) k.part (arrow_region l.to (arrow_leads p.from l.to l.step)) k.same_alt k.same_rule (region_after 64 l.to s k.part l.remaining)) where
-        commanded : (p q : Region) (part : List Word) → is_command p ≡ true → Without w.Bar part → Without w.Semicolon part → region_from p part ≡ q → is_command q ≡ true
+      region_arrow s (commanded (region_of l.to) (region_of s) k.part (arrow_region l.to (arrow_leads p.from l.to l.step)) k.same_alt k.same_rule
+      (region_after 64 l.to s k.part l.remaining)) where
+        commanded : (p q : Region) (part : List Word) → is_command p ≡ true → Without w.Bar part → Without w.Semicolon part → region_from p part ≡ q
+            → is_command q ≡ true
         commanded (command side) q part h i j e = ap is_command (sym e ∙ command_on side part i j)
         commanded _ q part h i j e = cc h

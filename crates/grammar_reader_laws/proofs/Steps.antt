@@ -3,11 +3,19 @@ use Rattle.std.proofs.Common.{ℕ, ◌≡◌, Bool, true, false, List, [], ◌�
 use Rattle.grammar_tree.specs.Written.{Reference, WrittenTerm, LexerTerm, WrittenGrammar}
 use Rattle.grammar_reader_words.specs.declared.word.Word.{Word}
 use Rattle.grammar_reader_words.specs.declared.word.Word.TheVariants as w
-use Rattle.grammar_reader_notation.specs.Notation.{IsName, may_name_option, IsEntries, MayBeOptions, IsAlts, IsLexAlts, top, parser_rule, lexer_rule, IsTextOf, text}
+use Rattle.grammar_reader_notation.specs.Notation.{IsName, may_name_option, IsEntries, MayBeOptions, IsAlts, IsLexAlts}
+use Rattle.grammar_reader_notation.specs.Notation.{top, parser_rule, lexer_rule, IsTextOf, text}
 use Rattle.grammar_reader_notation.specs.Notation as n
-use Rattle.grammar_reader_machine.specs.Machine.{fresh, Head, ParserHead, LexerHead, Owner, OfText, OfRule, Body, ValueOf, InEntry, InOpening, State, with_rule, no_commands, step_start, step_name, step_semicolon, step_rule, step_prequel, step_options_brace, after_options, step_entry, step_entry_equals, step_value, step_after_value, step_path, step_path_name, step_tokens_brace, step_token, step_after_token, step_fragment, step_colon, step_head, step_opening_name, step_opening_equals, step}
+use Rattle.grammar_reader_machine.specs.Machine.{fresh, Head, ParserHead, LexerHead, Owner, OfText, OfRule, Body, ValueOf, InEntry, InOpening, State, with_rule}
+use Rattle.grammar_reader_machine.specs.Machine.{no_commands, step_start, step_name, step_semicolon, step_rule, step_prequel, step_options_brace, after_options}
+use Rattle.grammar_reader_machine.specs.Machine.{step_entry, step_entry_equals, step_value, step_after_value, step_path, step_path_name, step_tokens_brace}
+use Rattle.grammar_reader_machine.specs.Machine.{step_token, step_after_token, step_fragment, step_colon, step_head, step_opening_name, step_opening_equals}
+use Rattle.grammar_reader_machine.specs.Machine.{step}
 use Rattle.grammar_reader_machine.specs.Machine as m
-use Rattle.grammar_reader_laws.proofs.Rest.{RulesRest, TextRest, TokensRest, AfterTokenRest, Closes, Agrees, LexCloses, LexWithin, ColonRest, parser_colon, lexer_colon, AfterOptionsRest, EntriesRest, entries, HeadRest, ValueEndRest, entry_ends, opening_ends, ValueRest, value, PathRest, path, PathNameRest, path_name, EqualsRest, equals, OpeningNameRest, opening_name, OptionsBraceRest, options_brace, TokensBraceRest, tokens_brace, FragmentRest, fragment_name, WithinRest, Rest, Goes}
+use Rattle.grammar_reader_laws.proofs.Rest.{RulesRest, TextRest, TokensRest, AfterTokenRest, Closes, Agrees, LexCloses, LexWithin, ColonRest, parser_colon}
+use Rattle.grammar_reader_laws.proofs.Rest.{lexer_colon, AfterOptionsRest, EntriesRest, entries, HeadRest, ValueEndRest, entry_ends, opening_ends, ValueRest}
+use Rattle.grammar_reader_laws.proofs.Rest.{value, PathRest, path, PathNameRest, path_name, EqualsRest, equals, OpeningNameRest, opening_name, OptionsBraceRest}
+use Rattle.grammar_reader_laws.proofs.Rest.{options_brace, TokensBraceRest, tokens_brace, FragmentRest, fragment_name, WithinRest, Rest, Goes}
 use Rattle.grammar_reader_laws.proofs.Rest as r
 use Rattle.grammar_reader_laws.proofs.Unroll.{alts_in, alts_back, top_in, top_back, text_in, TextBack, text_back}
 use Rattle.grammar_reader_laws.proofs.ParserSteps as p
@@ -17,33 +25,40 @@ use Rattle.grammar_reader_laws.proofs.LexerSteps.{Alive, provided_on, from_provi
 module _ (d : ℕ) where
   -- The first alternatives of a rule, and the rest of the text
   colon_parser : (g : WrittenGrammar) (name : List ℕ) {body next : List Word} {alts : List (List WrittenTerm)} {G : WrittenGrammar} →
-      IsAlts true d body alts (w.Semicolon ∷ next) → RulesRest d (with_rule g (parser_rule name alts)) next G → ColonRest d g (ParserHead name) (w.Colon ∷ body) G
+      IsAlts true d body alts (w.Semicolon ∷ next) → RulesRest d (with_rule g (parser_rule name alts)) next G
+      → ColonRest d g (ParserHead name) (w.Colon ∷ body) G
   colon_parser g name alts x = parser_colon (alts_in d g name [] alts refl (r.rule_ends x))
 
   colon_lexer : (g : WrittenGrammar) (name : List ℕ) {gap : Bool} {body next : List Word} {alts : List (List LexerTerm)} {G : WrittenGrammar} →
-      IsLexAlts (top false gap) d body alts (w.Semicolon ∷ next) → RulesRest d (with_rule g (lexer_rule name false gap alts)) next G → ColonRest d g (LexerHead name false) (w.Colon ∷ body) G
+      IsLexAlts (top false gap) d body alts (w.Semicolon ∷ next) → RulesRest d (with_rule g (lexer_rule name false gap alts)) next G
+      → ColonRest d g (LexerHead name false) (w.Colon ∷ body) G
   colon_lexer g name alts x = lexer_colon (top_in d g name false [] refl tt alts (r.rule_ends x))
 
   colon_fragment : (g : WrittenGrammar) (name : List ℕ) {body next : List Word} {alts : List (List LexerTerm)} {G : WrittenGrammar} →
-      IsLexAlts (top true false) d body alts (w.Semicolon ∷ next) → RulesRest d (with_rule g (lexer_rule name true false alts)) next G → ColonRest d g (LexerHead name true) (w.Colon ∷ body) G
+      IsLexAlts (top true false) d body alts (w.Semicolon ∷ next) → RulesRest d (with_rule g (lexer_rule name true false alts)) next G
+      → ColonRest d g (LexerHead name true) (w.Colon ∷ body) G
   colon_fragment g name alts x = lexer_colon (top_in d g name true [] refl refl alts (r.rule_ends x))
 
-  headed : (g : WrittenGrammar) (head : Head) {words body : List Word} {G : WrittenGrammar} → MayBeOptions words (w.Colon ∷ body) → ColonRest d g head (w.Colon ∷ body) G → HeadRest d g head words G
+  headed : (g : WrittenGrammar) (head : Head) {words body : List Word} {G : WrittenGrammar} → MayBeOptions words (w.Colon ∷ body)
+      → ColonRest d g head (w.Colon ∷ body) G → HeadRest d g head words G
   headed g head n.no_options x = r.HeadRest.no_options x
   headed g head (n.some_options (n.options e)) x = r.HeadRest.options (entries e x)
 
-  pub complete_rule : (g : WrittenGrammar) {word : Word} {words : List Word} {G : WrittenGrammar} → RulesRest d g (word ∷ words) G → Goes d (step_rule g word) words G
+  pub complete_rule : (g : WrittenGrammar) {word : Word} {words : List Word} {G : WrittenGrammar} → RulesRest d g (word ∷ words) G
+      → Goes d (step_rule g word) words G
   complete_rule g r.rules_end = (refl, refl)
   complete_rule g (r.parser {n = k} o a x) = headed g (ParserHead k) o (colon_parser g k a x)
   complete_rule g (r.lexer {n = k} o a x) = headed g (LexerHead k false) o (colon_lexer g k a x)
   complete_rule g (r.fragment {n = k} o a x) = fragment_name (headed g (LexerHead k true) o (colon_fragment g k a x))
 
-  rule_on : (g : WrittenGrammar) (word : Word) (words : List Word) (G : WrittenGrammar) → Goes d (step_rule g word) words G → Goes d (step_prequel g word) words G
+  rule_on : (g : WrittenGrammar) (word : Word) (words : List Word) (G : WrittenGrammar) → Goes d (step_rule g word) words G
+      → Goes d (step_prequel g word) words G
   rule_on g w.Options words G h = absurd h
   rule_on g w.Tokens words G h = absurd h
   rule_on g _ words G h = h
 
-  complete_prequel : (g : WrittenGrammar) {word : Word} {words : List Word} {G : WrittenGrammar} → TextRest d g (word ∷ words) G → Goes d (step_prequel g word) words G
+  complete_prequel : (g : WrittenGrammar) {word : Word} {words : List Word} {G : WrittenGrammar} → TextRest d g (word ∷ words) G
+      → Goes d (step_prequel g word) words G
   complete_prequel g {word} {words} {G} (r.no_more x) = rule_on g word words G (complete_rule g x)
   complete_prequel g (r.TextRest.options e x) = options_brace (entries e x)
   complete_prequel g (r.tokens x) = tokens_brace x
@@ -56,10 +71,13 @@ module _ (d : ℕ) where
   owned_off g OfText words G x = x
   owned_off g (OfRule head) words G x = x
 
-  complete_entry : (g : WrittenGrammar) (o : Owner) {word : Word} {words : List Word} {G : WrittenGrammar} → EntriesRest d g o (word ∷ words) G → Goes d (step_entry g o word) words G
+  complete_entry : (g : WrittenGrammar) (o : Owner) {word : Word} {words : List Word} {G : WrittenGrammar} → EntriesRest d g o (word ∷ words) G
+      → Goes d (step_entry g o word) words G
   complete_entry g o {words = words} {G = G} (entries n.entries_end x) = owned_on g o words G x
-  complete_entry g o {words = words} {G = G} (entries (n.entry {n = k} n.upper h v e) x) = provided_on d words G (may_name_option k) (m.AtEntryEquals g o) h (equals (value v (entry_ends (entries e x))))
-  complete_entry g o {words = words} {G = G} (entries (n.entry {n = k} n.lower h v e) x) = provided_on d words G (may_name_option k) (m.AtEntryEquals g o) h (equals (value v (entry_ends (entries e x))))
+  complete_entry g o {words = words} {G = G} (entries (n.entry {n = k} n.upper h v e) x) =
+      provided_on d words G (may_name_option k) (m.AtEntryEquals g o) h (equals (value v (entry_ends (entries e x))))
+  complete_entry g o {words = words} {G = G} (entries (n.entry {n = k} n.lower h v e) x) =
+      provided_on d words G (may_name_option k) (m.AtEntryEquals g o) h (equals (value v (entry_ends (entries e x))))
 
   complete_value : (v : ValueOf) {word : Word} {words : List Word} {G : WrittenGrammar} → ValueRest d v (word ∷ words) G → Goes d (step_value v word) words G
   complete_value v (value (n.names n.upper q) x) = path q x
@@ -67,7 +85,8 @@ module _ (d : ℕ) where
   complete_value v (value n.literal x) = x
   complete_value v (value n.number x) = x
 
-  complete_after_value : (v : ValueOf) {word : Word} {words : List Word} {G : WrittenGrammar} → ValueEndRest d v (word ∷ words) G → Goes d (step_after_value v word) words G
+  complete_after_value : (v : ValueOf) {word : Word} {words : List Word} {G : WrittenGrammar} → ValueEndRest d v (word ∷ words) G
+      → Goes d (step_after_value v word) words G
   complete_after_value v (entry_ends x) = x
   complete_after_value v (opening_ends x) = x
 
@@ -80,19 +99,23 @@ module _ (d : ℕ) where
   complete_path v {word} {words} {G} (path n.path_ends x) = path_on v word words G (complete_after_value v x)
   complete_path v (path (n.path_goes_on i q) x) = path_name i (path q x)
 
-  complete_path_name : (v : ValueOf) {word : Word} {words : List Word} {G : WrittenGrammar} → PathNameRest d v (word ∷ words) G → Goes d (step_path_name v word) words G
+  complete_path_name : (v : ValueOf) {word : Word} {words : List Word} {G : WrittenGrammar} → PathNameRest d v (word ∷ words) G
+      → Goes d (step_path_name v word) words G
   complete_path_name v (path_name n.upper x) = x
   complete_path_name v (path_name n.lower x) = x
 
-  complete_colon : (g : WrittenGrammar) (head : Head) {word : Word} {words : List Word} {G : WrittenGrammar} → ColonRest d g head (word ∷ words) G → Goes d (step_colon d g head word) words G
+  complete_colon : (g : WrittenGrammar) (head : Head) {word : Word} {words : List Word} {G : WrittenGrammar} → ColonRest d g head (word ∷ words) G
+      → Goes d (step_colon d g head word) words G
   complete_colon g head (parser_colon x) = x
   complete_colon g head (lexer_colon x) = x
 
-  colon_on : (g : WrittenGrammar) (head : Head) (word : Word) (words : List Word) (G : WrittenGrammar) → Goes d (step_colon d g head word) words G → Goes d (step_head d g head word) words G
+  colon_on : (g : WrittenGrammar) (head : Head) (word : Word) (words : List Word) (G : WrittenGrammar) → Goes d (step_colon d g head word) words G
+      → Goes d (step_head d g head word) words G
   colon_on g head w.Options words G h = absurd h
   colon_on g head _ words G h = h
 
-  complete_head : (g : WrittenGrammar) (head : Head) {word : Word} {words : List Word} {G : WrittenGrammar} → HeadRest d g head (word ∷ words) G → Goes d (step_head d g head word) words G
+  complete_head : (g : WrittenGrammar) (head : Head) {word : Word} {words : List Word} {G : WrittenGrammar} → HeadRest d g head (word ∷ words) G
+      → Goes d (step_head d g head word) words G
   complete_head g head {word} {words} {G} (r.HeadRest.no_options x) = colon_on g head word words G (complete_colon g head x)
   complete_head g head (r.HeadRest.options x) = options_brace x
 
@@ -103,7 +126,8 @@ module _ (d : ℕ) where
   complete_text_name (text n.upper q x) = text n.upper q x
   complete_text_name (text n.lower q x) = text n.upper q x
 
-  complete_semicolon : (k : List ℕ) {word : Word} {words : List Word} {G : WrittenGrammar} → IsTextOf d (w.Grammar ∷ w.Upper k ∷ word ∷ words) G → Goes d (step_semicolon k word) words G
+  complete_semicolon : (k : List ℕ) {word : Word} {words : List Word} {G : WrittenGrammar} → IsTextOf d (w.Grammar ∷ w.Upper k ∷ word ∷ words) G
+      → Goes d (step_semicolon k word) words G
   complete_semicolon k (text n.upper q x) = text_in d k [] [] q x
 
   pub complete : (s : State) (word : Word) (words : List Word) (G : WrittenGrammar) → Rest d s (word ∷ words) G → Goes d (step d s word) words G
@@ -168,30 +192,40 @@ module _ (d : ℕ) where
   head_options g head (entries e (parser_colon {words = body} x)) = (body, (e, parser_colon x))
   head_options g head (entries e (lexer_colon {words = body} x)) = (body, (e, lexer_colon x))
 
-  parser_back : (g : WrittenGrammar) (name : List ℕ) {words body : List Word} {G : WrittenGrammar} → MayBeOptions words (w.Colon ∷ body) → ColonRest d g (ParserHead name) (w.Colon ∷ body) G → RulesRest d g (w.Lower name ∷ words) G
+  parser_back : (g : WrittenGrammar) (name : List ℕ) {words body : List Word} {G : WrittenGrammar} → MayBeOptions words (w.Colon ∷ body)
+      → ColonRest d g (ParserHead name) (w.Colon ∷ body) G → RulesRest d g (w.Lower name ∷ words) G
   parser_back g name {words} {body} {G} o (parser_colon x) =
       let back : (alts : List (List WrittenTerm)) × (mid : List Word) × IsAlts true d body alts mid × Closes d g name d [] alts mid G = alts_back d g name x in
       closed back.2 back.3 where
-        closed : {alts : List (List WrittenTerm)} {mid : List Word} → IsAlts true d body alts mid → Closes d g name d [] alts mid G → RulesRest d g (w.Lower name ∷ words) G
+        closed : {alts : List (List WrittenTerm)} {mid : List Word} → IsAlts true d body alts mid → Closes d g name d [] alts mid G
+            → RulesRest d g (w.Lower name ∷ words) G
         closed a (r.rule_ends y) = r.parser o a y
 
-  lexer_back : (g : WrittenGrammar) (name : List ℕ) {words body : List Word} {G : WrittenGrammar} → MayBeOptions words (w.Colon ∷ body) → ColonRest d g (LexerHead name false) (w.Colon ∷ body) G → RulesRest d g (w.Upper name ∷ words) G
+  lexer_back : (g : WrittenGrammar) (name : List ℕ) {words body : List Word} {G : WrittenGrammar} → MayBeOptions words (w.Colon ∷ body)
+      → ColonRest d g (LexerHead name false) (w.Colon ∷ body) G → RulesRest d g (w.Upper name ∷ words) G
   lexer_back g name {words} {body} {G} o (lexer_colon x) =
-      let back : (gap : Bool) × (alts : List (List LexerTerm)) × (mid : List Word) × Agrees None gap × IsLexAlts (top false gap) d body alts mid × LexCloses d g name false (Some gap) d [] alts mid G = top_back d g name false x in
+      let back : (gap : Bool) × (alts : List (List LexerTerm)) × (mid : List Word) × Agrees None gap × IsLexAlts (top false gap) d body alts mid
+      × LexCloses d g name false (Some gap) d [] alts mid G = top_back d g name false x in
       closed back.4 back.5 where
-        closed : {gap : Bool} {alts : List (List LexerTerm)} {mid : List Word} → IsLexAlts (top false gap) d body alts mid → LexCloses d g name false (Some gap) d [] alts mid G → RulesRest d g (w.Upper name ∷ words) G
+        closed : {gap : Bool} {alts : List (List LexerTerm)} {mid : List Word} → IsLexAlts (top false gap) d body alts mid
+            → LexCloses d g name false (Some gap) d [] alts mid G → RulesRest d g (w.Upper name ∷ words) G
         closed a (r.rule_ends y) = r.lexer o a y
 
-  fragment_back : (g : WrittenGrammar) (name : List ℕ) {words body : List Word} {G : WrittenGrammar} → MayBeOptions words (w.Colon ∷ body) → ColonRest d g (LexerHead name true) (w.Colon ∷ body) G → RulesRest d g (w.Fragment ∷ w.Upper name ∷ words) G
+  fragment_back : (g : WrittenGrammar) (name : List ℕ) {words body : List Word} {G : WrittenGrammar} → MayBeOptions words (w.Colon ∷ body)
+      → ColonRest d g (LexerHead name true) (w.Colon ∷ body) G → RulesRest d g (w.Fragment ∷ w.Upper name ∷ words) G
   fragment_back g name {words} {body} {G} o (lexer_colon x) =
-      let back : (gap : Bool) × (alts : List (List LexerTerm)) × (mid : List Word) × Agrees (Some false) gap × IsLexAlts (top true gap) d body alts mid × LexCloses d g name true (Some gap) d [] alts mid G = top_back d g name true x in
-      let plain : LexCloses d g name true (Some false) d [] back.1 back.2 G = subst (λ k. LexCloses d g name true (Some k) d [] back.1 back.2 G) (sym back.3) back.5 in
+      let back : (gap : Bool) × (alts : List (List LexerTerm)) × (mid : List Word) × Agrees (Some false) gap × IsLexAlts (top true gap) d body alts mid
+      × LexCloses d g name true (Some gap) d [] alts mid G = top_back d g name true x in
+      let plain : LexCloses d g name true (Some false) d [] back.1 back.2 G =
+      subst (λ k. LexCloses d g name true (Some k) d [] back.1 back.2 G) (sym back.3) back.5 in
       closed (subst (λ k. IsLexAlts (top true k) d body back.1 back.2) (sym back.3) back.4) plain where
-        closed : {alts : List (List LexerTerm)} {mid : List Word} → IsLexAlts (top true false) d body alts mid → LexCloses d g name true (Some false) d [] alts mid G → RulesRest d g (w.Fragment ∷ w.Upper name ∷ words) G
+        closed : {alts : List (List LexerTerm)} {mid : List Word} → IsLexAlts (top true false) d body alts mid
+            → LexCloses d g name true (Some false) d [] alts mid G → RulesRest d g (w.Fragment ∷ w.Upper name ∷ words) G
         closed a (r.rule_ends y) = r.fragment o a y
 
   -- with and without options
-  opened_head : (g : WrittenGrammar) (head : Head) {words : List Word} {G : WrittenGrammar} → HeadRest d g head words G → (body : List Word) × (MayBeOptions words (w.Colon ∷ body) × ColonRest d g head (w.Colon ∷ body) G)
+  opened_head : (g : WrittenGrammar) (head : Head) {words : List Word} {G : WrittenGrammar} → HeadRest d g head words G → (body : List Word)
+      × (MayBeOptions words (w.Colon ∷ body) × ColonRest d g head (w.Colon ∷ body) G)
   opened_head g head (r.HeadRest.no_options (parser_colon {words = body} x)) = (body, (n.no_options, parser_colon x))
   opened_head g head (r.HeadRest.no_options (lexer_colon {words = body} x)) = (body, (n.no_options, lexer_colon x))
   opened_head g head {G = G} (r.HeadRest.options {words = words} e) =
@@ -200,7 +234,8 @@ module _ (d : ℕ) where
 
   from_fragment : (g : WrittenGrammar) {words : List Word} {G : WrittenGrammar} → FragmentRest d g words G → RulesRest d g (w.Fragment ∷ words) G
   from_fragment g {G = G} (fragment_name {n = k} {words = words} x) =
-      let o : (body : List Word) × (MayBeOptions words (w.Colon ∷ body) × ColonRest d g (LexerHead k true) (w.Colon ∷ body) G) = opened_head g (LexerHead k true) x in
+      let o : (body : List Word) × (MayBeOptions words (w.Colon ∷ body) × ColonRest d g (LexerHead k true) (w.Colon ∷ body) G) =
+      opened_head g (LexerHead k true) x in
       fragment_back g k o.1.0 o.1.1
 
   from_end : (g : WrittenGrammar) (words : List Word) (G : WrittenGrammar) → words ≡ [] → G ≡ g → RulesRest d g (w.End ∷ words) G
@@ -208,9 +243,11 @@ module _ (d : ℕ) where
 
   sound_rule : (g : WrittenGrammar) (word : Word) (words : List Word) (G : WrittenGrammar) → Goes d (step_rule g word) words G → RulesRest d g (word ∷ words) G
   sound_rule g (w.Lower k) words G h =
-      let o : (body : List Word) × (MayBeOptions words (w.Colon ∷ body) × ColonRest d g (ParserHead k) (w.Colon ∷ body) G) = opened_head g (ParserHead k) h in parser_back g k o.1.0 o.1.1
+      let o : (body : List Word) × (MayBeOptions words (w.Colon ∷ body) × ColonRest d g (ParserHead k) (w.Colon ∷ body) G) =
+      opened_head g (ParserHead k) h in parser_back g k o.1.0 o.1.1
   sound_rule g (w.Upper k) words G h =
-      let o : (body : List Word) × (MayBeOptions words (w.Colon ∷ body) × ColonRest d g (LexerHead k false) (w.Colon ∷ body) G) = opened_head g (LexerHead k false) h in lexer_back g k o.1.0 o.1.1
+      let o : (body : List Word) × (MayBeOptions words (w.Colon ∷ body) × ColonRest d g (LexerHead k false) (w.Colon ∷ body) G) =
+      opened_head g (LexerHead k false) h in lexer_back g k o.1.0 o.1.1
   sound_rule g w.Fragment words G h = from_fragment g h
   sound_rule g w.End words G h = from_end g words G h.0 h.1
   sound_rule g _ words G h = absurd h
@@ -221,21 +258,27 @@ module _ (d : ℕ) where
   from_tokens : (g : WrittenGrammar) {words : List Word} {G : WrittenGrammar} → TokensBraceRest d g words G → TextRest d g (w.Tokens ∷ words) G
   from_tokens g (tokens_brace x) = r.tokens x
 
-  sound_prequel : (g : WrittenGrammar) (word : Word) (words : List Word) (G : WrittenGrammar) → Goes d (step_prequel g word) words G → TextRest d g (word ∷ words) G
+  sound_prequel : (g : WrittenGrammar) (word : Word) (words : List Word) (G : WrittenGrammar) → Goes d (step_prequel g word) words G
+      → TextRest d g (word ∷ words) G
   sound_prequel g w.Options words G h = from_options g h
   sound_prequel g w.Tokens words G h = from_tokens g h
   sound_prequel g word words G h = r.no_more (sound_rule g word words G h)
 
-  from_entry : (g : WrittenGrammar) (o : Owner) {word : Word} {k : List ℕ} {words : List Word} {G : WrittenGrammar} → IsName word k → may_name_option k ≡ true → EqualsRest d (InEntry g o) words G → EntriesRest d g o (word ∷ words) G
+  from_entry : (g : WrittenGrammar) (o : Owner) {word : Word} {k : List ℕ} {words : List Word} {G : WrittenGrammar} → IsName word k → may_name_option k ≡ true
+      → EqualsRest d (InEntry g o) words G → EntriesRest d g o (word ∷ words) G
   from_entry g o i h (equals (value v (entry_ends (entries e x)))) = entries (n.entry i h v e) x
 
-  sound_entry : (g : WrittenGrammar) (o : Owner) (word : Word) (words : List Word) (G : WrittenGrammar) → Goes d (step_entry g o word) words G → EntriesRest d g o (word ∷ words) G
-  sound_entry g o (w.Upper k) words G h = from_provided d words G (may_name_option k) (m.AtEntryEquals g o) (EntriesRest d g o (w.Upper k ∷ words) G) (λ e x. from_entry g o n.upper e x) h
-  sound_entry g o (w.Lower k) words G h = from_provided d words G (may_name_option k) (m.AtEntryEquals g o) (EntriesRest d g o (w.Lower k ∷ words) G) (λ e x. from_entry g o n.lower e x) h
+  sound_entry : (g : WrittenGrammar) (o : Owner) (word : Word) (words : List Word) (G : WrittenGrammar) → Goes d (step_entry g o word) words G
+      → EntriesRest d g o (word ∷ words) G
+  sound_entry g o (w.Upper k) words G h =
+      from_provided d words G (may_name_option k) (m.AtEntryEquals g o) (EntriesRest d g o (w.Upper k ∷ words) G) (λ e x. from_entry g o n.upper e x) h
+  sound_entry g o (w.Lower k) words G h =
+      from_provided d words G (may_name_option k) (m.AtEntryEquals g o) (EntriesRest d g o (w.Lower k ∷ words) G) (λ e x. from_entry g o n.lower e x) h
   sound_entry g o w.CloseBrace words G h = entries n.entries_end (owned_off g o words G h)
   sound_entry g o _ words G h = absurd h
 
-  from_path : (v : ValueOf) {word : Word} {k : List ℕ} {words : List Word} {G : WrittenGrammar} → IsName word k → PathRest d v words G → ValueRest d v (word ∷ words) G
+  from_path : (v : ValueOf) {word : Word} {k : List ℕ} {words : List Word} {G : WrittenGrammar} → IsName word k → PathRest d v words G
+      → ValueRest d v (word ∷ words) G
   from_path v i (path q x) = value (n.names i q) x
 
   sound_value : (v : ValueOf) (word : Word) (words : List Word) (G : WrittenGrammar) → Goes d (step_value v word) words G → ValueRest d v (word ∷ words) G
@@ -245,7 +288,8 @@ module _ (d : ℕ) where
   sound_value v w.Number words G h = value n.number h
   sound_value v _ words G h = absurd h
 
-  sound_after_value : (v : ValueOf) (word : Word) (words : List Word) (G : WrittenGrammar) → Goes d (step_after_value v word) words G → ValueEndRest d v (word ∷ words) G
+  sound_after_value : (v : ValueOf) (word : Word) (words : List Word) (G : WrittenGrammar) → Goes d (step_after_value v word) words G
+      → ValueEndRest d v (word ∷ words) G
   sound_after_value (InEntry g o) w.Semicolon words G h = entry_ends h
   sound_after_value (InOpening b) w.Greater words G h = opening_ends h
   sound_after_value (InEntry g o) _ words G h = absurd h
@@ -258,21 +302,25 @@ module _ (d : ℕ) where
   sound_path v w.Dot words G h = more_path v h
   sound_path v word words G h = path n.path_ends (sound_after_value v word words G h)
 
-  sound_path_name : (v : ValueOf) (word : Word) (words : List Word) (G : WrittenGrammar) → Goes d (step_path_name v word) words G → PathNameRest d v (word ∷ words) G
+  sound_path_name : (v : ValueOf) (word : Word) (words : List Word) (G : WrittenGrammar) → Goes d (step_path_name v word) words G
+      → PathNameRest d v (word ∷ words) G
   sound_path_name v (w.Upper k) words G h = path_name n.upper h
   sound_path_name v (w.Lower k) words G h = path_name n.lower h
   sound_path_name v _ words G h = absurd h
 
-  sound_colon : (g : WrittenGrammar) (head : Head) (word : Word) (words : List Word) (G : WrittenGrammar) → Goes d (step_colon d g head word) words G → ColonRest d g head (word ∷ words) G
+  sound_colon : (g : WrittenGrammar) (head : Head) (word : Word) (words : List Word) (G : WrittenGrammar) → Goes d (step_colon d g head word) words G
+      → ColonRest d g head (word ∷ words) G
   sound_colon g (ParserHead k) w.Colon words G h = parser_colon h
   sound_colon g (LexerHead k f) w.Colon words G h = lexer_colon h
   sound_colon g (ParserHead k) _ words G h = absurd h
   sound_colon g (LexerHead k f) _ words G h = absurd h
 
-  more_head : (g : WrittenGrammar) (head : Head) {words : List Word} {G : WrittenGrammar} → OptionsBraceRest d g (OfRule head) words G → HeadRest d g head (w.Options ∷ words) G
+  more_head : (g : WrittenGrammar) (head : Head) {words : List Word} {G : WrittenGrammar} → OptionsBraceRest d g (OfRule head) words G
+      → HeadRest d g head (w.Options ∷ words) G
   more_head g head (options_brace x) = r.HeadRest.options x
 
-  sound_head : (g : WrittenGrammar) (head : Head) (word : Word) (words : List Word) (G : WrittenGrammar) → Goes d (step_head d g head word) words G → HeadRest d g head (word ∷ words) G
+  sound_head : (g : WrittenGrammar) (head : Head) (word : Word) (words : List Word) (G : WrittenGrammar) → Goes d (step_head d g head word) words G
+      → HeadRest d g head (word ∷ words) G
   sound_head g head w.Options words G h = more_head g head h
   sound_head g head word words G h = r.HeadRest.no_options (sound_colon g head word words G h)
 
@@ -288,44 +336,53 @@ module _ (d : ℕ) where
   sound_text_name (w.Lower k) words G h = as_lower k h
   sound_text_name _ words G h = absurd h
 
-  sound_semicolon : (k : List ℕ) (word : Word) (words : List Word) (G : WrittenGrammar) → Goes d (step_semicolon k word) words G → IsTextOf d (w.Grammar ∷ w.Upper k ∷ word ∷ words) G
+  sound_semicolon : (k : List ℕ) (word : Word) (words : List Word) (G : WrittenGrammar) → Goes d (step_semicolon k word) words G
+      → IsTextOf d (w.Grammar ∷ w.Upper k ∷ word ∷ words) G
   sound_semicolon k w.Semicolon words G h =
       let b : TextBack d (record { name = k; tokens = []; rules = [] }) words G = text_back d h in
       subst (λ g. IsTextOf d (w.Grammar ∷ w.Upper k ∷ w.Semicolon ∷ words) g) (sym b.same) (text n.upper b.prequels b.read)
   sound_semicolon k _ words G h = absurd h
 
-  sound_options_brace : (g : WrittenGrammar) (o : Owner) (word : Word) (words : List Word) (G : WrittenGrammar) → Goes d (step_options_brace g o word) words G → OptionsBraceRest d g o (word ∷ words) G
+  sound_options_brace : (g : WrittenGrammar) (o : Owner) (word : Word) (words : List Word) (G : WrittenGrammar) → Goes d (step_options_brace g o word) words G
+      → OptionsBraceRest d g o (word ∷ words) G
   sound_options_brace g o w.OpenBrace words G h = options_brace h
   sound_options_brace g o _ words G h = absurd h
 
-  sound_entry_equals : (g : WrittenGrammar) (o : Owner) (word : Word) (words : List Word) (G : WrittenGrammar) → Goes d (step_entry_equals g o word) words G → EqualsRest d (InEntry g o) (word ∷ words) G
+  sound_entry_equals : (g : WrittenGrammar) (o : Owner) (word : Word) (words : List Word) (G : WrittenGrammar) → Goes d (step_entry_equals g o word) words G
+      → EqualsRest d (InEntry g o) (word ∷ words) G
   sound_entry_equals g o w.Equals words G h = equals h
   sound_entry_equals g o _ words G h = absurd h
 
-  sound_opening_equals : (b : Body) (word : Word) (words : List Word) (G : WrittenGrammar) → Goes d (step_opening_equals b word) words G → EqualsRest d (InOpening b) (word ∷ words) G
+  sound_opening_equals : (b : Body) (word : Word) (words : List Word) (G : WrittenGrammar) → Goes d (step_opening_equals b word) words G
+      → EqualsRest d (InOpening b) (word ∷ words) G
   sound_opening_equals b w.Equals words G h = equals h
   sound_opening_equals b _ words G h = absurd h
 
-  sound_opening_name : (b : Body) (word : Word) (words : List Word) (G : WrittenGrammar) → Goes d (step_opening_name b word) words G → OpeningNameRest d b (word ∷ words) G
+  sound_opening_name : (b : Body) (word : Word) (words : List Word) (G : WrittenGrammar) → Goes d (step_opening_name b word) words G
+      → OpeningNameRest d b (word ∷ words) G
   sound_opening_name b (w.Upper k) words G h = opening_name n.upper h
   sound_opening_name b (w.Lower k) words G h = opening_name n.lower h
   sound_opening_name b _ words G h = absurd h
 
-  sound_tokens_brace : (g : WrittenGrammar) (word : Word) (words : List Word) (G : WrittenGrammar) → Goes d (step_tokens_brace g word) words G → TokensBraceRest d g (word ∷ words) G
+  sound_tokens_brace : (g : WrittenGrammar) (word : Word) (words : List Word) (G : WrittenGrammar) → Goes d (step_tokens_brace g word) words G
+      → TokensBraceRest d g (word ∷ words) G
   sound_tokens_brace g w.OpenBrace words G h = tokens_brace h
   sound_tokens_brace g _ words G h = absurd h
 
-  sound_token : (g : WrittenGrammar) (word : Word) (words : List Word) (G : WrittenGrammar) → Goes d (step_token g word) words G → TokensRest d g (word ∷ words) G
+  sound_token : (g : WrittenGrammar) (word : Word) (words : List Word) (G : WrittenGrammar) → Goes d (step_token g word) words G
+      → TokensRest d g (word ∷ words) G
   sound_token g (w.Upper k) words G h = r.token h
   sound_token g w.CloseBrace words G h = r.tokens_end h
   sound_token g _ words G h = absurd h
 
-  sound_after_token : (g : WrittenGrammar) (word : Word) (words : List Word) (G : WrittenGrammar) → Goes d (step_after_token g word) words G → AfterTokenRest d g (word ∷ words) G
+  sound_after_token : (g : WrittenGrammar) (word : Word) (words : List Word) (G : WrittenGrammar) → Goes d (step_after_token g word) words G
+      → AfterTokenRest d g (word ∷ words) G
   sound_after_token g w.Comma words G h = r.comma h
   sound_after_token g w.CloseBrace words G h = r.last h
   sound_after_token g _ words G h = absurd h
 
-  sound_fragment : (g : WrittenGrammar) (word : Word) (words : List Word) (G : WrittenGrammar) → Goes d (step_fragment g word) words G → FragmentRest d g (word ∷ words) G
+  sound_fragment : (g : WrittenGrammar) (word : Word) (words : List Word) (G : WrittenGrammar) → Goes d (step_fragment g word) words G
+      → FragmentRest d g (word ∷ words) G
   sound_fragment g (w.Upper k) words G h = fragment_name h
   sound_fragment g _ words G h = absurd h
 
@@ -393,7 +450,8 @@ module _ (d : ℕ) where
   alive_colon g (ParserHead k) =
       let rest : Alive (r.Within d g k d [] fresh) = p.alive_within d g k d [] fresh in (w.Colon ∷ rest.0, rest.1, parser_colon (r.opens n.no_opening rest.2))
   alive_colon g (LexerHead k f) =
-      let rest : Alive (LexWithin d g k f (no_commands f) d [] fresh) = l.alive_lex d g k f (no_commands f) d [] fresh in (w.Colon ∷ rest.0, rest.1, lexer_colon rest.2)
+      let rest : Alive (LexWithin d g k f (no_commands f) d [] fresh) =
+      l.alive_lex d g k f (no_commands f) d [] fresh in (w.Colon ∷ rest.0, rest.1, lexer_colon rest.2)
 
   alive_head : (g : WrittenGrammar) (head : Head) → Alive (HeadRest d g head)
   alive_head g head = let rest : Alive (ColonRest d g head) = alive_colon g head in (rest.0, rest.1, r.HeadRest.no_options rest.2)
@@ -419,7 +477,8 @@ module _ (d : ℕ) where
   alive_equals v = let rest : Alive (ValueEndRest d v) = alive_value_end v in (w.Equals ∷ w.Number ∷ rest.0, rest.1, equals (value n.number rest.2))
 
   pub alive : (s : State) → Alive (Rest d s)
-  alive m.AtStart = (w.Grammar ∷ w.Upper (65 ∷ []) ∷ w.Semicolon ∷ w.End ∷ [], record { name = 65 ∷ []; tokens = []; rules = [] }, text n.upper n.no_prequel n.end)
+  alive m.AtStart =
+      (w.Grammar ∷ w.Upper (65 ∷ []) ∷ w.Semicolon ∷ w.End ∷ [], record { name = 65 ∷ []; tokens = []; rules = [] }, text n.upper n.no_prequel n.end)
   alive m.AtName = (w.Upper (65 ∷ []) ∷ w.Semicolon ∷ w.End ∷ [], record { name = 65 ∷ []; tokens = []; rules = [] }, text n.upper n.no_prequel n.end)
   alive (m.AtSemicolon k) = (w.Semicolon ∷ w.End ∷ [], record { name = k; tokens = []; rules = [] }, text n.upper n.no_prequel n.end)
   alive (m.AtPrequel g) = alive_text g
@@ -434,27 +493,36 @@ module _ (d : ℕ) where
   alive (m.AtTokensBrace g) = (w.OpenBrace ∷ w.CloseBrace ∷ w.End ∷ [], g, tokens_brace (r.tokens_end (r.no_more r.rules_end)))
   alive (m.AtToken g) = (w.CloseBrace ∷ w.End ∷ [], g, r.tokens_end (r.no_more r.rules_end))
   alive (m.AfterToken g) = (w.CloseBrace ∷ w.End ∷ [], g, r.last (r.no_more r.rules_end))
-  alive (m.AtFragmentName g) = let rest : Alive (HeadRest d g (LexerHead (65 ∷ []) true)) = alive_head g (LexerHead (65 ∷ []) true) in (w.Upper (65 ∷ []) ∷ rest.0, rest.1, fragment_name rest.2)
+  alive (m.AtFragmentName g) = let rest : Alive (HeadRest d g (LexerHead (65 ∷ []) true)) =
+      alive_head g (LexerHead (65 ∷ []) true) in (w.Upper (65 ∷ []) ∷ rest.0, rest.1, fragment_name rest.2)
   alive (m.AtHead g head) = alive_head g head
   alive (m.AtColon g head) = alive_colon g head
   alive (m.AtAlt b) = let rest : Alive (WithinRest d b) = alive_body b in (rest.0, rest.1, r.opens n.no_opening rest.2)
-  alive (m.AtOpeningName b) = let rest : Alive (EqualsRest d (InOpening b)) = alive_equals (InOpening b) in (w.Lower (97 ∷ []) ∷ rest.0, rest.1, opening_name n.lower rest.2)
+  alive (m.AtOpeningName b) = let rest : Alive (EqualsRest d (InOpening b)) =
+      alive_equals (InOpening b) in (w.Lower (97 ∷ []) ∷ rest.0, rest.1, opening_name n.lower rest.2)
   alive (m.AtOpeningEquals b) = alive_equals (InOpening b)
   alive (m.InElements b) = alive_body b
   alive (m.Suffixed b) = alive_body b
-  alive (m.AfterName b t) = let rest : Alive (r.AfterRest d b t) = p.alive_after d b.text b.name b.blocks_left b.enclosing b.current t in (rest.0, rest.1, r.NameRest.no_label rest.2)
+  alive (m.AfterName b t) = let rest : Alive (r.AfterRest d b t) =
+      p.alive_after d b.text b.name b.blocks_left b.enclosing b.current t in (rest.0, rest.1, r.NameRest.no_label rest.2)
   alive (m.AtAtom b) =
-      let rest : Alive (r.AfterRest d b WrittenTerm.any) = p.alive_after d b.text b.name b.blocks_left b.enclosing b.current WrittenTerm.any in (w.Dot ∷ rest.0, rest.1, r.atom (n.simple n.dot) rest.2)
+      let rest : Alive (r.AfterRest d b WrittenTerm.any) =
+      p.alive_after d b.text b.name b.blocks_left b.enclosing b.current WrittenTerm.any in (w.Dot ∷ rest.0, rest.1, r.atom (n.simple n.dot) rest.2)
   alive (m.AfterAtom b t) = p.alive_after d b.text b.name b.blocks_left b.enclosing b.current t
   alive (m.AtRef b) =
       let t : WrittenTerm = WrittenTerm.but (Reference.literal (120 ∷ []) ∷ []) in
-      let rest : Alive (r.AfterRest d b t) = p.alive_after d b.text b.name b.blocks_left b.enclosing b.current t in (w.Literal (120 ∷ []) ∷ rest.0, rest.1, r.ref n.ref_literal rest.2)
+      let rest : Alive (r.AfterRest d b t) =
+      p.alive_after d b.text b.name b.blocks_left b.enclosing b.current t in (w.Literal (120 ∷ []) ∷ rest.0, rest.1, r.ref n.ref_literal rest.2)
   alive (m.AtRefIn b rs) =
       let t : WrittenTerm = WrittenTerm.but (rs ++ Reference.literal (120 ∷ []) ∷ []) in
-      let rest : Alive (r.AfterRest d b t) = p.alive_after d b.text b.name b.blocks_left b.enclosing b.current t in (w.Literal (120 ∷ []) ∷ w.Close ∷ rest.0, rest.1, r.ref_in n.ref_literal (r.refs_end rest.2))
+      let rest : Alive (r.AfterRest d b t) =
+      p.alive_after d b.text b.name b.blocks_left b.enclosing b.current t in
+      (w.Literal (120 ∷ []) ∷ w.Close ∷ rest.0, rest.1, r.ref_in n.ref_literal (r.refs_end rest.2))
   alive (m.AfterRef b rs) =
-      let rest : Alive (r.AfterRest d b (WrittenTerm.but rs)) = p.alive_after d b.text b.name b.blocks_left b.enclosing b.current (WrittenTerm.but rs) in (w.Close ∷ rest.0, rest.1, r.refs_end rest.2)
-  alive (m.AtAltName b) = let rest : Alive (r.AltEndRest d b) = p.alive_alt_end d b.text b.name b.blocks_left b.enclosing b.current in (w.Lower (97 ∷ []) ∷ rest.0, rest.1, r.alt_name n.lower rest.2)
+      let rest : Alive (r.AfterRest d b (WrittenTerm.but rs)) =
+      p.alive_after d b.text b.name b.blocks_left b.enclosing b.current (WrittenTerm.but rs) in (w.Close ∷ rest.0, rest.1, r.refs_end rest.2)
+  alive (m.AtAltName b) = let rest : Alive (r.AltEndRest d b) =
+      p.alive_alt_end d b.text b.name b.blocks_left b.enclosing b.current in (w.Lower (97 ∷ []) ∷ rest.0, rest.1, r.alt_name n.lower rest.2)
   alive (m.AfterAltName b) = p.alive_alt_end d b.text b.name b.blocks_left b.enclosing b.current
   alive (m.InLex b) = l.alive_lex d b.text b.name b.fragment b.known b.blocks_left b.enclosing b.current
   alive (m.LexSuffixed b) = l.alive_lex d b.text b.name b.fragment b.known b.blocks_left b.enclosing b.current

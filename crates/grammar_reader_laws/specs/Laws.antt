@@ -16,7 +16,8 @@ TextsAreRead = (words : List Word) (G : WrittenGrammar) → run 64 AtStart words
 
 -- At the end of a text the machine has the grammar that it spells.
 abbrev pub TextsEnd : Type 0
-TextsEnd = (before : List Word) (s : State) (G : WrittenGrammar) → run 64 AtStart before ≡ Some s → IsText (before ++ w.End ∷ []) G → step 64 s w.End ≡ Some (AtEnd G)
+TextsEnd =
+    (before : List Word) (s : State) (G : WrittenGrammar) → run 64 AtStart before ≡ Some s → IsText (before ++ w.End ∷ []) G → step 64 s w.End ≡ Some (AtEnd G)
 
 -- Words after which the machine goes on begin a text.
 abbrev pub GoesOnInTexts : Type 0
@@ -28,4 +29,6 @@ StopsOutside = (words : List Word) → run 64 AtStart words ≡ None → ¬ Begi
 
 -- A word that can't follow is called what the notation calls it.
 abbrev pub FaultsAreNamed : Type 0
-FaultsAreNamed = (before : List Word) (s : State) (current : Placed) → run 64 AtStart before ≡ Some s → step 64 s current.word ≡ None → IsNamed before current (fault_at s current.word current.offset)
+FaultsAreNamed =
+    (before : List Word) (s : State) (current : Placed) → run 64 AtStart before ≡ Some s → step 64 s current.word ≡ None
+    → IsNamed before current (fault_at s current.word current.offset)

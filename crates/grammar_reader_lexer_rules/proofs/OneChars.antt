@@ -41,7 +41,8 @@ no_end go first [] h = refl
 no_end go first (c ∷ []) h = cc h
 no_end go first (c ∷ (e ∷ es)) h = refl
 
-pub one_end : (go : ℕ → m.State) (first : ℕ) (text : List ℕ) (c : ℕ) → Some c ≡ only_char text → m.end_of_range go first text ≡ m.provided (nat_le first c) (go c)
+pub one_end : (go : ℕ → m.State) (first : ℕ) (text : List ℕ) (c : ℕ) → Some c ≡ only_char text
+    → m.end_of_range go first text ≡ m.provided (nat_le first c) (go c)
 one_end go first [] c h = cc h
 one_end go first (x ∷ []) c h = let e : c ≡ x = cc h in ap (λ k. m.provided (nat_le first k) (go k)) (sym e)
 one_end go first (x ∷ (e ∷ es)) c h = cc h

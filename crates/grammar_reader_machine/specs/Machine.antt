@@ -218,7 +218,8 @@ no_commands false = None
 
 abbrev pub body_at : ℕ → WrittenGrammar → Head → State
 body_at depth g (ParserHead n) = AtAlt (record { text = g; name = n; blocks_left = depth; enclosing = []; current = fresh })
-body_at depth g (LexerHead n fragment) = InLex (record { text = g; name = n; fragment = fragment; known = no_commands fragment; blocks_left = depth; enclosing = []; current = fresh })
+body_at depth g (LexerHead n fragment) =
+    InLex (record { text = g; name = n; fragment = fragment; known = no_commands fragment; blocks_left = depth; enclosing = []; current = fresh })
 
 abbrev pub step_colon : ℕ → WrittenGrammar → Head → Word → Option State
 step_colon depth g head w.Colon = Some (body_at depth g head)
@@ -235,12 +236,14 @@ add b t = record { text = b.text; name = b.name; blocks_left = b.blocks_left; en
 
 abbrev pub with_block : Body → ℕ → Option State
 with_block b zero = None
-with_block b (suc blocks_left) = Some (AtAlt (record { text = b.text; name = b.name; blocks_left = blocks_left; enclosing = b.current ∷ b.enclosing; current = fresh }))
+with_block b (suc blocks_left) =
+    Some (AtAlt (record { text = b.text; name = b.name; blocks_left = blocks_left; enclosing = b.current ∷ b.enclosing; current = fresh }))
 
 abbrev pub block_end : Body → List (Frame WrittenTerm) → Option State
 block_end b [] = None
 block_end b (f ∷ enclosing) =
-    Some (AfterAtom (record { text = b.text; name = b.name; blocks_left = suc b.blocks_left; enclosing = enclosing; current = f }) (WrittenTerm.block (written_alts (whole b.current))))
+    Some (AfterAtom (record { text = b.text; name = b.name; blocks_left = suc b.blocks_left; enclosing = enclosing; current = f })
+    (WrittenTerm.block (written_alts (whole b.current))))
 
 abbrev pub rule_end : Body → List (Frame WrittenTerm) → Option State
 rule_end b [] = Some (AtRule (with_rule b.text (parser_rule b.name (whole b.current))))
@@ -328,7 +331,8 @@ step_alt_name b _ = None
 -- Lexer rules
 
 abbrev pub lex_with : LexBody → Frame LexerTerm → LexBody
-lex_with b f = record { text = b.text; name = b.name; fragment = b.fragment; known = b.known; blocks_left = b.blocks_left; enclosing = b.enclosing; current = f }
+lex_with b f =
+    record { text = b.text; name = b.name; fragment = b.fragment; known = b.known; blocks_left = b.blocks_left; enclosing = b.enclosing; current = f }
 
 abbrev pub lex_add : LexBody → LexerTerm → LexBody
 lex_add b t = lex_with b (with_term b.current t)
@@ -336,17 +340,39 @@ lex_add b t = lex_with b (with_term b.current t)
 abbrev pub lex_with_block : LexBody → ℕ → Option State
 lex_with_block b zero = None
 lex_with_block b (suc blocks_left) =
-    Some (InLex (record { text = b.text; name = b.name; fragment = b.fragment; known = b.known; blocks_left = blocks_left; enclosing = b.current ∷ b.enclosing; current = fresh }))
+    Some
+    (InLex
+    (record {
+      text = b.text;
+      name = b.name;
+      fragment = b.fragment;
+      known = b.known;
+      blocks_left = blocks_left;
+      enclosing = b.current ∷ b.enclosing;
+      current = fresh;
+    }))
 
 abbrev pub lex_block_end : LexBody → List (Frame LexerTerm) → Option State
 lex_block_end b [] = None
 lex_block_end b (f ∷ enclosing) =
-    Some (AfterLexAtom (record { text = b.text; name = b.name; fragment = b.fragment; known = b.known; blocks_left = suc b.blocks_left; enclosing = enclosing; current = f })
+    Some
+    (AfterLexAtom
+    (record { text = b.text; name = b.name; fragment = b.fragment; known = b.known; blocks_left = suc b.blocks_left; enclosing = enclosing; current = f })
     (LexerTerm.block (lexer_alts (whole b.current))))
 
 -- the next alternative of the rule itself
 abbrev pub next_top : LexBody → Bool → State
-next_top b gap = InLex (record { text = b.text; name = b.name; fragment = b.fragment; known = Some gap; blocks_left = b.blocks_left; enclosing = []; current = next_alt b.current })
+next_top b gap =
+    InLex
+    (record {
+      text = b.text;
+      name = b.name;
+      fragment = b.fragment;
+      known = Some gap;
+      blocks_left = b.blocks_left;
+      enclosing = [];
+      current = next_alt b.current;
+    })
 
 abbrev pub end_top : LexBody → Bool → State
 end_top b gap = AtRule (with_rule b.text (lexer_rule b.name b.fragment gap (whole b.current)))

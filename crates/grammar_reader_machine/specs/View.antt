@@ -53,11 +53,26 @@ owner_of o.Text = m.OfText
 owner_of (o.Rule head) = m.OfRule (head_of head)
 
 abbrev pub body_of : Body → m.Body
-body_of b = record { text = grammar_of b.grammar; name = b.name; blocks_left = b.blocks_left; enclosing = frames_around [] b.enclosing.items; current = frame_of b.current }
+body_of b =
+    record {
+      text = grammar_of b.grammar;
+      name = b.name;
+      blocks_left = b.blocks_left;
+      enclosing = frames_around [] b.enclosing.items;
+      current = frame_of b.current;
+    }
 
 abbrev pub lex_body_of : LexBody → m.LexBody
 lex_body_of b =
-    record { text = grammar_of b.grammar; name = b.name; fragment = b.fragment; known = b.known; blocks_left = b.blocks_left; enclosing = lex_frames_around [] b.enclosing.items; current = lex_frame_of b.current }
+    record {
+      text = grammar_of b.grammar;
+      name = b.name;
+      fragment = b.fragment;
+      known = b.known;
+      blocks_left = b.blocks_left;
+      enclosing = lex_frames_around [] b.enclosing.items;
+      current = lex_frame_of b.current;
+    }
 
 abbrev pub value_of : ValueOf → m.ValueOf
 value_of (v.Entry g owner) = m.InEntry (grammar_of g) (owner_of owner)
@@ -100,7 +115,16 @@ lexer_state b (l.ItemEnd position first) = m.AtItemEnd b (item_position_of posit
 lexer_state b (l.AfterItem ranges) = m.AfterItem b ranges.items
 
 abbrev pub top_body_of : TopBody → m.LexBody
-top_body_of b = record { text = grammar_of b.grammar; name = b.name; fragment = b.fragment; known = b.known; blocks_left = 64; enclosing = []; current = lex_frame_of b.current }
+top_body_of b =
+    record {
+      text = grammar_of b.grammar;
+      name = b.name;
+      fragment = b.fragment;
+      known = b.known;
+      blocks_left = 64;
+      enclosing = [];
+      current = lex_frame_of b.current;
+    }
 
 abbrev pub top_state : m.LexBody → EndPosition → m.State
 top_state b (q.Loop set) = m.AfterLoop b set

@@ -5,7 +5,8 @@ use Rattle.grammar_reader_notation.specs.declared.fault.What.{What}
 use Rattle.grammar_reader_notation.specs.declared.fault.ReadFault.TheVariants as f
 use Rattle.grammar_reader_notation.specs.Naming.{Fits, FitsFirst, this, later, nested_too_deep, unsupported, syntax, NamedOnce}
 
-pub same_first : {before : List Word} {current : Word} {rows : List What} {what other : What} → FitsFirst before current rows what → FitsFirst before current rows other → what ≡ other
+pub same_first : {before : List Word} {current : Word} {rows : List What} {what other : What} → FitsFirst before current rows what
+    → FitsFirst before current rows other → what ≡ other
 same_first (this a) (this b) = refl
 same_first (this a) (later h b) = absurd (h a)
 same_first (later h a) (this b) = absurd (h b)

@@ -18,7 +18,8 @@ one_more p (same e f) = same (ap (λ ps. p ∷ ps) e) f
 one_more p (before mid e) = before mid (ap (λ ps. p ∷ ps) e)
 one_more p (after mid e) = after mid (ap (λ ps. p ∷ ps) e)
 
-cuts : (xs : List Placed) (x : Placed) (more : List Placed) (ys : List Placed) (y : Placed) (others : List Placed) → xs ++ x ∷ more ≡ ys ++ y ∷ others → Cuts xs x ys y
+cuts : (xs : List Placed) (x : Placed) (more : List Placed) (ys : List Placed) (y : Placed) (others : List Placed) → xs ++ x ∷ more ≡ ys ++ y ∷ others
+    → Cuts xs x ys y
 cuts [] x more [] y others e = same refl (cc e)
 cuts [] x more (q ∷ ys) y others e = let f : x ≡ q = cc e in before ys (ap (λ p. p ∷ ys) (sym f))
 cuts (p ∷ xs) x more [] y others e = let f : y ≡ p = cc e in after xs (ap (λ q. q ∷ xs) (sym f))
@@ -34,12 +35,15 @@ words_of_both (x ∷ xs) ys = ap (λ ws. x.word ∷ ws) (words_of_both xs ys)
 -- the first words of first words
 begin_too : (xs ys : List Placed) → Begins (only_words (xs ++ ys)) → Begins (only_words xs)
 begin_too xs ys b =
-    let e : only_words (xs ++ ys) ++ b.0 ≡ only_words xs ++ (only_words ys ++ b.0) = ap (λ ws. ws ++ b.0) (words_of_both xs ys) ∙ append_assoc (only_words xs) (only_words ys) b.0 in
+    let e : only_words (xs ++ ys) ++ b.0 ≡ only_words xs ++ (only_words ys ++ b.0) =
+    ap (λ ws. ws ++ b.0) (words_of_both xs ys) ∙ append_assoc (only_words xs) (only_words ys) b.0 in
     (only_words ys ++ b.0, b.1, subst (λ ws. IsTextOf 64 ws b.1) e b.2)
 
-compared : (bytes : List ℕ) (fault other : ReadFault) (a : IsFirstFault bytes fault) (b : IsFirstFault bytes other) → Cuts a.before a.current b.before b.current → fault ≡ other
+compared : (bytes : List ℕ) (fault other : ReadFault) (a : IsFirstFault bytes fault) (b : IsFirstFault bytes other) → Cuts a.before a.current b.before b.current
+    → fault ≡ other
 compared bytes fault other a b (same e f) =
-    one_name (only_words b.before) b.current fault other (subst (λ p. IsNamed (only_words b.before) p fault) f (subst (λ ps. IsNamed (only_words ps) a.current fault) e a.named)) b.named
+    one_name (only_words b.before) b.current fault other
+    (subst (λ p. IsNamed (only_words b.before) p fault) f (subst (λ ps. IsNamed (only_words ps) a.current fault) e a.named)) b.named
 compared bytes fault other a b (before mid e) = absurd (a.stuck (begin_too (a.before ++ a.current ∷ []) mid (subst (λ ps. Begins (only_words ps)) e b.begun)))
 compared bytes fault other a b (after mid e) = absurd (b.stuck (begin_too (b.before ++ b.current ∷ []) mid (subst (λ ps. Begins (only_words ps)) e a.begun)))
 

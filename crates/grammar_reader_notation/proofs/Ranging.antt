@@ -20,7 +20,8 @@ unfolding in_ranges
 has_more [] r c = or_false (in_range r c)
 has_more (q ∷ rs) r c = ap (λ b. in_range q c || b) (has_more rs r c) ∙ sym (or_assoc (in_range q c) (in_ranges rs c) (in_range r c))
 
-pub same_range : (first last : ℕ) (range : ℕ × ℕ) (c : ℕ) → nat_le first c ≡ nat_le range.0 c → nat_le c last ≡ nat_le c range.1 → in_range (first, last) c ≡ in_range range c
+pub same_range : (first last : ℕ) (range : ℕ × ℕ) (c : ℕ) → nat_le first c ≡ nat_le range.0 c → nat_le c last ≡ nat_le c range.1
+    → in_range (first, last) c ≡ in_range range c
 unfolding in_range
 same_range first last range c e f = ap (λ b. b && nat_le c last) e ∙ ap (λ b. nat_le range.0 c && b) f
 
@@ -33,6 +34,8 @@ pub one_none : (a b : Bool) → b ≡ false → a ≡ (a || b)
 one_none a true e = cc e
 one_none a false e = sym (or_false a)
 
-pub has_next : (ranges : List (ℕ × ℕ)) (i c : ℕ) (before after : Bool) → i < length ranges → before ≡ has (take i ranges) c → after ≡ (before || in_range (get_or ranges i (0, 0)) c) → after ≡ has (take (i + 1) ranges) c
+pub has_next : (ranges : List (ℕ × ℕ)) (i c : ℕ) (before after : Bool) → i < length ranges → before ≡ has (take i ranges) c
+    → after ≡ (before || in_range (get_or ranges i (0, 0)) c) → after ≡ has (take (i + 1) ranges) c
 has_next ranges i c before after l e f =
-    f ∙ ap (λ b. b || in_range (get_or ranges i (0, 0)) c) e ∙ sym (has_more (take i ranges) (get_or ranges i (0, 0)) c) ∙ ap (λ rs. has rs c) (sym (take_more ranges i (0, 0) l))
+    f ∙ ap (λ b. b || in_range (get_or ranges i (0, 0)) c) e ∙ sym (has_more (take i ranges) (get_or ranges i (0, 0)) c)
+    ∙ ap (λ rs. has rs c) (sym (take_more ranges i (0, 0) l))

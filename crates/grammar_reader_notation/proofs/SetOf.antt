@@ -1,5 +1,6 @@
 -- The set of the characters that pass a test is a set of characters, and has just these.
-use Rattle.std.proofs.Common.{ℕ, zero, suc, ◌+◌, ◌≡◌, ◌≤◌, ◌<◌, Bool, true, false, not, ◌&&◌, ◌||◌, ◌==◌, cond, nat_lt, List, [], ◌∷◌, refl, sym, ap, ◌∙◌, arith}
+use Rattle.std.proofs.Common.{ℕ, zero, suc, ◌+◌, ◌≡◌, ◌≤◌, ◌<◌, Bool, true, false, not, ◌&&◌, ◌||◌, ◌==◌}
+use Rattle.std.proofs.Common.{cond, nat_lt, List, [], ◌∷◌, refl, sym, ap, ◌∙◌, arith}
 use Rattle.std.proofs.lemmas.Bool.Decides.{nat_tests}
 use Rattle.std.specs.Char.{IsScalar}
 use Rattle.grammar_tree.specs.Ranges.{in_range, in_ranges, rises_from, fits_from}
@@ -52,7 +53,8 @@ pick P false p q = q refl
 rises_and : (k n : ℕ) (rs : List (ℕ × ℕ)) → rises_from k rs ≡ true → Below n rs → (rs ≡ [] → k ≤ n) → n ≤ 0x10FFFF → rises_from k (and_number rs n) ≡ true
 rises_and k n [] h b f l = one_rises k n (f refl) l
 rises_and k n (r ∷ []) h b f l = pick (λ x. rises_from k x ≡ true) (suc r.1 == n) (λ e. grown_rises k n r h b l) (λ e. two_rise k n r h b e l)
-rises_and k n (r ∷ (q ∷ rs)) h b f l = head_rises k r (q ∷ rs) (and_number (q ∷ rs) n) h (rises_and (r.1 + 2) n (q ∷ rs) (tail_rises k r (q ∷ rs) h) b (λ e. cc e) l)
+rises_and k n (r ∷ (q ∷ rs)) h b f l =
+    head_rises k r (q ∷ rs) (and_number (q ∷ rs) n) h (rises_and (r.1 + 2) n (q ∷ rs) (tail_rises k r (q ∷ rs) h) b (λ e. cc e) l)
 
 some_left : (rs : List (ℕ × ℕ)) (n : ℕ) → and_number rs n ≡ [] → ⊥
 some_left [] n e = cc e
@@ -148,7 +150,9 @@ module _ (p : ℕ → Bool) where
       record {
         rises = pick (λ x. rises_from 0 x ≡ true) (p n) (λ _. rises_and 0 n rs m.rises m.below (λ _. omega arith) (omega arith)) (λ _. m.rises);
         below = pick (Below (suc n)) (p n) (λ _. below_and rs n) (λ _. below_more rs n m.below);
-        members = λ c. pick (λ x. in_ranges x c ≡ (nat_lt c (suc n) && p c)) (p n) (λ e. has_and 0 rs n c m.rises ∙ ap (λ b. b || (c == n)) (m.members c) ∙ with_it n c e) (λ e. m.members c ∙ without_it n c e);
+        members =
+            λ c. pick (λ x. in_ranges x c ≡ (nat_lt c (suc n) && p c)) (p n)
+            (λ e. has_and 0 rs n c m.rises ∙ ap (λ b. b || (c == n)) (m.members c) ∙ with_it n c e) (λ e. m.members c ∙ without_it n c e);
       }
 
 surrogate_out : (a q x : Bool) → x ≡ true → (a && (q && not x)) ≡ false

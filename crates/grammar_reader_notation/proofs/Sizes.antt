@@ -7,7 +7,10 @@ use Rattle.grammar_tree.specs.Size.{term_size, seq_size, alts_size, lexer_term_s
 use Rattle.grammar_reader_words.specs.Words.{words_of}
 use Rattle.grammar_reader_words.specs.declared.word.Word.{Word}
 use Rattle.grammar_reader_words.proofs.Lent.{words_of_few, choose}
-use Rattle.grammar_reader_notation.specs.Notation.{IsPath, IsValue, IsEntries, IsOptions, MayBeOptions, IsTokens, IsPrequels, IsRefs, named, is_eof, IsSimple, IsSuffixed, IsLabel, IsOpening, IsAltName, IsAtom, IsElements, IsAlts, IsItem, IsItems, IsCharSet, IsLexSimple, IsLexSuffixed, IsCommand, IsLast, IsLoop, Level, IsEnding, IsLexAtom, IsLexElements, IsLexAlts, IsRules, IsTextOf}
+use Rattle.grammar_reader_notation.specs.Notation.{IsPath, IsValue, IsEntries, IsOptions, MayBeOptions, IsTokens, IsPrequels, IsRefs, named, is_eof, IsSimple}
+use Rattle.grammar_reader_notation.specs.Notation.{IsSuffixed, IsLabel, IsOpening, IsAltName, IsAtom, IsElements, IsAlts, IsItem, IsItems, IsCharSet}
+use Rattle.grammar_reader_notation.specs.Notation.{IsLexSimple, IsLexSuffixed, IsCommand, IsLast, IsLoop, Level, IsEnding, IsLexAtom, IsLexElements, IsLexAlts}
+use Rattle.grammar_reader_notation.specs.Notation.{IsRules, IsTextOf}
 use Rattle.grammar_reader_notation.specs.Notation as n
 use Rattle.grammar_reader_notation.specs.Reads.{IsProfile}
 
@@ -91,12 +94,14 @@ mutual
   atom_fits (n.simple s) = simple_fits s
   atom_fits (n.block a) = omega (arith, alts_fit a)
 
-  elements_fit : {blocks_left : ℕ} {words rest : List Word} {ts : List WrittenTerm} → IsElements blocks_left words ts rest → seq_size (written_seq ts) + length rest ≤ length words
+  elements_fit : {blocks_left : ℕ} {words rest : List Word} {ts : List WrittenTerm} → IsElements blocks_left words ts rest
+      → seq_size (written_seq ts) + length rest ≤ length words
   elements_fit n.no_element = omega arith
   elements_fit (n.element l a s e) = omega (arith, label_goes l, atom_fits a, suffixed_fits s, elements_fit e)
 
   -- one alternative has no bar
-  alts_fit : {top : Bool} {blocks_left : ℕ} {words rest : List Word} {alts : List (List WrittenTerm)} → IsAlts top blocks_left words alts rest → alts_size (written_alts alts) + length rest ≤ suc (length words)
+  alts_fit : {top : Bool} {blocks_left : ℕ} {words rest : List Word} {alts : List (List WrittenTerm)} → IsAlts top blocks_left words alts rest
+      → alts_size (written_alts alts) + length rest ≤ suc (length words)
   alts_fit (n.last_alt o e m) = omega (arith, opening_goes o, elements_fit e, alt_name_goes m)
   alts_fit (n.alt o e m a) = omega (arith, opening_goes o, elements_fit e, alt_name_goes m, alts_fit a)
 
@@ -123,7 +128,8 @@ lex_simple_fits (n.range h) = omega arith
 lex_simple_fits (n.char_set s) = omega (arith, set_shorter s)
 lex_simple_fits (n.name e) = omega arith
 
-lex_suffixed_fits : {a t : LexerTerm} {words rest : List Word} → IsLexSuffixed a words t rest → lexer_term_size t + length rest ≤ lexer_term_size a + length words
+lex_suffixed_fits : {a t : LexerTerm} {words rest : List Word} → IsLexSuffixed a words t rest
+    → lexer_term_size t + length rest ≤ lexer_term_size a + length words
 lex_suffixed_fits n.bare = omega arith
 lex_suffixed_fits n.question = omega arith
 lex_suffixed_fits n.star = omega arith
@@ -133,11 +139,13 @@ last_fits : {words rest : List Word} {t : LexerTerm} → IsLast words t rest →
 last_fits n.last_literal = omega arith
 last_fits n.last_set = omega arith
 
-loop_fits : {fragment : Bool} {words rest : List Word} {ts : List LexerTerm} → IsLoop fragment words ts rest → lexer_seq_size (lexer_seq ts) + length rest ≤ length words
+loop_fits : {fragment : Bool} {words rest : List Word} {ts : List LexerTerm} → IsLoop fragment words ts rest
+    → lexer_seq_size (lexer_seq ts) + length rest ≤ length words
 loop_fits n.no_loop = omega arith
 loop_fits (n.loop s t) = omega (arith, set_shorter s, last_fits t)
 
-ending_fits : {level : Level} {words rest : List Word} {ts : List LexerTerm} → IsEnding level words ts rest → lexer_seq_size (lexer_seq ts) + length rest ≤ length words
+ending_fits : {level : Level} {words rest : List Word} {ts : List LexerTerm} → IsEnding level words ts rest
+    → lexer_seq_size (lexer_seq ts) + length rest ≤ length words
 ending_fits n.in_block = omega arith
 ending_fits (n.at_top l c) = omega (arith, loop_fits l, command_goes c)
 
@@ -146,25 +154,31 @@ seq_append [] us = omega arith
 seq_append (t ∷ ts) us = omega (arith, seq_append ts us)
 
 mutual
-  lex_atom_fits : {blocks_left : ℕ} {words rest : List Word} {t : LexerTerm} → IsLexAtom blocks_left words t rest → lexer_term_size t + length rest ≤ length words
+  lex_atom_fits : {blocks_left : ℕ} {words rest : List Word} {t : LexerTerm} → IsLexAtom blocks_left words t rest
+      → lexer_term_size t + length rest ≤ length words
   lex_atom_fits (n.simple s) = lex_simple_fits s
   lex_atom_fits (n.block a) = omega (arith, lex_alts_fit a)
 
-  lex_elements_fit : {blocks_left : ℕ} {words rest : List Word} {ts : List LexerTerm} → IsLexElements blocks_left words ts rest → lexer_seq_size (lexer_seq ts) + length rest ≤ length words
+  lex_elements_fit : {blocks_left : ℕ} {words rest : List Word} {ts : List LexerTerm} → IsLexElements blocks_left words ts rest
+      → lexer_seq_size (lexer_seq ts) + length rest ≤ length words
   lex_elements_fit n.no_element = omega arith
   lex_elements_fit (n.element a s e) = omega (arith, lex_atom_fits a, lex_suffixed_fits s, lex_elements_fit e)
 
   -- one alternative has no bar
-  lex_alts_fit : {level : Level} {blocks_left : ℕ} {words rest : List Word} {alts : List (List LexerTerm)} → IsLexAlts level blocks_left words alts rest → lexer_alts_size (lexer_alts alts) + length rest ≤ suc (length words)
+  lex_alts_fit : {level : Level} {blocks_left : ℕ} {words rest : List Word} {alts : List (List LexerTerm)} → IsLexAlts level blocks_left words alts rest
+      → lexer_alts_size (lexer_alts alts) + length rest ≤ suc (length words)
   lex_alts_fit (n.last_alt {ts = ts} {more = more} e end) = omega (arith, lex_elements_fit e, ending_fits end, seq_append ts more)
   lex_alts_fit (n.alt {ts = ts} {more = more} e end a) = omega (arith, lex_elements_fit e, ending_fits end, seq_append ts more, lex_alts_fit a)
 
 -- rules, and the end of the text
 rules_fit : {depth : ℕ} {words : List Word} {rules : List WrittenRule} → IsRules depth words rules → suc (sum_by rule_size rules) ≤ length words
 rules_fit n.end = omega arith
-rules_fit (n.parser {n = name} {alts = alts} {rules = rules} o a r) = omega (arith, may_be_options_go o, alts_fit a, rules_fit r, sum_by-cons rule_size (n.parser_rule name alts) rules)
-rules_fit (n.lexer {n = name} {gap = gap} {alts = alts} {rules = rules} o a r) = omega (arith, may_be_options_go o, lex_alts_fit a, rules_fit r, sum_by-cons rule_size (n.lexer_rule name false gap alts) rules)
-rules_fit (n.fragment {n = name} {alts = alts} {rules = rules} o a r) = omega (arith, may_be_options_go o, lex_alts_fit a, rules_fit r, sum_by-cons rule_size (n.lexer_rule name true false alts) rules)
+rules_fit (n.parser {n = name} {alts = alts} {rules = rules} o a r) =
+    omega (arith, may_be_options_go o, alts_fit a, rules_fit r, sum_by-cons rule_size (n.parser_rule name alts) rules)
+rules_fit (n.lexer {n = name} {gap = gap} {alts = alts} {rules = rules} o a r) =
+    omega (arith, may_be_options_go o, lex_alts_fit a, rules_fit r, sum_by-cons rule_size (n.lexer_rule name false gap alts) rules)
+rules_fit (n.fragment {n = name} {alts = alts} {rules = rules} o a r) =
+    omega (arith, may_be_options_go o, lex_alts_fit a, rules_fit r, sum_by-cons rule_size (n.lexer_rule name true false alts) rules)
 
 text_fits : {depth : ℕ} {words : List Word} {G : WrittenGrammar} → IsTextOf depth words G → suc (grammar_size G) ≤ length words
 unfolding grammar_size

@@ -160,13 +160,15 @@ pub data Fits (before : List Word) : Word → What → Type 0 where
 -- the table's order
 abbrev pub table : List What
 table =
-    x.LexerGrammar ∷ x.ParserGrammar ∷ x.Import ∷ x.Mode ∷ x.Channels ∷ x.Modifier ∷ x.Action ∷ x.Argument ∷ x.Returns ∷ x.Locals ∷ x.Throws ∷ x.Catch ∷ x.Finally ∷ x.Command ∷ x.Property ∷
+    x.LexerGrammar ∷ x.ParserGrammar ∷ x.Import ∷ x.Mode ∷ x.Channels ∷ x.Modifier ∷ x.Action ∷ x.Argument ∷ x.Returns ∷ x.Locals ∷ x.Throws ∷ x.Catch
+    ∷ x.Finally ∷ x.Command ∷ x.Property ∷
     x.CaseInsensitive ∷ x.TokenVocab ∷ x.NonGreedy ∷ x.Eof ∷ []
 
 -- the first of the rows that fits
 pub data FitsFirst (before : List Word) (current : Word) : List What → What → Type 0 where
   this : {what : What} {rows : List What} → Fits before current what → FitsFirst before current (what ∷ rows) what
-  later : {what other : What} {rows : List What} → (Fits before current other → ⊥) → FitsFirst before current rows what → FitsFirst before current (other ∷ rows) what
+  later : {what other : What} {rows : List What} → (Fits before current other → ⊥) → FitsFirst before current rows what
+      → FitsFirst before current (other ∷ rows) what
 
 -- It opens the 65th block, one in another: were one more allowed, it could follow.
 pub data IsTooDeep (before : List Word) : Word → Type 0 where
@@ -175,7 +177,8 @@ pub data IsTooDeep (before : List Word) : Word → Type 0 where
 -- the fault: too deep, or the first row that fits, or neither
 pub data IsNamed (before : List Word) (current : Placed) : ReadFault → Type 0 where
   nested_too_deep : IsTooDeep before current.word → IsNamed before current (f.NestedTooDeep current.offset)
-  unsupported : {what : What} → (IsTooDeep before current.word → ⊥) → FitsFirst before current.word table what → IsNamed before current (f.Unsupported what current.offset)
+  unsupported : {what : What} → (IsTooDeep before current.word → ⊥) → FitsFirst before current.word table what
+      → IsNamed before current (f.Unsupported what current.offset)
   syntax : (IsTooDeep before current.word → ⊥) → ((what : What) → Fits before current.word what → ⊥) → IsNamed before current (f.Syntax current.offset)
 
 -- A word has one name at most.

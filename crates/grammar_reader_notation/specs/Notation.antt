@@ -1,9 +1,13 @@
--- Which words are a text of the notation (ANTLR 4, without what isn't supported), and which grammar they spell, row by row. `X words x rest` says: `words` begin with an X, which gives `x`, and `rest` follows it. The end of the text is a word of its own; a word that is in no row, as a bad one, is in no text of the notation.
+-- Which words are a text of the notation (ANTLR 4, without what isn't supported), and which grammar they spell, row by
+-- row. `X words x rest` says: `words` begin with an X, which gives `x`, and `rest` follows it. The end of the text is
+-- a word of its own; a word that is in no row, as a bad one, is in no text of the notation.
 use Rattle.std.specs.Prelude.{ℕ, suc, ◌≡◌, ◌≤◌, Bool, true, false, cond, List, [], ◌∷◌, ◌++◌}
 use Rattle.grammar_tree.specs.Written.{Reference, WrittenTerm, LexerTerm, WrittenRule, WrittenGrammar, written_alts, lexer_alts}
 use Rattle.grammar_reader_words.specs.Names.{is}
 use Rattle.grammar_reader_words.specs.declared.word.Word.{Word}
-use Rattle.grammar_reader_words.specs.declared.word.Word.TheVariants.{Grammar, Fragment, Options, Tokens, Upper, Lower, Number, Literal, Set, Colon, Semicolon, Bar, Open, Close, Question, Star, Plus, Tilde, Dot, Dots, Arrow, Equals, PlusEquals, Comma, Hash, Less, Greater, OpenBrace, CloseBrace, End}
+use Rattle.grammar_reader_words.specs.declared.word.Word.TheVariants.{Grammar, Fragment, Options, Tokens, Upper, Lower, Number, Literal, Set, Colon, Semicolon}
+use Rattle.grammar_reader_words.specs.declared.word.Word.TheVariants.{Bar, Open, Close, Question, Star, Plus, Tilde, Dot, Dots, Arrow, Equals, PlusEquals}
+use Rattle.grammar_reader_words.specs.declared.word.Word.TheVariants.{Comma, Hash, Less, Greater, OpenBrace, CloseBrace, End}
 use Rattle.grammar_reader_notation.specs.Sets.{within, outside}
 
 -- a name: upper or lower
@@ -52,7 +56,8 @@ pub data IsTokens : List Word → List (List ℕ) → List Word → Type 0 where
 pub data IsPrequels : List Word → List (List ℕ) → List Word → Type 0 where
   no_prequel : {rest : List Word} → IsPrequels rest [] rest
   options_first : {words next rest : List Word} {ns : List (List ℕ)} → IsOptions words next → IsPrequels next ns rest → IsPrequels words ns rest
-  tokens_first : {words next rest : List Word} {ms ns : List (List ℕ)} → IsTokens words ms next → IsPrequels next ns rest → IsPrequels (Tokens ∷ OpenBrace ∷ words) (ms ++ ns) rest
+  tokens_first : {words next rest : List Word} {ms ns : List (List ℕ)} → IsTokens words ms next → IsPrequels next ns rest
+      → IsPrequels (Tokens ∷ OpenBrace ∷ words) (ms ++ ns) rest
 
 -- ref: literal, or upper other than `EOF`
 pub data IsRef : Word → Reference → Type 0 where
@@ -62,7 +67,8 @@ pub data IsRef : Word → Reference → Type 0 where
 -- { "|" ref } ")"
 pub data IsRefs : List Word → List Reference → List Word → Type 0 where
   refs_end : {rest : List Word} → IsRefs (Close ∷ rest) [] rest
-  refs_go_on : {w : Word} {r : Reference} {words rest : List Word} {rs : List Reference} → IsRef w r → IsRefs words rs rest → IsRefs (Bar ∷ w ∷ words) (r ∷ rs) rest
+  refs_go_on : {w : Word} {r : Reference} {words rest : List Word} {rs : List Reference} → IsRef w r → IsRefs words rs rest
+      → IsRefs (Bar ∷ w ∷ words) (r ∷ rs) rest
 
 -- `EOF` is the end of input
 abbrev pub named : List ℕ → WrittenTerm
@@ -112,14 +118,16 @@ mutual
   pub data IsElements : ℕ → List Word → List WrittenTerm → List Word → Type 0 where
     no_element : {blocks_left : ℕ} {rest : List Word} → IsElements blocks_left rest [] rest
     element : {blocks_left : ℕ} {words labelled after next rest : List Word} {a t : WrittenTerm} {ts : List WrittenTerm} →
-        IsLabel words labelled → IsAtom blocks_left labelled a after → IsSuffixed a after t next → IsElements blocks_left next ts rest → IsElements blocks_left words (t ∷ ts) rest
+        IsLabel words labelled → IsAtom blocks_left labelled a after → IsSuffixed a after t next → IsElements blocks_left next ts rest
+        → IsElements blocks_left words (t ∷ ts) rest
 
   -- alt { "|" alt }
   pub data IsAlts : Bool → ℕ → List Word → List (List WrittenTerm) → List Word → Type 0 where
     last_alt : {top : Bool} {blocks_left : ℕ} {words opened after rest : List Word} {ts : List WrittenTerm} →
         IsOpening words opened → IsElements blocks_left opened ts after → IsAltName top after rest → IsAlts top blocks_left words (ts ∷ []) rest
     alt : {top : Bool} {blocks_left : ℕ} {words opened after next rest : List Word} {ts : List WrittenTerm} {alts : List (List WrittenTerm)} →
-        IsOpening words opened → IsElements blocks_left opened ts after → IsAltName top after (Bar ∷ next) → IsAlts top blocks_left next alts rest → IsAlts top blocks_left words (ts ∷ alts) rest
+        IsOpening words opened → IsElements blocks_left opened ts after → IsAltName top after (Bar ∷ next) → IsAlts top blocks_left next alts rest
+        → IsAlts top blocks_left words (ts ∷ alts) rest
 
 -- item: set, or literal of one character, or literal ".." literal. A range's literals have one character each, the first not greater than the second.
 pub data IsItem : List Word → List (ℕ × ℕ) → List Word → Type 0 where
@@ -137,7 +145,8 @@ pub data IsCharSet : List Word → List (ℕ × ℕ) → List Word → Type 0 wh
   any : {rest : List Word} → IsCharSet (Dot ∷ rest) (outside []) rest
   set : {ranges : List (ℕ × ℕ)} {rest : List Word} → IsCharSet (Set ranges ∷ rest) (within ranges) rest
   but : {words rest : List Word} {i : List (ℕ × ℕ)} → IsItem words i rest → IsCharSet (Tilde ∷ words) (outside i) rest
-  but_these : {words next rest : List Word} {i is' : List (ℕ × ℕ)} → IsItem words i next → IsItems next is' rest → IsCharSet (Tilde ∷ Open ∷ words) (outside (i ++ is')) rest
+  but_these : {words next rest : List Word} {i is' : List (ℕ × ℕ)} → IsItem words i next → IsItems next is' rest
+      → IsCharSet (Tilde ∷ Open ∷ words) (outside (i ++ is')) rest
 
 -- lexatom, but for blocks
 pub data IsLexSimple : List Word → LexerTerm → List Word → Type 0 where
@@ -156,7 +165,8 @@ pub data IsLexSuffixed (t : LexerTerm) : List Word → LexerTerm → List Word �
 pub data IsCommand : Bool → List Word → List Word → Type 0 where
   no_command : {rest : List Word} → IsCommand false rest rest
   skip : {n : List ℕ} {rest : List Word} → is n "skip" ≡ true → IsCommand true (Arrow ∷ Lower n ∷ rest) rest
-  channel : {n m : List ℕ} {rest : List Word} → is n "channel" ≡ true → is m "HIDDEN" ≡ true → IsCommand true (Arrow ∷ Lower n ∷ Open ∷ Upper m ∷ Close ∷ rest) rest
+  channel : {n m : List ℕ} {rest : List Word} → is n "channel" ≡ true → is m "HIDDEN" ≡ true
+      → IsCommand true (Arrow ∷ Lower n ∷ Open ∷ Upper m ∷ Close ∷ rest) rest
 
 -- what follows a non-greedy loop and ends its alternative: one literal or one set, without suffix
 pub data IsLast : List Word → LexerTerm → List Word → Type 0 where
@@ -190,7 +200,8 @@ mutual
   pub data IsLexElements : ℕ → List Word → List LexerTerm → List Word → Type 0 where
     no_element : {blocks_left : ℕ} {rest : List Word} → IsLexElements blocks_left rest [] rest
     element : {blocks_left : ℕ} {words after next rest : List Word} {a t : LexerTerm} {ts : List LexerTerm} →
-        IsLexAtom blocks_left words a after → IsLexSuffixed a after t next → IsLexElements blocks_left next ts rest → IsLexElements blocks_left words (t ∷ ts) rest
+        IsLexAtom blocks_left words a after → IsLexSuffixed a after t next → IsLexElements blocks_left next ts rest
+        → IsLexElements blocks_left words (t ∷ ts) rest
 
   -- lexalt { "|" lexalt }: each of a rule's alternatives has a command, or none has
   pub data IsLexAlts : Level → ℕ → List Word → List (List LexerTerm) → List Word → Type 0 where

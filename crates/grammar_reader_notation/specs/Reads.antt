@@ -21,7 +21,8 @@ pub record IsProfile (bytes : List ℕ) (G : WrittenGrammar) : Type 0 where
   pub utf8 : IsUtf8 bytes
   pub text : IsText (only_words (words_of bytes)) G
 
--- The first word that can't follow decides: the words before it are the first words of some profile text, and those up to it aren't. The fault is what it is called, and where it begins.
+-- The first word that can't follow decides: the words before it are the first words of some profile
+-- text, and those up to it aren't. The fault is what it is called, and where it begins.
 pub record IsFirstFault (bytes : List ℕ) (fault : ReadFault) : Type 0 where
   pub before : List Placed
   pub current : Placed

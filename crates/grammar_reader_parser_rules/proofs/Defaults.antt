@@ -12,13 +12,15 @@ pub no_opening : (b : m.Body) (word : Word) → (word ≡ w.Less → ⊥) → m.
 no_opening b w.Less h = absurd (h refl)
 no_opening b _ h = refl
 
-pub no_suffix : (b : m.Body) (t : WrittenTerm) (word : Word) → (word ≡ w.Question → ⊥) → (word ≡ w.Star → ⊥) → (word ≡ w.Plus → ⊥) → m.step_after b t word ≡ m.step_elements (m.add b t) word
+pub no_suffix : (b : m.Body) (t : WrittenTerm) (word : Word) → (word ≡ w.Question → ⊥) → (word ≡ w.Star → ⊥) → (word ≡ w.Plus → ⊥)
+    → m.step_after b t word ≡ m.step_elements (m.add b t) word
 no_suffix b t w.Question h k l = absurd (h refl)
 no_suffix b t w.Star h k l = absurd (k refl)
 no_suffix b t w.Plus h k l = absurd (l refl)
 no_suffix b t _ h k l = refl
 
-pub no_label : (b : m.Body) (t : WrittenTerm) (word : Word) → (word ≡ w.Equals → ⊥) → (word ≡ w.PlusEquals → ⊥) → m.step_after_name b t word ≡ m.step_after b t word
+pub no_label : (b : m.Body) (t : WrittenTerm) (word : Word) → (word ≡ w.Equals → ⊥) → (word ≡ w.PlusEquals → ⊥)
+    → m.step_after_name b t word ≡ m.step_after b t word
 no_label b t w.Equals h k = absurd (h refl)
 no_label b t w.PlusEquals h k = absurd (k refl)
 no_label b t _ h k = refl
@@ -32,7 +34,8 @@ no_bracket b w.Open h = absurd (h refl)
 no_bracket b (w.Upper n) h = unless_end b (Reference.name n) (is_eof n)
 no_bracket b _ h = refl
 
-unless_end_listed : (b : m.Body) (refs : List Reference) (r : Reference) (t : Bool) → cond t None (Some (m.AfterRef b (refs ++ r ∷ []))) ≡ after_listed b refs (cond t None (Some r))
+unless_end_listed : (b : m.Body) (refs : List Reference) (r : Reference) (t : Bool)
+    → cond t None (Some (m.AfterRef b (refs ++ r ∷ []))) ≡ after_listed b refs (cond t None (Some r))
 unless_end_listed b refs r true = refl
 unless_end_listed b refs r false = refl
 

@@ -1,5 +1,6 @@
 -- The start, the kinds of rules, and how many kinds and rules a grammar has.
-use Rattle.std.proofs.Common.{◌≡◌, ◌≢◌, ◌⊎◌, inl, inr, ℕ, suc, ◌+◌, ◌<◌, ◌≤◌, Bool, true, false, not, List, [], ◌∷◌, ◌++◌, Option, Some, None, map, length, slice_get, refl, sym, ap, ◌∙◌, subst, arith}
+use Rattle.std.proofs.Common.{◌≡◌, ◌≢◌, ◌⊎◌, inl, inr, ℕ, suc, ◌+◌, ◌<◌, ◌≤◌, Bool, true, false, not, List, [], ◌∷◌, ◌++◌}
+use Rattle.std.proofs.Common.{Option, Some, None, map, length, slice_get, refl, sym, ap, ◌∙◌, subst, arith}
 use Rattle.std.specs.Prelude.{⊤, filter, find, is_none}
 use Rattle.std.specs.List.{Contains, cons_option, filter_map, position, sum_by}
 use Rattle.std.proofs.lemmas.Bool.{cases_Bool, false≢true}
@@ -10,7 +11,8 @@ use Rattle.std.proofs.lemmas.List.Sums.{count_by-le-length, length-filter, sum_b
 use Rattle.std.proofs.lemmas.Option.{none-some, get_or_from_slice_get}
 use Rattle.std.proofs.lemmas.Slice.Eq.{bytes_eq-Decides}
 use Rattle.grammar_tree.specs.Written.{ParserRule, LexerRule, WrittenTerm, WrittenSeq, WrittenAlts, WrittenRule, WrittenGrammar, Source, TokenKind}
-use Rattle.grammar_tree.specs.Kinds.{all_references, as_literal, declared_kind, declared_names, distinct, implicit_kind, implicit_literals, is_named_by, kinds_of, makes_token, parser_rules, references, same_text, seq_references, term_references, written_kinds}
+use Rattle.grammar_tree.specs.Kinds.{all_references, as_literal, declared_kind, declared_names, distinct, implicit_kind, implicit_literals, is_named_by}
+use Rattle.grammar_tree.specs.Kinds.{kinds_of, makes_token, parser_rules, references, same_text, seq_references, term_references, written_kinds}
 use Rattle.grammar_tree.specs.Faults.{AtParserRule, NoStart, is_parser_rule, is_parser_rule_named, number_at, start_of}
 use Rattle.grammar_tree.specs.Places.{CountsFit, KindsAreRules, StartIsFound}
 use Rattle.grammar_tree.specs.Size.{alts_size, grammar_size, rule_size, seq_size, term_size}
@@ -21,14 +23,17 @@ use Rattle.grammar_tree.proofs.Resolved.{makes_kind, written_among}
 use Rattle.grammar_tree.proofs.StartLaws.{there}
 
 module _ (G : WrittenGrammar) where
-  no_position : (p : WrittenRule → Bool) (i : ℕ) (rule : ParserRule) → position p G.rules ≡ None → slice_get G.rules i ≡ Some (WrittenRule.parser_rule rule) → p (WrittenRule.parser_rule rule) ≡ true → ⊥
-  no_position p i rule e at h = let found = some_position p G.rules (WrittenRule.parser_rule rule) (contains_at G.rules i (WrittenRule.parser_rule rule) at) h in none-some found.0 (sym e ∙ found.1)
+  no_position : (p : WrittenRule → Bool) (i : ℕ) (rule : ParserRule) → position p G.rules ≡ None → slice_get G.rules i ≡ Some (WrittenRule.parser_rule rule)
+      → p (WrittenRule.parser_rule rule) ≡ true → ⊥
+  no_position p i rule e at h = let found =
+      some_position p G.rules (WrittenRule.parser_rule rule) (contains_at G.rules i (WrittenRule.parser_rule rule) at) h in none-some found.0 (sym e ∙ found.1)
 
   -- a parser rule among the parser rules has a place
   placed : (rule : ParserRule) → Contains (parser_rules G.rules) rule → (i : ℕ) × (slice_get G.rules i ≡ Some (WrittenRule.parser_rule rule))
   placed rule c = let at = at_of_contains (parser_rules G.rules) rule c in let it = place_of G.rules at.0 rule at.1 in (it.0, it.2)
 
-  missing : (wanted : Option (List ℕ)) (rules : List ParserRule) → parser_rules G.rules ≡ rules → start_of G wanted ≡ None → (name : List ℕ) × NoStart G wanted name
+  missing : (wanted : Option (List ℕ)) (rules : List ParserRule) → parser_rules G.rules ≡ rules → start_of G wanted ≡ None → (name : List ℕ)
+      × NoStart G wanted name
   missing wanted [] e h = ([], NoStart.no_parser_rule wanted e)
   missing None (r ∷ rules) e h =
       let at = place_of G.rules 0 r (ap (λ xs. slice_get xs 0) e) in absurd (no_position is_parser_rule at.0 r h at.2 refl)
@@ -51,8 +56,10 @@ module _ (G : WrittenGrammar) where
       let named : it.0.name ≡ n = it.2 n refl in
       missing (contains_named (parser_rules G.rules) it.0 n (contains_at (parser_rules G.rules) (number_at G i) it.0 at) named)
     where
-      contains_named : (rules : List ParserRule) (rule : ParserRule) (n : List ℕ) → Contains rules rule → rule.name ≡ n → Contains (map (λ (r : ParserRule). r.name) rules) n
-      contains_named rules rule n c same = let P : List ℕ → Type 0 = λ x. Contains (map (λ (r : ParserRule). r.name) rules) x in subst P same (contains_map (λ (r : ParserRule). r.name) rules rule c)
+      contains_named : (rules : List ParserRule) (rule : ParserRule) (n : List ℕ) → Contains rules rule → rule.name ≡ n
+          → Contains (map (λ (r : ParserRule). r.name) rules) n
+      contains_named rules rule n c same = let P : List ℕ → Type 0 =
+          λ x. Contains (map (λ (r : ParserRule). r.name) rules) x in subst P same (contains_map (λ (r : ParserRule). r.name) rules rule c)
 
   first : (i j : ℕ) → start_of G None ≡ Some i → j < i → AtParserRule G j (λ rule. ⊤) → ⊥
   first i j e lt (rule, at, t) =
@@ -60,42 +67,52 @@ module _ (G : WrittenGrammar) where
       false≢true (sym before ∙ ap is_parser_rule (get_or_from_slice_get G.rules j (WrittenRule.parser_rule rule) (WrittenRule.parser_rule rule) at))
 
 pub start_is_found : (G : WrittenGrammar) → StartIsFound G
-start_is_found G = record { missing = λ wanted e. missing G wanted (parser_rules G.rules) refl e; there = λ wanted i e name. found G wanted i name e; first = first G }
+start_is_found G =
+    record { missing = λ wanted e. missing G wanted (parser_rules G.rules) refl e; there = λ wanted i e name. found G wanted i name e; first = first G }
 
 -- a kind of a lexer rule is that of a rule that isn't a fragment
 abbrev RuleOfKind : List WrittenRule → ℕ → TokenKind → Type 0
-RuleOfKind rules j kind = (rule : LexerRule) × (slice_get rules j ≡ Some (WrittenRule.lexer_rule rule)) × (rule.fragment ≡ false) × (rule.name ≡ kind.name) × (rule.gap ≡ kind.gap)
+RuleOfKind rules j kind =
+    (rule : LexerRule) × (slice_get rules j ≡ Some (WrittenRule.lexer_rule rule)) × (rule.fragment ≡ false) × (rule.name ≡ kind.name) × (rule.gap ≡ kind.gap)
 
-is_of_rule : (from : ℕ) (rules : List WrittenRule) (kind : TokenKind) (i : ℕ) → Contains (written_kinds from rules) kind → kind.source ≡ Source.written i → (j : ℕ) × (i ≡ from + j) × RuleOfKind rules j kind
+is_of_rule : (from : ℕ) (rules : List WrittenRule) (kind : TokenKind) (i : ℕ) → Contains (written_kinds from rules) kind → kind.source ≡ Source.written i
+    → (j : ℕ) × (i ≡ from + j) × RuleOfKind rules j kind
 is_of_rule from [] kind i c e = absurd (contains_none kind c)
 is_of_rule from (WrittenRule.parser_rule r ∷ rules) kind i c e = let it = is_of_rule (suc from) rules kind i c e in (suc it.0, omega (arith, it.1), it.2)
 is_of_rule from (WrittenRule.lexer_rule r ∷ rules) kind i c e = elim (cases_Bool r.fragment) [
   | inl f ↦ let it = is_of_rule (suc from) rules kind i (rw f at c) e in (suc it.0, omega (arith, it.1), it.2)
   | inr f ↦ elim (contains_cases (record { name = r.name; gap = r.gap; source = Source.written from }) (written_kinds (suc from) rules) kind (rw f at c)) [
-    | inl same ↦ let place : from ≡ i = cc (ap (λ (k : TokenKind). k.source) same) in (0, omega (arith, place), (r, refl, f, ap (λ (k : TokenKind). k.name) same, ap (λ (k : TokenKind). k.gap) same))
+    | inl same ↦ let place : from ≡ i =
+        cc (ap (λ (k : TokenKind). k.source) same) in
+        (0, omega (arith, place), (r, refl, f, ap (λ (k : TokenKind). k.name) same, ap (λ (k : TokenKind). k.gap) same))
     | inr later ↦ let it = is_of_rule (suc from) rules kind i later e in (suc it.0, omega (arith, it.1), it.2)
   ]
 ]
 
 module _ (G : WrittenGrammar) where
-  pub kind_cases : (kind : TokenKind) → Contains (kinds_of G) kind → Contains (map implicit_kind (implicit_literals G.rules)) kind ⊎ (Contains (written_kinds 0 G.rules) kind ⊎ Contains (map declared_kind (declared_names G)) kind)
+  pub kind_cases : (kind : TokenKind) → Contains (kinds_of G) kind → Contains (map implicit_kind (implicit_literals G.rules)) kind
+      ⊎ (Contains (written_kinds 0 G.rules) kind ⊎ Contains (map declared_kind (declared_names G)) kind)
   unfolding kinds_of
-  kind_cases kind c = elim (Contains-append_cases (map implicit_kind (implicit_literals G.rules)) (written_kinds 0 G.rules ++ map declared_kind (declared_names G)) kind c) [
-    | inl a ↦ inl a
-    | inr b ↦ inr (Contains-append_cases (written_kinds 0 G.rules) (map declared_kind (declared_names G)) kind b)
-  ]
+  kind_cases kind c =
+      elim (Contains-append_cases (map implicit_kind (implicit_literals G.rules)) (written_kinds 0 G.rules ++ map declared_kind (declared_names G)) kind c) [
+        | inl a ↦ inl a
+        | inr b ↦ inr (Contains-append_cases (written_kinds 0 G.rules) (map declared_kind (declared_names G)) kind b)
+      ]
 
   rule_of_kind : (kind : TokenKind) (i : ℕ) → Contains (kinds_of G) kind → kind.source ≡ Source.written i → RuleOfKind G.rules i kind
   rule_of_kind kind i c e = elim (kind_cases kind c) [
-    | inl a ↦ let it = mapped implicit_kind (implicit_literals G.rules) kind a in let bad : Source.implicit ≡ Source.written i = ap (λ (k : TokenKind). k.source) it.2 ∙ e in absurd cc
+    | inl a ↦ let it = mapped implicit_kind (implicit_literals G.rules) kind a in let bad : Source.implicit ≡ Source.written i =
+        ap (λ (k : TokenKind). k.source) it.2 ∙ e in absurd cc
     | inr (inl b) ↦
         let it = is_of_rule 0 G.rules kind i b e in
         let P : ℕ → Type 0 = λ j. RuleOfKind G.rules j kind in
         let place : it.0 ≡ i = omega (arith, it.1) in subst P place it.2
-    | inr (inr d) ↦ let it = mapped declared_kind (declared_names G) kind d in let bad : Source.declared ≡ Source.written i = ap (λ (k : TokenKind). k.source) it.2 ∙ e in absurd cc
+    | inr (inr d) ↦ let it = mapped declared_kind (declared_names G) kind d in let bad : Source.declared ≡ Source.written i =
+        ap (λ (k : TokenKind). k.source) it.2 ∙ e in absurd cc
   ]
 
-  kind_of_rule : (i : ℕ) (rule : LexerRule) → slice_get G.rules i ≡ Some (WrittenRule.lexer_rule rule) → rule.fragment ≡ false → Contains (kinds_of G) (record { name = rule.name; gap = rule.gap; source = Source.written i })
+  kind_of_rule : (i : ℕ) (rule : LexerRule) → slice_get G.rules i ≡ Some (WrittenRule.lexer_rule rule) → rule.fragment ≡ false
+      → Contains (kinds_of G) (record { name = rule.name; gap = rule.gap; source = Source.written i })
   kind_of_rule i rule at f =
       let it = makes_kind 0 G.rules i rule at f in
       let place : it.0 ≡ i = omega (arith, it.1) in
@@ -149,11 +166,18 @@ mutual
 rules_within : (from : ℕ) (rules : List WrittenRule) → length (all_references rules) + length (written_kinds from rules) ≤ sum_by rule_size rules
 rules_within from [] = omega arith
 rules_within from (WrittenRule.parser_rule r ∷ rules) =
-    omega (arith, length-append (references r.alts) (all_references rules), alts_within r.alts, rules_within (suc from) rules, sum_by-cons rule_size (WrittenRule.parser_rule r) rules)
+    omega (
+      arith,
+      length-append (references r.alts) (all_references rules),
+      alts_within r.alts,
+      rules_within (suc from) rules,
+      sum_by-cons rule_size (WrittenRule.parser_rule r) rules,
+    )
 rules_within from (WrittenRule.lexer_rule r ∷ rules) =
     omega (arith, rules_within (suc from) rules, sum_by-cons rule_size (WrittenRule.lexer_rule r) rules, kinds_step (cases_Bool r.fragment))
   where
-    kinds_step : (r.fragment ≡ true) ⊎ (r.fragment ≡ false) → length (written_kinds from (WrittenRule.lexer_rule r ∷ rules)) ≤ suc (length (written_kinds (suc from) rules))
+    kinds_step : (r.fragment ≡ true) ⊎ (r.fragment ≡ false)
+        → length (written_kinds from (WrittenRule.lexer_rule r ∷ rules)) ≤ suc (length (written_kinds (suc from) rules))
     kinds_step (inl f) = rw f (omega arith)
     kinds_step (inr f) = rw f (omega arith)
 

@@ -1,5 +1,6 @@
 -- Elements of lists that are mapped, filtered and joined.
-use Rattle.std.proofs.Common.{◌≡◌, ◌⊎◌, inl, inr, ℕ, zero, suc, Bool, true, false, not, cond, List, [], ◌∷◌, Option, Some, None, map, refl, sym, ap, ◌∙◌, arith, true≢false}
+use Rattle.std.proofs.Common.{◌≡◌, ◌⊎◌, inl, inr, ℕ, zero, suc, Bool, true, false, not, cond, List, [], ◌∷◌}
+use Rattle.std.proofs.Common.{Option, Some, None, map, refl, sym, ap, ◌∙◌, arith, true≢false}
 use Rattle.std.specs.Prelude.{filter, find, is_none}
 use Rattle.std.specs.List.{Contains, cons_option, filter_map, flat_map, position}
 use Rattle.std.proofs.lemmas.Bool.{cases_Bool}
@@ -40,11 +41,13 @@ module _ {X : Type 0} where
       and_later : Contains xs x × (p x ≡ true) → Contains (y ∷ xs) x × (p x ≡ true)
       and_later (later, e) = (contains_later y xs x later, e)
 
-      first_or : p y ≡ true → (Contains (filter p xs) x → Contains xs x × (p x ≡ true)) → (y ≡ x) ⊎ Contains (filter p xs) x → Contains (y ∷ xs) x × (p x ≡ true)
+      first_or : p y ≡ true → (Contains (filter p xs) x → Contains xs x × (p x ≡ true)) → (y ≡ x) ⊎ Contains (filter p xs) x → Contains (y ∷ xs) x
+          × (p x ≡ true)
       first_or e more (inl same) = (contains_first y xs x same, ap p (sym same) ∙ e)
       first_or e more (inr later) = and_later (more later)
 
-      step : (b : Bool) → p y ≡ b → (Contains (filter p xs) x → Contains xs x × (p x ≡ true)) → Contains (cond b (y ∷ filter p xs) (filter p xs)) x → Contains (y ∷ xs) x × (p x ≡ true)
+      step : (b : Bool) → p y ≡ b → (Contains (filter p xs) x → Contains xs x × (p x ≡ true)) → Contains (cond b (y ∷ filter p xs) (filter p xs)) x
+          → Contains (y ∷ xs) x × (p x ≡ true)
       step true e more d = first_or e more (contains_cases y (filter p xs) x d)
       step false e more d = and_later (more d)
 
@@ -55,7 +58,8 @@ module _ {X : Type 0} where
       and_later : Contains xs x × (p x ≡ true) → Contains (y ∷ xs) x × (p x ≡ true)
       and_later (later, h) = (contains_later y xs x later, h)
 
-      step : (b : Bool) → p y ≡ b → (find p xs ≡ Some x → Contains xs x × (p x ≡ true)) → cond b (Some y) (find p xs) ≡ Some x → Contains (y ∷ xs) x × (p x ≡ true)
+      step : (b : Bool) → p y ≡ b → (find p xs ≡ Some x → Contains xs x × (p x ≡ true)) → cond b (Some y) (find p xs) ≡ Some x → Contains (y ∷ xs) x
+          × (p x ≡ true)
       step true h more d = let same : y ≡ x = same_Some y x d in (contains_first y xs x same, ap p (sym same) ∙ h)
       step false h more d = and_later (more d)
 
@@ -98,7 +102,8 @@ module _ {X Y : Type 0} where
   flat_mapped f [] y c = absurd (contains_none y c)
   flat_mapped f (z ∷ xs) y c = step (flat_mapped f xs y) (Contains-append_cases (f z) (flat_map f xs) y c)
     where
-      step : (Contains (flat_map f xs) y → (x : X) × Contains xs x × Contains (f x) y) → Contains (f z) y ⊎ Contains (flat_map f xs) y → (x : X) × Contains (z ∷ xs) x × Contains (f x) y
+      step : (Contains (flat_map f xs) y → (x : X) × Contains xs x × Contains (f x) y) → Contains (f z) y ⊎ Contains (flat_map f xs) y → (x : X)
+          × Contains (z ∷ xs) x × Contains (f x) y
       step more (inl here) = (z, contains_first z xs z refl, here)
       step more (inr later) = let it = more later in (it.0, contains_later z xs it.0 it.1, it.2)
 
@@ -107,7 +112,8 @@ pub contains_distinct : (ts : List (List ℕ)) (t : List ℕ) → Contains ts t 
 contains_distinct [] t c = absurd (contains_none t c)
 contains_distinct (u ∷ ts) t c = step (contains_distinct ts t) (contains_cases u ts t c) (cases_Bool (same_text u t))
   where
-    step : (Contains ts t → Contains (distinct ts) t) → (u ≡ t) ⊎ Contains ts t → (same_text u t ≡ true) ⊎ (same_text u t ≡ false) → Contains (distinct (u ∷ ts)) t
+    step : (Contains ts t → Contains (distinct ts) t) → (u ≡ t) ⊎ Contains ts t → (same_text u t ≡ true) ⊎ (same_text u t ≡ false)
+        → Contains (distinct (u ∷ ts)) t
     step more (inl same) b = contains_first u (filter (λ v. not (same_text u v)) (distinct ts)) t same
     step more (inr later) (inl same) = contains_first u (filter (λ v. not (same_text u v)) (distinct ts)) t ((bytes_eq-Decides u t).0 same)
     step more (inr later) (inr differ) =

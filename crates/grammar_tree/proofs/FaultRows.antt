@@ -68,17 +68,39 @@ EofWithin = grammar (parser a (just (only (WrittenTerm.name b))) ∷ parser b (j
 
 -- A : B ; fragment B : 'y' B ;
 abbrev Loop : WrittenGrammar
-Loop = grammar (lexer A false (LexerSeq.next (LexerTerm.name B) LexerSeq.done) ∷ lexer B true (LexerSeq.next y (LexerSeq.next (LexerTerm.name B) LexerSeq.done)) ∷ [])
+Loop =
+    grammar (lexer A false (LexerSeq.next (LexerTerm.name B) LexerSeq.done) ∷ lexer B true
+    (LexerSeq.next y (LexerSeq.next (LexerTerm.name B) LexerSeq.done)) ∷ [])
 
 loop_uses : Uses Loop B B
-loop_uses = record { rule = record { name = B; fragment = true; gap = false; alts = LexerAlts.or (LexerSeq.next y (LexerSeq.next (LexerTerm.name B) LexerSeq.done)) LexerAlts.none }; of_grammar = (1, omega arith, refl); named = refl; uses = (0, omega arith, refl) }
+loop_uses =
+    record {
+      rule =
+          record {
+            name = B;
+            fragment = true;
+            gap = false;
+            alts = LexerAlts.or (LexerSeq.next y (LexerSeq.next (LexerTerm.name B) LexerSeq.done)) LexerAlts.none;
+          };
+      of_grammar = (1, omega arith, refl);
+      named = refl;
+      uses = (0, omega arith, refl);
+    }
 
 -- A : 'y' .*? 'y' ; B : A ;
 abbrev Short : WrittenGrammar
-Short = grammar (lexer A false (LexerSeq.next y (LexerSeq.next (LexerTerm.short []) (LexerSeq.next y LexerSeq.done))) ∷ lexer B false (LexerSeq.next (LexerTerm.name A) LexerSeq.done) ∷ [])
+Short =
+    grammar (lexer A false (LexerSeq.next y (LexerSeq.next (LexerTerm.short []) (LexerSeq.next y LexerSeq.done))) ∷ lexer B false
+    (LexerSeq.next (LexerTerm.name A) LexerSeq.done) ∷ [])
 
 short_uses : Uses Short B A
-short_uses = record { rule = record { name = B; fragment = false; gap = false; alts = LexerAlts.or (LexerSeq.next (LexerTerm.name A) LexerSeq.done) LexerAlts.none }; of_grammar = (1, omega arith, refl); named = refl; uses = (0, omega arith, refl) }
+short_uses =
+    record {
+      rule = record { name = B; fragment = false; gap = false; alts = LexerAlts.or (LexerSeq.next (LexerTerm.name A) LexerSeq.done) LexerAlts.none };
+      of_grammar = (1, omega arith, refl);
+      named = refl;
+      uses = (0, omega arith, refl);
+    }
 
 abbrev head : List ℕ → ℕ
 head [] = 0
@@ -105,11 +127,15 @@ EmptyStar = grammar (parser a (just (only (WrittenTerm.star (WrittenTerm.block (
 
 -- a : a b | 'x' ; b : 'x'? ;
 abbrev EmptyRest : WrittenGrammar
-EmptyRest = grammar (parser a (either (WrittenSeq.next (WrittenTerm.name a) (only (WrittenTerm.name b))) (only x)) ∷ parser b (just (only (WrittenTerm.opt x))) ∷ [])
+EmptyRest =
+    grammar (parser a (either (WrittenSeq.next (WrittenTerm.name a) (only (WrittenTerm.name b))) (only x)) ∷ parser b (just (only (WrittenTerm.opt x))) ∷ [])
 
 -- A : ('y'?)* ;
 abbrev EmptyLexerStar : WrittenGrammar
-EmptyLexerStar = grammar (lexer A true (LexerSeq.next (LexerTerm.star (LexerTerm.block (LexerAlts.or (LexerSeq.next (LexerTerm.opt y) LexerSeq.done) LexerAlts.none))) LexerSeq.done) ∷ [])
+EmptyLexerStar =
+    grammar
+    (lexer A true (LexerSeq.next (LexerTerm.star (LexerTerm.block (LexerAlts.or (LexerSeq.next (LexerTerm.opt y) LexerSeq.done) LexerAlts.none))) LexerSeq.done)
+    ∷ [])
 
 -- a : b ; b : a | 'x' ;
 abbrev Indirect : WrittenGrammar
@@ -117,7 +143,8 @@ Indirect = grammar (parser a (just (only (WrittenTerm.name b))) ∷ parser b (ei
 
 -- a : b a | 'x' ; b : 'x'? ;
 abbrev Hidden : WrittenGrammar
-Hidden = grammar (parser a (either (WrittenSeq.next (WrittenTerm.name b) (only (WrittenTerm.name a))) (only x)) ∷ parser b (just (only (WrittenTerm.opt x))) ∷ [])
+Hidden =
+    grammar (parser a (either (WrittenSeq.next (WrittenTerm.name b) (only (WrittenTerm.name a))) (only x)) ∷ parser b (just (only (WrittenTerm.opt x))) ∷ [])
 
 -- n times (.)
 blocks : ℕ → WrittenSeq
@@ -142,7 +169,8 @@ too_many = (sym (many_count 65534), omega arith)
 
 -- 'x'? in b can be empty
 opt_is_empty : (G : List Alts) (t : Term) → DerivesAlts G (Alts.or (Seq.next (Term.opt t) Seq.done) Alts.none) []
-opt_is_empty G t = DerivesAlts.by_first (Seq.next (Term.opt t) Seq.done) Alts.none [] (DerivesSeq.by_next (Term.opt t) Seq.done [] [] (Derives.by_absent t) DerivesSeq.by_done)
+opt_is_empty G t =
+    DerivesAlts.by_first (Seq.next (Term.opt t) Seq.done) Alts.none [] (DerivesSeq.by_next (Term.opt t) Seq.done [] [] (Derives.by_absent t) DerivesSeq.by_done)
 
 -- the alternatives of the rules, resolved: 'x' is the kind 0
 abbrev opt_x : Alts

@@ -1,5 +1,6 @@
 -- A grammar that no fault holds of: grammar K; a : a B | B EOF ; fragment F : 'y' ; B : 'x' F ;
-use Rattle.std.proofs.Common.{◌≡◌, ◌+◌, ◌≤◌, ◌⊎◌, ℕ, zero, suc, Bool, true, false, cond, List, [], ◌∷◌, ◌++◌, Some, slice_get, refl, sym, ap, ◌∙◌, subst, arith, true≢false, inl, inr}
+use Rattle.std.proofs.Common.{◌≡◌, ◌+◌, ◌≤◌, ◌⊎◌, ℕ, zero, suc, Bool, true, false, cond, List, [], ◌∷◌, ◌++◌, Some}
+use Rattle.std.proofs.Common.{slice_get, refl, sym, ap, ◌∙◌, subst, arith, true≢false, inl, inr}
 use Rattle.std.specs.List.{Contains}
 use Rattle.std.proofs.lemmas.Slice.Eq.{bytes_eq-Decides}
 use Rattle.grammar_tree.specs.Written.{WrittenTerm, WrittenSeq, WrittenAlts, LexerTerm, LexerSeq, LexerAlts, ParserRule, LexerRule, WrittenRule, WrittenGrammar}
@@ -7,7 +8,9 @@ use Rattle.grammar_tree.specs.Kinds.{kinds_of, lexer_rules, same_text}
 use Rattle.grammar_tree.specs.Matches.{MatchesAlternative, MatchesRule, any_is_short}
 use Rattle.grammar_tree.specs.Derives.{Term, Seq, Alts, DerivesAlts, DerivesSeq, Derives, bodies, resolved_alts}
 use Rattle.grammar_tree.specs.Corners.{BeginsAlts, HasEmptyLoopAlts, IsLeftCorner, LeadsTo, bases, normal_count, rests}
-use Rattle.grammar_tree.specs.Faults.{is_misplaced, name_uses, number_at, used_names, IsUnknown, LexerHasEmptyLoopAlts, NameUse, NamesNothing, TwoRules, NoRule, EofPlace, EmptyToken, FragmentLoop, NoBase, EmptyLoop, LeftRecursion, ShortUse, TooManyRules, Uses, UsesThrough, IsWellFormed}
+use Rattle.grammar_tree.specs.Faults.{is_misplaced, name_uses, number_at, used_names, IsUnknown, LexerHasEmptyLoopAlts, NameUse, NamesNothing, TwoRules, NoRule}
+use Rattle.grammar_tree.specs.Faults.{EofPlace, EmptyToken, FragmentLoop, NoBase, EmptyLoop, LeftRecursion, ShortUse, TooManyRules, Uses, UsesThrough}
+use Rattle.grammar_tree.specs.Faults.{IsWellFormed}
 use Rattle.grammar_tree.proofs.DeriveForms.{by_form}
 use Rattle.grammar_tree.proofs.MatchForms as lexer
 
@@ -31,7 +34,13 @@ abbrev F_rule : LexerRule
 F_rule = record { name = F; fragment = true; gap = false; alts = LexerAlts.or (LexerSeq.next (LexerTerm.literal (121 ∷ [])) LexerSeq.done) LexerAlts.none }
 
 abbrev B_rule : LexerRule
-B_rule = record { name = B; fragment = false; gap = false; alts = LexerAlts.or (LexerSeq.next (LexerTerm.literal (120 ∷ [])) (LexerSeq.next (LexerTerm.name F) LexerSeq.done)) LexerAlts.none }
+B_rule =
+    record {
+      name = B;
+      fragment = false;
+      gap = false;
+      alts = LexerAlts.or (LexerSeq.next (LexerTerm.literal (120 ∷ [])) (LexerSeq.next (LexerTerm.name F) LexerSeq.done)) LexerAlts.none;
+    }
 
 abbrev pub K : WrittenGrammar
 K = record { name = 75 ∷ []; tokens = []; rules = WrittenRule.parser_rule a_rule ∷ WrittenRule.lexer_rule F_rule ∷ WrittenRule.lexer_rule B_rule ∷ [] }
@@ -78,10 +87,12 @@ apart x y name differ p q = differ ((bytes_eq-Decides x name).0 p ∙ sym ((byte
 
 one_name : (name : List ℕ) → ¬ TwoRules K name
 one_name name h =
-    at_most_one (same_text a name) (same_text F name) (same_text B name) (apart a F name (names_differ a F (λ e. omega (arith, e)))) (apart a B name (names_differ a B (λ e. omega (arith, e)))) (apart F B name (names_differ F B (λ e. omega (arith, e)))) h
+    at_most_one (same_text a name) (same_text F name) (same_text B name) (apart a F name (names_differ a F (λ e. omega (arith, e))))
+    (apart a B name (names_differ a B (λ e. omega (arith, e)))) (apart F B name (names_differ F B (λ e. omega (arith, e)))) h
 
 -- the uses: a, B and B in a, and F in B
-use_is : (i : ℕ) (it : NameUse) → slice_get (name_uses K) i ≡ Some it → (it ≡ NameUse.by_parser_rule a) ⊎ ((it ≡ NameUse.by_parser_rule B) ⊎ (it ≡ NameUse.by_lexer_rule F))
+use_is : (i : ℕ) (it : NameUse) → slice_get (name_uses K) i ≡ Some it → (it ≡ NameUse.by_parser_rule a)
+    ⊎ ((it ≡ NameUse.by_parser_rule B) ⊎ (it ≡ NameUse.by_lexer_rule F))
 use_is zero it e = inl cc
 use_is (suc zero) it e = inr (inl cc)
 use_is (suc (suc zero)) it e = inr (inl cc)
@@ -140,10 +151,13 @@ no_empty_token i (rule, at, (whole, m)) = elim (lexer_rule_is i rule at) [
         absurd cc
 
     not_empty : MatchesRule (lexer_rules K.rules) B_rule.alts [] → ⊥
-    not_empty m = elim (((lexer.rule_by_form (lexer_rules K.rules)).or (LexerSeq.next (LexerTerm.literal (120 ∷ [])) (LexerSeq.next (LexerTerm.name F) LexerSeq.done)) LexerAlts.none []).0 m) [
-      | inl one ↦ first one
-      | inr none ↦ (lexer.rule_by_form (lexer_rules K.rules)).none [] none
-    ]
+    not_empty m =
+        elim
+        (((lexer.rule_by_form (lexer_rules K.rules)).or
+        (LexerSeq.next (LexerTerm.literal (120 ∷ [])) (LexerSeq.next (LexerTerm.name F) LexerSeq.done)) LexerAlts.none []).0 m) [
+          | inl one ↦ first one
+          | inr none ↦ (lexer.rule_by_form (lexer_rules K.rules)).none [] none
+        ]
 
 abbrev base : Seq
 base = Seq.next (Term.kind 0) (Seq.next Term.eof Seq.done)
@@ -179,7 +193,8 @@ kind_first G s d =
     let bad : [] ≡ (0 ∷ []) ++ it.1 = it.2 ∙ ap (λ x. x ++ it.1) u in absurd cc
 
 one_alternative : (G : List Alts) (s : Seq) → DerivesAlts G (Alts.or (Seq.next (Term.kind 0) s) Alts.none) [] → ⊥
-one_alternative G s d = elim (((by_form G).or (Seq.next (Term.kind 0) s) Alts.none []).0 d) [ inl one ↦ kind_first G s one | inr none ↦ (by_form G).none [] none ]
+one_alternative G s d =
+    elim (((by_form G).or (Seq.next (Term.kind 0) s) Alts.none []).0 d) [ inl one ↦ kind_first G s one | inr none ↦ (by_form G).none [] none ]
 
 no_loop : (G : List Alts) → HasEmptyLoopAlts G body → ⊥
 no_loop G (inl (inl h)) = h

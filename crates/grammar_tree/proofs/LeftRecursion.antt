@@ -22,7 +22,8 @@ module _ (G : List Alts) (r : ℕ) (a : Alts) (at : slice_get G r ≡ Some a) wh
   Rests = Term.star (Term.block (rests r a))
 
   -- a base is an alternative
-  base_step : (s : Seq) (b : Alts) (o : Option Seq) (w : List ℕ) → (DerivesAlts G (bases r b) w → DerivesAlts G b w) → DerivesAlts G (and_base s o (bases r b)) w → DerivesAlts G (Alts.or s b) w
+  base_step : (s : Seq) (b : Alts) (o : Option Seq) (w : List ℕ) → (DerivesAlts G (bases r b) w → DerivesAlts G b w)
+      → DerivesAlts G (and_base s o (bases r b)) w → DerivesAlts G (Alts.or s b) w
   base_step s b None w more (DerivesAlts.by_first s' b' w' d) = DerivesAlts.by_first s b w d
   base_step s b None w more (DerivesAlts.by_later s' b' w' d) = DerivesAlts.by_later s b w (more d)
   base_step s b (Some rest) w more d = DerivesAlts.by_later s b w (more d)
@@ -32,7 +33,8 @@ module _ (G : List Alts) (r : ℕ) (a : Alts) (at : slice_get G r ≡ Some a) wh
   base_in (Alts.or s b) w d = base_step s b (rest_of r s) w (base_in b w) d
 
   -- the rule followed by a rest is an alternative
-  rest_step : (s : Seq) (b : Alts) (u v : List ℕ) (o : Option Seq) → rest_of r s ≡ o → Derives G (Term.rule r) u → (DerivesAlts G (rests r b) v → DerivesAlts G b (u ++ v)) →
+  rest_step : (s : Seq) (b : Alts) (u v : List ℕ) (o : Option Seq) → rest_of r s ≡ o → Derives G (Term.rule r) u
+      → (DerivesAlts G (rests r b) v → DerivesAlts G b (u ++ v)) →
       DerivesAlts G (and_rest o (rests r b)) v → DerivesAlts G (Alts.or s b) (u ++ v)
   rest_step s b u v None e d more m = DerivesAlts.by_later s b (u ++ v) (more m)
   rest_step s b u v (Some rest) e d more (DerivesAlts.by_later s' b' w' m) = DerivesAlts.by_later s b (u ++ v) (more m)
@@ -60,7 +62,8 @@ module _ (G : List Alts) (r : ℕ) (a : Alts) (at : slice_get G r ≡ Some a) wh
 
   -- one more rest at the end
   longer : (t : Term) (u v : List ℕ) → DerivesMany G t u → Derives G t v → DerivesMany G t (u ++ v)
-  longer t u v (DerivesMany.by_end t') d = let P : List ℕ → Type 0 = λ x. DerivesMany G t x in subst P (append-nil v) (DerivesMany.by_more t v [] d (DerivesMany.by_end t))
+  longer t u v (DerivesMany.by_end t') d = let P : List ℕ → Type 0 =
+      λ x. DerivesMany G t x in subst P (append-nil v) (DerivesMany.by_more t v [] d (DerivesMany.by_end t))
   longer t u v (DerivesMany.by_more t' x y m more) d =
       let P : List ℕ → Type 0 = λ z. DerivesMany G t z in
       subst P (sym (append_assoc x y v)) (DerivesMany.by_more t x (y ++ v) m (longer t y v more d))
@@ -72,13 +75,15 @@ module _ (G : List Alts) (r : ℕ) (a : Alts) (at : slice_get G r ≡ Some a) wh
   abbrev Splits : Alts → Alts → List ℕ → Type 0
   Splits base rest w = DerivesAlts G base w ⊎ CutsInto Cuts (DerivesAlts G rest) w
 
-  first_splits : (s : Seq) (b : Alts) (w : List ℕ) (o : Option Seq) → rest_of r s ≡ o → DerivesSeq G s w → ((rest : Seq) → rest_of r s ≡ Some rest → CutsInto Cuts (DerivesSeq G rest) w) →
+  first_splits : (s : Seq) (b : Alts) (w : List ℕ) (o : Option Seq) → rest_of r s ≡ o → DerivesSeq G s w
+      → ((rest : Seq) → rest_of r s ≡ Some rest → CutsInto Cuts (DerivesSeq G rest) w) →
       Splits (and_base s o (bases r b)) (and_rest o (rests r b)) w
   first_splits s b w None e d cut = inl (DerivesAlts.by_first s (bases r b) w d)
   first_splits s b w (Some rest) e d cut =
       let it = cut rest e in inr (it.0, it.1, it.2, it.3, DerivesAlts.by_first rest (rests r b) it.1 it.4)
 
-  later_splits : (s : Seq) (b : Alts) (w : List ℕ) (o : Option Seq) → Splits (bases r b) (rests r b) w → Splits (and_base s o (bases r b)) (and_rest o (rests r b)) w
+  later_splits : (s : Seq) (b : Alts) (w : List ℕ) (o : Option Seq) → Splits (bases r b) (rests r b) w
+      → Splits (and_base s o (bases r b)) (and_rest o (rests r b)) w
   later_splits s b w None (inl d) = inl (DerivesAlts.by_later s (bases r b) w d)
   later_splits s b w None (inr d) = inr d
   later_splits s b w (Some rest) (inl d) = inl d

@@ -53,7 +53,8 @@ module _ (G : WrittenGrammar) where
       let above = b.least k (subst Q same.0 a.matched) in
       (omega (arith, below, above), same.0, same.1)
 
-  same_end : {text left other : List ℕ} {ps qs : List Piece} → LexesTo G text ps left → NoNext left → LexesTo G text qs other → NoNext other → (ps ≡ qs) × (left ≡ other)
+  same_end : {text left other : List ℕ} {ps qs : List Piece} → LexesTo G text ps left → NoNext left → LexesTo G text qs other → NoNext other → (ps ≡ qs)
+      × (left ≡ other)
   same_end (LexesTo.by_end text) none (LexesTo.by_end text') none' = (refl, refl)
   same_end (LexesTo.by_end text) none (LexesTo.by_piece text' k p r l ps next more) none' = absurd (none k p r next)
   same_end (LexesTo.by_piece text k p r l ps next more) none (LexesTo.by_end text') none' = absurd (none' k p r next)

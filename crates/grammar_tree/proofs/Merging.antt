@@ -1,5 +1,6 @@
 -- One more range of one of two lists that are merged.
-use Rattle.std.proofs.Common.{◌≡◌, ℕ, ◌+◌, ◌<◌, ◌≤◌, ◌||◌, ◌⊎◌, inl, inr, Bool, true, false, List, [], length, take, slice_index_or, refl, sym, ap, ap₂, ◌∙◌, arith, le_trans, subst}
+use Rattle.std.proofs.Common.{◌≡◌, ℕ, ◌+◌, ◌<◌, ◌≤◌, ◌||◌, ◌⊎◌, inl, inr, Bool, true, false, List, [], length, take}
+use Rattle.std.proofs.Common.{slice_index_or, refl, sym, ap, ap₂, ◌∙◌, arith, le_trans, subst}
 use Rattle.std.proofs.lemmas.List.{get_or_default}
 use Rattle.regex_class.specs.Ranges.{Range, in_range, in_ranges, range_at, IsCanonical, StartsAtMost}
 use Rattle.regex_class.proofs.RangesLemmas.{in_ranges-more, or_assoc, rises_from-at, rises_from-mono}
@@ -39,22 +40,26 @@ members_right old new xs ys i j r c lt e so more =
     ∙ ap (λ b. in_ranges (take i xs) c || b) (sym (in_ranges-more ys j c lt))
 
 -- the next range of the same list starts later
-pub later : (new xs : List Range) (i : ℕ) (r : Range) → IsCanonical xs → r ≡ range_at xs i → StartsAtMost new r.0 → i + 1 < length xs → StartsAtMost new (range_at xs (i + 1)).0
+pub later : (new xs : List Range) (i : ℕ) (r : Range) → IsCanonical xs → r ≡ range_at xs i → StartsAtMost new r.0 → i + 1 < length xs
+    → StartsAtMost new (range_at xs (i + 1)).0
 later new xs i r h e s lt =
     let mono = (rises_from-mono 0 xs i (i + 1) h (omega arith) lt).0 in
     le_trans s (let P : Range → Type 0 = λ x. x.0 ≤ (range_at xs (i + 1)).0 in subst P (sym e) mono)
 
 -- the next range of the other list starts no earlier
-pub other : (new xs ys : List Range) (i j : ℕ) (r : Range) → r ≡ range_at xs i → StartsAtMost new r.0 → (range_at xs i).0 ≤ (range_at ys j).0 → StartsAtMost new (range_at ys j).0
+pub other : (new xs ys : List Range) (i j : ℕ) (r : Range) → r ≡ range_at xs i → StartsAtMost new r.0 → (range_at xs i).0 ≤ (range_at ys j).0
+    → StartsAtMost new (range_at ys j).0
 other new xs ys i j r e s le = le_trans s (let P : Range → Type 0 = λ x. x.0 ≤ (range_at ys j).0 in subst P (sym e) le)
 
 -- the list that starts no later has a range left
-pub left_first : (ls rs xs ys : List Range) (i j : ℕ) → ls ≡ xs → rs ≡ ys → (i < length ls) × (j < length rs → (range_at ls i).0 ≤ (range_at rs j).0) → (i < length xs) × (j < length ys → (range_at xs i).0 ≤ (range_at ys j).0)
+pub left_first : (ls rs xs ys : List Range) (i j : ℕ) → ls ≡ xs → rs ≡ ys → (i < length ls) × (j < length rs → (range_at ls i).0 ≤ (range_at rs j).0)
+    → (i < length xs) × (j < length ys → (range_at xs i).0 ≤ (range_at ys j).0)
 left_first ls rs xs ys i j el er h =
     let P : List Range → Type 0 = λ l. (i < length l) × (j < length rs → (range_at l i).0 ≤ (range_at rs j).0) in
     let Q : List Range → Type 0 = λ l. (i < length xs) × (j < length l → (range_at xs i).0 ≤ (range_at l j).0) in subst Q er (subst P el h)
 
-pub right_first : (ls rs xs ys : List Range) (i j : ℕ) → ls ≡ xs → rs ≡ ys → (i < length xs) ⊎ (j < length ys) → (i < length ls → (j < length rs) × ((range_at rs j).0 ≤ (range_at ls i).0)) → (j < length ys) × (i < length xs → (range_at ys j).0 ≤ (range_at xs i).0)
+pub right_first : (ls rs xs ys : List Range) (i j : ℕ) → ls ≡ xs → rs ≡ ys → (i < length xs) ⊎ (j < length ys)
+    → (i < length ls → (j < length rs) × ((range_at rs j).0 ≤ (range_at ls i).0)) → (j < length ys) × (i < length xs → (range_at ys j).0 ≤ (range_at xs i).0)
 right_first ls rs xs ys i j el er some h =
     let P : List Range → Type 0 = λ l. i < length l → (j < length rs) × ((range_at rs j).0 ≤ (range_at l i).0) in
     let Q : List Range → Type 0 = λ l. i < length xs → (j < length l) × ((range_at l j).0 ≤ (range_at xs i).0) in

@@ -1,5 +1,6 @@
 -- What names and literals stand for in a well-formed grammar.
-use Rattle.std.proofs.Common.{◌≡◌, ◌⊎◌, inl, inr, ℕ, zero, suc, ◌+◌, ◌<◌, Bool, true, false, not, cond, List, [], ◌∷◌, Some, None, length, slice_get, slice_index_or, refl, ap, ◌∙◌, arith}
+use Rattle.std.proofs.Common.{◌≡◌, ◌⊎◌, inl, inr, ℕ, zero, suc, ◌+◌, ◌<◌, Bool, true, false, not, cond, List, [], ◌∷◌}
+use Rattle.std.proofs.Common.{Some, None, length, slice_get, slice_index_or, refl, ap, ◌∙◌, arith}
 use Rattle.std.specs.Prelude.{nat_lt}
 use Rattle.std.specs.List.{Contains, position, position_or_len}
 use Rattle.std.proofs.lemmas.Bool.{cases_Bool, lt-ltb}
@@ -12,7 +13,8 @@ use Rattle.grammar_tree.specs.Faults.{TwoRules, number_at}
 use Rattle.grammar_tree.proofs.Places.{at_of_contains, numbers, one_name, place_of}
 
 -- a place that passes where none before it does is the first
-first_place : {X : Type 0} (p : X → Bool) (xs : List X) (k : ℕ) (d : X) → k < length xs → p (slice_index_or xs k d) ≡ true → ((j : ℕ) → j < k → p (slice_index_or xs j d) ≡ false) → position p xs ≡ Some k
+first_place : {X : Type 0} (p : X → Bool) (xs : List X) (k : ℕ) (d : X) → k < length xs → p (slice_index_or xs k d) ≡ true
+    → ((j : ℕ) → j < k → p (slice_index_or xs j d) ≡ false) → position p xs ≡ Some k
 first_place p xs k d lt here none =
     let is : position_or_len p xs ≡ k = position_or_len_is p xs k d (omega arith) none (λ _. here) in
     ap (λ n. cond (nat_lt n (length xs)) (Some n) None) is ∙ ap (λ b. cond b (Some k) None) (lt-ltb k (length xs) lt)
@@ -22,15 +24,18 @@ module _ (G : WrittenGrammar) (one : (name : List ℕ) → ¬ TwoRules G name) w
   rule_or j d = slice_index_or (parser_rules G.rules) j d
 
   -- no lesser number has the name
-  number_once : (i : ℕ) (rule : ParserRule) → slice_get G.rules i ≡ Some (WrittenRule.parser_rule rule) → (j : ℕ) → j < number_at G i → j < length (parser_rules G.rules) → same_text (rule_or j rule).name rule.name ≡ true → ⊥
+  number_once : (i : ℕ) (rule : ParserRule) → slice_get G.rules i ≡ Some (WrittenRule.parser_rule rule) → (j : ℕ) → j < number_at G i
+      → j < length (parser_rules G.rules) → same_text (rule_or j rule).name rule.name ≡ true → ⊥
   number_once i rule e j lt within same =
       let it = place_of G.rules j (rule_or j rule) (slice_get-get_or (parser_rules G.rules) j rule within) in
       let names = (bytes_eq-Decides (rule_or j rule).name rule.name).0 same in
       let place : it.0 ≡ i = one_name G one it.0 i (WrittenRule.parser_rule (rule_or j rule)) (WrittenRule.parser_rule rule) it.2 e names in
       omega (arith, lt, it.1, ap (number_at G) place)
 
-  other : (i : ℕ) (rule : ParserRule) → slice_get G.rules i ≡ Some (WrittenRule.parser_rule rule) → (j : ℕ) → j < number_at G i → j < length (parser_rules G.rules) →
-      (same_text (rule_or j rule).name rule.name ≡ true) ⊎ (same_text (rule_or j rule).name rule.name ≡ false) → same_text (rule_or j rule).name rule.name ≡ false
+  other : (i : ℕ) (rule : ParserRule) → slice_get G.rules i ≡ Some (WrittenRule.parser_rule rule) → (j : ℕ) → j < number_at G i
+      → j < length (parser_rules G.rules) →
+      (same_text (rule_or j rule).name rule.name ≡ true) ⊎ (same_text (rule_or j rule).name rule.name ≡ false)
+      → same_text (rule_or j rule).name rule.name ≡ false
   other i rule e j lt within (inl same) = absurd (number_once i rule e j lt within same)
   other i rule e j lt within (inr differ) = differ
 
@@ -41,7 +46,8 @@ module _ (G : WrittenGrammar) (one : (name : List ℕ) → ¬ TwoRules G name) w
       let at = (numbers G).rule i rule e in
       let within : number_at G i < length rules = slice_get_within rules (number_at G i) rule at in
       let is : rule_or (number_at G i) rule ≡ rule = get_or_from_slice_get rules (number_at G i) rule rule at in
-      first_place test rules (number_at G i) rule within (ap test is ∙ (bytes_eq-Decides rule.name rule.name).1 refl) (λ j lt. other i rule e j lt (omega arith) (cases_Bool (test (rule_or j rule))))
+      first_place test rules (number_at G i) rule within (ap test is ∙ (bytes_eq-Decides rule.name rule.name).1 refl)
+      (λ j lt. other i rule e j lt (omega arith) (cases_Bool (test (rule_or j rule))))
 
 -- where an element passes, a first one does
 passes_somewhere : {X : Type 0} (p : X → Bool) (xs : List X) (k : ℕ) (x : X) → slice_get xs k ≡ Some x → p x ≡ true → position_or_len p xs < length xs

@@ -1,5 +1,6 @@
 -- Where the rules of a grammar stand.
-use Rattle.std.proofs.Common.{◌≡◌, inl, inr, ℕ, zero, suc, ◌<◌, ◌≤◌, Bool, true, cond, List, [], ◌∷◌, Some, map, take, length, slice_get, slice_index_or, refl, ap, ◌∙◌, arith}
+use Rattle.std.proofs.Common.{◌≡◌, inl, inr, ℕ, zero, suc, ◌<◌, ◌≤◌, Bool, true, cond, List, [], ◌∷◌, Some, map}
+use Rattle.std.proofs.Common.{take, length, slice_get, slice_index_or, refl, ap, ◌∙◌, arith}
 use Rattle.std.specs.List.{Contains, count_by}
 use Rattle.std.proofs.lemmas.Bool.{cases_order}
 use Rattle.std.proofs.lemmas.List.Sums.{sum_by-cons}
@@ -26,20 +27,23 @@ contains_later y xs x (k, lt, e) = (suc k, omega arith, e)
 abbrev pub before : List WrittenRule → ℕ → ℕ
 before rules i = length (parser_rules (take i rules))
 
-rule_at : (rules : List WrittenRule) (i : ℕ) (rule : ParserRule) → slice_get rules i ≡ Some (WrittenRule.parser_rule rule) → slice_get (parser_rules rules) (before rules i) ≡ Some rule
+rule_at : (rules : List WrittenRule) (i : ℕ) (rule : ParserRule) → slice_get rules i ≡ Some (WrittenRule.parser_rule rule)
+    → slice_get (parser_rules rules) (before rules i) ≡ Some rule
 rule_at [] i rule e = absurd cc
 rule_at (WrittenRule.parser_rule r ∷ rules) zero rule e = cc
 rule_at (WrittenRule.lexer_rule r ∷ rules) zero rule e = absurd cc
 rule_at (WrittenRule.parser_rule r ∷ rules) (suc i) rule e = rule_at rules i rule e
 rule_at (WrittenRule.lexer_rule r ∷ rules) (suc i) rule e = rule_at rules i rule e
 
-pub place_of : (rules : List WrittenRule) (r : ℕ) (rule : ParserRule) → slice_get (parser_rules rules) r ≡ Some rule → (i : ℕ) × (before rules i ≡ r) × (slice_get rules i ≡ Some (WrittenRule.parser_rule rule))
+pub place_of : (rules : List WrittenRule) (r : ℕ) (rule : ParserRule) → slice_get (parser_rules rules) r ≡ Some rule → (i : ℕ) × (before rules i ≡ r)
+    × (slice_get rules i ≡ Some (WrittenRule.parser_rule rule))
 place_of [] r rule e = absurd cc
 place_of (WrittenRule.parser_rule p ∷ rules) zero rule e = (0, refl, cc)
 place_of (WrittenRule.parser_rule p ∷ rules) (suc r) rule e = let it = place_of rules r rule e in (suc it.0, ap suc it.1, it.2)
 place_of (WrittenRule.lexer_rule p ∷ rules) r rule e = let it = place_of rules r rule e in (suc it.0, it.1, it.2)
 
-one_place : (rules : List WrittenRule) (i j : ℕ) (a b : ParserRule) → slice_get rules i ≡ Some (WrittenRule.parser_rule a) → slice_get rules j ≡ Some (WrittenRule.parser_rule b) → before rules i ≡ before rules j → i ≡ j
+one_place : (rules : List WrittenRule) (i j : ℕ) (a b : ParserRule) → slice_get rules i ≡ Some (WrittenRule.parser_rule a)
+    → slice_get rules j ≡ Some (WrittenRule.parser_rule b) → before rules i ≡ before rules j → i ≡ j
 one_place [] i j a b p q e = absurd cc
 one_place (WrittenRule.parser_rule r ∷ rules) zero zero a b p q e = refl
 one_place (WrittenRule.parser_rule r ∷ rules) zero (suc j) a b p q e = absurd (omega (arith, e))
@@ -59,7 +63,8 @@ map_at f [] k x e = absurd cc
 map_at f (y ∷ xs) zero x e = cc
 map_at f (y ∷ xs) (suc k) x e = map_at f xs k x e
 
-named : (G : WrittenGrammar) (name : List ℕ) (r : ℕ) → rule_number G name ≡ Some r → (rule : ParserRule) × (slice_get (parser_rules G.rules) r ≡ Some rule) × (rule.name ≡ name)
+named : (G : WrittenGrammar) (name : List ℕ) (r : ℕ) → rule_number G name ≡ Some r → (rule : ParserRule) × (slice_get (parser_rules G.rules) r ≡ Some rule)
+    × (rule.name ≡ name)
 named G name r e =
     let rules = parser_rules G.rules in
     let none : ParserRule = record { name = []; alts = WrittenAlts.none } in
@@ -79,7 +84,8 @@ numbers G =
       one = one_place G.rules;
     }
 
-pub lexer_place : (rules : List WrittenRule) (r : ℕ) (rule : LexerRule) → slice_get (lexer_rules rules) r ≡ Some rule → (i : ℕ) × (slice_get rules i ≡ Some (WrittenRule.lexer_rule rule))
+pub lexer_place : (rules : List WrittenRule) (r : ℕ) (rule : LexerRule) → slice_get (lexer_rules rules) r ≡ Some rule → (i : ℕ)
+    × (slice_get rules i ≡ Some (WrittenRule.lexer_rule rule))
 lexer_place [] r rule e = absurd cc
 lexer_place (WrittenRule.lexer_rule p ∷ rules) zero rule e = (0, cc)
 lexer_place (WrittenRule.lexer_rule p ∷ rules) (suc r) rule e = let it = lexer_place rules r rule e in (suc it.0, it.1)
@@ -97,7 +103,8 @@ passes_once p (y ∷ xs) zero x e h =
     omega (arith, sum_by-cons (λ z. cond (p z) 1 0) y xs, one)
 passes_once p (y ∷ xs) (suc k) x e h = omega (arith, sum_by-cons (λ z. cond (p z) 1 0) y xs, passes_once p xs k x e h)
 
-pub passes_twice : {X : Type 0} (p : X → Bool) (xs : List X) (i j : ℕ) (a b : X) → i < j → slice_get xs i ≡ Some a → slice_get xs j ≡ Some b → p a ≡ true → p b ≡ true → 2 ≤ count_by p xs
+pub passes_twice : {X : Type 0} (p : X → Bool) (xs : List X) (i j : ℕ) (a b : X) → i < j → slice_get xs i ≡ Some a → slice_get xs j ≡ Some b → p a ≡ true
+    → p b ≡ true → 2 ≤ count_by p xs
 passes_twice p [] i j a b lt e f g h = absurd cc
 passes_twice p (y ∷ xs) i zero a b lt e f g h = absurd (omega (arith, lt))
 passes_twice p (y ∷ xs) zero (suc j) a b lt e f g h =
@@ -110,7 +117,8 @@ same_is : (a b : List ℕ) → a ≡ b → same_text a b ≡ true
 same_is a b = (bytes_eq-Decides a b).1
 
 -- Two places with one name make two rules of this name.
-pub one_name : (G : WrittenGrammar) → ((name : List ℕ) → ¬ TwoRules G name) → (i j : ℕ) (a b : WrittenRule) → slice_get G.rules i ≡ Some a → slice_get G.rules j ≡ Some b → rule_name a ≡ rule_name b → i ≡ j
+pub one_name : (G : WrittenGrammar) → ((name : List ℕ) → ¬ TwoRules G name) → (i j : ℕ) (a b : WrittenRule) → slice_get G.rules i ≡ Some a
+    → slice_get G.rules j ≡ Some b → rule_name a ≡ rule_name b → i ≡ j
 one_name G one i j a b p q e =
     let test : WrittenRule → Bool = λ rule. same_text (rule_name rule) (rule_name b) in
     let left : same_text (rule_name a) (rule_name b) ≡ true = same_is (rule_name a) (rule_name b) e in

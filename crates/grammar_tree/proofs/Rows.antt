@@ -39,8 +39,11 @@ J = record {
   rules =
       WrittenRule.parser_rule (record {
         name = 97 ∷ [];
-        alts = WrittenAlts.or (WrittenSeq.next (WrittenTerm.literal y) (WrittenSeq.next (WrittenTerm.name F) (WrittenSeq.next (WrittenTerm.literal x) (WrittenSeq.next (WrittenTerm.literal x)
-            (WrittenSeq.next WrittenTerm.any (WrittenSeq.next (WrittenTerm.but (Reference.literal y ∷ Reference.name W ∷ [])) (WrittenSeq.next WrittenTerm.eof WrittenSeq.done))))))) WrittenAlts.none;
+        alts =
+            WrittenAlts.or (WrittenSeq.next (WrittenTerm.literal y)
+            (WrittenSeq.next (WrittenTerm.name F) (WrittenSeq.next (WrittenTerm.literal x) (WrittenSeq.next (WrittenTerm.literal x)
+            (WrittenSeq.next WrittenTerm.any (WrittenSeq.next (WrittenTerm.but (Reference.literal y ∷ Reference.name W ∷ []))
+            (WrittenSeq.next WrittenTerm.eof WrittenSeq.done))))))) WrittenAlts.none;
       })
       ∷ WrittenRule.lexer_rule (record { name = F; fragment = true; gap = false; alts = just (LexerTerm.literal (102 ∷ [])) })
       ∷ lexer A (LexerTerm.literal x)
@@ -92,7 +95,9 @@ U = record {
       lexer A (LexerTerm.name (66 ∷ []))
       ∷ WrittenRule.parser_rule (record {
         name = 97 ∷ [];
-        alts = WrittenAlts.or (WrittenSeq.next (WrittenTerm.name (99 ∷ [])) (WrittenSeq.next (WrittenTerm.literal x) (WrittenSeq.next (WrittenTerm.name (98 ∷ [])) WrittenSeq.done))) WrittenAlts.none;
+        alts =
+            WrittenAlts.or (WrittenSeq.next (WrittenTerm.name (99 ∷ []))
+            (WrittenSeq.next (WrittenTerm.literal x) (WrittenSeq.next (WrittenTerm.name (98 ∷ [])) WrittenSeq.done))) WrittenAlts.none;
       })
       ∷ [];
 }
@@ -131,7 +136,9 @@ abbrev K : WrittenGrammar
 K = record {
   name = 75 ∷ [];
   tokens = [];
-  rules = WrittenRule.parser_rule (record { name = 97 ∷ []; alts = WrittenAlts.or (WrittenSeq.next (WrittenTerm.literal x) WrittenSeq.done) WrittenAlts.none }) ∷ [];
+  rules =
+      WrittenRule.parser_rule (record { name = 97 ∷ []; alts = WrittenAlts.or (WrittenSeq.next (WrittenTerm.literal x) WrittenSeq.done) WrittenAlts.none })
+      ∷ [];
 }
 
 body_of_K : bodies K ≡ Alts.or (Seq.next (Term.kind 0) Seq.done) Alts.none ∷ []
@@ -144,7 +151,9 @@ count_of_K = refl
 
 -- e : e 'x' | ( e ) | : the first alternative is directly recursive, and the others are bases
 abbrev E : Alts
-E = Alts.or (Seq.next (Term.rule 0) (Seq.next (Term.kind 1) Seq.done)) (Alts.or (Seq.next (Term.block (Alts.or (Seq.next (Term.rule 0) Seq.done) Alts.none)) Seq.done) (Alts.or Seq.done Alts.none))
+E =
+    Alts.or (Seq.next (Term.rule 0) (Seq.next (Term.kind 1) Seq.done))
+    (Alts.or (Seq.next (Term.block (Alts.or (Seq.next (Term.rule 0) Seq.done) Alts.none)) Seq.done) (Alts.or Seq.done Alts.none))
 
 bases_of_E : bases 0 E ≡ Alts.or (Seq.next (Term.block (Alts.or (Seq.next (Term.rule 0) Seq.done) Alts.none)) Seq.done) (Alts.or Seq.done Alts.none)
 bases_of_E = refl

@@ -9,7 +9,8 @@ use Rattle.grammar_tree.specs.Laws.{SameCharsSameSet, ComplementTwice}
 which : (c : ℕ) → c ≤ 0x10FFFF → is_surrogate c ≡ false → IsScalar c
 which c h e = grind (arith)
 
-same_at : (s t : List (ℕ × ℕ)) → IsCharSet s → IsCharSet t → HasExactlyChars s (has t) → (c : ℕ) → c ≤ 0x10FFFF → (b : Bool) → is_surrogate c ≡ b → has s c ≡ has t c
+same_at : (s t : List (ℕ × ℕ)) → IsCharSet s → IsCharSet t → HasExactlyChars s (has t) → (c : ℕ) → c ≤ 0x10FFFF → (b : Bool) → is_surrogate c ≡ b
+    → has s c ≡ has t c
 same_at s t hs ht h c le true e = hs.only_chars c e ∙ sym (ht.only_chars c e)
 same_at s t hs ht h c le false e = h c (which c le e)
 

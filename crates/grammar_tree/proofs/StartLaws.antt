@@ -16,11 +16,13 @@ some_is_well_formed = (K, 0, K_is_well_formed)
 abbrev any_rule : WrittenRule
 any_rule = WrittenRule.parser_rule (record { name = []; alts = WrittenAlts.none })
 
-is_parser : (p : WrittenRule → Bool) → ((r : LexerRule) → p (WrittenRule.lexer_rule r) ≡ false) → (rule : WrittenRule) → p rule ≡ true → (r : ParserRule) × (rule ≡ WrittenRule.parser_rule r) × (p (WrittenRule.parser_rule r) ≡ true)
+is_parser : (p : WrittenRule → Bool) → ((r : LexerRule) → p (WrittenRule.lexer_rule r) ≡ false) → (rule : WrittenRule) → p rule ≡ true → (r : ParserRule)
+    × (rule ≡ WrittenRule.parser_rule r) × (p (WrittenRule.parser_rule r) ≡ true)
 is_parser p others (WrittenRule.parser_rule r) e = (r, refl, e)
 is_parser p others (WrittenRule.lexer_rule r) e = absurd (true≢false (sym e ∙ others r))
 
-at_place : (rules : List WrittenRule) (i : ℕ) (p : WrittenRule → Bool) → ((r : LexerRule) → p (WrittenRule.lexer_rule r) ≡ false) → position p rules ≡ Some i → (r : ParserRule) × (slice_get rules i ≡ Some (WrittenRule.parser_rule r)) × (p (WrittenRule.parser_rule r) ≡ true)
+at_place : (rules : List WrittenRule) (i : ℕ) (p : WrittenRule → Bool) → ((r : LexerRule) → p (WrittenRule.lexer_rule r) ≡ false) → position p rules ≡ Some i
+    → (r : ParserRule) × (slice_get rules i ≡ Some (WrittenRule.parser_rule r)) × (p (WrittenRule.parser_rule r) ≡ true)
 at_place rules i p others e =
     let found = position-Some p rules i any_rule e in
     let it = is_parser p others (slice_index_or rules i any_rule) found.1 in

@@ -6,7 +6,8 @@ use Rattle.grammar_tree.specs.Derives.{RuleDerives}
 use Rattle.grammar_tree.specs.Faults.{IsWellFormed, number_at}
 use Rattle.grammar_tree.specs.Size.{grammar_size}
 
--- The grammar is well-formed for its start, its kinds are those of the grammar, and its rules, alternatives, declared tokens and terms together are fewer than 2^32.
+-- The grammar is well-formed for its start, its kinds are those of the grammar, and its
+-- rules, alternatives, declared tokens and terms together are fewer than 2^32.
 pub record IsChecked (c : CheckedGrammar) : Type 0 where
   pub well_formed : IsWellFormed c.grammar c.start
   pub numbered : c.kinds ≡ kinds_of c.grammar

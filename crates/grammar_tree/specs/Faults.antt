@@ -1,7 +1,9 @@
 -- The faults of a grammar, and when it is well-formed: where none of them holds. A rule is given by its place among all rules of the grammar, in written order.
-use Rattle.std.specs.Prelude.{◌≡◌, ◌≢◌, ℕ, ◌<◌, ◌≤◌, ◌⊎◌, Bool, true, false, ◌||◌, not, List, [], ◌∷◌, ◌++◌, Option, Some, None, slice_get, length, take, map, filter, count_by, position, ⊤}
+use Rattle.std.specs.Prelude.{◌≡◌, ◌≢◌, ℕ, ◌<◌, ◌≤◌, ◌⊎◌, Bool, true, false, ◌||◌, not, List, [], ◌∷◌, ◌++◌, Option, Some}
+use Rattle.std.specs.Prelude.{None, slice_get, length, take, map, filter, count_by, position, ⊤}
 use Rattle.std.specs.List.{Contains, filter_map, flat_map}
-use Rattle.grammar_tree.specs.Written.{Reference, WrittenTerm, WrittenSeq, WrittenAlts, LexerTerm, LexerSeq, LexerAlts, ParserRule, LexerRule, WrittenRule, WrittenGrammar}
+use Rattle.grammar_tree.specs.Written.{Reference, WrittenTerm, WrittenSeq, WrittenAlts, LexerTerm, LexerSeq}
+use Rattle.grammar_tree.specs.Written.{LexerAlts, ParserRule, LexerRule, WrittenRule, WrittenGrammar}
 use Rattle.grammar_tree.specs.Matches.{Matches, MatchesRule, any_is_short}
 use Rattle.grammar_tree.specs.Kinds.{all_references, as_name, lexer_rules, parser_rules, references, rule_name, same_text}
 use Rattle.grammar_tree.specs.Derives.{Alts, DerivesAlts, bodies, resolved_alts}
@@ -95,7 +97,8 @@ NoRule G name = (i : ℕ) × NoRuleAt G i name
 -- No parser rule has the wanted name, or there is no parser rule; the fault's name is then empty.
 pub data NoStart (G : WrittenGrammar) : Option (List ℕ) → List ℕ → Type 0 where
   no_parser_rule : (wanted : Option (List ℕ)) → parser_rules G.rules ≡ [] → NoStart G wanted []
-  not_there : (name : List ℕ) → parser_rules G.rules ≢ [] → (¬ Contains (map (λ (r : ParserRule). r.name) (parser_rules G.rules)) name) → NoStart G (Some name) name
+  not_there : (name : List ℕ) → parser_rules G.rules ≢ [] → (¬ Contains (map (λ (r : ParserRule). r.name) (parser_rules G.rules)) name)
+      → NoStart G (Some name) name
 
 abbrev pub is_parser_rule : WrittenRule → Bool
 is_parser_rule (WrittenRule.parser_rule r) = true
@@ -183,10 +186,12 @@ abbrev mutual
   LexerHasEmptyLoopAlts G LexerAlts.none = ⊥
   LexerHasEmptyLoopAlts G (LexerAlts.or s a) = LexerHasEmptyLoopSeq G s ⊎ LexerHasEmptyLoopAlts G a
 
--- This rule, of the parser or of the lexer, has a star or plus over a term that can be empty; or it has a directly recursive alternative whose rest can be empty.
+-- This rule, of the parser or of the lexer, has a star or plus over a term that can be
+-- empty; or it has a directly recursive alternative whose rest can be empty.
 abbrev pub EmptyLoop : WrittenGrammar → ℕ → Type 0
 EmptyLoop G i =
-    AtParserRule G i (λ rule. HasEmptyLoopAlts (bodies G) (resolved_alts G rule.alts) ⊎ DerivesAlts (bodies G) (rests (number_at G i) (resolved_alts G rule.alts)) [])
+    AtParserRule G i (λ rule. HasEmptyLoopAlts (bodies G) (resolved_alts G rule.alts)
+    ⊎ DerivesAlts (bodies G) (rests (number_at G i) (resolved_alts G rule.alts)) [])
     ⊎ AtLexerRule G i (λ rule. LexerHasEmptyLoopAlts (lexer_rules G.rules) rule.alts)
 
 -- This rule is on a cycle of left corners.

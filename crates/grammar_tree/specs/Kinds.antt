@@ -3,7 +3,8 @@ use Rattle.std.specs.Prelude.{ℕ, suc, Bool, true, false, not, ◌&&◌, List, 
 use Rattle.std.specs.List.{filter_map, flat_map}
 use Rattle.std.specs.Option.{option_map_or}
 use Rattle.std.specs.Str.{bytes_eq}
-use Rattle.grammar_tree.specs.Written.{Reference, WrittenTerm, WrittenSeq, WrittenAlts, LexerTerm, LexerSeq, LexerAlts, ParserRule, LexerRule, WrittenRule, WrittenGrammar, Source, TokenKind}
+use Rattle.grammar_tree.specs.Written.{Reference, WrittenTerm, WrittenSeq, WrittenAlts, LexerTerm, LexerSeq, LexerAlts}
+use Rattle.grammar_tree.specs.Written.{ParserRule, LexerRule, WrittenRule, WrittenGrammar, Source, TokenKind}
 
 -- the two texts are equal
 abbrev pub same_text : List ℕ → List ℕ → Bool
@@ -89,7 +90,8 @@ implicit_kind t = record { name = t; gap = false; source = Source.implicit }
 abbrev pub written_kinds : ℕ → List WrittenRule → List TokenKind
 written_kinds place [] = []
 written_kinds place (WrittenRule.parser_rule r ∷ rules) = written_kinds (suc place) rules
-written_kinds place (WrittenRule.lexer_rule r ∷ rules) = and_kind r.fragment (record { name = r.name; gap = r.gap; source = Source.written place }) (written_kinds (suc place) rules)
+written_kinds place (WrittenRule.lexer_rule r ∷ rules) =
+    and_kind r.fragment (record { name = r.name; gap = r.gap; source = Source.written place }) (written_kinds (suc place) rules)
   where
     and_kind : Bool → TokenKind → List TokenKind → List TokenKind
     and_kind true kind kinds = kinds

@@ -7,7 +7,8 @@ use Rattle.grammar_tree.specs.Matches.{Matches, MatchesAlternative, MatchesAlts,
 use Rattle.grammar_tree.specs.Kinds.{parser_rules}
 use Rattle.grammar_tree.specs.Derives.{Term, Seq, Alts, Derives, DerivesSeq, DerivesAlts, bodies, resolved_alts}
 use Rattle.grammar_tree.specs.Corners.{HasEmptyLoopAlts, IsLeftCorner, bases, rests}
-use Rattle.grammar_tree.specs.Faults.{AtLexerRule, AtParserRule, EmptyLoop, EmptyToken, EofPlace, FragmentLoop, IsUnknown, IsWellFormed, LeftRecursion, NameUse, NoBase, NoStart, ShortUse, TooManyRules, TwoRules, is_misplaced, name_uses, number_at, start_of}
+use Rattle.grammar_tree.specs.Faults.{AtLexerRule, AtParserRule, EmptyLoop, EmptyToken, EofPlace, FragmentLoop, IsUnknown, IsWellFormed, LeftRecursion, NameUse}
+use Rattle.grammar_tree.specs.Faults.{NoBase, NoStart, ShortUse, TooManyRules, TwoRules, is_misplaced, name_uses, number_at, start_of}
 use Rattle.grammar_tree.specs.Lexes.{Lexes, LexesTo, Piece, StopsAt}
 
 -- The text or list is cut in two, and each part is of its kind.

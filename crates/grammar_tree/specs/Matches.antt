@@ -5,14 +5,17 @@ use Rattle.grammar_tree.specs.Chars.{has}
 use Rattle.grammar_tree.specs.Written.{LexerTerm, LexerSeq, LexerAlts, LexerRule}
 
 mutual
-  -- The text belongs to the regular language of the term, in a grammar with these lexer rules. A non-greedy loop is read here as a greedy one; `MatchesAlternative` says what being non-greedy takes away.
+  -- The text belongs to the regular language of the term, in a grammar with these lexer rules. A non-greedy
+  -- loop is read here as a greedy one; `MatchesAlternative` says what being non-greedy takes away.
   pub data Matches (G : List LexerRule) : LexerTerm → List ℕ → Type 0 where
     -- a literal matches itself
     by_literal : (text : List ℕ) → Matches G (LexerTerm.literal text) text
     -- a set matches one of its characters
     by_set : (set : List (ℕ × ℕ)) (c : ℕ) → has set c ≡ true → Matches G (LexerTerm.set set) (c ∷ [])
-    -- A name matches what the alternatives of its rule do, read greedily. In a well-formed grammar no rule that a name means is non-greedy, so that the name matches what its rule does.
-    by_name : (name : List ℕ) (rule : LexerRule) (w : List ℕ) → Contains G rule → rule.name ≡ name → MatchesAlts G rule.alts w → Matches G (LexerTerm.name name) w
+    -- A name matches what the alternatives of its rule do, read greedily. In a well-formed grammar no
+    -- rule that a name means is non-greedy, so that the name matches what its rule does.
+    by_name : (name : List ℕ) (rule : LexerRule) (w : List ℕ) → Contains G rule → rule.name ≡ name → MatchesAlts G rule.alts w
+        → Matches G (LexerTerm.name name) w
     -- a block matches what one of its alternatives does
     by_block : (a : LexerAlts) (w : List ℕ) → MatchesAlts G a w → Matches G (LexerTerm.block a) w
     -- `?` at most once
@@ -62,7 +65,8 @@ abbrev mutual
   any_is_short LexerAlts.none = false
   any_is_short (LexerAlts.or s a) = is_short s || any_is_short a
 
--- An alternative of a rule matches a text. A non-greedy one matches the texts that it would match with a greedy loop, and that have no proper prefix which it would match so.
+-- An alternative of a rule matches a text. A non-greedy one matches the texts that it would
+-- match with a greedy loop, and that have no proper prefix which it would match so.
 pub record MatchesAlternative (G : List LexerRule) (s : LexerSeq) (w : List ℕ) : Type 0 where
   pub greedily : MatchesSeq G s w
   pub shortest : is_short s ≡ true → (u v : List ℕ) → w ≡ u ++ v → MatchesSeq G s u → v ≡ []

@@ -10,17 +10,23 @@ use Rattle.grammar_tree.specs.Size.{grammar_size}
 
 -- Each place of a parser rule has a number, which finds its alternatives; and each number is some place's.
 pub record PlacesHaveNumbers (G : WrittenGrammar) : Type 0 where
-  pub rule : (i : ℕ) (rule : ParserRule) → slice_get G.rules i ≡ Some (WrittenRule.parser_rule rule) → slice_get (parser_rules G.rules) (number_at G i) ≡ Some rule
-  pub body : (i : ℕ) (rule : ParserRule) → slice_get G.rules i ≡ Some (WrittenRule.parser_rule rule) → slice_get (bodies G) (number_at G i) ≡ Some (resolved_alts G rule.alts)
-  pub place : (r : ℕ) (body : Alts) → slice_get (bodies G) r ≡ Some body → (i : ℕ) × (number_at G i ≡ r) × AtParserRule G i (λ rule. resolved_alts G rule.alts ≡ body)
+  pub rule : (i : ℕ) (rule : ParserRule) → slice_get G.rules i ≡ Some (WrittenRule.parser_rule rule)
+      → slice_get (parser_rules G.rules) (number_at G i) ≡ Some rule
+  pub body : (i : ℕ) (rule : ParserRule) → slice_get G.rules i ≡ Some (WrittenRule.parser_rule rule)
+      → slice_get (bodies G) (number_at G i) ≡ Some (resolved_alts G rule.alts)
+  pub place : (r : ℕ) (body : Alts) → slice_get (bodies G) r ≡ Some body → (i : ℕ) × (number_at G i ≡ r)
+      × AtParserRule G i (λ rule. resolved_alts G rule.alts ≡ body)
   -- the number that a name has is a rule's of this name
-  pub named : (name : List ℕ) (r : ℕ) → rule_number G name ≡ Some r → (rule : ParserRule) × (slice_get (parser_rules G.rules) r ≡ Some rule) × (rule.name ≡ name)
+  pub named : (name : List ℕ) (r : ℕ) → rule_number G name ≡ Some r → (rule : ParserRule) × (slice_get (parser_rules G.rules) r ≡ Some rule)
+      × (rule.name ≡ name)
   -- no number is met twice
-  pub one : (i j : ℕ) (a b : ParserRule) → slice_get G.rules i ≡ Some (WrittenRule.parser_rule a) → slice_get G.rules j ≡ Some (WrittenRule.parser_rule b) → number_at G i ≡ number_at G j → i ≡ j
+  pub one : (i j : ℕ) (a b : ParserRule) → slice_get G.rules i ≡ Some (WrittenRule.parser_rule a) → slice_get G.rules j ≡ Some (WrittenRule.parser_rule b)
+      → number_at G i ≡ number_at G j → i ≡ j
 
 -- A lexer rule is at some place.
 abbrev pub LexerRulesHavePlaces : Type 0
-LexerRulesHavePlaces = (G : WrittenGrammar) (rule : LexerRule) → Contains (lexer_rules G.rules) rule → (i : ℕ) × (slice_get G.rules i ≡ Some (WrittenRule.lexer_rule rule))
+LexerRulesHavePlaces =
+    (G : WrittenGrammar) (rule : LexerRule) → Contains (lexer_rules G.rules) rule → (i : ℕ) × (slice_get G.rules i ≡ Some (WrittenRule.lexer_rule rule))
 
 -- What names and literals mean in a grammar.
 pub record NamesAreKnown (G : WrittenGrammar) : Type 0 where

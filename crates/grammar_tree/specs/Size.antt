@@ -1,4 +1,5 @@
--- How large a grammar is: its rules, alternatives, declared tokens and terms together. Alternatives and terms count at every depth, and each token after `~` counts as a term.
+-- How large a grammar is: its rules, alternatives, declared tokens and terms together.
+-- Alternatives and terms count at every depth, and each token after `~` counts as a term.
 use Rattle.std.specs.Prelude.{ℕ, suc, ◌+◌, length, sum_by}
 use Rattle.grammar_tree.specs.Written.{WrittenTerm, WrittenSeq, WrittenAlts, LexerTerm, LexerSeq, LexerAlts, WrittenRule, WrittenGrammar}
 

@@ -3,7 +3,9 @@
 
 ghost use Rattle.std.specs.Prelude.{List};
 ghost use Rattle.grammar_tree.specs.Derives.{Alts};
-ghost use Rattle.grammar_tree.specs.Laws.{BaseThenRests, ComplementTwice, DerivesByForm, LexesOneWay, EachFaultCanHold, LexedStopsNowhere, MatchesByForm, PiecesCover, ReadsOneWay, RulesMatchByForm, RulesMatchGreedily, SameCharsSameSet, ShortestIsMatched, SomeIsWellFormed, StartIsThere, StopsOnce};
+ghost use Rattle.grammar_tree.specs.Laws.{BaseThenRests, ComplementTwice, DerivesByForm, LexesOneWay, EachFaultCanHold, LexedStopsNowhere, MatchesByForm};
+ghost use Rattle.grammar_tree.specs.Laws.{PiecesCover, ReadsOneWay, RulesMatchByForm, RulesMatchGreedily, SameCharsSameSet, ShortestIsMatched};
+ghost use Rattle.grammar_tree.specs.Laws.{SomeIsWellFormed, StartIsThere, StopsOnce};
 ghost use Rattle.grammar_tree.specs.Places.{CountsFit, KindsAreRules, LexerRulesHavePlaces, NameIsItsRule, PlacesHaveNumbers, StartIsFound, WellFormedNames};
 ghost use Rattle.grammar_tree.specs.Written.{LexerRule, WrittenGrammar};
 

@@ -1,5 +1,6 @@
 -- Where bytes occur in a text.
-use Rattle.std.proofs.Common.{◌≡◌, ◌+◌, ◌<◌, ◌≤◌, ◌⊎◌, inl, inr, ⊎_elim, ℕ, zero, suc, Bool, true, false, cond, ◌||◌, ◌&&◌, List, [], ◌∷◌, ◌++◌, length, Option, Some, None, option_map, refl, sym, ap, ◌∙◌, arith, subst}
+use Rattle.std.proofs.Common.{◌≡◌, ◌+◌, ◌<◌, ◌≤◌, ◌⊎◌, inl, inr, ⊎_elim, ℕ, zero, suc, Bool, true, false, cond, ◌||◌, ◌&&◌, List, []}
+use Rattle.std.proofs.Common.{◌∷◌, ◌++◌, length, Option, Some, None, option_map, refl, sym, ap, ◌∙◌, arith, subst}
 use Rattle.std.proofs.lemmas.Bool.{eqb-true, eq-eqb, false≢true}
 use Rattle.std.specs.Prelude.{◌==◌, is_some, not, slice_index}
 use Rattle.memchr.specs.Find.{FindsNeedle, OccursAt}
@@ -48,7 +49,8 @@ begins-occurs keep (first ∷ text) is = or-first (begins_with keep (first ∷ t
 
 occurs-after : (before keep text : List ℕ) → begins_with keep text ≡ true → occurs keep (before ++ text) ≡ true
 occurs-after [] keep text is = begins-occurs keep text is
-occurs-after (first ∷ before) keep text is = or-second (begins_with keep (first ∷ (before ++ text))) (occurs keep (before ++ text)) (occurs-after before keep text is)
+occurs-after (first ∷ before) keep text is =
+    or-second (begins_with keep (first ∷ (before ++ text))) (occurs keep (before ++ text)) (occurs-after before keep text is)
 
 occurs-part : (keep text : List ℕ) → occurs keep text ≡ true → (before : List ℕ) × (after : List ℕ) × (text ≡ before ++ (keep ++ after))
 occurs-part keep [] is = let part = begins-part keep [] is in ([], part.0, part.1)
@@ -70,7 +72,11 @@ at-begins [] text at = refl
 at-begins (byte ∷ keep) [] at = absurd (let fits = at.fits in omega arith)
 at-begins (byte ∷ keep) (first ∷ text) at =
     both-true (byte == first) (begins_with keep text) (eq-eqb byte first (sym (at.reads 0 (omega arith))))
-    (at-begins keep text (record { fits = let fits = at.fits in omega arith; reads = λ j below. let next : 0 + suc j ≡ suc (0 + j) = omega arith in subst (λ i. slice_index (first ∷ text) i ≡ slice_index keep j) next (at.reads (suc j) (omega arith)) }))
+    (at-begins keep text (record {
+      fits = let fits = at.fits in omega arith;
+      reads = λ j below. let next : 0 + suc j ≡ suc (0 + j) = omega arith in
+          subst (λ i. slice_index (first ∷ text) i ≡ slice_index keep j) next (at.reads (suc j) (omega arith));
+    }))
 
 begins-at : (keep text : List ℕ) → begins_with keep text ≡ true → OccursAt text keep 0
 begins-at [] text is = record { fits = omega arith; reads = λ j below. absurd (omega arith) }
@@ -80,7 +86,8 @@ begins-at (byte ∷ keep) (first ∷ text) is =
     let rest = begins-at keep text parts.1 in
     record {
       fits = let fits = rest.fits in omega arith;
-      reads = λ j below. let same : j ≡ 0 + j = omega arith in subst (λ i. slice_index (first ∷ text) i ≡ slice_index (byte ∷ keep) j) same (at_index parts.0 rest j below);
+      reads = λ j below. let same : j ≡ 0 + j =
+          omega arith in subst (λ i. slice_index (first ∷ text) i ≡ slice_index (byte ∷ keep) j) same (at_index parts.0 rest j below);
     }
   where
     at_index : (byte == first) ≡ true → OccursAt text keep 0 → (j : ℕ) → j < suc (length keep) → slice_index (first ∷ text) j ≡ slice_index (byte ∷ keep) j
@@ -118,7 +125,8 @@ found-occurs keep text k found = some-occurs keep text k found.1
 
 lost-occurs : (keep text : List ℕ) → FindsNeedle text keep 0 None → occurs keep text ≡ false
 lost-occurs keep text nowhere =
-    ⊎_elim (λ is. absurd (let at = occurs-some keep text is in nowhere at.0 (omega arith) (let low = at.1 in omega arith) at.2)) (λ is. is) (either (occurs keep text))
+    ⊎_elim (λ is. absurd (let at = occurs-some keep text is in nowhere at.0 (omega arith) (let low = at.1 in omega arith) at.2)) (λ is. is)
+    (either (occurs keep text))
 
 pub found-is : (keep text : List ℕ) (r : Option ℕ) → FindsNeedle text keep 0 r → is_some r ≡ occurs keep text
 found-is keep text None found = sym (lost-occurs keep text found)
@@ -138,7 +146,8 @@ none-holds : (keeps : List (List ℕ)) (text : List ℕ) → first_missing keeps
 none-holds [] text is = refl
 none-holds (keep ∷ keeps) text is = ⊎_elim
     (λ occurs_is. both-true (occurs keep text) (holds_all keeps text) occurs_is
-    (none-holds keeps text (suc-none (first_missing keeps text) (sym (ap (λ b. cond b (option_map (λ k. suc k) (first_missing keeps text)) (Some 0)) occurs_is) ∙ is))))
+    (none-holds keeps text (suc-none (first_missing keeps text)
+    (sym (ap (λ b. cond b (option_map (λ k. suc k) (first_missing keeps text)) (Some 0)) occurs_is) ∙ is))))
     (λ missing. absurd (cc (sym (ap (λ b. cond b (option_map (λ k. suc k) (first_missing keeps text)) (Some 0)) missing) ∙ is)))
     (either (occurs keep text))
 

@@ -1,5 +1,6 @@
 -- What a list step has asked by its end, and what its answers keep.
-use Rattle.std.proofs.Common.{◌≡◌, ◌≤◌, ◌+◌, ◌-◌, ◌*◌, min, max, ℕ, ◌⊎◌, inl, inr, ⊎_elim, Bool, true, false, cond, List, [], ◌∷◌, Some, refl, sym, ◌∙◌, subst, replicate, slice_get, slice_set}
+use Rattle.std.proofs.Common.{◌≡◌, ◌≤◌, ◌+◌, ◌-◌, ◌*◌, min, max, ℕ, ◌⊎◌, inl, inr, ⊎_elim, Bool, true, false, cond, List}
+use Rattle.std.proofs.Common.{[], ◌∷◌, Some, refl, sym, ◌∙◌, subst, replicate, slice_get, slice_set}
 use Rattle.std.proofs.lemmas.Bool.{false≢true, and_parts, cond_both}
 use Rattle.std.specs.Prelude.{◌&&◌, ◌||◌, nat_lt}
 use Rattle.std.specs.List.{AllByRecursion}
@@ -25,7 +26,8 @@ kept-no : (state : State) → kept (after state false) ≡ kept state
 kept-no (Nothing len) = kept-begun (replicate len true) 2
 kept-no (Parts keep n i) = cond_both (nat_lt (i + 1) n) (Parts keep n (i + 1)) (Complements keep n 0) (λ s. kept s ≡ keep) (λ more. refl) (λ last. refl)
 kept-no (Complements keep n i) =
-    cond_both (nat_lt (i + 1) n) (Complements keep n (i + 1)) (cond (nat_lt n (kept_count keep)) (Parts keep (min (kept_count keep) (2 * n)) 0) (End keep)) (λ s. kept s ≡ keep)
+    cond_both (nat_lt (i + 1) n) (Complements keep n (i + 1)) (cond (nat_lt n (kept_count keep)) (Parts keep (min (kept_count keep) (2 * n)) 0) (End keep))
+    (λ s. kept s ≡ keep)
     (λ more. refl)
     (λ last. cond_both (nat_lt n (kept_count keep)) (Parts keep (min (kept_count keep) (2 * n)) 0) (End keep) (λ s. kept s ≡ keep) (λ few. refl) (λ all. refl))
 kept-no (End keep) = refl
@@ -89,14 +91,16 @@ or_true : (a b : Bool) → b ≡ true → (a || b) ≡ true
 or_true true b is = refl
 or_true false b is = is
 
-agrees_but : (verdict : List Bool → Bool) (keep : List Bool) (questions : List (List Bool)) → AllByRecursion (λ question. same_keep question keep ≡ false) questions
+agrees_but : (verdict : List Bool → Bool) (keep : List Bool) (questions : List (List Bool))
+    → AllByRecursion (λ question. same_keep question keep ≡ false) questions
     → AllByRecursion (λ question. verdict question ≡ (verdict question || same_keep question keep)) questions
 agrees_but verdict keep [] none = tt
 agrees_but verdict keep (question ∷ questions) none = (or_false (verdict question) (same_keep question keep) none.0, agrees_but verdict keep questions none.1)
 
 -- A map that differs at a keep list which was not asked has the same end, so it can't be yes there.
 deletion_asked : (verdict : List Bool → Bool) (len k : ℕ) (may_be_empty : Bool)
-    → ((map : List Bool → Bool) → list_step verdict len may_be_empty ≡ list_step map len may_be_empty → IsOneMinimal map (list_step map len may_be_empty).result)
+    → ((map : List Bool → Bool) → list_step verdict len may_be_empty ≡ list_step map len may_be_empty
+    → IsOneMinimal map (list_step map len may_be_empty).result)
     → slice_get (list_step verdict len may_be_empty).result k ≡ Some true
     → WasAsked (list_step verdict len may_be_empty).questions (slice_set (list_step verdict len may_be_empty).result k false)
 deletion_asked verdict len k may_be_empty minimal is =

@@ -1,5 +1,6 @@
 -- What the fields mark, and the state that they stand for.
-use Rattle.std.proofs.Common.{◌≡◌, ℕ, ◌+◌, ◌-◌, ◌*◌, ◌^◌, ◌<◌, min, max, Bool, true, false, cond, List, [], ◌∷◌, length, replicate, arith, refl, sym, ap, ◌∙◌, subst, IsSome}
+use Rattle.std.proofs.Common.{◌≡◌, ℕ, ◌+◌, ◌-◌, ◌*◌, ◌^◌, ◌<◌, min, max, Bool, true, false, cond, List, [], ◌∷◌}
+use Rattle.std.proofs.Common.{length, replicate, arith, refl, sym, ap, ◌∙◌, subst, IsSome}
 use Rattle.std.proofs.lemmas.Bool.{false≢true}
 use Rattle.std.proofs.lemmas.Bool.Decides.{nat_tests}
 use Rattle.std.proofs.lemmas.List.{length-replicate}
@@ -61,7 +62,8 @@ state_of-next_phase (Parts n at) keep asked false whole marks asking = state_of-
 state_of-next_phase (Complements n at) keep asked true whole marks asking = state_of-begun asked (max (n - 1) 2) ∙ ap (λ k. begun k (max (n - 1) 2)) marks
 state_of-next_phase (Complements n at) keep asked false whole marks asking =
     state_of-cond (nat_lt (at + 1) n) (Complements n (at + 1)) (cond (nat_lt n (kept_count keep)) (Parts (min (kept_count keep) (2 * n)) 0) End) keep
-    ∙ ap (λ s. cond (nat_lt (at + 1) n) (machine.Complements keep n (at + 1)) s) (state_of-cond (nat_lt n (kept_count keep)) (Parts (min (kept_count keep) (2 * n)) 0) End keep)
+    ∙ ap (λ s. cond (nat_lt (at + 1) n) (machine.Complements keep n (at + 1)) s)
+    (state_of-cond (nat_lt n (kept_count keep)) (Parts (min (kept_count keep) (2 * n)) 0) End keep)
 state_of-next_phase End keep asked answer whole marks asking = absurd (false≢true asking)
 
 -- Only a start has the phase Nothing.

@@ -1,5 +1,6 @@
 -- What is asked keeps some of the elements that are kept, and not all of them.
-use Rattle.std.proofs.Common.{◌≡◌, ℕ, suc, zero, ◌+◌, ◌-◌, ◌*◌, ◌<◌, ◌⊎◌, inl, inr, min, max, Bool, true, false, cond, List, [], ◌∷◌, Some, length, replicate, arith, refl, ap, subst}
+use Rattle.std.proofs.Common.{◌≡◌, ℕ, suc, zero, ◌+◌, ◌-◌, ◌*◌, ◌<◌, ◌⊎◌, inl, inr, min, max, Bool, true, false, cond}
+use Rattle.std.proofs.Common.{List, [], ◌∷◌, Some, length, replicate, arith, refl, ap, subst}
 use Rattle.std.proofs.lemmas.Bool.{cond_both}
 use Rattle.std.specs.Prelude.{nat_lt}
 use Rattle.list_ddmin.specs.ListStep.{kept_count, kept_where, part, complement}
@@ -44,7 +45,8 @@ only-none (suc len) = ((λ is. refl), only-none len)
 asked_only : (state : State) (question : List Bool) → asks state ≡ Some question → KeepsOnlyOf question (kept state)
 asked_only (Nothing len) question is = let same : replicate len false ≡ question = cc in subst (λ q. KeepsOnlyOf q (replicate len true)) same (only-none len)
 asked_only (Parts keep n i) question is = let same : part keep n i ≡ question = cc in subst (λ q. KeepsOnlyOf q keep) same (only-part keep n i)
-asked_only (Complements keep n i) question is = let same : complement keep n i ≡ question = cc in subst (λ q. KeepsOnlyOf q keep) same (only-complement keep n i)
+asked_only (Complements keep n i) question is = let same : complement keep n i ≡ question =
+    cc in subst (λ q. KeepsOnlyOf q keep) same (only-complement keep n i)
 asked_only (End keep) question is = (cc)
 
 asked_some : (state : State) (question : List Bool) → IsSound state → asks state ≡ Some question → (0 < kept_count question) ⊎ IsNothing state
@@ -76,9 +78,11 @@ after_isn't (Parts keep n i) false =
     cond_both (nat_lt (i + 1) n) (Parts keep n (i + 1)) (Complements keep n 0) (λ s. IsNothing s → ⊥) (λ more is. is) (λ last is. is)
 after_isn't (Complements keep n i) true = begun_isn't (complement keep n i) (max (n - 1) 2)
 after_isn't (Complements keep n i) false =
-    cond_both (nat_lt (i + 1) n) (Complements keep n (i + 1)) (cond (nat_lt n (kept_count keep)) (Parts keep (min (kept_count keep) (2 * n)) 0) (End keep)) (λ s. IsNothing s → ⊥)
+    cond_both (nat_lt (i + 1) n) (Complements keep n (i + 1)) (cond (nat_lt n (kept_count keep)) (Parts keep (min (kept_count keep) (2 * n)) 0) (End keep))
+    (λ s. IsNothing s → ⊥)
     (λ more is. is)
-    (λ last. cond_both (nat_lt n (kept_count keep)) (Parts keep (min (kept_count keep) (2 * n)) 0) (End keep) (λ s. IsNothing s → ⊥) (λ few is. is) (λ all is. is))
+    (λ last. cond_both (nat_lt n (kept_count keep)) (Parts keep (min (kept_count keep) (2 * n)) 0) (End keep) (λ s. IsNothing s → ⊥) (λ few is. is)
+    (λ all is. is))
 after_isn't (End keep) answer = λ is. is
 
 pub asks_for_nothing_first : AsksForNothingFirst

@@ -3,8 +3,10 @@ use Rattle.std.proofs.Common.{◌≡◌, ℕ, suc, zero, ◌+◌, ◌-◌, ◌*�
 use Rattle.std.proofs.lemmas.Bool.{cond_both}
 use Rattle.std.proofs.lemmas.List.{length-replicate}
 use Rattle.std.specs.Prelude.{nat_lt, ◌&&◌}
-use Rattle.list_ddmin.specs.ListStep.{kept_count, part, complement, Outcome, ends_with, asks_first, tried, finer, complements_tried, parts_tried, ddmin_within, ddmin, list_step}
-use Rattle.list_ddmin.specs.Machine.{Nothing, Parts, Complements, End, kept, begun, rest_of, HasLength, QuestionsFit, RestFits, AsksAsKept, KeepsLength, StartsWithAll}
+use Rattle.list_ddmin.specs.ListStep.{kept_count, part, complement, Outcome, ends_with, asks_first, tried, finer}
+use Rattle.list_ddmin.specs.ListStep.{complements_tried, parts_tried, ddmin_within, ddmin, list_step}
+use Rattle.list_ddmin.specs.Machine.{Nothing, Parts, Complements, End, kept, begun, rest_of, HasLength}
+use Rattle.list_ddmin.specs.Machine.{QuestionsFit, RestFits, AsksAsKept, KeepsLength, StartsWithAll}
 use Rattle.list_ddmin.proofs.Minimal.{length-part, length-complement}
 
 HasLength-end : (keep : List Bool) → HasLength (length keep) (ends_with keep)
@@ -24,7 +26,8 @@ module _ (verdict : List Bool → Bool) (len : ℕ) where
       (λ is_yes. at_yes i) (λ is_no. HasLength-tried candidate on_yes on_no fits at_yes at_no (i + 1) left))
 
 -- what goes on with lists of the same length
-module _ (verdict : List Bool → Bool) (go : List Bool → ℕ → Outcome) (fits : (found : List Bool) (m : ℕ) → HasLength (length found) (go found m)) (keep : List Bool) (n : ℕ) where
+module _ (verdict : List Bool → Bool) (go : List Bool → ℕ → Outcome) (fits : (found : List Bool) (m : ℕ) → HasLength (length found) (go found m))
+    (keep : List Bool) (n : ℕ) where
   HasLength-finer : HasLength (length keep) (finer go keep n)
   HasLength-finer =
       cond_both (nat_lt n (kept_count keep)) (go keep (min (kept_count keep) (2 * n))) (ends_with keep) (HasLength (length keep))
@@ -61,9 +64,11 @@ module _ (verdict : List Bool → Bool) where
   HasLength-all : (len : ℕ) → HasLength len (ddmin verdict (replicate len true) 2)
   HasLength-all len = subst (λ l. HasLength l (ddmin verdict (replicate len true) 2)) (length-replicate len true) (HasLength-ddmin (replicate len true) 2)
 
-  HasLength-Nothing : (len : ℕ) → HasLength len (asks_first (replicate len false) (cond (verdict (replicate len false)) (ends_with (replicate len false)) (ddmin verdict (replicate len true) 2)))
+  HasLength-Nothing : (len : ℕ) → HasLength len
+      (asks_first (replicate len false) (cond (verdict (replicate len false)) (ends_with (replicate len false)) (ddmin verdict (replicate len true) 2)))
   HasLength-Nothing len =
-      HasLength-first len (replicate len false) (cond (verdict (replicate len false)) (ends_with (replicate len false)) (ddmin verdict (replicate len true) 2)) (length-replicate len false)
+      HasLength-first len (replicate len false) (cond (verdict (replicate len false)) (ends_with (replicate len false)) (ddmin verdict (replicate len true) 2))
+      (length-replicate len false)
       (cond_both (verdict (replicate len false)) (ends_with (replicate len false)) (ddmin verdict (replicate len true) 2) (HasLength len)
       (λ is_yes. record { questions = tt; result = length-replicate len false }) (λ is_no. HasLength-all len))
 
@@ -105,9 +110,11 @@ keeps_length (Parts keep n i) false =
     cond_both (nat_lt (i + 1) n) (Parts keep n (i + 1)) (Complements keep n 0) (λ s. length (kept s) ≡ length keep) (λ more. refl) (λ last. refl)
 keeps_length (Complements keep n i) true = length-kept-begun (complement keep n i) (max (n - 1) 2) ∙ length-complement keep n i
 keeps_length (Complements keep n i) false =
-    cond_both (nat_lt (i + 1) n) (Complements keep n (i + 1)) (cond (nat_lt n (kept_count keep)) (Parts keep (min (kept_count keep) (2 * n)) 0) (End keep)) (λ s. length (kept s) ≡ length keep)
+    cond_both (nat_lt (i + 1) n) (Complements keep n (i + 1)) (cond (nat_lt n (kept_count keep)) (Parts keep (min (kept_count keep) (2 * n)) 0) (End keep))
+    (λ s. length (kept s) ≡ length keep)
     (λ more. refl)
-    (λ last. cond_both (nat_lt n (kept_count keep)) (Parts keep (min (kept_count keep) (2 * n)) 0) (End keep) (λ s. length (kept s) ≡ length keep) (λ few. refl) (λ all. refl))
+    (λ last. cond_both (nat_lt n (kept_count keep)) (Parts keep (min (kept_count keep) (2 * n)) 0) (End keep) (λ s. length (kept s) ≡ length keep) (λ few. refl)
+    (λ all. refl))
 keeps_length (End keep) answer = refl
 
 pub starts_with_all : StartsWithAll

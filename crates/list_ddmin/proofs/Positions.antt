@@ -1,5 +1,6 @@
 -- From flags to the positions of the kept elements, and back.
-use Rattle.std.proofs.Common.{◌≡◌, ℕ, suc, zero, ◌+◌, ◌-◌, ◌<◌, ◌≤◌, Bool, true, false, List, [], ◌∷◌, ◌++◌, length, take, drop, arith, refl, sym, ap, ◌∙◌, length-drop}
+use Rattle.std.proofs.Common.{◌≡◌, ℕ, suc, zero, ◌+◌, ◌-◌, ◌<◌, ◌≤◌, Bool, true, false, List, [], ◌∷◌, ◌++◌}
+use Rattle.std.proofs.Common.{length, take, drop, arith, refl, sym, ap, ◌∙◌, length-drop}
 use Rattle.std.proofs.lemmas.Bool.Decides.{nat_tests}
 use Rattle.std.proofs.Math.Seq.{take-length}
 use Rattle.std.specs.Prelude.{slice_range, ◌==◌}
@@ -70,7 +71,8 @@ flags_of-positions_from k (false ∷ keep) =
 positions_within : (keep found : List Bool) → length found ≡ length keep → positions_from 0 found ≡ kept_of found (numbers_from 0 (length keep))
 positions_within keep found fits = sym (kept_of-numbers 0 found) ∙ ap (λ n. kept_of found (numbers_from 0 n)) fits
 
-back : (keep found : List Bool) (positions : List ℕ) → length found ≡ length keep → positions_from 0 found ≡ positions → flags_of positions 0 (length keep) ≡ found
+back : (keep found : List Bool) (positions : List ℕ) → length found ≡ length keep → positions_from 0 found ≡ positions
+    → flags_of positions 0 (length keep) ≡ found
 back keep found positions fits is =
     ap (λ ps. flags_of ps 0 (length keep)) (sym is) ∙ ap (λ n. flags_of (positions_from 0 found) 0 n) (sym fits) ∙ flags_of-positions_from 0 found
 
@@ -105,7 +107,8 @@ module _ (keep : List Bool) (positions : List ℕ) (size n i low high : ℕ) (al
       (omega arith, omega arith)
 
 -- one flag more
-pub flags_of-next : (positions : List ℕ) (k n : ℕ) → k < n → flags_of positions k (n - k) ≡ list_any (λ p. p == k) positions ∷ flags_of positions (k + 1) (n - (k + 1))
+pub flags_of-next : (positions : List ℕ) (k n : ℕ) → k < n
+    → flags_of positions k (n - k) ≡ list_any (λ p. p == k) positions ∷ flags_of positions (k + 1) (n - (k + 1))
 flags_of-next positions k n less = let more : n - k ≡ suc (n - (k + 1)) = omega arith in ap (λ m. flags_of positions k m) more
 
 pub tail_whole : (from : ℕ) (positions : List ℕ) → take (length positions - from) (drop from positions) ≡ drop from positions

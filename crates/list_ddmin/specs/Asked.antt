@@ -29,7 +29,8 @@ IsNothing (End keep) = ⊥
 
 -- The laws.
 
--- Each keep list with one element fewer than the end was asked, so also a map that is known at the questions alone says no to it. Where not all elements may go, this is said of an end with two elements or more.
+-- Each keep list with one element fewer than the end was asked, so also a map that is known at the questions alone
+-- says no to it. Where not all elements may go, this is said of an end with two elements or more.
 abbrev pub DeletionsAsked : Type 0
 DeletionsAsked = (verdict : List Bool → Bool) (len k : ℕ) →
     (slice_get (list_step verdict len true).result k ≡ Some true

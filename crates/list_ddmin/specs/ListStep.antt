@@ -1,10 +1,14 @@
--- Delta debugging over a list: ddmin of Zeller and Hildebrandt ("Simplifying and Isolating Failure-Inducing Input", 2002), and the questions that it asks in order.
+-- Delta debugging over a list: ddmin of Zeller and Hildebrandt ("Simplifying and Isolating
+-- Failure-Inducing Input", 2002), and the questions that it asks in order.
 --
--- A list of elements is cut into n parts. If one part alone will do, the procedure goes on with it in two parts. Otherwise, if the list without one part will do, it goes on with that in n - 1 parts. Otherwise it cuts finer, into 2 n parts, until each part is one element.
+-- A list of elements is cut into n parts. If one part alone will do, the procedure goes on with it in two parts. Otherwise, if the list without
+-- one part will do, it goes on with that in n - 1 parts. Otherwise it cuts finer, into 2 n parts, until each part is one element.
 -- The list step tries the empty list first, where the list may be empty.
 --
--- What is asked is a keep list: it has a flag for each element of the whole list, and the element is kept where the flag is true. A verdict answers each keep list: true is yes.
-use Rattle.std.specs.Prelude.{◌≡◌, ℕ, ◌+◌, ◌-◌, ◌*◌, ◌/◌, min, max, suc, zero, Bool, true, false, not, ◌&&◌, nat_lt, nat_le, if◌then◌else◌, cond, List, [], ◌∷◌, replicate, Some, slice_get, slice_set}
+-- What is asked is a keep list: it has a flag for each element of the whole list, and the element
+-- is kept where the flag is true. A verdict answers each keep list: true is yes.
+use Rattle.std.specs.Prelude.{◌≡◌, ℕ, ◌+◌, ◌-◌, ◌*◌, ◌/◌, min, max, suc, zero, Bool, true, false, not, ◌&&◌, nat_lt, nat_le}
+use Rattle.std.specs.Prelude.{if◌then◌else◌, cond, List, [], ◌∷◌, replicate, Some, slice_get, slice_set}
 
 -- how many elements are kept
 abbrev pub kept_count : List Bool → ℕ
@@ -87,7 +91,8 @@ enough_calls size n = suc (size * size + (size - n))
 unfoldable pub ddmin : (List Bool → Bool) → List Bool → ℕ → Outcome
 ddmin verdict keep n = ddmin_within (enough_calls (kept_count keep) n) verdict keep n
 
--- The list step over so many elements, all of them kept at first: the empty list, where there are elements and all may go, and at a no, or where they may not, ddmin in two parts.
+-- The list step over so many elements, all of them kept at first: the empty list, where there are
+-- elements and all may go, and at a no, or where they may not, ddmin in two parts.
 unfoldable pub list_step : (List Bool → Bool) → ℕ → Bool → Outcome
 list_step verdict len may_be_empty =
     if may_be_empty && nat_lt 0 len

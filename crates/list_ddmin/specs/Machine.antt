@@ -1,8 +1,10 @@
 -- The list step as a machine: it says what it asks, is given the answer, and so goes on.
 -- The laws at the end tie it to the definition of the list step.
-use Rattle.std.specs.Prelude.{◌≡◌, ℕ, ◌+◌, ◌-◌, ◌*◌, ◌<◌, ◌≤◌, min, max, Bool, true, false, ◌&&◌, nat_lt, zero, suc, ◌++◌, take, drop, slice_range, if◌then◌else◌, List, [], ◌∷◌, length, replicate, Option, Some, None}
+use Rattle.std.specs.Prelude.{◌≡◌, ℕ, ◌+◌, ◌-◌, ◌*◌, ◌<◌, ◌≤◌, min, max, Bool, true, false, ◌&&◌, nat_lt, zero, suc, ◌++◌, take, drop}
+use Rattle.std.specs.Prelude.{slice_range, if◌then◌else◌, List, [], ◌∷◌, length, replicate, Option, Some, None}
 use Rattle.std.specs.List.{AllByRecursion}
-use Rattle.list_ddmin.specs.ListStep.{border, kept_count, kept_of, part, complement, Outcome, ends_with, asks_first, complements_tried, parts_tried, ddmin, list_step, IsOneMinimal}
+use Rattle.list_ddmin.specs.ListStep.{border, kept_count, kept_of, part, complement, Outcome, ends_with, asks_first}
+use Rattle.list_ddmin.specs.ListStep.{complements_tried, parts_tried, ddmin, list_step, IsOneMinimal}
 
 -- Where the list step is.
 -- Nothing: it asks whether all of so many elements may go.
@@ -94,7 +96,8 @@ abbrev pub FollowsListStep : Type 0
 FollowsListStep = (verdict : List Bool → Bool) (len : ℕ) (may_be_empty : Bool) →
     Answered verdict (start len may_be_empty) (list_step verdict len may_be_empty).questions (list_step verdict len may_be_empty).result
 
--- The end of the list step is 1-minimal. Where not all elements may go, this is said of an end with two elements or more: without its only element a list would be empty, and that was never asked.
+-- The end of the list step is 1-minimal. Where not all elements may go, this is said of an end with two
+-- elements or more: without its only element a list would be empty, and that was never asked.
 abbrev pub EndsOneMinimal : Type 0
 EndsOneMinimal = (verdict : List Bool → Bool) (len : ℕ) →
     IsOneMinimal verdict (list_step verdict len true).result

@@ -2,7 +2,8 @@
 
 ghost use Rattle.std.specs.Prelude.{ℕ, List};
 ghost use Rattle.list_ddmin.specs.Asked.{AsksFewer, AsksForNothingFirst, DeletionsAsked};
-ghost use Rattle.list_ddmin.specs.Machine.{AgreeingMaps, AsksAsKept, EndsOneMinimal, FollowsListStep, GoesByItsSteps, KeepsLength, PartsAreSlices, QuestionsFit, RestFits, StartsWithAll};
+ghost use Rattle.list_ddmin.specs.Machine.{AgreeingMaps, AsksAsKept, EndsOneMinimal, FollowsListStep, GoesByItsSteps};
+ghost use Rattle.list_ddmin.specs.Machine.{KeepsLength, PartsAreSlices, QuestionsFit, RestFits, StartsWithAll};
 
 /// Answered from any map, the machine asks the questions of the list step in their order, and
 /// ends with its result.

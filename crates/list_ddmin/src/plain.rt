@@ -1,6 +1,7 @@
 //! The list step as a plain and slow recursion, whose contract is the definition.
 
-ghost use Rattle.std.specs.Prelude.{◌≡◌, ℕ, ◌+◌, ◌*◌, ◌^◌, ◌<◌, ◌≤◌, ◌==◌, Bool, List, Option, IfOk, IfSome, OnOk, [], ◌∷◌, ◌++◌, length, map, option_map, replicate, true, vec_len};
+ghost use Rattle.std.specs.Prelude.{◌≡◌, ℕ, ◌+◌, ◌*◌, ◌^◌, ◌<◌, ◌≤◌, ◌==◌, Bool, List, Option, IfOk, IfSome, OnOk, []};
+ghost use Rattle.std.specs.Prelude.{◌∷◌, ◌++◌, length, map, option_map, replicate, true, vec_len};
 ghost use Rattle.list_ddmin.specs.ListStep.{ddmin, ends_with, kept_count, list_step};
 ghost use Rattle.list_ddmin.specs.inner.Plain.{IsOneOf, IsTried, asks_before, candidate_of, flags_of, positions_from};
 

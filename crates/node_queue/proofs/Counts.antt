@@ -48,11 +48,13 @@ all-counted P (next ∷ later) node all some =
     (λ is. let none : count_at node next ≡ 0 = rw is refl in all-counted P later node all.1 (omega (arith, none)))
 
 -- none that is counted comes before the first
-first_of : (first : Waiting) (later : List Waiting) (node : Waiting) → IsInOrder (first ∷ later) → 0 < count_of node (first ∷ later) → comes_before node first ≡ false
+first_of : (first : Waiting) (later : List Waiting) (node : Waiting) → IsInOrder (first ∷ later) → 0 < count_of node (first ∷ later)
+    → comes_before node first ≡ false
 first_of first later node order some =
     all-counted (λ other. comes_before other first ≡ false) (first ∷ later) node (irreflexive first, order.0) some
 
-pub same_counts : (queue other : List Waiting) → IsInOrder queue → IsInOrder other → ((node : Waiting) → count_of node queue ≡ count_of node other) → queue ≡ other
+pub same_counts : (queue other : List Waiting) → IsInOrder queue → IsInOrder other → ((node : Waiting) → count_of node queue ≡ count_of node other)
+    → queue ≡ other
 same_counts [] [] order order' counts = refl
 same_counts [] (b ∷ other) order order' counts = absurd (let some = counts_itself b other in let is = counts b in omega arith)
 same_counts (a ∷ queue) [] order order' counts = absurd (let some = counts_itself a queue in let is = counts a in omega arith)
@@ -61,5 +63,6 @@ same_counts (a ∷ queue) (b ∷ other) order order' counts =
     antisymmetric a b
     (first_of b other a order' (subst (λ n. 0 < n) (counts a) (counts_itself a queue)))
     (first_of a queue b order (subst (λ n. 0 < n) (sym (counts b)) (counts_itself b other))) in
-    let rest : queue ≡ other = same_counts queue other order.1 order'.1 (λ node. let whole = counts node in let first = ap (count_at node) same in omega (arith, whole, first)) in
+    let rest : queue ≡ other =
+    same_counts queue other order.1 order'.1 (λ node. let whole = counts node in let first = ap (count_at node) same in omega (arith, whole, first)) in
     λ i. same i ∷ rest i

@@ -31,7 +31,8 @@ count-in_order node (entry ∷ entries) =
 pub in_order-permutation : (entries others : List Entry) → IsPermutation entries others → in_order others ≡ in_order entries
 in_order-permutation entries others is =
     same_counts (in_order others) (in_order entries) (is_in_order others) (is_in_order entries)
-    (λ node. count-in_order node others ∙ sum_by-IsPermutation (λ entry. count_at node (waiting_of entry)) entries others is ∙ sym (count-in_order node entries))
+    (λ node. count-in_order node others ∙ sum_by-IsPermutation (λ entry. count_at node (waiting_of entry)) entries others is
+    ∙ sym (count-in_order node entries))
 
 lt-then : (less same : Bool) (order : Ordering) → is_lt (ordering_then (cond less Less (cond same Equal Greater)) order) ≡ (less || (same && is_lt order))
 lt-then true same order = refl
@@ -55,7 +56,8 @@ all-in_order : (P : Waiting → Type 0) (entries : List Entry) → AllByRecursio
 all-in_order P [] all = tt
 all-in_order P (entry ∷ entries) all = all-with_node P (waiting_of entry) (in_order entries) all.0 (all-in_order P entries all.1)
 
-none_before : (top : Entry) (entries : List Entry) → IsUpperBound entry_cmp top entries → AllByRecursion (λ entry. comes_before (waiting_of entry) (waiting_of top) ≡ false) entries
+none_before : (top : Entry) (entries : List Entry) → IsUpperBound entry_cmp top entries
+    → AllByRecursion (λ entry. comes_before (waiting_of entry) (waiting_of top) ≡ false) entries
 none_before top [] all = tt
 none_before top (entry ∷ entries) all = (sym (lt-entry_cmp top entry) ∙ all.0, none_before top entries all.1)
 
@@ -64,13 +66,16 @@ with_first node [] all = refl
 with_first node (next ∷ later) all = with_node-before node next later all.0
 
 -- the greatest entry is the next node, and the others are the later ones
-pub in_order-top : (top : Entry) (entries others : List Entry) → IsPermutation entries (top ∷ others) → IsUpperBound entry_cmp top others → in_order entries ≡ waiting_of top ∷ in_order others
+pub in_order-top : (top : Entry) (entries others : List Entry) → IsPermutation entries (top ∷ others) → IsUpperBound entry_cmp top others
+    → in_order entries ≡ waiting_of top ∷ in_order others
 in_order-top top entries others is greatest =
     sym (in_order-permutation entries (top ∷ others) is)
-    ∙ with_first (waiting_of top) (in_order others) (all-in_order (λ other. comes_before other (waiting_of top) ≡ false) others (none_before top others greatest))
+    ∙ with_first (waiting_of top) (in_order others)
+    (all-in_order (λ other. comes_before other (waiting_of top) ≡ false) others (none_before top others greatest))
 
 -- a queue is empty where it has no entries
-pub in_order-empty : (entries : List Entry) (len : ℕ) (result : Bool) → len ≡ length entries → result ≡ (len == 0) → (IsTrue result → in_order entries ≡ []) × (in_order entries ≡ [] → IsTrue result)
+pub in_order-empty : (entries : List Entry) (len : ℕ) (result : Bool) → len ≡ length entries → result ≡ (len == 0) → (IsTrue result → in_order entries ≡ [])
+    × (in_order entries ≡ [] → IsTrue result)
 in_order-empty [] len result is answer = (λ _. refl, λ _. answer ∙ rw is refl)
 in_order-empty (entry ∷ entries) len result is answer = (
   λ yes. absurd (let none = eqb-true len 0 (sym answer ∙ yes) in omega (arith, is, none)),

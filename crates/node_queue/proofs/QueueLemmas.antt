@@ -6,7 +6,8 @@ use Rattle.node_queue.specs.Waiting.{IsInOrder, Waiting, comes_before, with_node
 use Rattle.node_queue.specs.Laws.{HasOneMore, NextIsHeaviest, StaysInOrder}
 use Rattle.node_queue.proofs.OrderLemmas.{asymmetric, by_test, not_before-trans, no_lighter}
 
-pub with_node-after : (added next : Waiting) (later : List Waiting) → comes_before next added ≡ true → with_node added (next ∷ later) ≡ next ∷ with_node added later
+pub with_node-after : (added next : Waiting) (later : List Waiting) → comes_before next added ≡ true
+    → with_node added (next ∷ later) ≡ next ∷ with_node added later
 with_node-after added next later is = rw is refl
 
 pub with_node-before : (added next : Waiting) (later : List Waiting) → comes_before next added ≡ false → with_node added (next ∷ later) ≡ added ∷ next ∷ later
@@ -21,7 +22,8 @@ with_node-some added (next ∷ later) none =
     (λ is. let both : added ∷ next ∷ later ≡ [] = sym (with_node-before added next later is) ∙ none in cc)
 
 -- what holds of the added node and of each other one holds of all
-pub all-with_node : (P : Waiting → Type 0) (added : Waiting) (queue : List Waiting) → P added → AllByRecursion P queue → AllByRecursion P (with_node added queue)
+pub all-with_node : (P : Waiting → Type 0) (added : Waiting) (queue : List Waiting) → P added → AllByRecursion P queue
+    → AllByRecursion P (with_node added queue)
 all-with_node P added [] has all = (has, tt)
 all-with_node P added (next ∷ later) has all =
     by_test (comes_before next added)
@@ -38,8 +40,14 @@ stays_in_order added (next ∷ later) order =
     by_test (comes_before next added)
     (λ is. subst IsInOrder (sym (with_node-after added next later is))
     (all-with_node (λ other. comes_before other next ≡ false) added later (asymmetric next added is) order.0, stays_in_order added later order.1))
-    (λ is. subst IsInOrder (sym (with_node-before added next later is))
-    ((is, all-map (λ other. comes_before other next ≡ false) (λ other. comes_before other added ≡ false) (λ other isn't. not_before-trans other next added isn't is) later order.0), order))
+    (λ is. subst IsInOrder (sym (with_node-before added next later is)) (
+      (
+        is,
+        all-map (λ other. comes_before other next ≡ false) (λ other. comes_before other added ≡ false)
+            (λ other isn't. not_before-trans other next added isn't is) later order.0,
+      ),
+      order,
+    ))
 
 -- Which nodes there are.
 
@@ -49,7 +57,8 @@ contains_next next later = (0, omega arith, refl)
 contains_later : (next node : Waiting) (later : List Waiting) → Contains later node → Contains (next ∷ later) node
 contains_later next node later has = (suc has.0, let within = has.1 in omega arith, has.2)
 
-contains_at : (next node : Waiting) (later : List Waiting) (k : ℕ) → k < length (next ∷ later) → get_or (next ∷ later) k node ≡ node → (node ≡ next) ⊎ Contains later node
+contains_at : (next node : Waiting) (later : List Waiting) (k : ℕ) → k < length (next ∷ later) → get_or (next ∷ later) k node ≡ node → (node ≡ next)
+    ⊎ Contains later node
 contains_at next node later zero within is = inl (sym is)
 contains_at next node later (suc k) within is = inr (k, omega arith, is)
 

@@ -2,12 +2,15 @@
 use Rattle.std.proofs.Common.{◌≡◌, ℕ, ◌⊎◌, inl, inr, List, [], ◌∷◌, ◌++◌, Option, Some, None, slice_get, refl, sym, ap, ◌∙◌, subst, append_assoc}
 use Rattle.std.proofs.lemmas.List.{append-nil}
 use Rattle.std.specs.List.{Contains}
-use Rattle.grammar_tree.specs.Derives.{Term, Seq, Alts, kind, among, rule, block, opt, star, plus, eof, done, next, none, or, Derives, DerivesSeq, DerivesAlts, DerivesMany, by_kind, by_among, by_rule, by_block, by_absent, by_present, by_star, by_end, by_more, by_plus, by_eof, by_done, by_next, by_first, by_later}
+use Rattle.grammar_tree.specs.Derives.{Term, Seq, Alts, kind, among, rule, block, opt, star, plus, eof, done, next, none, or, Derives}
+use Rattle.grammar_tree.specs.Derives.{DerivesSeq, DerivesAlts, DerivesMany, by_kind, by_among, by_rule, by_block, by_absent, by_present}
+use Rattle.grammar_tree.specs.Derives.{by_star, by_end, by_more, by_plus, by_eof, by_done, by_next, by_first, by_later}
 use Rattle.grammar_tree.specs.Corners.{and_base, and_rest, rest_of, bases, rests}
 use Rattle.normal_form.specs.declared.normal.Sym.{Sym}
 use Rattle.normal_form.specs.declared.normal.Sym.TheVariants.{Kind, Set, Rule}
 use Rattle.normal_form.specs.Form.{RuleForm, NormalForm}
-use Rattle.normal_form.specs.NormalDerives.{NormalDerives, NormalDerivesSeq, NormalDerivesMany, of_kind, of_set, of_regular, of_absent, of_present, of_star, of_plus, of_done, of_next, of_end, of_more}
+use Rattle.normal_form.specs.NormalDerives.{NormalDerives, NormalDerivesSeq, NormalDerivesMany, of_kind, of_set, of_regular, of_absent}
+use Rattle.normal_form.specs.NormalDerives.{of_present, of_star, of_plus, of_done, of_next, of_end, of_more}
 use Rattle.normal_form.proofs.Represents.{Represents, RepresentsSeq, RepresentsAlts, IsPlainRule, IsRecursiveRule, HasEachRule}
 use Rattle.normal_form.proofs.Lists.{Contains-nil, Contains-cases, Contains-only}
 use Rattle.normal_form.proofs.Forward.{rest_is}
@@ -19,18 +22,23 @@ GivenSeq G N own_rule ss w = (s : Seq) → RepresentsSeq G N own_rule ss s → D
 abbrev pub Given : List Alts → NormalForm → (ℕ → ℕ) → Sym → List ℕ → Type 0
 Given G N own_rule s w = (t : Term) → Represents G N own_rule s t → Derives G t w
 
-alts_first : {G : List Alts} {N : NormalForm} (own_rule : ℕ → ℕ) (s : Seq) (a : Alts) (ss : List Sym) (more : List (List Sym)) (alt : List Sym) (w : List ℕ) → RepresentsSeq G N own_rule ss s → GivenSeq G N own_rule alt w → (Contains more alt → DerivesAlts G a w) → (alt ≡ ss) ⊎ Contains more alt → DerivesAlts G (or s a) w
-alts_first {G = G} {N = N} own_rule s a ss more alt w st h k (inl same) = let Q : List Sym → Type 0 = λ x. RepresentsSeq G N own_rule x s in by_first s a w (h s (subst Q (sym same) st))
+alts_first : {G : List Alts} {N : NormalForm} (own_rule : ℕ → ℕ) (s : Seq) (a : Alts) (ss : List Sym) (more : List (List Sym)) (alt : List Sym) (w : List ℕ)
+    → RepresentsSeq G N own_rule ss s → GivenSeq G N own_rule alt w → (Contains more alt → DerivesAlts G a w) → (alt ≡ ss) ⊎ Contains more alt
+    → DerivesAlts G (or s a) w
+alts_first {G = G} {N = N} own_rule s a ss more alt w st h k (inl same) = let Q : List Sym → Type 0 =
+    λ x. RepresentsSeq G N own_rule x s in by_first s a w (h s (subst Q (sym same) st))
 alts_first own_rule s a ss more alt w st h k (inr c) = by_later s a w (k c)
 
-alts_back : {G : List Alts} {N : NormalForm} (own_rule : ℕ → ℕ) (a : Alts) (alts : List (List Sym)) (alt : List Sym) (w : List ℕ) → RepresentsAlts G N own_rule alts a → Contains alts alt → GivenSeq G N own_rule alt w → DerivesAlts G a w
+alts_back : {G : List Alts} {N : NormalForm} (own_rule : ℕ → ℕ) (a : Alts) (alts : List (List Sym)) (alt : List Sym) (w : List ℕ)
+    → RepresentsAlts G N own_rule alts a → Contains alts alt → GivenSeq G N own_rule alt w → DerivesAlts G a w
 alts_back own_rule none alts alt w e c h = let P : List (List Sym) → Type 0 = λ x. Contains x alt in absurd (Contains-nil alt (subst P e c))
 alts_back {G = G} {N = N} own_rule (or s a) alts alt w (ss, more, e, st, later) c h =
     let P : List (List Sym) → Type 0 = λ x. Contains x alt in
     alts_first {N = N} own_rule s a ss more alt w st h (λ c'. alts_back own_rule a more alt w later c' h) (Contains-cases alt ss more (subst P e c))
 
 -- A base is an alternative.
-bases_first : {G : List Alts} (s : Seq) (a b : Alts) (w : List ℕ) → (DerivesAlts G b w → DerivesAlts G a w) → (o : Option Seq) → DerivesAlts G (and_base s o b) w → DerivesAlts G (or s a) w
+bases_first : {G : List Alts} (s : Seq) (a b : Alts) (w : List ℕ) → (DerivesAlts G b w → DerivesAlts G a w) → (o : Option Seq)
+    → DerivesAlts G (and_base s o b) w → DerivesAlts G (or s a) w
 bases_first s a b w h None (by_first s' a' w' d') = by_first s a w d'
 bases_first s a b w h None (by_later s' a' w' d') = by_later s a w (h d')
 bases_first s a b w h (Some rest) d' = by_later s a w (h d')
@@ -44,7 +52,8 @@ none_empty (by_first s a w d) e = absurd (cc)
 none_empty (by_later s a w d) e = absurd (cc)
 
 -- The rule itself and then a rest is an alternative.
-rests_first : {G : List Alts} (r : ℕ) (s : Seq) (a b : Alts) (u v : List ℕ) → Derives G (rule r) u → (DerivesAlts G b v → DerivesAlts G a (u ++ v)) → (o : Option Seq) → rest_of r s ≡ o → DerivesAlts G (and_rest o b) v → DerivesAlts G (or s a) (u ++ v)
+rests_first : {G : List Alts} (r : ℕ) (s : Seq) (a b : Alts) (u v : List ℕ) → Derives G (rule r) u → (DerivesAlts G b v → DerivesAlts G a (u ++ v))
+    → (o : Option Seq) → rest_of r s ≡ o → DerivesAlts G (and_rest o b) v → DerivesAlts G (or s a) (u ++ v)
 rests_first r s a b u v d h None e d' = by_later s a (u ++ v) (h d')
 rests_first {G = G} r s a b u v d h (Some rest) e (by_first s' a' w' d') =
     let P : Seq → Type 0 = λ x. DerivesSeq G x (u ++ v) in
@@ -67,7 +76,8 @@ block_inverse a (by_star t w m) e = absurd (cc)
 block_inverse a (by_plus t u v d m) e = absurd (cc)
 
 -- Rests after the rule, one after another.
-left_many : {G : List Alts} (r : ℕ) (a : Alts) → slice_get G r ≡ Some a → {t : Term} (u : List ℕ) {v : List ℕ} → DerivesMany G t v → t ≡ block (rests r a) → Derives G (rule r) u → Derives G (rule r) (u ++ v)
+left_many : {G : List Alts} (r : ℕ) (a : Alts) → slice_get G r ≡ Some a → {t : Term} (u : List ℕ) {v : List ℕ} → DerivesMany G t v → t ≡ block (rests r a)
+    → Derives G (rule r) u → Derives G (rule r) (u ++ v)
 left_many {G = G} r a at u (by_end t) e d = let P : List ℕ → Type 0 = λ x. Derives G (rule r) x in subst P (sym (append-nil u)) d
 left_many {G = G} r a at u (by_more t x y d' m) e d =
     let P : List ℕ → Type 0 = λ x. Derives G (rule r) x in
@@ -88,7 +98,8 @@ star_inverse_many of (by_plus t u v d m) e = absurd (cc)
 abbrev pub unrolled : ℕ → Alts → Seq
 unrolled r a = next (block (bases r a)) (next (star (block (rests r a))) done)
 
-seq_inverse : {G : List Alts} (t : Term) (s : Seq) {all : Seq} {w : List ℕ} → DerivesSeq G all w → all ≡ next t s → (u : List ℕ) × (v : List ℕ) × (w ≡ u ++ v) × Derives G t u × DerivesSeq G s v
+seq_inverse : {G : List Alts} (t : Term) (s : Seq) {all : Seq} {w : List ℕ} → DerivesSeq G all w → all ≡ next t s → (u : List ℕ) × (v : List ℕ) × (w ≡ u ++ v)
+    × Derives G t u × DerivesSeq G s v
 seq_inverse t s by_done e = absurd (cc)
 seq_inverse {G = G} t s (by_next t' s' u v d h) e =
     let first : t' ≡ t = cc in
@@ -117,10 +128,12 @@ seq_end G N own_rule ss e (next t s) (inl (is, st)) =
     let P : Term → Type 0 = λ x. DerivesSeq G (next x s) [] in subst P (sym is) (by_next eof s [] [] by_eof (seq_end G N own_rule ss e s st))
 seq_end G N own_rule ss e (next t s) (inr (x, more, is, st, later)) = absurd (cc)
 
-seq_step : {G : List Alts} {N : NormalForm} (own_rule : ℕ → ℕ) (s : Sym) (ss : List Sym) (u v : List ℕ) → Given G N own_rule s u → GivenSeq G N own_rule ss v → (all : List Sym) → all ≡ s ∷ ss → GivenSeq G N own_rule all (u ++ v)
+seq_step : {G : List Alts} {N : NormalForm} (own_rule : ℕ → ℕ) (s : Sym) (ss : List Sym) (u v : List ℕ) → Given G N own_rule s u → GivenSeq G N own_rule ss v
+    → (all : List Sym) → all ≡ s ∷ ss → GivenSeq G N own_rule all (u ++ v)
 seq_step own_rule s ss u v h k all e done st = absurd (cc)
 seq_step {G = G} own_rule s ss u v h k all e (next t q) (inl (is, st)) =
-    let P : Term → Type 0 = λ x. DerivesSeq G (next x q) (u ++ v) in subst P (sym is) (by_next eof q [] (u ++ v) by_eof (seq_step own_rule s ss u v h k all e q st))
+    let P : Term → Type 0 =
+    λ x. DerivesSeq G (next x q) (u ++ v) in subst P (sym is) (by_next eof q [] (u ++ v) by_eof (seq_step own_rule s ss u v h k all e q st))
 seq_step {G = G} {N = N} own_rule s ss u v h k all e (next t q) (inr (x, more, is, st, later)) =
     let first : x ≡ s = cc in
     let rest : more ≡ ss = cc in
@@ -128,7 +141,8 @@ seq_step {G = G} {N = N} own_rule s ss u v h k all e (next t q) (inr (x, more, i
     let Q : List Sym → Type 0 = λ y. RepresentsSeq G N own_rule y q in by_next t q u v (h t (subst P first st)) (k q (subst Q rest later))
 
 -- the symbols of a rule with bases and rests represent them
-recursive_represented : {G : List Alts} {N : NormalForm} {own_rule : ℕ → ℕ} (r : ℕ) (a : Alts) (p : IsRecursiveRule G N own_rule r a) → RepresentsSeq G N own_rule (Rule p.base ∷ Rule p.many ∷ []) (unrolled r a)
+recursive_represented : {G : List Alts} {N : NormalForm} {own_rule : ℕ → ℕ} (r : ℕ) (a : Alts) (p : IsRecursiveRule G N own_rule r a)
+    → RepresentsSeq G N own_rule (Rule p.base ∷ Rule p.many ∷ []) (unrolled r a)
 recursive_represented r a p =
     inr (
       Rule p.base,
@@ -138,10 +152,13 @@ recursive_represented r a p =
       inr (Rule p.many, [], refl, (p.many, Rule p.rest, refl, p.many_at, (p.rest, p.rest_alts, refl, p.rest_at, p.rests_are)), refl),
     )
 
-rule_back : {G : List Alts} {N : NormalForm} {own_rule : ℕ → ℕ} (r : ℕ) (a : Alts) (alts : List (List Sym)) (alt : List Sym) (w : List ℕ) → slice_get G r ≡ Some a → slice_get N.rules (own_rule r) ≡ Some (RuleForm.regular alts) → Contains alts alt → GivenSeq G N own_rule alt w → IsPlainRule G N own_rule r a ⊎ IsRecursiveRule G N own_rule r a → Derives G (rule r) w
+rule_back : {G : List Alts} {N : NormalForm} {own_rule : ℕ → ℕ} (r : ℕ) (a : Alts) (alts : List (List Sym)) (alt : List Sym) (w : List ℕ)
+    → slice_get G r ≡ Some a → slice_get N.rules (own_rule r) ≡ Some (RuleForm.regular alts) → Contains alts alt → GivenSeq G N own_rule alt w
+    → IsPlainRule G N own_rule r a ⊎ IsRecursiveRule G N own_rule r a → Derives G (rule r) w
 rule_back {G = G} {N = N} {own_rule = own_rule} r a alts alt w known at c h (inl p) =
     let same : p.alts ≡ alts = cc (p.at, at) in
-    let P : List (List Sym) → Type 0 = λ x. RepresentsAlts G N own_rule x a in by_rule r a w known (alts_back own_rule a alts alt w (subst P same p.represented) c h)
+    let P : List (List Sym) → Type 0 =
+    λ x. RepresentsAlts G N own_rule x a in by_rule r a w known (alts_back own_rule a alts alt w (subst P same p.represented) c h)
 rule_back {G = G} {N = N} {own_rule = own_rule} r a alts alt w known at c h (inr p) =
     let same : alts ≡ (Rule p.base ∷ Rule p.many ∷ []) ∷ [] = cc (p.at, at) in
     let P : List (List Sym) → Type 0 = λ x. Contains x alt in
@@ -149,7 +166,8 @@ rule_back {G = G} {N = N} {own_rule = own_rule} r a alts alt w known at c h (inr
     let Q : List Sym → Type 0 = λ x. RepresentsSeq G N own_rule x (unrolled r a) in
     unrolled_back r a w known (h (unrolled r a) (subst Q (sym one) (recursive_represented r a p)))
 
-regular_back : {G : List Alts} {N : NormalForm} {own_rule : ℕ → ℕ} → HasEachRule G N own_rule → (n : ℕ) (alts : List (List Sym)) (alt : List Sym) (w : List ℕ) → slice_get N.rules n ≡ Some (RuleForm.regular alts) → Contains alts alt → GivenSeq G N own_rule alt w → Given G N own_rule (Rule n) w
+regular_back : {G : List Alts} {N : NormalForm} {own_rule : ℕ → ℕ} → HasEachRule G N own_rule → (n : ℕ) (alts : List (List Sym)) (alt : List Sym) (w : List ℕ)
+    → slice_get N.rules n ≡ Some (RuleForm.regular alts) → Contains alts alt → GivenSeq G N own_rule alt w → Given G N own_rule (Rule n) w
 regular_back has_each n alts alt w at c h (kind k) e = absurd (cc)
 regular_back has_each n alts alt w at c h (among ks) (i, e, x) = absurd (cc)
 regular_back {N = N} {own_rule = own_rule} has_each n alts alt w at c h (rule r) (e, (a, known)) =
@@ -164,11 +182,18 @@ regular_back has_each n alts alt w at c h (plus t) (m, of, e, at', st) = absurd 
 regular_back has_each n alts alt w at c h eof st = absurd st
 
 -- a rule of the grammar is a regular rule
-rule_regular : {G : List Alts} {N : NormalForm} {own_rule : ℕ → ℕ} (r : ℕ) (a : Alts) (n : ℕ) → IsPlainRule G N own_rule r a ⊎ IsRecursiveRule G N own_rule r a → Rule n ≡ Rule (own_rule r) → (x : RuleForm) → slice_get N.rules n ≡ Some x → (alts : List (List Sym)) × (x ≡ RuleForm.regular alts)
-rule_regular {own_rule = own_rule} r a n (inl p) e x at = let same : n ≡ own_rule r = cc in let h : Some x ≡ Some (RuleForm.regular p.alts) = cc (p.at, at, same) in (p.alts, cc)
-rule_regular {own_rule = own_rule} r a n (inr p) e x at = ((Rule p.base ∷ Rule p.many ∷ []) ∷ [], let same : n ≡ own_rule r = cc in let h : Some x ≡ Some (RuleForm.regular ((Rule p.base ∷ Rule p.many ∷ []) ∷ [])) = cc (p.at, at, same) in cc)
+rule_regular : {G : List Alts} {N : NormalForm} {own_rule : ℕ → ℕ} (r : ℕ) (a : Alts) (n : ℕ) → IsPlainRule G N own_rule r a ⊎ IsRecursiveRule G N own_rule r a
+    → Rule n ≡ Rule (own_rule r) → (x : RuleForm) → slice_get N.rules n ≡ Some x → (alts : List (List Sym)) × (x ≡ RuleForm.regular alts)
+rule_regular {own_rule = own_rule} r a n (inl p) e x at = let same : n ≡ own_rule r = cc in let h : Some x ≡ Some (RuleForm.regular p.alts) =
+    cc (p.at, at, same) in (p.alts, cc)
+rule_regular {own_rule = own_rule} r a n (inr p) e x at = (
+  (Rule p.base ∷ Rule p.many ∷ []) ∷ [],
+  let same : n ≡ own_rule r = cc in
+      let h : Some x ≡ Some (RuleForm.regular ((Rule p.base ∷ Rule p.many ∷ []) ∷ [])) = cc (p.at, at, same) in cc,
+)
 
-star_back : {G : List Alts} {N : NormalForm} {own_rule : ℕ → ℕ} (n : ℕ) (of : Sym) (w : List ℕ) → slice_get N.rules n ≡ Some (RuleForm.star of) → ((t : Term) → Represents G N own_rule of t → DerivesMany G t w) → HasEachRule G N own_rule → Given G N own_rule (Rule n) w
+star_back : {G : List Alts} {N : NormalForm} {own_rule : ℕ → ℕ} (n : ℕ) (of : Sym) (w : List ℕ) → slice_get N.rules n ≡ Some (RuleForm.star of)
+    → ((t : Term) → Represents G N own_rule of t → DerivesMany G t w) → HasEachRule G N own_rule → Given G N own_rule (Rule n) w
 star_back n of w at h has_each (kind k) e = absurd (cc)
 star_back n of w at h has_each (among ks) (i, e, x) = absurd (cc)
 star_back n of w at h has_each (rule r) (e, (a, known)) = let x = rule_regular r a n (has_each r a known) e (RuleForm.star of) at in absurd (cc (x.1))
@@ -180,7 +205,9 @@ star_back {G = G} {N = N} {own_rule = own_rule} n of w at h has_each (star t) (m
 star_back n of w at h has_each (plus t) (m, of', e, at', st) = absurd (cc)
 star_back n of w at h has_each eof st = absurd st
 
-plus_back : {G : List Alts} {N : NormalForm} {own_rule : ℕ → ℕ} (n : ℕ) (of : Sym) (u v : List ℕ) → slice_get N.rules n ≡ Some (RuleForm.plus of) → Given G N own_rule of u → ((t : Term) → Represents G N own_rule of t → DerivesMany G t v) → HasEachRule G N own_rule → Given G N own_rule (Rule n) (u ++ v)
+plus_back : {G : List Alts} {N : NormalForm} {own_rule : ℕ → ℕ} (n : ℕ) (of : Sym) (u v : List ℕ) → slice_get N.rules n ≡ Some (RuleForm.plus of)
+    → Given G N own_rule of u → ((t : Term) → Represents G N own_rule of t → DerivesMany G t v) → HasEachRule G N own_rule
+    → Given G N own_rule (Rule n) (u ++ v)
 plus_back n of u v at k h has_each (kind j) e = absurd (cc)
 plus_back n of u v at k h has_each (among ks) (i, e, x) = absurd (cc)
 plus_back n of u v at k h has_each (rule r) (e, (a, known)) = let x = rule_regular r a n (has_each r a known) e (RuleForm.plus of) at in absurd (cc (x.1))
@@ -192,7 +219,8 @@ plus_back {G = G} {N = N} {own_rule = own_rule} n of u v at k h has_each (plus t
 plus_back n of u v at k h has_each (star t) (m, of', e, at', st) = absurd (cc)
 plus_back n of u v at k h has_each eof st = absurd st
 
-opt_back : {G : List Alts} {N : NormalForm} {own_rule : ℕ → ℕ} (n : ℕ) (of : Sym) (w : List ℕ) → slice_get N.rules n ≡ Some (RuleForm.opt of) → ((t : Term) → Represents G N own_rule of t → Derives G (opt t) w) → HasEachRule G N own_rule → Given G N own_rule (Rule n) w
+opt_back : {G : List Alts} {N : NormalForm} {own_rule : ℕ → ℕ} (n : ℕ) (of : Sym) (w : List ℕ) → slice_get N.rules n ≡ Some (RuleForm.opt of)
+    → ((t : Term) → Represents G N own_rule of t → Derives G (opt t) w) → HasEachRule G N own_rule → Given G N own_rule (Rule n) w
 opt_back n of w at h has_each (kind j) e = absurd (cc)
 opt_back n of w at h has_each (among ks) (i, e, x) = absurd (cc)
 opt_back n of w at h has_each (rule r) (e, (a, known)) = let x = rule_regular r a n (has_each r a known) e (RuleForm.opt of) at in absurd (cc (x.1))
@@ -214,7 +242,8 @@ kind_back N own_rule k (star t) (m, of, e, at, st) = absurd (cc)
 kind_back N own_rule k (plus t) (m, of, e, at, st) = absurd (cc)
 kind_back N own_rule k eof st = absurd st
 
-set_back : {G : List Alts} (N : NormalForm) (own_rule : ℕ → ℕ) (i k : ℕ) (ks : List ℕ) → slice_get N.sets i ≡ Some ks → Contains ks k → Given G N own_rule (Set i) (k ∷ [])
+set_back : {G : List Alts} (N : NormalForm) (own_rule : ℕ → ℕ) (i k : ℕ) (ks : List ℕ) → slice_get N.sets i ≡ Some ks → Contains ks k
+    → Given G N own_rule (Set i) (k ∷ [])
 set_back N own_rule i k ks at c (kind j) e = absurd (cc)
 set_back {G = G} N own_rule i k ks at c (among ls) (j, e, x) =
     let same : ks ≡ ls = cc in let P : List ℕ → Type 0 = λ x. Contains x k in by_among ls k (subst P same c)
@@ -226,7 +255,8 @@ set_back N own_rule i k ks at c (plus t) (m, of, e, at', st) = absurd (cc)
 set_back N own_rule i k ks at c eof st = absurd st
 
 mutual
-  pub backward : {G : List Alts} {N : NormalForm} {own_rule : ℕ → ℕ} → HasEachRule G N own_rule → {s : Sym} {w : List ℕ} → NormalDerives N s w → Given G N own_rule s w
+  pub backward : {G : List Alts} {N : NormalForm} {own_rule : ℕ → ℕ} → HasEachRule G N own_rule → {s : Sym} {w : List ℕ} → NormalDerives N s w
+      → Given G N own_rule s w
   backward {N = N} {own_rule = own_rule} has_each (of_kind k) = kind_back N own_rule k
   backward {N = N} {own_rule = own_rule} has_each (of_set i k ks at c) = set_back N own_rule i k ks at c
   backward has_each (of_regular n alts alt w at c d) = regular_back has_each n alts alt w at c (backward_all has_each d)
@@ -235,10 +265,13 @@ mutual
   backward has_each (of_star n s w at m) = star_back n s w at (backward_many has_each m) has_each
   backward has_each (of_plus n s u v at d m) = plus_back n s u v at (backward has_each d) (backward_many has_each m) has_each
 
-  pub backward_all : {G : List Alts} {N : NormalForm} {own_rule : ℕ → ℕ} → HasEachRule G N own_rule → {ss : List Sym} {w : List ℕ} → NormalDerivesSeq N ss w → GivenSeq G N own_rule ss w
+  pub backward_all : {G : List Alts} {N : NormalForm} {own_rule : ℕ → ℕ} → HasEachRule G N own_rule → {ss : List Sym} {w : List ℕ} → NormalDerivesSeq N ss w
+      → GivenSeq G N own_rule ss w
   backward_all {G = G} {N = N} {own_rule = own_rule} has_each of_done = seq_end G N own_rule [] refl
-  backward_all {G = G} {N = N} {own_rule = own_rule} has_each (of_next s ss u v d h) = seq_step own_rule s ss u v (backward has_each d) (backward_all has_each h) (s ∷ ss) refl
+  backward_all {G = G} {N = N} {own_rule = own_rule} has_each (of_next s ss u v d h) =
+      seq_step own_rule s ss u v (backward has_each d) (backward_all has_each h) (s ∷ ss) refl
 
-  pub backward_many : {G : List Alts} {N : NormalForm} {own_rule : ℕ → ℕ} → HasEachRule G N own_rule → {s : Sym} {w : List ℕ} → NormalDerivesMany N s w → (t : Term) → Represents G N own_rule s t → DerivesMany G t w
+  pub backward_many : {G : List Alts} {N : NormalForm} {own_rule : ℕ → ℕ} → HasEachRule G N own_rule → {s : Sym} {w : List ℕ} → NormalDerivesMany N s w
+      → (t : Term) → Represents G N own_rule s t → DerivesMany G t w
   backward_many has_each (of_end s) t st = by_end t
   backward_many has_each (of_more s u v d m) t st = by_more t u v (backward has_each d t st) (backward_many has_each m t st)

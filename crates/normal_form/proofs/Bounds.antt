@@ -1,5 +1,6 @@
 -- How many sets and rules a normal form has, and that its start rule is one of the parser rules.
-use Rattle.std.proofs.Common.{◌≡◌, ℕ, suc, ◌+◌, ◌<◌, ◌≤◌, ◌⊎◌, inl, inr, Bool, true, false, cond, List, [], ◌∷◌, length, map, Option, Some, None, refl, arith, length-append}
+use Rattle.std.proofs.Common.{◌≡◌, ℕ, suc, ◌+◌, ◌<◌, ◌≤◌, ◌⊎◌, inl, inr, Bool, true, false, cond, List, [], ◌∷◌}
+use Rattle.std.proofs.Common.{length, map, Option, Some, None, refl, arith, length-append}
 use Rattle.std.specs.Prelude.{filter, sum_by, not}
 use Rattle.std.specs.List.{flat_map}
 use Rattle.std.proofs.lemmas.List.Sums.{sum_by-cons}
@@ -58,14 +59,18 @@ module _ (G : WrittenGrammar) where
     alts_fit WrittenAlts.none = omega arith
     alts_fit (WrittenAlts.or s a) = omega (arith, length-append (seq_sets (resolved_seq G s)) (alts_sets (resolved_alts G a)), seq_fits s, alts_fit a)
 
-  rules_fit : (rules : List WrittenRule) → length (flat_map alts_sets (map (λ (r : ParserRule). resolved_alts G r.alts) (parser_rules rules))) ≤ sum_by rule_size rules
+  rules_fit : (rules : List WrittenRule) → length
+      (flat_map alts_sets (map (λ (r : ParserRule). resolved_alts G r.alts) (parser_rules rules))) ≤ sum_by rule_size rules
   rules_fit [] = omega arith
   rules_fit (WrittenRule.lexer_rule r ∷ rules) = omega (arith, rules_fit rules, sum_by-cons rule_size (WrittenRule.lexer_rule r) rules)
   rules_fit (WrittenRule.parser_rule r ∷ rules) =
       let body = λ (x : ParserRule). resolved_alts G x.alts in
       let own : length (alts_sets (resolved_alts G r.alts)) ≤ alts_size r.alts = alts_fit r.alts in
-      let split : length (flat_map alts_sets (map body (parser_rules (WrittenRule.parser_rule r ∷ rules)))) ≡ length (alts_sets (resolved_alts G r.alts)) + length (flat_map alts_sets (map body (parser_rules rules))) = length-append (alts_sets (resolved_alts G r.alts)) (flat_map alts_sets (map body (parser_rules rules))) in
-      let size : sum_by rule_size (WrittenRule.parser_rule r ∷ rules) ≡ suc (alts_size r.alts) + sum_by rule_size rules = sum_by-cons rule_size (WrittenRule.parser_rule r) rules in
+      let split : length (flat_map alts_sets (map body (parser_rules (WrittenRule.parser_rule r ∷ rules)))) ≡ length
+      (alts_sets (resolved_alts G r.alts)) + length (flat_map alts_sets (map body (parser_rules rules))) =
+      length-append (alts_sets (resolved_alts G r.alts)) (flat_map alts_sets (map body (parser_rules rules))) in
+      let size : sum_by rule_size (WrittenRule.parser_rule r ∷ rules) ≡ suc (alts_size r.alts) + sum_by rule_size rules =
+      sum_by-cons rule_size (WrittenRule.parser_rule r) rules in
       omega (arith, own, split, size, rules_fit rules)
 
 pub few_sets : (G : WrittenGrammar) → length (sets_of (bodies G)) ≤ grammar_size G

@@ -1,5 +1,6 @@
 -- The terms of a checked grammar name rules that are there, and have `EOF` only where it is left out.
-use Rattle.std.proofs.Common.{◌≡◌, ℕ, zero, suc, ◌⊎◌, inl, inr, Bool, true, false, ◌||◌, List, [], ◌∷◌, ◌++◌, Option, Some, None, slice_get, map, refl, sym, ap, ◌∙◌, subst, true≢false}
+use Rattle.std.proofs.Common.{◌≡◌, ℕ, zero, suc, ◌⊎◌, inl, inr, Bool, true, false, ◌||◌, List, [], ◌∷◌, ◌++◌, Option}
+use Rattle.std.proofs.Common.{Some, None, slice_get, map, refl, sym, ap, ◌∙◌, subst, true≢false}
 use Rattle.std.specs.List.{Contains}
 use Rattle.std.proofs.lemmas.List.Quantifiers.{position-Some}
 use Rattle.std.proofs.lemmas.List.Elements.{Contains-append_left, Contains-append_right}
@@ -74,7 +75,8 @@ closed_kind : (G : List Alts) (K : List ℕ → Type 0) (o : Option ℕ) → Eac
 closed_kind G K None h = h [] (Contains-here [] [])
 closed_kind G K (Some k) h = tt
 
-closed_name : (G : List Alts) (K : List ℕ → Type 0) (o token : Option ℕ) → ((r : ℕ) → o ≡ Some r → (a : Alts) × (slice_get G r ≡ Some a)) → Each K (term_sets (name_term o token)) → IsClosed G K (name_term o token)
+closed_name : (G : List Alts) (K : List ℕ → Type 0) (o token : Option ℕ) → ((r : ℕ) → o ≡ Some r → (a : Alts) × (slice_get G r ≡ Some a))
+    → Each K (term_sets (name_term o token)) → IsClosed G K (name_term o token)
 closed_name G K (Some r) token there h = there r refl
 closed_name G K None token there h = closed_kind G K token h
 
@@ -118,7 +120,9 @@ module _ (G : WrittenGrammar) (K : List ℕ → Type 0) where
         )
 
   -- `EOF` may be last in a top-level alternative
-  closed_next : (t : WrittenTerm) (s : WrittenSeq) → (has_eof t || is_misplaced_in s) ≡ false → (is_misplaced_in s ≡ false → IsClosedSeq (bodies G) K (resolved_seq G s)) → Each K (seq_sets (resolved_seq G (WrittenSeq.next t s))) → IsClosedSeq (bodies G) K (resolved_seq G (WrittenSeq.next t s))
+  closed_next : (t : WrittenTerm) (s : WrittenSeq) → (has_eof t || is_misplaced_in s) ≡ false
+      → (is_misplaced_in s ≡ false → IsClosedSeq (bodies G) K (resolved_seq G s)) → Each K (seq_sets (resolved_seq G (WrittenSeq.next t s)))
+      → IsClosedSeq (bodies G) K (resolved_seq G (WrittenSeq.next t s))
   closed_next t s e more h =
       let no = neither (has_eof t) (is_misplaced_in s) e in
       (inr (closed t no.0 (Each-left K (term_sets (resolved G t)) (seq_sets (resolved_seq G s)) h)), more no.1)
@@ -128,7 +132,8 @@ module _ (G : WrittenGrammar) (K : List ℕ → Type 0) where
   closed_top (WrittenSeq.next WrittenTerm.eof WrittenSeq.done) e h = (inl refl, tt)
   closed_top (WrittenSeq.next WrittenTerm.eof (WrittenSeq.next t s)) e h = absurd (true≢false e)
   closed_top (WrittenSeq.next (WrittenTerm.literal x) s) e h =
-      closed_next (WrittenTerm.literal x) s e (λ k. closed_top s k (Each-right K (term_sets (resolved G (WrittenTerm.literal x))) (seq_sets (resolved_seq G s)) h)) h
+      closed_next (WrittenTerm.literal x) s e (λ k. closed_top s k
+      (Each-right K (term_sets (resolved G (WrittenTerm.literal x))) (seq_sets (resolved_seq G s)) h)) h
   closed_top (WrittenSeq.next (WrittenTerm.name x) s) e h =
       closed_next (WrittenTerm.name x) s e (λ k. closed_top s k (Each-right K (term_sets (resolved G (WrittenTerm.name x))) (seq_sets (resolved_seq G s)) h)) h
   closed_top (WrittenSeq.next WrittenTerm.any s) e h =
@@ -136,7 +141,8 @@ module _ (G : WrittenGrammar) (K : List ℕ → Type 0) where
   closed_top (WrittenSeq.next (WrittenTerm.but x) s) e h =
       closed_next (WrittenTerm.but x) s e (λ k. closed_top s k (Each-right K (term_sets (resolved G (WrittenTerm.but x))) (seq_sets (resolved_seq G s)) h)) h
   closed_top (WrittenSeq.next (WrittenTerm.block x) s) e h =
-      closed_next (WrittenTerm.block x) s e (λ k. closed_top s k (Each-right K (term_sets (resolved G (WrittenTerm.block x))) (seq_sets (resolved_seq G s)) h)) h
+      closed_next (WrittenTerm.block x) s e (λ k. closed_top s k (Each-right K (term_sets (resolved G (WrittenTerm.block x))) (seq_sets (resolved_seq G s)) h))
+      h
   closed_top (WrittenSeq.next (WrittenTerm.opt x) s) e h =
       closed_next (WrittenTerm.opt x) s e (λ k. closed_top s k (Each-right K (term_sets (resolved G (WrittenTerm.opt x))) (seq_sets (resolved_seq G s)) h)) h
   closed_top (WrittenSeq.next (WrittenTerm.star x) s) e h =
@@ -153,7 +159,8 @@ module _ (G : WrittenGrammar) (K : List ℕ → Type 0) where
       )
 
 -- a parser rule is at some position
-at_number : (rules : List WrittenRule) (r : ℕ) (rule : ParserRule) → slice_get (parser_rules rules) r ≡ Some rule → (i : ℕ) × (slice_get rules i ≡ Some (WrittenRule.parser_rule rule))
+at_number : (rules : List WrittenRule) (r : ℕ) (rule : ParserRule) → slice_get (parser_rules rules) r ≡ Some rule → (i : ℕ)
+    × (slice_get rules i ≡ Some (WrittenRule.parser_rule rule))
 at_number [] r rule e = absurd (cc)
 at_number (WrittenRule.lexer_rule x ∷ rules) r rule e = let h = at_number rules r rule e in (suc h.0, h.1)
 at_number (WrittenRule.parser_rule x ∷ rules) zero rule e = (0, let same : x ≡ rule = cc in ap (λ y. Some (WrittenRule.parser_rule y)) same)
@@ -164,16 +171,20 @@ is_false false h = refl
 is_false true h = absurd (h refl)
 
 -- the rule whose alternatives are the r-th
-rule_at : (G : WrittenGrammar) (rules : List ParserRule) (r : ℕ) (a : Alts) → slice_get (map (λ (p : ParserRule). resolved_alts G p.alts) rules) r ≡ Some a → (rule : ParserRule) × (slice_get rules r ≡ Some rule) × (resolved_alts G rule.alts ≡ a)
+rule_at : (G : WrittenGrammar) (rules : List ParserRule) (r : ℕ) (a : Alts) → slice_get (map (λ (p : ParserRule). resolved_alts G p.alts) rules) r ≡ Some a
+    → (rule : ParserRule) × (slice_get rules r ≡ Some rule) × (resolved_alts G rule.alts ≡ a)
 rule_at G [] r a e = absurd (cc)
 rule_at G (x ∷ rules) zero a e = (x, refl, cc)
 rule_at G (x ∷ rules) (suc r) a e = rule_at G rules r a e
 
 -- each alternative of a checked grammar is closed
-pub bodies_closed : (G : WrittenGrammar) (start : ℕ) (K : List ℕ → Type 0) → IsWellFormed G start → ((a : Alts) (r : ℕ) → slice_get (bodies G) r ≡ Some a → (ks : List ℕ) → Contains (alts_sets a) ks → K ks) → (r : ℕ) (a : Alts) → slice_get (bodies G) r ≡ Some a → IsClosedAlts (bodies G) K a
+pub bodies_closed : (G : WrittenGrammar) (start : ℕ) (K : List ℕ → Type 0) → IsWellFormed G start
+    → ((a : Alts) (r : ℕ) → slice_get (bodies G) r ≡ Some a → (ks : List ℕ) → Contains (alts_sets a) ks → K ks) → (r : ℕ) (a : Alts)
+    → slice_get (bodies G) r ≡ Some a → IsClosedAlts (bodies G) K a
 bodies_closed G start K well known r a e =
     let found = rule_at G (parser_rules G.rules) r a e in
     let position = at_number G.rules r found.0 found.1 in
     let P : Alts → Type 0 = λ x. IsClosedAlts (bodies G) K x in
     let Q : Alts → Type 0 = λ x. Each K (alts_sets x) in
-    subst P found.2 (closed_body G K found.0.alts (is_false (is_misplaced found.0.alts) (λ h. well.eof_at_ends position.0 (found.0, position.1, inl h))) (subst Q (sym found.2) (known a r e)))
+    subst P found.2 (closed_body G K found.0.alts (is_false (is_misplaced found.0.alts) (λ h. well.eof_at_ends position.0 (found.0, position.1, inl h)))
+    (subst Q (sym found.2) (known a r e)))

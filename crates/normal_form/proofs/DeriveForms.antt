@@ -7,7 +7,8 @@ use Rattle.grammar_tree.specs.Laws.{CutsInto}
 use Rattle.normal_form.specs.declared.normal.Sym.{Sym}
 use Rattle.normal_form.specs.declared.normal.Sym.TheVariants.{Kind, Set, Rule}
 use Rattle.normal_form.specs.Form.{RuleForm, NormalForm}
-use Rattle.normal_form.specs.NormalDerives.{NormalDerives, NormalDerivesSeq, NormalDerivesMany, of_kind, of_set, of_regular, of_absent, of_present, of_star, of_plus, of_done, of_next, of_end, of_more}
+use Rattle.normal_form.specs.NormalDerives.{NormalDerives, NormalDerivesSeq, NormalDerivesMany, of_kind, of_set, of_regular, of_absent}
+use Rattle.normal_form.specs.NormalDerives.{of_present, of_star, of_plus, of_done, of_next, of_end, of_more}
 use Rattle.normal_form.specs.FormLaws.{NormalDerivesByForm}
 use Rattle.grammar_tree.proofs.Lent.{at_of_contains, contains_at}
 use Rattle.normal_form.proofs.Lists.{Contains-nil}
@@ -51,7 +52,8 @@ module _ (N : NormalForm) where
   opt_of r s w at (inl e) = let P : List ℕ → Type 0 = λ x. NormalDerives N (Rule r) x in subst P (sym e) (of_absent r s at)
   opt_of r s w at (inr d) = of_present r s w at d
 
-  plus_in : (r : ℕ) (s : Sym) (w : List ℕ) → slice_get N.rules r ≡ Some (RuleForm.plus s) → NormalDerives N (Rule r) w → CutsInto (NormalDerives N s) (NormalDerivesMany N s) w
+  plus_in : (r : ℕ) (s : Sym) (w : List ℕ) → slice_get N.rules r ≡ Some (RuleForm.plus s) → NormalDerives N (Rule r) w
+      → CutsInto (NormalDerives N s) (NormalDerivesMany N s) w
   plus_in r s w at (of_plus r' s' u v at' d m) =
       let same : s' ≡ s = cc in
       let P : Sym → Type 0 = λ x. NormalDerives N x u in
@@ -61,7 +63,8 @@ module _ (N : NormalForm) where
   plus_in r s w at (of_present r' s' w' at' d) = absurd (cc)
   plus_in r s w at (of_star r' s' w' at' m) = absurd (cc)
 
-  plus_of : (r : ℕ) (s : Sym) (w : List ℕ) → slice_get N.rules r ≡ Some (RuleForm.plus s) → CutsInto (NormalDerives N s) (NormalDerivesMany N s) w → NormalDerives N (Rule r) w
+  plus_of : (r : ℕ) (s : Sym) (w : List ℕ) → slice_get N.rules r ≡ Some (RuleForm.plus s) → CutsInto (NormalDerives N s) (NormalDerivesMany N s) w
+      → NormalDerives N (Rule r) w
   plus_of r s w at (u, v, e, d, m) = let P : List ℕ → Type 0 = λ x. NormalDerives N (Rule r) x in subst P (sym e) (of_plus r s u v at d m)
 
   many_in : (s : Sym) (w : List ℕ) → NormalDerivesMany N s w → (w ≡ []) ⊎ CutsInto (NormalDerives N s) (NormalDerivesMany N s) w

@@ -26,7 +26,8 @@ module _ (S : Setting) (has_each : HasEachRule S.bodies S.form S.numbers.own_rul
   move s x e d = let P : Sym → Type 0 = λ y. NormalDerives S.form y [] in subst P (sym e) d
 
   module _ (low high : ℕ) where
-    of_begun : (m : ℕ) (t : Term) (f : RuleForm) (more : List RuleForm) (s : Sym) → Known S low high m t → term_rules S.numbers m t ≡ f ∷ more → Repeats f s → NormalDerives S.form s [] → ⊥
+    of_begun : (m : ℕ) (t : Term) (f : RuleForm) (more : List RuleForm) (s : Sym) → Known S low high m t → term_rules S.numbers m t ≡ f ∷ more → Repeats f s
+        → NormalDerives S.form s [] → ⊥
     of_begun m (star t) f more s k e (inl h) d =
         let same : symbol S.numbers (m + 1) t ≡ s = cc in
         k.no_loop (inl (can_be_empty S has_each low high (m + 1) t (of_star S low high m t k) (move s (symbol S.numbers (m + 1) t) same d)))
@@ -45,14 +46,16 @@ module _ (S : Setting) (has_each : HasEachRule S.bodies S.form S.numbers.own_rul
     of_begun m eof f more s k e h d = absurd (cc)
 
   -- what the rule of the bases derives, the bases derive
-  pub base_derives : (r : ℕ) (a : Alts) (n : ℕ) (s : Seq) (b : Alts) (w : List ℕ) → RuleAt S r a n → rests r a ≡ or s b → NormalDerives S.form (Rule (n + 1)) w → DerivesAlts S.bodies (bases r a) w
+  pub base_derives : (r : ℕ) (a : Alts) (n : ℕ) (s : Seq) (b : Alts) (w : List ℕ) → RuleAt S r a n → rests r a ≡ or s b → NormalDerives S.form (Rule (n + 1)) w
+      → DerivesAlts S.bodies (bases r a) w
   base_derives r a n s b w known e d =
       let high = n + group_size r a in
       let one = regular_inverse (n + 1) (base_symbols S.numbers r (n + 4) a) (rules_of S r a n known (or s b) e).1.0 d refl in
       alt_derives S has_each (n + 1) high (bases r a) one.0 w (base_of S (n + 1) high r (n + 4) a one.0 (left_alts S r a n known s b e) one.1) one.2
 
   -- what the rule of the rests derives, the rests derive
-  pub rest_derives : (r : ℕ) (a : Alts) (n : ℕ) (s : Seq) (b : Alts) (w : List ℕ) → RuleAt S r a n → rests r a ≡ or s b → NormalDerives S.form (Rule (n + 3)) w → DerivesAlts S.bodies (rests r a) w
+  pub rest_derives : (r : ℕ) (a : Alts) (n : ℕ) (s : Seq) (b : Alts) (w : List ℕ) → RuleAt S r a n → rests r a ≡ or s b → NormalDerives S.form (Rule (n + 3)) w
+      → DerivesAlts S.bodies (rests r a) w
   rest_derives r a n s b w known e d =
       let high = n + group_size r a in
       let third : n + 1 + 1 + 1 ≡ n + 3 = omega arith in

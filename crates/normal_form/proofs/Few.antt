@@ -19,17 +19,21 @@ groups_length : (M : Numbering) (n r : ℕ) (G : List Alts) → length (groups M
 groups_length M n r [] = refl
 groups_length M n r (a ∷ G) =
     let next : normal_count_from (r + 1) G ≡ normal_count_from (suc r) G = ap (λ q. normal_count_from q G) (omega arith) in
-    length-append (group M n r a) (groups M (n + group_size r a) (r + 1) G) ∙ omega (arith, group_length M n r a, groups_length M (n + group_size r a) (r + 1) G, next)
+    length-append (group M n r a) (groups M (n + group_size r a) (r + 1) G)
+    ∙ omega (arith, group_length M n r a, groups_length M (n + group_size r a) (r + 1) G, next)
 
 new_length : (name : List ℕ) (k n : ℕ) → length (new_names name k n) ≡ n
 new_length name k zero = refl
 new_length name k (suc n) = ap suc (new_length name (k + 1) n)
 
-names_length : (G : WrittenGrammar) (r : ℕ) (rules : List ParserRule) → length (names_from G r rules) ≡ normal_count_from r (map (λ (p : ParserRule). resolved_alts G p.alts) rules)
+names_length : (G : WrittenGrammar) (r : ℕ) (rules : List ParserRule)
+    → length (names_from G r rules) ≡ normal_count_from r (map (λ (p : ParserRule). resolved_alts G p.alts) rules)
 names_length G r [] = refl
 names_length G r (rule ∷ rules) =
     let size = group_size r (resolved_alts G rule.alts) in
-    let next : normal_count_from (r + 1) (map (λ (p : ParserRule). resolved_alts G p.alts) rules) ≡ normal_count_from (suc r) (map (λ (p : ParserRule). resolved_alts G p.alts) rules) = ap (λ q. normal_count_from q (map (λ (p : ParserRule). resolved_alts G p.alts) rules)) (omega arith) in
+    let next : normal_count_from (r + 1) (map (λ (p : ParserRule). resolved_alts G p.alts) rules) ≡ normal_count_from (suc r)
+    (map (λ (p : ParserRule). resolved_alts G p.alts) rules) =
+    ap (λ q. normal_count_from q (map (λ (p : ParserRule). resolved_alts G p.alts) rules)) (omega arith) in
     length-append (group_names rule.name size) (names_from G (r + 1) rules)
     ∙ omega (arith, new_length rule.name 1 (size - 1), group_positive r (resolved_alts G rule.alts), names_length G (r + 1) rules, next)
 

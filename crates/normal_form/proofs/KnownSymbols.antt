@@ -34,7 +34,8 @@ module _ (S : Setting) (has_each : HasEachRule S.bodies S.form S.numbers.own_rul
   abbrev IsOne : Sym → Type 0
   IsOne = IsWithin S.kinds S.form
 
-  rule_is_there : (r : ℕ) (a : Alts) → IsPlainRule S.bodies S.form S.numbers.own_rule r a ⊎ IsRecursiveRule S.bodies S.form S.numbers.own_rule r a → IsOne (Rule (S.numbers.own_rule r))
+  rule_is_there : (r : ℕ) (a : Alts) → IsPlainRule S.bodies S.form S.numbers.own_rule r a ⊎ IsRecursiveRule S.bodies S.form S.numbers.own_rule r a
+      → IsOne (Rule (S.numbers.own_rule r))
   rule_is_there r a (inl h) = slice_get_within S.form.rules (S.numbers.own_rule r) (RuleForm.regular h.alts) h.at
   rule_is_there r a (inr h) = slice_get_within S.form.rules (S.numbers.own_rule r) (RuleForm.regular ((Rule h.base ∷ Rule h.many ∷ []) ∷ [])) h.at
 
@@ -61,7 +62,8 @@ module _ (S : Setting) (has_each : HasEachRule S.bodies S.form S.numbers.own_rul
     of_suffix : (n : ℕ) (t : Term) (x s : Sym) → Known S low high n t → symbol S.numbers n t ≡ x → x ≡ s → IsOne s
     of_suffix n t x s h e same = let P : Sym → Type 0 = IsOne in subst P (e ∙ same) (symbol_is_there n t h)
 
-    of_begun : (m : ℕ) (t : Term) (f : RuleForm) (more : List RuleForm) (s : Sym) → Known S low high m t → term_rules S.numbers m t ≡ f ∷ more → HasSymbol f s → IsOne s
+    of_begun : (m : ℕ) (t : Term) (f : RuleForm) (more : List RuleForm) (s : Sym) → Known S low high m t → term_rules S.numbers m t ≡ f ∷ more → HasSymbol f s
+        → IsOne s
     of_begun m (kind k) f more s h e c = absurd (cc)
     of_begun m (among ks) f more s h e c = absurd (cc)
     of_begun m (rule r) f more s h e c = absurd (cc)
@@ -84,7 +86,8 @@ module _ (S : Setting) (has_each : HasEachRule S.bodies S.form S.numbers.own_rul
   rule_there n f s at e = let P : Sym → Type 0 = IsOne in subst P e (slice_get_within S.form.rules n f at)
 
   -- one of the two symbols of a rule with rests
-  of_two : (m n : ℕ) (f g : RuleForm) (s : Sym) → slice_get S.form.rules m ≡ Some f → slice_get S.form.rules n ≡ Some g → (s ≡ Rule m) ⊎ Contains (Rule n ∷ []) s → IsOne s
+  of_two : (m n : ℕ) (f g : RuleForm) (s : Sym) → slice_get S.form.rules m ≡ Some f → slice_get S.form.rules n ≡ Some g → (s ≡ Rule m)
+      ⊎ Contains (Rule n ∷ []) s → IsOne s
   of_two m n f g s at at' (inl e) = rule_there m f s at (sym e)
   of_two m n f g s at at' (inr c) = rule_there n g s at' (sym (Contains-only s (Rule n) c))
 
@@ -97,7 +100,8 @@ module _ (S : Setting) (has_each : HasEachRule S.bodies S.form S.numbers.own_rul
       let P : List Sym → Type 0 = λ x. Contains x s in
       let second : n + 1 + 1 ≡ n + 2 = omega arith in
       let Q : ℕ → Type 0 = λ k. slice_get S.form.rules k ≡ Some (RuleForm.star (Rule (n + 3))) in
-      of_two (n + 1) (n + 2) _ (RuleForm.star (Rule (n + 3))) s rules.1.0 (subst Q second rules.1.1.0) (Contains-cases s (Rule (n + 1)) (Rule (n + 2) ∷ []) (subst P only d))
+      of_two (n + 1) (n + 2) _ (RuleForm.star (Rule (n + 3))) s rules.1.0 (subst Q second rules.1.1.0)
+      (Contains-cases s (Rule (n + 1)) (Rule (n + 2) ∷ []) (subst P only d))
   of_origin r a n m f s known (Origin.base s' b e) (alt, c, d) =
       let high = n + group_size r a in in_alt (n + 1) high _ alt s (base_of S (n + 1) high r (n + 4) a alt (left_alts S r a n known s' b e) c) d
   of_origin r a n m f s known (Origin.many s' b e) same =
@@ -109,13 +113,15 @@ module _ (S : Setting) (has_each : HasEachRule S.bodies S.form S.numbers.own_rul
       let high = n + group_size r a in in_alt (n + 1) high _ alt s (rest_alt S (n + 1) high r (n + 4) a alt (left_alts S r a n known s' b e) c) d
   of_origin r a n m f s known (Origin.part m' f' h) c = of_begun (n + 1) (n + group_size r a) m h.term f h.more s h.known h.rules c
 
-within : (N : NormalForm) (normal : IsNormal N) (r : ℕ) (form : RuleForm) (s : Sym) → slice_get N.rules r ≡ Some form → HasSymbol form s → IsWithin (length normal.grammar.kinds) N s
+within : (N : NormalForm) (normal : IsNormal N) (r : ℕ) (form : RuleForm) (s : Sym) → slice_get N.rules r ≡ Some form → HasSymbol form s
+    → IsWithin (length normal.grammar.kinds) N s
 within N normal r form s at h =
     let c = normal.grammar in
     let P : NormalForm → Type 0 = λ M. slice_get M.rules r ≡ Some form in
     let it = origin_of_rule c normal.checked r form (subst P normal.is at) in
     let Q : NormalForm → Type 0 = λ M. IsWithin (length c.kinds) M s in
-    subst Q (sym normal.is) (of_origin (setting c) (has_each c normal.checked) it.rule it.alts (own_rule (bodies c.grammar) it.rule) r form s it.known it.origin h)
+    subst Q (sym normal.is) (of_origin (setting c) (has_each c normal.checked) it.rule it.alts
+    (own_rule (bodies c.grammar) it.rule) r form s it.known it.origin h)
 
 pub symbols_are_known : SymbolsAreKnown
 symbols_are_known N normal =

@@ -38,15 +38,18 @@ has_each c checked r a e =
     let N = normal_of c in
     let M = numbering G in
     let closed : IsClosedAlts G (IsThere N M) a =
-    bodies_closed c.grammar c.start (IsThere N M) checked.well_formed (λ b q at ks k. set_is_there (flat_map alts_sets G) ks (sets_among G q b at ks k)) r a e in
-    let at : At N (own_rule G r) (group M (own_rule G r) r a) = group_at N M 0 0 G r a (At_all N (groups M 0 0 G) refl) e (own_rule G r) r (omega arith) (omega arith) in
+    bodies_closed c.grammar c.start (IsThere N M) checked.well_formed
+    (λ b q at ks k. set_is_there (flat_map alts_sets G) ks (sets_among G q b at ks k)) r a e in
+    let at : At N (own_rule G r) (group M (own_rule G r) r a) =
+    group_at N M 0 0 G r a (At_all N (groups M 0 0 G) refl) e (own_rule G r) r (omega arith) (omega arith) in
     group_represented G N M r (own_rule G r) a refl closed _ refl at
 
 any_alts : Alts
 any_alts = Alts.none
 
 -- a parser rule and its rule in the normal form
-equal_rules : (c : CheckedGrammar) → IsChecked c → (r : ℕ) → r < length (bodies c.grammar) → (w : List ℕ) → RuleDerives c.grammar r w ↔ NormalDerives (normal_of c) (Rule (own_rule (bodies c.grammar) r)) w
+equal_rules : (c : CheckedGrammar) → IsChecked c → (r : ℕ) → r < length (bodies c.grammar) → (w : List ℕ) → RuleDerives c.grammar r w
+    ↔ NormalDerives (normal_of c) (Rule (own_rule (bodies c.grammar) r)) w
 equal_rules c checked r known w =
     let G = bodies c.grammar in
     let a = get_or G r any_alts in

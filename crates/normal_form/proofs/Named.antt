@@ -1,11 +1,13 @@
 -- The rules of the normal form have the shape of the terms that made them.
-use Rattle.std.proofs.Common.{◌≡◌, ℕ, zero, suc, ◌+◌, ◌⊎◌, inl, inr, List, [], ◌∷◌, ◌++◌, length, take, Option, Some, None, slice_get, refl, sym, ap, ◌∙◌, subst, arith, length-append, append_assoc}
+use Rattle.std.proofs.Common.{◌≡◌, ℕ, zero, suc, ◌+◌, ◌⊎◌, inl, inr, List, [], ◌∷◌, ◌++◌, length, take, Option, Some, None}
+use Rattle.std.proofs.Common.{slice_get, refl, sym, ap, ◌∙◌, subst, arith, length-append, append_assoc}
 use Rattle.grammar_tree.specs.Derives.{Term, Seq, Alts, kind, among, rule, block, opt, star, plus, eof, done, next, none, or}
 use Rattle.grammar_tree.specs.Corners.{new_rules, seq_new_rules, alts_new_rules, and_base, and_rest, rest_of, bases, rests, group_size, normal_count_from}
 use Rattle.normal_form.specs.declared.normal.Sym.{Sym}
 use Rattle.normal_form.specs.declared.normal.Sym.TheVariants.{Rule}
 use Rattle.normal_form.specs.Form.{RuleForm, NormalForm}
-use Rattle.normal_form.specs.Numbering.{Numbering, symbol, and_symbol, seq_symbols, alts_symbols, term_rules, seq_rules, alts_rules, tail, base_symbols, rest_symbols, group_of, group, groups}
+use Rattle.normal_form.specs.Numbering.{Numbering, symbol, and_symbol, seq_symbols, alts_symbols, term_rules, seq_rules}
+use Rattle.normal_form.specs.Numbering.{alts_rules, tail, base_symbols, rest_symbols, group_of, group, groups}
 use Rattle.normal_form.specs.Numbering as numbers
 use Rattle.normal_form.proofs.Represents.{Represents, RepresentsSeq, RepresentsAlts, IsPlainRule, IsRecursiveRule}
 use Rattle.grammar_check_recursion.proofs.Lent.{head_count}
@@ -44,11 +46,13 @@ mutual
 
   pub seq_length : (M : Numbering) (n : ℕ) (s : Seq) → length (seq_rules M n s) ≡ seq_new_rules s
   seq_length M n done = refl
-  seq_length M n (next t s) = length-append (term_rules M n t) (seq_rules M (n + new_rules t) s) ∙ omega (arith, rules_length M n t, seq_length M (n + new_rules t) s)
+  seq_length M n (next t s) =
+      length-append (term_rules M n t) (seq_rules M (n + new_rules t) s) ∙ omega (arith, rules_length M n t, seq_length M (n + new_rules t) s)
 
   pub alts_length : (M : Numbering) (n : ℕ) (a : Alts) → length (alts_rules M n a) ≡ alts_new_rules a
   alts_length M n none = refl
-  alts_length M n (or s a) = length-append (seq_rules M n s) (alts_rules M (n + seq_new_rules s) a) ∙ omega (arith, seq_length M n s, alts_length M (n + seq_new_rules s) a)
+  alts_length M n (or s a) =
+      length-append (seq_rules M n s) (alts_rules M (n + seq_new_rules s) a) ∙ omega (arith, seq_length M n s, alts_length M (n + seq_new_rules s) a)
 
 pub closed_part : (G : List Alts) (K : List ℕ → Type 0) (t : Term) (x : Sym) (ss : List Sym) → IsClosed G K t → and_symbol t x ss ≡ x ∷ ss
 closed_part G K eof x ss h = absurd h
@@ -65,7 +69,9 @@ abbrev pub IsThere : NormalForm → Numbering → List ℕ → Type 0
 IsThere N M ks = slice_get N.sets (M.set_of ks) ≡ Some ks
 
 module _ (G : List Alts) (N : NormalForm) (M : Numbering) where
-  represents_next : (n : ℕ) (t : Term) (s : Seq) (ss : List Sym) → (t ≡ eof) ⊎ IsClosed G (IsThere N M) t → (IsClosed G (IsThere N M) t → Represents G N M.own_rule (symbol M n t) t) → RepresentsSeq G N M.own_rule ss s → RepresentsSeq G N M.own_rule (and_symbol t (symbol M n t) ss) (next t s)
+  represents_next : (n : ℕ) (t : Term) (s : Seq) (ss : List Sym) → (t ≡ eof) ⊎ IsClosed G (IsThere N M) t
+      → (IsClosed G (IsThere N M) t → Represents G N M.own_rule (symbol M n t) t) → RepresentsSeq G N M.own_rule ss s
+      → RepresentsSeq G N M.own_rule (and_symbol t (symbol M n t) ss) (next t s)
   represents_next n t s ss (inl e) h k =
       let P : Term → Type 0 = λ x. RepresentsSeq G N M.own_rule (and_symbol x (symbol M n x) ss) (next x s) in subst P (sym e) (inl (refl, k))
   represents_next n t s ss (inr c) h k =
@@ -87,7 +93,8 @@ module _ (G : List Alts) (N : NormalForm) (M : Numbering) where
     represents_seq n done c h = refl
     represents_seq n (next t s) (c, d) h =
         represents_next n t s (seq_symbols M (n + new_rules t) s) c (λ b. represents n t b (At_left N n (term_rules M n t) (seq_rules M (n + new_rules t) s) h))
-        (represents_seq (n + new_rules t) s d (At_right N n (term_rules M n t) (seq_rules M (n + new_rules t) s) (n + new_rules t) (ap (λ k. n + k) (rules_length M n t)) h))
+        (represents_seq (n + new_rules t) s d (At_right N n (term_rules M n t) (seq_rules M (n + new_rules t) s) (n + new_rules t)
+        (ap (λ k. n + k) (rules_length M n t)) h))
 
     pub represents_alts : (n : ℕ) (a : Alts) → IsClosedAlts G (IsThere N M) a → At N n (alts_rules M n a) → RepresentsAlts G N M.own_rule (alts_symbols M n a) a
     represents_alts n none c h = refl
@@ -96,19 +103,24 @@ module _ (G : List Alts) (N : NormalForm) (M : Numbering) where
       alts_symbols M (n + seq_new_rules s) a,
       refl,
       represents_seq n s c (At_left N n (seq_rules M n s) (alts_rules M (n + seq_new_rules s) a) h),
-      represents_alts (n + seq_new_rules s) a d (At_right N n (seq_rules M n s) (alts_rules M (n + seq_new_rules s) a) (n + seq_new_rules s) (ap (λ k. n + k) (seq_length M n s)) h),
+      represents_alts (n + seq_new_rules s) a d
+          (At_right N n (seq_rules M n s) (alts_rules M (n + seq_new_rules s) a) (n + seq_new_rules s) (ap (λ k. n + k) (seq_length M n s)) h),
     )
 
   -- The bases.
-  base_first : (o : Option Seq) (s : Seq) (b : Alts) (ss : List Sym) (more : List (List Sym)) → RepresentsSeq G N M.own_rule ss s → RepresentsAlts G N M.own_rule more b → RepresentsAlts G N M.own_rule (numbers.with_base o ss more) (and_base s o b)
+  base_first : (o : Option Seq) (s : Seq) (b : Alts) (ss : List Sym) (more : List (List Sym)) → RepresentsSeq G N M.own_rule ss s
+      → RepresentsAlts G N M.own_rule more b → RepresentsAlts G N M.own_rule (numbers.with_base o ss more) (and_base s o b)
   base_first None s b ss more h k = (ss, more, refl, h, k)
   base_first (Some rest) s b ss more h k = k
 
-  base_represented : (r n : ℕ) (a : Alts) → IsClosedAlts G (IsThere N M) a → At N n (alts_rules M n a) → RepresentsAlts G N M.own_rule (base_symbols M r n a) (bases r a)
+  base_represented : (r n : ℕ) (a : Alts) → IsClosedAlts G (IsThere N M) a → At N n (alts_rules M n a)
+      → RepresentsAlts G N M.own_rule (base_symbols M r n a) (bases r a)
   base_represented r n none c h = refl
   base_represented r n (or s a) (c, d) h =
-      base_first (rest_of r s) s (bases r a) (seq_symbols M n s) (base_symbols M r (n + seq_new_rules s) a) (represents_seq n s c (At_left N n (seq_rules M n s) (alts_rules M (n + seq_new_rules s) a) h))
-      (base_represented r (n + seq_new_rules s) a d (At_right N n (seq_rules M n s) (alts_rules M (n + seq_new_rules s) a) (n + seq_new_rules s) (ap (λ k. n + k) (seq_length M n s)) h))
+      base_first (rest_of r s) s (bases r a) (seq_symbols M n s) (base_symbols M r (n + seq_new_rules s) a)
+      (represents_seq n s c (At_left N n (seq_rules M n s) (alts_rules M (n + seq_new_rules s) a) h))
+      (base_represented r (n + seq_new_rules s) a d
+      (At_right N n (seq_rules M n s) (alts_rules M (n + seq_new_rules s) a) (n + seq_new_rules s) (ap (λ k. n + k) (seq_length M n s)) h))
 
   -- The rests.
   tail_represented : (r : ℕ) (rest : Seq) (ss : List Sym) → RepresentsSeq G N M.own_rule ss (next (rule r) rest) → RepresentsSeq G N M.own_rule (tail ss) rest
@@ -116,18 +128,23 @@ module _ (G : List Alts) (N : NormalForm) (M : Numbering) where
   tail_represented r rest ss (inr (s, more, e, h, k)) =
       let P : List Sym → Type 0 = λ x. RepresentsSeq G N M.own_rule x rest in subst P (sym (ap tail e)) k
 
-  rest_first : (r : ℕ) (o : Option Seq) (s : Seq) (b : Alts) (ss : List Sym) (more : List (List Sym)) → rest_of r s ≡ o → RepresentsSeq G N M.own_rule ss s → RepresentsAlts G N M.own_rule more b → RepresentsAlts G N M.own_rule (numbers.with_rest o ss more) (and_rest o b)
+  rest_first : (r : ℕ) (o : Option Seq) (s : Seq) (b : Alts) (ss : List Sym) (more : List (List Sym)) → rest_of r s ≡ o → RepresentsSeq G N M.own_rule ss s
+      → RepresentsAlts G N M.own_rule more b → RepresentsAlts G N M.own_rule (numbers.with_rest o ss more) (and_rest o b)
   rest_first r None s b ss more e h k = k
   rest_first r (Some rest) s b ss more e h k =
       let P : Seq → Type 0 = λ x. RepresentsSeq G N M.own_rule ss x in (tail ss, more, refl, tail_represented r rest ss (subst P (rest_is r s rest e) h), k)
 
-  rest_represented : (r n : ℕ) (a : Alts) → IsClosedAlts G (IsThere N M) a → At N n (alts_rules M n a) → RepresentsAlts G N M.own_rule (rest_symbols M r n a) (rests r a)
+  rest_represented : (r n : ℕ) (a : Alts) → IsClosedAlts G (IsThere N M) a → At N n (alts_rules M n a)
+      → RepresentsAlts G N M.own_rule (rest_symbols M r n a) (rests r a)
   rest_represented r n none c h = refl
   rest_represented r n (or s a) (c, d) h =
-      rest_first r (rest_of r s) s (rests r a) (seq_symbols M n s) (rest_symbols M r (n + seq_new_rules s) a) refl (represents_seq n s c (At_left N n (seq_rules M n s) (alts_rules M (n + seq_new_rules s) a) h))
-      (rest_represented r (n + seq_new_rules s) a d (At_right N n (seq_rules M n s) (alts_rules M (n + seq_new_rules s) a) (n + seq_new_rules s) (ap (λ k. n + k) (seq_length M n s)) h))
+      rest_first r (rest_of r s) s (rests r a) (seq_symbols M n s) (rest_symbols M r (n + seq_new_rules s) a) refl
+      (represents_seq n s c (At_left N n (seq_rules M n s) (alts_rules M (n + seq_new_rules s) a) h))
+      (rest_represented r (n + seq_new_rules s) a d
+      (At_right N n (seq_rules M n s) (alts_rules M (n + seq_new_rules s) a) (n + seq_new_rules s) (ap (λ k. n + k) (seq_length M n s)) h))
 
-  pub group_represented : (r n : ℕ) (a : Alts) → M.own_rule r ≡ n → IsClosedAlts G (IsThere N M) a → (b : Alts) → rests r a ≡ b → At N n (group_of M n r a b) → IsPlainRule G N M.own_rule r a ⊎ IsRecursiveRule G N M.own_rule r a
+  pub group_represented : (r n : ℕ) (a : Alts) → M.own_rule r ≡ n → IsClosedAlts G (IsThere N M) a → (b : Alts) → rests r a ≡ b → At N n (group_of M n r a b)
+      → IsPlainRule G N M.own_rule r a ⊎ IsRecursiveRule G N M.own_rule r a
   group_represented r n a p c none e h =
       let P : ℕ → Type 0 = λ k. slice_get N.rules k ≡ Some (RuleForm.regular (alts_symbols M (n + 1) a)) in
       inl (record { plain = e; alts = alts_symbols M (n + 1) a; at = subst P (sym p) h.0; represented = represents_alts (n + 1) a c h.1 })
@@ -156,7 +173,8 @@ pub group_length : (M : Numbering) (n r : ℕ) (a : Alts) → length (group M n 
 group_length M n r a = group_of_length M n r a (rests r a)
 
 -- each group is where it begins
-pub group_at : (N : NormalForm) (M : Numbering) (n r : ℕ) (G : List Alts) (k : ℕ) (a : Alts) → At N n (groups M n r G) → slice_get G k ≡ Some a → (m q : ℕ) → n + normal_count_from r (take k G) ≡ m → r + k ≡ q → At N m (group M m q a)
+pub group_at : (N : NormalForm) (M : Numbering) (n r : ℕ) (G : List Alts) (k : ℕ) (a : Alts) → At N n (groups M n r G) → slice_get G k ≡ Some a → (m q : ℕ)
+    → n + normal_count_from r (take k G) ≡ m → r + k ≡ q → At N m (group M m q a)
 group_at N M n r [] k a h e m q em eq = absurd (cc)
 group_at N M n r (b ∷ G) zero a h e m q em eq =
     let same : b ≡ a = cc in
@@ -169,10 +187,12 @@ group_at N M n r (b ∷ G) zero a h e m q em eq =
     subst S here (subst R number (subst Q same (At_left N n (group M n r b) (groups M (n + group_size r b) (r + 1) G) h)))
 group_at N M n r (b ∷ G) (suc k) a h e m q em eq =
     group_at N M (n + group_size r b) (r + 1) G k a
-    (At_right N n (group M n r b) (groups M (n + group_size r b) (r + 1) G) (n + group_size r b) (ap (λ x. n + x) (group_length M n r b)) h) e m q (go em) (omega (arith, eq))
+    (At_right N n (group M n r b) (groups M (n + group_size r b) (r + 1) G) (n + group_size r b) (ap (λ x. n + x) (group_length M n r b)) h) e m q (go em)
+    (omega (arith, eq))
   where
     go : n + normal_count_from r (take (suc k) (b ∷ G)) ≡ m → n + group_size r b + normal_count_from (r + 1) (take k G) ≡ m
-    go em' = let x : normal_count_from (suc r) (take k G) ≡ normal_count_from (r + 1) (take k G) = ap (λ y. normal_count_from y (take k G)) (omega arith) in omega (arith, em', x)
+    go em' = let x : normal_count_from (suc r) (take k G) ≡ normal_count_from (r + 1) (take k G) =
+        ap (λ y. normal_count_from y (take k G)) (omega arith) in omega (arith, em', x)
 
 get_after : (front back : List RuleForm) (k : RuleForm) → slice_get (front ++ k ∷ back) (length front) ≡ Some k
 get_after [] back k = refl
@@ -183,7 +203,8 @@ At_end : (N : NormalForm) (front xs : List RuleForm) → N.rules ≡ front ++ xs
 At_end N front [] e = tt
 At_end N front (x ∷ xs) e = (
   let P : List RuleForm → Type 0 = λ l. slice_get l (length front) ≡ Some x in subst P (sym e) (get_after front xs x),
-  At_move N (length (front ++ x ∷ [])) (length front + 1) xs (length-append front (x ∷ [])) (At_end N (front ++ x ∷ []) xs (e ∙ sym (append_assoc front (x ∷ []) xs))),
+  At_move N (length (front ++ x ∷ [])) (length front + 1) xs (length-append front (x ∷ []))
+      (At_end N (front ++ x ∷ []) xs (e ∙ sym (append_assoc front (x ∷ []) xs))),
 )
 
 pub At_all : (N : NormalForm) (xs : List RuleForm) → N.rules ≡ xs → At N 0 xs

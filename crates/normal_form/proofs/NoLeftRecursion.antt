@@ -15,7 +15,8 @@ use Rattle.normal_form.proofs.Languages.{has_each}
 use Rattle.normal_form.proofs.Settings.{origin_of_rule, rule_at, setting}
 
 -- a group of rules ends before each later group
-before_later : (r : ℕ) (G : List Alts) (i j : ℕ) (a : Alts) → slice_get G i ≡ Some a → i < j → normal_count_from r (take i G) + group_size (r + i) a ≤ normal_count_from r (take j G)
+before_later : (r : ℕ) (G : List Alts) (i j : ℕ) (a : Alts) → slice_get G i ≡ Some a → i < j
+    → normal_count_from r (take i G) + group_size (r + i) a ≤ normal_count_from r (take j G)
 before_later r [] i j a at less = absurd (cc)
 before_later r (x ∷ G) i zero a at less = absurd (omega (arith, less))
 before_later r (x ∷ G) zero (suc j) a at less =
@@ -30,7 +31,8 @@ later_own_rule G i j a at less =
     let same : group_size (0 + i) a ≡ group_size i a = ap (λ q. group_size q a) (omega arith) in omega (arith, same, before_later 0 G i j a at less)
 
 -- the own rule of a parser rule is in no other's group
-same_group : (G : List Alts) (r q : ℕ) (a b : Alts) → slice_get G r ≡ Some a → slice_get G q ≡ Some b → own_rule G r ≤ own_rule G q → own_rule G q < own_rule G r + group_size r a → q ≡ r
+same_group : (G : List Alts) (r q : ℕ) (a b : Alts) → slice_get G r ≡ Some a → slice_get G q ≡ Some b → own_rule G r ≤ own_rule G q
+    → own_rule G q < own_rule G r + group_size r a → q ≡ r
 same_group G r q a b at at' low high = go (cases_lt q r) (cases_lt r q)
   where
     go : (q < r) ⊎ (r ≤ q) → (r < q) ⊎ (q ≤ r) → q ≡ r
@@ -46,7 +48,8 @@ leads_on G a b c (by_corners a' m b' h more) k = by_corners a m c h (leads_on G 
 append_chain : (N : NormalForm) (j a b : ℕ) → NormalLeadsTo N j a b → (k c : ℕ) → NormalLeadsTo N k b c → NormalLeadsTo N (j + k) a c
 append_chain N j a b h k c (no_step b') = let P : ℕ → Type 0 = λ n. NormalLeadsTo N n a b in let same : j ≡ j + 0 = omega arith in subst P same h
 append_chain N j a b h k c (one_more k' b' m c' more corner) =
-    let P : ℕ → Type 0 = λ n. NormalLeadsTo N n a c in let same : suc (j + k') ≡ j + suc k' = omega arith in subst P same (one_more (j + k') a m c (append_chain N j a b h k' m more) corner)
+    let P : ℕ → Type 0 = λ n. NormalLeadsTo N n a c in let same : suc (j + k') ≡ j + suc k' =
+    omega arith in subst P same (one_more (j + k') a m c (append_chain N j a b h k' m more) corner)
 
 module _ (c : CheckedGrammar) (checked : IsChecked c) where
   abbrev G : List Alts
@@ -77,13 +80,16 @@ module _ (c : CheckedGrammar) (checked : IsChecked c) where
   leads_to_next from rule q (inl e) h = let P : ℕ → Type 0 = λ k. IsLeftCorner G k q in by_corner from q (subst P e h)
   leads_to_next from rule q (inr more) h = leads_on G from rule q more h
 
-  next_reached : (from m b : ℕ) (it : Reached from m) → Next (setting c) it.rule it.alts (own_rule G it.rule) (λ q. IsLeftCorner G it.rule q) m b → Reached from b
+  next_reached : (from m b : ℕ) (it : Reached from m) → Next (setting c) it.rule it.alts (own_rule G it.rule) (λ q. IsLeftCorner G it.rule q) m b
+      → Reached from b
   next_reached from m b it (within less s) = record { rule = it.rule; alts = it.alts; body = it.body; leads = it.leads; state = s }
   next_reached from m b it (leaves q body at at' h) = at_own_rule from q body b at at' (inr (leads_to_next from it.rule q it.leads h))
 
-  step_of : (from m b : ℕ) (it : Reached from m) → IsNormalCorner N m b → Next (setting c) it.rule it.alts (own_rule G it.rule) (λ q. IsLeftCorner G it.rule q) m b
+  step_of : (from m b : ℕ) (it : Reached from m) → IsNormalCorner N m b
+      → Next (setting c) it.rule it.alts (own_rule G it.rule) (λ q. IsLeftCorner G it.rule q) m b
   step_of from m b it corner =
-      step (setting c) (has_each c checked) it.rule it.alts (own_rule G it.rule) (λ q. IsLeftCorner G it.rule q) (rule_at c checked it.rule it.alts it.body) m b it.state corner
+      step (setting c) (has_each c checked) it.rule it.alts (own_rule G it.rule) (λ q. IsLeftCorner G it.rule q)
+      (rule_at c checked it.rule it.alts it.body) m b it.state corner
 
   reached_by : (from : ℕ) (a : Alts) → slice_get G from ≡ Some a → (n x m : ℕ) → NormalLeadsTo N n x m → own_rule G from ≡ x → Reached from m
   reached_by from a body n x m (no_step x') at = at_own_rule from from a m body at (inl refl)
@@ -91,7 +97,8 @@ module _ (c : CheckedGrammar) (checked : IsChecked c) where
       let it = reached_by from a body n' x k chain at in next_reached from k m it (step_of from k m it corner)
 
   -- the last step of a chain that comes back to the own rule of a parser rule
-  closes : (from : ℕ) (a : Alts) → slice_get G from ≡ Some a → (m b : ℕ) (it : Reached from m) → Next (setting c) it.rule it.alts (own_rule G it.rule) (λ q. IsLeftCorner G it.rule q) m b → own_rule G from ≡ b → ⊥
+  closes : (from : ℕ) (a : Alts) → slice_get G from ≡ Some a → (m b : ℕ) (it : Reached from m)
+      → Next (setting c) it.rule it.alts (own_rule G it.rule) (λ q. IsLeftCorner G it.rule q) m b → own_rule G from ≡ b → ⊥
   closes from a body m b it (within less s) at =
       let known = rule_at c checked it.rule it.alts it.body in
       let here = in_group (setting c) (has_each c checked) it.rule it.alts (own_rule G it.rule) (λ q. IsLeftCorner G it.rule q) known m it.state in
@@ -102,7 +109,8 @@ module _ (c : CheckedGrammar) (checked : IsChecked c) where
       let same : from ≡ q = same_group G q from other a at' body (omega (arith, at, is)) (omega (arith, at, is, group_positive q other)) in
       let P : ℕ → Type 0 = λ k. LeadsTo G from k in no_cycle from a body (subst P (sym same) (leads_to_next from it.rule q it.leads h))
 
-  no_cycle_of_own : (from : ℕ) (a : Alts) → slice_get G from ≡ Some a → (n x y : ℕ) → NormalLeadsTo N (suc n) x y → own_rule G from ≡ x → own_rule G from ≡ y → ⊥
+  no_cycle_of_own : (from : ℕ) (a : Alts) → slice_get G from ≡ Some a → (n x y : ℕ) → NormalLeadsTo N (suc n) x y → own_rule G from ≡ x → own_rule G from ≡ y
+      → ⊥
   no_cycle_of_own from a body n x y (one_more n' x' m y' chain corner) first last =
       let it = reached_by from a body n x m chain first in closes from a body m y it (step_of from m y it corner) last
 
@@ -119,7 +127,16 @@ module _ (c : CheckedGrammar) (checked : IsChecked c) where
   longer : (n x m y : ℕ) → (x + n ≤ m) ⊎ Through x m → m < y → IsNormalCorner N m y → (x + suc n ≤ y) ⊎ Through x y
   longer n x m y (inl h) less corner = inl (omega (arith, h, less))
   longer n x m y (inr t) less corner =
-      inr (record { rule = t.rule; alts = t.alts; body = t.body; first = t.first; second = suc t.second; before = t.before; after = one_more t.second (own_rule G t.rule) m y t.after corner })
+      inr
+      (record {
+        rule = t.rule;
+        alts = t.alts;
+        body = t.body;
+        first = t.first;
+        second = suc t.second;
+        before = t.before;
+        after = one_more t.second (own_rule G t.rule) m y t.after corner;
+      })
 
   passes : (n x y q : ℕ) (a : Alts) → slice_get G q ≡ Some a → own_rule G q ≡ y → NormalLeadsTo N (suc n) x y → Through x y
   passes n x y q a body at chain =
@@ -127,7 +144,8 @@ module _ (c : CheckedGrammar) (checked : IsChecked c) where
       let Q : ℕ → Type 0 = λ k. NormalLeadsTo N 0 (own_rule G q) k in
       record { rule = q; alts = a; body = body; first = n; second = 0; before = subst P (sym at) chain; after = subst Q at (no_step (own_rule G q)) }
 
-  longer_by_one : (n x m y : ℕ) → NormalLeadsTo N n x m → IsNormalCorner N m y → (x + n ≤ m) ⊎ Through x m → (r : ℕ) (a : Alts) → Next (setting c) r a (own_rule G r) (λ q. Unit {0}) m y → (x + suc n ≤ y) ⊎ Through x y
+  longer_by_one : (n x m y : ℕ) → NormalLeadsTo N n x m → IsNormalCorner N m y → (x + n ≤ m) ⊎ Through x m → (r : ℕ) (a : Alts)
+      → Next (setting c) r a (own_rule G r) (λ q. Unit {0}) m y → (x + suc n ≤ y) ⊎ Through x y
   longer_by_one n x m y chain corner before r a (within less s) = longer n x m y before less corner
   longer_by_one n x m y chain corner before r a (leaves q body at is h) = inr (passes n x y q body at is (one_more n x m y chain corner))
 
@@ -137,7 +155,8 @@ module _ (c : CheckedGrammar) (checked : IsChecked c) where
   rises n x y (one_more n' x' m y' chain corner) =
       let it = origin_of_rule c checked m corner.0 corner.1 in
       let all = anywhere (setting c) it.rule it.alts (own_rule G it.rule) m corner.0 (λ q. Unit {0}) (λ q. tt) it.origin in
-      longer_by_one n' x m y chain corner (rises n' x m chain) it.rule it.alts (step (setting c) (has_each c checked) it.rule it.alts (own_rule G it.rule) (λ q. Unit {0}) it.known m y all corner)
+      longer_by_one n' x m y chain corner (rises n' x m chain) it.rule it.alts
+      (step (setting c) (has_each c checked) it.rule it.alts (own_rule G it.rule) (λ q. Unit {0}) it.known m y all corner)
 
   pub no_normal_cycle : (n r : ℕ) → NormalLeadsTo N (suc n) r r → ⊥
   no_normal_cycle n r chain = go (rises (suc n) r r chain)
@@ -147,7 +166,8 @@ module _ (c : CheckedGrammar) (checked : IsChecked c) where
       go (inr t) =
           let P : ℕ → Type 0 = λ k. NormalLeadsTo N k (own_rule G t.rule) (own_rule G t.rule) in
           let one : t.second + suc t.first ≡ suc (t.second + t.first) = omega arith in
-          no_cycle_of_own t.rule t.alts t.body (t.second + t.first) (own_rule G t.rule) (own_rule G t.rule) (subst P one (append_chain N t.second (own_rule G t.rule) r t.after (suc t.first) (own_rule G t.rule) t.before)) refl refl
+          no_cycle_of_own t.rule t.alts t.body (t.second + t.first) (own_rule G t.rule) (own_rule G t.rule)
+          (subst P one (append_chain N t.second (own_rule G t.rule) r t.after (suc t.first) (own_rule G t.rule) t.before)) refl refl
 
 pub no_left_recursion : NoLeftRecursion
 no_left_recursion M normal n r chain =

@@ -37,8 +37,10 @@ module _ (S : Setting) (r : ℕ) (a : Alts) (n : ℕ) (known : RuleAt S r a n) w
   pub rules_of : (b : Alts) → rests r a ≡ b → At S.form n (group_of S.numbers n r a b)
   rules_of b e = let P : Alts → Type 0 = λ x. At S.form n (group_of S.numbers n r a x) in subst P e known.at
 
-  alts_from : (k : ℕ) → At S.form k (alts_rules S.numbers k a) → n + 1 ≤ k → k + alts_new_rules a ≤ n + group_size r a → KnownAlts S (n + 1) (n + group_size r a) k a
-  alts_from k at above below = record { at = at; closed = known.closed; no_loop = known.no_loop; kinds = known.kinds; small = known.small; above = above; below = below }
+  alts_from : (k : ℕ) → At S.form k (alts_rules S.numbers k a) → n + 1 ≤ k → k + alts_new_rules a ≤ n + group_size r a
+      → KnownAlts S (n + 1) (n + group_size r a) k a
+  alts_from k at above below =
+      record { at = at; closed = known.closed; no_loop = known.no_loop; kinds = known.kinds; small = known.small; above = above; below = below }
 
   pub plain_alts : rests r a ≡ none → KnownAlts S (n + 1) (n + group_size r a) (n + 1) a
   plain_alts e = alts_from (n + 1) (rules_of none e).1 (omega arith) (omega (arith, size_is r a none e))
@@ -61,11 +63,15 @@ module _ (S : Setting) (r : ℕ) (a : Alts) (n : ℕ) (known : RuleAt S r a n) w
       go : (b : Alts) → rests r a ≡ b → (k : ℕ) → n + k ≡ m → slice_get (group_of S.numbers n r a b) k ≡ Some f → Origin S r a n m f
       go none h zero is e = number_is m n f (omega (arith, is)) (form_is n (RuleForm.regular (alts_symbols S.numbers (n + 1) a)) f e (Origin.plain h))
       go none h (suc k) is e = Origin.part m f (in_alts S (n + 1) (n + group_size r a) (n + 1) k a f m (plain_alts h) (omega (arith, is)) e)
-      go (or s b) h zero is e = number_is m n f (omega (arith, is)) (form_is n (RuleForm.regular ((Rule (n + 1) ∷ Rule (n + 2) ∷ []) ∷ [])) f e (Origin.left s b h))
-      go (or s b) h (suc zero) is e = number_is m (n + 1) f (omega (arith, is)) (form_is (n + 1) (RuleForm.regular (base_symbols S.numbers r (n + 4) a)) f e (Origin.base s b h))
+      go (or s b) h zero is e =
+          number_is m n f (omega (arith, is)) (form_is n (RuleForm.regular ((Rule (n + 1) ∷ Rule (n + 2) ∷ []) ∷ [])) f e (Origin.left s b h))
+      go (or s b) h (suc zero) is e =
+          number_is m (n + 1) f (omega (arith, is)) (form_is (n + 1) (RuleForm.regular (base_symbols S.numbers r (n + 4) a)) f e (Origin.base s b h))
       go (or s b) h (suc (suc zero)) is e = number_is m (n + 2) f (omega (arith, is)) (form_is (n + 2) (RuleForm.star (Rule (n + 3))) f e (Origin.many s b h))
-      go (or s b) h (suc (suc (suc zero))) is e = number_is m (n + 3) f (omega (arith, is)) (form_is (n + 3) (RuleForm.regular (rest_symbols S.numbers r (n + 4) a)) f e (Origin.rest s b h))
-      go (or s b) h (suc (suc (suc (suc k)))) is e = Origin.part m f (in_alts S (n + 1) (n + group_size r a) (n + 4) k a f m (left_alts s b h) (omega (arith, is)) e)
+      go (or s b) h (suc (suc (suc zero))) is e =
+          number_is m (n + 3) f (omega (arith, is)) (form_is (n + 3) (RuleForm.regular (rest_symbols S.numbers r (n + 4) a)) f e (Origin.rest s b h))
+      go (or s b) h (suc (suc (suc (suc k)))) is e =
+          Origin.part m f (in_alts S (n + 1) (n + group_size r a) (n + 4) k a f m (left_alts s b h) (omega (arith, is)) e)
 
 -- The rule is the k-th one of the group of the parser rule r.
 pub record InGroup (M : Numbering) (G : List Alts) (n first index : ℕ) (f : RuleForm) : Type 0 where
@@ -87,7 +93,8 @@ in_groups M (a ∷ G) n r i f e = elim (get_append (group M n r a) (groups M (n 
       record { rule = 0; alts = a; k = i; body = refl; number = n; number_is = omega arith; at = subst P same h; is = omega arith }
   | inr h ↦
       let it = in_groups M G (n + group_size r a) (r + 1) h.0 f h.2 in
-      let count : normal_count_from (r + 1) (take it.rule G) ≡ normal_count_from (suc r) (take it.rule G) = ap (λ q. normal_count_from q (take it.rule G)) (omega arith) in
+      let count : normal_count_from (r + 1) (take it.rule G) ≡ normal_count_from (suc r) (take it.rule G) =
+      ap (λ q. normal_count_from q (take it.rule G)) (omega arith) in
       let same : r + 1 + it.rule ≡ r + suc it.rule = omega arith in
       let P : ℕ → Type 0 = λ q. slice_get (group M it.number q it.alts) it.k ≡ Some f in
       record {

@@ -30,7 +30,8 @@ pub both_nil : (u v : List ℕ) → u ++ v ≡ [] → (u ≡ []) × (v ≡ [])
 both_nil [] v e = (refl, e)
 both_nil (x ∷ u) v e = absurd (cc)
 
--- The symbol after these symbols of a sequence is that of a term that is known. Where they can be empty, what can be first in the term can be first in the sequence.
+-- The symbol after these symbols of a sequence is that of a term that is known. Where they
+-- can be empty, what can be first in the term can be first in the sequence.
 pub record PartAt (S : Setting) (low high : ℕ) (s : Seq) (before : List Sym) (x : Sym) : Type 0 where
   pub number : ℕ
   pub term : Term
@@ -83,22 +84,28 @@ module _ (S : Setting) (has_each : HasEachRule S.bodies S.form S.numbers.own_rul
       let Q : Term → Type 0 = λ y. CanBeEmpty S.bodies y in
       record { number = it.number; term = it.term; is = it.is; known = it.known; begins = λ d q h. inr (subst Q (sym is_eof) by_eof, it.begins d q h) }
   part_first n t s x before after (inr known) later e =
-      part_next n t s x after known later before (sym (closed_part S.bodies (λ ks. slice_get S.form.sets (S.numbers.set_of ks) ≡ Some ks) t (symbol S.numbers n t) (seq_symbols S.numbers (n + new_rules t) s) known.closed) ∙ e)
+      part_next n t s x after known later before
+      (sym (closed_part S.bodies (λ ks. slice_get S.form.sets (S.numbers.set_of ks) ≡ Some ks) t (symbol S.numbers n t)
+      (seq_symbols S.numbers (n + new_rules t) s) known.closed) ∙ e)
 
-  pub part_of : (n : ℕ) (s : Seq) (x : Sym) (before after : List Sym) → KnownSeq S low high n s → seq_symbols S.numbers n s ≡ before ++ x ∷ after → PartAt S low high s before x
+  pub part_of : (n : ℕ) (s : Seq) (x : Sym) (before after : List Sym) → KnownSeq S low high n s → seq_symbols S.numbers n s ≡ before ++ x ∷ after
+      → PartAt S low high s before x
   part_of n done x before after known e = absurd (nil_has_none before x after e)
   part_of n (next t s) x before after known e =
-      part_first n t s x before after (first_of_seq S low high n t s known) (λ b h. part_of (n + new_rules t) s x b after (rest_of_seq S low high n t s known) h) e
+      part_first n t s x before after (first_of_seq S low high n t s known)
+      (λ b h. part_of (n + new_rules t) s x b after (rest_of_seq S low high n t s known) h) e
 
 -- what an alternative of the form derives, one of the alternatives of the grammar derives
-pub alt_derives : (S : Setting) (has_each : HasEachRule S.bodies S.form S.numbers.own_rule) (low high : ℕ) (a : Alts) (alt : List Sym) (w : List ℕ) → AltAt S low high a alt → NormalDerivesSeq S.form alt w → DerivesAlts S.bodies a w
+pub alt_derives : (S : Setting) (has_each : HasEachRule S.bodies S.form S.numbers.own_rule) (low high : ℕ) (a : Alts) (alt : List Sym) (w : List ℕ)
+    → AltAt S low high a alt → NormalDerivesSeq S.form alt w → DerivesAlts S.bodies a w
 alt_derives S has_each low high a alt w it d =
     let P : List Sym → Type 0 = λ x. NormalDerivesSeq S.form x w in
     it.derives w (backward_all has_each (subst P it.is d) it.seq (represents_seq S.bodies S.form S.numbers it.number it.seq it.known.closed it.known.at))
 
 module _ (S : Setting) (low high : ℕ) where
   later_alt : (s : Seq) (a : Alts) (alt : List Sym) → AltAt S low high a alt → AltAt S low high (or s a) alt
-  later_alt s a alt h = record { number = h.number; seq = h.seq; is = h.is; known = h.known; begins = λ q b. inr (h.begins q b); derives = λ w d. by_later s a w (h.derives w d) }
+  later_alt s a alt h =
+      record { number = h.number; seq = h.seq; is = h.is; known = h.known; begins = λ q b. inr (h.begins q b); derives = λ w d. by_later s a w (h.derives w d) }
 
   pub alt_of : (n : ℕ) (a : Alts) (alt : List Sym) → KnownAlts S low high n a → Contains (alts_symbols S.numbers n a) alt → AltAt S low high a alt
   alt_of n none alt known c = absurd (Contains-nil alt c)
@@ -108,7 +115,8 @@ module _ (S : Setting) (low high : ℕ) where
   ]
 
   -- a base
-  base_first : (n : ℕ) (s : Seq) (b : Alts) (o : Option Seq) (more : List (List Sym)) (alt : List Sym) → KnownSeq S low high n s → (Contains more alt → AltAt S low high b alt) →
+  base_first : (n : ℕ) (s : Seq) (b : Alts) (o : Option Seq) (more : List (List Sym)) (alt : List Sym) → KnownSeq S low high n s
+      → (Contains more alt → AltAt S low high b alt) →
       Contains (numbers.with_base o (seq_symbols S.numbers n s) more) alt → AltAt S low high (and_base s o b) alt
   base_first n s b None more alt known later c = elim (Contains-cases alt (seq_symbols S.numbers n s) more c) [
     | inl e ↦ record { number = n; seq = s; is = e; known = known; begins = λ q h. inl h; derives = λ w d. by_first s b w d }
@@ -116,13 +124,16 @@ module _ (S : Setting) (low high : ℕ) where
   ]
   base_first n s b (Some rest) more alt known later c = later c
 
-  pub base_of : (r n : ℕ) (a : Alts) (alt : List Sym) → KnownAlts S low high n a → Contains (base_symbols S.numbers r n a) alt → AltAt S low high (bases r a) alt
+  pub base_of : (r n : ℕ) (a : Alts) (alt : List Sym) → KnownAlts S low high n a → Contains (base_symbols S.numbers r n a) alt
+      → AltAt S low high (bases r a) alt
   base_of r n none alt known c = absurd (Contains-nil alt c)
   base_of r n (or s a) alt known c =
-      base_first n s (bases r a) (rest_of r s) (base_symbols S.numbers r (n + seq_new_rules s) a) alt (first_of_alts S low high n s a known) (base_of r (n + seq_new_rules s) a alt (rest_of_alts S low high n s a known)) c
+      base_first n s (bases r a) (rest_of r s) (base_symbols S.numbers r (n + seq_new_rules s) a) alt (first_of_alts S low high n s a known)
+      (base_of r (n + seq_new_rules s) a alt (rest_of_alts S low high n s a known)) c
 
   -- a rest
-  rest_here : (r n : ℕ) (rest : Seq) (b : Alts) (alt : List Sym) (s : Seq) → s ≡ next (rule r) rest → KnownSeq S low high n s → alt ≡ tail (seq_symbols S.numbers n s) → AltAt S low high (or rest b) alt
+  rest_here : (r n : ℕ) (rest : Seq) (b : Alts) (alt : List Sym) (s : Seq) → s ≡ next (rule r) rest → KnownSeq S low high n s
+      → alt ≡ tail (seq_symbols S.numbers n s) → AltAt S low high (or rest b) alt
   rest_here r n rest b alt s e known is =
       let P : Seq → Type 0 = λ x. KnownSeq S low high n x in
       record {
@@ -134,7 +145,8 @@ module _ (S : Setting) (low high : ℕ) where
         derives = λ w d. by_first rest b w d;
       }
 
-  rest_first : (r n : ℕ) (s : Seq) (b : Alts) (o : Option Seq) (more : List (List Sym)) (alt : List Sym) → rest_of r s ≡ o → KnownSeq S low high n s → (Contains more alt → AltAt S low high b alt) →
+  rest_first : (r n : ℕ) (s : Seq) (b : Alts) (o : Option Seq) (more : List (List Sym)) (alt : List Sym) → rest_of r s ≡ o → KnownSeq S low high n s
+      → (Contains more alt → AltAt S low high b alt) →
       Contains (numbers.with_rest o (seq_symbols S.numbers n s) more) alt → AltAt S low high (and_rest o b) alt
   rest_first r n s b None more alt e known later c = later c
   rest_first r n s b (Some rest) more alt e known later c = elim (Contains-cases alt (tail (seq_symbols S.numbers n s)) more c) [
@@ -142,7 +154,9 @@ module _ (S : Setting) (low high : ℕ) where
     | inr d ↦ later_alt rest b alt (later d)
   ]
 
-  pub rest_alt : (r n : ℕ) (a : Alts) (alt : List Sym) → KnownAlts S low high n a → Contains (rest_symbols S.numbers r n a) alt → AltAt S low high (rests r a) alt
+  pub rest_alt : (r n : ℕ) (a : Alts) (alt : List Sym) → KnownAlts S low high n a → Contains (rest_symbols S.numbers r n a) alt
+      → AltAt S low high (rests r a) alt
   rest_alt r n none alt known c = absurd (Contains-nil alt c)
   rest_alt r n (or s a) alt known c =
-      rest_first r n s (rests r a) (rest_of r s) (rest_symbols S.numbers r (n + seq_new_rules s) a) alt refl (first_of_alts S low high n s a known) (rest_alt r (n + seq_new_rules s) a alt (rest_of_alts S low high n s a known)) c
+      rest_first r n s (rests r a) (rest_of r s) (rest_symbols S.numbers r (n + seq_new_rules s) a) alt refl (first_of_alts S low high n s a known)
+      (rest_alt r (n + seq_new_rules s) a alt (rest_of_alts S low high n s a known)) c

@@ -11,7 +11,8 @@ abbrev mutual
   Represents G N own_rule s (kind k) = s ≡ Kind k
   Represents G N own_rule s (among ks) = (i : ℕ) × (s ≡ Set i) × (slice_get N.sets i ≡ Some ks)
   Represents G N own_rule s (rule r) = (s ≡ Rule (own_rule r)) × ((a : Alts) × (slice_get G r ≡ Some a))
-  Represents G N own_rule s (block a) = (n : ℕ) × (alts : List (List Sym)) × (s ≡ Rule n) × (slice_get N.rules n ≡ Some (RuleForm.regular alts)) × RepresentsAlts G N own_rule alts a
+  Represents G N own_rule s (block a) =
+      (n : ℕ) × (alts : List (List Sym)) × (s ≡ Rule n) × (slice_get N.rules n ≡ Some (RuleForm.regular alts)) × RepresentsAlts G N own_rule alts a
   Represents G N own_rule s (opt t) = (n : ℕ) × (of : Sym) × (s ≡ Rule n) × (slice_get N.rules n ≡ Some (RuleForm.opt of)) × Represents G N own_rule of t
   Represents G N own_rule s (star t) = (n : ℕ) × (of : Sym) × (s ≡ Rule n) × (slice_get N.rules n ≡ Some (RuleForm.star of)) × Represents G N own_rule of t
   Represents G N own_rule s (plus t) = (n : ℕ) × (of : Sym) × (s ≡ Rule n) × (slice_get N.rules n ≡ Some (RuleForm.plus of)) × Represents G N own_rule of t
@@ -20,11 +21,14 @@ abbrev mutual
   -- `EOF` is left out
   pub RepresentsSeq : List Alts → NormalForm → (ℕ → ℕ) → List Sym → Seq → Type 0
   RepresentsSeq G N own_rule ss done = ss ≡ []
-  RepresentsSeq G N own_rule ss (next t rest) = ((t ≡ eof) × RepresentsSeq G N own_rule ss rest) ⊎ ((s : Sym) × (more : List Sym) × (ss ≡ s ∷ more) × Represents G N own_rule s t × RepresentsSeq G N own_rule more rest)
+  RepresentsSeq G N own_rule ss (next t rest) =
+      ((t ≡ eof) × RepresentsSeq G N own_rule ss rest)
+      ⊎ ((s : Sym) × (more : List Sym) × (ss ≡ s ∷ more) × Represents G N own_rule s t × RepresentsSeq G N own_rule more rest)
 
   pub RepresentsAlts : List Alts → NormalForm → (ℕ → ℕ) → List (List Sym) → Alts → Type 0
   RepresentsAlts G N own_rule alts none = alts ≡ []
-  RepresentsAlts G N own_rule alts (or s a) = (ss : List Sym) × (more : List (List Sym)) × (alts ≡ ss ∷ more) × RepresentsSeq G N own_rule ss s × RepresentsAlts G N own_rule more a
+  RepresentsAlts G N own_rule alts (or s a) =
+      (ss : List Sym) × (more : List (List Sym)) × (alts ≡ ss ∷ more) × RepresentsSeq G N own_rule ss s × RepresentsAlts G N own_rule more a
 
 -- a rule that doesn't begin with itself
 pub record IsPlainRule (G : List Alts) (N : NormalForm) (own_rule : ℕ → ℕ) (r : ℕ) (a : Alts) : Type 0 where

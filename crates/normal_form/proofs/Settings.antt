@@ -35,7 +35,8 @@ any_kind = record { name = []; gap = false; source = Source.implicit }
 found_kind : (p : TokenKind → Bool) (kinds : List TokenKind) (k : ℕ) → position p kinds ≡ Some k → k < length kinds
 found_kind p kinds k e = (position-Some p kinds k any_kind e).0
 
-of_option : (kinds : List TokenKind) (f : ℕ → TokenKind → Bool) (p : TokenKind → Bool) (o : Option ℕ) (k : ℕ) → option_map_or (λ i. position (f i) kinds) o (position p kinds) ≡ Some k → k < length kinds
+of_option : (kinds : List TokenKind) (f : ℕ → TokenKind → Bool) (p : TokenKind → Bool) (o : Option ℕ) (k : ℕ)
+    → option_map_or (λ i. position (f i) kinds) o (position p kinds) ≡ Some k → k < length kinds
 of_option kinds f p None k e = found_kind p kinds k e
 of_option kinds f p (Some i) k e = found_kind (f i) kinds k e
 
@@ -58,7 +59,8 @@ name_size None token = kind_size token
 module _ (G : WrittenGrammar) where
   mutual
     term_kinds : (t : WrittenTerm) → HasKinds (length (kinds_of G)) (resolved G t)
-    term_kinds (WrittenTerm.literal t) = kind_known (length (kinds_of G)) (literal_kind G t) (λ k e. of_option (kinds_of G) is_written_at (is_implicit t) (position (is_named_by t) G.rules) k e)
+    term_kinds (WrittenTerm.literal t) =
+        kind_known (length (kinds_of G)) (literal_kind G t) (λ k e. of_option (kinds_of G) is_written_at (is_implicit t) (position (is_named_by t) G.rules) k e)
     term_kinds (WrittenTerm.name n) = name_known (length (kinds_of G)) (rule_number G n) (name_kind G n) (λ k e. found_kind (has_name n) (kinds_of G) k e)
     term_kinds WrittenTerm.any = tt
     term_kinds (WrittenTerm.but refs) = tt
@@ -106,7 +108,8 @@ module _ (G : WrittenGrammar) where
       omega (arith, alts_fit rule.alts, one, ap rule_size same)
 
 -- A parser rule of a checked grammar is in its normal form.
-pub rule_at : (c : CheckedGrammar) → IsChecked c → (r : ℕ) (a : Alts) → slice_get (bodies c.grammar) r ≡ Some a → RuleAt (setting c) r a (own_rule (bodies c.grammar) r)
+pub rule_at : (c : CheckedGrammar) → IsChecked c → (r : ℕ) (a : Alts) → slice_get (bodies c.grammar) r ≡ Some a
+    → RuleAt (setting c) r a (own_rule (bodies c.grammar) r)
 unfolding normal_of
 rule_at c checked r a body =
     let G = bodies c.grammar in
@@ -117,7 +120,9 @@ rule_at c checked r a body =
     let rule = found.2.0 in
     let at = found.2.1 in
     let same : resolved_alts c.grammar rule.alts ≡ a = found.2.2 in
-    let no_loop = λ (h : HasEmptyLoopAlts G (resolved_alts c.grammar rule.alts) ⊎ DerivesAlts G (rests (number_at c.grammar i) (resolved_alts c.grammar rule.alts)) []). checked.well_formed.no_empty_loop i (inl (rule, at, h)) in
+    let no_loop =
+    λ (h : HasEmptyLoopAlts G (resolved_alts c.grammar rule.alts) ⊎ DerivesAlts G (rests (number_at c.grammar i) (resolved_alts c.grammar rule.alts)) []).
+    checked.well_formed.no_empty_loop i (inl (rule, at, h)) in
     let Loops : Alts → Type 0 = λ x. HasEmptyLoopAlts G x in
     let Rests : ℕ → Alts → Type 0 = λ q x. DerivesAlts G (rests q x) [] in
     let Rule : Alts → Type 0 = λ x. Rests (number_at c.grammar i) x in
@@ -129,7 +134,9 @@ rule_at c checked r a body =
       body = body;
       is = refl;
       at = group_at N M 0 0 G r a (At_all N (groups M 0 0 G) refl) body (own_rule G r) r (omega arith) (omega arith);
-      closed = bodies_closed c.grammar c.start (IsThere N M) checked.well_formed (λ b q h ks k. set_is_there (flat_map alts_sets G) ks (sets_among G q b h ks k)) r a body;
+      closed =
+          bodies_closed c.grammar c.start (IsThere N M) checked.well_formed
+          (λ b q h ks k. set_is_there (flat_map alts_sets G) ks (sets_among G q b h ks k)) r a body;
       no_loop = λ h. no_loop (inl (subst Loops (sym same) h));
       rests_move = λ h. no_loop (inr (subst Rule (sym same) (subst Number (sym found.1) h)));
       kinds = subst Known same (subst Count (ap length (sym checked.numbered)) (alts_kinds c.grammar rule.alts));

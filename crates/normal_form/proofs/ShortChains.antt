@@ -1,5 +1,6 @@
 -- A chain of left corners has fewer steps than there are rules, since it comes to no rule twice.
-use Rattle.std.proofs.Common.{◌≡◌, ◌⊎◌, inl, inr, ℕ, zero, suc, ◌+◌, ◌<◌, ◌≤◌, true, false, ◌||◌, List, [], ◌∷◌, ◌++◌, length, refl, sym, ap, ◌∙◌, subst, arith, eqb}
+use Rattle.std.proofs.Common.{◌≡◌, ◌⊎◌, inl, inr, ℕ, zero, suc, ◌+◌, ◌<◌, ◌≤◌, true, false, ◌||◌, List, []}
+use Rattle.std.proofs.Common.{◌∷◌, ◌++◌, length, refl, sym, ap, ◌∙◌, subst, arith, eqb}
 use Rattle.std.specs.List as lists
 use Rattle.std.specs.List.{AllByRecursion, IsDistinct, list_any}
 use Rattle.std.proofs.lemmas.Bool.{cases_Bool, false≢true}
@@ -10,7 +11,8 @@ use Rattle.std.proofs.lemmas.Map.Keys.{IsDistinct-cons}
 use Rattle.std.proofs.lemmas.Map.Steps.{length-le_from_distinct_below}
 use Rattle.normal_form.specs.declared.normal.Sym.TheVariants.{Rule}
 use Rattle.normal_form.specs.Form.{RuleForm, NormalForm}
-use Rattle.normal_form.specs.FormLaws.{AllCornersEnd, CanBeFirst, CornerChainsAreShort, CornersEnd, IsNormalCorner, NormalLeadsTo, no_step, of_corners, one_more}
+use Rattle.normal_form.specs.FormLaws.{AllCornersEnd, CanBeFirst, CornerChainsAreShort, CornersEnd}
+use Rattle.normal_form.specs.FormLaws.{IsNormalCorner, NormalLeadsTo, no_step, of_corners, one_more}
 use Rattle.normal_form.specs.NormalOf.{IsNormal}
 use Rattle.normal_form.specs.Symbols.{HasSymbol}
 use Rattle.normal_form.proofs.Few.{rules_are_few}
@@ -19,7 +21,8 @@ use Rattle.normal_form.proofs.Lists.{Contains-here}
 use Rattle.normal_form.proofs.NoLeftRecursion.{no_left_recursion}
 
 first_is_symbol : (N : NormalForm) (b : ℕ) (f : RuleForm) → CanBeFirst N b f → HasSymbol f (Rule b)
-first_is_symbol N b (RuleForm.regular alts) (before, after, c, d) = (before ++ Rule b ∷ after, c, Contains-append_right before (Rule b ∷ after) (Rule b) (Contains-here (Rule b) after))
+first_is_symbol N b (RuleForm.regular alts) (before, after, c, d) =
+    (before ++ Rule b ∷ after, c, Contains-append_right before (Rule b ∷ after) (Rule b) (Contains-here (Rule b) after))
 first_is_symbol N b (RuleForm.star s) e = e
 first_is_symbol N b (RuleForm.plus s) e = e
 first_is_symbol N b (RuleForm.opt s) e = e
@@ -64,7 +67,8 @@ module _ (N : NormalForm) (normal : IsNormal N) where
       }
   trail_of n a b known (one_more n' a' m b' chain corner) =
       let it = trail_of n' a m known chain in
-      let new = λ (h : list_any (eqb b) it.rules ≡ true). no_left_recursion N normal (it.lead b h).0 b (one_more (it.lead b h).0 b m b (it.lead b h).1 corner) in
+      let new =
+      λ (h : list_any (eqb b) it.rules ≡ true). no_left_recursion N normal (it.lead b h).0 b (one_more (it.lead b h).0 b m b (it.lead b h).1 corner) in
       let within : b < length N.rules = (symbols_are_known N normal).known m corner.0 (Rule b) corner.1 (first_is_symbol N b corner.0 corner.2) in
       record {
         rules = b ∷ it.rules;

@@ -43,7 +43,8 @@ base_fits (Some rest) ss more = omega arith
 
 few_bases : (M : Numbering) (r n : ℕ) (a : Alts) → length (base_symbols M r n a) ≤ alts_size a
 few_bases M r n none = omega arith
-few_bases M r n (or s a) = omega (arith, base_fits (rest_of r s) (seq_symbols M n s) (base_symbols M r (n + seq_new_rules s) a), few_bases M r (n + seq_new_rules s) a)
+few_bases M r n (or s a) =
+    omega (arith, base_fits (rest_of r s) (seq_symbols M n s) (base_symbols M r (n + seq_new_rules s) a), few_bases M r (n + seq_new_rules s) a)
 
 rest_fits : (o : Option Seq) (ss : List Sym) (more : List (List Sym)) → length (with_rest o ss more) ≤ suc (length more)
 rest_fits None ss more = omega arith
@@ -51,7 +52,8 @@ rest_fits (Some rest) ss more = omega arith
 
 few_rests : (M : Numbering) (r n : ℕ) (a : Alts) → length (rest_symbols M r n a) ≤ alts_size a
 few_rests M r n none = omega arith
-few_rests M r n (or s a) = omega (arith, rest_fits (rest_of r s) (seq_symbols M n s) (rest_symbols M r (n + seq_new_rules s) a), few_rests M r (n + seq_new_rules s) a)
+few_rests M r n (or s a) =
+    omega (arith, rest_fits (rest_of r s) (seq_symbols M n s) (rest_symbols M r (n + seq_new_rules s) a), few_rests M r (n + seq_new_rules s) a)
 
 -- a rule has few alternatives of few symbols
 record IsFew (alts : List (List Sym)) : Type 0 where
@@ -68,7 +70,8 @@ module _ (S : Setting) (low high : ℕ) where
   block_few : (n : ℕ) (a : Alts) → KnownAlts S low high n a → IsFew (alts_symbols S.numbers n a)
   block_few n a k = record { count = omega (arith, few_alts S.numbers n a, k.small); each = λ alt c. alt_few S low high a alt (alt_of S low high n a alt k c) }
 
-  begun_few : (m : ℕ) (t : Term) (f : RuleForm) (more : List RuleForm) (alts : List (List Sym)) → Known S low high m t → term_rules S.numbers m t ≡ f ∷ more → f ≡ RuleForm.regular alts → IsFew alts
+  begun_few : (m : ℕ) (t : Term) (f : RuleForm) (more : List RuleForm) (alts : List (List Sym)) → Known S low high m t → term_rules S.numbers m t ≡ f ∷ more
+      → f ≡ RuleForm.regular alts → IsFew alts
   begun_few m (block a) f more alts k e h =
       let same : alts_symbols S.numbers (m + 1) a ≡ alts = cc in
       let P : List (List Sym) → Type 0 = IsFew in subst P same (block_few (m + 1) a (of_block S low high m a k))
@@ -83,16 +86,25 @@ module _ (S : Setting) (low high : ℕ) where
 same_few : (f : List (List Sym)) (alts : List (List Sym)) → RuleForm.regular f ≡ RuleForm.regular alts → IsFew f → IsFew alts
 same_few f alts e h = let same : f ≡ alts = cc in let P : List (List Sym) → Type 0 = IsFew in subst P same h
 
-of_origin : (S : Setting) (r : ℕ) (a : Alts) (n m : ℕ) (f : RuleForm) (alts : List (List Sym)) → RuleAt S r a n → Origin S r a n m f → f ≡ RuleForm.regular alts → IsFew alts
+of_origin : (S : Setting) (r : ℕ) (a : Alts) (n m : ℕ) (f : RuleForm) (alts : List (List Sym)) → RuleAt S r a n → Origin S r a n m f → f ≡ RuleForm.regular alts
+    → IsFew alts
 of_origin S r a n m f alts known (Origin.plain e) h = same_few _ alts h (block_few S (n + 1) (n + group_size r a) (n + 1) a (plain_alts S r a n known e))
 of_origin S r a n m f alts known (Origin.left s b e) h = same_few _ alts h (two_few (n + 1) (n + 2))
 of_origin S r a n m f alts known (Origin.base s b e) h =
     let high = n + group_size r a in
-    same_few _ alts h (record { count = omega (arith, few_bases S.numbers r (n + 4) a, known.small); each = λ alt c. alt_few S (n + 1) high _ alt (base_of S (n + 1) high r (n + 4) a alt (left_alts S r a n known s b e) c) })
+    same_few _ alts h
+    (record {
+      count = omega (arith, few_bases S.numbers r (n + 4) a, known.small);
+      each = λ alt c. alt_few S (n + 1) high _ alt (base_of S (n + 1) high r (n + 4) a alt (left_alts S r a n known s b e) c);
+    })
 of_origin S r a n m f alts known (Origin.many s b e) h = absurd (cc)
 of_origin S r a n m f alts known (Origin.rest s b e) h =
     let high = n + group_size r a in
-    same_few _ alts h (record { count = omega (arith, few_rests S.numbers r (n + 4) a, known.small); each = λ alt c. alt_few S (n + 1) high _ alt (rest_alt S (n + 1) high r (n + 4) a alt (left_alts S r a n known s b e) c) })
+    same_few _ alts h
+    (record {
+      count = omega (arith, few_rests S.numbers r (n + 4) a, known.small);
+      each = λ alt c. alt_few S (n + 1) high _ alt (rest_alt S (n + 1) high r (n + 4) a alt (left_alts S r a n known s b e) c);
+    })
 of_origin S r a n m f alts known (Origin.part m' f' b) h = begun_few S (n + 1) (n + group_size r a) m b.term f b.more alts b.known b.rules h
 
 few_at : (N : NormalForm) (normal : IsNormal N) (r : ℕ) (alts : List (List Sym)) → slice_get N.rules r ≡ Some (RuleForm.regular alts) → IsFew alts

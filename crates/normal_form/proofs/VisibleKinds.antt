@@ -1,5 +1,6 @@
 -- The kinds of the sets of a normal form.
-use Rattle.std.proofs.Common.{◌≡◌, ◌⊎◌, inl, inr, ℕ, zero, suc, ◌+◌, ◌<◌, Bool, true, false, List, [], ◌∷◌, Option, Some, None, slice_get, slice_index, refl, sym, ap, ◌∙◌, subst, arith, true≢false}
+use Rattle.std.proofs.Common.{◌≡◌, ◌⊎◌, inl, inr, ℕ, zero, suc, ◌+◌, ◌<◌, Bool, true, false, List, [], ◌∷◌, Option, Some}
+use Rattle.std.proofs.Common.{None, slice_get, slice_index, refl, sym, ap, ◌∙◌, subst, arith, true≢false}
 use Rattle.std.specs.List.{Contains, flat_map}
 use Rattle.std.specs.List.Sorted.{IsStrictlyIncreasing}
 use Rattle.std.specs.Prelude.{filter, not}
@@ -7,7 +8,8 @@ use Rattle.std.proofs.lemmas.List.Elements.{Contains-append_cases, Contains-get_
 use Rattle.grammar_tree.specs.Written.{WrittenTerm, WrittenSeq, WrittenAlts, ParserRule, WrittenGrammar, Source, TokenKind}
 use Rattle.grammar_tree.specs.Kinds.{any_kinds, distinct, kinds_of, literal_kind, name_kind, other_kinds, parser_rules, rule_number, same_text, visible_from}
 use Rattle.grammar_tree.specs.Derives.{Alts, bodies, resolved, resolved_seq, resolved_alts}
-use Rattle.grammar_tree.proofs.Lent.{contains_none, contains_first, elements_contains_later as contains_later, contains_cases, filtered, flat_mapped, mapped, contains_at}
+use Rattle.grammar_tree.proofs.Lent.{contains_none, contains_first, elements_contains_later as contains_later}
+use Rattle.grammar_tree.proofs.Lent.{contains_cases, filtered, flat_mapped, mapped, contains_at}
 use Rattle.grammar_names.specs.KindLists.{IsPartOf, is_in}
 use Rattle.normal_form.specs.NormalOf.{alts_sets, normal_of, seq_sets, sets_of, term_sets}
 use Rattle.normal_form.specs.Form.{NormalForm}
@@ -23,8 +25,10 @@ IsVisible n kinds k = (i : ℕ) × (k ≡ n + i) × ((kind : TokenKind) × (slic
 later_visible : (n k : ℕ) (kind : TokenKind) (kinds : List TokenKind) → IsVisible (suc n) kinds k → IsVisible n (kind ∷ kinds) k
 later_visible n k kind kinds (i, e, it) = (suc i, omega (arith, e), it)
 
-first_visible : (n k : ℕ) (name : List ℕ) (gap : Bool) (source : Source) (kinds : List TokenKind) → (Contains (visible_from (suc n) kinds) k → IsVisible (suc n) kinds k) →
-    Contains (visible_from n (record { name = name; gap = gap; source = source } ∷ kinds)) k → IsVisible n (record { name = name; gap = gap; source = source } ∷ kinds) k
+first_visible : (n k : ℕ) (name : List ℕ) (gap : Bool) (source : Source) (kinds : List TokenKind)
+    → (Contains (visible_from (suc n) kinds) k → IsVisible (suc n) kinds k) →
+    Contains (visible_from n (record { name = name; gap = gap; source = source } ∷ kinds)) k
+    → IsVisible n (record { name = name; gap = gap; source = source } ∷ kinds) k
 first_visible n k name true source kinds more c = later_visible n k (record { name = name; gap = true; source = source }) kinds (more c)
 first_visible n k name false source kinds more c = go (contains_cases n (visible_from (suc n) kinds) k c)
   where
@@ -54,15 +58,18 @@ visible_rise n [] k within = absurd (omega (arith, within))
 visible_rise n (kind ∷ kinds) k within = first_rises n kind.name kind.gap kind.source kinds (visible_rise (suc n) kinds) k within
 
 -- and each such kind is there
-visible_first : (n : ℕ) (name : List ℕ) (gap : Bool) (source : Source) (kinds : List TokenKind) → gap ≡ false → Contains (visible_from n (record { name = name; gap = gap; source = source } ∷ kinds)) n
+visible_first : (n : ℕ) (name : List ℕ) (gap : Bool) (source : Source) (kinds : List TokenKind) → gap ≡ false
+    → Contains (visible_from n (record { name = name; gap = gap; source = source } ∷ kinds)) n
 visible_first n name true source kinds e = absurd (true≢false e)
 visible_first n name false source kinds e = contains_first n (visible_from (suc n) kinds) n refl
 
-visible_later : (n k : ℕ) (name : List ℕ) (gap : Bool) (source : Source) (kinds : List TokenKind) → Contains (visible_from (suc n) kinds) k → Contains (visible_from n (record { name = name; gap = gap; source = source } ∷ kinds)) k
+visible_later : (n k : ℕ) (name : List ℕ) (gap : Bool) (source : Source) (kinds : List TokenKind) → Contains (visible_from (suc n) kinds) k
+    → Contains (visible_from n (record { name = name; gap = gap; source = source } ∷ kinds)) k
 visible_later n k name true source kinds c = c
 visible_later n k name false source kinds c = contains_later n (visible_from (suc n) kinds) k c
 
-is_visible : (n i k : ℕ) (kinds : List TokenKind) (kind : TokenKind) → k ≡ n + i → slice_get kinds i ≡ Some kind → kind.gap ≡ false → Contains (visible_from n kinds) k
+is_visible : (n i k : ℕ) (kinds : List TokenKind) (kind : TokenKind) → k ≡ n + i → slice_get kinds i ≡ Some kind → kind.gap ≡ false
+    → Contains (visible_from n kinds) k
 is_visible n i k [] kind e at h = absurd (cc)
 is_visible n zero k (x ∷ kinds) kind e at h =
     let same : x ≡ kind = cc in

@@ -2,7 +2,8 @@
 use Rattle.std.specs.Prelude.{ℕ, List}
 use Rattle.normal_form.specs.declared.normal.Sym.{Sym}
 
--- What a rule of the normal form is made of: alternatives, each of them symbols one after another; or one symbol any number of times, at least once, or at most once.
+-- What a rule of the normal form is made of: alternatives, each of them symbols one after
+-- another; or one symbol any number of times, at least once, or at most once.
 pub data RuleForm : Type 0 where
   regular : List (List Sym) → RuleForm
   star : Sym → RuleForm

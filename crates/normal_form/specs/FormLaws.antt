@@ -26,7 +26,8 @@ RulesAreFew = (N : NormalForm) → IsNormal N → HasFewRules N
 -- The symbols in the rules of the form are symbols of the form, and the kinds among them are the grammar's.
 pub record HasKnownSymbols (N : NormalForm) : Type 0 where
   pub known : (r : ℕ) (form : RuleForm) (s : Sym) → slice_get N.rules r ≡ Some form → HasSymbol form s → IsSymbolOf N s
-  pub kinds : (normal : IsNormal N) (r : ℕ) (form : RuleForm) (k : ℕ) → slice_get N.rules r ≡ Some form → HasSymbol form (Kind k) → k < length normal.grammar.kinds
+  pub kinds : (normal : IsNormal N) (r : ℕ) (form : RuleForm) (k : ℕ) → slice_get N.rules r ≡ Some form → HasSymbol form (Kind k)
+      → k < length normal.grammar.kinds
 
 -- Each normal form has known symbols.
 abbrev pub SymbolsAreKnown : Type 0
@@ -109,7 +110,8 @@ pub record NormalDerivesByForm (N : NormalForm) : Type 0 where
   -- symbols, and then others
   pub append : (ss ts : List Sym) (w : List ℕ) → NormalDerivesSeq N (ss ++ ts) w ↔ CutsInto (NormalDerivesSeq N ss) (NormalDerivesSeq N ts) w
 
--- The rule b can be first in what a rule of this form derives: it is in an alternative, after symbols that derive the empty list; or the form is a star, plus or optional of it.
+-- The rule b can be first in what a rule of this form derives: it is in an alternative, after
+-- symbols that derive the empty list; or the form is a star, plus or optional of it.
 abbrev pub CanBeFirst : NormalForm → ℕ → RuleForm → Type 0
 CanBeFirst N b (RuleForm.regular alts) = (before : List Sym) × (after : List Sym) × Contains alts (before ++ Rule b ∷ after) × NormalDerivesSeq N before []
 CanBeFirst N b (RuleForm.star s) = s ≡ Rule b
@@ -133,7 +135,8 @@ NoLeftRecursion = (N : NormalForm) → IsNormal N → (n r : ℕ) → ¬ NormalL
 abbrev pub CornerChainsAreShort : Type 0
 CornerChainsAreShort = (N : NormalForm) → IsNormal N → (n a b : ℕ) → NormalLeadsTo N n a b → n < length N.rules
 
--- Left corners lead on from the rule by finitely many steps alone: so they do from each of its left corners. A recursion from rules to their left corners ends by this.
+-- Left corners lead on from the rule by finitely many steps alone: so they do from each of
+-- its left corners. A recursion from rules to their left corners ends by this.
 pub data CornersEnd (N : NormalForm) : ℕ → Type 0 where
   of_corners : (a : ℕ) → ((b : ℕ) → IsNormalCorner N a b → CornersEnd N b) → CornersEnd N a
 

@@ -13,14 +13,16 @@ mutual
     -- a set derives one kind in it
     of_set : (i k : ℕ) (ks : List ℕ) → slice_get N.sets i ≡ Some ks → Contains ks k → NormalDerives N (Set i) (k ∷ [])
     -- a regular rule derives what one of its alternatives derives in sequence
-    of_regular : (r : ℕ) (alts : List (List Sym)) (alt : List Sym) (w : List ℕ) → slice_get N.rules r ≡ Some (RuleForm.regular alts) → Contains alts alt → NormalDerivesSeq N alt w → NormalDerives N (Rule r) w
+    of_regular : (r : ℕ) (alts : List (List Sym)) (alt : List Sym) (w : List ℕ) → slice_get N.rules r ≡ Some (RuleForm.regular alts) → Contains alts alt
+        → NormalDerivesSeq N alt w → NormalDerives N (Rule r) w
     -- an optional nothing, or what its symbol derives
     of_absent : (r : ℕ) (s : Sym) → slice_get N.rules r ≡ Some (RuleForm.opt s) → NormalDerives N (Rule r) []
     of_present : (r : ℕ) (s : Sym) (w : List ℕ) → slice_get N.rules r ≡ Some (RuleForm.opt s) → NormalDerives N s w → NormalDerives N (Rule r) w
     -- a star any number of these
     of_star : (r : ℕ) (s : Sym) (w : List ℕ) → slice_get N.rules r ≡ Some (RuleForm.star s) → NormalDerivesMany N s w → NormalDerives N (Rule r) w
     -- a plus at least one
-    of_plus : (r : ℕ) (s : Sym) (u v : List ℕ) → slice_get N.rules r ≡ Some (RuleForm.plus s) → NormalDerives N s u → NormalDerivesMany N s v → NormalDerives N (Rule r) (u ++ v)
+    of_plus : (r : ℕ) (s : Sym) (u v : List ℕ) → slice_get N.rules r ≡ Some (RuleForm.plus s) → NormalDerives N s u → NormalDerivesMany N s v
+        → NormalDerives N (Rule r) (u ++ v)
 
   -- The list is cut into parts that the symbols derive, in their order.
   pub data NormalDerivesSeq (N : NormalForm) : List Sym → List ℕ → Type 0 where

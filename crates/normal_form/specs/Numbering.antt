@@ -1,4 +1,5 @@
--- Which symbols and which new rules the terms of a parser rule give. A new rule is numbered where its term begins as it is written: outer before inner, and a suffix before its operand.
+-- Which symbols and which new rules the terms of a parser rule give. A new rule is numbered where its
+-- term begins as it is written: outer before inner, and a suffix before its operand.
 use Rattle.std.specs.Prelude.{ℕ, ◌+◌, List, [], ◌∷◌, ◌++◌, Option, Some, None}
 use Rattle.grammar_tree.specs.Derives.{Term, Seq, Alts}
 use Rattle.grammar_tree.specs.Corners.{new_rules, seq_new_rules, rest_of, rests, group_size}
@@ -90,7 +91,8 @@ head_of n base rest =
 abbrev pub recursive_group : Numbering → ℕ → ℕ → Alts → List RuleForm
 recursive_group M n r a = head_of n (base_symbols M r (n + 4) a) (rest_symbols M r (n + 4) a) ++ alts_rules M (n + 4) a
 
--- The rules of the rule r, of which its own has the number n. Without rests it is regular, with its alternatives. With rests it is regular with one alternative, the bases and then the star of the rests, and these three are its first new rules.
+-- The rules of the rule r, of which its own has the number n. Without rests it is regular, with its alternatives. With rests it is
+-- regular with one alternative, the bases and then the star of the rests, and these three are its first new rules.
 abbrev pub group_of : Numbering → ℕ → ℕ → Alts → Alts → List RuleForm
 group_of M n r a Alts.none = RuleForm.regular (alts_symbols M (n + 1) a) ∷ alts_rules M (n + 1) a
 group_of M n r a (Alts.or s b) = recursive_group M n r a

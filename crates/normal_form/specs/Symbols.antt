@@ -5,7 +5,8 @@ use Rattle.normal_form.specs.declared.normal.Sym.{Sym}
 use Rattle.normal_form.specs.declared.normal.Sym.TheVariants.{Kind, Set, Rule}
 use Rattle.normal_form.specs.Form.{RuleForm, NormalForm}
 
--- The symbol is a kind, or the number of a set or of a rule of the form. A kind has no bound here: which kinds there are is the grammar's matter and not the form's.
+-- The symbol is a kind, or the number of a set or of a rule of the form. A kind has no
+-- bound here: which kinds there are is the grammar's matter and not the form's.
 abbrev pub IsSymbolOf : NormalForm → Sym → Type 0
 IsSymbolOf N (Kind k) = ⊤
 IsSymbolOf N (Set i) = i < length N.sets

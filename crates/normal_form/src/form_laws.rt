@@ -2,7 +2,8 @@
 //! that its proof has the law.
 
 ghost use Rattle.normal_form.specs.Form.{NormalForm};
-ghost use Rattle.normal_form.specs.FormLaws.{AllCornersEnd, CornerChainsAreShort, ElementsAreNotEmpty, NoLeftRecursion, NormalDerivesByForm, NumbersAreSmall, PartsAreVisibleKinds, RulesAreFew, SetsAreVisibleKinds, SymbolsAreKnown};
+ghost use Rattle.normal_form.specs.FormLaws.{AllCornersEnd, CornerChainsAreShort, ElementsAreNotEmpty, NoLeftRecursion, NormalDerivesByForm};
+ghost use Rattle.normal_form.specs.FormLaws.{NumbersAreSmall, PartsAreVisibleKinds, RulesAreFew, SetsAreVisibleKinds, SymbolsAreKnown};
 
 /// A normal form has at most 65,535 rules, each with its name, and its start rule is one of them.
 pub fn rules_are_few()

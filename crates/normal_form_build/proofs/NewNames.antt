@@ -13,7 +13,8 @@ cons_ascii c cs h a (suc i) = a i
 -- the characters of a new rule's name
 pub name_chars : (name : List ℕ) (number : ℕ) → IsUtf8 name → number < 2 ^ 64 → chars (name ++ (35 ∷ decimal number)) ≡ chars name ++ (35 ∷ decimal number)
 name_chars name number u h =
-    chars-append name (35 ∷ decimal number) u ∙ ap (λ l. chars name ++ l) (chars-IsAscii (35 ∷ decimal number) (cons_ascii 35 (decimal number) (omega arith) (IsAscii-decimal number h)))
+    chars-append name (35 ∷ decimal number) u
+    ∙ ap (λ l. chars name ++ l) (chars-IsAscii (35 ∷ decimal number) (cons_ascii 35 (decimal number) (omega arith) (IsAscii-decimal number h)))
 
 -- one more name
 pub names_push : (name : List ℕ) (k n : ℕ) → new_names name k (suc n) ≡ new_names name k n ++ (name ++ (35 ∷ decimal (k + n))) ∷ []

@@ -48,8 +48,10 @@ fn sort(
     symbols: Vec<Sym>,
     sorted: &mut Sorted,
 ) -> Result<(), Memory>
-    ensures bases { OnOk result (alts_form sorted.new.bases.items ≡ alts_form sorted.old.bases.items ++ with_base (rest_of rule (resolved_seq numbers.now (written_seq (parser_terms alt.now)))) symbols.items []) }
-    ensures rests { OnOk result (alts_form sorted.new.rests.items ≡ alts_form sorted.old.rests.items ++ with_rest (rest_of rule (resolved_seq numbers.now (written_seq (parser_terms alt.now)))) symbols.items []) }
+    ensures bases { OnOk result (alts_form sorted.new.bases.items ≡ alts_form sorted.old.bases.items ++ with_base
+        (rest_of rule (resolved_seq numbers.now (written_seq (parser_terms alt.now)))) symbols.items []) }
+    ensures rests { OnOk result (alts_form sorted.new.rests.items ≡ alts_form sorted.old.rests.items ++ with_rest
+        (rest_of rule (resolved_seq numbers.now (written_seq (parser_terms alt.now)))) symbols.items []) }
 {
     if is_recursive(alt, numbers.names(), rule) {
         return push_rest(&mut sorted.rests, symbols);
@@ -67,10 +69,13 @@ fn push_sorted(
     rules: &mut Vec<NormalRule>,
 ) -> Result<Sorted, Memory>
     requires { vec_len rules.old + alts_new_rules (resolved_alts numbers.now (written_alts (parser_alts alts.now))) < 2 ^ 32 }
-    ensures bases { IfOk result (λ sorted. alts_form sorted.bases.items ≡ base_symbols (numbering (bodies numbers.now)) rule (vec_len rules.old) (resolved_alts numbers.now (written_alts (parser_alts alts.now)))) }
-    ensures rests { IfOk result (λ sorted. alts_form sorted.rests.items ≡ rest_symbols (numbering (bodies numbers.now)) rule (vec_len rules.old) (resolved_alts numbers.now (written_alts (parser_alts alts.now)))) }
+    ensures bases { IfOk result (λ sorted. alts_form sorted.bases.items ≡ base_symbols (numbering (bodies numbers.now)) rule (vec_len rules.old)
+        (resolved_alts numbers.now (written_alts (parser_alts alts.now)))) }
+    ensures rests { IfOk result (λ sorted. alts_form sorted.rests.items ≡ rest_symbols (numbering (bodies numbers.now)) rule (vec_len rules.old)
+        (resolved_alts numbers.now (written_alts (parser_alts alts.now)))) }
     ensures len { OnOk result (vec_len rules.new ≡ vec_len rules.old + alts_new_rules (resolved_alts numbers.now (written_alts (parser_alts alts.now)))) }
-    ensures rules { OnOk result (map rule_form rules.new.items ≡ map rule_form rules.old.items ++ alts_rules (numbering (bodies numbers.now)) (vec_len rules.old) (resolved_alts numbers.now (written_alts (parser_alts alts.now)))) }
+    ensures rules { OnOk result (map rule_form rules.new.items ≡ map rule_form rules.old.items ++ alts_rules (numbering (bodies numbers.now))
+        (vec_len rules.old) (resolved_alts numbers.now (written_alts (parser_alts alts.now)))) }
 {
     let mut sorted = Sorted {
         bases: Vec::new(numbers.alloc()),
@@ -107,7 +112,8 @@ fn push_recursive(
 ) -> Result<(), Memory>
     requires { vec_len rules.old + 4 + alts_new_rules (resolved_alts numbers.now (written_alts (parser_alts alts.now))) < 2 ^ 32 }
     ensures len { OnOk result (vec_len rules.new ≡ vec_len rules.old + 4 + alts_new_rules (resolved_alts numbers.now (written_alts (parser_alts alts.now)))) }
-    ensures rules { OnOk result (map rule_form rules.new.items ≡ map rule_form rules.old.items ++ recursive_group (numbering (bodies numbers.now)) (vec_len rules.old) rule (resolved_alts numbers.now (written_alts (parser_alts alts.now)))) }
+    ensures rules { OnOk result (map rule_form rules.new.items ≡ map rule_form rules.old.items ++ recursive_group (numbering (bodies numbers.now))
+        (vec_len rules.old) rule (resolved_alts numbers.now (written_alts (parser_alts alts.now)))) }
 {
     let own = rules.len();
     push_head(numbers.alloc(), rules)?;
@@ -127,7 +133,8 @@ pub(crate) fn push_group(
 ) -> Result<(), Memory>
     requires { vec_len rules.old + group_size rule (resolved_alts numbers.now (written_alts (parser_alts alts.now))) < 2 ^ 32 }
     ensures len { OnOk result (vec_len rules.new ≡ vec_len rules.old + group_size rule (resolved_alts numbers.now (written_alts (parser_alts alts.now)))) }
-    ensures rules { OnOk result (map rule_form rules.new.items ≡ map rule_form rules.old.items ++ group (numbering (bodies numbers.now)) (vec_len rules.old) rule (resolved_alts numbers.now (written_alts (parser_alts alts.now)))) }
+    ensures rules { OnOk result (map rule_form rules.new.items ≡ map rule_form rules.old.items ++ group (numbering (bodies numbers.now))
+        (vec_len rules.old) rule (resolved_alts numbers.now (written_alts (parser_alts alts.now)))) }
 {
     if has_rest(alts, numbers.names(), rule) {
         return push_recursive(alts, numbers, rule, rules);

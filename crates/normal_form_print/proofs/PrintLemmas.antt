@@ -35,7 +35,9 @@ onto_is_ascii (suc k) n acc a =
     by_test (cons_ascii (digit_glyph true (n % 16)) acc (glyph_is_ascii (n % 16) (mod_below n 16 (omega arith)) (nat_lt (n % 16) 10) refl) a)
     (onto_is_ascii k (n / 16) (digit_glyph true (n % 16) ∷ acc)) (n / 16 == 0)
   where
-    by_test : IsAscii (digit_glyph true (n % 16) ∷ acc) → (IsAscii (digit_glyph true (n % 16) ∷ acc) → IsAscii (digits_onto k 16 true (n / 16) (digit_glyph true (n % 16) ∷ acc))) → (b : Bool) → IsAscii (cond b (digit_glyph true (n % 16) ∷ acc) (digits_onto k 16 true (n / 16) (digit_glyph true (n % 16) ∷ acc)))
+    by_test : IsAscii (digit_glyph true (n % 16) ∷ acc)
+        → (IsAscii (digit_glyph true (n % 16) ∷ acc) → IsAscii (digits_onto k 16 true (n / 16) (digit_glyph true (n % 16) ∷ acc))) → (b : Bool)
+        → IsAscii (cond b (digit_glyph true (n % 16) ∷ acc) (digits_onto k 16 true (n / 16) (digit_glyph true (n % 16) ∷ acc)))
     by_test one more true = one
     by_test one more false = more one
 
@@ -46,14 +48,18 @@ hex_is_ascii n = onto_is_ascii 64 n [] nil_ascii
 -- the bytes of a character's number are its characters
 pub code_bytes : (c : ℕ) → encode_utf8_all (code_of c) ≡ code_of c
 code_bytes c =
-    encodes-IsAscii (code_of c) (cons_ascii 92 (117 ∷ 123 ∷ (radix_digits 16 true c ++ 125 ∷ [])) (omega arith) (cons_ascii 117 (123 ∷ (radix_digits 16 true c ++ 125 ∷ [])) (omega arith) (cons_ascii 123 (radix_digits 16 true c ++ 125 ∷ []) (omega arith) (append_ascii (radix_digits 16 true c) (125 ∷ []) (hex_is_ascii c) (cons_ascii 125 [] (omega arith) nil_ascii)))))
+    encodes-IsAscii (code_of c) (cons_ascii 92 (117 ∷ 123 ∷ (radix_digits 16 true c ++ 125 ∷ [])) (omega arith)
+    (cons_ascii 117 (123 ∷ (radix_digits 16 true c ++ 125 ∷ [])) (omega arith)
+    (cons_ascii 123 (radix_digits 16 true c ++ 125 ∷ []) (omega arith)
+    (append_ascii (radix_digits 16 true c) (125 ∷ []) (hex_is_ascii c) (cons_ascii 125 [] (omega arith) nil_ascii)))))
 
 -- two pieces, one after the other
 pub grown_twice : (bytes xs ys : List ℕ) → (bytes ++ encode_utf8_all xs) ++ encode_utf8_all ys ≡ bytes ++ encode_utf8_all (xs ++ ys)
 grown_twice bytes xs ys = append_assoc bytes (encode_utf8_all xs) (encode_utf8_all ys) ∙ ap (λ l. bytes ++ l) (sym (encodes-append xs ys))
 
 -- one more character of a literal
-pub escaped_push : (bytes cs : List ℕ) (c : ℕ) → (bytes ++ encode_utf8_all (flat_map escaped cs)) ++ encode_utf8_all (escaped c) ≡ bytes ++ encode_utf8_all (flat_map escaped (cs ++ c ∷ []))
+pub escaped_push : (bytes cs : List ℕ) (c : ℕ)
+    → (bytes ++ encode_utf8_all (flat_map escaped cs)) ++ encode_utf8_all (escaped c) ≡ bytes ++ encode_utf8_all (flat_map escaped (cs ++ c ∷ []))
 escaped_push bytes cs c =
     grown_twice bytes (flat_map escaped cs) (escaped c)
     ∙ ap (λ l. bytes ++ encode_utf8_all l) (ap (λ l. flat_map escaped cs ++ l) (sym (append-nil (escaped c))) ∙ sym (flat_map-append escaped cs (c ∷ [])))
@@ -63,12 +69,15 @@ map_same [] = refl
 map_same (x ∷ xs) = ap (λ l. x ∷ l) (map_same xs)
 
 -- a literal in its quotes
-pub quoted : (old first all last yielded literal : List ℕ) → first ≡ old ++ (39 ∷ []) → all ≡ first ++ encode_utf8_all (flat_map escaped yielded) → yielded ≡ literal → last ≡ all ++ (39 ∷ []) → last ≡ old ++ encode_utf8_all (39 ∷ (flat_map escaped literal ++ (39 ∷ [])))
+pub quoted : (old first all last yielded literal : List ℕ) → first ≡ old ++ (39 ∷ []) → all ≡ first ++ encode_utf8_all (flat_map escaped yielded)
+    → yielded ≡ literal → last ≡ all ++ (39 ∷ []) → last ≡ old ++ encode_utf8_all (39 ∷ (flat_map escaped literal ++ (39 ∷ [])))
 quoted old first all last yielded literal f a e l =
     let quote : encode_utf8_all (39 ∷ []) ≡ 39 ∷ [] = encodes-IsAscii (39 ∷ []) (cons_ascii 39 [] (omega arith) nil_ascii) in
     l
     ∙ ap (λ x. all ++ x) (sym quote)
-    ∙ ap (λ x. x ++ encode_utf8_all (39 ∷ [])) (a ∙ ap (λ x. x ++ encode_utf8_all (flat_map escaped yielded)) (f ∙ ap (λ x. old ++ x) (sym quote)) ∙ grown_twice old (39 ∷ []) (flat_map escaped yielded) ∙ ap (λ ys. old ++ encode_utf8_all (39 ∷ flat_map escaped ys)) e)
+    ∙ ap (λ x. x ++ encode_utf8_all (39 ∷ []))
+    (a ∙ ap (λ x. x ++ encode_utf8_all (flat_map escaped yielded)) (f ∙ ap (λ x. old ++ x) (sym quote)) ∙ grown_twice old (39 ∷ []) (flat_map escaped yielded)
+    ∙ ap (λ ys. old ++ encode_utf8_all (39 ∷ flat_map escaped ys)) e)
     ∙ grown_twice old (39 ∷ flat_map escaped literal) (39 ∷ [])
 
 -- the same pieces joined, in bytes
@@ -85,10 +94,12 @@ module _ {X : Type 0} (f g : X → List ℕ) (sep : List ℕ) (same : (x : X) �
   pub joined_bytes : (xs : List X) → join_by g sep xs ≡ encode_utf8_all (join_by f sep xs)
   joined_bytes [] = refl
   joined_bytes (x ∷ xs) =
-      ap (λ l. l ++ flat_map (λ y. sep ++ g y) xs) (same x) ∙ ap (λ l. encode_utf8_all (f x) ++ l) (rest_bytes xs) ∙ sym (encodes-append (f x) (flat_map (λ y. sep ++ f y) xs))
+      ap (λ l. l ++ flat_map (λ y. sep ++ g y) xs) (same x) ∙ ap (λ l. encode_utf8_all (f x) ++ l) (rest_bytes xs)
+      ∙ sym (encodes-append (f x) (flat_map (λ y. sep ++ f y) xs))
 
 -- one more piece of a text, after what separates it from the one before
-pub piece_more : {X : Type 0} (f : X → List ℕ) (sep text separated more whole : List ℕ) (x : X) (all rest : List X) → all ≡ x ∷ rest → separated ≡ text ++ sep → more ≡ separated ++ f x → text ++ flat_map (λ y. sep ++ f y) all ≡ whole → more ++ flat_map (λ y. sep ++ f y) rest ≡ whole
+pub piece_more : {X : Type 0} (f : X → List ℕ) (sep text separated more whole : List ℕ) (x : X) (all rest : List X) → all ≡ x ∷ rest → separated ≡ text ++ sep
+    → more ≡ separated ++ f x → text ++ flat_map (λ y. sep ++ f y) all ≡ whole → more ++ flat_map (λ y. sep ++ f y) rest ≡ whole
 piece_more f sep text separated more whole x all rest cut first second so_far =
     ap (λ l. l ++ flat_map (λ y. sep ++ f y) rest) (second ∙ ap (λ l. l ++ f x) first ∙ append_assoc text sep (f x))
     ∙ append_assoc text (sep ++ f x) (flat_map (λ y. sep ++ f y) rest)
@@ -111,7 +122,8 @@ but_bytes f g same (k ∷ []) =
     ap (λ l. l ++ g k) (sym (one_ascii 126 (omega arith))) ∙ ap (λ l. encode_utf8_all (126 ∷ []) ++ l) (same k) ∙ sym (encodes-append (126 ∷ []) (f k))
 but_bytes f g same (k ∷ l ∷ ks) =
     let bar = one_ascii 124 (omega arith) in
-    let opened : encode_utf8_all (126 ∷ 40 ∷ []) ≡ 126 ∷ 40 ∷ [] = encodes-IsAscii (126 ∷ 40 ∷ []) (cons_ascii 126 (40 ∷ []) (omega arith) (cons_ascii 40 [] (omega arith) nil_ascii)) in
+    let opened : encode_utf8_all (126 ∷ 40 ∷ []) ≡ 126 ∷ 40 ∷ [] =
+    encodes-IsAscii (126 ∷ 40 ∷ []) (cons_ascii 126 (40 ∷ []) (omega arith) (cons_ascii 40 [] (omega arith) nil_ascii)) in
     let close = one_ascii 41 (omega arith) in
     let all = join_by f (124 ∷ []) (k ∷ l ∷ ks) in
     ap (λ x. (126 ∷ 40 ∷ []) ++ (x ++ (41 ∷ []))) (joined_bytes f g (124 ∷ []) same bar (k ∷ l ∷ ks))
@@ -127,7 +139,8 @@ suffixed_bytes x y c h e = ap (λ l. l ++ (c ∷ [])) e ∙ ap (λ l. encode_utf
 module _ (f g : Sym → List ℕ) (same : (s : Sym) → g s ≡ encode_utf8_all (f s)) where
   body_bytes : (rule : RuleForm) → body_text g rule ≡ encode_utf8_all (body_text f rule)
   body_bytes (RuleForm.regular alts) =
-      joined_bytes (join_by f (32 ∷ [])) (join_by g (32 ∷ [])) (32 ∷ 124 ∷ 32 ∷ []) (joined_bytes f g (32 ∷ []) same (one_ascii 32 (omega arith))) (three_ascii 32 124 32 (omega arith) (omega arith) (omega arith)) alts
+      joined_bytes (join_by f (32 ∷ [])) (join_by g (32 ∷ [])) (32 ∷ 124 ∷ 32 ∷ []) (joined_bytes f g (32 ∷ []) same (one_ascii 32 (omega arith)))
+      (three_ascii 32 124 32 (omega arith) (omega arith) (omega arith)) alts
   body_bytes (RuleForm.star s) = suffixed_bytes (f s) (g s) 42 (omega arith) (same s)
   body_bytes (RuleForm.plus s) = suffixed_bytes (f s) (g s) 43 (omega arith) (same s)
   body_bytes (RuleForm.opt s) = suffixed_bytes (f s) (g s) 63 (omega arith) (same s)

@@ -27,10 +27,14 @@ rule n alts = WrittenRule.parser_rule (record { name = n; alts = written_alts al
 
 -- a lexer rule with one character; whether it is skipped is given
 abbrev token : List ℕ → ℕ → WrittenRule
-token n c = WrittenRule.lexer_rule (record { name = n; fragment = false; gap = false; alts = LexerAlts.or (LexerSeq.next (LexerTerm.set ((c, c) ∷ [])) LexerSeq.done) LexerAlts.none })
+token n c =
+    WrittenRule.lexer_rule
+    (record { name = n; fragment = false; gap = false; alts = LexerAlts.or (LexerSeq.next (LexerTerm.set ((c, c) ∷ [])) LexerSeq.done) LexerAlts.none })
 
 abbrev skipped : List ℕ → WrittenRule
-skipped n = WrittenRule.lexer_rule (record { name = n; fragment = false; gap = true; alts = LexerAlts.or (LexerSeq.next (LexerTerm.set ((32, 32) ∷ [])) LexerSeq.done) LexerAlts.none })
+skipped n =
+    WrittenRule.lexer_rule
+    (record { name = n; fragment = false; gap = true; alts = LexerAlts.or (LexerSeq.next (LexerTerm.set ((32, 32) ∷ [])) LexerSeq.done) LexerAlts.none })
 
 abbrev grammar : List WrittenRule → WrittenGrammar
 grammar rules = record { name = codes "G"; tokens = []; rules = rules }
@@ -38,7 +42,8 @@ grammar rules = record { name = codes "G"; tokens = []; rules = rules }
 abbrev text_of : WrittenGrammar → List ℕ
 text_of G = printed (kinds_of G) (normal_of (record { grammar = G; kinds = kinds_of G; start = 0 }))
 
--- file : stmt* EOF ; stmt : ID '=' expr ';' | '{' stmt* '}' ; expr : expr '+' expr | '(' expr ')' | ID | INT ; ID : [a-z]+ ; INT : [0-9]+ ; WS : [ \n]+ -> skip ;
+-- file : stmt* EOF ; stmt : ID '=' expr ';' | '{' stmt* '}' ; expr : expr '+' expr | '('
+-- expr ')' | ID | INT ; ID : [a-z]+ ; INT : [0-9]+ ; WS : [ \n]+ -> skip ;
 abbrev E : WrittenGrammar
 E =
     grammar (
@@ -61,13 +66,17 @@ E =
     ∷ []
     )
 
-E_prints : text_of E ≡ codes "file : file#1 ;\nfile#1 : stmt* ;\nstmt : ID '=' expr ';' | '{' stmt#1 '}' ;\nstmt#1 : stmt* ;\nexpr : expr#1 expr#2 ;\nexpr#1 : '(' expr ')' | ID | INT ;\nexpr#2 : expr#3* ;\nexpr#3 : '+' expr ;\n"
+E_prints : text_of E
+    ≡ codes
+    "file : file#1 ;\nfile#1 : stmt* ;\nstmt : ID '=' expr ';' | '{' stmt#1 '}' ;\nstmt#1 : stmt* ;\nexpr : expr#1 expr#2 ;\nexpr#1 : '(' expr ')' | ID | INT ;\nexpr#2 : expr#3* ;\nexpr#3 : '+' expr ;\n"
 unfolding kinds_of normal_of printed fmt.digits
 E_prints = refl
 
 -- a : ((A? B)* C)+ ;
 nested_prints : text_of (grammar (
-    rule (codes "a") ((WrittenTerm.plus (block ((WrittenTerm.star (block ((WrittenTerm.opt (name (codes "A")) ∷ name (codes "B") ∷ []) ∷ [])) ∷ name (codes "C") ∷ []) ∷ [])) ∷ []) ∷ [])
+    rule (codes "a")
+    ((WrittenTerm.plus (block ((WrittenTerm.star (block ((WrittenTerm.opt (name (codes "A")) ∷ name (codes "B") ∷ []) ∷ [])) ∷ name (codes "C") ∷ []) ∷ []))
+    ∷ []) ∷ [])
     ∷ token (codes "A") 97
     ∷ token (codes "B") 98
     ∷ token (codes "C") 99
@@ -93,7 +102,9 @@ recursive_prints = refl
 -- a : ~A . ~(A | B) ~WS ~A ; with the sets in the order in which they first occur, and b : ; after it
 sets_print : text_of (grammar (
     rule (codes "a") (
-    (WrittenTerm.but (Reference.name (codes "A") ∷ []) ∷ WrittenTerm.any ∷ WrittenTerm.but (Reference.name (codes "A") ∷ Reference.name (codes "B") ∷ []) ∷ WrittenTerm.but (Reference.name (codes "WS") ∷ []) ∷ WrittenTerm.but (Reference.name (codes "A") ∷ []) ∷ [])
+    (WrittenTerm.but (Reference.name (codes "A") ∷ []) ∷ WrittenTerm.any ∷ WrittenTerm.but
+    (Reference.name (codes "A") ∷ Reference.name (codes "B") ∷ []) ∷ WrittenTerm.but (Reference.name (codes "WS") ∷ []) ∷ WrittenTerm.but
+    (Reference.name (codes "A") ∷ []) ∷ [])
     ∷ []
     )
     ∷ rule (codes "b") ([] ∷ [])
@@ -107,7 +118,8 @@ unfolding kinds_of normal_of printed fmt.digits
 sets_print = refl
 
 -- a : '\'\\' '\n\r\t' '~é\u{1F600}' ;
-escapes_print : text_of (grammar (rule (codes "a") ((literal (39 ∷ 92 ∷ []) ∷ literal (10 ∷ 13 ∷ 9 ∷ []) ∷ literal (126 ∷ 233 ∷ 0x1F600 ∷ []) ∷ []) ∷ []) ∷ [])) ≡ codes "a : '\\'\\\\' '\\n\\r\\t' '~\\u{E9}\\u{1F600}' ;\n"
+escapes_print : text_of (grammar (rule (codes "a") ((literal (39 ∷ 92 ∷ []) ∷ literal (10 ∷ 13 ∷ 9 ∷ []) ∷ literal (126 ∷ 233 ∷ 0x1F600 ∷ []) ∷ []) ∷ []) ∷ []))
+    ≡ codes "a : '\\'\\\\' '\\n\\r\\t' '~\\u{E9}\\u{1F600}' ;\n"
 unfolding kinds_of normal_of printed fmt.digits
 escapes_print = refl
 
@@ -116,8 +128,11 @@ abbrev C : WrittenGrammar
 C =
     grammar (
     rule (codes "file") ((WrittenTerm.star (name (codes "func")) ∷ WrittenTerm.eof ∷ []) ∷ [])
-    ∷ rule (codes "func") ((name (codes "type") ∷ name (codes "ID") ∷ literal (codes "(") ∷ WrittenTerm.opt (name (codes "params")) ∷ literal (codes ")") ∷ name (codes "block") ∷ []) ∷ [])
-    ∷ rule (codes "params") ((name (codes "type") ∷ name (codes "ID") ∷ WrittenTerm.star (block ((literal (codes ",") ∷ name (codes "type") ∷ name (codes "ID") ∷ []) ∷ [])) ∷ []) ∷ [])
+    ∷ rule (codes "func")
+    ((name (codes "type") ∷ name (codes "ID") ∷ literal (codes "(") ∷ WrittenTerm.opt (name (codes "params")) ∷ literal (codes ")") ∷ name (codes "block") ∷ [])
+    ∷ [])
+    ∷ rule (codes "params")
+    ((name (codes "type") ∷ name (codes "ID") ∷ WrittenTerm.star (block ((literal (codes ",") ∷ name (codes "type") ∷ name (codes "ID") ∷ []) ∷ [])) ∷ []) ∷ [])
     ∷ rule (codes "type") (
     (literal (codes "int") ∷ [])
     ∷ (literal (codes "char") ∷ [])
@@ -127,7 +142,8 @@ C =
     ∷ rule (codes "stmt") (
     (name (codes "type") ∷ name (codes "ID") ∷ WrittenTerm.opt (block ((literal (codes "=") ∷ name (codes "expr") ∷ []) ∷ [])) ∷ literal (codes ";") ∷ [])
     ∷ (name (codes "ID") ∷ literal (codes "=") ∷ name (codes "expr") ∷ literal (codes ";") ∷ [])
-    ∷ (literal (codes "if") ∷ literal (codes "(") ∷ name (codes "expr") ∷ literal (codes ")") ∷ name (codes "block") ∷ WrittenTerm.opt (block ((literal (codes "else") ∷ name (codes "block") ∷ []) ∷ [])) ∷ [])
+    ∷ (literal (codes "if") ∷ literal (codes "(") ∷ name (codes "expr") ∷ literal (codes ")") ∷ name (codes "block") ∷ WrittenTerm.opt
+    (block ((literal (codes "else") ∷ name (codes "block") ∷ []) ∷ [])) ∷ [])
     ∷ (literal (codes "while") ∷ literal (codes "(") ∷ name (codes "expr") ∷ literal (codes ")") ∷ name (codes "block") ∷ [])
     ∷ (literal (codes "return") ∷ WrittenTerm.opt (name (codes "expr")) ∷ literal (codes ";") ∷ [])
     ∷ (name (codes "block") ∷ [])
@@ -136,7 +152,8 @@ C =
     ∷ rule (codes "expr") (
     (name (codes "expr") ∷ block ((literal (codes "*") ∷ []) ∷ (literal (codes "/") ∷ []) ∷ []) ∷ name (codes "expr") ∷ [])
     ∷ (name (codes "expr") ∷ block ((literal (codes "+") ∷ []) ∷ (literal (codes "-") ∷ []) ∷ []) ∷ name (codes "expr") ∷ [])
-    ∷ (name (codes "ID") ∷ literal (codes "(") ∷ WrittenTerm.opt (block ((name (codes "expr") ∷ WrittenTerm.star (block ((literal (codes ",") ∷ name (codes "expr") ∷ []) ∷ [])) ∷ []) ∷ [])) ∷ literal (codes ")") ∷ [])
+    ∷ (name (codes "ID") ∷ literal (codes "(") ∷ WrittenTerm.opt
+    (block ((name (codes "expr") ∷ WrittenTerm.star (block ((literal (codes ",") ∷ name (codes "expr") ∷ []) ∷ [])) ∷ []) ∷ [])) ∷ literal (codes ")") ∷ [])
     ∷ (literal (codes "(") ∷ name (codes "expr") ∷ literal (codes ")") ∷ [])
     ∷ (name (codes "ID") ∷ [])
     ∷ (name (codes "INT") ∷ [])
@@ -152,11 +169,15 @@ C =
     ∷ []
     )
 
-C_kinds : map (λ kind. kind.name) (kinds_of C) ≡ codes "(" ∷ codes ")" ∷ codes "," ∷ codes "int" ∷ codes "char" ∷ codes "{" ∷ codes "}" ∷ codes "=" ∷ codes ";" ∷ codes "if" ∷ codes "else" ∷ codes "while" ∷ codes "return" ∷ codes "*" ∷ codes "/" ∷ codes "+" ∷ codes "-" ∷ codes "ID" ∷ codes "INT" ∷ codes "STR" ∷ codes "COMMENT" ∷ codes "LINE" ∷ codes "WS" ∷ []
+C_kinds : map (λ kind. kind.name) (kinds_of C)
+    ≡ codes "(" ∷ codes ")" ∷ codes "," ∷ codes "int" ∷ codes "char" ∷ codes "{" ∷ codes "}" ∷ codes "=" ∷ codes ";" ∷ codes "if" ∷ codes "else" ∷ codes "while"
+    ∷ codes "return" ∷ codes "*" ∷ codes "/" ∷ codes "+" ∷ codes "-" ∷ codes "ID" ∷ codes "INT" ∷ codes "STR" ∷ codes "COMMENT" ∷ codes "LINE" ∷ codes "WS" ∷ []
 unfolding kinds_of
 C_kinds = refl
 
-C_prints : text_of C ≡ codes "file : file#1 ;\nfile#1 : func* ;\nfunc : type ID '(' func#1 ')' block ;\nfunc#1 : params? ;\nparams : type ID params#1 ;\nparams#1 : params#2* ;\nparams#2 : ',' type ID ;\ntype : 'int' | 'char' ;\nblock : '{' block#1 '}' ;\nblock#1 : stmt* ;\nstmt : type ID stmt#1 ';' | ID '=' expr ';' | 'if' '(' expr ')' block stmt#3 | 'while' '(' expr ')' block | 'return' stmt#5 ';' | block ;\nstmt#1 : stmt#2? ;\nstmt#2 : '=' expr ;\nstmt#3 : stmt#4? ;\nstmt#4 : 'else' block ;\nstmt#5 : expr? ;\nexpr : expr#1 expr#2 ;\nexpr#1 : ID '(' expr#6 ')' | '(' expr ')' | ID | INT | STR ;\nexpr#2 : expr#3* ;\nexpr#3 : expr#4 expr | expr#5 expr ;\nexpr#4 : '*' | '/' ;\nexpr#5 : '+' | '-' ;\nexpr#6 : expr#7? ;\nexpr#7 : expr expr#8 ;\nexpr#8 : expr#9* ;\nexpr#9 : ',' expr ;\n"
+C_prints : text_of C
+    ≡ codes
+    "file : file#1 ;\nfile#1 : func* ;\nfunc : type ID '(' func#1 ')' block ;\nfunc#1 : params? ;\nparams : type ID params#1 ;\nparams#1 : params#2* ;\nparams#2 : ',' type ID ;\ntype : 'int' | 'char' ;\nblock : '{' block#1 '}' ;\nblock#1 : stmt* ;\nstmt : type ID stmt#1 ';' | ID '=' expr ';' | 'if' '(' expr ')' block stmt#3 | 'while' '(' expr ')' block | 'return' stmt#5 ';' | block ;\nstmt#1 : stmt#2? ;\nstmt#2 : '=' expr ;\nstmt#3 : stmt#4? ;\nstmt#4 : 'else' block ;\nstmt#5 : expr? ;\nexpr : expr#1 expr#2 ;\nexpr#1 : ID '(' expr#6 ')' | '(' expr ')' | ID | INT | STR ;\nexpr#2 : expr#3* ;\nexpr#3 : expr#4 expr | expr#5 expr ;\nexpr#4 : '*' | '/' ;\nexpr#5 : '+' | '-' ;\nexpr#6 : expr#7? ;\nexpr#7 : expr expr#8 ;\nexpr#8 : expr#9* ;\nexpr#9 : ',' expr ;\n"
 unfolding kinds_of normal_of printed fmt.digits
 C_prints = refl
 
@@ -182,12 +203,14 @@ rest_has_expr = (refl, omega arith)
 nothing_is_a_file : NormalDerives form_of_E (Rule 0) []
 unfolding kinds_of normal_of
 nothing_is_a_file =
-    of_regular 0 ((Rule 1 ∷ []) ∷ []) (Rule 1 ∷ []) [] refl (Contains-here (Rule 1 ∷ []) []) (of_next (Rule 1) [] [] [] (of_star 1 (Rule 2) [] refl (of_end (Rule 2))) of_done)
+    of_regular 0 ((Rule 1 ∷ []) ∷ []) (Rule 1 ∷ []) [] refl (Contains-here (Rule 1 ∷ []) [])
+    (of_next (Rule 1) [] [] [] (of_star 1 (Rule 2) [] refl (of_end (Rule 2))) of_done)
 
 -- A block without alternatives, which no text of a grammar has, gives a regular rule without alternatives.
 abbrev no_alternatives : WrittenGrammar
 no_alternatives = grammar (rule (codes "a") ((WrittenTerm.block WrittenAlts.none ∷ []) ∷ []) ∷ [])
 
-empty_block : (normal_of (record { grammar = no_alternatives; kinds = kinds_of no_alternatives; start = 0 })).rules ≡ RuleForm.regular ((Rule 1 ∷ []) ∷ []) ∷ RuleForm.regular [] ∷ []
+empty_block : (normal_of (record { grammar = no_alternatives; kinds = kinds_of no_alternatives; start = 0 })).rules ≡ RuleForm.regular
+    ((Rule 1 ∷ []) ∷ []) ∷ RuleForm.regular [] ∷ []
 unfolding kinds_of normal_of
 empty_block = refl

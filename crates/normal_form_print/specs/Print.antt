@@ -13,7 +13,8 @@ use Rattle.normal_form.specs.Form.{RuleForm, NormalForm}
 abbrev pub code_of : ℕ → List ℕ
 code_of c = codes "\\u{" ++ (radix_digits 16 true c ++ codes "}")
 
--- A character in a literal: those from the space to `~` as themselves, but for `\'` and `\\`; a newline, return and tab as `\n`, `\r` and `\t`; all others by their number.
+-- A character in a literal: those from the space to `~` as themselves, but for `\'` and `\\`; a
+-- newline, return and tab as `\n`, `\r` and `\t`; all others by their number.
 abbrev pub escaped : ℕ → List ℕ
 escaped c =
     if c == 39 then codes "\\'"
@@ -56,7 +57,8 @@ symbol_text kinds N (Kind k) = numbered_kind_text kinds k
 symbol_text kinds N (Set i) = option_map_or (set_text kinds) (slice_get N.sets i) []
 symbol_text kinds N (Rule r) = option_map_or (λ name. name) (slice_get N.names r) []
 
--- The alternatives of a regular rule have ` | ` between them, and the symbols of each a space. The others are their symbol directly followed by `?`, `*` or `+`.
+-- The alternatives of a regular rule have ` | ` between them, and the symbols of each a
+-- space. The others are their symbol directly followed by `?`, `*` or `+`.
 abbrev pub body_text : (Sym → List ℕ) → RuleForm → List ℕ
 body_text text (RuleForm.regular alts) = join_by (join_by text (codes " ")) (codes " | ") alts
 body_text text (RuleForm.star s) = text s ++ codes "*"

@@ -242,7 +242,8 @@ fn push_alts(
     symbols: &Symbols<'_>,
     alts: &[Vec<Sym>],
 ) -> Result<(), Memory>
-    ensures { OnOk result (string_bytes text.new ≡ string_bytes text.old ++ join_by (join_by (symbol_bytes symbols.now) (codes " ")) (codes " | ") (alts_form alts.now)) }
+    ensures { OnOk result (string_bytes text.new ≡ string_bytes text.old ++ join_by (join_by (symbol_bytes symbols.now) (codes " ")) (codes " | ")
+        (alts_form alts.now)) }
 {
     if alts.is_empty() {
         return Ok(());

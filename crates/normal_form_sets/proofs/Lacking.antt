@@ -1,5 +1,6 @@
 -- Sets of kinds by what they lack.
-use Rattle.std.proofs.Common.{◌≡◌, ℕ, ◌<◌, ◌≤◌, ◌⊎◌, inl, inr, ◌&&◌, Bool, true, false, not, cond, Bor, List, [], ◌∷◌, ◌++◌, length, map, Option, Some, None, is_some, slice_get, refl, sym, ap, ◌∙◌, subst, arith, true≢false}
+use Rattle.std.proofs.Common.{◌≡◌, ℕ, ◌<◌, ◌≤◌, ◌⊎◌, inl, inr, ◌&&◌, Bool, true, false, not, cond, Bor, List, [], ◌∷◌, ◌++◌, length, map}
+use Rattle.std.proofs.Common.{Option, Some, None, is_some, slice_get, refl, sym, ap, ◌∙◌, subst, arith, true≢false}
 use Rattle.std.specs.Prelude.{filter, position}
 use Rattle.std.specs.BTreeMap.{BTreeMap, UpdatesBy, is_at}
 use Rattle.std.specs.Cmp.{eq_by_cmp_equiv}
@@ -41,7 +42,8 @@ item_none {X} xs i r e at =
     let here = subst P e at in
     slice_get_past xs i (ltb-false i (length xs) (sym here.0))
 
-pub set_at : (all : List ℕ) (missing : List (Vec ℕ)) (i : ℕ) (m : Vec ℕ) → slice_get missing i ≡ Some m → slice_get (map (lacking all) (map items_of missing)) i ≡ Some (lacking all m.items)
+pub set_at : (all : List ℕ) (missing : List (Vec ℕ)) (i : ℕ) (m : Vec ℕ) → slice_get missing i ≡ Some m
+    → slice_get (map (lacking all) (map items_of missing)) i ≡ Some (lacking all m.items)
 set_at all missing i m e =
     slice_get-map (lacking all) (map items_of missing) i ∙ ap (option_map (lacking all)) (slice_get-map items_of missing i ∙ ap (option_map items_of) e)
 
@@ -49,7 +51,8 @@ pub no_set_at : (all : List ℕ) (missing : List (Vec ℕ)) (i : ℕ) → slice_
 no_set_at all missing i e =
     slice_get-map (lacking all) (map items_of missing) i ∙ ap (option_map (lacking all)) (slice_get-map items_of missing i ∙ ap (option_map items_of) e)
 
-pub part_at : (all : List ℕ) (missing : List (Vec ℕ)) (i : ℕ) (m : Vec ℕ) → All (IsPartOf all) (map items_of missing) → slice_get missing i ≡ Some m → IsPartOf all m.items
+pub part_at : (all : List ℕ) (missing : List (Vec ℕ)) (i : ℕ) (m : Vec ℕ) → All (IsPartOf all) (map items_of missing) → slice_get missing i ≡ Some m
+    → IsPartOf all m.items
 part_at all missing i m parts e =
     let at : slice_get (map items_of missing) i ≡ Some m.items = slice_get-map items_of missing i ∙ ap (option_map items_of) e in
     subst (IsPartOf all) (get_or_from_slice_get (map items_of missing) i m.items [] at) (parts i [] (slice_get_within (map items_of missing) i m.items at))
@@ -66,7 +69,8 @@ not_twice b false e = absurd (true≢false (sym e))
 -- what a set lacks that lacks what is part of all
 pub lacking_twice : (all missing : List ℕ) → IsPartOf all missing → lacking all (lacking all missing) ≡ missing
 lacking_twice all missing part =
-    filter_agree_on (λ k. not (is_in (lacking all missing) k)) (is_in missing) all (λ k h. ap not (in_lacking all missing k) ∙ not_twice (is_in missing k) (is_in all k) h) ∙ part
+    filter_agree_on (λ k. not (is_in (lacking all missing) k)) (is_in missing) all
+    (λ k h. ap not (in_lacking all missing k) ∙ not_twice (is_in missing k) (is_in all k) h) ∙ part
 
 same_missing : (all a b : List ℕ) → IsPartOf all a → IsPartOf all b → lacking all a ≡ lacking all b → a ≡ b
 same_missing all a b p q e = sym (lacking_twice all a p) ∙ ap (lacking all) e ∙ lacking_twice all b q
@@ -105,9 +109,11 @@ pub part_rises : (all missing : List ℕ) → IsStrictlyIncreasing all → IsPar
 part_rises all missing up part = subst IsStrictlyIncreasing part (IsStrictlyIncreasing-filter (is_in missing) all up)
 
 -- whether a set has a kind
-pub has_kind : (all missing : List ℕ) (kind : ℕ) (set : Option (List ℕ)) (a b : Bool) → Some (lacking all missing) ≡ set → a ≡ is_in all kind → b ≡ is_in missing kind → (not b && a) ≡ option_map_or (λ kinds. is_in kinds kind) set false
+pub has_kind : (all missing : List ℕ) (kind : ℕ) (set : Option (List ℕ)) (a b : Bool) → Some (lacking all missing) ≡ set → a ≡ is_in all kind
+    → b ≡ is_in missing kind → (not b && a) ≡ option_map_or (λ kinds. is_in kinds kind) set false
 has_kind all missing kind set a b is x y =
-    ap (λ z. not z && a) y ∙ ap (λ z. not (is_in missing kind) && z) x ∙ sym (in_lacking all missing kind) ∙ ap (λ o. option_map_or (λ kinds. is_in kinds kind) o false) is
+    ap (λ z. not z && a) y ∙ ap (λ z. not (is_in missing kind) && z) x ∙ sym (in_lacking all missing kind)
+    ∙ ap (λ o. option_map_or (λ kinds. is_in kinds kind) o false) is
 
 pub and_false : (b : Bool) → (b && false) ≡ false
 and_false true = refl
@@ -137,7 +143,8 @@ with_known s set h =
     let known : list_any (λ other. same_text other set) s.sets ≡ true = sym (any_found (λ other. same_text other set) s.sets) ∙ h in
     ap (λ b. record { all = s.all; sets = cond b s.sets (s.sets ++ set ∷ []) }) (sym known)
 
-pub with_new : (s : SetsOfKinds) (set : List ℕ) → is_some (position (λ other. same_text other set) s.sets) ≡ false → record { all = s.all; sets = s.sets ++ set ∷ [] } ≡ with_each s (set ∷ [])
+pub with_new : (s : SetsOfKinds) (set : List ℕ) → is_some (position (λ other. same_text other set) s.sets) ≡ false
+    → record { all = s.all; sets = s.sets ++ set ∷ [] } ≡ with_each s (set ∷ [])
 with_new s set h =
     let new : list_any (λ other. same_text other set) s.sets ≡ false = sym (any_found (λ other. same_text other set) s.sets) ∙ h in
     ap (λ b. record { all = s.all; sets = cond b s.sets (s.sets ++ set ∷ []) }) (sym new)
@@ -146,7 +153,8 @@ none_since : (o : Option ℕ) → is_some o ≡ false → o ≡ None
 none_since None e = refl
 none_since (Some n) e = absurd (true≢false e)
 
-other_entries : {K X : Type 0} (eq : K → K → Bool) (test : K → Bool) (old new : List (K × X)) → KeepsOthers eq test old new → (other : K → Bool) → IsKeyTest eq other → AreApart test other → lookup other new ≡ lookup other old
+other_entries : {K X : Type 0} (eq : K → K → Bool) (test : K → Bool) (old new : List (K × X)) → KeepsOthers eq test old new → (other : K → Bool)
+    → IsKeyTest eq other → AreApart test other → lookup other new ≡ lookup other old
 unfolding KeepsOthers
 other_entries eq test old new h = h
 
@@ -158,12 +166,18 @@ apart a b key other same true e =
     absurd (true≢false (sym ((bytes_eq-Decides a b).1 (first ∙ sym second)) ∙ other))
 
 -- what a map has by lists of kinds, after one list was given a number
-number_other : (m n : BTreeMap (Vec ℕ) ℕ) (key : List ℕ) (w : Option ℕ) → UpdatesBy (λ x y. slice_cmp nat_cmp x.items y.items) (λ k. slice_cmp nat_cmp key k.items) m n w → (q : List ℕ) → bytes_eq key q ≡ false → number_in n q ≡ number_in m q
+number_other : (m n : BTreeMap (Vec ℕ) ℕ) (key : List ℕ) (w : Option ℕ)
+    → UpdatesBy (λ x y. slice_cmp nat_cmp x.items y.items) (λ k. slice_cmp nat_cmp key k.items) m n w → (q : List ℕ) → bytes_eq key q ≡ false
+    → number_in n q ≡ number_in m q
 number_other m n key w h q e =
-    other_entries _ _ _ _ h.3 (is_at (λ k. slice_cmp nat_cmp q k.items)) (λ x y. (eq_by_cmp_equiv nat_list_cmp_total).congr q x.items y.items) (λ k same. apart key q k.items e same (is_eq (slice_cmp nat_cmp q k.items)) refl)
+    other_entries _ _ _ _ h.3 (is_at (λ k. slice_cmp nat_cmp q k.items)) (λ x y. (eq_by_cmp_equiv nat_list_cmp_total).congr q x.items y.items)
+    (λ k same. apart key q k.items e same (is_eq (slice_cmp nat_cmp q k.items)) refl)
 
 -- one more set, which isn't there yet
-pub numbers_more : (m n : BTreeMap (Vec ℕ) ℕ) (s : SetsOfKinds) (missing : List ℕ) (number : ℕ) → number ≡ length s.sets → UpdatesBy (λ x y. slice_cmp nat_cmp x.items y.items) (λ k. slice_cmp nat_cmp missing k.items) m n (Some number) → is_some (position (λ other. same_text other (lacking s.all missing)) s.sets) ≡ false → IsPartOf s.all missing → HasNumbers m s → HasNumbers n (record { all = s.all; sets = s.sets ++ lacking s.all missing ∷ [] })
+pub numbers_more : (m n : BTreeMap (Vec ℕ) ℕ) (s : SetsOfKinds) (missing : List ℕ) (number : ℕ) → number ≡ length s.sets
+    → UpdatesBy (λ x y. slice_cmp nat_cmp x.items y.items) (λ k. slice_cmp nat_cmp missing k.items) m n (Some number)
+    → is_some (position (λ other. same_text other (lacking s.all missing)) s.sets) ≡ false → IsPartOf s.all missing → HasNumbers m s
+    → HasNumbers n (record { all = s.all; sets = s.sets ++ lacking s.all missing ∷ [] })
 numbers_more m n s missing number at updates new part has q q_part = go (bytes_eq missing q) refl
   where
     set : List ℕ
@@ -181,9 +195,11 @@ numbers_more m n s missing number at updates new part has q q_part = go (bytes_e
     here : missing ≡ q → number_in n q ≡ position test (s.sets ++ set ∷ [])
     here same =
         let P : List ℕ → Type 0 = λ l. number_in n l ≡ Some number in
-        let none : found test ≡ None = none_since (found test) (ap (λ l. is_some (position (λ other. same_text other (lacking s.all l)) s.sets)) (sym same) ∙ new) in
+        let none : found test ≡ None =
+        none_since (found test) (ap (λ l. is_some (position (λ other. same_text other (lacking s.all l)) s.sets)) (sym same) ∙ new) in
         let is_set : test set ≡ true = (bytes_eq-Decides set (lacking s.all q)).1 (ap (lacking s.all) same) in
-        subst P same updates.1 ∙ ap Some at ∙ ap (λ o. or_added o true (length s.sets)) (sym none) ∙ ap (λ b. or_added (found test) b (length s.sets)) (sym is_set) ∙ pushed
+        subst P same updates.1 ∙ ap Some at ∙ ap (λ o. or_added o true (length s.sets)) (sym none)
+        ∙ ap (λ b. or_added (found test) b (length s.sets)) (sym is_set) ∙ pushed
 
     other_set : bytes_eq missing q ≡ false → (b : Bool) → test set ≡ b → b ≡ false
     other_set e false h = refl

@@ -1,5 +1,6 @@
 -- Sets that are added one after another.
-use Rattle.std.proofs.Common.{◌≡◌, ℕ, suc, ◌+◌, ◌<◌, ◌≤◌, ◌||◌, ◌&&◌, Bool, true, false, not, cond, List, [], ◌∷◌, ◌++◌, length, drop, get_or, refl, sym, ap, ◌∙◌, append_assoc, add-one, drop-cons}
+use Rattle.std.proofs.Common.{◌≡◌, ℕ, suc, ◌+◌, ◌<◌, ◌≤◌, ◌||◌, ◌&&◌, Bool, true, false, not, cond, List, [], ◌∷◌, ◌++◌}
+use Rattle.std.proofs.Common.{length, drop, get_or, refl, sym, ap, ◌∙◌, append_assoc, add-one, drop-cons}
 use Rattle.std.specs.Prelude.{filter}
 use Rattle.std.specs.List.{list_any}
 use Rattle.std.proofs.lemmas.List.{append-nil}
@@ -15,12 +16,15 @@ with_sets-append sets (x ∷ xs) ys = with_sets-append (with_set sets x) xs ys
 
 module _ {X : Type 0} (k : X → List (List ℕ)) (h : List X → List (List ℕ)) where
   -- the sets of one more element are added
-  pub sets_step : ((x : X) (xs : List X) → h (x ∷ xs) ≡ k x ++ h xs) → (s new : SetsOfKinds) (items : List X) (i : ℕ) (x : X) → i < length items → x ≡ get_or items i x → new ≡ with_each s (k x) → with_each new (h (drop (i + 1) items)) ≡ with_each s (h (drop i items))
+  pub sets_step : ((x : X) (xs : List X) → h (x ∷ xs) ≡ k x ++ h xs) → (s new : SetsOfKinds) (items : List X) (i : ℕ) (x : X) → i < length items
+      → x ≡ get_or items i x → new ≡ with_each s (k x) → with_each new (h (drop (i + 1) items)) ≡ with_each s (h (drop i items))
   sets_step cons s new items i x within is e =
       ap (λ (u : SetsOfKinds). with_each u (h (drop (i + 1) items))) e
       ∙ ap (grown s)
       (sym (with_sets-append s.sets (k x) (h (drop (i + 1) items)))
-      ∙ sym (ap (with_sets s.sets) (ap h (drop-cons items i x within ∙ ap (λ y. y ∷ drop (suc i) items) (sym is)) ∙ cons x (drop (suc i) items) ∙ ap (λ j. k x ++ h (drop j items)) (sym (add-one i)))))
+      ∙ sym
+      (ap (with_sets s.sets) (ap h (drop-cons items i x within ∙ ap (λ y. y ∷ drop (suc i) items) (sym is)) ∙ cons x (drop (suc i) items)
+      ∙ ap (λ j. k x ++ h (drop j items)) (sym (add-one i)))))
     where
       grown : SetsOfKinds → List (List ℕ) → SetsOfKinds
       grown s sets = record { all = s.all; sets = sets }
@@ -33,9 +37,12 @@ module _ {X : Type 0} (k : X → List (List ℕ)) (h : List X → List (List ℕ
 abbrev is_new : List (List ℕ) → List ℕ → Bool
 is_new sets ks = not (list_any (λ other. same_text other ks) sets)
 
-filter_first : (p q r : List ℕ → Bool) (x : List ℕ) (xs : List (List ℕ)) → filter p (filter q xs) ≡ filter r xs → (b c : Bool) → q x ≡ b → p x ≡ c → r x ≡ (b && c) → filter p (cond b (x ∷ filter q xs) (filter q xs)) ≡ cond (r x) (x ∷ filter r xs) (filter r xs)
-filter_first p q r x xs e true true qx px rx = ap (λ z. cond z (x ∷ filter p (filter q xs)) (filter p (filter q xs))) px ∙ ap (λ l. x ∷ l) e ∙ sym (ap (λ z. cond z (x ∷ filter r xs) (filter r xs)) rx)
-filter_first p q r x xs e true false qx px rx = ap (λ z. cond z (x ∷ filter p (filter q xs)) (filter p (filter q xs))) px ∙ e ∙ sym (ap (λ z. cond z (x ∷ filter r xs) (filter r xs)) rx)
+filter_first : (p q r : List ℕ → Bool) (x : List ℕ) (xs : List (List ℕ)) → filter p (filter q xs) ≡ filter r xs → (b c : Bool) → q x ≡ b → p x ≡ c
+    → r x ≡ (b && c) → filter p (cond b (x ∷ filter q xs) (filter q xs)) ≡ cond (r x) (x ∷ filter r xs) (filter r xs)
+filter_first p q r x xs e true true qx px rx =
+    ap (λ z. cond z (x ∷ filter p (filter q xs)) (filter p (filter q xs))) px ∙ ap (λ l. x ∷ l) e ∙ sym (ap (λ z. cond z (x ∷ filter r xs) (filter r xs)) rx)
+filter_first p q r x xs e true false qx px rx =
+    ap (λ z. cond z (x ∷ filter p (filter q xs)) (filter p (filter q xs))) px ∙ e ∙ sym (ap (λ z. cond z (x ∷ filter r xs) (filter r xs)) rx)
 filter_first p q r x xs e false true qx px rx = e ∙ sym (ap (λ z. cond z (x ∷ filter r xs) (filter r xs)) rx)
 filter_first p q r x xs e false false qx px rx = e ∙ sym (ap (λ z. cond z (x ∷ filter r xs) (filter r xs)) rx)
 
@@ -59,7 +66,8 @@ one_more false true = refl
 one_more false false = refl
 
 more_known : (sets : List (List ℕ)) (k u : List ℕ) → is_new (sets ++ k ∷ []) u ≡ (not (same_text k u) && is_new sets u)
-more_known sets k u = ap not (list_any-append (λ other. same_text other u) sets (k ∷ [])) ∙ one_more (list_any (λ other. same_text other u) sets) (same_text k u)
+more_known sets k u =
+    ap not (list_any-append (λ other. same_text other u) sets (k ∷ [])) ∙ one_more (list_any (λ other. same_text other u) sets) (same_text k u)
 
 pub with_sets_are : (kss sets : List (List ℕ)) → with_sets sets kss ≡ sets ++ filter (is_new sets) (distinct kss)
 with_sets_are [] sets = sym (append-nil sets)
@@ -68,17 +76,20 @@ with_sets_are (k ∷ ks) sets = go (list_any (λ other. same_text other k) sets)
     rest : List (List ℕ)
     rest = filter (λ u. not (same_text k u)) (distinct ks)
 
-    go : (b : Bool) → list_any (λ other. same_text other k) sets ≡ b → ((s : List (List ℕ)) → with_sets s ks ≡ s ++ filter (is_new s) (distinct ks)) → with_sets (cond b sets (sets ++ k ∷ [])) ks ≡ sets ++ cond (is_new sets k) (k ∷ filter (is_new sets) rest) (filter (is_new sets) rest)
+    go : (b : Bool) → list_any (λ other. same_text other k) sets ≡ b → ((s : List (List ℕ)) → with_sets s ks ≡ s ++ filter (is_new s) (distinct ks))
+        → with_sets (cond b sets (sets ++ k ∷ [])) ks ≡ sets ++ cond (is_new sets k) (k ∷ filter (is_new sets) rest) (filter (is_new sets) rest)
     go true h later =
         let known : is_new sets k ≡ false = ap not h in
         later sets
-        ∙ ap (λ l. sets ++ l) (sym (filter_twice (is_new sets) (λ u. not (same_text k u)) (is_new sets) (λ u. known_stays sets k u known (same_text k u) refl) (distinct ks))
+        ∙ ap (λ l. sets ++ l)
+        (sym (filter_twice (is_new sets) (λ u. not (same_text k u)) (is_new sets) (λ u. known_stays sets k u known (same_text k u) refl) (distinct ks))
         ∙ sym (ap (λ b. cond b (k ∷ filter (is_new sets) rest) (filter (is_new sets) rest)) known))
     go false h later =
         let new : is_new sets k ≡ true = ap not h in
         later (sets ++ k ∷ [])
         ∙ append_assoc sets (k ∷ []) (filter (is_new (sets ++ k ∷ [])) (distinct ks))
-        ∙ ap (λ l. sets ++ l) (ap (λ l. k ∷ l) (sym (filter_twice (is_new sets) (λ u. not (same_text k u)) (is_new (sets ++ k ∷ [])) (more_known sets k) (distinct ks)))
+        ∙ ap (λ l. sets ++ l)
+        (ap (λ l. k ∷ l) (sym (filter_twice (is_new sets) (λ u. not (same_text k u)) (is_new (sets ++ k ∷ [])) (more_known sets k) (distinct ks)))
         ∙ sym (ap (λ b. cond b (k ∷ filter (is_new sets) rest) (filter (is_new sets) rest)) new))
 
 filter_all : (xs : List (List ℕ)) → filter (is_new []) xs ≡ xs

@@ -39,25 +39,29 @@ module _ (N : NormalForm) (kinds : List ℕ) (form : NormalDerivesByForm N) wher
       let one = one_between kinds i j k d.rises d.within e in
       (ks, k, at, has, one.0, one.1)
 
-  regular_in : (r i j : ℕ) (alts : List (List Sym)) → slice_get N.rules r ≡ Some (RuleForm.regular alts) → DerivesSpan N kinds (Rule r) i j → (a : ℕ) × (alt : List Sym) × (slice_get alts a ≡ Some alt) × DerivesSpanSeq N kinds alt i j
+  regular_in : (r i j : ℕ) (alts : List (List Sym)) → slice_get N.rules r ≡ Some (RuleForm.regular alts) → DerivesSpan N kinds (Rule r) i j → (a : ℕ)
+      × (alt : List Sym) × (slice_get alts a ≡ Some alt) × DerivesSpanSeq N kinds alt i j
   regular_in r i j alts at d =
       let (alt, has, ds) = (form.regular r alts (between i j kinds) at).0 d.derived in
       let (a, numbered) = at_of_contains alts alt has in
       (a, alt, numbered, (Spans.seq alt i j).1 (d.rises, d.within, ds))
 
-  regular_of : (r i j : ℕ) (alts : List (List Sym)) → slice_get N.rules r ≡ Some (RuleForm.regular alts) → (a : ℕ) × (alt : List Sym) × (slice_get alts a ≡ Some alt) × DerivesSpanSeq N kinds alt i j → DerivesSpan N kinds (Rule r) i j
+  regular_of : (r i j : ℕ) (alts : List (List Sym)) → slice_get N.rules r ≡ Some (RuleForm.regular alts) → (a : ℕ) × (alt : List Sym)
+      × (slice_get alts a ≡ Some alt) × DerivesSpanSeq N kinds alt i j → DerivesSpan N kinds (Rule r) i j
   regular_of r i j alts at (a, alt, numbered, ds) =
       let span = (Spans.seq alt i j).0 ds in
       record { rises = span.0; within = span.1; derived = (form.regular r alts (between i j kinds) at).1 (alt, contains_at alts a alt numbered, span.2) }
 
-  opt_in : (r i j : ℕ) (s : Sym) → slice_get N.rules r ≡ Some (RuleForm.opt s) → DerivesSpan N kinds (Rule r) i j → ((i ≡ j) × (j ≤ length kinds)) ⊎ DerivesSpan N kinds s i j
+  opt_in : (r i j : ℕ) (s : Sym) → slice_get N.rules r ≡ Some (RuleForm.opt s) → DerivesSpan N kinds (Rule r) i j → ((i ≡ j) × (j ≤ length kinds))
+      ⊎ DerivesSpan N kinds s i j
   opt_in r i j s at d = by ((form.opt r s (between i j kinds) at).0 d.derived)
     where
       by : (between i j kinds ≡ []) ⊎ NormalDerives N s (between i j kinds) → ((i ≡ j) × (j ≤ length kinds)) ⊎ DerivesSpan N kinds s i j
       by (inl e) = inl (none_between kinds i j d.rises d.within e, d.within)
       by (inr x) = inr (record { rises = d.rises; within = d.within; derived = x })
 
-  opt_of : (r i j : ℕ) (s : Sym) → slice_get N.rules r ≡ Some (RuleForm.opt s) → ((i ≡ j) × (j ≤ length kinds)) ⊎ DerivesSpan N kinds s i j → DerivesSpan N kinds (Rule r) i j
+  opt_of : (r i j : ℕ) (s : Sym) → slice_get N.rules r ≡ Some (RuleForm.opt s) → ((i ≡ j) × (j ≤ length kinds)) ⊎ DerivesSpan N kinds s i j
+      → DerivesSpan N kinds (Rule r) i j
   opt_of r i j s at (inl (same, l)) =
       let e : between i j kinds ≡ [] = ap (λ n. between i n kinds) (sym same) ∙ between_none kinds i in
       record { rises = omega (arith, same); within = l; derived = (form.opt r s (between i j kinds) at).1 (inl e) }
@@ -91,7 +95,8 @@ module _ (N : NormalForm) (kinds : List ℕ) (form : NormalDerivesByForm N) wher
       record {
         rises = omega (arith, d.rises, rest.0);
         within = rest.1;
-        derived = (form.plus r s (between i j kinds) at).1 (between i m kinds, between m j kinds, sym (between_append kinds i m j d.rises rest.0), d.derived, rest.2);
+        derived =
+            (form.plus r s (between i j kinds) at).1 (between i m kinds, between m j kinds, sym (between_append kinds i m j d.rises rest.0), d.derived, rest.2);
       }
 
   many_in : {s : Sym} {i j : ℕ} → DerivesSpanMany N kinds s i j → ((i ≡ j) × (j ≤ length kinds)) ⊎ OnceAndMore s i j

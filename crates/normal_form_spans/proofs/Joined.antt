@@ -16,7 +16,8 @@ module _ (N : NormalForm) (kinds : List ℕ) where
   one_in : {s : Sym} {i j : ℕ} → DerivesSpanSeq N kinds (s ∷ []) i j → DerivesSpan N kinds s i j
   one_in (DerivesSpanSeq.of_next s [] i m j d (DerivesSpanSeq.of_done m' l)) = d
 
-  append_in : (ss ts : List Sym) {i j : ℕ} → DerivesSpanSeq N kinds (ss ++ ts) i j → i ≤ length kinds → (m : ℕ) × DerivesSpanSeq N kinds ss i m × DerivesSpanSeq N kinds ts m j
+  append_in : (ss ts : List Sym) {i j : ℕ} → DerivesSpanSeq N kinds (ss ++ ts) i j → i ≤ length kinds → (m : ℕ) × DerivesSpanSeq N kinds ss i m
+      × DerivesSpanSeq N kinds ts m j
   append_in [] ts {i} d l = (i, DerivesSpanSeq.of_done i l, d)
   append_in (s ∷ ss) ts {i} {j} d l =
       let (n, first, others) = next_in d in

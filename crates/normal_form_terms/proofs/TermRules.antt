@@ -10,7 +10,8 @@ use Rattle.grammar_tree.specs.declared.suffix.Suffix.{Suffix}
 use Rattle.normal_form_terms.specs.inner.Terms.{suffix_form}
 
 -- the rule of a term with a suffix, and after it those of the term
-pub suffixed : (M : Numbering) (t : Term) (old pushed : List NormalRule) (own : NormalRule) (s : Suffix) (x : Sym) (n i k : ℕ) → pushed ≡ old ++ own ∷ [] → rule_form own ≡ suffix_form s x → x ≡ symbol M i t → i ≡ n + 1 → k ≡ n + 1 →
+pub suffixed : (M : Numbering) (t : Term) (old pushed : List NormalRule) (own : NormalRule) (s : Suffix) (x : Sym) (n i k : ℕ) → pushed ≡ old ++ own ∷ []
+    → rule_form own ≡ suffix_form s x → x ≡ symbol M i t → i ≡ n + 1 → k ≡ n + 1 →
     map rule_form pushed ++ term_rules M k t ≡ map rule_form old ++ (suffix_form s (symbol M (n + 1) t) ∷ term_rules M (n + 1) t)
 suffixed M t old pushed own s x n i k is form named at counted =
     ap (λ l. map rule_form l ++ term_rules M k t) is

@@ -44,7 +44,8 @@ fn push_symbol(
     next: u32,
     symbols: &mut Vec<Sym>,
 ) -> Result<(), Memory>
-    ensures { OnOk result (symbols.new.items ≡ symbols.old.items ++ (let t = resolved numbers.now (parser_term term.now) in and_symbol t (symbol (numbering (bodies numbers.now)) next t) [])) }
+    ensures { OnOk result (symbols.new.items ≡ symbols.old.items
+        ++ (let t = resolved numbers.now (parser_term term.now) in and_symbol t (symbol (numbering (bodies numbers.now)) next t) [])) }
 {
     if !has_symbol(term) {
         return Ok(());
@@ -72,7 +73,8 @@ fn push_term(
 ) -> Result<(), Memory>
     requires { vec_len rules.old + new_rules (resolved numbers.now (parser_term term.now)) < 2 ^ 32 }
     ensures len { OnOk result (vec_len rules.new ≡ vec_len rules.old + new_rules (resolved numbers.now (parser_term term.now))) }
-    ensures rules { OnOk result (map rule_form rules.new.items ≡ map rule_form rules.old.items ++ term_rules (numbering (bodies numbers.now)) (vec_len rules.old) (resolved numbers.now (parser_term term.now))) }
+    ensures rules { OnOk result (map rule_form rules.new.items ≡ map rule_form rules.old.items ++ term_rules (numbering (bodies numbers.now))
+        (vec_len rules.old) (resolved numbers.now (parser_term term.now))) }
 {
     match term {
         ParserTerm::Block(alts) => push_block(alts, numbers, rules),
@@ -93,7 +95,9 @@ fn push_suffixed(
 ) -> Result<(), Memory>
     requires { vec_len rules.old + 1 + new_rules (resolved numbers.now (parser_term term.now)) < 2 ^ 32 }
     ensures len { OnOk result (vec_len rules.new ≡ vec_len rules.old + 1 + new_rules (resolved numbers.now (parser_term term.now))) }
-    ensures rules { OnOk result (map rule_form rules.new.items ≡ map rule_form rules.old.items ++ (suffix_form suffix (symbol (numbering (bodies numbers.now)) (vec_len rules.old + 1) (resolved numbers.now (parser_term term.now))) ∷ term_rules (numbering (bodies numbers.now)) (vec_len rules.old + 1) (resolved numbers.now (parser_term term.now)))) }
+    ensures rules { OnOk result (map rule_form rules.new.items ≡ map rule_form rules.old.items
+        ++ (suffix_form suffix (symbol (numbering (bodies numbers.now)) (vec_len rules.old + 1) (resolved numbers.now (parser_term term.now))) ∷ term_rules
+        (numbering (bodies numbers.now)) (vec_len rules.old + 1) (resolved numbers.now (parser_term term.now)))) }
 {
     let symbol = numbers.symbol(term, rules.len() as u32 + 1)?;
     rules.push(suffix_rule(suffix, symbol))?;
@@ -111,7 +115,10 @@ pub fn push_block(
 ) -> Result<(), Memory>
     requires { vec_len rules.old + 1 + alts_new_rules (resolved_alts numbers.now (written_alts (parser_alts alts.now))) < 2 ^ 32 }
     ensures len { OnOk result (vec_len rules.new ≡ vec_len rules.old + 1 + alts_new_rules (resolved_alts numbers.now (written_alts (parser_alts alts.now)))) }
-    ensures rules { OnOk result (map rule_form rules.new.items ≡ map rule_form rules.old.items ++ (RuleForm.regular (alts_symbols (numbering (bodies numbers.now)) (vec_len rules.old + 1) (resolved_alts numbers.now (written_alts (parser_alts alts.now)))) ∷ alts_rules (numbering (bodies numbers.now)) (vec_len rules.old + 1) (resolved_alts numbers.now (written_alts (parser_alts alts.now))))) }
+    ensures rules { OnOk result (map rule_form rules.new.items ≡ map rule_form rules.old.items
+        ++ (RuleForm.regular (alts_symbols (numbering (bodies numbers.now)) (vec_len rules.old + 1)
+        (resolved_alts numbers.now (written_alts (parser_alts alts.now)))) ∷ alts_rules (numbering (bodies numbers.now)) (vec_len rules.old + 1)
+        (resolved_alts numbers.now (written_alts (parser_alts alts.now))))) }
 {
     let own = rules.len();
     rules.push(NormalRule::Regular(Vec::new(numbers.alloc())))?;
@@ -128,9 +135,11 @@ fn push_alts(
     rules: &mut Vec<NormalRule>,
 ) -> Result<Vec<Vec<Sym>>, Memory>
     requires { vec_len rules.old + alts_new_rules (resolved_alts numbers.now (written_alts (parser_alts alts.now))) < 2 ^ 32 }
-    ensures symbols { IfOk result (λ symbols. alts_form symbols.items ≡ alts_symbols (numbering (bodies numbers.now)) (vec_len rules.old) (resolved_alts numbers.now (written_alts (parser_alts alts.now)))) }
+    ensures symbols { IfOk result (λ symbols. alts_form symbols.items ≡ alts_symbols (numbering (bodies numbers.now)) (vec_len rules.old)
+        (resolved_alts numbers.now (written_alts (parser_alts alts.now)))) }
     ensures len { OnOk result (vec_len rules.new ≡ vec_len rules.old + alts_new_rules (resolved_alts numbers.now (written_alts (parser_alts alts.now)))) }
-    ensures rules { OnOk result (map rule_form rules.new.items ≡ map rule_form rules.old.items ++ alts_rules (numbering (bodies numbers.now)) (vec_len rules.old) (resolved_alts numbers.now (written_alts (parser_alts alts.now)))) }
+    ensures rules { OnOk result (map rule_form rules.new.items ≡ map rule_form rules.old.items ++ alts_rules (numbering (bodies numbers.now))
+        (vec_len rules.old) (resolved_alts numbers.now (written_alts (parser_alts alts.now)))) }
 {
     let mut symbols = Vec::new(numbers.alloc());
     for alt in alts.items.iter() {
@@ -149,9 +158,11 @@ pub fn push_seq(
     rules: &mut Vec<NormalRule>,
 ) -> Result<Vec<Sym>, Memory>
     requires { vec_len rules.old + seq_new_rules (resolved_seq numbers.now (written_seq (parser_terms terms.now))) < 2 ^ 32 }
-    ensures symbols { IfOk result (λ symbols. symbols.items ≡ seq_symbols (numbering (bodies numbers.now)) (vec_len rules.old) (resolved_seq numbers.now (written_seq (parser_terms terms.now)))) }
+    ensures symbols { IfOk result (λ symbols. symbols.items ≡ seq_symbols (numbering (bodies numbers.now)) (vec_len rules.old)
+        (resolved_seq numbers.now (written_seq (parser_terms terms.now)))) }
     ensures len { OnOk result (vec_len rules.new ≡ vec_len rules.old + seq_new_rules (resolved_seq numbers.now (written_seq (parser_terms terms.now)))) }
-    ensures rules { OnOk result (map rule_form rules.new.items ≡ map rule_form rules.old.items ++ seq_rules (numbering (bodies numbers.now)) (vec_len rules.old) (resolved_seq numbers.now (written_seq (parser_terms terms.now)))) }
+    ensures rules { OnOk result (map rule_form rules.new.items ≡ map rule_form rules.old.items ++ seq_rules (numbering (bodies numbers.now)) (vec_len rules.old)
+        (resolved_seq numbers.now (written_seq (parser_terms terms.now)))) }
 {
     let mut symbols = Vec::new(numbers.alloc());
     for term in terms.items.iter() {

@@ -1,11 +1,13 @@
 -- Moves of several workers: what each of them keeps.
-use Rattle.std.proofs.Common.{◌≡◌, ◌*◌, ◌++◌, ℕ, zero, suc, List, [], ◌∷◌, All, Bool, true, false, cond, not, ◌==◌, Option, Some, None, IsSome, option_map, find, map, nat_eq, eqb-true, refl, sym, ap, ◌∙◌, subst, append_assoc, append-nil}
+use Rattle.std.proofs.Common.{◌≡◌, ◌*◌, ◌++◌, ℕ, zero, suc, List, [], ◌∷◌, All, Bool, true, false, cond, not, ◌==◌, Option, Some, None, IsSome}
+use Rattle.std.proofs.Common.{option_map, find, map, nat_eq, eqb-true, refl, sym, ap, ◌∙◌, subst, append_assoc, append-nil}
 use Rattle.std.proofs.lemmas.Cmp.{nat_eq_equiv, nat_list_eq_equiv}
 use Rattle.std.proofs.lemmas.Slice.Eq.{bytes_eq-Decides}
 use Rattle.std.proofs.lemmas.List.{map-append}
 use Rattle.std.proofs.lemmas.List.Elements.{All-head, All-nil, All-push, All-tail}
 use Rattle.std.proofs.lemmas.List.Folds.{list_any-append}
-use Rattle.std.proofs.lemmas.List.Sorted.{All-permutation, IsPermutation-append_right, IsPermutation-cons, IsPermutation-map, IsPermutation-middle, IsPermutation-refl, IsPermutation-trans}
+use Rattle.std.proofs.lemmas.List.Sorted.{All-permutation, IsPermutation-append_right, IsPermutation-cons, IsPermutation-map}
+use Rattle.std.proofs.lemmas.List.Sorted.{IsPermutation-middle, IsPermutation-refl, IsPermutation-trans}
 use Rattle.std.proofs.lemmas.Map.Keys.{IsDistinct-IsPermutation, IsDistinct-head, IsDistinct-push, IsDistinct-tail}
 use Rattle.std.specs.List.{AllByRecursion, IsDistinct, list_any}
 use Rattle.std.specs.List.Sorted.{IsPermutation}
@@ -20,7 +22,8 @@ use Rattle.verdict_table.proofs.Lent.{extends_front, extends_itself, distinct_fr
 use Rattle.reduce_journal.specs.declared.event.Event.TheVariants.{Recorded, Committed}
 use Rattle.reduce_journal.specs.History.{History, records_of}
 use Rattle.ordered_commit_moves.specs.Replay.{CommitsWhatIsAsked, answered, record_at, replay, replay_from}
-use Rattle.ordered_commit_moves.specs.Moves.{AreMoves, Claims, Commits, CoreState, MayMake, Move, OpenClaim, Records, after_move, after_moves, begun, claims_of_others, is_taken, recorded_as, text_of_worker}
+use Rattle.ordered_commit_moves.specs.Moves.{AreMoves, Claims, Commits, CoreState, MayMake, Move, OpenClaim, Records, after_move}
+use Rattle.ordered_commit_moves.specs.Moves.{after_moves, begun, claims_of_others, is_taken, recorded_as, text_of_worker}
 use Rattle.ordered_commit_moves.specs.Laws.{AnyOrderHolds, HoldsOf, all_texts}
 
 -- ---- histories that grow
@@ -42,19 +45,23 @@ replay_record es p (Recorded a b ∷ h) t v = replay_record (es ++ record { text
 replay_record es p (Committed n ∷ h) t v = replay_record es (answered (record_at n es) p) h t v
 
 -- a commit answers it with the record that it names
-pub replay_commit : (es : List Record) (p : Plan) (h : History) (n : ℕ) → replay_from es p (h ++ Committed n ∷ []) ≡ answered (record_at n (es ++ records_of h)) (replay_from es p h)
+pub replay_commit : (es : List Record) (p : Plan) (h : History) (n : ℕ)
+    → replay_from es p (h ++ Committed n ∷ []) ≡ answered (record_at n (es ++ records_of h)) (replay_from es p h)
 replay_commit es p [] n = ap (λ (rs : List Record). answered (record_at n rs) p) (sym (append-nil es))
 replay_commit es p (Recorded a b ∷ h) n =
     let r : Record = record { text = a; verdict = b } in
-    replay_commit (es ++ r ∷ []) p h n ∙ ap (λ (rs : List Record). answered (record_at n rs) (replay_from (es ++ r ∷ []) p h)) (append_assoc es (r ∷ []) (records_of h))
+    replay_commit (es ++ r ∷ []) p h n ∙ ap (λ (rs : List Record). answered (record_at n rs) (replay_from (es ++ r ∷ []) p h))
+    (append_assoc es (r ∷ []) (records_of h))
 replay_commit es p (Committed m ∷ h) n = replay_commit es (answered (record_at m es) p) h n
 
-pub commits_record : (es : List Record) (p : Plan) (h : History) (t : List ℕ) (v : Verdict) → CommitsWhatIsAsked es p h → CommitsWhatIsAsked es p (h ++ Recorded t v ∷ [])
+pub commits_record : (es : List Record) (p : Plan) (h : History) (t : List ℕ) (v : Verdict) → CommitsWhatIsAsked es p h
+    → CommitsWhatIsAsked es p (h ++ Recorded t v ∷ [])
 commits_record es p [] t v c = tt
 commits_record es p (Recorded a b ∷ h) t v c = commits_record (es ++ record { text = a; verdict = b } ∷ []) p h t v c
 commits_record es p (Committed n ∷ h) t v c = (c.0, c.1, c.2, commits_record es (after p (c.0).verdict) h t v c.3)
 
-pub commits_commit : (es : List Record) (p : Plan) (h : History) (n : ℕ) (r : Record) → CommitsWhatIsAsked es p h → record_at n (es ++ records_of h) ≡ Some r → asked (replay_from es p h) ≡ Some r.text → CommitsWhatIsAsked es p (h ++ Committed n ∷ [])
+pub commits_commit : (es : List Record) (p : Plan) (h : History) (n : ℕ) (r : Record) → CommitsWhatIsAsked es p h → record_at n (es ++ records_of h) ≡ Some r
+    → asked (replay_from es p h) ≡ Some r.text → CommitsWhatIsAsked es p (h ++ Committed n ∷ [])
 commits_commit es p [] n r c at is = (r, ap (record_at n) (sym (append-nil es)) ∙ at, is, tt)
 commits_commit es p (Recorded a b ∷ h) n r c at is =
     let q : Record = record { text = a; verdict = b } in
@@ -72,7 +79,8 @@ extends_at V (q ∷ rs) (suc zero) r at e = let same : q ≡ r = cc at in subst 
 extends_at V (q ∷ rs) (suc (suc n)) r at e = extends_at V rs (suc n) r at e.1
 
 -- a record of later ones, among all
-next_number : (q : Record) (rs : List Record) (t : List ℕ) → ((n : ℕ) × (r : Record) × (record_at n rs ≡ Some r) × (r.text ≡ t)) → (n : ℕ) × (r : Record) × (record_at n (q ∷ rs) ≡ Some r) × (r.text ≡ t)
+next_number : (q : Record) (rs : List Record) (t : List ℕ) → ((n : ℕ) × (r : Record) × (record_at n rs ≡ Some r) × (r.text ≡ t)) → (n : ℕ) × (r : Record)
+    × (record_at n (q ∷ rs) ≡ Some r) × (r.text ≡ t)
 next_number q rs t (zero, r, at, is) = absurd (cc at)
 next_number q rs t (suc n, r, at, is) = (suc (suc n), r, at, is)
 
@@ -96,14 +104,16 @@ others_same w (c ∷ cs) apart =
     rw other (ap (λ (ds : List OpenClaim). c ∷ ds) (others_same w cs apart.1))
 
 -- the claims of a run, with that of this worker first
-taken_at : (w : ℕ) (c : OpenClaim) (cs : List OpenClaim) (t : List ℕ) (b : Bool) → b ≡ nat_eq c.worker w → AllByRecursion (λ y. nat_eq c.worker y ≡ false) (map (λ (d : OpenClaim). d.worker) cs)
+taken_at : (w : ℕ) (c : OpenClaim) (cs : List OpenClaim) (t : List ℕ) (b : Bool) → b ≡ nat_eq c.worker w
+    → AllByRecursion (λ y. nat_eq c.worker y ≡ false) (map (λ (d : OpenClaim). d.worker) cs)
     → option_map (λ (d : OpenClaim). d.text) (cond b (Some c) (find (λ d. d.worker == w) cs)) ≡ Some t
     → (text_of_worker w cs ≡ Some t → IsPermutation cs (record { worker = w; text = t } ∷ claims_of_others w cs))
     → IsPermutation (c ∷ cs) (record { worker = w; text = t } ∷ cond (not b) (c ∷ claims_of_others w cs) (claims_of_others w cs))
 taken_at w c cs t true e apart is later =
     let number : c.worker ≡ w = eqb-true _ _ (sym e) in
     let text : c.text ≡ t = cc is in
-    let others : claims_of_others w cs ≡ cs = others_same w cs (subst (λ (n : ℕ). AllByRecursion (λ y. nat_eq n y ≡ false) (map (λ (d : OpenClaim). d.worker) cs)) number apart) in
+    let others : claims_of_others w cs ≡ cs =
+    others_same w cs (subst (λ (n : ℕ). AllByRecursion (λ y. nat_eq n y ≡ false) (map (λ (d : OpenClaim). d.worker) cs)) number apart) in
     let first : c ≡ record { worker = w; text = t } = λ i. record { worker = number i; text = text i } in
     subst (λ (ds : List OpenClaim). IsPermutation (c ∷ cs) ds) (λ i. first i ∷ sym others i) (IsPermutation-refl (c ∷ cs))
 taken_at w c cs t false e apart is later =
@@ -111,14 +121,16 @@ taken_at w c cs t false e apart is later =
     let others : List OpenClaim = claims_of_others w cs in
     IsPermutation-trans (c ∷ cs) (c ∷ x ∷ others) (x ∷ c ∷ others) (IsPermutation-cons c cs (x ∷ others) (later is)) (IsPermutation-middle (c ∷ []) x others)
 
-taken : (w : ℕ) (cs : List OpenClaim) (t : List ℕ) → IsDistinct nat_eq (map (λ (c : OpenClaim). c.worker) cs) → text_of_worker w cs ≡ Some t → IsPermutation cs (record { worker = w; text = t } ∷ claims_of_others w cs)
+taken : (w : ℕ) (cs : List OpenClaim) (t : List ℕ) → IsDistinct nat_eq (map (λ (c : OpenClaim). c.worker) cs) → text_of_worker w cs ≡ Some t
+    → IsPermutation cs (record { worker = w; text = t } ∷ claims_of_others w cs)
 taken w [] t distinct is = absurd (cc is)
 taken w (c ∷ cs) t distinct is =
     taken_at w c cs t (nat_eq c.worker w) refl (IsDistinct-head nat_eq c.worker (map (λ (d : OpenClaim). d.worker) cs) distinct) is
     (taken w cs t (IsDistinct-tail nat_eq c.worker (map (λ (d : OpenClaim). d.worker) cs) distinct))
 
 -- a worker without a claim is none of those that have one
-unclaimed_at : (w : ℕ) (c : OpenClaim) (found : Option OpenClaim) (b : Bool) → option_map (λ (d : OpenClaim). d.text) (cond b (Some c) found) ≡ None → (b ≡ false) × (option_map (λ (d : OpenClaim). d.text) found ≡ None)
+unclaimed_at : (w : ℕ) (c : OpenClaim) (found : Option OpenClaim) (b : Bool) → option_map (λ (d : OpenClaim). d.text) (cond b (Some c) found) ≡ None
+    → (b ≡ false) × (option_map (λ (d : OpenClaim). d.text) found ≡ None)
 unclaimed_at w c found true none = absurd (cc none)
 unclaimed_at w c found false none = (refl, none)
 
@@ -130,7 +142,8 @@ unclaimed w (c ∷ cs) none =
     rw apart (unclaimed w cs split.1)
 
 -- what is found first is among the list, and passes
-first_at : {X : Type 0} (P : X → Type 0) (p : X → Bool) (x : X) (xs : List X) (y : X) (b : Bool) → b ≡ p x → cond b (Some x) (find p xs) ≡ Some y → All P (x ∷ xs) → (find p xs ≡ Some y → All P xs → P y × (p y ≡ true)) → P y × (p y ≡ true)
+first_at : {X : Type 0} (P : X → Type 0) (p : X → Bool) (x : X) (xs : List X) (y : X) (b : Bool) → b ≡ p x → cond b (Some x) (find p xs) ≡ Some y
+    → All P (x ∷ xs) → (find p xs ≡ Some y → All P xs → P y × (p y ≡ true)) → P y × (p y ≡ true)
 first_at P p x xs y true e is all later = let same : x ≡ y = cc is in (subst P same (All-head P x xs all), ap p (sym same) ∙ sym e)
 first_at P p x xs y false e is all later = later is (All-tail P x xs all)
 
@@ -162,15 +175,22 @@ module _ (first : Plan) (state : CoreState) (run : IsRun first state) where
   -- a text is claimed
   claimed : (workers worker : ℕ) (text : List ℕ) → MayMake workers state (Claims worker text) → IsRun first (after_move state (Claims worker text))
   claimed workers worker text may =
-      let found : MayAsk state.front text × (not (is_taken state text) ≡ true) = first_is (MayAsk state.front) (λ t. not (is_taken state t)) (ahead (2 * workers) state.front) text may.3 (ahead_may state.front [] (2 * workers)) in
+      let found : MayAsk state.front text × (not (is_taken state text) ≡ true) =
+      first_is (MayAsk state.front) (λ t. not (is_taken state t)) (ahead (2 * workers) state.front) text may.3 (ahead_may state.front [] (2 * workers)) in
       let texts : List (List ℕ) = texts_of (records_of state.history) in
       let c : OpenClaim = record { worker = worker; text = text } in
-      let absent : list_any (bytes_eq text) (all_texts state) ≡ false = list_any-append (bytes_eq text) texts (map (λ (d : OpenClaim). d.text) state.claims) ∙ not_true (is_taken state text) found.1 in
-      let more : all_texts (after_move state (Claims worker text)) ≡ all_texts state ++ text ∷ [] = ap (λ (ts : List (List ℕ)). texts ++ ts) (map-append (λ (d : OpenClaim). d.text) state.claims (c ∷ [])) ∙ sym (append_assoc texts (map (λ (d : OpenClaim). d.text) state.claims) (text ∷ [])) in
-      let workers_more : map (λ (d : OpenClaim). d.worker) (state.claims ++ c ∷ []) ≡ map (λ (d : OpenClaim). d.worker) state.claims ++ worker ∷ [] = map-append (λ (d : OpenClaim). d.worker) state.claims (c ∷ []) in
+      let absent : list_any (bytes_eq text) (all_texts state) ≡ false =
+      list_any-append (bytes_eq text) texts (map (λ (d : OpenClaim). d.text) state.claims) ∙ not_true (is_taken state text) found.1 in
+      let more : all_texts (after_move state (Claims worker text)) ≡ all_texts state ++ text ∷ [] =
+      ap (λ (ts : List (List ℕ)). texts ++ ts) (map-append (λ (d : OpenClaim). d.text) state.claims (c ∷ []))
+      ∙ sym (append_assoc texts (map (λ (d : OpenClaim). d.text) state.claims) (text ∷ [])) in
+      let workers_more : map (λ (d : OpenClaim). d.worker) (state.claims ++ c ∷ []) ≡ map (λ (d : OpenClaim). d.worker) state.claims ++ worker ∷ [] =
+      map-append (λ (d : OpenClaim). d.worker) state.claims (c ∷ []) in
       record {
         distinct = rw more (IsDistinct-push nat_list_eq_equiv (all_texts state) text run.distinct absent);
-        one_each = rw workers_more (IsDistinct-push nat_eq_equiv (map (λ (d : OpenClaim). d.worker) state.claims) worker run.one_each (unclaimed worker state.claims may.2));
+        one_each =
+            rw workers_more (IsDistinct-push nat_eq_equiv (map (λ (d : OpenClaim). d.worker) state.claims) worker run.one_each
+            (unclaimed worker state.claims may.2));
         may_ask = rw more (All-push (MayAsk first) (all_texts state) text run.may_ask (run.still_may text found.0));
         commits = run.commits;
         replayed = run.replayed;
@@ -179,25 +199,35 @@ module _ (first : Plan) (state : CoreState) (run : IsRun first state) where
       }
 
   -- a claimed text gets its verdict
-  recorded : (worker : ℕ) (verdict : Verdict) (text : List ℕ) → text_of_worker worker state.claims ≡ Some text → IsRun first (after_move state (Records worker verdict))
+  recorded : (worker : ℕ) (verdict : Verdict) (text : List ℕ) → text_of_worker worker state.claims ≡ Some text
+      → IsRun first (after_move state (Records worker verdict))
   recorded worker verdict text is =
       let r : Record = record { text = text; verdict = verdict } in
       let c : OpenClaim = record { worker = worker; text = text } in
       let others : List OpenClaim = claims_of_others worker state.claims in
       let texts : List (List ℕ) = texts_of (records_of state.history) in
       let shuffled : IsPermutation state.claims (c ∷ others) = taken worker state.claims text run.one_each is in
-      let history : (after_move state (Records worker verdict)).history ≡ state.history ++ Recorded text verdict ∷ [] = ap (λ (o : Option (List ℕ)). state.history ++ recorded_as o verdict) is in
-      let records : records_of (after_move state (Records worker verdict)).history ≡ records_of state.history ++ r ∷ [] = ap records_of history ∙ records_more state.history text verdict in
+      let history : (after_move state (Records worker verdict)).history ≡ state.history ++ Recorded text verdict ∷ [] =
+      ap (λ (o : Option (List ℕ)). state.history ++ recorded_as o verdict) is in
+      let records : records_of (after_move state (Records worker verdict)).history ≡ records_of state.history ++ r ∷ [] =
+      ap records_of history ∙ records_more state.history text verdict in
       let all : all_texts (after_move state (Records worker verdict)) ≡ texts ++ text ∷ map (λ (d : OpenClaim). d.text) others =
       ap (λ (rs : List Record). texts_of rs ++ map (λ (d : OpenClaim). d.text) others) records
       ∙ ap (λ (ts : List (List ℕ)). ts ++ map (λ (d : OpenClaim). d.text) others) (map-append (λ (q : Record). q.text) (records_of state.history) (r ∷ []))
       ∙ append_assoc texts (text ∷ []) (map (λ (d : OpenClaim). d.text) others) in
       let same_texts : IsPermutation (all_texts state) (texts ++ text ∷ map (λ (d : OpenClaim). d.text) others) =
-      IsPermutation-append_right texts (map (λ (d : OpenClaim). d.text) state.claims) (text ∷ map (λ (d : OpenClaim). d.text) others) (IsPermutation-map (λ (d : OpenClaim). d.text) state.claims (c ∷ others) shuffled) in
-      let same_workers : IsPermutation (map (λ (d : OpenClaim). d.worker) state.claims) (worker ∷ map (λ (d : OpenClaim). d.worker) others) = IsPermutation-map (λ (d : OpenClaim). d.worker) state.claims (c ∷ others) shuffled in
+      IsPermutation-append_right texts (map (λ (d : OpenClaim). d.text) state.claims) (text ∷ map (λ (d : OpenClaim). d.text) others)
+      (IsPermutation-map (λ (d : OpenClaim). d.text) state.claims (c ∷ others) shuffled) in
+      let same_workers : IsPermutation (map (λ (d : OpenClaim). d.worker) state.claims) (worker ∷ map (λ (d : OpenClaim). d.worker) others) =
+      IsPermutation-map (λ (d : OpenClaim). d.worker) state.claims (c ∷ others) shuffled in
       record {
-        distinct = rw all (IsDistinct-IsPermutation bytes_eq nat_list_eq_equiv.symm (all_texts state) (texts ++ text ∷ map (λ (d : OpenClaim). d.text) others) same_texts run.distinct);
-        one_each = IsDistinct-tail nat_eq worker (map (λ (d : OpenClaim). d.worker) others) (IsDistinct-IsPermutation nat_eq nat_eq_equiv.symm (map (λ (d : OpenClaim). d.worker) state.claims) (worker ∷ map (λ (d : OpenClaim). d.worker) others) same_workers run.one_each);
+        distinct =
+            rw all (IsDistinct-IsPermutation bytes_eq nat_list_eq_equiv.symm (all_texts state)
+            (texts ++ text ∷ map (λ (d : OpenClaim). d.text) others) same_texts run.distinct);
+        one_each =
+            IsDistinct-tail nat_eq worker (map (λ (d : OpenClaim). d.worker) others)
+            (IsDistinct-IsPermutation nat_eq nat_eq_equiv.symm (map (λ (d : OpenClaim). d.worker) state.claims)
+            (worker ∷ map (λ (d : OpenClaim). d.worker) others) same_workers run.one_each);
         may_ask = rw all (All-permutation (MayAsk first) (all_texts state) (texts ++ text ∷ map (λ (d : OpenClaim). d.text) others) same_texts run.may_ask);
         commits = rw history (commits_record [] first state.history text verdict run.commits);
         replayed = run.replayed ∙ sym (ap (replay first) history ∙ replay_record [] first state.history text verdict);
@@ -206,11 +236,14 @@ module _ (first : Plan) (state : CoreState) (run : IsRun first state) where
       }
 
   -- the front is answered with a record
-  committed : (number : ℕ) (r : Record) → record_at number (records_of state.history) ≡ Some r → asked state.front ≡ Some r.text → IsRun first (after_move state (Commits number))
+  committed : (number : ℕ) (r : Record) → record_at number (records_of state.history) ≡ Some r → asked state.front ≡ Some r.text
+      → IsRun first (after_move state (Commits number))
   committed number r at is =
       let same : records_of (state.history ++ Committed number ∷ []) ≡ records_of state.history = records_same state.history number in
-      let texts : all_texts (after_move state (Commits number)) ≡ all_texts state = ap (λ (rs : List Record). texts_of rs ++ map (λ (d : OpenClaim). d.text) state.claims) same in
-      let front : answered (record_at number (records_of state.history)) state.front ≡ after state.front r.verdict = ap (λ (o : Option Record). answered o state.front) at in
+      let texts : all_texts (after_move state (Commits number)) ≡ all_texts state =
+      ap (λ (rs : List Record). texts_of rs ++ map (λ (d : OpenClaim). d.text) state.claims) same in
+      let front : answered (record_at number (records_of state.history)) state.front ≡ after state.front r.verdict =
+      ap (λ (o : Option Record). answered o state.front) at in
       record {
         distinct = rw texts run.distinct;
         one_each = run.one_each;
@@ -219,38 +252,54 @@ module _ (first : Plan) (state : CoreState) (run : IsRun first state) where
         replayed = ap (λ (p : Plan). answered (record_at number (records_of state.history)) p) run.replayed ∙ sym (replay_commit [] first state.history number);
         follows = λ V extends.
             let before : Extends V (records_of state.history) = subst (Extends V) same extends in
-            run.follows V before ∙ follow_after V state.front r.verdict r.text is (extends_at V (records_of state.history) number r at before) ∙ ap (follow V) (sym front);
+            run.follows V before ∙ follow_after V state.front r.verdict r.text is (extends_at V (records_of state.history) number r at before)
+            ∙ ap (follow V) (sym front);
         still_may = λ text may. run.still_may text (after_may state.front r.verdict r.text text is (subst (λ (p : Plan). MayAsk p text) front may));
       }
 
   moved : (workers : ℕ) (move : Move) → MayMake workers state move → IsRun first (after_move state move)
   moved workers (Claims worker text) may = claimed workers worker text may
-  moved workers (Records worker verdict) may = let some : (t : List ℕ) × (text_of_worker worker state.claims ≡ Some t) = some_text (text_of_worker worker state.claims) may in recorded worker verdict some.0 some.1
+  moved workers (Records worker verdict) may = let some : (t : List ℕ) × (text_of_worker worker state.claims ≡ Some t) =
+      some_text (text_of_worker worker state.claims) may in recorded worker verdict some.0 some.1
   moved workers (Commits number) may = committed number may.0 may.1 may.2
 
-runs : (workers : ℕ) (first : Plan) (state : CoreState) (moves : List Move) → IsRun first state → AreMoves workers state moves → IsRun first (after_moves state moves)
+runs : (workers : ℕ) (first : Plan) (state : CoreState) (moves : List Move) → IsRun first state → AreMoves workers state moves
+    → IsRun first (after_moves state moves)
 runs workers first state [] run are = run
 runs workers first state (move ∷ moves) run are = runs workers first (after_move state move) moves (moved first state run workers move are.0) are.1
 
 begins : (first : Plan) → IsRun first (begun first)
 unfolding IsDistinct
-begins first = record { distinct = tt; one_each = tt; may_ask = All-nil (MayAsk first); commits = tt; replayed = refl; follows = λ V extends. refl; still_may = λ text may. may }
+begins first =
+    record {
+      distinct = tt;
+      one_each = tt;
+      may_ask = All-nil (MayAsk first);
+      commits = tt;
+      replayed = refl;
+      follows = λ V extends. refl;
+      still_may = λ text may. may;
+    }
 
 -- ---- what holds of a run
 
-unrecorded : (workers : ℕ) (state : CoreState) (text : List ℕ) → asked state.front ≡ Some text → ((number : ℕ) → ¬ (MayMake workers state (Commits number))) → (o : Option Verdict) → verdict_in (records_of state.history) text ≡ o → verdict_in (records_of state.history) text ≡ None
+unrecorded : (workers : ℕ) (state : CoreState) (text : List ℕ) → asked state.front ≡ Some text → ((number : ℕ) → ¬ (MayMake workers state (Commits number)))
+    → (o : Option Verdict) → verdict_in (records_of state.history) text ≡ o → verdict_in (records_of state.history) text ≡ None
 unrecorded workers state text is never None known = known
 unrecorded workers state text is never (Some v) known =
     let at : (n : ℕ) × (r : Record) × (record_at n (records_of state.history) ≡ Some r) × (r.text ≡ text) = numbered (records_of state.history) text v known in
     absurd (never at.0 (at.1, at.2, is ∙ ap (λ (t : List ℕ). Some t) (sym at.3)))
 
-stops : (workers : ℕ) (state : CoreState) → ((number : ℕ) → ¬ (MayMake workers state (Commits number))) → (o : Option (List ℕ)) → asked state.front ≡ o → follow (verdict_in (records_of state.history)) state.front ≡ state.front
+stops : (workers : ℕ) (state : CoreState) → ((number : ℕ) → ¬ (MayMake workers state (Commits number))) → (o : Option (List ℕ)) → asked state.front ≡ o
+    → follow (verdict_in (records_of state.history)) state.front ≡ state.front
 stops workers state never None is = follow_ended (verdict_in (records_of state.history)) state.front is
-stops workers state never (Some text) is = stays (verdict_in (records_of state.history)) state.front text is (unrecorded workers state text is never (verdict_in (records_of state.history) text) refl)
+stops workers state never (Some text) is =
+    stays (verdict_in (records_of state.history)) state.front text is (unrecorded workers state text is never (verdict_in (records_of state.history) text) refl)
 
 holds : (workers : ℕ) (first : Plan) (state : CoreState) → IsRun first state → HoldsOf workers first state
 holds workers first state run =
-    let recorded : IsDistinct bytes_eq (texts_of (records_of state.history)) = distinct_front bytes_eq (texts_of (records_of state.history)) (map (λ (c : OpenClaim). c.text) state.claims) run.distinct in
+    let recorded : IsDistinct bytes_eq (texts_of (records_of state.history)) =
+    distinct_front bytes_eq (texts_of (records_of state.history)) (map (λ (c : OpenClaim). c.text) state.claims) run.distinct in
     record {
       distinct = run.distinct;
       one_each = run.one_each;
@@ -258,7 +307,9 @@ holds workers first state run =
       legal = record { distinct = recorded; commits = run.commits };
       replayed = run.replayed;
       follows = run.follows;
-      settled = λ never. sym (run.follows (verdict_in (records_of state.history)) (extends_itself (records_of state.history) recorded) ∙ stops workers state never (asked state.front) refl);
+      settled =
+          λ never. sym (run.follows (verdict_in (records_of state.history)) (extends_itself (records_of state.history) recorded)
+          ∙ stops workers state never (asked state.front) refl);
       ended = λ V ended extends. sym (run.follows V extends ∙ follow_ended V state.front ended);
     }
 

@@ -32,4 +32,5 @@ pub record HoldsOf (workers : ℕ) (first : Plan) (state : CoreState) : Type 0 w
 
 -- It holds after every list of moves, of any number of workers.
 abbrev pub AnyOrderHolds : Type 0
-AnyOrderHolds = (workers : ℕ) (first : Plan) (moves : List Move) → AreMoves workers (begun first) moves → HoldsOf workers first (after_moves (begun first) moves)
+AnyOrderHolds =
+    (workers : ℕ) (first : Plan) (moves : List Move) → AreMoves workers (begun first) moves → HoldsOf workers first (after_moves (begun first) moves)

@@ -44,9 +44,11 @@ is_taken state text = list_any (bytes_eq text) (texts_of (records_of state.histo
 abbrev pub next_text : ℕ → CoreState → Option (List ℕ)
 next_text workers state = find (λ text. not (is_taken state text)) (ahead (2 * workers) state.front)
 
--- Which moves may be made: a worker claims the next text if it has no claim; it records if it has one; and a record with the text that the front asks may be committed.
+-- Which moves may be made: a worker claims the next text if it has no claim; it records if it
+-- has one; and a record with the text that the front asks may be committed.
 abbrev pub MayMake : ℕ → CoreState → Move → Type 0
-MayMake workers state (Claims worker text) = (0 < worker) × (worker ≤ workers) × (text_of_worker worker state.claims ≡ None) × (next_text workers state ≡ Some text)
+MayMake workers state (Claims worker text) =
+    (0 < worker) × (worker ≤ workers) × (text_of_worker worker state.claims ≡ None) × (next_text workers state ≡ Some text)
 MayMake workers state (Records worker verdict) = IsSome (text_of_worker worker state.claims)
 MayMake workers state (Commits number) = (r : Record) × (record_at number (records_of state.history) ≡ Some r) × (asked state.front ≡ Some r.text)
 

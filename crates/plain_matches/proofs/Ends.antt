@@ -1,5 +1,6 @@
 -- Where a pattern ends, from where its parts do.
-use Rattle.std.proofs.Common.{◌≡◌, ◌<◌, ◌≤◌, ◌+◌, ◌⊎◌, ◌↔◌, ◌&&◌, inl, inr, ℕ, zero, suc, Bool, false, List, Some, slice_get, slice_index_or, length, refl, sym, ap, ◌∙◌, subst, arith}
+use Rattle.std.proofs.Common.{◌≡◌, ◌<◌, ◌≤◌, ◌+◌, ◌⊎◌, ◌↔◌, ◌&&◌, inl, inr, ℕ, zero, suc, Bool, false, List, Some}
+use Rattle.std.proofs.Common.{slice_get, slice_index_or, length, refl, sym, ap, ◌∙◌, subst, arith}
 use Rattle.std.proofs.lemmas.List.{get_or_past}
 use Rattle.std.proofs.lemmas.Option.{slice_get_within, slice_get-get_or}
 use Rattle.std.proofs.lemmas.Bool.{and_parts, cases_lt}
@@ -54,8 +55,10 @@ module _ (known : ℕ → ℕ → ℕ → Type 0) (K : List ℕ) where
     sound = λ j h. let x = (e j).0 h in (x.0, x.1, Many.last x.0 j x.2);
   }
 
-  pub begun_next : (p : Pattern) (from all more next : List Bool) → Begun known K p from all → AreEnds known K p all more → IsUnion next all more → Begun known K p from next
-  begun_next p from all more next b e u = record { one = λ i j h s. (in_union next all more u j).1 (inl (b.one i j h s)); sound = λ j h. go j ((in_union next all more u j).0 h) }
+  pub begun_next : (p : Pattern) (from all more next : List Bool) → Begun known K p from all → AreEnds known K p all more → IsUnion next all more
+      → Begun known K p from next
+  begun_next p from all more next b e u =
+      record { one = λ i j h s. (in_union next all more u j).1 (inl (b.one i j h s)); sound = λ j h. go j ((in_union next all more u j).0 h) }
     where
       go : (j : ℕ) → IsIn all j ⊎ IsIn more j → (i : ℕ) × IsIn from i × SpansBy known K (Pattern.plus p) i j
       go j (inl h) = b.sound j h

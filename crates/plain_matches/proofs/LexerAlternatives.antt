@@ -12,13 +12,15 @@ module _ (G : List LexerRule) (K : List ℕ) where
   abbrev pub From : List LexTerms → ℕ → Type 0
   From items i = MatchesRule G (lexer_alts (map lex_terms (drop i items))) K
 
-  first_of : (items : List LexTerms) (i : ℕ) (x : LexTerms) → i < length items → x ≡ get_or items i x → lexer_alts (map lex_terms (drop i items)) ≡ LexerAlts.or (lexer_seq (lex_terms x)) (lexer_alts (map lex_terms (drop (i + 1) items)))
+  first_of : (items : List LexTerms) (i : ℕ) (x : LexTerms) → i < length items → x ≡ get_or items i x
+      → lexer_alts (map lex_terms (drop i items)) ≡ LexerAlts.or (lexer_seq (lex_terms x)) (lexer_alts (map lex_terms (drop (i + 1) items)))
   first_of items i x h e =
       let d : drop i items ≡ x ∷ drop (suc i) items = drop-cons items i x h ∙ ap (λ z. z ∷ drop (suc i) items) (sym e) in
       let n : suc i ≡ i + 1 = omega arith in
       ap (λ l. lexer_alts (map lex_terms l)) (d ∙ ap (λ m. x ∷ drop m items) n)
 
-  pub this_one : (items : List LexTerms) (i : ℕ) (x : LexTerms) → i < length items → x ≡ get_or items i x → MatchesAlternative G (lexer_seq (lex_terms x)) K → From items i
+  pub this_one : (items : List LexTerms) (i : ℕ) (x : LexTerms) → i < length items → x ≡ get_or items i x → MatchesAlternative G (lexer_seq (lex_terms x)) K
+      → From items i
   this_one items i x h e m =
       let P : LexerAlts → Type 0 = λ a. MatchesRule G a K in
       subst P (sym (first_of items i x h e)) (MatchesRule.by_first (lexer_seq (lex_terms x)) (lexer_alts (map lex_terms (drop (i + 1) items))) K m)
@@ -27,7 +29,8 @@ module _ (G : List LexerRule) (K : List ℕ) where
   later_one s a none (MatchesRule.by_first s' a' w m) = absurd (none m)
   later_one s a none (MatchesRule.by_later s' a' w m) = m
 
-  pub not_this : (items : List LexTerms) (i : ℕ) (x : LexTerms) → i < length items → x ≡ get_or items i x → (MatchesAlternative G (lexer_seq (lex_terms x)) K → ⊥) → From items i ↔ From items (i + 1)
+  pub not_this : (items : List LexTerms) (i : ℕ) (x : LexTerms) → i < length items → x ≡ get_or items i x
+      → (MatchesAlternative G (lexer_seq (lex_terms x)) K → ⊥) → From items i ↔ From items (i + 1)
   not_this items i x h e none =
       let P : LexerAlts → Type 0 = λ a. MatchesRule G a K in
       let s = lexer_seq (lex_terms x) in

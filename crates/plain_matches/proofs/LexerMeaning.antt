@@ -1,5 +1,6 @@
 -- The pattern of a lexer term spans exactly where the term matches.
-use Rattle.std.proofs.Common.{◌≡◌, ◌≤◌, ◌+◌, ◌⊎◌, ◌↔◌, inl, inr, ℕ, zero, suc, Bool, true, false, List, [], ◌∷◌, ◌++◌, Option, Some, None, slice_get, length, refl, sym, ap, ◌∙◌, subst, arith}
+use Rattle.std.proofs.Common.{◌≡◌, ◌≤◌, ◌+◌, ◌⊎◌, ◌↔◌, inl, inr, ℕ, zero, suc, Bool, true, false, List, [], ◌∷◌, ◌++◌}
+use Rattle.std.proofs.Common.{Option, Some, None, slice_get, length, refl, sym, ap, ◌∙◌, subst, arith}
 use Rattle.std.specs.List.{Contains}
 use Rattle.std.specs.Option.{option_map}
 use Rattle.std.proofs.lemmas.Option.{slice_get-map}
@@ -42,7 +43,8 @@ module _ (rules : List WrittenRule) (K : List ℕ) where
 
   text_complete : (t : List ℕ) (i j : ℕ) → Reads K i j t → Spans B K (spelled_text t) i j
   text_complete [] i j e = let P : ℕ → Type 0 = λ n. Spans B K Pattern.empty i n in subst P e (Spans.by_empty i)
-  text_complete (c ∷ t) i j (g, h) = Spans.by_seq (Pattern.one ((c, c) ∷ [])) (spelled_text t) i (suc i) j (Spans.by_one ((c, c) ∷ []) c i g (one_itself c)) (text_complete t (suc i) j h)
+  text_complete (c ∷ t) i j (g, h) =
+      Spans.by_seq (Pattern.one ((c, c) ∷ [])) (spelled_text t) i (suc i) j (Spans.by_one ((c, c) ∷ []) c i g (one_itself c)) (text_complete t (suc i) j h)
 
   -- a rule of the name is known to span that part
   abbrev Named : List WrittenRule → ℕ → List ℕ → ℕ → ℕ → Type 0
@@ -59,9 +61,11 @@ module _ (rules : List WrittenRule) (K : List ℕ) where
   named_sound : (rest : List WrittenRule) (p : ℕ) (n : List ℕ) (i j : ℕ) → SpansBy Known K (named_from p rest n) i j → Named rest p n i j
   named_sound [] p n i j h = absurd h
   named_sound (WrittenRule.parser_rule x ∷ rest) p n i j h = later (WrittenRule.parser_rule x) rest p n i j (named_sound rest (suc p) n i j h)
-  named_sound (WrittenRule.lexer_rule x ∷ rest) p n i j h = go (in_either (same_text x.name n) (Pattern.rule p) (named_from (suc p) rest n) i j h) (λ s. named_sound rest (suc p) n i j s)
+  named_sound (WrittenRule.lexer_rule x ∷ rest) p n i j h =
+      go (in_either (same_text x.name n) (Pattern.rule p) (named_from (suc p) rest n) i j h) (λ s. named_sound rest (suc p) n i j s)
     where
-      go : ((same_text x.name n ≡ true) × Known p i j) ⊎ SpansBy Known K (named_from (suc p) rest n) i j → (SpansBy Known K (named_from (suc p) rest n) i j → Named rest (suc p) n i j) → Named (WrittenRule.lexer_rule x ∷ rest) p n i j
+      go : ((same_text x.name n ≡ true) × Known p i j) ⊎ SpansBy Known K (named_from (suc p) rest n) i j
+          → (SpansBy Known K (named_from (suc p) rest n) i j → Named rest (suc p) n i j) → Named (WrittenRule.lexer_rule x ∷ rest) p n i j
       go (inl (e, k)) f = let P : ℕ → Type 0 = λ m. Known m i j in (0, x, refl, (bytes_eq-Decides x.name n).0 e, subst P (omega arith) k)
       go (inr s) f = later (WrittenRule.lexer_rule x) rest p n i j (f s)
 
@@ -73,7 +77,8 @@ module _ (rules : List WrittenRule) (K : List ℕ) where
   of_first true p q i j e h = Spans.by_left p q i j h
   of_first false p q i j e h = absurd (cc)
 
-  named_complete : (rest : List WrittenRule) (p : ℕ) (n : List ℕ) (i j q : ℕ) (rule : LexerRule) → slice_get rest q ≡ Some (WrittenRule.lexer_rule rule) → rule.name ≡ n →
+  named_complete : (rest : List WrittenRule) (p : ℕ) (n : List ℕ) (i j q : ℕ) (rule : LexerRule) → slice_get rest q ≡ Some (WrittenRule.lexer_rule rule)
+      → rule.name ≡ n →
       Spans B K (Pattern.rule (p + q)) i j → Spans B K (named_from p rest n) i j
   named_complete [] p n i j q rule e d h = absurd (cc)
   named_complete (WrittenRule.parser_rule x ∷ rest) p n i j zero rule e d h = absurd (cc)
@@ -82,7 +87,8 @@ module _ (rules : List WrittenRule) (K : List ℕ) where
   named_complete (WrittenRule.lexer_rule x ∷ rest) p n i j zero rule e d h =
       let same : x ≡ rule = cc in
       let P : ℕ → Type 0 = λ k. Spans B K (Pattern.rule k) i j in
-      of_first (same_text x.name n) (Pattern.rule p) (named_from (suc p) rest n) i j ((bytes_eq-Decides x.name n).1 (ap (λ (r : LexerRule). r.name) same ∙ d)) (subst P (omega arith) h)
+      of_first (same_text x.name n) (Pattern.rule p) (named_from (suc p) rest n) i j ((bytes_eq-Decides x.name n).1 (ap (λ (r : LexerRule). r.name) same ∙ d))
+      (subst P (omega arith) h)
   named_complete (WrittenRule.lexer_rule x ∷ rest) p n i j (suc q) rule e d h =
       let P : ℕ → Type 0 = λ k. Spans B K (Pattern.rule k) i j in
       of_either (same_text x.name n) (Pattern.rule p) (named_from (suc p) rest n) i j (named_complete rest (suc p) n i j q rule e d (subst P (omega arith) h))
@@ -128,7 +134,9 @@ module _ (rules : List WrittenRule) (K : List ℕ) where
         let x = repeated t (SpansBy Known K (spelled rules t)) (λ a b. sound t a b) i j h in (x.0 ++ x.1, x.2, Matches.by_plus t x.0 x.1 x.3 x.4)
     sound (LexerTerm.short s) i j (inl e) = ([], e, Matches.by_short s [] (MatchesMany.by_end (LexerTerm.set s)))
     sound (LexerTerm.short s) i j (inr h) =
-        let x = any_number (LexerTerm.set s) i j (inr (repeated (LexerTerm.set s) (SpansBy Known K (Pattern.one s)) (set_sound s) i j h)) in (x.0, x.1, Matches.by_short s x.0 x.2)
+        let x =
+        any_number (LexerTerm.set s) i j (inr (repeated (LexerTerm.set s) (SpansBy Known K (Pattern.one s)) (set_sound s) i j h)) in
+        (x.0, x.1, Matches.by_short s x.0 x.2)
 
     pub sound_seq : (s : LexerSeq) (i j : ℕ) → SpansBy Known K (spelled_seq rules s) i j → (w : List ℕ) × Reads K i j w × MatchesSeq G s w
     sound_seq LexerSeq.done i j e = ([], e, MatchesSeq.by_done)
@@ -177,7 +185,8 @@ module _ (rules : List WrittenRule) (K : List ℕ) where
         let x = at_of_contains G rule c in
         let y = lexer_place rules x.0 rule x.1 in
         let P : ℕ → Type 0 = λ k. Spans B K (Pattern.rule k) i j in
-        named_complete rules 0 n i j y.0 rule y.1 e (subst P (omega arith) (Spans.by_rule y.0 (spelled_alts rules rule.alts) i j (body_at y.0 rule y.1) (complete_alts m i j r)))
+        named_complete rules 0 n i j y.0 rule y.1 e
+        (subst P (omega arith) (Spans.by_rule y.0 (spelled_alts rules rule.alts) i j (body_at y.0 rule y.1) (complete_alts m i j r)))
     complete (Matches.by_block a w m) i j r = complete_alts m i j r
     complete (Matches.by_absent t) i j e = maybe (spelled rules t) i j (inl e)
     complete (Matches.by_present t w m) i j r = maybe (spelled rules t) i j (inr (complete m i j r))

@@ -1,5 +1,6 @@
 -- Positions that are marked.
-use Rattle.std.proofs.Common.{◌≡◌, ◌<◌, ◌⊎◌, ◌↔◌, inl, inr, ℕ, zero, suc, Bool, true, false, ◌||◌, List, [], ◌∷◌, length, slice_index_or, IsTrue, refl, sym, ap, ◌∙◌, subst, arith}
+use Rattle.std.proofs.Common.{◌≡◌, ◌<◌, ◌⊎◌, ◌↔◌, inl, inr, ℕ, zero, suc, Bool, true, false, ◌||◌, List, [], ◌∷◌}
+use Rattle.std.proofs.Common.{length, slice_index_or, IsTrue, refl, sym, ap, ◌∙◌, subst, arith}
 use Rattle.std.proofs.lemmas.Bool.{or_cases, or_left, or_right}
 use Rattle.plain_matches.specs.Positions.{IsIn}
 
@@ -50,7 +51,8 @@ pub tells : (P : Type 0) (marks : List Bool) (i : ℕ) (b : Bool) → i < length
 tells P marks i b h e f = (λ t. f.0 (marked_at marks i b h e ∙ t), λ p. sym (marked_at marks i b h e) ∙ f.1 p)
 
 -- what is reached from the first position alone
-pub from_first : (S : ℕ → ℕ → Type 0) (from ends : List Bool) → ((j : ℕ) → IsIn from j ↔ (j ≡ 0)) → ((j : ℕ) → IsIn ends j ↔ ((i : ℕ) × IsIn from i × S i j)) → (j : ℕ) → IsIn ends j ↔ S 0 j
+pub from_first : (S : ℕ → ℕ → Type 0) (from ends : List Bool) → ((j : ℕ) → IsIn from j ↔ (j ≡ 0)) → ((j : ℕ) → IsIn ends j ↔ ((i : ℕ) × IsIn from i × S i j))
+    → (j : ℕ) → IsIn ends j ↔ S 0 j
 from_first S from ends only e j = (
   λ h. let x = (e j).0 h in let P : ℕ → Type 0 = λ n. S n j in subst P ((only x.0).0 x.1) x.2,
   λ s. (e j).1 (0, (only 0).1 refl, s),

@@ -1,5 +1,6 @@
 -- Rows that are related, position by position, and rows that are added.
-use Rattle.std.proofs.Common.{◌≡◌, ◌<◌, ◌≤◌, ◌+◌, ◌⊎◌, inl, inr, ℕ, zero, suc, List, [], ◌∷◌, ◌++◌, length, vec_len, get_or, append_assoc, refl, sym, ap, ◌∙◌, subst, arith}
+use Rattle.std.proofs.Common.{◌≡◌, ◌<◌, ◌≤◌, ◌+◌, ◌⊎◌, inl, inr, ℕ, zero, suc, List, [], ◌∷◌, ◌++◌, length}
+use Rattle.std.proofs.Common.{vec_len, get_or, append_assoc, refl, sym, ap, ◌∙◌, subst, arith}
 use Rattle.std.specs.List.{Contains}
 use Rattle.std.proofs.lemmas.List.{append-nil}
 use Rattle.std.proofs.lemmas.Bool.{cases_lt}
@@ -77,14 +78,16 @@ abbrev pub total : List Row → ℕ
 total [] = 0
 total (x ∷ xs) = unmarked x.ends.items + total xs
 
-pub total_falls : (R : Row → Row → Type 0) → ((x y : Row) → R x y → (y.ends.items ≡ x.ends.items) ⊎ (unmarked y.ends.items < unmarked x.ends.items)) → (xs ys : List Row) → Pairs R xs ys →
+pub total_falls : (R : Row → Row → Type 0) → ((x y : Row) → R x y → (y.ends.items ≡ x.ends.items) ⊎ (unmarked y.ends.items < unmarked x.ends.items))
+    → (xs ys : List Row) → Pairs R xs ys →
     (Pairs SameEnds xs ys × (total ys ≡ total xs)) ⊎ (total ys < total xs)
 total_falls R f [] [] h = inl (tt, refl)
 total_falls R f [] (y ∷ ys) h = absurd h
 total_falls R f (x ∷ xs) [] h = absurd h
 total_falls R f (x ∷ xs) (y ∷ ys) h = go (f x y h.0) (total_falls R f xs ys h.1)
   where
-    go : (y.ends.items ≡ x.ends.items) ⊎ (unmarked y.ends.items < unmarked x.ends.items) → (Pairs SameEnds xs ys × (total ys ≡ total xs)) ⊎ (total ys < total xs) →
+    go : (y.ends.items ≡ x.ends.items) ⊎ (unmarked y.ends.items < unmarked x.ends.items) → (Pairs SameEnds xs ys × (total ys ≡ total xs))
+        ⊎ (total ys < total xs) →
         (Pairs SameEnds (x ∷ xs) (y ∷ ys) × (total (y ∷ ys) ≡ total (x ∷ xs))) ⊎ (total (y ∷ ys) < total (x ∷ xs))
     go (inl e) (inl (p, q)) = inl ((sym e, p), omega (arith, ap unmarked e, q))
     go (inl e) (inr q) = inr (omega (arith, ap unmarked e, q))
@@ -99,9 +102,11 @@ split i n k = go (cases_lt i n)
     go (inr h) = inr (omega (arith, k, h))
 
 pub adds_none : (rows : List Row) (rule count : ℕ) → AddsRows rows rows rule count 0
-adds_none rows rule count = record { added = []; appended = sym (append-nil rows); blank = λ row c. absurd (in_none row c); all = λ i h. absurd (omega (arith, h)) }
+adds_none rows rule count =
+    record { added = []; appended = sym (append-nil rows); blank = λ row c. absurd (in_none row c); all = λ i h. absurd (omega (arith, h)) }
 
-pub adds_more : (old rows : List Row) (rule count done : ℕ) (row : Row) → AddsRows old rows rule count done → row.rule ≡ rule → vec_len row.ends ≡ count → row.start ≡ done → done < count →
+pub adds_more : (old rows : List Row) (rule count done : ℕ) (row : Row) → AddsRows old rows rule count done → row.rule ≡ rule → vec_len row.ends ≡ count
+    → row.start ≡ done → done < count →
     ((j : ℕ) → IsIn row.ends.items j → ⊥) → AddsRows old (rows ++ row ∷ []) rule count (done + 1)
 adds_more old rows rule count done row a r l s h none = record {
   added = a.added ++ row ∷ [];
@@ -110,7 +115,8 @@ adds_more old rows rule count done row a r l s h none = record {
   all = λ i k. all i k;
 }
   where
-    blank : (x : Row) → Contains a.added x ⊎ Contains (row ∷ []) x → (x.rule ≡ rule) × (vec_len x.ends ≡ count) × (x.start < count) × ((j : ℕ) → IsIn x.ends.items j → ⊥)
+    blank : (x : Row) → Contains a.added x ⊎ Contains (row ∷ []) x → (x.rule ≡ rule) × (vec_len x.ends ≡ count) × (x.start < count)
+        × ((j : ℕ) → IsIn x.ends.items j → ⊥)
     blank x (inl c) = a.blank x c
     blank x (inr c) =
         let P : Row → Type 0 = λ z. (z.rule ≡ rule) × (vec_len z.ends ≡ count) × (z.start < count) × ((j : ℕ) → IsIn z.ends.items j → ⊥) in
@@ -149,7 +155,8 @@ pub blank_none : IsBlank []
 blank_none row c = absurd (in_none row c)
 
 pub blank_more : (old new : List Row) (rule count : ℕ) → IsBlank old → AddsRows old new rule count count → IsBlank new
-blank_more old new rule count o a = let P : List Row → Type 0 = λ l. IsBlank l in subst P (sym a.appended) (λ row c. blank row (Contains-append_cases old a.added row c))
+blank_more old new rule count o a = let P : List Row → Type 0 =
+    λ l. IsBlank l in subst P (sym a.appended) (λ row c. blank row (Contains-append_cases old a.added row c))
   where
     blank : (row : Row) → Contains old row ⊎ Contains a.added row → (j : ℕ) → IsIn row.ends.items j → ⊥
     blank row (inl c) = o row c

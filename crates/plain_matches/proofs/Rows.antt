@@ -67,7 +67,8 @@ module _ (rows : List Row) (i : ℕ) (row : Row) (r : ℕ) (from to : List Bool)
       back a f (inr (p, q, m)) = (u j).1 (inr m)
 
   pub reached_same : (row.rule ≡ r → IsIn from row.start → ⊥) → Reached (take i rows) r from to → Reached (take (i + 1) rows) r from to
-  reached_same none b j = (λ p. let x = (b j).0 p in (x.0, x.1, (known_more rows i row r x.0 j h e).1 (inl x.2)), λ (a, f, k). back a f ((known_more rows i row r a j h e).0 k))
+  reached_same none b j =
+      (λ p. let x = (b j).0 p in (x.0, x.1, (known_more rows i row r x.0 j h e).1 (inl x.2)), λ (a, f, k). back a f ((known_more rows i row r a j h e).0 k))
     where
       back : (a : ℕ) → IsIn from a → Known (take i rows) r a j ⊎ ((row.rule ≡ r) × (row.start ≡ a) × IsIn row.ends.items j) → IsIn to j
       back a f (inl k) = (b j).1 (a, f, k)

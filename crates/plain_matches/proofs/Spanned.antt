@@ -19,7 +19,8 @@ module _ (bodies : List Pattern) (K : List ℕ) where
   pub spans_from : (known : ℕ → ℕ → ℕ → Type 0) → Sound known → (p : Pattern) (i j : ℕ) → SpansBy known K p i j → Spans bodies K p i j
   spans_from known s Pattern.never i j h = absurd h
   spans_from known s Pattern.empty i j h = let P : ℕ → Type 0 = λ n. Spans bodies K Pattern.empty i n in subst P h (Spans.by_empty i)
-  spans_from known s (Pattern.one ranges) i j (k, g, h, e) = let P : ℕ → Type 0 = λ n. Spans bodies K (Pattern.one ranges) i n in subst P e (Spans.by_one ranges k i g h)
+  spans_from known s (Pattern.one ranges) i j (k, g, h, e) = let P : ℕ → Type 0 =
+      λ n. Spans bodies K (Pattern.one ranges) i n in subst P e (Spans.by_one ranges k i g h)
   spans_from known s (Pattern.rule r) i j h = s r i j h
   spans_from known s (Pattern.seq p q) i j (m, h, k) = Spans.by_seq p q i m j (spans_from known s p i m h) (spans_from known s q m j k)
   spans_from known s (Pattern.alt p q) i j (inl h) = Spans.by_left p q i j (spans_from known s p i j h)
@@ -29,7 +30,8 @@ module _ (bodies : List Pattern) (K : List ℕ) where
   abbrev pub Closed : (ℕ → ℕ → ℕ → Type 0) → Type 0
   Closed known = (r : ℕ) (p : Pattern) (i j : ℕ) → i ≤ length K → slice_get bodies r ≡ Some p → SpansBy known K p i j → known r i j
 
-  pub spans_of : (known : ℕ → ℕ → ℕ → Type 0) → Closed known → {p : Pattern} {i j : ℕ} → Spans bodies K p i j → i ≤ length K → (j ≤ length K) × SpansBy known K p i j
+  pub spans_of : (known : ℕ → ℕ → ℕ → Type 0) → Closed known → {p : Pattern} {i j : ℕ} → Spans bodies K p i j → i ≤ length K → (j ≤ length K)
+      × SpansBy known K p i j
   spans_of known c (Spans.by_empty i) h = (h, refl)
   spans_of known c (Spans.by_one ranges k i g e) h = (omega (arith, slice_get_within K i k g), (k, g, e, refl))
   spans_of known c (Spans.by_rule r p i j at d) h = let x = spans_of known c d h in (x.0, c r p i j h at x.1)
@@ -42,15 +44,18 @@ module _ (bodies : List Pattern) (K : List ℕ) where
   module _ (rows next : List Row) (grown : Pairs (Grows (Known rows) bodies K) rows next) where
     pub grown_are_rows : (rules count : ℕ) → AreRows rows rules count → AreRows next rules count
     grown_are_rows rules count a = record {
-      fit = λ new c. let x = pairs_old (Grows (Known rows) bodies K) rows next new grown c in let f = a.fit x.0 x.1 in (x.2.len ∙ f.0, omega (arith, x.2.start, f.1));
+      fit = λ new c. let x = pairs_old (Grows (Known rows) bodies K) rows next new grown c in let f =
+          a.fit x.0 x.1 in (x.2.len ∙ f.0, omega (arith, x.2.start, f.1));
       within = λ new c. let x = pairs_old (Grows (Known rows) bodies K) rows next new grown c in omega (arith, x.2.rule, a.within x.0 x.1);
-      all = λ r i h k. let z = a.all r i h k in let y = pairs_new (Grows (Known rows) bodies K) rows next z.0 grown z.1 in (y.0, y.1, y.2.rule ∙ z.2, y.2.start ∙ z.3);
+      all = λ r i h k. let z = a.all r i h k in let y =
+          pairs_new (Grows (Known rows) bodies K) rows next z.0 grown z.1 in (y.0, y.1, y.2.rule ∙ z.2, y.2.start ∙ z.3);
     }
 
     pub grown_sound : Sound (Known rows) → Sound (Known next)
     grown_sound s r i j (new, c, e, d, m) = let x = pairs_old (Grows (Known rows) bodies K) rows next new grown c in go x.0 x.1 x.2 ((x.2.marks j).0 m)
       where
-        go : (old : Row) → Contains rows old → Grows (Known rows) bodies K old new → IsIn old.ends.items j ⊎ BodySpans (Known rows) bodies K old.rule old.start j → Spans bodies K (Pattern.rule r) i j
+        go : (old : Row) → Contains rows old → Grows (Known rows) bodies K old new → IsIn old.ends.items j
+            ⊎ BodySpans (Known rows) bodies K old.rule old.start j → Spans bodies K (Pattern.rule r) i j
         go old oc g (inl h) = s r i j (old, oc, sym g.rule ∙ e, sym g.start ∙ d, h)
         go old oc g (inr (p, at, h)) =
             let P : ℕ → Type 0 = λ n. Spans bodies K (Pattern.rule n) i j in
@@ -60,7 +65,9 @@ module _ (bodies : List Pattern) (K : List ℕ) where
     grown_closed : AreRows rows (length bodies) (length K + 1) → Pairs SameEnds rows next → Closed (Known rows)
     grown_closed a same r p i j h at s =
         let z = a.all r i (slice_get_within bodies r p at) (omega (arith, h)) in
-        let y = pairs_new (λ x y. Grows (Known rows) bodies K x y × SameEnds x y) rows next z.0 (pairs_both (Grows (Known rows) bodies K) SameEnds rows next grown same) z.1 in
+        let y =
+        pairs_new (λ x y. Grows (Known rows) bodies K x y × SameEnds x y) rows next z.0
+        (pairs_both (Grows (Known rows) bodies K) SameEnds rows next grown same) z.1 in
         let P : ℕ → Type 0 = λ n. slice_get bodies n ≡ Some p in
         let Q : ℕ → Type 0 = λ n. SpansBy (Known rows) K p n j in
         let R : List Bool → Type 0 = λ l. IsIn l j in
@@ -79,7 +86,8 @@ module _ (bodies : List Pattern) (K : List ℕ) where
         go (inl x) = absurd (other x.0)
         go (inr h) = h
 
-  pub exact_ends : (rows : List Row) → IsExact rows bodies K (length K + 1) → (p : Pattern) (i j : ℕ) → i ≤ length K → SpansBy (Known rows) K p i j ↔ Spans bodies K p i j
+  pub exact_ends : (rows : List Row) → IsExact rows bodies K (length K + 1) → (p : Pattern) (i j : ℕ) → i ≤ length K → SpansBy (Known rows) K p i j
+      ↔ Spans bodies K p i j
   exact_ends rows e p i j h = (spans_from (Known rows) e.sound p i j, λ d. (spans_of (Known rows) closed d h).1)
     where
       closed : Closed (Known rows)

@@ -12,7 +12,8 @@ pub data Pattern : Type 0 where
   alt : Pattern → Pattern → Pattern
   plus : Pattern → Pattern
 
--- The least relation: in the list the pattern spans from the position i up to the position j, where the rules have these bodies. Positions count from 0, and the position i is before the element i.
+-- The least relation: in the list the pattern spans from the position i up to the position j, where the
+-- rules have these bodies. Positions count from 0, and the position i is before the element i.
 pub data Spans (bodies : List Pattern) (list : List ℕ) : Pattern → ℕ → ℕ → Type 0 where
   by_empty : (i : ℕ) → Spans bodies list Pattern.empty i i
   by_one : (ranges : List (ℕ × ℕ)) (k i : ℕ) → slice_get list i ≡ Some k → has ranges k ≡ true → Spans bodies list (Pattern.one ranges) i (suc i)

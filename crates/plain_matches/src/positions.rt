@@ -37,7 +37,8 @@ pub fn copy(alloc: Global, marks: &[bool]) -> Result<Vec<bool>, Memory>
 pub fn union(alloc: Global, left: &[bool], right: &[bool]) -> Result<Vec<bool>, Memory>
     requires { length left.now ≡ length right.now }
     ensures len { IfOk result (λ marks. vec_len marks ≡ length left.now) }
-    ensures either { IfOk result (λ marks. (j : ℕ) → slice_index_or marks.items j false ≡ (slice_index_or left.now j false || slice_index_or right.now j false)) }
+    ensures either { IfOk result (λ marks. (j : ℕ)
+        → slice_index_or marks.items j false ≡ (slice_index_or left.now j false || slice_index_or right.now j false)) }
 {
     let mut marks = Vec::new(alloc);
     for i in 0..left.len() {
@@ -83,7 +84,8 @@ pub fn steps(
     requires { length from.now ≡ length list.now + 1 }
     ensures len { IfOk result (λ to. vec_len to ≡ length from.now) }
     ensures first { IfOk result (λ to. slice_index_or to.items 0 false ≡ false) }
-    ensures rest { IfOk result (λ to. (k : ℕ) → k < length list.now → slice_index_or to.items (k + 1) false ≡ (slice_index_or from.now k false && has ranges.now (slice_index_or list.now k 0))) }
+    ensures rest { IfOk result (λ to. (k : ℕ) → k < length list.now
+        → slice_index_or to.items (k + 1) false ≡ (slice_index_or from.now k false && has ranges.now (slice_index_or list.now k 0))) }
 {
     let mut to = Vec::new(alloc);
     to.push(false)?;

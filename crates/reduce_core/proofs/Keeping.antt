@@ -1,5 +1,6 @@
 -- What is kept of a list.
-use Rattle.std.proofs.Common.{◌≡◌, ◌+◌, ◌<◌, ◌≤◌, ◌++◌, ◌∙◌, sym, append_assoc, ℕ, suc, zero, Bool, true, false, List, [], ◌∷◌, refl, ap, drop, get_or, length, replicate, arith}
+use Rattle.std.proofs.Common.{◌≡◌, ◌+◌, ◌<◌, ◌≤◌, ◌++◌, ◌∙◌, sym, append_assoc, ℕ, suc, zero, Bool, true, false}
+use Rattle.std.proofs.Common.{List, [], ◌∷◌, refl, ap, drop, get_or, length, replicate, arith}
 use Rattle.list_ddmin.specs.ListStep.{kept_of}
 use Rattle.reduce_core.specs.declared.lines.Line.{Line}
 use Rattle.reduce_core.specs.Lines.{numbers_of, text_of}
@@ -39,7 +40,8 @@ kept_of-dropped (flag ∷ keep) (y ∷ xs) (suc k) d within same is =
     rw next (kept_of-dropped keep xs k d (omega arith) (omega arith) is)
 
 -- one element more on the left, one fewer on the right
-pub pushed-kept : {X : Type 0} (front front' : List X) (keep : List Bool) (xs whole : List X) (k : ℕ) (d : Bool) (x : X) → k < length keep → length keep ≡ length xs
+pub pushed-kept : {X : Type 0} (front front' : List X) (keep : List Bool) (xs whole : List X) (k : ℕ) (d : Bool) (x : X) → k < length keep
+    → length keep ≡ length xs
     → get_or keep k d ≡ true → x ≡ get_or xs k x → front' ≡ front ++ x ∷ [] → front ++ kept_of (drop k keep) (drop k xs) ≡ whole
     → front' ++ kept_of (drop (k + 1) keep) (drop (k + 1) xs) ≡ whole
 pushed-kept front front' keep xs whole k d x within same is element pushed before =
@@ -50,7 +52,8 @@ pushed-kept front front' keep xs whole k d x within same is element pushed befor
     ∙ before
 
 -- the same for the texts of lines
-pub joined-kept : (front front' : List ℕ) (keep : List Bool) (lines : List Line) (whole : List ℕ) (k : ℕ) (d : Bool) (line : Line) → k < length keep → length keep ≡ length lines
+pub joined-kept : (front front' : List ℕ) (keep : List Bool) (lines : List Line) (whole : List ℕ) (k : ℕ) (d : Bool) (line : Line) → k < length keep
+    → length keep ≡ length lines
     → get_or keep k d ≡ true → line ≡ get_or lines k line → front' ≡ front ++ line.bytes → front ++ text_of (kept_of (drop k keep) (drop k lines)) ≡ whole
     → front' ++ text_of (kept_of (drop (k + 1) keep) (drop (k + 1) lines)) ≡ whole
 joined-kept front front' keep lines whole k d line within same is element joined before =
@@ -61,8 +64,10 @@ joined-kept front front' keep lines whole k d line within same is element joined
     ∙ before
 
 -- and for their numbers
-pub numbers-kept : (front front' : List ℕ) (keep : List Bool) (lines : List Line) (whole : List ℕ) (k : ℕ) (d : Bool) (line : Line) → k < length keep → length keep ≡ length lines
-    → get_or keep k d ≡ true → line ≡ get_or lines k line → front' ≡ front ++ line.number ∷ [] → front ++ numbers_of (kept_of (drop k keep) (drop k lines)) ≡ whole
+pub numbers-kept : (front front' : List ℕ) (keep : List Bool) (lines : List Line) (whole : List ℕ) (k : ℕ) (d : Bool) (line : Line) → k < length keep
+    → length keep ≡ length lines
+    → get_or keep k d ≡ true → line ≡ get_or lines k line → front' ≡ front ++ line.number ∷ []
+    → front ++ numbers_of (kept_of (drop k keep) (drop k lines)) ≡ whole
     → front' ++ numbers_of (kept_of (drop (k + 1) keep) (drop (k + 1) lines)) ≡ whole
 numbers-kept front front' keep lines whole k d line within same is element pushed before =
     ap (λ f. f ++ numbers_of (kept_of (drop (k + 1) keep) (drop (k + 1) lines))) pushed

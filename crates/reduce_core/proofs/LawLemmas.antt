@@ -26,7 +26,9 @@ follows_lines admits V start =
     let is = sym (lines_are_recursions admits (says_yes V) start) in
     let all = lent.follows_reduction mode V in
     record {
-      ends = λ has. all.ends (subst (λ (r : Reduction (List Line)). HasVerdicts V r.questions) (sym is) has) ∙ ap (λ (r : Reduction (List Line)). End (result_of (line_recursion admits start) r)) is;
+      ends =
+          λ has. all.ends (subst (λ (r : Reduction (List Line)). HasVerdicts V r.questions) (sym is) has)
+          ∙ ap (λ (r : Reduction (List Line)). End (result_of (line_recursion admits start) r)) is;
       defined = λ ended. subst (λ (r : Reduction (List Line)). HasVerdicts V r.questions) is (all.defined ended);
     }
 

@@ -23,7 +23,8 @@ flags-same (asked ∷ question) [] only = absurd only
 flags-same (asked ∷ question) (kept ∷ keep) only = ap (λ n. suc n) (flags-same question keep only.1)
 
 -- fewer flags keep fewer lines
-fewer-lines : (lines : List Line) (question keep : List Bool) → length keep ≡ length lines → KeepsFewer question keep → length (kept_of question lines) < length (kept_of keep lines)
+fewer-lines : (lines : List Line) (question keep : List Bool) → length keep ≡ length lines → KeepsFewer question keep
+    → length (kept_of question lines) < length (kept_of keep lines)
 fewer-lines lines question keep same less =
     let fewer = less.fewer in
     let all = flags-same question keep less.only in

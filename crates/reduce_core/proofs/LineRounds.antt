@@ -25,7 +25,9 @@ module _ (admits : Admits) (start : List ℕ) where
   any_keeps = record {
     start = tt;
     opening = tt;
-    round = λ lines kept. tries_selections (λ (l : List Line). Unit {0}) (λ keep. kept_of keep lines) (λ keep. Done) (length lines) true (λ keep selection. tt) (λ keep remainder. tt);
+    round =
+        λ lines kept. tries_selections (λ (l : List Line). Unit {0}) (λ keep. kept_of keep lines) (λ keep. Done) (length lines) true (λ keep selection. tt)
+        (λ keep remainder. tt);
   }
 
   any_lawful : IsLawful (line_mode input) (λ lines. Unit {0})
@@ -40,11 +42,13 @@ module _ (admits : Admits) (start : List ℕ) where
 
     all-same : (lines : List Line) → rounds_of (line_recursion admits start) verdict lines ≡ rounds_of (recursion_of (line_mode input)) verdict lines
     all-same lines =
-        all_rounds_same (line_mode input) (λ (l : List Line). Unit {0}) any_keeps (λ v. end_at (numbered_lines start)) (line_round admits) verdict refl (λ l kept. round-is l) lines tt
+        all_rounds_same (line_mode input) (λ (l : List Line). Unit {0}) any_keeps (λ v. end_at (numbered_lines start)) (line_round admits) verdict refl
+        (λ l kept. round-is l) lines tt
 
     -- the rounds go by one round and what follows
     pub rounds-step : (lines : List Line) → rounds_of (line_recursion admits start) verdict lines
-        ≡ after_round (line_round admits verdict lines) (next_rounds (λ remaining. rounds_of (line_recursion admits start) verdict remaining) (line_round admits verdict lines))
+        ≡ after_round (line_round admits verdict lines)
+        (next_rounds (λ remaining. rounds_of (line_recursion admits start) verdict remaining) (line_round admits verdict lines))
     rounds-step lines =
         all-same lines
         ∙ goes_by_its_rounds (line_mode input) (λ (l : List Line). Unit {0}) any_lawful verdict lines tt

@@ -1,5 +1,6 @@
 -- The lines of a text, one after another, are the text.
-use Rattle.std.proofs.Common.{◌≡◌, ◌≢◌, ◌+◌, ◌<◌, ℕ, suc, zero, Bool, true, false, List, [], ◌∷◌, refl, ap, ◌∙◌, cond, sym, take, drop, length, arith, append_assoc, ◌++◌, ◌≤◌, inl, inr, ⊎_elim, ◌⊎◌}
+use Rattle.std.proofs.Common.{◌≡◌, ◌≢◌, ◌+◌, ◌<◌, ℕ, suc, zero, Bool, true, false, List, [], ◌∷◌, refl, ap, ◌∙◌, cond, sym}
+use Rattle.std.proofs.Common.{take, drop, length, arith, append_assoc, ◌++◌, ◌≤◌, inl, inr, ⊎_elim, ◌⊎◌}
 use Rattle.std.proofs.lemmas.Bool.{cond_both}
 use Rattle.std.specs.Prelude.{◌==◌, slice_index}
 use Rattle.memchr.specs.Find.{Nowhere, Passes, is_byte}

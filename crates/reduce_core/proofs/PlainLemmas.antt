@@ -1,5 +1,6 @@
 -- The answers of a round: what one more makes of them, and how many can be missing.
-use Rattle.std.proofs.Common.{◌≡◌, ◌≢◌, ◌+◌, ◌<◌, ◌≤◌, ◌⊎◌, ℕ, suc, zero, Bool, true, false, ◌||◌, ◌&&◌, List, [], ◌∷◌, ◌++◌, Some, None, refl, sym, ap, ◌∙◌, append_assoc, cond, length, map, get_or, arith, inl, inr, ⊎_elim, subst}
+use Rattle.std.proofs.Common.{◌≡◌, ◌≢◌, ◌+◌, ◌<◌, ◌≤◌, ◌⊎◌, ℕ, suc, zero, Bool, true, false, ◌||◌, ◌&&◌, List, [], ◌∷◌, ◌++◌, Some, None, refl}
+use Rattle.std.proofs.Common.{sym, ap, ◌∙◌, append_assoc, cond, length, map, get_or, arith, inl, inr, ⊎_elim, subst}
 use Rattle.std.specs.Prelude.{unwrap_or}
 use Rattle.std.specs.Cmp.Lexicographic.{pointwise}
 use Rattle.std.specs.List.{AllByRecursion}
@@ -7,7 +8,8 @@ use Rattle.std.proofs.lemmas.List.{append-nil}
 use Rattle.list_ddmin.specs.ListStep.{Outcome, kept_of, list_step}
 use Rattle.list_ddmin.specs.Machine.{AgreeingMaps, QuestionsFit}
 use Rattle.reduce_core.specs.declared.lines.Line.{Line}
-use Rattle.reduce_rounds.specs.Reduction.{Recursion, Reduction, RoundEnd, after_opening, asks_first, end_at, ends_with, next_rounds, reduction, rounds_of, rounds_within}
+use Rattle.reduce_rounds.specs.Reduction.{Recursion, Reduction, RoundEnd, after_opening, asks_first, end_at}
+use Rattle.reduce_rounds.specs.Reduction.{ends_with, next_rounds, reduction, rounds_of, rounds_within}
 use Rattle.reduce_core.specs.Lines.{numbered_lines, text_of}
 use Rattle.reduce_core.specs.Reduction.{Admits, is_listed, line_recursion, line_round, line_step}
 use Rattle.reduce_core.proofs.LineRounds.{fewer-after-yes, rounds-step, same-without-yes}
@@ -81,14 +83,16 @@ another-no y a true v is so_far = absurd (cc is)
 another-no y true false v is so_far = so_far
 another-no y false false v is so_far = so_far
 
-module _ (verdict : List Bool → Bool) (asked passed : List (List Bool)) (more keep : List Bool) (so_far : is_among passed keep ≡ (is_among asked keep && verdict keep)) where
+module _ (verdict : List Bool → Bool) (asked passed : List (List Bool)) (more keep : List Bool)
+    (so_far : is_among passed keep ≡ (is_among asked keep && verdict keep)) where
   at-keep : pointwise beq more keep ≡ true → verdict keep ≡ verdict more
   at-keep same = ap verdict (sym (same-is more keep same))
 
   more-asked : (is_among (asked ++ more ∷ []) keep && verdict keep) ≡ ((is_among asked keep || pointwise beq more keep) && verdict keep)
   more-asked = ap (λ b. b && verdict keep) (among-more asked more keep)
 
-  by-answer : (answer : Bool) → verdict more ≡ answer → is_among (with_yes answer passed more) keep ≡ ((is_among asked keep || pointwise beq more keep) && verdict keep)
+  by-answer : (answer : Bool) → verdict more ≡ answer
+      → is_among (with_yes answer passed more) keep ≡ ((is_among asked keep || pointwise beq more keep) && verdict keep)
   by-answer true is =
       among-more passed more keep
       ∙ ⊎_elim (λ same. the-same (is_among passed keep) (is_among asked keep) (pointwise beq more keep) (verdict keep) same (at-keep same ∙ is))
@@ -219,7 +223,8 @@ rounds-within-few {T = T} recursion verdict (suc n) state =
     (λ _. rounds-within-few recursion verdict n last.state) (λ _. omega arith) in
     omega arith
 
-pub rounds-few : (admits : Admits) (verdict : List ℕ → Bool) (start : List ℕ) (lines : List Line) → (rounds_of (line_recursion admits start) verdict lines).rounds ≤ suc (length lines)
+pub rounds-few : (admits : Admits) (verdict : List ℕ → Bool) (start : List ℕ) (lines : List Line)
+    → (rounds_of (line_recursion admits start) verdict lines).rounds ≤ suc (length lines)
 unfolding rounds_of
 rounds-few admits verdict start lines = rounds-within-few (line_recursion admits start) verdict (suc (length lines)) lines
 
@@ -240,16 +245,20 @@ module _ (admits : Admits) (verdict : List ℕ → Bool) (start : List ℕ) (lin
   remains : left ≡ end.state
   remains = left_is ∙ ap (λ (p : Outcome). kept_of p.result lines) round_is
 
-  by-parts : (later : Reduction (List Line)) → later ≡ next_rounds go end → record later { questions = texts ++ later.questions; rounds = later.rounds + 1 } ≡ go lines
+  by-parts : (later : Reduction (List Line)) → later ≡ next_rounds go end
+      → record later { questions = texts ++ later.questions; rounds = later.rounds + 1 } ≡ go lines
   by-parts later later_is =
-      (λ i. record (later_is i) { questions = asked i ++ (later_is i).questions; rounds = (later_is i).rounds + 1 }) ∙ sym (rounds-step admits start verdict lines)
+      (λ i. record (later_is i) { questions = asked i ++ (later_is i).questions; rounds = (later_is i).rounds + 1 })
+      ∙ sym (rounds-step admits start verdict lines)
 
   -- a round that left as many was the last one
   pub last-round : length left ≡ length lines → record (ends_with lines false) { questions = texts ++ []; rounds = 0 + 1 } ≡ go lines
   last-round same = ⊎_elim
-      (λ is. absurd (let less : length end.state < length lines = fewer-after-yes admits start verdict lines is in let as_left : length left ≡ length end.state = ap (λ (l : List Line). length l) remains in omega (arith, less, as_left, same)))
+      (λ is. absurd (let less : length end.state < length lines = fewer-after-yes admits start verdict lines is in
+      let as_left : length left ≡ length end.state = ap (λ (l : List Line). length l) remains in omega (arith, less, as_left, same)))
       (λ is. by-parts (ends_with lines false)
-      (ap (λ (l : List Line). ends_with l false) (sym (same-without-yes admits start verdict lines is)) ∙ sym (ap (λ b. cond b (go end.state) (ends_with end.state false)) is)))
+      (ap (λ (l : List Line). ends_with l false) (sym (same-without-yes admits start verdict lines is))
+      ∙ sym (ap (λ b. cond b (go end.state) (ends_with end.state false)) is)))
       (either end.changed)
 
   -- after any other the rounds go on with what is left
@@ -267,10 +276,12 @@ module _ (admits : Admits) (verdict : List ℕ → Bool) (start : List ℕ) wher
   rounds_first = rounds_of (line_recursion admits start) verdict first
 
   -- the reduction asks the lines' text, which is the start
-  asks-start : asks_first start (cond (verdict start) (after_opening (end_at first) rounds_first) (ends_with first true)) ≡ reduction (line_recursion admits start) verdict
+  asks-start : asks_first start (cond (verdict start) (after_opening (end_at first) rounds_first) (ends_with first true)) ≡ reduction
+      (line_recursion admits start) verdict
   unfolding reduction
   asks-start = λ i.
-      asks_first (sym (text-numbered_lines start) i) (cond (verdict (sym (text-numbered_lines start) i)) (after_opening (end_at first) rounds_first) (ends_with first true))
+      asks_first (sym (text-numbered_lines start) i)
+      (cond (verdict (sym (text-numbered_lines start) i)) (after_opening (end_at first) rounds_first) (ends_with first true))
 
   pub reduction-no : verdict start ≡ false → asks_first start (ends_with first true) ≡ reduction (line_recursion admits start) verdict
   reduction-no is = ap (λ b. asks_first start (cond b (after_opening (end_at first) rounds_first) (ends_with first true))) (sym is) ∙ asks-start
@@ -280,7 +291,8 @@ module _ (admits : Admits) (verdict : List ℕ → Bool) (start : List ℕ) wher
 
 -- one keep list more before those that follow
 pub asked-more : (admits : Admits) (lines : List Line) (texts texts' : List (List ℕ)) (keep : List Bool) (keeps : List (List Bool)) (whole : List (List ℕ))
-    → is_listed admits (kept_of keep lines) ≡ true → texts' ≡ texts ++ text_of (kept_of keep lines) ∷ [] → texts ++ texts_asked admits lines (keep ∷ keeps) ≡ whole → texts' ++ texts_asked admits lines keeps ≡ whole
+    → is_listed admits (kept_of keep lines) ≡ true → texts' ≡ texts ++ text_of (kept_of keep lines) ∷ []
+    → texts ++ texts_asked admits lines (keep ∷ keeps) ≡ whole → texts' ++ texts_asked admits lines keeps ≡ whole
 asked-more admits lines texts texts' keep keeps whole listed more before =
     ap (λ ts. ts ++ texts_asked admits lines keeps) more
     ∙ append_assoc texts (text_of (kept_of keep lines) ∷ []) (texts_asked admits lines keeps)

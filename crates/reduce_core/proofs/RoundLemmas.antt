@@ -26,7 +26,8 @@ question-of admits None lines question is = absurd is
 question-of admits (Some keep) lines question is = (keep, refl, is)
 
 module _ (input : LineInput) (lines : List Line) (step : State) where
-  step-is : (keep : List Bool) → list.IsSound step → list.asks step ≡ Some keep → line_trials lines step ≡ Try (kept_of keep lines) (line_trials lines (list.after step true)) (line_trials lines (list.after step false))
+  step-is : (keep : List Bool) → list.IsSound step → list.asks step ≡ Some keep
+      → line_trials lines step ≡ Try (kept_of keep lines) (line_trials lines (list.after step true)) (line_trials lines (list.after step false))
   step-is keep sound is = at_question (λ k. kept_of k lines) (λ k. Done) step keep sound is
 
   pub over-now : (asked : Option Question) → Agrees input.admits lines step asked → is_done (rest_of lines step asked) ≡ not (is_some asked)
@@ -39,9 +40,11 @@ module _ (input : LineInput) (lines : List Line) (step : State) where
   asks-now (Some other) question agrees is =
       let same : other ≡ question = cc is in
       let q = question-of input.admits (list.asks step) lines other agrees.ready in
-      ap (listed_text (line_mode input)) (step-is q.0 agrees.sound q.1) ∙ (λ i. text_if (sym q.2.listed i) (sym q.2.text i)) ∙ ap (λ (x : Question). text_if x.listed x.candidate.text.items) same
+      ap (listed_text (line_mode input)) (step-is q.0 agrees.sound q.1) ∙ (λ i. text_if (sym q.2.listed i) (sym q.2.text i))
+      ∙ ap (λ (x : Question). text_if x.listed x.candidate.text.items) same
 
-  pub short-now : (asked : Option Question) (question : Question) → Agrees input.admits lines step asked → asked ≡ Some question → length question.candidate.text.items ≤ text_limit
+  pub short-now : (asked : Option Question) (question : Question) → Agrees input.admits lines step asked → asked ≡ Some question
+      → length question.candidate.text.items ≤ text_limit
   short-now asked question agrees is =
       let q = question-of input.admits (list.asks step) lines question (subst (IsReady input.admits (list.asks step) lines) is agrees.ready) in
       let shorter = length-text-kept_of q.0 lines in
@@ -78,26 +81,32 @@ module _ (input : LineInput) (lines : List Line) (step : State) where
   ready-asked None (Some question) is = is
   ready-asked (Some keep) (Some question) is = is
 
-  pub agrees-asked : (asked : Option Question) → Agrees input.admits lines step None → IsAsked input.admits (list.asks step) lines asked → Agrees input.admits lines step asked
+  pub agrees-asked : (asked : Option Question) → Agrees input.admits lines step None → IsAsked input.admits (list.asks step) lines asked
+      → Agrees input.admits lines step asked
   agrees-asked asked agrees is = record { sound = agrees.sound; same = agrees.same; limit = agrees.limit; ready = ready-asked (list.asks step) asked is }
 
   pub trials-now : (asked : Option Question) (answer : Bool) → Agrees input.admits lines step asked → IsSome (tried_state (rest_of lines step asked))
       → line_trials lines (list.after step answer) ≡ trials_after (rest_of lines step asked) answer
   trials-now None answer agrees some = absurd (false≢true some)
-  trials-now (Some question) true agrees some = let q = question-of input.admits (list.asks step) lines question agrees.ready in ap (λ t. trials_after t true) (sym (step-is q.0 agrees.sound q.1))
-  trials-now (Some question) false agrees some = let q = question-of input.admits (list.asks step) lines question agrees.ready in ap (λ t. trials_after t false) (sym (step-is q.0 agrees.sound q.1))
+  trials-now (Some question) true agrees some = let q =
+      question-of input.admits (list.asks step) lines question agrees.ready in ap (λ t. trials_after t true) (sym (step-is q.0 agrees.sound q.1))
+  trials-now (Some question) false agrees some = let q =
+      question-of input.admits (list.asks step) lines question agrees.ready in ap (λ t. trials_after t false) (sym (step-is q.0 agrees.sound q.1))
 
   pub kept-now : (asked : Option Question) (answer : Bool) → Agrees input.admits lines step asked → IsSome (tried_state (rest_of lines step asked))
       → kept_of (list.kept (list.after step answer)) lines ≡ state_after (kept_of (list.kept step) lines) (rest_of lines step asked) answer
   kept-now None answer agrees some = absurd (false≢true some)
   kept-now (Some question) true agrees some =
       let q = question-of input.admits (list.asks step) lines question agrees.ready in
-      ap (λ k. kept_of k lines) (keeps_last_yes step q.0 q.1).0 ∙ ap (λ t. state_after (kept_of (list.kept step) lines) t true) (sym (step-is q.0 agrees.sound q.1))
+      ap (λ k. kept_of k lines) (keeps_last_yes step q.0 q.1).0
+      ∙ ap (λ t. state_after (kept_of (list.kept step) lines) t true) (sym (step-is q.0 agrees.sound q.1))
   kept-now (Some question) false agrees some =
       let q = question-of input.admits (list.asks step) lines question agrees.ready in
-      ap (λ k. kept_of k lines) (keeps_last_yes step q.0 q.1).1 ∙ ap (λ t. state_after (kept_of (list.kept step) lines) t false) (sym (step-is q.0 agrees.sound q.1))
+      ap (λ k. kept_of k lines) (keeps_last_yes step q.0 q.1).1
+      ∙ ap (λ t. state_after (kept_of (list.kept step) lines) t false) (sym (step-is q.0 agrees.sound q.1))
 
-  copied-about : (o : Option (List Bool)) (question copy : Question) → IsAbout input.admits o lines question → AreCopies (Some question) (Some copy) → IsAbout input.admits o lines copy
+  copied-about : (o : Option (List Bool)) (question copy : Question) → IsAbout input.admits o lines question → AreCopies (Some question) (Some copy)
+      → IsAbout input.admits o lines copy
   copied-about None question copy is same = is
   copied-about (Some keep) question copy is same = record { text = same.text ∙ is.text; numbers = same.numbers ∙ is.numbers; listed = same.listed ∙ is.listed }
 
@@ -117,7 +126,8 @@ module _ (input : LineInput) (lines : List Line) (step : State) where
 
 -- where a round begins
 pub agrees-begun : (input : LineInput) (lines : List Line) → IsInLimit lines → Agrees input.admits lines (list.start (length lines) true) None
-agrees-begun input lines limit = record { sound = list_follows.IsSound-start (length lines) true; same = starts_with_all (length lines) true; limit = limit; ready = tt }
+agrees-begun input lines limit =
+    record { sound = list_follows.IsSound-start (length lines) true; same = starts_with_all (length lines) true; limit = limit; ready = tt }
 
 pub all-begun : (lines : List Line) → kept_of (list.kept (list.start (length lines) true)) lines ≡ lines
 all-begun lines = ap (λ keep. kept_of keep lines) (keeps_all_at_first (length lines) true) ∙ kept_of-all lines

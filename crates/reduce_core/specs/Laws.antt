@@ -33,16 +33,20 @@ RefusesLinesAtNo = (admits : Admits) (start : List ℕ) → RefusesAtNo (line_pl
 abbrev pub LinesGoByRounds : Type 0
 LinesGoByRounds = (admits : Admits) (start : List ℕ) → GoesByItsRounds (line_recursion admits start) (λ lines. Unit {0})
 
--- A reduction of an admitted start that was not refused ends well: at some of its lines that are admitted and have a yes, and without any one of them those that are left aren't admitted or have a no.
+-- A reduction of an admitted start that was not refused ends well: at some of its lines that are admitted and
+-- have a yes, and without any one of them those that are left aren't admitted or have a no.
 abbrev pub LinesEndMinimal : Type 0
 LinesEndMinimal = (admits : Admits) (V : List ℕ → Option Verdict) (start : List ℕ) → is_listed admits (numbered_lines start) ≡ true
     → (reduction (line_recursion admits start) (says_yes V)).refused ≡ false
     → HasVerdicts V (reduction (line_recursion admits start) (says_yes V)).questions
-    → EndsWell (line_mode (record { admits = admits; start = start })) (AreOfStart (record { admits = admits; start = start })) IsLineEdit V (reduction (line_recursion admits start) (says_yes V)).state
+    → EndsWell (line_mode (record { admits = admits; start = start })) (AreOfStart (record { admits = admits; start = start })) IsLineEdit V
+    (reduction (line_recursion admits start) (says_yes V)).state
 
 -- All that may be asked is some of an admitted start's lines, and admitted.
 abbrev pub AsksCandidates : Type 0
-AsksCandidates = (admits : Admits) (start text : List ℕ) → is_listed admits (numbered_lines start) ≡ true → MayAsk (line_plan admits start) text → IsLineCandidate admits start text
+AsksCandidates =
+    (admits : Admits) (start text : List ℕ) → is_listed admits (numbered_lines start) ≡ true → MayAsk (line_plan admits start) text
+    → IsLineCandidate admits start text
 
 -- Whatever was answered, all that is ahead is some of an admitted start's lines, and admitted.
 abbrev pub AheadAreCandidates : Type 0

@@ -1,4 +1,5 @@
--- The reduction of the lines of a start, as a recursion over a verdict on every text: a state is some of the lines, and a round is one list step over them. A relation says which candidates are admitted.
+-- The reduction of the lines of a start, as a recursion over a verdict on every text: a state is some of the
+-- lines, and a round is one list step over them. A relation says which candidates are admitted.
 use Rattle.std.specs.Prelude.{ℕ, Bool, true, List, length}
 use Rattle.list_ddmin.specs.ListStep.{Outcome, kept_of, list_step}
 use Rattle.reduce_rounds.specs.StateTexts.{StateTexts}
@@ -25,7 +26,8 @@ line_step admits verdict lines = list_step (keep_verdict (line_texts admits) ver
 
 -- A round is that list step, and leaves the lines that remain.
 abbrev pub line_round : Admits → (List ℕ → Bool) → List Line → RoundEnd (List Line)
-line_round admits verdict lines = after_step (line_texts admits) verdict (λ keep. kept_of keep lines) (λ keep. end_at (kept_of keep lines)) (line_step admits verdict lines)
+line_round admits verdict lines =
+    after_step (line_texts admits) verdict (λ keep. kept_of keep lines) (λ keep. end_at (kept_of keep lines)) (line_step admits verdict lines)
 
 -- The reduction of a start in mode `lines`: nothing comes before the rounds.
 abbrev pub line_recursion : Admits → List ℕ → Recursion (List Line)

@@ -1,6 +1,7 @@
 //! What holds of the reducer of lines, for the proofs of callers.
 
-ghost use Rattle.reduce_core.specs.Laws.{AheadAreCandidates, AsksCandidates, FollowsLines, LinesAreRecursions, LinesAreTheText, LinesEndMinimal, LinesGoByRounds, RefusesLinesAtNo};
+ghost use Rattle.reduce_core.specs.Laws.{AheadAreCandidates, AsksCandidates, FollowsLines, LinesAreRecursions};
+ghost use Rattle.reduce_core.specs.Laws.{LinesAreTheText, LinesEndMinimal, LinesGoByRounds, RefusesLinesAtNo};
 
 /// The lines of a text, one after another, are the text.
 pub fn lines_are_the_text()

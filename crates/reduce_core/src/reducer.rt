@@ -33,7 +33,8 @@ pub fn line_reducer<'a, F: Relation>(
     requires { length start.now ≤ text_limit }
     ensures plan { IfOk result (λ reducer. ⟦<Rounds<LineRound<'a, F>> as Step>⟧.plan reducer ≡ line_plan (F.admits guard.now) start.now) }
     ensures first { IfOk result (λ reducer. ⟦<Rounds<LineRound<'a, F>> as Step>⟧.first reducer ≡ line_plan (F.admits guard.now) start.now) }
-    ensures start { IfOk result (λ reducer. IsStart (line_mode (record { admits = F.admits guard.now; start = start.now })) (⟦<Rounds<LineRound<'a, F>> as ReducerStep>⟧.so_far reducer)) }
+    ensures start { IfOk result (λ reducer. IsStart (line_mode (record { admits = F.admits guard.now; start = start.now }))
+        (⟦<Rounds<LineRound<'a, F>> as ReducerStep>⟧.so_far reducer)) }
 {
     let lines = Lines::split(alloc, start)?;
     let units = lines.len() as u64;

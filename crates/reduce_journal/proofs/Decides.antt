@@ -31,8 +31,11 @@ module _ {A V : Type 0} (PA : A → Type 0) (text_a : A → List ℕ) (read_a : 
     sound = λ bytes found e.
         let b = step_ok _ _ _ e in
         let s = first.sound bytes b.0 b.1 in
-        let t = (later b.0.0 s.0).sound b.0.1 found b.2 in
-        (t.0.1, s.1 ∙ (ap (λ a. text_a a ++ b.0.1) (sym t.0.0) ∙ (ap (λ r. text_a (part found.0) ++ r) t.1 ∙ sym (append_assoc (text_a (part found.0)) (tail found.0) found.1))));
+        let t = (later b.0.0 s.0).sound b.0.1 found b.2 in (
+          t.0.1,
+          s.1 ∙ (ap (λ a. text_a a ++ b.0.1) (sym t.0.0)
+              ∙ (ap (λ r. text_a (part found.0) ++ r) t.1 ∙ sym (append_assoc (text_a (part found.0)) (tail found.0) found.1))),
+        );
     torn = λ bytes e. elim (step_err _ _ _ e) [
       | inl h ↦
           let b = first.torn bytes h in
@@ -50,7 +53,8 @@ module _ {A V : Type 0} (PA : A → Type 0) (text_a : A → List ℕ) (read_a : 
             b.1,
             b.2.1,
             b.3,
-            ap (λ a. text_a a ++ tail b.0) b.2.0 ∙ (ap (λ t. text_a h.0.0 ++ t) b.4 ∙ (sym (append_assoc (text_a h.0.0) h.0.1 b.1) ∙ ap (λ bs. bs ++ b.1) (sym s.1))),
+            ap (λ a. text_a a ++ tail b.0) b.2.0 ∙ (ap (λ t. text_a h.0.0 ++ t) b.4
+                ∙ (sym (append_assoc (text_a h.0.0) h.0.1 b.1) ∙ ap (λ bs. bs ++ b.1) (sym s.1))),
           )
     ];
     cut = λ bytes b. elim (cut_apart (text_a (part b.0)) (tail b.0) bytes b.1 b.4) [

@@ -1,5 +1,6 @@
 -- The numbers of a journal are read exactly.
-use Rattle.std.proofs.Common.{◌≡◌, ◌≢◌, inl, inr, ℕ, ◌+◌, ◌-◌, ◌*◌, ◌/◌, ◌%◌, ◌^◌, ◌<◌, ◌≤◌, List, [], ◌∷◌, ◌++◌, Ok, Err, refl, sym, ap, ◌∙◌, subst, arith, append_assoc, append-nil, length, get_or, drop, eqb, leb, true, ◌&&◌}
+use Rattle.std.proofs.Common.{◌≡◌, ◌≢◌, inl, inr, ℕ, ◌+◌, ◌-◌, ◌*◌, ◌/◌, ◌%◌, ◌^◌, ◌<◌, ◌≤◌, List, [], ◌∷◌, ◌++◌, Ok, Err, refl, sym, ap}
+use Rattle.std.proofs.Common.{◌∙◌, subst, arith, append_assoc, append-nil, length, get_or, drop, eqb, leb, true, ◌&&◌}
 use Rattle.std.proofs.lemmas.List.{drop_all, drop_more}
 use Rattle.std.specs.Fmt.{decimal}
 use Rattle.std.specs.Char.{is_ascii_digit}
@@ -93,7 +94,8 @@ module _ (greatest : ℕ) (fits : greatest < 2 ^ 64) where
       record {
         whole = λ rest.
             let not_end = ne_eqb (48 + n % 10) 10 (λ e. omega (arith, e)) in
-            let digit : with_digit greatest (n / 10) (48 + n % 10) ≡ Ok ((n / 10) * 10 + n % 10) = digit_there greatest (n / 10) (n % 10) (omega arith) (omega (arith, p, is)) in
+            let digit : with_digit greatest (n / 10) (48 + n % 10) ≡ Ok ((n / 10) * 10 + n % 10) =
+            digit_there greatest (n / 10) (n % 10) (omega arith) (omega (arith, p, is)) in
             ap (positive_at greatest) (append_assoc digits ((48 + n % 10) ∷ []) rest)
             ∙ (front.whole ((48 + n % 10) ∷ rest) ∙ rw (not_end, digit, is) refl);
         part = λ cut more e some. elim (cut_apart digits ((48 + n % 10) ∷ []) cut more e) [
@@ -108,7 +110,8 @@ module _ (greatest : ℕ) (fits : greatest < 2 ^ 64) where
   reads n p = decimal_by_steps ReadsIf first_digit next_digit n (omega (arith, fits, p)) p
 
   -- what is read with one more digit is the same
-  with_next : (n b next d : ℕ) → IsPositive greatest n → d < 10 → b ≡ 48 + d → next ≡ n * 10 + d → next ≤ greatest → (bytes : List ℕ) → decimal n ++ b ∷ bytes ≡ decimal next ++ bytes
+  with_next : (n b next d : ℕ) → IsPositive greatest n → d < 10 → b ≡ 48 + d → next ≡ n * 10 + d → next ≤ greatest → (bytes : List ℕ)
+      → decimal n ++ b ∷ bytes ≡ decimal next ++ bytes
   with_next n b next d p small byte is most bytes =
       ap (λ c. decimal n ++ c ∷ bytes) byte
       ∙ (sym (append_assoc (decimal n) ((48 + d) ∷ []) bytes)
@@ -300,13 +303,15 @@ pub digits_end : (greatest number : ℕ) (bytes : List ℕ) (i : ℕ) → i < le
 unfolding digits_from
 digits_end greatest number bytes i within ends = ap (digits_from greatest number) (drop_more bytes i 0 within) ∙ rw ends refl
 
-pub digits_next : (greatest number next : ℕ) (bytes : List ℕ) (i : ℕ) → i < length bytes → (get_or bytes i 0 ≡ 10 → ⊥) → with_digit greatest number (get_or bytes i 0) ≡ Ok next
+pub digits_next : (greatest number next : ℕ) (bytes : List ℕ) (i : ℕ) → i < length bytes → (get_or bytes i 0 ≡ 10 → ⊥)
+    → with_digit greatest number (get_or bytes i 0) ≡ Ok next
     → digits_from greatest number (drop i bytes) ≡ digits_from greatest next (drop (i + 1) bytes)
 unfolding digits_from
 digits_next greatest number next bytes i within other is =
     ap (digits_from greatest number) (drop_more bytes i 0 within) ∙ rw (ne_eqb (get_or bytes i 0) 10 other, is) refl
 
-pub digits_stop : (greatest number : ℕ) (mismatch : Mismatch) (bytes : List ℕ) (i : ℕ) → i < length bytes → (get_or bytes i 0 ≡ 10 → ⊥) → with_digit greatest number (get_or bytes i 0) ≡ Err mismatch
+pub digits_stop : (greatest number : ℕ) (mismatch : Mismatch) (bytes : List ℕ) (i : ℕ) → i < length bytes → (get_or bytes i 0 ≡ 10 → ⊥)
+    → with_digit greatest number (get_or bytes i 0) ≡ Err mismatch
     → digits_from greatest number (drop i bytes) ≡ Err mismatch
 unfolding digits_from
 digits_stop greatest number mismatch bytes i within other is =

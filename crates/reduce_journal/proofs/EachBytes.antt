@@ -1,5 +1,6 @@
 -- Each list of bytes lacks the first line, is a journal, or is bad at some offset.
-use Rattle.std.proofs.Common.{◌≡◌, ◌⊎◌, inl, inr, ℕ, zero, suc, ◌+◌, ◌^◌, ◌<◌, List, [], ◌∷◌, ◌++◌, Ok, Err, eqb, length, take, drop, refl, sym, ap, ◌∙◌, subst, arith, append_assoc, length-append}
+use Rattle.std.proofs.Common.{◌≡◌, ◌⊎◌, inl, inr, ℕ, zero, suc, ◌+◌, ◌^◌, ◌<◌, List, [], ◌∷◌, ◌++◌, Ok, Err, eqb, length}
+use Rattle.std.proofs.Common.{take, drop, refl, sym, ap, ◌∙◌, subst, arith, append_assoc, length-append}
 use Rattle.std.specs.Cmp.Lexicographic.{pointwise}
 use Rattle.std.proofs.lemmas.Bool.{both_ways, cases_Bool}
 use Rattle.std.proofs.lemmas.Bool.Decides.{Decides-eqb}
@@ -56,7 +57,8 @@ parts (suc fuel) k bytes less fits =
     (λ e later shorter. let few = few_records k e in parts fuel (records_with k e) later (omega (arith, less, shorter)) (omega (arith, fits, shorter, few)))
     (event_at k bytes) refl
 
-after_head : (bytes rest : List ℕ) → bytes ≡ head ++ rest → Parts 0 rest → ((events : History) × (torn : ℕ) × IsJournalOf bytes events torn) ⊎ ((offset : ℕ) × IsBadAt bytes offset)
+after_head : (bytes rest : List ℕ) → bytes ≡ head ++ rest → Parts 0 rest → ((events : History) × (torn : ℕ) × IsJournalOf bytes events torn)
+    ⊎ ((offset : ℕ) × IsBadAt bytes offset)
 after_head bytes rest begins p =
     let whole : bytes ≡ journal_text p.events ++ p.tail = begins ∙ (ap (λ t. head ++ t) p.whole ∙ sym (append_assoc head (texts p.events) p.tail)) in
     elim p.ends [
@@ -83,7 +85,8 @@ after_head bytes rest begins p =
       )
     ]
 
-pub each_bytes : (bytes : List ℕ) → length bytes < 2 ^ 64 → LacksHead bytes ⊎ (((events : History) × (torn : ℕ) × IsJournalOf bytes events torn) ⊎ ((offset : ℕ) × IsBadAt bytes offset))
+pub each_bytes : (bytes : List ℕ) → length bytes < 2 ^ 64 → LacksHead bytes
+    ⊎ (((events : History) × (torn : ℕ) × IsJournalOf bytes events torn) ⊎ ((offset : ℕ) × IsBadAt bytes offset))
 each_bytes bytes fits =
     let test = pointwise eqb head (take 17 bytes) in
     let is = starts_is Decides-eqb bytes head test refl in

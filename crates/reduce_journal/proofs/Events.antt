@@ -1,5 +1,6 @@
 -- An event of a journal is read exactly.
-use Rattle.std.proofs.Common.{◌≡◌, ◌≢◌, inl, inr, ℕ, ◌+◌, ◌-◌, ◌^◌, ◌<◌, ◌≤◌, List, [], ◌∷◌, ◌++◌, Ok, Err, length, take, drop, replicate, Bool, refl, sym, ap, ◌∙◌, subst, arith, append_assoc, length-append, eqb, ltb}
+use Rattle.std.proofs.Common.{◌≡◌, ◌≢◌, inl, inr, ℕ, ◌+◌, ◌-◌, ◌^◌, ◌<◌, ◌≤◌, List, [], ◌∷◌, ◌++◌, Ok, Err, length, take, drop}
+use Rattle.std.proofs.Common.{replicate, Bool, refl, sym, ap, ◌∙◌, subst, arith, append_assoc, length-append, eqb, ltb}
 use Rattle.std.specs.Prelude.{if◌then◌else◌}
 use Rattle.std.proofs.lemmas.Bool.{cases_Bool, cases_lt, eqb-true, ltb-true, ltb-false, le-ltb, ne_eqb}
 use Rattle.std.proofs.lemmas.List.{take_at, drop_at, take-append-drop, length-take-le, length-replicate, length-drop, drop_all}
@@ -165,7 +166,8 @@ abbrev HasVerdict : Verdict → Event → Type 0
 HasVerdict verdict e = (verdict_of e ≡ verdict) × IsShortRecord e
 
 of_length : (verdict : Verdict) (count : ℕ) → count ≤ text_limit
-    → Decides (λ e. (length (text_of e) ≡ count) × HasVerdict verdict e) (λ e. with_newline (text_of e)) (λ bytes. text_at count bytes >>= λ found. Ok (Recorded found.0 verdict, found.1))
+    → Decides (λ e. (length (text_of e) ≡ count) × HasVerdict verdict e) (λ e. with_newline (text_of e))
+    (λ bytes. text_at count bytes >>= λ found. Ok (Recorded found.0 verdict, found.1))
 of_length verdict count short =
     renamed (HasLength count) with_newline (text_at count) (λ e. (length (text_of e) ≡ count) × HasVerdict verdict e) text_of (λ text. Recorded text verdict)
     has (λ text is. ((is, (refl, omega (arith, is, short))), refl)) (text_decides count)
@@ -190,10 +192,12 @@ record_decides : Decides IsShortRecord record_text record_at
 unfolding record_at
 record_decides =
     after_byte 32 IsShortRecord (λ e. spelled_verdict (verdict_of e) ++ (32 ∷ (ended (length (text_of e)) ++ with_newline (text_of e))))
-    (λ bytes. verdict_at bytes >>= λ verdict. after 32 verdict.1 >>= λ number. number_at text_limit number >>= λ count. text_at count.0 count.1 >>= λ found. Ok (Recorded found.0 verdict.0, found.1))
+    (λ bytes. verdict_at bytes >>= λ verdict. after 32 verdict.1 >>= λ number. number_at text_limit number >>= λ count. text_at count.0 count.1 >>= λ found. Ok
+    (Recorded found.0 verdict.0, found.1))
     (Recorded [] Yes, omega arith)
     (in_order any_verdict spelled_verdict verdict_at IsShortRecord verdict_of (λ e. 32 ∷ (ended (length (text_of e)) ++ with_newline (text_of e)))
-    (λ verdict bytes. after 32 bytes >>= λ number. number_at text_limit number >>= λ count. text_at count.0 count.1 >>= λ found. Ok (Recorded found.0 verdict, found.1))
+    (λ verdict bytes. after 32 bytes >>= λ number. number_at text_limit number >>= λ count. text_at count.0 count.1 >>= λ found. Ok
+    (Recorded found.0 verdict, found.1))
     verdict_decides (λ e p. tt)
     (λ verdict _. after_byte 32 (HasVerdict verdict) (λ e. ended (length (text_of e)) ++ with_newline (text_of e))
     (λ bytes. number_at text_limit bytes >>= λ count. text_at count.0 count.1 >>= λ found. Ok (Recorded found.0 verdict, found.1))
@@ -247,7 +251,8 @@ module _ (records : ℕ) (fits : records < 2 ^ 64) where
   event_back (Committed number) rest p =
       (commit_decides records fits (omega (arith, p.names))).back (Committed number) rest (p.names.0, p.names.1)
 
-  event_sound : (bytes : List ℕ) (found : Event × List ℕ) → event_at records bytes ≡ Ok found → MayFollow records found.0 × (bytes ≡ event_text found.0 ++ found.1)
+  event_sound : (bytes : List ℕ) (found : Event × List ℕ) → event_at records bytes ≡ Ok found → MayFollow records found.0
+      × (bytes ≡ event_text found.0 ++ found.1)
   unfolding event_at
   event_sound [] found e = cc e
   event_sound (b ∷ bytes) found e = elim (cases_Bool (eqb b 82)) [

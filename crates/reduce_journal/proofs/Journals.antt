@@ -1,5 +1,6 @@
 -- Journals: each list of bytes has one history, and a journal that is cut off has the first events.
-use Rattle.std.proofs.Common.{◌≡◌, ◌≢◌, ◌⊎◌, inl, inr, ℕ, suc, ◌+◌, ◌-◌, ◌^◌, ◌<◌, ◌≤◌, List, [], ◌∷◌, ◌++◌, Result, Ok, Err, length, refl, sym, ap, ◌∙◌, subst, arith, append_assoc, append-nil, length-append}
+use Rattle.std.proofs.Common.{◌≡◌, ◌≢◌, ◌⊎◌, inl, inr, ℕ, suc, ◌+◌, ◌-◌, ◌^◌, ◌<◌, ◌≤◌, List, [], ◌∷◌, ◌++◌, Result, Ok, Err}
+use Rattle.std.proofs.Common.{length, refl, sym, ap, ◌∙◌, subst, arith, append_assoc, append-nil, length-append}
 use Rattle.std.proofs.lemmas.List.{append_cancel_left}
 use Rattle.std.specs.List.{flat_map}
 use Rattle.script_gate_trait.specs.declared.gate.Verdict.TheVariants.{Yes, No}
@@ -82,7 +83,8 @@ same_events bytes one other s t p q no_s no_t =
 journal_ends : (bytes : List ℕ) (events : History) (torn : ℕ) (j : IsJournalOf bytes events torn) → ¬ BeginsWithEvent (length (records_of events)) j.tail
 journal_ends bytes events torn j = torn_no_event (length (records_of events)) (length (records_of events)) j.tail j.is_torn
 
-pub one_journal : (bytes : List ℕ) (one other : History) (torn torn_other : ℕ) → IsJournalOf bytes one torn → IsJournalOf bytes other torn_other → (one ≡ other) × (torn ≡ torn_other)
+pub one_journal : (bytes : List ℕ) (one other : History) (torn torn_other : ℕ) → IsJournalOf bytes one torn → IsJournalOf bytes other torn_other → (one ≡ other)
+    × (torn ≡ torn_other)
 one_journal bytes one other torn torn_other p q =
     let is = same_events bytes one other p.tail q.tail p.before q.before (journal_ends bytes one torn p) (journal_ends bytes other torn_other q) in
     (is.0, sym p.torn_bytes ∙ (ap length is.1 ∙ q.torn_bytes))
@@ -139,7 +141,8 @@ equal_histories one other p q e =
 
 -- the first bytes of some events: the first of these events, and a torn tail
 cut_events : (k : ℕ) (events : History) (front back : List ℕ) → AllMayFollow k events → texts events ≡ front ++ back
-    → (read later : History) × (tail : List ℕ) × (events ≡ read ++ later) × AllMayFollow k read × (front ≡ texts read ++ tail) × IsTorn (count_after k read) tail
+    → (read later : History) × (tail : List ℕ) × (events ≡ read ++ later) × AllMayFollow k read × (front ≡ texts read ++ tail)
+    × IsTorn (count_after k read) tail
 cut_events k [] [] back all e = ([], [], [], refl, tt, refl, nothing_torn k)
 cut_events k [] (x ∷ front) back all e = cc e
 cut_events k (a ∷ events) front back all e = elim (cut_apart (event_text a) (texts events) front back e) [
@@ -204,7 +207,8 @@ some_text (Committed number) = omega arith
 
 -- the reader has come one event further
 pub has_more : (bytes : List ℕ) (events : History) (tail : List ℕ) (records : ℕ) (e : Event) (later : List ℕ) → HasEvents bytes events tail
-    → records ≡ length (records_of events) → records < 2 ^ 64 → event_at records tail ≡ Ok (e, later) → HasEvents bytes (events ++ e ∷ []) later × (length later < length tail)
+    → records ≡ length (records_of events) → records < 2 ^ 64 → event_at records tail ≡ Ok (e, later) → HasEvents bytes (events ++ e ∷ []) later
+    × (length later < length tail)
 has_more bytes events tail records e later has count fits found =
     let s = (event_decides records fits).sound tail (e, later) found in
     let may : MayFollow (count_after 0 events) e = subst (λ n. MayFollow n e) (count ∙ sym (count_from_none events)) s.0 in (

@@ -1,5 +1,6 @@
 -- What is tried if all answers are no.
-use Rattle.std.proofs.Common.{◌≡◌, ◌<◌, ◌≤◌, ℕ, zero, suc, inl, inr, ⊎_elim, Bool, true, false, List, [], ◌∷◌, Some, replicate, slice_get, slice_set, refl, sym, ap, ◌∙◌, subst, arith}
+use Rattle.std.proofs.Common.{◌≡◌, ◌<◌, ◌≤◌, ℕ, zero, suc, inl, inr, ⊎_elim, Bool, true, false, List, [], ◌∷◌, Some}
+use Rattle.std.proofs.Common.{replicate, slice_get, slice_set, refl, sym, ap, ◌∙◌, subst, arith}
 use Rattle.list_ddmin.specs.ListStep.{Outcome, kept_count, list_step}
 use Rattle.list_ddmin.specs.Machine.{State, IsSound, Answered, after, kept, start}
 use Rattle.list_ddmin.specs.Asked.{WasAsked}
@@ -27,11 +28,13 @@ get-all (suc len) (suc k) below = get-all len k (omega arith)
 
 remain_of_start : (len : ℕ) (may_be_empty : Bool) → (list_step never len may_be_empty).result ≡ replicate len true
 remain_of_start len may_be_empty =
-    all_remain (list_step never len may_be_empty).questions (start len may_be_empty) (list_step never len may_be_empty).result (IsSound-start len may_be_empty) (follows_list_step never len may_be_empty)
+    all_remain (list_step never len may_be_empty).questions (start len may_be_empty) (list_step never len may_be_empty).result (IsSound-start len may_be_empty)
+    (follows_list_step never len may_be_empty)
     ∙ keeps_all_at_first len may_be_empty
 
 -- where all answers are no, each list with one element fewer is asked
-deletion_asked : (len k : ℕ) (may_be_empty : Bool) → k < len → (may_be_empty ≡ false → 2 ≤ len) → WasAsked (list_step never len may_be_empty).questions (slice_set (replicate len true) k false)
+deletion_asked : (len k : ℕ) (may_be_empty : Bool) → k < len → (may_be_empty ≡ false → 2 ≤ len)
+    → WasAsked (list_step never len may_be_empty).questions (slice_set (replicate len true) k false)
 deletion_asked len k true below two =
     let all : (list_step never len true).result ≡ replicate len true = remain_of_start len true in
     subst (λ keep. WasAsked (list_step never len true).questions (slice_set keep k false)) all
@@ -41,7 +44,8 @@ deletion_asked len k false below two =
     let count : kept_count (replicate len true) ≡ len = kept_count-all len in
     let many : 2 ≤ len = two refl in
     subst (λ keep. WasAsked (list_step never len false).questions (slice_set keep k false)) all
-    ((deletions_asked never len k).1 (subst (λ keep. 2 ≤ kept_count keep) (sym all) (omega arith)) (subst (λ keep. slice_get keep k ≡ Some true) (sym all) (get-all len k below)))
+    ((deletions_asked never len k).1 (subst (λ keep. 2 ≤ kept_count keep) (sym all) (omega arith))
+    (subst (λ keep. slice_get keep k ≡ Some true) (sym all) (get-all len k below)))
 
 module _ {T : Type 0} (state_of : List Bool → T) (next : List Bool → Trials T) where
   tried_if_asked : (questions : List (List Bool)) (step : State) (result : List Bool) → IsSound step → Answered never step questions result
@@ -49,7 +53,8 @@ module _ {T : Type 0} (state_of : List Bool → T) (next : List Bool → Trials 
   tried_if_asked [] step result sound run keep asked = absurd asked
   tried_if_asked (question ∷ questions) step result sound run keep asked =
       subst (λ trials. IsTriedAtNo trials (state_of keep)) (sym (at_question state_of next step question sound run.0))
-      (⊎_elim (λ same. inl (ap state_of same)) (λ later. inr (tried_if_asked questions (after step false) result (IsSound-after step false sound) run.1 keep later)) asked)
+      (⊎_elim (λ same. inl (ap state_of same))
+      (λ later. inr (tried_if_asked questions (after step false) result (IsSound-after step false sound) run.1 keep later)) asked)
 
   tried_at_end : (questions : List (List Bool)) (step : State) (result : List Bool) → IsSound step → Answered never step questions result
       → (state : T) → IsTriedAtNo (next result) state → IsTriedAtNo (list_trials state_of next step) state
@@ -64,6 +69,7 @@ module _ {T : Type 0} (state_of : List Bool → T) (next : List Bool → Trials 
       let o : Outcome = list_step never len may_be_empty in (
         λ k below two. tried_if_asked o.questions (start len may_be_empty) o.result (IsSound-start len may_be_empty) (follows_list_step never len may_be_empty)
             (slice_set (replicate len true) k false) (deletion_asked len k may_be_empty below two),
-        λ state tried. tried_at_end o.questions (start len may_be_empty) o.result (IsSound-start len may_be_empty) (follows_list_step never len may_be_empty) state
+        λ state tried. tried_at_end o.questions (start len may_be_empty) o.result (IsSound-start len may_be_empty)
+            (follows_list_step never len may_be_empty) state
             (subst (λ keep. IsTriedAtNo (next keep) state) (sym (remain_of_start len may_be_empty)) tried),
       )

@@ -41,16 +41,23 @@ module _ {T : Type 0} (texts : StateTexts T) (verdict : List ℕ → Bool) (stat
   ends_from =
       by_steps EndsFrom
       (λ step sound none. record {
-        ends = ap (trials_end texts verdict (state_of (kept step))) (at_end state_of next step none) ∙ ap ending (sym (stops_at_end (keep_verdict texts verdict state_of) step none));
+        ends =
+            ap (trials_end texts verdict (state_of (kept step))) (at_end state_of next step none)
+            ∙ ap ending (sym (stops_at_end (keep_verdict texts verdict state_of) step none));
       })
       (λ step question sound is at_yes at_no. record {
         ends =
-            let y : trials_end texts verdict (state_of question) (list_trials state_of next (after step true)) ≡ ending (rest_of (keep_verdict texts verdict state_of) (after step true)) =
-            subst (λ keep. trials_end texts verdict (state_of keep) (list_trials state_of next (after step true)) ≡ ending (rest_of (keep_verdict texts verdict state_of) (after step true))) (kept_at_yes step question sound is) at_yes.ends in
-            let n : trials_end texts verdict (state_of (kept step)) (list_trials state_of next (after step false)) ≡ ending (rest_of (keep_verdict texts verdict state_of) (after step false)) =
-            subst (λ keep. trials_end texts verdict (state_of keep) (list_trials state_of next (after step false)) ≡ ending (rest_of (keep_verdict texts verdict state_of) (after step false))) (kept_at_no step question sound is) at_no.ends in
+            let y : trials_end texts verdict (state_of question) (list_trials state_of next (after step true)) ≡ ending
+            (rest_of (keep_verdict texts verdict state_of) (after step true)) =
+            subst (λ keep. trials_end texts verdict (state_of keep) (list_trials state_of next (after step true)) ≡ ending
+            (rest_of (keep_verdict texts verdict state_of) (after step true))) (kept_at_yes step question sound is) at_yes.ends in
+            let n : trials_end texts verdict (state_of (kept step)) (list_trials state_of next (after step false)) ≡ ending
+            (rest_of (keep_verdict texts verdict state_of) (after step false)) =
+            subst (λ keep. trials_end texts verdict (state_of keep) (list_trials state_of next (after step false)) ≡ ending
+            (rest_of (keep_verdict texts verdict state_of) (after step false))) (kept_at_no step question sound is) at_no.ends in
             ap (trials_end texts verdict (state_of (kept step))) (at_question state_of next step question sound is)
-            ∙ (first_ends (texts.is_listed (state_of question)) (verdict (texts.text (state_of question))) (texts.text (state_of question)) _ _ (λ answer. rest_of (keep_verdict texts verdict state_of) (after step answer)) y n
+            ∙ (first_ends (texts.is_listed (state_of question)) (verdict (texts.text (state_of question))) (texts.text (state_of question)) _ _
+            (λ answer. rest_of (keep_verdict texts verdict state_of) (after step answer)) y n
             ∙ ap ending (sym (rest_of-after (keep_verdict texts verdict state_of) step question sound is)));
       })
 
@@ -59,6 +66,7 @@ module _ {T : Type 0} (texts : StateTexts T) (verdict : List ℕ → Bool) (stat
 
   pub ends_as_list_step : EndsAsListStep texts verdict state_of next
   ends_as_list_step len may_be_empty =
-      subst (λ keep. trials_end texts verdict (state_of keep) (list_trials state_of next (start len may_be_empty)) ≡ ending (rest_of (keep_verdict texts verdict state_of) (start len may_be_empty)))
+      subst (λ keep. trials_end texts verdict (state_of keep) (list_trials state_of next (start len may_be_empty)) ≡ ending
+      (rest_of (keep_verdict texts verdict state_of) (start len may_be_empty)))
       (keeps_all_at_first len may_be_empty) (ends_as_rest (start len may_be_empty) (IsSound-start len may_be_empty))
       ∙ ap ending (begins_list_step (keep_verdict texts verdict state_of) len may_be_empty).1

@@ -17,7 +17,8 @@ pub fewer_left : (step : State) (question : List Bool) (answer : Bool) → IsSou
 fewer_left step question answer sound is = ((list_left.goes_on (λ keep. true) step question sound is).1 answer).1
 
 module _ {T : Type 0} (state_of : List Bool → T) (next : List Bool → Trials T) where
-  asked-at : (o : Option (List Bool)) (question : List Bool) (over y n : Trials T) → o ≡ Some question → by_question state_of over o y n ≡ Try (state_of question) y n
+  asked-at : (o : Option (List Bool)) (question : List Bool) (over y n : Trials T) → o ≡ Some question
+      → by_question state_of over o y n ≡ Try (state_of question) y n
   asked-at None question over y n is = (cc)
   asked-at (Some other) question over y n is = let same : other ≡ question = cc in λ i. Try (state_of (same i)) y n
 
@@ -30,13 +31,16 @@ module _ {T : Type 0} (state_of : List Bool → T) (next : List Bool → Trials 
   unfolding list_within
   within-more zero zero step sound few few' = refl
   within-more zero (suc m) step sound few few' =
-      by_asked (asks step) (λ o. next (kept step) ≡ by_question state_of (next (kept step)) o (list_within state_of next m (after step true)) (list_within state_of next m (after step false)))
+      by_asked (asks step) (λ o. next (kept step) ≡ by_question state_of (next (kept step)) o (list_within state_of next m (after step true))
+      (list_within state_of next m (after step false)))
       (λ is. refl) (λ question is. absurd (let less = fewer_left step question true sound is in omega arith))
   within-more (suc n) zero step sound few few' =
-      by_asked (asks step) (λ o. by_question state_of (next (kept step)) o (list_within state_of next n (after step true)) (list_within state_of next n (after step false)) ≡ next (kept step))
+      by_asked (asks step) (λ o. by_question state_of (next (kept step)) o (list_within state_of next n (after step true))
+      (list_within state_of next n (after step false)) ≡ next (kept step))
       (λ is. refl) (λ question is. absurd (let less = fewer_left step question true sound is in omega arith))
   within-more (suc n) (suc m) step sound few few' =
-      by_asked (asks step) (λ o. by_question state_of (next (kept step)) o (list_within state_of next n (after step true)) (list_within state_of next n (after step false))
+      by_asked (asks step) (λ o. by_question state_of (next (kept step)) o (list_within state_of next n (after step true))
+      (list_within state_of next n (after step false))
       ≡ by_question state_of (next (kept step)) o (list_within state_of next m (after step true)) (list_within state_of next m (after step false)))
       (λ is. refl)
       (λ question is.

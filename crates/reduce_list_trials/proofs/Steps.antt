@@ -4,7 +4,8 @@ use Rattle.std.proofs.lemmas.List.{length-replicate}
 use Rattle.list_ddmin.specs.ListStep.{kept_count}
 use Rattle.list_ddmin.specs.Machine.{State, IsSound, asks, after, kept, left, start}
 use Rattle.list_ddmin.specs.Asked.{KeepsFewer, IsNothing}
-use Rattle.list_ddmin.proofs.Lent.{IsSound-after, kept_count-all, keeps_last_yes, keeps_all_at_first, asks_fewer, asks_for_nothing_first, only-fewer, only-length}
+use Rattle.list_ddmin.proofs.Lent.{IsSound-after, kept_count-all, keeps_last_yes, keeps_all_at_first}
+use Rattle.list_ddmin.proofs.Lent.{asks_fewer, asks_for_nothing_first, only-fewer, only-length}
 use Rattle.reduce_list_trials.specs.Selections.{IsSelection, IsRemainder}
 use Rattle.reduce_list_trials.specs.inner.Selections.{IsSelectionAt, IsRemainderAt}
 use Rattle.reduce_list_trials.proofs.GoesOn.{by_asked, fewer_left}
@@ -55,7 +56,8 @@ module _ (step : State) (question : List Bool) (sound : IsSound step) (asked : a
   remainder-after false keep is = ⊎_elim (λ same. inl (same ∙ kept_at_no)) (λ less. inr (selection-after false keep less)) is
 
 module _ (len : ℕ) where
-  some_unless_all : (may_be_empty : Bool) (keep : List Bool) → (0 < kept_count keep) ⊎ IsNothing (start len may_be_empty) → may_be_empty ≡ false → 0 < kept_count keep
+  some_unless_all : (may_be_empty : Bool) (keep : List Bool) → (0 < kept_count keep) ⊎ IsNothing (start len may_be_empty) → may_be_empty ≡ false
+      → 0 < kept_count keep
   some_unless_all true keep some is = (cc)
   some_unless_all false keep some is = ⊎_elim (λ more. more) (λ nothing. absurd (asks_for_nothing_first.1 len nothing)) some
 

@@ -10,12 +10,14 @@ use Rattle.reduce_list_trials.specs.inner.Selections.{IsSelectionAt, IsRemainder
 use Rattle.reduce_list_trials.specs.Laws.{BecomesSmaller, SameByKeepLists, TriesSelections}
 use Rattle.reduce_list_trials.specs.inner.Laws.{BecomesSmallerAt, SameByKeepListsAt, TriesSelectionsAt}
 use Rattle.reduce_list_trials.proofs.GoesOn.{at_end, at_question}
-use Rattle.reduce_list_trials.proofs.Steps.{by_steps, kept_at_no, kept_at_yes, remainder-after, remainder-start, selection-after, selection-asked, selection-start}
+use Rattle.reduce_list_trials.proofs.Steps.{by_steps, kept_at_no, kept_at_yes, remainder-after, remainder-start}
+use Rattle.reduce_list_trials.proofs.Steps.{selection-after, selection-asked, selection-start}
 
 -- What a list step tries has P.
 module _ {T : Type 0} (P : T → Type 0) (state_of : List Bool → T) (next : List Bool → Trials T) where
   record AllFrom (step : State) : Type 0 where
-    all : ((keep : List Bool) → IsSelectionAt step keep → P (state_of keep)) → ((keep : List Bool) → IsRemainderAt step keep → AllTried P (next keep)) → AllTried P (list_trials state_of next step)
+    all : ((keep : List Bool) → IsSelectionAt step keep → P (state_of keep)) → ((keep : List Bool) → IsRemainderAt step keep → AllTried P (next keep))
+        → AllTried P (list_trials state_of next step)
 
   all_from : (step : State) → IsSound step → AllFrom step
   all_from =
@@ -25,8 +27,10 @@ module _ {T : Type 0} (P : T → Type 0) (state_of : List Bool → T) (next : Li
         all = λ tried ends. subst (AllTried P) (sym (at_question state_of next step question sound is)) (
           tried question (selection-asked step question sound is),
           (
-            at_yes.all (λ keep less. tried keep (selection-after step question sound is true keep less)) (λ keep rest. ends keep (remainder-after step question sound is true keep rest)),
-            at_no.all (λ keep less. tried keep (selection-after step question sound is false keep less)) (λ keep rest. ends keep (remainder-after step question sound is false keep rest)),
+            at_yes.all (λ keep less. tried keep (selection-after step question sound is true keep less))
+                (λ keep rest. ends keep (remainder-after step question sound is true keep rest)),
+            at_no.all (λ keep less. tried keep (selection-after step question sound is false keep less))
+                (λ keep rest. ends keep (remainder-after step question sound is false keep rest)),
           ),
         );
       })
@@ -45,7 +49,8 @@ module _ {T : Type 0} (size : T → ℕ) (state_of : List Bool → T) (next : Li
   IsRising : ℕ → Type 0
   IsRising len = (question keep : List Bool) → length keep ≡ len → KeepsFewer question keep → size (state_of question) < size (state_of keep)
 
-  by_fewer : (len : ℕ) → IsRising len → (question keep : List Bool) → length keep ≡ len → KeepsFewer question keep → size (state_of question) < size (state_of keep)
+  by_fewer : (len : ℕ) → IsRising len → (question keep : List Bool) → length keep ≡ len → KeepsFewer question keep
+      → size (state_of question) < size (state_of keep)
   unfolding IsRising
   by_fewer len rises question keep same less = rises question keep same less
 
@@ -68,8 +73,10 @@ module _ {T : Type 0} (size : T → ℕ) (state_of : List Bool → T) (next : Li
             subst (EachIsSmaller size (size (state_of (kept step)))) (sym (at_question state_of next step question sound is)) (
               by_fewer (length (kept step)) rises question (kept step) refl (asks_fewer step question sound is).0,
               (
-                subst (λ keep. EachIsSmaller size (size (state_of keep)) (list_trials state_of next (after step true))) (kept_at_yes step question sound is) after_yes,
-                subst (λ keep. EachIsSmaller size (size (state_of keep)) (list_trials state_of next (after step false))) (kept_at_no step question sound is) after_no,
+                subst (λ keep. EachIsSmaller size (size (state_of keep)) (list_trials state_of next (after step true)))
+                    (kept_at_yes step question sound is) after_yes,
+                subst (λ keep. EachIsSmaller size (size (state_of keep)) (list_trials state_of next (after step false)))
+                    (kept_at_no step question sound is) after_no,
               ),
             );
       })
@@ -89,7 +96,8 @@ module _ {T : Type 0} (size : T → ℕ) (state_of : List Bool → T) (next : Li
 -- Trials by the same states are the same.
 module _ {T : Type 0} (state_of state_of' : List Bool → T) (next next' : List Bool → Trials T) where
   record SameFrom (step : State) : Type 0 where
-    same : ((keep : List Bool) → IsSelectionAt step keep → state_of keep ≡ state_of' keep) → ((keep : List Bool) → IsRemainderAt step keep → next keep ≡ next' keep)
+    same : ((keep : List Bool) → IsSelectionAt step keep → state_of keep ≡ state_of' keep)
+        → ((keep : List Bool) → IsRemainderAt step keep → next keep ≡ next' keep)
         → list_trials state_of next step ≡ list_trials state_of' next' step
 
   same_from : (step : State) → IsSound step → SameFrom step
@@ -101,8 +109,12 @@ module _ {T : Type 0} (state_of state_of' : List Bool → T) (next next' : List 
       (λ step question sound is at_yes at_no. record {
         same = λ states ends.
             let here = states question (selection-asked step question sound is) in
-            let y = at_yes.same (λ keep less. states keep (selection-after step question sound is true keep less)) (λ keep rest. ends keep (remainder-after step question sound is true keep rest)) in
-            let n = at_no.same (λ keep less. states keep (selection-after step question sound is false keep less)) (λ keep rest. ends keep (remainder-after step question sound is false keep rest)) in
+            let y =
+            at_yes.same (λ keep less. states keep (selection-after step question sound is true keep less))
+            (λ keep rest. ends keep (remainder-after step question sound is true keep rest)) in
+            let n =
+            at_no.same (λ keep less. states keep (selection-after step question sound is false keep less))
+            (λ keep rest. ends keep (remainder-after step question sound is false keep rest)) in
             at_question state_of next step question sound is ∙ ((λ i. Try (here i) (y i) (n i)) ∙ sym (at_question state_of' next' step question sound is));
       })
 

@@ -18,7 +18,8 @@ module _ {T : Type 0} (state_of : List Bool → T) (next : List Bool → Trials 
   unrolled zero step = next (kept step)
   unrolled (suc n) step = on_answer (next (kept step)) (asks step) (λ answer. unrolled n (after step answer))
 
-  on_question : (over : Trials T) (o : Option (List Bool)) (question : List Bool) (go : Bool → Trials T) → o ≡ Some question → Try (state_of question) (go true) (go false) ≡ on_answer over o go
+  on_question : (over : Trials T) (o : Option (List Bool)) (question : List Bool) (go : Bool → Trials T) → o ≡ Some question
+      → Try (state_of question) (go true) (go false) ≡ on_answer over o go
   on_question over None question go is = (cc)
   on_question over (Some other) question go is = let same : question ≡ other = cc in λ i. Try (state_of (same i)) (go true) (go false)
 

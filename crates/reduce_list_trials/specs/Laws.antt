@@ -32,7 +32,8 @@ BecomesSmaller size state_of next = (len : ℕ) (may_be_empty : Bool)
     → ((keep : List Bool) → IsRemainder len may_be_empty keep → EachIsSmaller size (size (state_of keep)) (next keep))
     → EachIsSmaller size (size (state_of (replicate len true))) (list_trials state_of next (start len may_be_empty))
 
--- If all answers are no, each list with one element fewer is tried, and then what is tried from all elements. A list of one element isn't tried without it where not all elements may go.
+-- If all answers are no, each list with one element fewer is tried, and then what is tried from all
+-- elements. A list of one element isn't tried without it where not all elements may go.
 abbrev pub TriesDeletions : {T : Type 0} → (List Bool → T) → (List Bool → Trials T) → Type 0
 TriesDeletions {T} state_of next = (len : ℕ) (may_be_empty : Bool)
     → ((k : ℕ) → k < len → (may_be_empty ≡ false → 2 ≤ len)

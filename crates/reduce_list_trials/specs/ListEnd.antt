@@ -19,7 +19,8 @@ listed_texts texts state_of (keep ∷ keeps) =
 abbrev pub after_texts : {T : Type 0} → List (List ℕ) → Bool → RoundEnd T → RoundEnd T
 after_texts asked changed later = record { questions = asked ++ later.questions; state = later.state; changed = changed || later.changed }
 
--- An outcome of a list step, and then what goes on from the elements that remain: the texts of what it asked, where their states are listed, and all that is asked after it. There was a yes where one of its questions had one.
+-- An outcome of a list step, and then what goes on from the elements that remain: the texts of what it asked, where their
+-- states are listed, and all that is asked after it. There was a yes where one of its questions had one.
 abbrev pub after_step : {T : Type 0} → StateTexts T → (List ℕ → Bool) → (List Bool → T) → (List Bool → RoundEnd T) → Outcome → RoundEnd T
 after_step texts verdict state_of go outcome =
     after_texts (listed_texts texts state_of outcome.questions) (list_any (keep_verdict texts verdict state_of) outcome.questions) (go outcome.result)

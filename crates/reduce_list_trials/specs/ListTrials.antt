@@ -1,4 +1,5 @@
--- A list step (ddmin, Zeller and Hildebrandt 2002) as trials: each keep list that it asks stands for a state, and at its end something goes on from the elements that remain.
+-- A list step (ddmin, Zeller and Hildebrandt 2002) as trials: each keep list that it asks stands
+-- for a state, and at its end something goes on from the elements that remain.
 use Rattle.std.specs.Prelude.{ℕ, zero, suc, Bool, true, false, List, Option, Some, None}
 use Rattle.list_ddmin.specs.Machine.{State, asks, after, kept, left}
 use Rattle.reduce_rounds.specs.Trials.{Trials, Try}
@@ -14,6 +15,7 @@ list_within state_of next zero step = next (kept step)
 list_within state_of next (suc n) step =
     by_question state_of (next (kept step)) (asks step) (list_within state_of next n (after step true)) (list_within state_of next n (after step false))
 
--- A list step from a state of its machine on: the state of each question is tried, and after the last one what `next` says of the elements that remain. The machine asks at most `left` times.
+-- A list step from a state of its machine on: the state of each question is tried, and after the last
+-- one what `next` says of the elements that remain. The machine asks at most `left` times.
 abbrev pub list_trials : {T : Type 0} → (List Bool → T) → (List Bool → Trials T) → State → Trials T
 list_trials state_of next step = list_within state_of next (left step) step

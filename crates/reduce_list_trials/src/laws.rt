@@ -19,7 +19,8 @@ pub fn goes_by_questions<R: Round>()
 /// Only selections of the elements are tried, and what is tried from all elements or a selection: all
 /// of it passes a test where the states of selections do, and all that is tried after them.
 pub fn tries_selections<R: Round>()
-    ensures { (test : R.State → Bool) (state_of : List Bool → R.State) (next : List Bool → Trials R.State) → TriesSelections (λ state. test state ≡ true) state_of next }
+    ensures { (test : R.State → Bool) (state_of : List Bool → R.State) (next : List Bool → Trials R.State)
+        → TriesSelections (λ state. test state ≡ true) state_of next }
 {}
 
 /// Each yes makes the state smaller, where fewer elements do.
@@ -36,7 +37,8 @@ pub fn tries_deletions<R: Round>()
 /// Over the states' texts and a verdict, the trials end as the list step does, and as what goes on from
 /// its result.
 pub fn ends_as_list_step<R: Round>()
-    ensures { (texts : StateTexts R.State) (verdict : List ℕ → Bool) (state_of : List Bool → R.State) (next : List Bool → Trials R.State) → EndsAsListStep texts verdict state_of next }
+    ensures { (texts : StateTexts R.State) (verdict : List ℕ → Bool) (state_of : List Bool → R.State) (next : List Bool → Trials R.State)
+        → EndsAsListStep texts verdict state_of next }
 {}
 
 /// Trials are the same where selections have the same states, and remainders go on in the same way.

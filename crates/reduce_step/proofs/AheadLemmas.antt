@@ -43,11 +43,13 @@ ahead_may p answers most =
 module _ (from now : Plan) (texts : List (List ℕ)) (so_far : texts ++ asked_at_no now ≡ asked_at_no from) where
   -- one more text, answered no
   pub ahead-more : (text : List ℕ) → asked now ≡ Some text → (texts ++ text ∷ []) ++ asked_at_no (after now No) ≡ asked_at_no from
-  ahead-more text asks = append_assoc texts (text ∷ []) (asked_at_no (after now No)) ∙ ap (λ later. texts ++ later) (sym (asked_at_no-step now text asks)) ∙ so_far
+  ahead-more text asks =
+      append_assoc texts (text ∷ []) (asked_at_no (after now No)) ∙ ap (λ later. texts ++ later) (sym (asked_at_no-step now text asks)) ∙ so_far
 
   -- where there are so many texts, they are what is ahead
   pub ahead-full : (most : ℕ) → length texts ≡ most → texts ≡ ahead most from
-  ahead-full most many = sym (ap (λ n. take n (asked_at_no from)) (sym many) ∙ ap (λ all. take (length texts) all) (sym so_far) ∙ take-append_seam texts (asked_at_no now))
+  ahead-full most many =
+      sym (ap (λ n. take n (asked_at_no from)) (sym many) ∙ ap (λ all. take (length texts) all) (sym so_far) ∙ take-append_seam texts (asked_at_no now))
 
   -- where it has ended, they are what is ahead too
   pub ahead-ended : (most : ℕ) → asked now ≡ None → length texts ≤ most → texts ≡ ahead most from

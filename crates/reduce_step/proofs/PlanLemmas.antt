@@ -15,12 +15,14 @@ after_may (End x) v text t asks may = absurd (cc asks)
 after_may (Ask x a b) Yes text t asks may = inr (inl may)
 after_may (Ask x a b) No text t asks may = inr (inr may)
 
-by_same : (v : Verdict) (p a b : Plan) (o : Option Verdict) (V : List ℕ → Option Verdict) (x : List ℕ) → o ≡ Some v → by_answer o p (follow V a) (follow V b) ≡ follow V (after (Ask x a b) v)
+by_same : (v : Verdict) (p a b : Plan) (o : Option Verdict) (V : List ℕ → Option Verdict) (x : List ℕ) → o ≡ Some v
+    → by_answer o p (follow V a) (follow V b) ≡ follow V (after (Ask x a b) v)
 by_same Yes p a b o V x known = rw known refl
 by_same No p a b o V x known = rw known refl
 
 -- where the text that is asked has a verdict, following goes on after it
-pub follow_after : (V : List ℕ → Option Verdict) (p : Plan) (v : Verdict) (text : List ℕ) → asked p ≡ Some text → V text ≡ Some v → follow V p ≡ follow V (after p v)
+pub follow_after : (V : List ℕ → Option Verdict) (p : Plan) (v : Verdict) (text : List ℕ) → asked p ≡ Some text → V text ≡ Some v
+    → follow V p ≡ follow V (after p v)
 follow_after V (End x) v text asks known = absurd (cc asks)
 follow_after V (Ask x a b) v text asks known =
     let same : x ≡ text = cc asks in

@@ -52,7 +52,8 @@ abbrev pub repeated : Bool → Sym → RuleForm
 repeated true s = RuleForm.plus s
 repeated false s = RuleForm.star s
 
--- The positions are reached by the symbol from `first`, any number of times. All that it reaches from those of them before `from` is among them, and from those that are covered.
+-- The positions are reached by the symbol from `first`, any number of times. All that it reaches
+-- from those of them before `from` is among them, and from those that are covered.
 pub record IsClosing (N : NormalForm) (kinds : List ℕ) (s : Sym) (first : ℕ) (reached : List ℕ) (from : ℕ) (covered : List ℕ) : Type 0 where
   pub rising : IsStrictlyIncreasing reached
   pub rising_covered : IsStrictlyIncreasing covered

@@ -11,7 +11,8 @@ use Rattle.chart_parser_prefix.specs.inner.Productive.{DerivesSomeSeq}
 pub data Predicts (N : NormalForm) (kinds : List ℕ) : Sym → ℕ → Sym → ℕ → Type 0 where
   -- a symbol of an alternative, where those before it end; all symbols of the alternative derive something
   of_alternative : (r i : ℕ) (alts : List (List Sym)) (before : List Sym) (s : Sym) (after : List Sym) (m : ℕ) →
-      slice_get N.rules r ≡ Some (RuleForm.regular alts) → Contains alts (before ++ s ∷ after) → DerivesSomeSeq N (before ++ s ∷ after) → DerivesSpanSeq N kinds before i m → Predicts N kinds (Rule r) i s m
+      slice_get N.rules r ≡ Some (RuleForm.regular alts) → Contains alts (before ++ s ∷ after) → DerivesSomeSeq N (before ++ s ∷ after)
+      → DerivesSpanSeq N kinds before i m → Predicts N kinds (Rule r) i s m
   -- the symbol of an optional
   of_optional : (r i : ℕ) (s : Sym) → slice_get N.rules r ≡ Some (RuleForm.opt s) → Predicts N kinds (Rule r) i s i
   -- that of a star or plus, after any number of them

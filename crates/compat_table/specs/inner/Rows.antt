@@ -69,7 +69,8 @@ pub record IsMarked (marks : List ℕ) (number : ℕ) (row : Symbols) : Type 0 w
   pub counted : length row.rules + unmarked number marks ≡ length marks
   pub within : (q : ℕ) → Contains row.rules q → q < length marks
 
--- A search from the rule r has found only symbols that it leads to; it has found those to which it has an edge, and those to which the first so many rules that it has found have one.
+-- A search from the rule r has found only symbols that it leads to; it has found those to which it
+-- has an edge, and those to which the first so many rules that it has found have one.
 pub record IsSearched (edges : List (List Sym)) (r : ℕ) (row : Symbols) (done : ℕ) : Type 0 where
   pub sound : (t : Sym) → IsAmong row t → LeadsTo edges r t
   pub began : (t : Sym) → HasEdge edges r t → IsAmong row t

@@ -19,7 +19,8 @@ with_new found j = if is_among found j then found else found ++ j ∷ []
 abbrev pub with_row : List ℕ → List ℕ → List ℕ
 with_row found row = fold with_new found row
 
--- A search from a node has found only nodes that it reaches; it has found those of the node's own row, and those of the rows of the first ones that it has found, which are this many.
+-- A search from a node has found only nodes that it reaches; it has found those of the node's own
+-- row, and those of the rows of the first ones that it has found, which are this many.
 pub record IsSearched (rows : List (List ℕ)) (node : ℕ) (found : List ℕ) (done : ℕ) : Type 0 where
   pub sound : (j : ℕ) → Contains found j → Reaches rows node j
   pub began : (j : ℕ) → HasEdge rows node j → Contains found j

@@ -5,7 +5,13 @@ use Rattle.grammar_tree.specs.Written.{WrittenTerm, WrittenSeq, WrittenAlts, Lex
 use Rattle.grammar_tree.specs.inner.Code.{grammar_coded}
 
 abbrev lexer_part : LexerTerm → WrittenGrammar
-lexer_part t = record { name = []; tokens = []; rules = WrittenRule.lexer_rule (record { name = []; fragment = false; gap = false; alts = LexerAlts.or (LexerSeq.next t LexerSeq.done) LexerAlts.none }) ∷ [] }
+lexer_part t =
+    record {
+      name = [];
+      tokens = [];
+      rules =
+          WrittenRule.lexer_rule (record { name = []; fragment = false; gap = false; alts = LexerAlts.or (LexerSeq.next t LexerSeq.done) LexerAlts.none }) ∷ [];
+    }
 
 abbrev lexer_first : LexerAlts → LexerTerm
 lexer_first (LexerAlts.or (LexerSeq.next t s) a) = t
@@ -19,7 +25,12 @@ abbrev pub lexer_term_coded : Coded LexerTerm
 lexer_term_coded = code_by WrittenGrammar grammar_coded lexer_part (λ g. lexer_back g.rules) (λ _. refl)
 
 abbrev parser_part : WrittenTerm → WrittenGrammar
-parser_part t = record { name = []; tokens = []; rules = WrittenRule.parser_rule (record { name = []; alts = WrittenAlts.or (WrittenSeq.next t WrittenSeq.done) WrittenAlts.none }) ∷ [] }
+parser_part t =
+    record {
+      name = [];
+      tokens = [];
+      rules = WrittenRule.parser_rule (record { name = []; alts = WrittenAlts.or (WrittenSeq.next t WrittenSeq.done) WrittenAlts.none }) ∷ [];
+    }
 
 abbrev parser_first : WrittenAlts → WrittenTerm
 parser_first (WrittenAlts.or (WrittenSeq.next t s) a) = t

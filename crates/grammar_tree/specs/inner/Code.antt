@@ -3,7 +3,8 @@ use Rattle.std.specs.Prelude.{◌≡◌, ℕ, zero, suc, Bool, true, false, List
 use Rattle.std.proofs.Common.{sym, ap, ◌∙◌}
 use Rattle.std.specs.Coded.{code_by, coded×, coded_ℕ, coded_bool, coded_list}
 use base.Stored.{Gv, gnil, gnum, gcons, num, Coded}
-use Rattle.grammar_tree.specs.Written.{Reference, WrittenTerm, WrittenSeq, WrittenAlts, LexerTerm, LexerSeq, LexerAlts, WrittenRule, WrittenGrammar, Source, TokenKind, CheckedGrammar}
+use Rattle.grammar_tree.specs.Written.{Reference, WrittenTerm, WrittenSeq, WrittenAlts, LexerTerm, LexerSeq, LexerAlts}
+use Rattle.grammar_tree.specs.Written.{WrittenRule, WrittenGrammar, Source, TokenKind, CheckedGrammar}
 
 abbrev text : List ℕ → Gv
 text [] = gnil
@@ -124,11 +125,13 @@ mutual
 
   parser_seq_same : (s : WrittenSeq) → parser_seq_back (parser_seq s) ≡ s
   parser_seq_same WrittenSeq.done = refl
-  parser_seq_same (WrittenSeq.next t s) = ap (λ x. WrittenSeq.next x (parser_seq_back (parser_seq s))) (parser_same t) ∙ ap (WrittenSeq.next t) (parser_seq_same s)
+  parser_seq_same (WrittenSeq.next t s) =
+      ap (λ x. WrittenSeq.next x (parser_seq_back (parser_seq s))) (parser_same t) ∙ ap (WrittenSeq.next t) (parser_seq_same s)
 
   parser_alts_same : (a : WrittenAlts) → parser_alts_back (parser_alts a) ≡ a
   parser_alts_same WrittenAlts.none = refl
-  parser_alts_same (WrittenAlts.or s a) = ap (λ x. WrittenAlts.or x (parser_alts_back (parser_alts a))) (parser_seq_same s) ∙ ap (WrittenAlts.or s) (parser_alts_same a)
+  parser_alts_same (WrittenAlts.or s a) =
+      ap (λ x. WrittenAlts.or x (parser_alts_back (parser_alts a))) (parser_seq_same s) ∙ ap (WrittenAlts.or s) (parser_alts_same a)
 
 pub parser_alts_injective : (x y : WrittenAlts) → parser_alts x ≡ parser_alts y → x ≡ y
 parser_alts_injective x y e = sym (parser_alts_same x) ∙ ap parser_alts_back e ∙ parser_alts_same y
@@ -227,7 +230,8 @@ rule_same (WrittenRule.lexer_rule r) = refl
 
 abbrev rule_coded : Coded WrittenRule
 rule_coded =
-    code_by Parts (coded× coded_bool (coded× (coded_list coded_ℕ) (coded× coded_bool (coded× coded_bool (coded× parser_alts_coded lexer_alts_coded))))) parts rule_back rule_same
+    code_by Parts (coded× coded_bool (coded× (coded_list coded_ℕ) (coded× coded_bool (coded× coded_bool (coded× parser_alts_coded lexer_alts_coded))))) parts
+    rule_back rule_same
 
 abbrev pub grammar_coded : Coded WrittenGrammar
 grammar_coded =
@@ -251,7 +255,8 @@ source_same Source.declared = refl
 
 abbrev kind_coded : Coded TokenKind
 kind_coded =
-    code_by (Text × (Bool × Source)) (coded× (coded_list coded_ℕ) (coded× coded_bool (code_by (ℕ × ℕ) (coded× coded_ℕ coded_ℕ) source_parts source_back source_same)))
+    code_by (Text × (Bool × Source)) (coded× (coded_list coded_ℕ)
+    (coded× coded_bool (code_by (ℕ × ℕ) (coded× coded_ℕ coded_ℕ) source_parts source_back source_same)))
     (λ k. (k.name, (k.gap, k.source))) (λ p. record { name = p.0; gap = p.1.0; source = p.1.1 }) (λ _. refl)
 
 abbrev pub checked_coded : Coded CheckedGrammar

@@ -1,5 +1,6 @@
 -- The machine's fields, and the state that they represent.
-use Rattle.std.specs.Prelude.{◌≡◌, ℕ, ◌+◌, ◌-◌, ◌*◌, ◌^◌, ◌<◌, ◌≤◌, min, max, Bool, true, false, ◌&&◌, not, nat_lt, nat_le, if◌then◌else◌, List, length, replicate}
+use Rattle.std.specs.Prelude.{◌≡◌, ℕ, ◌+◌, ◌-◌, ◌*◌, ◌^◌, ◌<◌, ◌≤◌, min, max, Bool, true, false, ◌&&◌, not}
+use Rattle.std.specs.Prelude.{nat_lt, nat_le, if◌then◌else◌, List, length, replicate}
 use Rattle.list_ddmin.specs.declared.machine.Phase.{Phase}
 use Rattle.list_ddmin.specs.declared.machine.Phase.TheVariants.{Nothing, Parts, Complements, End}
 use Rattle.list_ddmin.specs.ListStep.{part, complement}

@@ -12,7 +12,9 @@ use Rattle.grammar_names.specs.KindLists.{IsPartOf, lacking}
 use Rattle.normal_form_sets.specs.Sets.{SetsOfKinds, items_of}
 
 abbrev pub sets_coded : Coded SetsOfKinds
-sets_coded = code_by (List ℕ × List (List ℕ)) (coded× (coded_list coded_ℕ) (coded_list (coded_list coded_ℕ))) (λ s. (s.all, s.sets)) (λ p. record { all = p.0; sets = p.1 }) (λ _. refl)
+sets_coded =
+    code_by (List ℕ × List (List ℕ)) (coded× (coded_list coded_ℕ) (coded_list (coded_list coded_ℕ))) (λ s. (s.all, s.sets))
+    (λ p. record { all = p.0; sets = p.1 }) (λ _. refl)
 
 -- the sets that lack these kinds
 abbrev pub sets_lacking : List ℕ → List (Vec ℕ) → SetsOfKinds

@@ -13,4 +13,5 @@ returns-then-not-may_be_empty-clause-covers c =
     let alt = c.args.symbols.now in
     let n = c.loop-symbol.symbol-index in
     let new = c.add_symbol.new.row in
-    covers_stopped N rows alt n (Kind 0) new c.loop-symbol-test.true (λ m. false_true (sym c.if-not-may_be_empty.true ∙ c.may_be_empty.ensures.1 m)) (first_more N rows alt n (Kind 0) c.loop-symbol.row new c.add_symbol.ensures.kept c.add_symbol.ensures.has c.loop-symbol.invariant.2)
+    covers_stopped N rows alt n (Kind 0) new c.loop-symbol-test.true (λ m. false_true (sym c.if-not-may_be_empty.true ∙ c.may_be_empty.ensures.1 m))
+    (first_more N rows alt n (Kind 0) c.loop-symbol.row new c.add_symbol.ensures.kept c.add_symbol.ensures.has c.loop-symbol.invariant.2)

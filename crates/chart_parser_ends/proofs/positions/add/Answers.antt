@@ -5,7 +5,13 @@ use Rattle.chart_parser_ends.proofs.Rising.{inserted, search_missing}
 use Rattle.chart_parser_ends.proofs.positions.add.Goals as goal
 
 pub returns-in_ok-insert-clause-rising : goal.returns-in_ok-insert-clause-rising
-returns-in_ok-insert-clause-rising c = subst IsStrictlyIncreasing (sym c.in_ok-insert.ensures.items) (search_missing c.args.positions.now.items c.args.position c.binary_search.result c.in-Err.at (subst (λ l. IsBinarySearchResult (λ y. nat_cmp y c.args.position) l c.binary_search.result) c.deref.ensures.value c.binary_search.ensures.position) c.requires c.in-Err.is)
+returns-in_ok-insert-clause-rising c =
+    subst IsStrictlyIncreasing (sym c.in_ok-insert.ensures.items)
+    (search_missing c.args.positions.now.items c.args.position c.binary_search.result c.in-Err.at
+    (subst (λ l. IsBinarySearchResult (λ y. nat_cmp y c.args.position) l c.binary_search.result) c.deref.ensures.value c.binary_search.ensures.position)
+    c.requires c.in-Err.is)
 
 pub returns-in_ok-insert-clause-with : goal.returns-in_ok-insert-clause-with
-returns-in_ok-insert-clause-with c = subst (IsWith c.args.positions.now.items c.args.position) (sym c.in_ok-insert.ensures.items) (inserted c.args.positions.now.items c.in-Err.at c.args.position)
+returns-in_ok-insert-clause-with c =
+    subst (IsWith c.args.positions.now.items c.args.position) (sym c.in_ok-insert.ensures.items)
+    (inserted c.args.positions.now.items c.in-Err.at c.args.position)

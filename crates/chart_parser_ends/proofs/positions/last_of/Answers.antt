@@ -9,7 +9,8 @@ false_true e = absurd (cc)
 pub returns-then-has : goal.returns-then-has
 returns-then-has c =
     let n = length c.args.positions.now in
-    greatest_at (Contains c.args.others.now) c.args.positions.now (n - c.loop-later.later) (n - 1 - c.loop-later.later) c.requires.positions (omega (arith, c.loop-later-test.true)) (omega arith) (c.has.ensures.0 c.if-has.true) c.loop-later.invariant
+    greatest_at (Contains c.args.others.now) c.args.positions.now (n - c.loop-later.later) (n - 1 - c.loop-later.later) c.requires.positions
+    (omega (arith, c.loop-later-test.true)) (omega arith) (c.has.ensures.0 c.if-has.true) c.loop-later.invariant
 
 pub loop-later-preserved : goal.loop-later-preserved
 loop-later-preserved c =
@@ -17,7 +18,8 @@ loop-later-preserved c =
     let P = Contains c.args.others.now in
     let m = length xs - 1 - c.loop-later.later in
     let same : m ≡ length xs - (c.loop-later.later + 1) = omega arith in
-    subst (NoneAfter P xs) same (none_more P xs (length xs - c.loop-later.later) m (omega (arith, c.loop-later-test.true)) (λ h. false_true (sym c.if-has.false ∙ c.has.ensures.1 h)) c.loop-later.invariant)
+    subst (NoneAfter P xs) same (none_more P xs (length xs - c.loop-later.later) m (omega (arith, c.loop-later-test.true))
+    (λ h. false_true (sym c.if-has.false ∙ c.has.ensures.1 h)) c.loop-later.invariant)
 
 pub returns : goal.returns
 returns c =

@@ -18,12 +18,15 @@ pub loop-position-preserved : goal.loop-position-preserved
 loop-position-preserved c =
     let i = c.loop-position.position-index in
     let positions = c.args.positions.now in
-    each_more c.args.symbol positions i (get_or positions i 0) c.args.lists.now.items c.loop-position.lists.items c.add_at.new.lists.items c.loop-position-test.true refl c.loop-position.invariant.0 c.loop-position.invariant.1 c.in_ok-add_at.ensures.grown c.in_ok-add_at.ensures.all
+    each_more c.args.symbol positions i (get_or positions i 0) c.args.lists.now.items c.loop-position.lists.items c.add_at.new.lists.items
+    c.loop-position-test.true refl c.loop-position.invariant.0 c.loop-position.invariant.1 c.in_ok-add_at.ensures.grown c.in_ok-add_at.ensures.all
 
 pub returns-clause-grown : goal.returns-clause-grown
 returns-clause-grown c =
-    subst (λ (l : List ℕ). IsGrownBy (IsAtOneOf c.args.symbol l) c.args.lists.now.items c.loop-position.lists.items) (take_all c.loop-position.position-index c.args.positions.now c.loop-position-test.false) c.loop-position.invariant.0
+    subst (λ (l : List ℕ). IsGrownBy (IsAtOneOf c.args.symbol l) c.args.lists.now.items c.loop-position.lists.items)
+    (take_all c.loop-position.position-index c.args.positions.now c.loop-position-test.false) c.loop-position.invariant.0
 
 pub returns-clause-all : goal.returns-clause-all
 returns-clause-all c =
-    subst (λ (l : List ℕ). ExpectsAll (IsAtOneOf c.args.symbol l) c.loop-position.lists.items) (take_all c.loop-position.position-index c.args.positions.now c.loop-position-test.false) c.loop-position.invariant.1
+    subst (λ (l : List ℕ). ExpectsAll (IsAtOneOf c.args.symbol l) c.loop-position.lists.items)
+    (take_all c.loop-position.position-index c.args.positions.now c.loop-position-test.false) c.loop-position.invariant.1

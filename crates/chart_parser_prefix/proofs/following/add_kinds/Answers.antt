@@ -13,7 +13,8 @@ returns-in_ok-push-in-Kind c =
     let old = c.args.kinds.now.items in
     let new = c.push.new.self.items in
     let kind = c.in-Kind.kind in
-    subst (λ (t : Sym). AddsKinds (IsTokenOf N t) old new) (sym c.in-Kind.is) (subst (AddsKinds (IsTokenOf N (Kind kind)) old) (sym c.in_ok-push-in-Kind.ensures.items) (adds_list old (kind ∷ []) (one_kind N kind)))
+    subst (λ (t : Sym). AddsKinds (IsTokenOf N t) old new) (sym c.in-Kind.is)
+    (subst (AddsKinds (IsTokenOf N (Kind kind)) old) (sym c.in_ok-push-in-Kind.ensures.items) (adds_list old (kind ∷ []) (one_kind N kind)))
 
 pub returns-in_ok-extend_from_slice-in-Set : goal.returns-in_ok-extend_from_slice-in-Set
 returns-in_ok-extend_from_slice-in-Set c =
@@ -25,7 +26,8 @@ returns-in_ok-extend_from_slice-in-Set c =
     let is = c.in_ok-more-in-Set.ensures ∙ ap (λ (sets : List (List ℕ)). option_map_or (λ l. l) (slice_get sets set) []) c.sets.ensures in
     let items : new ≡ old ++ c.deref.result.now = rw c.in_ok-extend_from_slice-in-Set.was at c.extend_from_slice.ensures.items in
     let joined = items ∙ ap (λ (l : List ℕ). old ++ l) c.deref.ensures.value in
-    subst (λ (t : Sym). AddsKinds (IsTokenOf N t) old new) (sym c.in-Set.is) (subst (AddsKinds (IsTokenOf N (Set set)) old) (sym joined) (adds_list old more (kinds_in_set N set (slice_get N.sets set) more refl is)))
+    subst (λ (t : Sym). AddsKinds (IsTokenOf N t) old new) (sym c.in-Set.is)
+    (subst (AddsKinds (IsTokenOf N (Set set)) old) (sym joined) (adds_list old more (kinds_in_set N set (slice_get N.sets set) more refl is)))
 
 pub returns-in-Rule : goal.returns-in-Rule
 returns-in-Rule c =

@@ -9,5 +9,8 @@ returns c =
       all = all;
       exact = c.in_ok-kinds.ensures;
       first = c.truncate.ensures.items;
-      rest = (λ t. subst (λ (l : List ℕ). 8 < length l) same (c.is_longer-has_more.ensures.0 t), λ l. c.is_longer-has_more.ensures.1 (subst (λ (x : List ℕ). 8 < length x) (sym same) l));
+      rest = (
+        λ t. subst (λ (l : List ℕ). 8 < length l) same (c.is_longer-has_more.ensures.0 t),
+        λ l. c.is_longer-has_more.ensures.1 (subst (λ (x : List ℕ). 8 < length x) (sym same) l),
+      );
     }

@@ -15,6 +15,8 @@ returns c =
     let moved = c.sort_unstable.ensures.permutation in
     record {
       rising = subst IsStrictlyIncreasing (sym is) (IsStrictlyIncreasing-dedup all c.sort_unstable.ensures.sorted);
-      only = λ k h. Contains-permutation all c.args.kinds.items k (IsPermutation-sym c.args.kinds.items all moved) (Contains-from_dedup eqb all k (subst (λ (l : List ℕ). Contains l k) is h));
+      only =
+          λ k h. Contains-permutation all c.args.kinds.items k (IsPermutation-sym c.args.kinds.items all moved)
+          (Contains-from_dedup eqb all k (subst (λ (l : List ℕ). Contains l k) is h));
       all = λ k h. subst (λ (l : List ℕ). Contains l k) (sym is) (Contains-dedup_nat all k (Contains-permutation c.args.kinds.items all k moved h));
     }

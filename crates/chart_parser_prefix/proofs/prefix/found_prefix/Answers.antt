@@ -17,7 +17,8 @@ longest-requires-clause-walk c =
     let N = c.args.search.now.normal.now in
     let K = c.args.search.now.kinds.now in
     let start = c.args.search.now.start in
-    walk_begins N K start c.in_ok-lists.lists.items c.add_at.new.lists.items c.in_ok-lists.ensures.count c.in_ok-lists.ensures.empty c.in_ok-add_at.ensures.grown c.in_ok-add_at.ensures.all
+    walk_begins N K start c.in_ok-lists.lists.items c.add_at.new.lists.items c.in_ok-lists.ensures.count c.in_ok-lists.ensures.empty
+    c.in_ok-add_at.ensures.grown c.in_ok-add_at.ensures.all
 
 pub longest-requires-clause-viable : goal.longest-requires-clause-viable
 longest-requires-clause-viable c = c.requires.some
@@ -44,5 +45,11 @@ returns c =
     record {
       longest = longest;
       ends = (λ t. derived.0 (ends.0 t), λ d. ends.1 (derived.1 d));
-      following = record { all = found.all; exact = all_following N K start n lists walk c.in_ok-length.ensures.closed longest.within found.all exact; first = found.first; rest = found.rest };
+      following =
+          record {
+            all = found.all;
+            exact = all_following N K start n lists walk c.in_ok-length.ensures.closed longest.within found.all exact;
+            first = found.first;
+            rest = found.rest;
+          };
     }

@@ -9,14 +9,16 @@ use Rattle.chart_parser_prefix.proofs.productive.all_pass.Goals as goal
 pub returns-then-not-symbol_passes : goal.returns-then-not-symbol_passes
 returns-then-not-symbol_passes c =
     let p = passes c.args.normal.now c.args.flags.now in
-    sym (list_all_at p c.args.symbols.now c.loop-symbol.symbol-index (Kind 0) c.loop-symbol-test.true (sym c.symbol_passes.ensures ∙ c.if-not-symbol_passes.true))
+    sym (list_all_at p c.args.symbols.now c.loop-symbol.symbol-index (Kind 0) c.loop-symbol-test.true
+    (sym c.symbol_passes.ensures ∙ c.if-not-symbol_passes.true))
 
 pub loop-symbol-preserved : goal.loop-symbol-preserved
 loop-symbol-preserved c =
     let p = passes c.args.normal.now c.args.flags.now in
     let i = c.loop-symbol.symbol-index in
     let symbols = c.args.symbols.now in
-    list_all_more p symbols i (Kind 0) c.loop-symbol-test.true ∙ ap (λ b. b && p (get_or symbols i (Kind 0))) c.loop-symbol.invariant ∙ sym c.symbol_passes.ensures ∙ c.if-not-symbol_passes.false
+    list_all_more p symbols i (Kind 0) c.loop-symbol-test.true ∙ ap (λ b. b && p (get_or symbols i (Kind 0))) c.loop-symbol.invariant
+    ∙ sym c.symbol_passes.ensures ∙ c.if-not-symbol_passes.false
 
 pub returns : goal.returns
 returns c =

@@ -17,4 +17,5 @@ returns-in-Some c =
 pub returns-in-None : goal.returns-in-None
 returns-in-None c =
     let set = c.args.set in
-    ap (λ o. option_map_or has_some o false) c.in-None.ensures.lacks ∙ ap (λ (sets : List (List ℕ)). option_map_or has_some (slice_get sets set) false) c.sets-sets.ensures
+    ap (λ o. option_map_or has_some o false) c.in-None.ensures.lacks
+    ∙ ap (λ (sets : List (List ℕ)). option_map_or has_some (slice_get sets set) false) c.sets-sets.ensures

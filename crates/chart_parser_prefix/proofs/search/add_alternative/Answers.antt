@@ -18,7 +18,8 @@ loop-symbol-init c =
     let alt = c.args.symbols.now in
     record {
       same = refl;
-      reached = subst (HasExactly (DerivesSpanSeq N K (take 0 alt) c.args.first)) (sym c.in_ok-reached.ensures.items) (begun N K alt c.args.first c.requires.within);
+      reached =
+          subst (HasExactly (DerivesSpanSeq N K (take 0 alt) c.args.first)) (sym c.in_ok-reached.ensures.items) (begun N K alt c.args.first c.requires.within);
       grown = grown_none c.args.lists.now.items;
       early = none_early N K alt c.args.first c.args.lists.now.items;
     }
@@ -49,8 +50,10 @@ loop-symbol-preserved c =
     let next = c.in_ok-reached-2.reached.items in
     let grown = subst (λ (l : List ℕ). IsGrownBy (IsAtOneOf s l) mid new) c.deref.ensures.value c.in_ok-add_at_each.ensures.grown in
     let all = subst (λ (l : List ℕ). ExpectsAll (IsAtOneOf s l) new) c.deref.ensures.value c.in_ok-add_at_each.ensures.all in
-    let more = alternative_more N K alt i first (Kind 0) reached c.args.lists.now.items mid new c.loop-symbol-test.true inv.reached inv.grown inv.early grown all in
-    let from = subst (λ (x : ChartInput). HasExactly (DerivesFrom x.normal x.kinds s c.deref-in-loop-symbol.result.now) next) inv.same c.in_ok-reached-2.ensures.ends in
+    let more =
+    alternative_more N K alt i first (Kind 0) reached c.args.lists.now.items mid new c.loop-symbol-test.true inv.reached inv.grown inv.early grown all in
+    let from =
+    subst (λ (x : ChartInput). HasExactly (DerivesFrom x.normal x.kinds s c.deref-in-loop-symbol.result.now) next) inv.same c.in_ok-reached-2.ensures.ends in
     let ends = subst (λ (l : List ℕ). HasExactly (DerivesFrom N K s l) next) c.deref-in-loop-symbol.ensures.value from in
     record {
       same = c.in_ok-reached-2.ensures.same ∙ inv.same;
@@ -61,4 +64,5 @@ loop-symbol-preserved c =
 
 pub returns-clause-all : goal.returns-clause-all
 returns-clause-all c =
-    alternative_all c.args.chart.now.normal c.args.chart.now.kinds c.args.symbols.now c.loop-symbol.symbol-index c.args.first c.loop-symbol.lists.items c.loop-symbol-test.false c.loop-symbol.invariant.early
+    alternative_all c.args.chart.now.normal c.args.chart.now.kinds c.args.symbols.now c.loop-symbol.symbol-index c.args.first c.loop-symbol.lists.items
+    c.loop-symbol-test.false c.loop-symbol.invariant.early

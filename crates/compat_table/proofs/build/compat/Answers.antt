@@ -17,24 +17,34 @@ flags_read : (N : NormalForm) (read flags : List Bool) → read ≡ flags → Ar
 flags_read N read flags same exact = subst (λ (l : List Bool). AreNullable N (flag l)) (sym same) exact
 
 -- the edges that were found are those of the form
-edges_are : (N : NormalForm) (nulls : ℕ → Bool) (read found : List (Vec Sym)) (rules : List RuleForm) → read ≡ found → edges_of found ≡ map (next_symbols nulls) rules → rules ≡ N.rules → edges_of read ≡ edges_of_form nulls N
+edges_are : (N : NormalForm) (nulls : ℕ → Bool) (read found : List (Vec Sym)) (rules : List RuleForm) → read ≡ found
+    → edges_of found ≡ map (next_symbols nulls) rules → rules ≡ N.rules → edges_of read ≡ edges_of_form nulls N
 edges_are N nulls read found rules same is all = ap edges_of same ∙ is ∙ ap (λ (l : List RuleForm). map (next_symbols nulls) l) all
 
 -- a table of the parts that were found
-table_of : (N M : NormalForm) (nulls : ℕ → Bool) (read : List (Vec Sym)) (lent rows stars : List Row) (rules : List RuleForm) → AreNullable N nulls → edges_of read ≡ edges_of_form nulls N → AreRowsOf (edges_of read) (map symbols_of rows) → lent ≡ rows → rules ≡ N.rules → AreStarsOf rules (map symbols_of lent) (map symbols_of stars) →
+table_of : (N M : NormalForm) (nulls : ℕ → Bool) (read : List (Vec Sym)) (lent rows stars : List Row) (rules : List RuleForm) → AreNullable N nulls
+    → edges_of read ≡ edges_of_form nulls N → AreRowsOf (edges_of read) (map symbols_of rows) → lent ≡ rows → rules ≡ N.rules
+    → AreStarsOf rules (map symbols_of lent) (map symbols_of stars) →
     M ≡ N → IsTableOf M (map symbols_of rows) (map symbols_of stars)
 table_of N M nulls read lent rows stars rules exact is are same all with_stars copied =
     let P : List RuleForm → Type 0 = λ l. AreStarsOf l (map symbols_of rows) (map symbols_of stars) in
     let Q : List Row → Type 0 = λ l. AreStarsOf rules (map symbols_of l) (map symbols_of stars) in
     let R : NormalForm → Type 0 = λ K. IsTableOf K (map symbols_of rows) (map symbols_of stars) in
-    subst R (sym copied) (record { nulls = nulls; nullable = exact; rows_are = subst (λ (e : List (List Sym)). AreRowsOf e (map symbols_of rows)) is are; stars_are = subst P all (subst Q same with_stars) })
+    subst R (sym copied)
+    (record {
+      nulls = nulls;
+      nullable = exact;
+      rows_are = subst (λ (e : List (List Sym)). AreRowsOf e (map symbols_of rows)) is are;
+      stars_are = subst P all (subst Q same with_stars);
+    })
 
 pub rows-requires-clause-closed : goal.rows-requires-clause-closed
 rows-requires-clause-closed c =
     let N = c.args.normal.now in
     let nulls = flag c.deref.result.now in
     let is = edges_are N nulls c.deref-2.result.now c.in_ok-edges.edges.items _ c.deref-2.ensures.value c.in_ok-edges.ensures c.rules-rules.ensures in
-    subst IsClosed (sym is) (closed N nulls (flags_read N c.deref.result.now c.in_ok-flags.flags.items c.deref.ensures.value c.in_ok-flags.ensures) (c.symbols_are_known.ensures N c.is_normal.ensures))
+    subst IsClosed (sym is) (closed N nulls (flags_read N c.deref.result.now c.in_ok-flags.flags.items c.deref.ensures.value c.in_ok-flags.ensures)
+    (c.symbols_are_known.ensures N c.is_normal.ensures))
 
 pub stars-requires : goal.stars-requires
 stars-requires c =
@@ -42,11 +52,21 @@ stars-requires c =
     let few = (c.rules_are_few.ensures N c.is_normal.ensures).few in
     let nulls = flag c.deref.result.now in
     let is = edges_are N nulls c.deref-2.result.now c.in_ok-edges.edges.items _ c.deref-2.ensures.value c.in_ok-edges.ensures c.rules-rules.ensures in
-    omega (arith, few, ap length is, length-map N.rules (next_symbols nulls), c.in_ok-rows.ensures.for_each, length-map c.in_ok-rows.rows.items symbols_of, ap length c.deref-3.ensures.value)
+    omega (
+      arith,
+      few,
+      ap length is,
+      length-map N.rules (next_symbols nulls),
+      c.in_ok-rows.ensures.for_each,
+      length-map c.in_ok-rows.rows.items symbols_of,
+      ap length c.deref-3.ensures.value,
+    )
 
 pub invariant_of-result : goal.invariant_of-result
 invariant_of-result c =
     let N = c.args.normal.now in
     let nulls = flag c.deref.result.now in
     let is = edges_are N nulls c.deref-2.result.now c.in_ok-edges.edges.items _ c.deref-2.ensures.value c.in_ok-edges.ensures c.rules-rules.ensures in
-    table_of N _ nulls c.deref-2.result.now c.deref-3.result.now c.in_ok-rows.rows.items c.in_ok-stars.stars.items _ (flags_read N c.deref.result.now c.in_ok-flags.flags.items c.deref.ensures.value c.in_ok-flags.ensures) is c.in_ok-rows.ensures c.deref-3.ensures.value c.rules-rules.ensures c.in_ok-stars.ensures c.in_ok-normal.ensures
+    table_of N _ nulls c.deref-2.result.now c.deref-3.result.now c.in_ok-rows.rows.items c.in_ok-stars.stars.items _
+    (flags_read N c.deref.result.now c.in_ok-flags.flags.items c.deref.ensures.value c.in_ok-flags.ensures) is c.in_ok-rows.ensures c.deref-3.ensures.value
+    c.rules-rules.ensures c.in_ok-stars.ensures c.in_ok-normal.ensures

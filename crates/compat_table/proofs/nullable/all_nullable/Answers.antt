@@ -17,7 +17,8 @@ loop-symbol-preserved c =
     let p = is_nullable (flag c.args.flags.now) in
     let i = c.loop-symbol.symbol-index in
     let symbols = c.args.symbols.now in
-    list_all_more p symbols i (Kind 0) c.loop-symbol-test.true ∙ ap (λ b. b && p (get_or symbols i (Kind 0))) c.loop-symbol.invariant ∙ sym c.is_nullable.ensures ∙ c.if-not-is_nullable.false
+    list_all_more p symbols i (Kind 0) c.loop-symbol-test.true ∙ ap (λ b. b && p (get_or symbols i (Kind 0))) c.loop-symbol.invariant
+    ∙ sym c.is_nullable.ensures ∙ c.if-not-is_nullable.false
 
 pub returns : goal.returns
 returns c =

@@ -32,4 +32,5 @@ pub returns : goal.returns
 returns c =
     let p = list_all (is_nullable (flag c.args.flags.now)) in
     let alts = c.args.alternatives.now in
-    sym (any_form p alts ∙ ap (list_any (λ (a : Vec Sym). p a.items)) (sym (take_all c.loop-symbols.symbols-index alts c.loop-symbols-test.false)) ∙ c.loop-symbols.invariant)
+    sym (any_form p alts ∙ ap (list_any (λ (a : Vec Sym). p a.items)) (sym (take_all c.loop-symbols.symbols-index alts c.loop-symbols-test.false))
+    ∙ c.loop-symbols.invariant)

@@ -20,7 +20,8 @@ returns-clause-only c x at =
     let sorted = c.sort_unstable.new.self.items in
     let is = dedup_is eqb sorted c.dedup.new.self.items c.dedup.ensures.filtered in
     let P : List ℕ → Type 0 = λ l. Contains l x in
-    Contains-permutation sorted c.args.numbers.items x (IsPermutation-sym c.args.numbers.items sorted c.sort_unstable.ensures.permutation) (Contains-from_dedup eqb sorted x (subst P is at))
+    Contains-permutation sorted c.args.numbers.items x (IsPermutation-sym c.args.numbers.items sorted c.sort_unstable.ensures.permutation)
+    (Contains-from_dedup eqb sorted x (subst P is at))
 
 pub returns-clause-all : goal.returns-clause-all
 returns-clause-all c x at =

@@ -9,4 +9,9 @@ pub overflow_add-count : goal.overflow_add-count
 overflow_add-count c =
     let f = flag c.args.flags.now in
     let symbols = c.args.symbols.now in
-    omega (arith, c.loop-symbol.invariant, ap (needed f) (drop-cons symbols c.loop-symbol.symbol-index (Kind 0) c.loop-symbol-test.true), needed_within f symbols)
+    omega (
+      arith,
+      c.loop-symbol.invariant,
+      ap (needed f) (drop-cons symbols c.loop-symbol.symbol-index (Kind 0) c.loop-symbol-test.true),
+      needed_within f symbols,
+    )

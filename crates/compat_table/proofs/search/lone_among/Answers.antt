@@ -16,4 +16,5 @@ loop-alt-preserved c =
     let this = c.deref.ensures.value in
     let is = c.alt-item.is in
     let pushed = c.in_ok-push_lone.ensures in
-    pushed ∙ ap (λ (l : List Sym). l ++ f c.deref.result.now) c.loop-alt.invariant ∙ ap (λ (a : List Sym). flat_map f (alts_form (take c.loop-alt.alt-index c.args.alts.now)) ++ f a) (this ∙ ap (λ (v : Vec Sym). v.items) is) ∙ sym more
+    pushed ∙ ap (λ (l : List Sym). l ++ f c.deref.result.now) c.loop-alt.invariant
+    ∙ ap (λ (a : List Sym). flat_map f (alts_form (take c.loop-alt.alt-index c.args.alts.now)) ++ f a) (this ∙ ap (λ (v : Vec Sym). v.items) is) ∙ sym more

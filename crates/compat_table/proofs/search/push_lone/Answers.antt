@@ -22,10 +22,13 @@ loop-symbol-preserved c =
     elim c.if-is_lone.branch [
       | then-is_lone+in_ok-push w ↦
           ap (λ (v : Vec Sym). v.items) w.symbols-is ∙ w.in_ok-push.ensures.items ∙ ap (λ (l : List Sym). l ++ item ∷ []) c.loop-symbol.invariant
-          ∙ append_assoc old before (item ∷ []) ∙ ap (λ (b : Bool). old ++ (before ++ cond b (item ∷ []) [])) (sym (sym c.is_lone.ensures ∙ w.if-is_lone.true)) ∙ ap (λ (l : List Sym). old ++ l) (sym more)
+          ∙ append_assoc old before (item ∷ []) ∙ ap (λ (b : Bool). old ++ (before ++ cond b (item ∷ []) [])) (sym (sym c.is_lone.ensures ∙ w.if-is_lone.true))
+          ∙ ap (λ (l : List Sym). old ++ l) (sym more)
       | else-is_lone w ↦
           ap (λ (v : Vec Sym). v.items) w.symbols-is ∙ c.loop-symbol.invariant
-          ∙ ap (λ (l : List Sym). old ++ l) (sym (append-nil before)) ∙ ap (λ (b : Bool). old ++ (before ++ cond b (item ∷ []) [])) (sym (sym c.is_lone.ensures ∙ w.if-is_lone.false)) ∙ ap (λ (l : List Sym). old ++ l) (sym more)
+          ∙ ap (λ (l : List Sym). old ++ l) (sym (append-nil before))
+          ∙ ap (λ (b : Bool). old ++ (before ++ cond b (item ∷ []) [])) (sym (sym c.is_lone.ensures ∙ w.if-is_lone.false))
+          ∙ ap (λ (l : List Sym). old ++ l) (sym more)
     ]
 
 pub returns : goal.returns
@@ -34,5 +37,6 @@ returns c =
     let alt = c.args.alt.now in
     let old = c.args.symbols.now.items in
     c.loop-symbol.invariant
-    ∙ ap (λ (l : List Sym). old ++ filter (λ (s : Sym). nat_eq (need f s) c.count_needed-needed.result) l) (take_all c.loop-symbol.symbol-index alt c.loop-symbol-test.false)
+    ∙ ap (λ (l : List Sym). old ++ filter (λ (s : Sym). nat_eq (need f s) c.count_needed-needed.result) l)
+    (take_all c.loop-symbol.symbol-index alt c.loop-symbol-test.false)
     ∙ ap (λ n. old ++ filter (λ (s : Sym). nat_eq (need f s) n) alt) c.count_needed-needed.ensures

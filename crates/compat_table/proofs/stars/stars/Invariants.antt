@@ -9,6 +9,7 @@ abbrev pub invariant-loop-rule : goal.invariant-loop-rule
 invariant-loop-rule l =
     record {
       so_far : length l.stars.items ≡ l.rule;
-      are : (r : ℕ) (row symbols : Symbols) → slice_get (map symbols_of l.rows) r ≡ Some row → slice_get (map symbols_of l.stars.items) r ≡ Some symbols → AreStars (map rule_form l.rules) r row.rules symbols;
+      are : (r : ℕ) (row symbols : Symbols) → slice_get (map symbols_of l.rows) r ≡ Some row → slice_get (map symbols_of l.stars.items) r ≡ Some symbols
+          → AreStars (map rule_form l.rules) r row.rules symbols;
       sorted : (r : ℕ) (symbols : Symbols) → slice_get (map symbols_of l.stars.items) r ≡ Some symbols → IsSortedRow symbols;
     }

@@ -11,7 +11,8 @@ use Rattle.compat_table.proofs.stars.stars_of.Goals as goal
 
 pub loop-other-init : goal.loop-other-init
 loop-other-init c =
-    stars_begun (map rule_form c.args.rules.now) c.args.rule (symbols_of c.new-stars.result) (symbols_of c.push_star.new.stars) (none_among (symbols_of c.new-stars.result) c.new-stars.ensures) c.in_ok-push_star.ensures
+    stars_begun (map rule_form c.args.rules.now) c.args.rule (symbols_of c.new-stars.result) (symbols_of c.push_star.new.stars)
+    (none_among (symbols_of c.new-stars.result) c.new-stars.ensures) c.in_ok-push_star.ensures
 
 pub loop-other-preserved : goal.loop-other-preserved
 loop-other-preserved c =
@@ -20,7 +21,9 @@ loop-other-preserved c =
     let same = c.deref-other-items.ensures.value in
     let i = c.loop-other.other-index in
     let before = subst (λ (l : List ℕ). AreStars rules c.args.rule (take i l) (symbols_of c.loop-other.stars)) (sym same) c.loop-other.invariant in
-    let more = stars_more rules c.args.rule (take i read) (get_or read i 0) (symbols_of c.loop-other.stars) (symbols_of c.push_star-in-loop-other.new.stars) before c.in_ok-push_star-2.ensures in
+    let more =
+    stars_more rules c.args.rule (take i read) (get_or read i 0) (symbols_of c.loop-other.stars)
+    (symbols_of c.push_star-in-loop-other.new.stars) before c.in_ok-push_star-2.ensures in
     let P : List ℕ → Type 0 = λ l. AreStars rules c.args.rule l (symbols_of c.push_star-in-loop-other.new.stars) in
     let all : P (take (i + 1) read) = rw (add-one, take-suc read i 0 c.loop-other-test.true) more in
     subst (λ (l : List ℕ). P (take (i + 1) l)) same all

@@ -21,10 +21,18 @@ pub twin-requires : goal.twin-requires
 twin-requires c = omega (arith, c.requires.small, (counts_fit (grammar_of c.args.grammar.now)).rules, length-map c.args.grammar.now.rules.items rule_of)
 
 pub new-requires-2 : goal.new-requires-2
-new-requires-2 c = omega (arith, c.requires.small, (counts_fit (grammar_of c.args.grammar.now)).rules, length-map c.args.grammar.now.rules.items rule_of, ap length c.deref.ensures.value)
+new-requires-2 c =
+    omega (
+      arith,
+      c.requires.small,
+      (counts_fit (grammar_of c.args.grammar.now)).rules,
+      length-map c.args.grammar.now.rules.items rule_of,
+      ap length c.deref.ensures.value,
+    )
 
 pub lexer_fault-requires-clause-small : goal.lexer_fault-requires-clause-small
-lexer_fault-requires-clause-small c = omega (arith, c.requires.small, (counts_fit (grammar_of c.args.grammar.now)).rules, length-map c.args.grammar.now.rules.items rule_of)
+lexer_fault-requires-clause-small c =
+    omega (arith, c.requires.small, (counts_fit (grammar_of c.args.grammar.now)).rules, length-map c.args.grammar.now.rules.items rule_of)
 
 pub lexer_fault-requires-clause-one : goal.lexer_fault-requires-clause-one
 lexer_fault-requires-clause-one c =
@@ -67,7 +75,8 @@ returns-in-Some-4 c =
     let unknown = subst First c.in_default-2.is (subst Unknown c.in_ok-names.ensures c.in_ok-name-2.ensures) in
     let found = sym c.in_ok-start.ensures ∙ c.in-Some-3.is in
     let started = before_eof G wanted c.in-Some-3.start found twins unknown in
-    eof_at G wanted c.in-Some-3.start found c.in-Some-4.rule started (with_name G (EofPlace G c.in-Some-3.start) c.in_ok-rule.field-0 (Some c.in-Some-4.rule) c.in-Some-4.is c.in_ok-rule.ensures)
+    eof_at G wanted c.in-Some-3.start found c.in-Some-4.rule started
+    (with_name G (EofPlace G c.in-Some-3.start) c.in_ok-rule.field-0 (Some c.in-Some-4.rule) c.in-Some-4.is c.in_ok-rule.ensures)
 
 pub returns-in-Faulty : goal.returns-in-Faulty
 returns-in-Faulty c =
@@ -79,7 +88,9 @@ returns-in-Faulty c =
     let unknown = subst First c.in_default-2.is (subst Unknown c.in_ok-names.ensures c.in_ok-name-2.ensures) in
     let found = sym c.in_ok-start.ensures ∙ c.in-Some-3.is in
     let started = before_eof G wanted c.in-Some-3.start found twins unknown in
-    let ends = before_loops G wanted c.in-Some-3.start found started (with_name G (EofPlace G c.in-Some-3.start) c.in_ok-rule.field-0 None c.in_default-4.is c.in_ok-rule.ensures) in
+    let ends =
+    before_loops G wanted c.in-Some-3.start found started
+    (with_name G (EofPlace G c.in-Some-3.start) c.in_ok-rule.field-0 None c.in_default-4.is c.in_ok-rule.ensures) in
     let Lexer : LexerAnswer → Type 0 = λ a. IsLexerAnswer G wanted a in
     subst Lexer c.in-Faulty.is (c.in_ok-fault.ensures wanted ends)
 
@@ -93,7 +104,8 @@ parser_fault-requires-clause-lexer c =
     let unknown = subst First c.in_default-2.is (subst Unknown c.in_ok-names.ensures c.in_ok-name-2.ensures) in
     let found = sym c.in_ok-start.ensures ∙ c.in-Some-3.is in
     let started = before_eof G wanted c.in-Some-3.start found twins unknown in
-    let ends = before_loops G wanted c.in-Some-3.start found started (with_name G (EofPlace G c.in-Some-3.start) c.in_ok-rule.field-0 None c.in_default-4.is c.in_ok-rule.ensures) in
+    let ends = before_loops G wanted c.in-Some-3.start found started
+    (with_name G (EofPlace G c.in-Some-3.start) c.in_ok-rule.field-0 None c.in_default-4.is c.in_ok-rule.ensures) in
     let Lexer : LexerAnswer → Type 0 = λ a. IsLexerAnswer G wanted a in
     let lexer = subst Lexer c.in-Sound.is (c.in_ok-fault.ensures wanted ends) in
     lexer.1
@@ -108,7 +120,8 @@ returns-in-Some-5 c =
     let unknown = subst First c.in_default-2.is (subst Unknown c.in_ok-names.ensures c.in_ok-name-2.ensures) in
     let found = sym c.in_ok-start.ensures ∙ c.in-Some-3.is in
     let started = before_eof G wanted c.in-Some-3.start found twins unknown in
-    let ends = before_loops G wanted c.in-Some-3.start found started (with_name G (EofPlace G c.in-Some-3.start) c.in_ok-rule.field-0 None c.in_default-4.is c.in_ok-rule.ensures) in
+    let ends = before_loops G wanted c.in-Some-3.start found
+    started (with_name G (EofPlace G c.in-Some-3.start) c.in_ok-rule.field-0 None c.in_default-4.is c.in_ok-rule.ensures) in
     let Lexer : LexerAnswer → Type 0 = λ a. IsLexerAnswer G wanted a in
     let lexer = subst Lexer c.in-Sound.is (c.in_ok-fault.ensures wanted ends) in
     let Parser : Option CheckFault → Type 0 = λ a. IsFirstBefore G wanted 12 a in
@@ -124,7 +137,8 @@ returns c =
     let unknown = subst First c.in_default-2.is (subst Unknown c.in_ok-names.ensures c.in_ok-name-2.ensures) in
     let found = sym c.in_ok-start.ensures ∙ c.in-Some-3.is in
     let started = before_eof G wanted c.in-Some-3.start found twins unknown in
-    let ends = before_loops G wanted c.in-Some-3.start found started (with_name G (EofPlace G c.in-Some-3.start) c.in_ok-rule.field-0 None c.in_default-4.is c.in_ok-rule.ensures) in
+    let ends = before_loops G wanted c.in-Some-3.start
+    found started (with_name G (EofPlace G c.in-Some-3.start) c.in_ok-rule.field-0 None c.in_default-4.is c.in_ok-rule.ensures) in
     let Lexer : LexerAnswer → Type 0 = λ a. IsLexerAnswer G wanted a in
     let lexer = subst Lexer c.in-Sound.is (c.in_ok-fault.ensures wanted ends) in
     let Parser : Option CheckFault → Type 0 = λ a. IsFirstBefore G wanted 12 a in

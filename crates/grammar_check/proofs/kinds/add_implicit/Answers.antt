@@ -15,8 +15,10 @@ returns c =
     let old = map kind_of c.args.kinds.now.items in
     let f = λ (t : List ℕ). position (is_named_by t) rules in
     let literals : c.in_ok-literals.literals.items ≡ filter_map as_literal (all_references rules) =
-    c.in_ok-literals.ensures ∙ ap (λ l. filter_map as_literal (map token_ref l)) c.deref.ensures.value ∙ ap (filter_map as_literal) c.in_ok-references.ensures in
-    let texts : c.deref-3.result.now ≡ distinct c.in_ok-literals.literals.items = c.deref-3.ensures.value ∙ c.in_ok-texts.ensures ∙ ap distinct c.deref-2.ensures.value in
+    c.in_ok-literals.ensures ∙ ap (λ l. filter_map as_literal (map token_ref l)) c.deref.ensures.value
+    ∙ ap (filter_map as_literal) c.in_ok-references.ensures in
+    let texts : c.deref-3.result.now ≡ distinct c.in_ok-literals.literals.items =
+    c.deref-3.ensures.value ∙ c.in_ok-texts.ensures ∙ ap distinct c.deref-2.ensures.value in
     c.in_ok-add_all_absent.ensures f c.in_ok-named.ensures
     ∙ ap (λ ts. old ++ map (plain_kind Source.implicit) (absent f ts)) texts
     ∙ ap (λ l. old ++ l) (implicit_are rules c.in_ok-literals.literals.items literals)

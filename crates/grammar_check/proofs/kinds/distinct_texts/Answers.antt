@@ -16,5 +16,7 @@ loop-text-preserved c =
     let P : List (List ℕ) → Type 0 = λ l. Finds c.add_distinct.new.seen (seen_in l) in
     record {
       seen = subst P (sym more) it.0;
-      found = it.1 ∙ ap (λ l. l ++ unless_seen so_far c.text-item.result) c.loop-text.invariant.found ∙ sym (distinct_push so_far c.text-item.result) ∙ ap distinct (sym more);
+      found =
+          it.1 ∙ ap (λ l. l ++ unless_seen so_far c.text-item.result) c.loop-text.invariant.found ∙ sym (distinct_push so_far c.text-item.result)
+          ∙ ap distinct (sym more);
     }

@@ -10,7 +10,8 @@ pub callees_first-requires-clause-closed : goal.callees_first-requires-clause-cl
 callees_first-requires-clause-closed c =
     let rows = c.in_ok-back.back.items in
     let P : List (Vec ℕ Global) → Type 0 = λ l. IsClosed (map items l) in
-    subst P (sym c.deref.ensures.value) (closed_rows items rows (length c.args.edges.now) (omega (arith, c.in_ok-back.ensures.len, c.in_ok-back.back.ok.0)) c.in_ok-back.ensures.within)
+    subst P (sym c.deref.ensures.value) (closed_rows items rows (length c.args.edges.now)
+    (omega (arith, c.in_ok-back.ensures.len, c.in_ok-back.back.ok.0)) c.in_ok-back.ensures.within)
 
 pub returns : goal.returns
 returns c = λ i cycle. c.loop-node.invariant i (omega (arith, on_cycle_within items c.args.edges.now i cycle)) cycle

@@ -38,5 +38,6 @@ returns c =
     let s = c.loop-row.search in
     let P : ℕ → Type 0 = λ n. AreFound rows s.found.items n in
     let whole : c.loop-row.row-index ≡ length rows = omega (arith, length-map edges items) in
-    targets rows s.found.items s.reached.items (subst P whole c.loop-row.invariant.1) c.requires (omega (arith, c.loop-row.invariant.0, s.reached.ok.0, length-map edges items))
+    targets rows s.found.items s.reached.items (subst P whole c.loop-row.invariant.1) c.requires
+    (omega (arith, c.loop-row.invariant.0, s.reached.ok.0, length-map edges items))
     (λ j lt. s.agree j (omega (arith, s.reached.ok.0)))

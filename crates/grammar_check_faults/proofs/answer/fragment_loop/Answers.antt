@@ -10,11 +10,14 @@ use Rattle.grammar_check_faults.proofs.FirstForms.{same_first}
 use Rattle.grammar_check_faults.proofs.answer.fragment_loop.Goals as goal
 
 pub first_on_cycle-requires-clause-closed : goal.first_on_cycle-requires-clause-closed
-first_on_cycle-requires-clause-closed c = let P : List (List ℕ) → Type 0 = IsClosed in subst P (sym c.requires.edges) (closed (grammar_of c.args.grammar.now).rules)
+first_on_cycle-requires-clause-closed c = let P : List (List ℕ) → Type 0 =
+    IsClosed in subst P (sym c.requires.edges) (closed (grammar_of c.args.grammar.now).rules)
 
 pub returns : goal.returns
 returns c =
     let G = grammar_of c.args.grammar.now in
     let P : List (List ℕ) → Type 0 = λ l. IsFirstOrNone (IsOnCycle l) c.in_ok-index.index in
-    let first = same_first (IsOnCycle (lexer_edges G.rules)) (FragmentLoop G) (loops G c.requires.one) (λ i h. uses_itself G c.requires.one i h.0 h.1 h.2) c.in_ok-index.index (subst P c.requires.edges c.in_ok-index.ensures) in
+    let first =
+    same_first (IsOnCycle (lexer_edges G.rules)) (FragmentLoop G) (loops G c.requires.one)
+    (λ i h. uses_itself G c.requires.one i h.0 h.1 h.2) c.in_ok-index.index (subst P c.requires.edges c.in_ok-index.ensures) in
     named_first G (FragmentLoop G) (loops_are_rules G) c.in_ok-index.index c.in_ok-name.name c.in_ok-name.ensures first

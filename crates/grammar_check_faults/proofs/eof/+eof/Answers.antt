@@ -13,7 +13,8 @@ pub alts_have_eof-returns-then-terms_have_eof : goal.alts_have_eof-returns-then-
 alts_have_eof-returns-then-terms_have_eof t c =
     let whole = out-ParserAlts c.args.alts.now in
     let test = λ (s : ParserTerms). seq_has_eof (written_seq (parser_terms s)) in
-    sym (eof_alts c.args.alts.now ∙ any_passes test whole.items.items c.loop-i.i c.index.result.now (omega (arith, whole.items.ok.0)) c.index.ensures (sym c.terms_have_eof.ensures ∙ c.if-terms_have_eof.true))
+    sym (eof_alts c.args.alts.now ∙ any_passes test whole.items.items c.loop-i.i c.index.result.now (omega (arith, whole.items.ok.0)) c.index.ensures
+    (sym c.terms_have_eof.ensures ∙ c.if-terms_have_eof.true))
 
 pub alts_have_eof-returns : goal.alts_have_eof-returns
 alts_have_eof-returns t c =
@@ -25,7 +26,8 @@ pub terms_have_eof-returns-then-term_has_eof : goal.terms_have_eof-returns-then-
 terms_have_eof-returns-then-term_has_eof t c =
     let whole = out-ParserTerms c.args.terms.now in
     let test = λ (x : ParserTerm). has_eof (parser_term x) in
-    sym (eof_seq c.args.terms.now ∙ any_passes test whole.items.items c.loop-i.i c.index.result.now (omega (arith, whole.items.ok.0)) c.index.ensures (sym c.term_has_eof.ensures ∙ c.if-term_has_eof.true))
+    sym (eof_seq c.args.terms.now ∙ any_passes test whole.items.items c.loop-i.i c.index.result.now (omega (arith, whole.items.ok.0)) c.index.ensures
+    (sym c.term_has_eof.ensures ∙ c.if-term_has_eof.true))
 
 pub terms_have_eof-returns : goal.terms_have_eof-returns
 terms_have_eof-returns t c =

@@ -57,4 +57,5 @@ loop-index-preserved c =
 pub returns : goal.returns
 returns c =
     let rules = c.args.grammar.now.rules in
-    nowhere (EofPlace (grammar_of c.args.grammar.now) c.args.start) c.loop-index.index c.loop-index.invariant (λ i h. omega (arith, index_within rules.items i (WrittenRule.parser_rule h.0) h.1, rules.ok.0))
+    nowhere (EofPlace (grammar_of c.args.grammar.now) c.args.start) c.loop-index.index c.loop-index.invariant
+    (λ i h. omega (arith, index_within rules.items i (WrittenRule.parser_rule h.0) h.1, rules.ok.0))

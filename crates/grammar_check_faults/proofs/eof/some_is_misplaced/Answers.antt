@@ -13,7 +13,8 @@ returns-then-terms_are_misplaced c =
     let whole = out-ParserAlts c.args.alts.now in
     let test = λ (s : ParserTerms). is_misplaced_in (written_seq (parser_terms s)) in
     sym (misplaced_alts c.args.alts.now
-    ∙ any_passes test whole.items.items c.loop-i.i c.index.result.now (omega (arith, whole.items.ok.0)) c.index.ensures (sym c.terms_are_misplaced.ensures ∙ c.if-terms_are_misplaced.true))
+    ∙ any_passes test whole.items.items c.loop-i.i c.index.result.now (omega (arith, whole.items.ok.0)) c.index.ensures
+    (sym c.terms_are_misplaced.ensures ∙ c.if-terms_are_misplaced.true))
 
 pub returns : goal.returns
 returns c =

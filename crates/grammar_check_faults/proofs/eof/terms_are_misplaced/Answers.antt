@@ -8,7 +8,8 @@ returns-then-term_is_misplaced c =
     let s = c.args.terms.now in
     let i = c.loop-i.i in
     let whole = out-ParserTerms s in
-    sym (c.loop-i.invariant ∙ misplaced_at s i c.len.result c.index.result.now (omega (arith, c.len.ensures, whole.items.ok.0)) (omega (arith, c.len.ensures, c.len-i-end.ensures)) c.index.ensures
+    sym (c.loop-i.invariant ∙ misplaced_at s i c.len.result c.index.result.now (omega (arith, c.len.ensures, whole.items.ok.0))
+    (omega (arith, c.len.ensures, c.len-i-end.ensures)) c.index.ensures
     ∙ ap (λ b. b || from s (i + 1)) (sym c.term_is_misplaced.ensures ∙ c.if-term_is_misplaced.true))
 
 pub loop-i-preserved : goal.loop-i-preserved
@@ -16,7 +17,8 @@ loop-i-preserved c =
     let s = c.args.terms.now in
     let i = c.loop-i.i in
     let whole = out-ParserTerms s in
-    c.loop-i.invariant ∙ misplaced_at s i c.len.result c.index.result.now (omega (arith, c.len.ensures, whole.items.ok.0)) (omega (arith, c.len.ensures, c.len-i-end.ensures)) c.index.ensures
+    c.loop-i.invariant ∙ misplaced_at s i c.len.result c.index.result.now (omega (arith, c.len.ensures, whole.items.ok.0))
+    (omega (arith, c.len.ensures, c.len-i-end.ensures)) c.index.ensures
     ∙ ap (λ b. b || from s (i + 1)) (sym c.term_is_misplaced.ensures ∙ c.if-term_is_misplaced.false)
 
 pub returns : goal.returns

@@ -14,7 +14,8 @@ returns-then-makes_empty_token c =
     let rules = c.args.grammar.now.rules in
     let i = c.loop-index.index in
     let at = rule_at rules.items i c.index.result.now (omega (arith, rules.ok.0)) c.index.ensures in
-    let test : is_empty_token (rule_of c.index.result.now) (flag c.args.flags.now i) ≡ true = ap (is_empty_token (rule_of c.index.result.now)) (sym c.is_flagged-empty.ensures) ∙ sym c.makes_empty_token.ensures ∙ c.if-makes_empty_token.true in
+    let test : is_empty_token (rule_of c.index.result.now) (flag c.args.flags.now i) ≡ true =
+    ap (is_empty_token (rule_of c.index.result.now)) (sym c.is_flagged-empty.ensures) ∙ sym c.makes_empty_token.ensures ∙ c.if-makes_empty_token.true in
     record { holds = empty_token G i (rule_of c.index.result.now) at c.args.flags.now c.requires.empty test; before = c.loop-index.invariant }
 
 pub loop-index-preserved : goal.loop-index-preserved
@@ -23,10 +24,12 @@ loop-index-preserved c =
     let rules = c.args.grammar.now.rules in
     let i = c.loop-index.index in
     let at = rule_at rules.items i c.index.result.now (omega (arith, rules.ok.0)) c.index.ensures in
-    let test : is_empty_token (rule_of c.index.result.now) (flag c.args.flags.now i) ≡ false = ap (is_empty_token (rule_of c.index.result.now)) (sym c.is_flagged-empty.ensures) ∙ sym c.makes_empty_token.ensures ∙ c.if-makes_empty_token.false in
+    let test : is_empty_token (rule_of c.index.result.now) (flag c.args.flags.now i) ≡ false =
+    ap (is_empty_token (rule_of c.index.result.now)) (sym c.is_flagged-empty.ensures) ∙ sym c.makes_empty_token.ensures ∙ c.if-makes_empty_token.false in
     not_here (EmptyToken G) i c.loop-index.invariant (no_empty_token G i (rule_of c.index.result.now) at c.args.flags.now c.requires.empty test)
 
 pub returns : goal.returns
 returns c =
     let rules = c.args.grammar.now.rules in
-    nowhere (EmptyToken (grammar_of c.args.grammar.now)) c.loop-index.index c.loop-index.invariant (λ i h. omega (arith, index_within rules.items i (WrittenRule.lexer_rule h.0) h.1, rules.ok.0))
+    nowhere (EmptyToken (grammar_of c.args.grammar.now)) c.loop-index.index c.loop-index.invariant
+    (λ i h. omega (arith, index_within rules.items i (WrittenRule.lexer_rule h.0) h.1, rules.ok.0))

@@ -17,7 +17,8 @@ returns-then-has_empty_loop c =
     let i = c.loop-index.index in
     let at = rule_at rules.items i c.index.result.now (omega (arith, rules.ok.0)) c.index.ensures in
     let test : is_looping_rule (lexer_index G.rules) (flag c.args.flags.now) (rule_of c.index.result.now) ≡ true =
-    ap (λ (rs : List Rule). is_looping_rule (lexer_index (map rule_of rs)) (flag c.args.flags.now) (rule_of c.index.result.now)) (sym c.requires.names) ∙ sym c.has_empty_loop.ensures ∙ c.if-has_empty_loop.true in
+    ap (λ (rs : List Rule). is_looping_rule (lexer_index (map rule_of rs)) (flag c.args.flags.now) (rule_of c.index.result.now)) (sym c.requires.names)
+    ∙ sym c.has_empty_loop.ensures ∙ c.if-has_empty_loop.true in
     record { holds = loop_there G i (rule_of c.index.result.now) at c.args.flags.now c.requires.empty c.requires.one test; before = c.loop-index.invariant }
 
 pub loop-index-preserved : goal.loop-index-preserved
@@ -27,10 +28,12 @@ loop-index-preserved c =
     let i = c.loop-index.index in
     let at = rule_at rules.items i c.index.result.now (omega (arith, rules.ok.0)) c.index.ensures in
     let test : is_looping_rule (lexer_index G.rules) (flag c.args.flags.now) (rule_of c.index.result.now) ≡ false =
-    ap (λ (rs : List Rule). is_looping_rule (lexer_index (map rule_of rs)) (flag c.args.flags.now) (rule_of c.index.result.now)) (sym c.requires.names) ∙ sym c.has_empty_loop.ensures ∙ c.if-has_empty_loop.false in
+    ap (λ (rs : List Rule). is_looping_rule (lexer_index (map rule_of rs)) (flag c.args.flags.now) (rule_of c.index.result.now)) (sym c.requires.names)
+    ∙ sym c.has_empty_loop.ensures ∙ c.if-has_empty_loop.false in
     not_here (LexerLoopAt G) i c.loop-index.invariant (no_loop G i (rule_of c.index.result.now) at c.args.flags.now c.requires.empty c.requires.one test)
 
 pub returns : goal.returns
 returns c =
     let rules = c.args.grammar.now.rules in
-    nowhere (LexerLoopAt (grammar_of c.args.grammar.now)) c.loop-index.index c.loop-index.invariant (λ i h. omega (arith, index_within rules.items i (WrittenRule.lexer_rule h.0) h.1, rules.ok.0))
+    nowhere (LexerLoopAt (grammar_of c.args.grammar.now)) c.loop-index.index c.loop-index.invariant
+    (λ i h. omega (arith, index_within rules.items i (WrittenRule.lexer_rule h.0) h.1, rules.ok.0))

@@ -8,4 +8,5 @@ returns-then-not-fragment c = sym (ap (λ r. is_empty_token (rule_of r) c.args.e
 
 pub returns-else-not-fragment : goal.returns-else-not-fragment
 returns-else-not-fragment c =
-    ap not c.if-not-fragment.false ∙ sym (ap (λ r. is_empty_token (rule_of r) c.args.empty) c.in-Lexer.is ∙ ap (λ b. not b && c.args.empty) c.if-not-fragment.false)
+    ap not c.if-not-fragment.false ∙ sym (ap (λ r. is_empty_token (rule_of r) c.args.empty) c.in-Lexer.is
+    ∙ ap (λ b. not b && c.args.empty) c.if-not-fragment.false)

@@ -21,5 +21,6 @@ returns c =
     let G = c.args.names.now in
     let edges = map items c.in_ok-edges.edges.items in
     let P : List (Vec ℕ Global) → Type 0 = λ l. IfOk c.first_on_cycle.result (IsFirstOrNone (IsOnCycle (map items l))) in
-    ok_first (IsOnCycle edges) (LeadsBackAt (bodies G)) c.first_on_cycle.result (leads_back G c.args.flags.now edges c.requires.empty c.in_ok-edges.ensures) (back_leads G c.args.flags.now edges c.requires.empty c.in_ok-edges.ensures)
+    ok_first (IsOnCycle edges) (LeadsBackAt (bodies G)) c.first_on_cycle.result (leads_back G c.args.flags.now edges c.requires.empty c.in_ok-edges.ensures)
+    (back_leads G c.args.flags.now edges c.requires.empty c.in_ok-edges.ensures)
     (subst P c.deref.ensures.value c.first_on_cycle.ensures)

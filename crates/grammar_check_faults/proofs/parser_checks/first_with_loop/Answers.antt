@@ -14,23 +14,38 @@ view a = parser_alts a.now
 pub returns-then-alts_have_empty_loop : goal.returns-then-alts_have_empty_loop
 returns-then-alts_have_empty_loop c =
     let G = c.args.names.now in
-    let body = body_at view G c.args.rules.now c.requires.bodies c.loop-number.number c.index-rules-number.result c.loop-number-test.true c.index-rules-number.is in
-    record { holds = loop_there (bodies G) c.loop-number.number _ body c.args.flags.now c.requires.empty (sym c.alts_have_empty_loop.ensures ∙ c.if-alts_have_empty_loop.true); before = c.loop-number.invariant }
+    let body =
+    body_at view G c.args.rules.now c.requires.bodies c.loop-number.number c.index-rules-number.result c.loop-number-test.true c.index-rules-number.is in
+    record {
+      holds =
+          loop_there (bodies G) c.loop-number.number _ body c.args.flags.now c.requires.empty
+          (sym c.alts_have_empty_loop.ensures ∙ c.if-alts_have_empty_loop.true);
+      before = c.loop-number.invariant;
+    }
 
 pub returns-then-some_rest_can_be_empty : goal.returns-then-some_rest_can_be_empty
 returns-then-some_rest_can_be_empty c =
     let G = c.args.names.now in
-    let body = body_at view G c.args.rules.now c.requires.bodies c.loop-number.number c.index-rules-number.result c.loop-number-test.true c.index-rules-number.is in
-    record { holds = rest_there (bodies G) c.loop-number.number _ body c.args.flags.now c.requires.empty (sym c.some_rest_can_be_empty.ensures ∙ c.if-some_rest_can_be_empty.true); before = c.loop-number.invariant }
+    let body = body_at view G c.args.rules.now c.requires.bodies c.loop-number.number c.index-rules-number.result c.loop-number-test.true
+    c.index-rules-number.is in
+    record {
+      holds =
+          rest_there (bodies G) c.loop-number.number _ body c.args.flags.now c.requires.empty
+          (sym c.some_rest_can_be_empty.ensures ∙ c.if-some_rest_can_be_empty.true);
+      before = c.loop-number.invariant;
+    }
 
 pub loop-number-preserved : goal.loop-number-preserved
 loop-number-preserved c =
     let G = c.args.names.now in
-    let body = body_at view G c.args.rules.now c.requires.bodies c.loop-number.number c.index-rules-number.result c.loop-number-test.true c.index-rules-number.is in
+    let body = body_at view G c.args.rules.now c.requires.bodies c.loop-number.number c.index-rules-number.result
+    c.loop-number-test.true c.index-rules-number.is in
     not_here (HasLoopAt (bodies G)) c.loop-number.number c.loop-number.invariant
-    (no_loop (bodies G) c.loop-number.number _ body c.args.flags.now c.requires.empty (sym c.alts_have_empty_loop.ensures ∙ c.if-alts_have_empty_loop.false) (sym c.some_rest_can_be_empty.ensures ∙ c.if-some_rest_can_be_empty.false))
+    (no_loop (bodies G) c.loop-number.number _ body c.args.flags.now c.requires.empty (sym c.alts_have_empty_loop.ensures ∙ c.if-alts_have_empty_loop.false)
+    (sym c.some_rest_can_be_empty.ensures ∙ c.if-some_rest_can_be_empty.false))
 
 pub returns : goal.returns
 returns c =
     let G = c.args.names.now in
-    nowhere (HasLoopAt (bodies G)) c.loop-number.number c.loop-number.invariant (λ r h. omega (arith, body_within view G c.args.rules.now c.requires.bodies r h.0 h.1))
+    nowhere (HasLoopAt (bodies G)) c.loop-number.number c.loop-number.invariant
+    (λ r h. omega (arith, body_within view G c.args.rules.now c.requires.bodies r h.0 h.1))

@@ -14,16 +14,20 @@ view a = parser_alts a.now
 pub returns-then-not-has_base : goal.returns-then-not-has_base
 returns-then-not-has_base c =
     let G = c.args.names.now in
-    let body = body_at view G c.args.rules.now c.requires.bodies c.loop-number.number c.index-rules-number.result c.loop-number-test.true c.index-rules-number.is in
+    let body =
+    body_at view G c.args.rules.now c.requires.bodies c.loop-number.number c.index-rules-number.result c.loop-number-test.true c.index-rules-number.is in
     record { holds = base_missing (bodies G) c.loop-number.number _ body (sym c.has_base.ensures ∙ c.if-not-has_base.true); before = c.loop-number.invariant }
 
 pub loop-number-preserved : goal.loop-number-preserved
 loop-number-preserved c =
     let G = c.args.names.now in
-    let body = body_at view G c.args.rules.now c.requires.bodies c.loop-number.number c.index-rules-number.result c.loop-number-test.true c.index-rules-number.is in
-    not_here (HasNoBaseAt (bodies G)) c.loop-number.number c.loop-number.invariant (base_there (bodies G) c.loop-number.number _ body (sym c.has_base.ensures ∙ c.if-not-has_base.false))
+    let body = body_at view G c.args.rules.now c.requires.bodies c.loop-number.number c.index-rules-number.result c.loop-number-test.true
+    c.index-rules-number.is in
+    not_here (HasNoBaseAt (bodies G)) c.loop-number.number c.loop-number.invariant
+    (base_there (bodies G) c.loop-number.number _ body (sym c.has_base.ensures ∙ c.if-not-has_base.false))
 
 pub returns : goal.returns
 returns c =
     let G = c.args.names.now in
-    nowhere (HasNoBaseAt (bodies G)) c.loop-number.number c.loop-number.invariant (λ r h. omega (arith, body_within view G c.args.rules.now c.requires.bodies r h.0 h.1))
+    nowhere (HasNoBaseAt (bodies G)) c.loop-number.number c.loop-number.invariant
+    (λ r h. omega (arith, body_within view G c.args.rules.now c.requires.bodies r h.0 h.1))

@@ -11,4 +11,5 @@ pub returns : goal.returns
 returns c =
     let G = c.args.names.now in
     let R : Option ℕ → Type 0 = λ o. IsFirstOrNone (ParserLoopAt G) o in
-    subst R (sym (c.index_of.ensures ∙ ap (λ ps. index_at ps c.first_with_loop.result) c.requires.indices)) (first_index G (HasLoopAt (bodies G)) (ParserLoopAt G) (loops_by_index G) c.first_with_loop.result c.first_with_loop.ensures)
+    subst R (sym (c.index_of.ensures ∙ ap (λ ps. index_at ps c.first_with_loop.result) c.requires.indices))
+    (first_index G (HasLoopAt (bodies G)) (ParserLoopAt G) (loops_by_index G) c.first_with_loop.result c.first_with_loop.ensures)

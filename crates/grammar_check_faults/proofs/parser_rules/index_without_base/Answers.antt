@@ -11,4 +11,5 @@ pub returns : goal.returns
 returns c =
     let G = c.args.names.now in
     let R : Option ℕ → Type 0 = λ o. IsFirstOrNone (NoBase G) o in
-    subst R (sym (c.index_of.ensures ∙ ap (λ ps. index_at ps c.first_without_base.result) c.requires.indices)) (first_index G (HasNoBaseAt (bodies G)) (NoBase G) (bases_by_index G) c.first_without_base.result c.first_without_base.ensures)
+    subst R (sym (c.index_of.ensures ∙ ap (λ ps. index_at ps c.first_without_base.result) c.requires.indices))
+    (first_index G (HasNoBaseAt (bodies G)) (NoBase G) (bases_by_index G) c.first_without_base.result c.first_without_base.ensures)

@@ -11,4 +11,5 @@ pub returns : goal.returns
 returns c =
     let G = c.args.names.now in
     let R : Option ℕ → Type 0 = λ o. IsFirstOrNone (LeftRecursion G) o in
-    subst R (sym (c.index_of.ensures ∙ ap (λ ps. index_at ps c.in_ok-number.number) c.requires.indices)) (first_index G (LeadsBackAt (bodies G)) (LeftRecursion G) (recursion_by_index G) c.in_ok-number.number c.in_ok-number.ensures)
+    subst R (sym (c.index_of.ensures ∙ ap (λ ps. index_at ps c.in_ok-number.number) c.requires.indices))
+    (first_index G (LeadsBackAt (bodies G)) (LeftRecursion G) (recursion_by_index G) c.in_ok-number.number c.in_ok-number.ensures)

@@ -10,13 +10,15 @@ pub returns-then-is_parser : goal.returns-then-is_parser
 returns-then-is_parser c =
     let rules = c.args.rules.now in
     let i = c.loop-index.index in
-    sym (found_first is_parser_rule (map rule_of rules) i _ c.loop-index.invariant (rule_at rules i c.index-rules-index.result c.loop-index-test.true c.index-rules-index.is) (sym c.is_parser.ensures ∙ c.if-is_parser.true))
+    sym (found_first is_parser_rule (map rule_of rules) i _ c.loop-index.invariant
+    (rule_at rules i c.index-rules-index.result c.loop-index-test.true c.index-rules-index.is) (sym c.is_parser.ensures ∙ c.if-is_parser.true))
 
 pub loop-index-preserved : goal.loop-index-preserved
 loop-index-preserved c =
     let rules = c.args.rules.now in
     let i = c.loop-index.index in
-    one_more is_parser_rule (map rule_of rules) i _ c.loop-index.invariant (rule_at rules i c.index-rules-index.result c.loop-index-test.true c.index-rules-index.is) (sym c.is_parser.ensures ∙ c.if-is_parser.false)
+    one_more is_parser_rule (map rule_of rules) i _ c.loop-index.invariant
+    (rule_at rules i c.index-rules-index.result c.loop-index-test.true c.index-rules-index.is) (sym c.is_parser.ensures ∙ c.if-is_parser.false)
 
 pub returns : goal.returns
 returns c =

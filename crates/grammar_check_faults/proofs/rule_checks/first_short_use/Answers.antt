@@ -22,8 +22,14 @@ returns-then-is_used_short c =
     let P : List (List ℕ) → Type 0 = λ l. AreTargets l flags in
     let at = rule_at rules.items i c.index.result.now (omega (arith, rules.ok.0)) c.index.ensures in
     let used : c.is_flagged-used.result ≡ flag flags i = c.is_flagged-used.ensures ∙ ap (λ l. flag l i) c.deref.ensures.value in
-    let test : (flag flags i && is_short_rule (rule_of c.index.result.now)) ≡ true = ap (λ b. b && is_short_rule (rule_of c.index.result.now)) (sym used) ∙ sym c.is_used_short.ensures ∙ c.if-is_used_short.true in
-    record { holds = short_use G c.requires.edges.one c.requires.no_loops flags (subst P c.requires.edges.edges c.in_ok-flags.ensures) i (rule_of c.index.result.now) at test; before = c.loop-index.invariant }
+    let test : (flag flags i && is_short_rule (rule_of c.index.result.now)) ≡ true =
+    ap (λ b. b && is_short_rule (rule_of c.index.result.now)) (sym used) ∙ sym c.is_used_short.ensures ∙ c.if-is_used_short.true in
+    record {
+      holds =
+          short_use G c.requires.edges.one c.requires.no_loops flags (subst P c.requires.edges.edges c.in_ok-flags.ensures) i
+          (rule_of c.index.result.now) at test;
+      before = c.loop-index.invariant;
+    }
 
 pub loop-index-preserved : goal.loop-index-preserved
 loop-index-preserved c =
@@ -34,10 +40,14 @@ loop-index-preserved c =
     let P : List (List ℕ) → Type 0 = λ l. AreTargets l flags in
     let at = rule_at rules.items i c.index.result.now (omega (arith, rules.ok.0)) c.index.ensures in
     let used : c.is_flagged-used.result ≡ flag flags i = c.is_flagged-used.ensures ∙ ap (λ l. flag l i) c.deref.ensures.value in
-    let test : (flag flags i && is_short_rule (rule_of c.index.result.now)) ≡ false = ap (λ b. b && is_short_rule (rule_of c.index.result.now)) (sym used) ∙ sym c.is_used_short.ensures ∙ c.if-is_used_short.false in
-    not_here (ShortUse G) i c.loop-index.invariant (no_short_use G c.requires.edges.one c.requires.no_loops flags (subst P c.requires.edges.edges c.in_ok-flags.ensures) i (rule_of c.index.result.now) at test)
+    let test : (flag flags i && is_short_rule (rule_of c.index.result.now)) ≡ false =
+    ap (λ b. b && is_short_rule (rule_of c.index.result.now)) (sym used) ∙ sym c.is_used_short.ensures ∙ c.if-is_used_short.false in
+    not_here (ShortUse G) i c.loop-index.invariant
+    (no_short_use G c.requires.edges.one c.requires.no_loops flags (subst P c.requires.edges.edges c.in_ok-flags.ensures) i
+    (rule_of c.index.result.now) at test)
 
 pub returns : goal.returns
 returns c =
     let rules = c.args.grammar.now.rules in
-    nowhere (ShortUse (grammar_of c.args.grammar.now)) c.loop-index.index c.loop-index.invariant (λ i h. omega (arith, index_within rules.items i (WrittenRule.lexer_rule h.0) h.1, rules.ok.0))
+    nowhere (ShortUse (grammar_of c.args.grammar.now)) c.loop-index.index c.loop-index.invariant
+    (λ i h. omega (arith, index_within rules.items i (WrittenRule.lexer_rule h.0) h.1, rules.ok.0))

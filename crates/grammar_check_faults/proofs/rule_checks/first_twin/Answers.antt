@@ -23,14 +23,17 @@ loop-index-preserved c =
     let P : List Rule → Type 0 = λ rs. Finds c.in_ok-indices.indices (λ t. position (has_key Name t) (map rule_of rs)) in
     let finds = subst P c.deref.ensures.value c.in_ok-indices.ensures in
     let at = rule_at rules.items i c.index.result.now (omega (arith, rules.ok.0)) c.index.ensures in
-    one_more G c.loop-index.first i (rule_of c.index.result.now) c.earliest-first.result c.loop-index.invariant at (c.earliest-first.ensures (λ t. position (has_key Name t) G.rules) finds)
+    one_more G c.loop-index.first i (rule_of c.index.result.now) c.earliest-first.result c.loop-index.invariant at
+    (c.earliest-first.ensures (λ t. position (has_key Name t) G.rules) finds)
 
 pub returns-then-first-len : goal.returns-then-first-len
 returns-then-first-len c =
     let rules = c.args.grammar.now.rules in
-    first_is (grammar_of c.args.grammar.now) c.loop-index.first c.loop-index.index (omega (arith, rules.ok.0, length-map rules.items rule_of)) c.loop-index.invariant (omega (arith, rules.ok.0, length-map rules.items rule_of))
+    first_is (grammar_of c.args.grammar.now) c.loop-index.first c.loop-index.index
+    (omega (arith, rules.ok.0, length-map rules.items rule_of)) c.loop-index.invariant (omega (arith, rules.ok.0, length-map rules.items rule_of))
 
 pub returns : goal.returns
 returns c =
     let rules = c.args.grammar.now.rules in
-    no_twin (grammar_of c.args.grammar.now) c.loop-index.first c.loop-index.index (omega (arith, rules.ok.0, length-map rules.items rule_of)) c.loop-index.invariant (omega (arith, rules.ok.0, length-map rules.items rule_of))
+    no_twin (grammar_of c.args.grammar.now) c.loop-index.first c.loop-index.index
+    (omega (arith, rules.ok.0, length-map rules.items rule_of)) c.loop-index.invariant (omega (arith, rules.ok.0, length-map rules.items rule_of))

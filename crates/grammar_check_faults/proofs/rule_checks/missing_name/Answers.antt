@@ -30,7 +30,9 @@ pub returns-then-is_none : goal.returns-then-is_none
 returns-then-is_none c =
     let G = grammar_of c.args.grammar.now in
     let name = text c.in-Some.wanted in
-    let missing : start_of G None ≡ None = sym (c.first_parser_rule.ensures ∙ ap (λ rs. position is_parser_rule (map rule_of rs)) c.deref.ensures.value) ∙ nothing c.first_parser_rule.result c.is_none.result c.is_none.ensures c.if-is_none.true in
+    let missing : start_of G None ≡ None =
+    sym (c.first_parser_rule.ensures ∙ ap (λ rs. position is_parser_rule (map rule_of rs)) c.deref.ensures.value)
+    ∙ nothing c.first_parser_rule.result c.is_none.result c.is_none.ensures c.if-is_none.true in
     let Named : List ℕ → Type 0 = λ n. NoStart G (Some name) n in
     let Wanted : Option (List ℕ) → Type 0 = λ w. NoStart G w c.in_ok-name-2.name in
     subst Wanted (ap (option_map text) (sym c.in-Some.is)) (subst Named (sym (c.in_ok-name-2.ensures ∙ chars-nil)) (none_there G name missing))
@@ -40,7 +42,8 @@ returns c =
     let G = grammar_of c.args.grammar.now in
     let name = text c.in-Some.wanted in
     let it = something c.first_parser_rule.result c.is_none.result c.is_none.ensures c.if-is_none.false in
-    let some : start_of G None ≡ Some it.0 = sym (c.first_parser_rule.ensures ∙ ap (λ rs. position is_parser_rule (map rule_of rs)) c.deref.ensures.value) ∙ it.1 in
+    let some : start_of G None ≡ Some it.0 =
+    sym (c.first_parser_rule.ensures ∙ ap (λ rs. position is_parser_rule (map rule_of rs)) c.deref.ensures.value) ∙ it.1 in
     let missing : start_of G (Some name) ≡ None = ap (λ w. start_of G (option_map text w)) (sym c.in-Some.is) ∙ c.requires in
     let Named : List ℕ → Type 0 = λ n. NoStart G (Some name) n in
     let Wanted : Option (List ℕ) → Type 0 = λ w. NoStart G w c.in_ok-name-3.name in

@@ -10,15 +10,18 @@ pub returns-then-is_parser_named : goal.returns-then-is_parser_named
 returns-then-is_parser_named c =
     let rules = c.args.rules.now in
     let i = c.loop-index.index in
-    sym (found_first (is_parser_rule_named c.args.wanted.now) (map rule_of rules) i _ c.loop-index.invariant (rule_at rules i c.index-rules-index.result c.loop-index-test.true c.index-rules-index.is) (sym c.is_parser_named.ensures ∙ c.if-is_parser_named.true))
+    sym (found_first (is_parser_rule_named c.args.wanted.now) (map rule_of rules) i _ c.loop-index.invariant
+    (rule_at rules i c.index-rules-index.result c.loop-index-test.true c.index-rules-index.is) (sym c.is_parser_named.ensures ∙ c.if-is_parser_named.true))
 
 pub loop-index-preserved : goal.loop-index-preserved
 loop-index-preserved c =
     let rules = c.args.rules.now in
     let i = c.loop-index.index in
-    one_more (is_parser_rule_named c.args.wanted.now) (map rule_of rules) i _ c.loop-index.invariant (rule_at rules i c.index-rules-index.result c.loop-index-test.true c.index-rules-index.is) (sym c.is_parser_named.ensures ∙ c.if-is_parser_named.false)
+    one_more (is_parser_rule_named c.args.wanted.now) (map rule_of rules) i _ c.loop-index.invariant
+    (rule_at rules i c.index-rules-index.result c.loop-index-test.true c.index-rules-index.is) (sym c.is_parser_named.ensures ∙ c.if-is_parser_named.false)
 
 pub returns : goal.returns
 returns c =
     let rules = c.args.rules.now in
-    sym (found_none (is_parser_rule_named c.args.wanted.now) (map rule_of rules) c.loop-index.index c.loop-index.invariant (omega (arith, length-map rules rule_of)))
+    sym (found_none (is_parser_rule_named c.args.wanted.now) (map rule_of rules) c.loop-index.index c.loop-index.invariant
+    (omega (arith, length-map rules rule_of)))

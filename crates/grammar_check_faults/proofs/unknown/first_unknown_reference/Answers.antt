@@ -10,17 +10,20 @@ returns-in-Some c =
     let refs = c.args.references.now in
     let p = is_unknown c.args.names.now in
     ap Some c.in_ok-copy.ensures
-    ∙ first_found p reference_use used_name refs c.loop-reference.reference-index c.reference-item.result c.in-Some.name.now c.loop-reference.invariant (omega (arith, c.loop-reference-test.true)) c.reference-item.is c.in-Some.ensures
+    ∙ first_found p reference_use used_name refs c.loop-reference.reference-index c.reference-item.result c.in-Some.name.now c.loop-reference.invariant
+    (omega (arith, c.loop-reference-test.true)) c.reference-item.is c.in-Some.ensures
     ∙ ap (λ l. option_map used_name (find p l)) (sym (references_flat refs))
 
 pub loop-reference-preserved : goal.loop-reference-preserved
 loop-reference-preserved c =
     let refs = c.args.references.now in
     let p = is_unknown c.args.names.now in
-    none_more p reference_use refs c.loop-reference.reference-index c.reference-item.result c.loop-reference.invariant (omega (arith, c.loop-reference-test.true)) c.reference-item.is (none_of p reference_use used_name c.reference-item.result c.in_default.ensures)
+    none_more p reference_use refs c.loop-reference.reference-index c.reference-item.result c.loop-reference.invariant
+    (omega (arith, c.loop-reference-test.true)) c.reference-item.is (none_of p reference_use used_name c.reference-item.result c.in_default.ensures)
 
 pub returns : goal.returns
 returns c =
     let refs = c.args.references.now in
     let p = is_unknown c.args.names.now in
-    none_found p reference_use used_name refs c.loop-reference.reference-index c.loop-reference.invariant (omega arith) ∙ ap (λ l. option_map used_name (find p l)) (sym (references_flat refs))
+    none_found p reference_use used_name refs c.loop-reference.reference-index c.loop-reference.invariant (omega arith)
+    ∙ ap (λ l. option_map used_name (find p l)) (sym (references_flat refs))

@@ -17,21 +17,25 @@ uses_flat : (rs : List Rule) → flat_map rule_uses (map rule_of rs) ≡ flat_ma
 uses_flat [] = refl
 uses_flat (r ∷ rs) = ap (λ l. uses_of r ++ l) (uses_flat rs)
 
-all_uses : (G : WrittenGrammar) (rs : List Rule) → map rule_of rs ≡ G.rules → option_map used_name (find (is_unknown G) (flat_map uses_of rs)) ≡ option_map used_name (find (is_unknown G) (name_uses G))
+all_uses : (G : WrittenGrammar) (rs : List Rule) → map rule_of rs ≡ G.rules
+    → option_map used_name (find (is_unknown G) (flat_map uses_of rs)) ≡ option_map used_name (find (is_unknown G) (name_uses G))
 all_uses G rs same = ap (λ l. option_map used_name (find (is_unknown G) l)) (sym (uses_flat rs) ∙ ap (flat_map rule_uses) same)
 
 pub returns-in-Some : goal.returns-in-Some
 returns-in-Some c =
     let rules = c.args.rules.now in
     let G = c.args.names.now in
-    let found = first_found (is_unknown G) uses_of used_name rules c.loop-rule.rule-index c.rule-item.result c.in-Some.name c.loop-rule.invariant (omega (arith, c.loop-rule-test.true)) c.rule-item.is (sym c.in-Some.is ∙ c.in_ok-name.ensures) in
+    let found =
+    first_found (is_unknown G) uses_of used_name rules c.loop-rule.rule-index c.rule-item.result c.in-Some.name c.loop-rule.invariant
+    (omega (arith, c.loop-rule-test.true)) c.rule-item.is (sym c.in-Some.is ∙ c.in_ok-name.ensures) in
     first_unknown_is G (Some c.in-Some.name) (found ∙ all_uses G rules c.requires.rules)
 
 pub loop-rule-preserved : goal.loop-rule-preserved
 loop-rule-preserved c =
     let rules = c.args.rules.now in
     let G = c.args.names.now in
-    none_more (is_unknown G) uses_of rules c.loop-rule.rule-index c.rule-item.result c.loop-rule.invariant (omega (arith, c.loop-rule-test.true)) c.rule-item.is (none_of (is_unknown G) uses_of used_name c.rule-item.result (sym c.in_default.is ∙ c.in_ok-name.ensures))
+    none_more (is_unknown G) uses_of rules c.loop-rule.rule-index c.rule-item.result c.loop-rule.invariant (omega (arith, c.loop-rule-test.true)) c.rule-item.is
+    (none_of (is_unknown G) uses_of used_name c.rule-item.result (sym c.in_default.is ∙ c.in_ok-name.ensures))
 
 pub returns : goal.returns
 returns c =

@@ -17,26 +17,30 @@ alts_can_be_empty-returns-then-seq_can_be_empty t c =
     let whole = out-LexAlts c.args.alts.now in
     let test = λ (s : LexTerms). lexer_seq_is_empty (lexer_index (map rule_of c.args.names.now.rules.now)) (flag c.args.flags.now) (lexer_seq (lex_terms s)) in
     sym (empty_alts (lexer_index (map rule_of c.args.names.now.rules.now)) (flag c.args.flags.now) c.args.alts.now
-    ∙ any_passes test whole.items.items c.loop-i.i c.index.result.now (omega (arith, whole.items.ok.0)) c.index.ensures (sym c.seq_can_be_empty.ensures ∙ c.if-seq_can_be_empty.true))
+    ∙ any_passes test whole.items.items c.loop-i.i c.index.result.now (omega (arith, whole.items.ok.0)) c.index.ensures
+    (sym c.seq_can_be_empty.ensures ∙ c.if-seq_can_be_empty.true))
 
 pub alts_can_be_empty-returns : goal.alts_can_be_empty-returns
 alts_can_be_empty-returns t c =
     let whole = out-LexAlts c.args.alts.now in
     let test = λ (s : LexTerms). lexer_seq_is_empty (lexer_index (map rule_of c.args.names.now.rules.now)) (flag c.args.flags.now) (lexer_seq (lex_terms s)) in
-    sym (empty_alts (lexer_index (map rule_of c.args.names.now.rules.now)) (flag c.args.flags.now) c.args.alts.now ∙ none_passes test whole.items.items c.loop-i.i (omega (arith, whole.items.ok.0)) c.loop-i.invariant)
+    sym (empty_alts (lexer_index (map rule_of c.args.names.now.rules.now)) (flag c.args.flags.now) c.args.alts.now
+    ∙ none_passes test whole.items.items c.loop-i.i (omega (arith, whole.items.ok.0)) c.loop-i.invariant)
 
 pub seq_can_be_empty-returns-then-not-term_can_be_empty : goal.seq_can_be_empty-returns-then-not-term_can_be_empty
 seq_can_be_empty-returns-then-not-term_can_be_empty t c =
     let whole = out-LexTerms c.args.terms.now in
     let test = λ (x : LexTerm). lexer_is_empty (lexer_index (map rule_of c.args.names.now.rules.now)) (flag c.args.flags.now) (lex_term x) in
     sym (empty_seq (lexer_index (map rule_of c.args.names.now.rules.now)) (flag c.args.flags.now) c.args.terms.now
-    ∙ all_fails test whole.items.items c.loop-i.i c.index.result.now (omega (arith, whole.items.ok.0)) c.index.ensures (sym c.term_can_be_empty.ensures ∙ c.if-not-term_can_be_empty.true))
+    ∙ all_fails test whole.items.items c.loop-i.i c.index.result.now (omega (arith, whole.items.ok.0)) c.index.ensures
+    (sym c.term_can_be_empty.ensures ∙ c.if-not-term_can_be_empty.true))
 
 pub seq_can_be_empty-returns : goal.seq_can_be_empty-returns
 seq_can_be_empty-returns t c =
     let whole = out-LexTerms c.args.terms.now in
     let test = λ (x : LexTerm). lexer_is_empty (lexer_index (map rule_of c.args.names.now.rules.now)) (flag c.args.flags.now) (lex_term x) in
-    sym (empty_seq (lexer_index (map rule_of c.args.names.now.rules.now)) (flag c.args.flags.now) c.args.terms.now ∙ all_pass test whole.items.items c.loop-i.i (omega (arith, whole.items.ok.0)) c.loop-i.invariant)
+    sym (empty_seq (lexer_index (map rule_of c.args.names.now.rules.now)) (flag c.args.flags.now) c.args.terms.now
+    ∙ all_pass test whole.items.items c.loop-i.i (omega (arith, whole.items.ok.0)) c.loop-i.invariant)
 
 pub term_can_be_empty-returns-in-Short : goal.term_can_be_empty-returns-in-Short
 term_can_be_empty-returns-in-Short t c =

@@ -10,7 +10,11 @@ use Rattle.grammar_check_lexer_rules.specs.Lexer.{lexer_has_loop, lexer_index, l
 use Rattle.grammar_check_lexer_rules.proofs.lexer_rules.+lexer_loops.Given as goal
 
 abbrev pub invariant-lexer_alts_have_empty_loop-loop-i : goal.invariant-lexer_alts_have_empty_loop-loop-i
-invariant-lexer_alts_have_empty_loop-loop-i l = list_any (λ s. lexer_seq_has_loop (lexer_index (map rule_of l.names.rules.now)) (flag l.flags) (lexer_seq (lex_terms s))) (take l.i (out-LexAlts l.alts).items.items) ≡ false
+invariant-lexer_alts_have_empty_loop-loop-i l =
+    list_any (λ s. lexer_seq_has_loop (lexer_index (map rule_of l.names.rules.now)) (flag l.flags) (lexer_seq (lex_terms s)))
+    (take l.i (out-LexAlts l.alts).items.items) ≡ false
 
 abbrev pub invariant-seq_has_empty_loop-loop-i : goal.invariant-seq_has_empty_loop-loop-i
-invariant-seq_has_empty_loop-loop-i l = list_any (λ t. lexer_has_loop (lexer_index (map rule_of l.names.rules.now)) (flag l.flags) (lex_term t)) (take l.i (out-LexTerms l.terms).items.items) ≡ false
+invariant-seq_has_empty_loop-loop-i l =
+    list_any (λ t. lexer_has_loop (lexer_index (map rule_of l.names.rules.now)) (flag l.flags) (lex_term t)) (take l.i (out-LexTerms l.terms).items.items)
+    ≡ false

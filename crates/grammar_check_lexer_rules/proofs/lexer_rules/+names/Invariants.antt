@@ -8,7 +8,9 @@ use Rattle.grammar_tree.specs.declared.lex_term.LexTerms.{out-LexTerms}
 use Rattle.grammar_check_lexer_rules.proofs.lexer_rules.+names.Given as goal
 
 abbrev pub invariant-add_names-loop-i : goal.invariant-add_names-loop-i
-invariant-add_names-loop-i l = l.found.items ≡ l.initial.found.items ++ flat_map (λ s. seq_names (lexer_seq (lex_terms s))) (take l.i (out-LexAlts l.alts).items.items)
+invariant-add_names-loop-i l =
+    l.found.items ≡ l.initial.found.items ++ flat_map (λ s. seq_names (lexer_seq (lex_terms s))) (take l.i (out-LexAlts l.alts).items.items)
 
 abbrev pub invariant-add_seq_names-loop-i : goal.invariant-add_seq_names-loop-i
-invariant-add_seq_names-loop-i l = l.found.items ≡ l.initial.found.items ++ flat_map (λ t. term_names (lex_term t)) (take l.i (out-LexTerms l.terms).items.items)
+invariant-add_seq_names-loop-i l =
+    l.found.items ≡ l.initial.found.items ++ flat_map (λ t. term_names (lex_term t)) (take l.i (out-LexTerms l.terms).items.items)

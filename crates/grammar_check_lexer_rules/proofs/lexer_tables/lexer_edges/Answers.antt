@@ -9,4 +9,5 @@ pub returns : goal.returns
 returns c =
     let rules = c.args.names.now.rules.now in
     let successors = lexer_successors (lexer_index (map rule_of rules)) in
-    c.loop-rule.invariant ∙ ap (map (λ (r : Rule). successors (rule_of r))) (take_all c.loop-rule.rule-index rules (omega arith)) ∙ twice successors rule_of rules
+    c.loop-rule.invariant ∙ ap (map (λ (r : Rule). successors (rule_of r))) (take_all c.loop-rule.rule-index rules (omega arith))
+    ∙ twice successors rule_of rules

@@ -10,7 +10,8 @@ use Rattle.grammar_check_parser_rules.proofs.corners.+corners.Given as goal
 
 abbrev pub invariant-add_alts_corners-loop-i : goal.invariant-add_alts_corners-loop-i
 invariant-add_alts_corners-loop-i l =
-    l.found.items ≡ l.initial.found.items ++ flat_map (λ s. seq_corners (flag l.flags) (resolved_seq l.names (written_seq (parser_terms s)))) (take l.i (out-ParserAlts l.alts).items.items)
+    l.found.items ≡ l.initial.found.items ++ flat_map (λ s. seq_corners (flag l.flags) (resolved_seq l.names (written_seq (parser_terms s))))
+    (take l.i (out-ParserAlts l.alts).items.items)
 
 abbrev pub invariant-add_seq_corners-loop-i : goal.invariant-add_seq_corners-loop-i
 invariant-add_seq_corners-loop-i l =

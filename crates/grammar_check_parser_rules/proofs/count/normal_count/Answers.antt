@@ -22,7 +22,8 @@ group_size-count-requires c =
 pub loop-number-preserved : goal.loop-number-preserved
 loop-number-preserved c =
     let G = c.args.names.now in
-    let body = body_at view G c.args.rules.now c.requires.bodies c.loop-number.number c.index-rules-number.result c.loop-number-test.true c.index-rules-number.is in
+    let body =
+    body_at view G c.args.rules.now c.requires.bodies c.loop-number.number c.index-rules-number.result c.loop-number-test.true c.index-rules-number.is in
     let one = one_counted (bodies G) c.loop-number.number _ body in
     let more = next_summed size c.args.rules.now c.loop-number.number c.index-rules-number.result c.loop-number-test.true c.index-rules-number.is in
     let fits = c.groups_fit.ensures G c.loop-number.number (written_alts (view c.index-rules-number.result)) in

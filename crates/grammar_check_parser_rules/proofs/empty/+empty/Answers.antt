@@ -22,7 +22,8 @@ pub alts_can_be_empty-returns-then-seq_can_be_empty : goal.alts_can_be_empty-ret
 alts_can_be_empty-returns-then-seq_can_be_empty t c =
     let whole = out-ParserAlts c.args.alts.now in
     sym (alts_by_any (flag c.args.flags.now) c.args.names.now c.args.alts.now
-    ∙ any_passes (alt c.args.flags.now c.args.names.now) whole.items.items c.loop-i.i c.index.result.now (omega (arith, whole.items.ok.0)) c.index.ensures (sym c.seq_can_be_empty.ensures ∙ c.if-seq_can_be_empty.true))
+    ∙ any_passes (alt c.args.flags.now c.args.names.now) whole.items.items c.loop-i.i c.index.result.now (omega (arith, whole.items.ok.0)) c.index.ensures
+    (sym c.seq_can_be_empty.ensures ∙ c.if-seq_can_be_empty.true))
 
 pub alts_can_be_empty-returns : goal.alts_can_be_empty-returns
 alts_can_be_empty-returns t c =
@@ -34,7 +35,8 @@ pub seq_can_be_empty-returns-then-not-term_can_be_empty : goal.seq_can_be_empty-
 seq_can_be_empty-returns-then-not-term_can_be_empty t c =
     let whole = out-ParserTerms c.args.terms.now in
     sym (seq_by_all (flag c.args.flags.now) c.args.names.now c.args.terms.now
-    ∙ all_fails (one c.args.flags.now c.args.names.now) whole.items.items c.loop-i.i c.index.result.now (omega (arith, whole.items.ok.0)) c.index.ensures (sym c.term_can_be_empty.ensures ∙ c.if-not-term_can_be_empty.true))
+    ∙ all_fails (one c.args.flags.now c.args.names.now) whole.items.items c.loop-i.i c.index.result.now (omega (arith, whole.items.ok.0)) c.index.ensures
+    (sym c.term_can_be_empty.ensures ∙ c.if-not-term_can_be_empty.true))
 
 pub seq_can_be_empty-returns : goal.seq_can_be_empty-returns
 seq_can_be_empty-returns t c =
@@ -45,4 +47,5 @@ seq_can_be_empty-returns t c =
 pub term_can_be_empty-returns-in-Plus : goal.term_can_be_empty-returns-in-Plus
 term_can_be_empty-returns-in-Plus t c =
     let test = λ (w : WrittenTerm). is_empty (flag c.args.flags.now) (resolved c.args.names.now w) in
-    c.term_can_be_empty.ensures ∙ ap (one c.args.flags.now c.args.names.now) c.deref.ensures ∙ sym (ap test (ap parser_term c.in-Plus.is ∙ parser_term-Plus c.in-Plus.term))
+    c.term_can_be_empty.ensures ∙ ap (one c.args.flags.now c.args.names.now) c.deref.ensures
+    ∙ sym (ap test (ap parser_term c.in-Plus.is ∙ parser_term-Plus c.in-Plus.term))

@@ -22,7 +22,8 @@ pub alts_have_empty_loop-returns-then-seq_has_empty_loop : goal.alts_have_empty_
 alts_have_empty_loop-returns-then-seq_has_empty_loop t c =
     let whole = out-ParserAlts c.args.alts.now in
     sym (alts_by_any (flag c.args.flags.now) c.args.names.now c.args.alts.now
-    ∙ any_passes (alt c.args.flags.now c.args.names.now) whole.items.items c.loop-i.i c.index.result.now (omega (arith, whole.items.ok.0)) c.index.ensures (sym c.seq_has_empty_loop.ensures ∙ c.if-seq_has_empty_loop.true))
+    ∙ any_passes (alt c.args.flags.now c.args.names.now) whole.items.items c.loop-i.i c.index.result.now (omega (arith, whole.items.ok.0)) c.index.ensures
+    (sym c.seq_has_empty_loop.ensures ∙ c.if-seq_has_empty_loop.true))
 
 pub alts_have_empty_loop-returns : goal.alts_have_empty_loop-returns
 alts_have_empty_loop-returns t c =
@@ -34,7 +35,8 @@ pub seq_has_empty_loop-returns-then-term_has_empty_loop : goal.seq_has_empty_loo
 seq_has_empty_loop-returns-then-term_has_empty_loop t c =
     let whole = out-ParserTerms c.args.terms.now in
     sym (seq_by_any (flag c.args.flags.now) c.args.names.now c.args.terms.now
-    ∙ any_passes (one c.args.flags.now c.args.names.now) whole.items.items c.loop-i.i c.index.result.now (omega (arith, whole.items.ok.0)) c.index.ensures (sym c.term_has_empty_loop.ensures ∙ c.if-term_has_empty_loop.true))
+    ∙ any_passes (one c.args.flags.now c.args.names.now) whole.items.items c.loop-i.i c.index.result.now (omega (arith, whole.items.ok.0)) c.index.ensures
+    (sym c.term_has_empty_loop.ensures ∙ c.if-term_has_empty_loop.true))
 
 pub seq_has_empty_loop-returns : goal.seq_has_empty_loop-returns
 seq_has_empty_loop-returns t c =
@@ -45,4 +47,5 @@ seq_has_empty_loop-returns t c =
 pub term_has_empty_loop-returns-in-Opt : goal.term_has_empty_loop-returns-in-Opt
 term_has_empty_loop-returns-in-Opt t c =
     let test = λ (w : WrittenTerm). has_loop (flag c.args.flags.now) (resolved c.args.names.now w) in
-    c.term_has_empty_loop.ensures ∙ ap (one c.args.flags.now c.args.names.now) c.deref.ensures ∙ sym (ap test (ap parser_term c.in-Opt.is ∙ parser_term-Opt c.in-Opt.term))
+    c.term_has_empty_loop.ensures ∙ ap (one c.args.flags.now c.args.names.now) c.deref.ensures
+    ∙ sym (ap test (ap parser_term c.in-Opt.is ∙ parser_term-Opt c.in-Opt.term))

@@ -11,4 +11,6 @@ use Rattle.grammar_check_parser_rules.proofs.recursion.add_rest_corners.Given as
 
 abbrev pub invariant-loop-terms : goal.invariant-loop-terms
 invariant-loop-terms l =
-    l.found.items ≡ l.initial.found.items ++ flat_map (λ s. option_map_or (seq_corners (flag l.flags)) (rest_of l.number (resolved_seq l.names (written_seq (parser_terms s)))) []) (take l.terms-index l.terms-items)
+    l.found.items ≡ l.initial.found.items ++ flat_map
+    (λ s. option_map_or (seq_corners (flag l.flags)) (rest_of l.number (resolved_seq l.names (written_seq (parser_terms s)))) [])
+    (take l.terms-index l.terms-items)

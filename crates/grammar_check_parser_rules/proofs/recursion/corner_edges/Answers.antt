@@ -24,10 +24,12 @@ loop-number-preserved c =
     let edges = c.loop-number.edges in
     let body = body_at view G c.args.rules.now c.requires.bodies n c.index-rules-number.result c.loop-number-test.true c.index-rules-number.is in
     let pushed : c.push.new.self.items ≡ edges.items ++ c.in_ok-left_corners.field-0 ∷ [] = c.in_ok-push.ensures.items in
-    let P : List (Vec ℕ Global) → Type 0 = λ l. (r : ℕ) (a : Alts) → r < n + 1 → slice_get (bodies G) r ≡ Some a → slice_get (map items l) r ≡ Some (rule_corners (flag c.args.flags.now) r a) in (
+    let P : List (Vec ℕ Global) → Type 0 =
+    λ l. (r : ℕ) (a : Alts) → r < n + 1 → slice_get (bodies G) r ≡ Some a → slice_get (map items l) r ≡ Some (rule_corners (flag c.args.flags.now) r a) in (
       omega (arith, c.in_ok-push.ensures.len, c.loop-number.invariant.0),
       subst P (sym pushed)
-          (successors_push items (bodies G) (flag c.args.flags.now) edges.items c.in_ok-left_corners.field-0 n _ (omega (arith, c.loop-number.invariant.0, edges.ok.0)) body c.in_ok-left_corners.ensures c.loop-number.invariant.1),
+          (successors_push items (bodies G) (flag c.args.flags.now) edges.items c.in_ok-left_corners.field-0 n _
+          (omega (arith, c.loop-number.invariant.0, edges.ok.0)) body c.in_ok-left_corners.ensures c.loop-number.invariant.1),
     )
 
 pub returns : goal.returns

@@ -7,4 +7,5 @@ use Rattle.grammar_check_parser_rules.proofs.recursion.corner_edges.Given as goa
 abbrev pub invariant-loop-number : goal.invariant-loop-number
 invariant-loop-number l =
     (vec_len l.edges ≡ l.number)
-    × ((r : ℕ) (a : Alts) → r < l.number → slice_get (bodies l.names) r ≡ Some a → slice_get (map (λ successors. successors.items) l.edges.items) r ≡ Some (rule_corners (flag l.flags) r a))
+    × ((r : ℕ) (a : Alts) → r < l.number → slice_get (bodies l.names) r ≡ Some a
+    → slice_get (map (λ successors. successors.items) l.edges.items) r ≡ Some (rule_corners (flag l.flags) r a))

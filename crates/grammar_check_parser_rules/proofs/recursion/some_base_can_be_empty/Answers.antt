@@ -18,7 +18,8 @@ returns-then-base_can_be_empty c =
     let items = c.deref-terms-items.result.now in
     let all = bases_by_any c.args.names.now c.args.number (flag c.args.flags.now) c.args.alts.now in
     sym (all ∙ ap (list_any (test c.args.names.now c.args.number c.args.flags.now)) (sym c.deref-terms-items.ensures.value)
-    ∙ any_passes (test c.args.names.now c.args.number c.args.flags.now) items c.loop-terms.terms-index c.terms-item.result (omega arith) c.terms-item.is (sym c.base_can_be_empty.ensures ∙ c.if-base_can_be_empty.true))
+    ∙ any_passes (test c.args.names.now c.args.number c.args.flags.now) items c.loop-terms.terms-index c.terms-item.result (omega arith) c.terms-item.is
+    (sym c.base_can_be_empty.ensures ∙ c.if-base_can_be_empty.true))
 
 pub returns : goal.returns
 returns c =

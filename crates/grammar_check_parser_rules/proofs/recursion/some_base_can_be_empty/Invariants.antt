@@ -8,4 +8,5 @@ use Rattle.grammar_check_parser_rules.specs.inner.Recursion.{is_empty_base}
 use Rattle.grammar_check_parser_rules.proofs.recursion.some_base_can_be_empty.Given as goal
 
 abbrev pub invariant-loop-terms : goal.invariant-loop-terms
-invariant-loop-terms l = list_any (λ s. is_empty_base (flag l.flags) l.number (resolved_seq l.names (written_seq (parser_terms s)))) (take l.terms-index l.terms-items) ≡ false
+invariant-loop-terms l =
+    list_any (λ s. is_empty_base (flag l.flags) l.number (resolved_seq l.names (written_seq (parser_terms s)))) (take l.terms-index l.terms-items) ≡ false

@@ -11,7 +11,8 @@ use Rattle.grammar_check_parser_rules.proofs.recursion.tail_can_be_empty.Goals a
 pub returns-then-not-term_can_be_empty : goal.returns-then-not-term_can_be_empty
 returns-then-not-term_can_be_empty c =
     let whole = out-ParserTerms c.args.terms.now in
-    let rest : Bool = seq_is_empty (flag c.args.flags.now) (resolved_seq c.args.names.now (written_seq (drop (c.loop-i.i + 1) (parser_terms c.args.terms.now)))) in
+    let rest : Bool =
+    seq_is_empty (flag c.args.flags.now) (resolved_seq c.args.names.now (written_seq (drop (c.loop-i.i + 1) (parser_terms c.args.terms.now)))) in
     sym (c.loop-i.invariant
     ∙ empty_at (flag c.args.flags.now) c.args.names.now c.args.terms.now c.loop-i.i c.index.result.now (omega (arith, whole.items.ok.0)) c.index.ensures
     ∙ ap (λ b. b && rest) (sym c.term_can_be_empty.ensures ∙ c.if-not-term_can_be_empty.true))
@@ -19,7 +20,8 @@ returns-then-not-term_can_be_empty c =
 pub loop-i-preserved : goal.loop-i-preserved
 loop-i-preserved c =
     let whole = out-ParserTerms c.args.terms.now in
-    let rest : Bool = seq_is_empty (flag c.args.flags.now) (resolved_seq c.args.names.now (written_seq (drop (c.loop-i.i + 1) (parser_terms c.args.terms.now)))) in
+    let rest : Bool = seq_is_empty (flag c.args.flags.now)
+    (resolved_seq c.args.names.now (written_seq (drop (c.loop-i.i + 1) (parser_terms c.args.terms.now)))) in
     c.loop-i.invariant
     ∙ empty_at (flag c.args.flags.now) c.args.names.now c.args.terms.now c.loop-i.i c.index.result.now (omega (arith, whole.items.ok.0)) c.index.ensures
     ∙ ap (λ b. b && rest) (sym c.term_can_be_empty.ensures ∙ c.if-not-term_can_be_empty.false)

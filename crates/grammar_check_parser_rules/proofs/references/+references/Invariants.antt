@@ -9,8 +9,10 @@ use Rattle.grammar_check_parser_rules.proofs.references.+references.Given as goa
 
 abbrev pub invariant-add_references-loop-i : goal.invariant-add_references-loop-i
 invariant-add_references-loop-i l =
-    map token_ref l.found.items ≡ map token_ref l.initial.found.items ++ flat_map (λ s. seq_references (written_seq (parser_terms s))) (take l.i (out-ParserAlts l.alts).items.items)
+    map token_ref l.found.items ≡ map token_ref l.initial.found.items ++ flat_map (λ s. seq_references (written_seq (parser_terms s)))
+    (take l.i (out-ParserAlts l.alts).items.items)
 
 abbrev pub invariant-add_seq_references-loop-i : goal.invariant-add_seq_references-loop-i
 invariant-add_seq_references-loop-i l =
-    map token_ref l.found.items ≡ map token_ref l.initial.found.items ++ flat_map (λ t. term_references (parser_term t)) (take l.i (out-ParserTerms l.terms).items.items)
+    map token_ref l.found.items ≡ map token_ref l.initial.found.items ++ flat_map (λ t. term_references (parser_term t))
+    (take l.i (out-ParserTerms l.terms).items.items)

@@ -16,4 +16,5 @@ loop-index-preserved c =
     let many : i ≡ length so_far = omega (arith, c.loop-index-test.true, length-map (take i rules) rule_of, length-take i rules) in
     let P : List WrittenRule → Type 0 = λ l. Finds c.add_rule.new.found (λ t. position (has_key c.args.key t) l) in
     subst P (sym (mapped_more rule_of rules i c.index-rules-index.result c.loop-index-test.true c.index-rules-index.is))
-    (index_push (has_key c.args.key) c.loop-index.found c.add_rule.new.found so_far (rule_of c.index-rules-index.result) i many c.loop-index.invariant c.in_ok-add_rule.ensures)
+    (index_push (has_key c.args.key) c.loop-index.found c.add_rule.new.found so_far
+    (rule_of c.index-rules-index.result) i many c.loop-index.invariant c.in_ok-add_rule.ensures)

@@ -7,4 +7,6 @@ use Rattle.grammar_check_recursion.specs.Recursion.{has_alternative}
 use Rattle.grammar_check_recursion.proofs.recursion.has_rest.Given as goal
 
 abbrev pub invariant-loop-terms : goal.invariant-loop-terms
-invariant-loop-terms l = has_alternative (rests l.number (resolved_alts l.names (written_alts (map parser_terms (drop l.terms-index l.terms-items))))) ≡ has_alternative (rests l.number (resolved_alts l.names (written_alts (map parser_terms l.terms-items))))
+invariant-loop-terms l =
+    has_alternative (rests l.number (resolved_alts l.names (written_alts (map parser_terms (drop l.terms-index l.terms-items))))) ≡ has_alternative
+    (rests l.number (resolved_alts l.names (written_alts (map parser_terms l.terms-items))))

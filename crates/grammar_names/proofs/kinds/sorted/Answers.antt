@@ -14,5 +14,7 @@ returns c =
     let is = dedup_is eqb c.sort_unstable.new.self.items c.dedup.new.self.items c.dedup.ensures.filtered in
     record {
       rising = subst IsStrictlyIncreasing (sym is) (IsStrictlyIncreasing-dedup c.sort_unstable.new.self.items c.sort_unstable.ensures.sorted);
-      same = λ k. ap (λ l. is_in l k) is ∙ in_dedup c.sort_unstable.new.self.items k ∙ sym (list_any-IsPermutation (λ other. nat_eq other k) c.args.numbers.items c.sort_unstable.new.self.items c.sort_unstable.ensures.permutation);
+      same =
+          λ k. ap (λ l. is_in l k) is ∙ in_dedup c.sort_unstable.new.self.items k
+          ∙ sym (list_any-IsPermutation (λ other. nat_eq other k) c.args.numbers.items c.sort_unstable.new.self.items c.sort_unstable.ensures.permutation);
     }

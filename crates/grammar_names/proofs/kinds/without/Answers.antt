@@ -9,7 +9,8 @@ use Rattle.grammar_names.proofs.kinds.without.Goals.{then-not-is_among+in_ok-pus
 use Rattle.grammar_names.proofs.kinds.without.Goals as goal
 
 pub is_among-requires : goal.is_among-requires
-is_among-requires c = subst IsNonDecreasing (sym c.deref.ensures.value) (IsNonDecreasingBy-from_sort (λ x. x) c.sort_unstable.new.self.items c.sort_unstable.ensures.sorted)
+is_among-requires c =
+    subst IsNonDecreasing (sym c.deref.ensures.value) (IsNonDecreasingBy-from_sort (λ x. x) c.sort_unstable.new.self.items c.sort_unstable.ensures.sorted)
 
 pub loop-kind-preserved : goal.loop-kind-preserved
 loop-kind-preserved c =

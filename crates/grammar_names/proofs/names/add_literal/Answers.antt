@@ -9,7 +9,8 @@ use Rattle.grammar_names.proofs.names.add_literal.Goals as goal
 pub returns-in-Some : goal.returns-in-Some
 returns-in-Some c =
     let kind = λ (s : Source). (let k : TokenKind = record { name = c.args.kind.now.name; gap = c.args.kind.now.gap; source = s } in k) in
-    added_so c.add-in-Some.result c.args.index.now c.add-in-Some.new.self (same_text c.in-Some.literal.now) (can_stand_for (map rule_of c.args.rules.now) (kind_of c.args.kind.now)) c.args.number
+    added_so c.add-in-Some.result c.args.index.now c.add-in-Some.new.self (same_text c.in-Some.literal.now)
+    (can_stand_for (map rule_of c.args.rules.now) (kind_of c.args.kind.now)) c.args.number
     (λ t. sym (ap (λ s. can_stand_for (map rule_of c.args.rules.now) (kind (source_of s)) t) c.in-Written.is ∙ c.in-Some.ensures t))
     c.add-in-Some.ensures
 

@@ -11,11 +11,13 @@ returns-then-terms-ne1 c t = not_one_in c.args.terms.now c.as_slice-terms.result
 
 pub returns-in-Literal : goal.returns-in-Literal
 returns-in-Literal c t =
-    let one = one_in c.args.terms.now c.as_slice-terms.result.now c.index-terms-0.result c.as_slice-terms.ensures.value c.if-terms-ne1.false c.index-terms-0.is in
+    let one =
+    one_in c.args.terms.now c.as_slice-terms.result.now c.index-terms-0.result c.as_slice-terms.ensures.value c.if-terms-ne1.false c.index-terms-0.is in
     let is : lex_term c.index-terms-0.result ≡ LexerTerm.literal c.in-Literal.text = ap lex_term c.in-Literal.is ∙ lex_term-Literal c.in-Literal.text in
     ap (λ s. is_just t (lexer_alts (s ∷ []))) (one ∙ ap (λ x. x ∷ []) is)
 
 pub returns-in_default : goal.returns-in_default
 returns-in_default c t =
-    let one = one_in c.args.terms.now c.as_slice-terms.result.now c.index-terms-0.result c.as_slice-terms.ensures.value c.if-terms-ne1.false c.index-terms-0.is in
+    let one = one_in c.args.terms.now c.as_slice-terms.result.now c.index-terms-0.result c.as_slice-terms.ensures.value c.if-terms-ne1.false
+    c.index-terms-0.is in
     ap (λ s. is_just t (lexer_alts (s ∷ []))) one ∙ other_term c.index-terms-0.result t c.in_default.not-Literal

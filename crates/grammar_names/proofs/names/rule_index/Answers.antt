@@ -14,7 +14,9 @@ loop-rule-preserved c =
     let more = mapped_more rule_of c.args.rules.now c.loop-rule.rule-index c.rule-item.result c.loop-rule-test.true c.rule-item.is in
     let next = c.in_ok-number.ensures.next in
     let number = number_push rules rule c.loop-rule.number c.loop-rule.invariant.number in
-    let finds = rules_push c.loop-rule.index c.add_rule.new.index rules rule c.loop-rule.number c.loop-rule.invariant.number c.loop-rule.invariant.finds c.in_ok-number.ensures.added in
+    let finds =
+    rules_push c.loop-rule.index c.add_rule.new.index rules rule c.loop-rule.number c.loop-rule.invariant.number c.loop-rule.invariant.finds
+    c.in_ok-number.ensures.added in
     let P : List WrittenRule → Type 0 = λ l. c.in_ok-number.number ≡ length (parser_rules l) in
     let Q : List WrittenRule → Type 0 = λ l. Finds c.add_rule.new.index (λ n. position (λ (r : ParserRule). same_text r.name n) (parser_rules l)) in
     record {

@@ -16,6 +16,7 @@ returns-in-Some c =
     let s = state_of c.args.state.now in
     let word = c.args.word.now in
     let is : row s word ≡ Some c.in-Some.what =
-    ap (λ (o : Option What). option_or o (later_row s word)) (sym c.own_row.ensures) ∙ ap (λ (o : Option What). option_or c.own_row.result o) (sym c.later_row.ensures) ∙ sym c.or.ensures ∙ c.in-Some.is in
+    ap (λ (o : Option What). option_or o (later_row s word)) (sym c.own_row.ensures)
+    ∙ ap (λ (o : Option What). option_or c.own_row.result o) (sym c.later_row.ensures) ∙ sym c.or.ensures ∙ c.in-Some.is in
     sym (ap (λ (b : Bool). cond b (f.NestedTooDeep c.args.offset) (fault_of (row s word) c.args.offset)) (sym c.is_deep.ensures ∙ c.if-is_deep.false)
     ∙ ap (λ (o : Option What). fault_of o c.args.offset) is)

@@ -20,5 +20,6 @@ returns-in-Parser c =
 pub returns-in-Lexer : goal.returns-in-Lexer
 returns-in-Lexer c =
     c.some-in-Lexer.ensures
-    ∙ lexer_rule_begun (grammar_of c.args.grammar) c.in-Lexer.name c.in-Lexer.fragment c.no_commands.result c.new-in-Lexer.result.items (lex_frame_of c.fresh-in-Lexer.result) c.no_commands.ensures c.new-in-Lexer.ensures.items c.fresh-in-Lexer.ensures
+    ∙ lexer_rule_begun (grammar_of c.args.grammar) c.in-Lexer.name c.in-Lexer.fragment c.no_commands.result c.new-in-Lexer.result.items
+    (lex_frame_of c.fresh-in-Lexer.result) c.no_commands.ensures c.new-in-Lexer.ensures.items c.fresh-in-Lexer.ensures
     ∙ sym (ap (λ h. Some (m.body_at 64 (grammar_of c.args.grammar) (head_of h))) c.in-Lexer.is)

@@ -6,4 +6,5 @@ use Rattle.grammar_reader_lexer_rules.proofs.item.step_after_item_char.Goals as 
 
 pub returns-in_default : goal.returns-in_default
 returns-in_default c =
-    subst (NextIs c.step_after_one.result) (sym (no_item_range (lex_body_of c.args.body) (item_position_of c.args.position) c.args.char c.args.word c.in_default.not-Dots)) c.step_after_one.ensures
+    subst (NextIs c.step_after_one.result) (sym
+    (no_item_range (lex_body_of c.args.body) (item_position_of c.args.position) c.args.char c.args.word c.in_default.not-Dots)) c.step_after_one.ensures

@@ -13,12 +13,14 @@ pub returns-then-is : goal.returns-then-is
 returns-then-is c =
     let b : m.LexBody = lex_body_of c.args.body in
     c.refused.ensures
-    ∙ sym (ap (m.step_lex b) c.in-Upper.is ∙ ap (λ eof. cond eof None (Some (m.AfterLexAtom b (LexerTerm.name c.in-Upper.name)))) (sym c.is.ensures ∙ c.if-is.true))
+    ∙ sym (ap (m.step_lex b) c.in-Upper.is ∙ ap (λ eof. cond eof None (Some (m.AfterLexAtom b (LexerTerm.name c.in-Upper.name))))
+    (sym c.is.ensures ∙ c.if-is.true))
 
 pub returns-else-is : goal.returns-else-is
 returns-else-is c =
     let b : m.LexBody = lex_body_of c.args.body in
     subst (NextIs c.at-else-is.result)
     (ap (λ t. Some (m.AfterLexAtom b t)) (lex_term-Name c.in-Upper.name)
-    ∙ sym (ap (m.step_lex b) c.in-Upper.is ∙ ap (λ eof. cond eof None (Some (m.AfterLexAtom b (LexerTerm.name c.in-Upper.name)))) (sym c.is.ensures ∙ c.if-is.false)))
+    ∙ sym (ap (m.step_lex b) c.in-Upper.is ∙ ap (λ eof. cond eof None (Some (m.AfterLexAtom b (LexerTerm.name c.in-Upper.name))))
+    (sym c.is.ensures ∙ c.if-is.false)))
     c.at-else-is.ensures

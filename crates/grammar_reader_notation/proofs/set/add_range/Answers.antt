@@ -10,4 +10,5 @@ pub returns-in_ok-push-in-Some : goal.returns-in_ok-push-in-Some
 returns-in_ok-push-in-Some c = λ x h.
     let pushed : _ = c.in_ok-push-in-Some.ensures in
     ap (λ rs. has rs x) pushed.items ∙ has_more c.args.chars.now.items (c.in-Some.first, c.last_char.result) x
-    ∙ ap (λ b. has c.args.chars.now.items x || b) (same_range c.in-Some.first c.last_char.result c.args.range x (c.in-Some.ensures x h) (c.last_char.ensures x h))
+    ∙ ap (λ b. has c.args.chars.now.items x || b)
+    (same_range c.in-Some.first c.last_char.result c.args.range x (c.in-Some.ensures x h) (c.last_char.ensures x h))

@@ -7,4 +7,6 @@ use Rattle.grammar_reader_parser_rules.proofs.parser.step_after.Goals as goal
 
 pub returns-in_default : goal.returns-in_default
 returns-in_default c =
-    subst (NextIs c.without_suffix.result) (sym (no_suffix (body_of c.args.body) (parser_term c.args.term) c.args.word c.in_default.not-Question c.in_default.not-Star c.in_default.not-Plus)) c.without_suffix.ensures
+    subst (NextIs c.without_suffix.result) (sym
+    (no_suffix (body_of c.args.body) (parser_term c.args.term) c.args.word c.in_default.not-Question c.in_default.not-Star c.in_default.not-Plus))
+    c.without_suffix.ensures

@@ -7,4 +7,5 @@ use Rattle.grammar_reader_parser_rules.proofs.parser.step_after_name.Goals as go
 
 pub returns-in_default : goal.returns-in_default
 returns-in_default c =
-    subst (NextIs c.step_after.result) (sym (no_label (body_of c.args.body) (parser_term c.args.term) c.args.word c.in_default.not-Equals c.in_default.not-PlusEquals)) c.step_after.ensures
+    subst (NextIs c.step_after.result)
+    (sym (no_label (body_of c.args.body) (parser_term c.args.term) c.args.word c.in_default.not-Equals c.in_default.not-PlusEquals)) c.step_after.ensures

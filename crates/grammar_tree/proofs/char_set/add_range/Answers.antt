@@ -1,25 +1,30 @@
-use Rattle.std.proofs.Common.{◌≡◌, ℕ, ◌+◌, ◌≤◌, ◌||◌, true, false, Bool, cond, List, [], ◌∷◌, ◌++◌, max, refl, sym, ap, ◌∙◌, arith, ◌-◌, ◌<◌, length, take, set, get_or, take_all}
+use Rattle.std.proofs.Common.{◌≡◌, ℕ, ◌+◌, ◌≤◌, ◌||◌, true, false, Bool, cond, List, [], ◌∷◌, ◌++◌, max, refl, sym}
+use Rattle.std.proofs.Common.{ap, ◌∙◌, arith, ◌-◌, ◌<◌, length, take, set, get_or, take_all}
 use Rattle.std.proofs.lemmas.Bool.{and_parts, and_from}
 use Rattle.std.proofs.lemmas.List.{nil_from_length, take_more, take_more_set, length-set}
 use Rattle.regex_class.specs.Ranges.{Range, in_range, in_ranges, rises_from, last_start_or, IsCanonical}
-use Rattle.regex_class.proofs.RangesLemmas.{in_range_tells, in_ranges-push, next_free, next_free-push, next_free-nil, last_start_or-push, rises_from-push, fits_from-true, le-fits_from}
+use Rattle.regex_class.proofs.RangesLemmas.{in_range_tells, in_ranges-push, next_free, next_free-push, next_free-nil}
+use Rattle.regex_class.proofs.RangesLemmas.{last_start_or-push, rises_from-push, fits_from-true, le-fits_from}
 use Rattle.grammar_tree.proofs.char_set.add_range.Goals as goal
 use Rattle.grammar_tree.proofs.char_set.add_range.Goals.{then-len-gt0+else-range-last, else-len-gt0}
 
 -- what is known of a canonical list with a last range
-last_fits : (whole xs : List Range) (r : Range) → whole ≡ xs ++ r ∷ [] → IsCanonical whole → IsCanonical xs × (next_free 0 xs ≤ r.0) × (r.0 ≤ r.1) × (r.1 ≤ 0x10_FFFF)
+last_fits : (whole xs : List Range) (r : Range) → whole ≡ xs ++ r ∷ [] → IsCanonical whole → IsCanonical xs × (next_free 0 xs ≤ r.0) × (r.0 ≤ r.1)
+    × (r.1 ≤ 0x10_FFFF)
 last_fits whole xs r e h =
     let parts = and_parts _ _ (sym (rises_from-push 0 xs r) ∙ ap (rises_from 0) (sym e) ∙ h) in
     let fits = fits_from-true _ r parts.1 in
     (parts.0, fits.0, fits.1, fits.2)
 
 -- a push that may fail leaves a canonical list
-pushed_fits : (b : Bool) (new xs : List Range) (r : Range) → new ≡ cond b (xs ++ r ∷ []) xs → IsCanonical xs → next_free 0 xs ≤ r.0 → r.0 ≤ r.1 → r.1 ≤ 0x10_FFFF → IsCanonical new
+pushed_fits : (b : Bool) (new xs : List Range) (r : Range) → new ≡ cond b (xs ++ r ∷ []) xs → IsCanonical xs → next_free 0 xs ≤ r.0 → r.0 ≤ r.1
+    → r.1 ≤ 0x10_FFFF → IsCanonical new
 pushed_fits true new xs r e h p q s = ap (rises_from 0) e ∙ rises_from-push 0 xs r ∙ and_from _ _ h (le-fits_from _ r p q s)
 pushed_fits false new xs r e h p q s = ap (rises_from 0) e ∙ h
 
 -- two ranges that touch hold what their hull holds
-hull : (b : Bool) (last r : Range) (m c : ℕ) → last.0 ≤ r.0 → r.0 ≤ last.1 + 1 → last.0 ≤ last.1 → m ≡ max last.1 r.1 → (b || in_range (last.0, m) c) ≡ ((b || in_range last c) || in_range r c)
+hull : (b : Bool) (last r : Range) (m c : ℕ) → last.0 ≤ r.0 → r.0 ≤ last.1 + 1 → last.0 ≤ last.1 → m ≡ max last.1 r.1
+    → (b || in_range (last.0, m) c) ≡ ((b || in_range last c) || in_range r c)
 hull true last r m c p q s e = refl
 hull false last r m c p q s e = grind (arith, in_range_tells (last.0, m) c, in_range_tells last c, in_range_tells r c)
 

@@ -7,8 +7,14 @@ use Rattle.grammar_tree.proofs.char_set.merged.Goals as goal
 
 pub loop-i-init : goal.loop-i-init
 loop-i-init c =
-    let none = c.empty-all.ensures in
-    (omega arith, omega arith, λ x. ap (λ l. in_ranges l x) none ∙ nothing_twice x, λ _. omega (arith, ap (last_start_or 0) none ∙ last_start_or-nil 0), λ _. omega (arith, ap (last_start_or 0) none ∙ last_start_or-nil 0))
+    let none = c.empty-all.ensures in (
+      omega arith,
+      omega arith,
+      λ x. ap (λ l. in_ranges l x) none
+          ∙ nothing_twice x,
+      λ _. omega (arith, ap (last_start_or 0) none ∙ last_start_or-nil 0),
+      λ _. omega (arith, ap (last_start_or 0) none ∙ last_start_or-nil 0),
+    )
 
 pub add_range-requires-clause-ordered : goal.add_range-requires-clause-ordered
 add_range-requires-clause-ordered c =

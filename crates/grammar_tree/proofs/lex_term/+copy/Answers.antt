@@ -11,12 +11,14 @@ LexTerm::copy-returns-in_ok-copy-in-Opt t c =
 
 pub LexTerm::copy-returns-in_ok-copy-in-Star : goal.LexTerm::copy-returns-in_ok-copy-in-Star
 LexTerm::copy-returns-in_ok-copy-in-Star t c =
-    let same = ap LexerTerm.star (c.in_ok-copy-in-Star.ensures ∙ ap lex_term c.deref-in-Star.ensures) ∙ sym (ap lex_term c.in-Star.is ∙ lex_term-Star c.in-Star.term) in
+    let same =
+    ap LexerTerm.star (c.in_ok-copy-in-Star.ensures ∙ ap lex_term c.deref-in-Star.ensures) ∙ sym (ap lex_term c.in-Star.is ∙ lex_term-Star c.in-Star.term) in
     subst (λ x. IfOk c.star.result (λ r. lex_term r ≡ x)) same c.star.ensures
 
 pub LexTerm::copy-returns-in_ok-copy-in-Plus : goal.LexTerm::copy-returns-in_ok-copy-in-Plus
 LexTerm::copy-returns-in_ok-copy-in-Plus t c =
-    let same = ap LexerTerm.plus (c.in_ok-copy-in-Plus.ensures ∙ ap lex_term c.deref-in-Plus.ensures) ∙ sym (ap lex_term c.in-Plus.is ∙ lex_term-Plus c.in-Plus.term) in
+    let same =
+    ap LexerTerm.plus (c.in_ok-copy-in-Plus.ensures ∙ ap lex_term c.deref-in-Plus.ensures) ∙ sym (ap lex_term c.in-Plus.is ∙ lex_term-Plus c.in-Plus.term) in
     subst (λ x. IfOk c.plus.result (λ r. lex_term r ≡ x)) same c.plus.ensures
 
 pub LexTerm::copy-returns-in-Short : goal.LexTerm::copy-returns-in-Short

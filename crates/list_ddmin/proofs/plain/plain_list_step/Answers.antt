@@ -10,7 +10,8 @@ returns-then-not-may_be_empty g c =
     let verdict = g.T.Test.verdict c.args.test.now in
     let either : (c.args.may_be_empty ≡ false) ⊎ (c.args.len ≡ 0) = ⊎_elim (λ no. inl no) (λ none. inr none.1) c.then-not-may_be_empty.either in
     let none = ap (λ qs. asks_before (map (λ v. v.items) qs) (ddmin verdict (replicate c.args.len true) 2)) c.new-questions.ensures.items in
-    subst (λ (o : Outcome). IfOk c.reduced.result (λ outcome. outcome ≡ o)) (none ∙ sym (list_step-all verdict c.args.len c.args.may_be_empty either)) c.reduced.ensures
+    subst (λ (o : Outcome). IfOk c.reduced.result (λ outcome. outcome ≡ o))
+    (none ∙ sym (list_step-all verdict c.args.len c.args.may_be_empty either)) c.reduced.ensures
 
 pub returns-then-yes : goal.returns-then-yes
 returns-then-yes g c =
@@ -30,5 +31,7 @@ returns g c =
     let answer = sym c.if-yes.false ∙ c.in_ok-yes.ensures.answer ∙ ap verdict shown in
     let rest = ddmin verdict (replicate c.args.len true) 2 in
     let asked = c.in_ok-yes.ensures.asked ∙ (λ i. map (λ v. v.items) (c.new-questions.ensures.items i) ++ shown i ∷ []) in
-    let is = ap (λ qs. asks_before qs rest) asked ∙ sym (list_step-nothing verdict c.args.len c.args.may_be_empty false c.if-not-may_be_empty.false (omega arith) answer) in
+    let is =
+    ap (λ qs. asks_before qs rest) asked ∙ sym
+    (list_step-nothing verdict c.args.len c.args.may_be_empty false c.if-not-may_be_empty.false (omega arith) answer) in
     subst (λ (o : Outcome). IfOk c.reduced-2.result (λ outcome. outcome ≡ o)) is c.reduced-2.ensures

@@ -23,7 +23,8 @@ push_group-requires c =
     let rules = c.args.rules.now in
     let i = c.loop-number.number in
     let r = c.index-rules-number.result in
-    group_fits i (vec_len c.loop-number.made) (resolved_alts G (parser_rule r).alts) (bodies_of G (drop i rules)) (bodies_of G (drop (i + 1) rules)) (body_taken G rules i r c.loop-number-test.true c.index-rules-number.is) _ c.loop-number.invariant.total c.requires.few
+    group_fits i (vec_len c.loop-number.made) (resolved_alts G (parser_rule r).alts) (bodies_of G (drop i rules)) (bodies_of G (drop (i + 1) rules))
+    (body_taken G rules i r c.loop-number-test.true c.index-rules-number.is) _ c.loop-number.invariant.total c.requires.few
 
 pub loop-number-preserved : goal.loop-number-preserved
 loop-number-preserved c =
@@ -40,11 +41,14 @@ loop-number-preserved c =
     let counted = c.in_ok-push_group.ensures.len in
     record {
       total = count_more i n a all rest taken k counted _ c.loop-number.invariant.total;
-      made = groups_more i n a all rest taken k counted (numbering (bodies G)) (map rule_form c.loop-number.made.items) (map rule_form c.push_group.new.rules.items) _ c.in_ok-push_group.ensures.rules c.loop-number.invariant.made;
+      made =
+          groups_more i n a all rest taken k counted (numbering (bodies G)) (map rule_form c.loop-number.made.items)
+          (map rule_form c.push_group.new.rules.items) _ c.in_ok-push_group.ensures.rules c.loop-number.invariant.made;
     }
 
 pub returns : goal.returns
 returns c =
     let i = c.loop-number.number in
     let G = c.args.numbers.now in
-    groups_end i (vec_len c.loop-number.made) (bodies_of G (drop i c.args.rules.now)) (bodies_end G c.args.rules.now i c.loop-number-test.false) (numbering (bodies G)) (map rule_form c.loop-number.made.items) _ c.loop-number.invariant.made
+    groups_end i (vec_len c.loop-number.made) (bodies_of G (drop i c.args.rules.now)) (bodies_end G c.args.rules.now i c.loop-number-test.false)
+    (numbering (bodies G)) (map rule_form c.loop-number.made.items) _ c.loop-number.invariant.made

@@ -22,8 +22,11 @@ returns-clause-rules c =
     let pushed = vec_len c.push_head.new.rules in
     c.put_regular-2.ensures.rules
     ∙ ap (λ l. set l (c.len-own.result + 3) (RuleForm.regular (alts_form sorted.rests.items))) c.put_regular.ensures.rules
-    ∙ replaced_head c.args.rules.now.items c.push_head.new.rules.items c.push_sorted.new.rules.items (RuleForm.regular (alts_form sorted.bases.items)) (RuleForm.regular (alts_form sorted.rests.items))
+    ∙ replaced_head c.args.rules.now.items c.push_head.new.rules.items c.push_sorted.new.rules.items (RuleForm.regular (alts_form sorted.bases.items))
+    (RuleForm.regular (alts_form sorted.rests.items))
     (base_symbols M c.args.rule pushed A) (rest_symbols M c.args.rule pushed A) c.len-own.result (alts_rules M pushed A)
     own head c.in_ok-sorted.ensures.rules (ap RuleForm.regular c.in_ok-sorted.ensures.bases) (ap RuleForm.regular c.in_ok-sorted.ensures.rests)
     ∙ ap (λ k. old ++ (head_of c.len-own.result (base_symbols M c.args.rule k A) (rest_symbols M c.args.rule k A) ++ alts_rules M k A)) next
-    ∙ ap (λ k. old ++ (head_of k (base_symbols M c.args.rule (vec_len c.args.rules.now + 4) A) (rest_symbols M c.args.rule (vec_len c.args.rules.now + 4) A) ++ alts_rules M (vec_len c.args.rules.now + 4) A)) c.len-own.ensures
+    ∙ ap
+    (λ k. old ++ (head_of k (base_symbols M c.args.rule (vec_len c.args.rules.now + 4) A) (rest_symbols M c.args.rule (vec_len c.args.rules.now + 4) A)
+    ++ alts_rules M (vec_len c.args.rules.now + 4) A)) c.len-own.ensures

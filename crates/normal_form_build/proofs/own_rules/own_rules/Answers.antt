@@ -18,7 +18,9 @@ group_size-requires c =
     let rules = c.args.rules.now in
     let i = c.loop-number.number in
     let r = c.index-rules-number.result in
-    let fits = group_fits i c.loop-number.next (resolved_alts G (parser_rule r).alts) (bodies_of G (drop i rules)) (bodies_of G (drop (i + 1) rules)) (body_taken G rules i r c.loop-number-test.true c.index-rules-number.is) _ c.loop-number.invariant.total c.requires.few in
+    let fits =
+    group_fits i c.loop-number.next (resolved_alts G (parser_rule r).alts) (bodies_of G (drop i rules)) (bodies_of G (drop (i + 1) rules))
+    (body_taken G rules i r c.loop-number-test.true c.index-rules-number.is) _ c.loop-number.invariant.total c.requires.few in
     omega (arith, fits)
 
 pub overflow_cast-next : goal.overflow_cast-next
@@ -27,7 +29,8 @@ overflow_cast-next c =
     let rules = c.args.rules.now in
     let i = c.loop-number.number in
     let r = c.index-rules-number.result in
-    let fits = group_fits i c.loop-number.next (resolved_alts G (parser_rule r).alts) (bodies_of G (drop i rules)) (bodies_of G (drop (i + 1) rules)) (body_taken G rules i r c.loop-number-test.true c.index-rules-number.is) _ c.loop-number.invariant.total c.requires.few in
+    let fits = group_fits i c.loop-number.next (resolved_alts G (parser_rule r).alts) (bodies_of G (drop i rules)) (bodies_of G (drop (i + 1) rules))
+    (body_taken G rules i r c.loop-number-test.true c.index-rules-number.is) _ c.loop-number.invariant.total c.requires.few in
     omega (arith, c.group_size.ensures, fits)
 
 pub overflow_add-next : goal.overflow_add-next
@@ -36,7 +39,9 @@ overflow_add-next c =
     let rules = c.args.rules.now in
     let i = c.loop-number.number in
     let r = c.index-rules-number.result in
-    let fits = group_fits i c.loop-number.next (resolved_alts G (parser_rule r).alts) (bodies_of G (drop i rules)) (bodies_of G (drop (i + 1) rules)) (body_taken G rules i r c.loop-number-test.true c.index-rules-number.is) _ c.loop-number.invariant.total c.requires.few in
+    let fits = group_fits i c.loop-number.next (resolved_alts G (parser_rule r).alts) (bodies_of G (drop i rules))
+    (bodies_of G (drop (i + 1) rules)) (body_taken G rules i r c.loop-number-test.true c.index-rules-number.is) _ c.loop-number.invariant.total
+    c.requires.few in
     omega (arith, c.group_size.ensures, fits)
 
 pub loop-number-preserved : goal.loop-number-preserved
@@ -53,10 +58,13 @@ loop-number-preserved c =
     let counted = ap (λ s. n + s) c.group_size.ensures in
     record {
       total = count_more i n a all rest taken _ counted _ c.loop-number.invariant.total;
-      own_rules = own_rules_more i n a all rest taken _ counted c.loop-number.own_rules.items c.push.new.self.items _ c.in_ok-push.ensures.items c.loop-number.invariant.own_rules;
+      own_rules =
+          own_rules_more i n a all rest taken _ counted c.loop-number.own_rules.items c.push.new.self.items _ c.in_ok-push.ensures.items
+          c.loop-number.invariant.own_rules;
     }
 
 pub returns : goal.returns
 returns c =
     let i = c.loop-number.number in
-    own_rules_end i c.loop-number.next (bodies_of c.args.names.now (drop i c.args.rules.now)) (bodies_end c.args.names.now c.args.rules.now i c.loop-number-test.false) c.loop-number.own_rules.items _ c.loop-number.invariant.own_rules
+    own_rules_end i c.loop-number.next (bodies_of c.args.names.now (drop i c.args.rules.now))
+    (bodies_end c.args.names.now c.args.rules.now i c.loop-number-test.false) c.loop-number.own_rules.items _ c.loop-number.invariant.own_rules

@@ -25,12 +25,17 @@ loop-number-preserved c =
     let i = c.loop-number.number in
     let r = c.index-rules-number.result in
     record {
-      total = rest_few i (resolved_alts G (parser_rule r).alts) (bodies_of G (drop i rules)) (bodies_of G (drop (i + 1) rules)) (body_taken G rules i r c.loop-number-test.true c.index-rules-number.is) c.loop-number.invariant.total;
-      texts = names_more G i (parser_rule r) (map parser_rule (drop i rules)) (map parser_rule (drop (i + 1) rules)) (name_taken rules i r c.loop-number-test.true c.index-rules-number.is) _ c.group_size-size.ensures
+      total =
+          rest_few i (resolved_alts G (parser_rule r).alts) (bodies_of G (drop i rules)) (bodies_of G (drop (i + 1) rules))
+          (body_taken G rules i r c.loop-number-test.true c.index-rules-number.is) c.loop-number.invariant.total;
+      texts =
+          names_more G i (parser_rule r) (map parser_rule (drop i rules)) (map parser_rule (drop (i + 1) rules))
+          (name_taken rules i r c.loop-number-test.true c.index-rules-number.is) _ c.group_size-size.ensures
           c.loop-number.texts.items c.push_names.new.names.items _ c.in_ok-push_names.ensures c.loop-number.invariant.texts;
     }
 
 pub returns : goal.returns
 returns c =
     let i = c.loop-number.number in
-    all_named c.args.names.now i (map parser_rule (drop i c.args.rules.now)) (names_end c.args.rules.now i c.loop-number-test.false) c.loop-number.texts.items _ c.loop-number.invariant.texts
+    all_named c.args.names.now i (map parser_rule (drop i c.args.rules.now))
+    (names_end c.args.rules.now i c.loop-number-test.false) c.loop-number.texts.items _ c.loop-number.invariant.texts

@@ -22,7 +22,8 @@ with_term-with-requires-in-Not t c =
     let G = c.args.names.now in
     let missing = c.in_ok-named_kinds-in-Not.field-0.items in
     let P : List ℕ → Type 0 = λ l. IsPartOf l missing in
-    subst P (sym c.requires) (subst (IsPartOf (any_kinds G)) (sym c.in_ok-named_kinds-in-Not.ensures) (named_part G (map token_ref c.in-Not.tokens.items.items)))
+    subst P (sym c.requires) (subst (IsPartOf (any_kinds G)) (sym c.in_ok-named_kinds-in-Not.ensures)
+    (named_part G (map token_ref c.in-Not.tokens.items.items)))
 
 pub with_term-returns-in-Any : goal.with_term-returns-in-Any
 with_term-returns-in-Any t c =
@@ -38,8 +39,11 @@ with_term-returns-in_ok-named_kinds-in-Not t c =
     let sets = c.args.sets in
     let refs = map token_ref c.in-Not.tokens.items.items in
     let P : List (List ℕ) → Type 0 = λ l. IfOk c.with-in-Not.result (λ found. found ≡ with_each sets l) in
-    subst P (ap (λ (l : List ℕ). l ∷ []) (ap (lacking sets.all) c.in_ok-named_kinds-in-Not.ensures ∙ ap (λ l. lacking l (named_kinds G refs)) c.requires ∙ lacks_named G refs)
-    ∙ sym (ap (λ x. term_sets (resolved G (parser_term x))) c.in-Not.is ∙ ap (λ x. term_sets (resolved G x)) (parser_term-Not c.in-Not.tokens))) c.with-in-Not.ensures
+    subst P
+    (ap (λ (l : List ℕ). l ∷ []) (ap (lacking sets.all) c.in_ok-named_kinds-in-Not.ensures ∙ ap (λ l. lacking l (named_kinds G refs)) c.requires
+    ∙ lacks_named G refs)
+    ∙ sym (ap (λ x. term_sets (resolved G (parser_term x))) c.in-Not.is ∙ ap (λ x. term_sets (resolved G x)) (parser_term-Not c.in-Not.tokens)))
+    c.with-in-Not.ensures
 
 pub with_terms-loop-term-preserved : goal.with_terms-loop-term-preserved
 with_terms-loop-term-preserved t c =
@@ -47,7 +51,10 @@ with_terms-loop-term-preserved t c =
     let h = λ (l : List ParserTerm). seq_sets (resolved_seq G (written_seq (map parser_term l))) in
     record {
       kinds = ap (λ (s : SetsOfKinds). s.all) c.in_ok-found.ensures ∙ c.loop-term.invariant.kinds;
-      sets = sets_step (λ x. term_sets (resolved G (parser_term x))) h (λ x xs. refl) c.loop-term.found c.in_ok-found.found c.deref-term-items.result.now c.loop-term.term-index c.term-item.result c.loop-term-test.true c.term-item.is c.in_ok-found.ensures
+      sets =
+          sets_step (λ x. term_sets (resolved G (parser_term x))) h
+          (λ x xs. refl) c.loop-term.found c.in_ok-found.found c.deref-term-items.result.now c.loop-term.term-index c.term-item.result c.loop-term-test.true
+          c.term-item.is c.in_ok-found.ensures
           ∙ c.loop-term.invariant.sets;
     }
 
@@ -56,7 +63,8 @@ with_terms-returns t c =
     let G = c.args.names.now in
     let h = λ (l : List ParserTerm). seq_sets (resolved_seq G (written_seq (map parser_term l))) in
     let terms = fold_out-ParserTerms WrittenTerm (List (List WrittenTerm)) (List WrittenTerm) parser_node parser_alts_node parser_seq_node c.args.terms.now in
-    sym (sets_end (λ x. term_sets (resolved G (parser_term x))) h refl c.loop-term.found c.deref-term-items.result.now c.loop-term.term-index c.loop-term-test.false)
+    sym (sets_end (λ x. term_sets (resolved G (parser_term x))) h refl c.loop-term.found c.deref-term-items.result.now c.loop-term.term-index
+    c.loop-term-test.false)
     ∙ c.loop-term.invariant.sets
     ∙ ap (λ l. with_each c.args.sets (seq_sets (resolved_seq G (written_seq l)))) (ap (map parser_term) c.deref-term-items.ensures.value ∙ sym terms)
 
@@ -66,7 +74,10 @@ with_alts-loop-alt-preserved t c =
     let h = λ (l : List ParserTerms). alts_sets (resolved_alts G (written_alts (map parser_terms l))) in
     record {
       kinds = ap (λ (s : SetsOfKinds). s.all) c.in_ok-found.ensures ∙ c.loop-alt.invariant.kinds;
-      sets = sets_step (λ x. seq_sets (resolved_seq G (written_seq (parser_terms x)))) h (λ x xs. refl) c.loop-alt.found c.in_ok-found.found c.deref-alt-items.result.now c.loop-alt.alt-index c.alt-item.result c.loop-alt-test.true c.alt-item.is c.in_ok-found.ensures
+      sets =
+          sets_step (λ x. seq_sets (resolved_seq G (written_seq (parser_terms x)))) h
+          (λ x xs. refl) c.loop-alt.found c.in_ok-found.found c.deref-alt-items.result.now c.loop-alt.alt-index c.alt-item.result c.loop-alt-test.true
+          c.alt-item.is c.in_ok-found.ensures
           ∙ c.loop-alt.invariant.sets;
     }
 
@@ -75,6 +86,7 @@ with_alts-returns t c =
     let G = c.args.names.now in
     let h = λ (l : List ParserTerms). alts_sets (resolved_alts G (written_alts (map parser_terms l))) in
     let alts = fold_out-ParserAlts WrittenTerm (List (List WrittenTerm)) (List WrittenTerm) parser_node parser_alts_node parser_seq_node c.args.alts.now in
-    sym (sets_end (λ x. seq_sets (resolved_seq G (written_seq (parser_terms x)))) h refl c.loop-alt.found c.deref-alt-items.result.now c.loop-alt.alt-index c.loop-alt-test.false)
+    sym (sets_end (λ x. seq_sets (resolved_seq G (written_seq (parser_terms x)))) h refl c.loop-alt.found c.deref-alt-items.result.now c.loop-alt.alt-index
+    c.loop-alt-test.false)
     ∙ c.loop-alt.invariant.sets
     ∙ ap (λ l. with_each c.args.sets (alts_sets (resolved_alts G (written_alts l)))) (ap (map parser_terms) c.deref-alt-items.ensures.value ∙ sym alts)

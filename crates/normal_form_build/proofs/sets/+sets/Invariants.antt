@@ -11,12 +11,14 @@ abbrev pub invariant-with_terms-loop-term : goal.invariant-with_terms-loop-term
 invariant-with_terms-loop-term l =
     record {
       kinds : l.found.all ≡ any_kinds l.names;
-      sets : with_each l.found (seq_sets (resolved_seq l.names (written_seq (map parser_term (drop l.term-index l.term-items))))) ≡ with_each l.initial.found (seq_sets (resolved_seq l.names (written_seq (map parser_term l.term-items))));
+      sets : with_each l.found (seq_sets (resolved_seq l.names (written_seq (map parser_term (drop l.term-index l.term-items))))) ≡ with_each l.initial.found
+          (seq_sets (resolved_seq l.names (written_seq (map parser_term l.term-items))));
     }
 
 abbrev pub invariant-with_alts-loop-alt : goal.invariant-with_alts-loop-alt
 invariant-with_alts-loop-alt l =
     record {
       kinds : l.found.all ≡ any_kinds l.names;
-      sets : with_each l.found (alts_sets (resolved_alts l.names (written_alts (map parser_terms (drop l.alt-index l.alt-items))))) ≡ with_each l.initial.found (alts_sets (resolved_alts l.names (written_alts (map parser_terms l.alt-items))));
+      sets : with_each l.found (alts_sets (resolved_alts l.names (written_alts (map parser_terms (drop l.alt-index l.alt-items))))) ≡ with_each l.initial.found
+          (alts_sets (resolved_alts l.names (written_alts (map parser_terms l.alt-items))));
     }

@@ -16,12 +16,15 @@ pub loop-rule-preserved : goal.loop-rule-preserved
 loop-rule-preserved c =
     let G = c.args.names.now in
     let h = λ (l : List ParserRuleRef). flat_map alts_sets (bodies_of G l) in
-    sets_step (λ x. alts_sets (resolved_alts G (parser_rule x).alts)) h (λ x xs. refl) c.loop-rule.found c.in_ok-found.found c.args.rules.now c.loop-rule.rule-index c.rule-item.result c.loop-rule-test.true c.rule-item.is c.in_ok-found.ensures
+    sets_step (λ x. alts_sets (resolved_alts G (parser_rule x).alts)) h
+    (λ x xs. refl) c.loop-rule.found c.in_ok-found.found c.args.rules.now c.loop-rule.rule-index c.rule-item.result c.loop-rule-test.true c.rule-item.is
+    c.in_ok-found.ensures
     ∙ c.loop-rule.invariant
 
 pub returns : goal.returns
 returns c =
     let G = c.args.names.now in
     let h = λ (l : List ParserRuleRef). flat_map alts_sets (bodies_of G l) in
-    sym (sets_end (λ x. alts_sets (resolved_alts G (parser_rule x).alts)) h refl c.loop-rule.found c.args.rules.now c.loop-rule.rule-index c.loop-rule-test.false)
+    sym (sets_end (λ x. alts_sets (resolved_alts G (parser_rule x).alts)) h refl c.loop-rule.found c.args.rules.now c.loop-rule.rule-index
+    c.loop-rule-test.false)
     ∙ c.loop-rule.invariant ∙ with_all (any_kinds G) (h c.args.rules.now)

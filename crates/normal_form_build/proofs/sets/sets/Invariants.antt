@@ -8,4 +8,5 @@ use Rattle.normal_form_build.proofs.sets.sets.Given as goal
 
 abbrev pub invariant-loop-rule : goal.invariant-loop-rule
 invariant-loop-rule l =
-    with_each l.found (flat_map alts_sets (bodies_of l.names (drop l.rule-index l.rules))) ≡ with_each (no_sets (any_kinds l.names)) (flat_map alts_sets (bodies_of l.names l.rules))
+    with_each l.found (flat_map alts_sets (bodies_of l.names (drop l.rule-index l.rules))) ≡ with_each (no_sets (any_kinds l.names))
+    (flat_map alts_sets (bodies_of l.names l.rules))

@@ -16,4 +16,5 @@ loop-alt-preserved c =
     let rest = alts_form (drop (i + 1) items) in
     let cut = at_drop_more alts_form items i c.alt-item.result c.loop-alt-test.true ∙ ap (λ a. a.items ∷ rest) (sym c.alt-item.is) in
     let added = c.in_ok-push_alt-2.ensures ∙ ap (λ l. separated ++ piece l) c.deref-in-loop-alt.ensures.value in
-    piece_more piece (codes " | ") (string_bytes c.loop-alt.text) separated (string_bytes c.push_alt-in-loop-alt.new.text) _ c.alt-item.result.items (alts_form (drop i items)) rest cut c.in_ok-push_str.ensures.bytes added c.loop-alt.invariant
+    piece_more piece (codes " | ") (string_bytes c.loop-alt.text) separated (string_bytes c.push_alt-in-loop-alt.new.text) _ c.alt-item.result.items
+    (alts_form (drop i items)) rest cut c.in_ok-push_str.ensures.bytes added c.loop-alt.invariant

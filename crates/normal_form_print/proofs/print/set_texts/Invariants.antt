@@ -7,4 +7,5 @@ use Rattle.normal_form_print.proofs.print.set_texts.Given as goal
 
 abbrev pub invariant-loop-list : goal.invariant-loop-list
 invariant-loop-list l =
-    map string_bytes l.texts.items ≡ map (λ missing. encode_utf8_all (but_text (numbered_kind_text (map kind_of l.kinds)) missing)) (map items_of (take l.list-index l.list-items))
+    map string_bytes l.texts.items ≡ map (λ missing. encode_utf8_all (but_text (numbered_kind_text (map kind_of l.kinds)) missing))
+    (map items_of (take l.list-index l.list-items))

@@ -11,6 +11,8 @@ returns c =
     let s = c.args.sets.now in
     let key = c.in_ok-key.key.items in
     let same : key ≡ c.args.missing.now = c.in_ok-key.ensures.items in
-    let is_new : is_some (position (λ other. same_text other (lacking s.all key)) s.sets) ≡ false = ap (λ l. is_some (position (λ other. same_text other (lacking s.all l)) s.sets)) same ∙ c.requires.is_new in
+    let is_new : is_some (position (λ other. same_text other (lacking s.all key)) s.sets) ≡ false =
+    ap (λ l. is_some (position (λ other. same_text other (lacking s.all l)) s.sets)) same ∙ c.requires.is_new in
     let Q : List ℕ → Type 0 = λ l. HasNumbers c.insert.new.self (record { all = s.all; sets = s.sets ++ lacking s.all l ∷ [] }) in
-    subst Q same (numbers_more c.args.numbers.now c.insert.new.self s key c.len.result c.len.ensures c.in_ok-insert.ensures.updates is_new (subst (IsPartOf s.all) (sym same) c.requires.part) c.requires.numbers)
+    subst Q same (numbers_more c.args.numbers.now c.insert.new.self s key c.len.result c.len.ensures c.in_ok-insert.ensures.updates is_new
+    (subst (IsPartOf s.all) (sym same) c.requires.part) c.requires.numbers)

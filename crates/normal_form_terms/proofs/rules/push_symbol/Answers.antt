@@ -21,4 +21,5 @@ returns c =
     let t = parser_term c.args.term.now in
     let s = symbol (numbering (bodies G)) c.args.next (resolved G t) in
     let old = c.args.symbols.now.items in
-    c.in_ok-push.ensures.items ∙ ap (λ x. old ++ x ∷ []) c.in_ok-symbol.ensures ∙ ap (λ l. old ++ l) (sym (one_symbol G t s (sym c.has_symbol.ensures ∙ c.if-not-has_symbol.false)))
+    c.in_ok-push.ensures.items ∙ ap (λ x. old ++ x ∷ []) c.in_ok-symbol.ensures
+    ∙ ap (λ l. old ++ l) (sym (one_symbol G t s (sym c.has_symbol.ensures ∙ c.if-not-has_symbol.false)))

@@ -9,5 +9,6 @@ loop-start-preserved c =
     let row : Row = record { rule = c.args.rule; start = c.loop-start.start; ends = c.in_ok-ends.ends } in
     let P : List Row → Type 0 = λ l. AddsRows c.args.rows.now.items l c.args.rule c.args.count (c.loop-start.start + 1) in
     subst P (sym c.in_ok-push.ensures.items)
-    (adds_more c.args.rows.now.items c.loop-start.rows.items c.args.rule c.args.count c.loop-start.start row c.loop-start.invariant refl c.in_ok-ends.ensures.len refl c.loop-start-test.true
+    (adds_more c.args.rows.now.items c.loop-start.rows.items c.args.rule c.args.count c.loop-start.start row c.loop-start.invariant refl
+    c.in_ok-ends.ensures.len refl c.loop-start-test.true
     (λ j h. true≢false (sym h ∙ c.in_ok-ends.ensures.none j)))

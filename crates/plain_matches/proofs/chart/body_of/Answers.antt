@@ -6,4 +6,6 @@ use Rattle.plain_matches.proofs.chart.body_of.Goals as goal
 
 pub returns : goal.returns
 returns c =
-    slice_get-map pattern c.args.bodies.now c.args.rule ∙ ap (option_map pattern) (slice_get_read c.args.bodies.now (length c.args.bodies.now) c.args.rule c.index-bodies-rule.result refl c.requires c.index-bodies-rule.is)
+    slice_get-map pattern c.args.bodies.now c.args.rule
+    ∙ ap (option_map pattern) (slice_get_read c.args.bodies.now
+    (length c.args.bodies.now) c.args.rule c.index-bodies-rule.result refl c.requires c.index-bodies-rule.is)

@@ -24,7 +24,8 @@ have_same_ends-requires c =
     let next = c.in_ok-next.next.items in
     let grown = at_rows (λ r. Grows (Known r) bodies K) rows next c.deref.result.now next c.deref.ensures.value refl c.in_ok-next.ensures in
     let same = pairs_map (Grows (Known rows) bodies K) SameLength (λ x y g. sym g.len) rows next grown in
-    at_rows (λ _. SameLength) c.deref-in-loop-rows.result.now c.deref-in-loop-rows-2.result.now rows next (sym c.deref-in-loop-rows.ensures.value) (sym c.deref-in-loop-rows-2.ensures.value) same
+    at_rows (λ _. SameLength) c.deref-in-loop-rows.result.now c.deref-in-loop-rows-2.result.now rows next (sym c.deref-in-loop-rows.ensures.value)
+    (sym c.deref-in-loop-rows-2.ensures.value) same
 
 pub returns-then-have_same_ends-clause-exact : goal.returns-then-have_same_ends-clause-exact
 returns-then-have_same_ends-clause-exact c =
@@ -33,8 +34,11 @@ returns-then-have_same_ends-clause-exact c =
     let rows = c.loop-rows.rows.items in
     let next = c.in_ok-next.next.items in
     let grown = at_rows (λ r. Grows (Known r) bodies K) rows next c.deref.result.now next c.deref.ensures.value refl c.in_ok-next.ensures in
-    let same = at_rows (λ _. SameEnds) rows next c.deref-in-loop-rows.result.now c.deref-in-loop-rows-2.result.now c.deref-in-loop-rows.ensures.value c.deref-in-loop-rows-2.ensures.value (c.have_same_ends.ensures.same c.if-have_same_ends.true) in
-    grown_exact bodies K rows next grown (are_at rows (length c.args.bodies.now) (length bodies) (length K + 1) (sym (length-map c.args.bodies.now pattern)) c.loop-rows.invariant.are) c.loop-rows.invariant.sound same
+    let same =
+    at_rows (λ _. SameEnds) rows next c.deref-in-loop-rows.result.now c.deref-in-loop-rows-2.result.now c.deref-in-loop-rows.ensures.value
+    c.deref-in-loop-rows-2.ensures.value (c.have_same_ends.ensures.same c.if-have_same_ends.true) in
+    grown_exact bodies K rows next grown (are_at rows (length c.args.bodies.now) (length bodies) (length K + 1)
+    (sym (length-map c.args.bodies.now pattern)) c.loop-rows.invariant.are) c.loop-rows.invariant.sound same
 
 pub loop-rows-smaller : goal.loop-rows-smaller
 loop-rows-smaller c =
@@ -43,7 +47,9 @@ loop-rows-smaller c =
     let rows = c.loop-rows.rows.items in
     let next = c.in_ok-next.next.items in
     let grown = at_rows (λ r. Grows (Known r) bodies K) rows next c.deref.result.now next c.deref.ensures.value refl c.in_ok-next.ensures in
-    grown_fewer bodies K rows next grown (λ p. c.have_same_ends.ensures.other c.if-have_same_ends.false (at_rows (λ _. SameEnds) c.deref-in-loop-rows.result.now c.deref-in-loop-rows-2.result.now rows next (sym c.deref-in-loop-rows.ensures.value) (sym c.deref-in-loop-rows-2.ensures.value) p))
+    grown_fewer bodies K rows next grown (λ p. c.have_same_ends.ensures.other c.if-have_same_ends.false
+    (at_rows (λ _. SameEnds) c.deref-in-loop-rows.result.now c.deref-in-loop-rows-2.result.now rows next (sym c.deref-in-loop-rows.ensures.value)
+    (sym c.deref-in-loop-rows-2.ensures.value) p))
 
 pub loop-rows-preserved : goal.loop-rows-preserved
 loop-rows-preserved c =
@@ -52,4 +58,7 @@ loop-rows-preserved c =
     let rows = c.loop-rows.rows.items in
     let next = c.in_ok-next.next.items in
     let grown = at_rows (λ r. Grows (Known r) bodies K) rows next c.deref.result.now next c.deref.ensures.value refl c.in_ok-next.ensures in
-    record { are = grown_are_rows bodies K rows next grown (length c.args.bodies.now) (length K + 1) c.loop-rows.invariant.are; sound = grown_sound bodies K rows next grown c.loop-rows.invariant.sound }
+    record {
+      are = grown_are_rows bodies K rows next grown (length c.args.bodies.now) (length K + 1) c.loop-rows.invariant.are;
+      sound = grown_sound bodies K rows next grown c.loop-rows.invariant.sound;
+    }

@@ -1,4 +1,5 @@
-use Rattle.std.proofs.Common.{◌≡◌, ◌↔◌, ◌+◌, ◌⊎◌, inl, inr, ◌++◌, ℕ, Bool, List, [], ◌∷◌, Some, slice_get, map, take, length, vec_len, refl, sym, ap, ◌∙◌, subst, arith}
+use Rattle.std.proofs.Common.{◌≡◌, ◌↔◌, ◌+◌, ◌⊎◌, inl, inr, ◌++◌, ℕ, Bool, List, [], ◌∷◌, Some, slice_get, map}
+use Rattle.std.proofs.Common.{take, length, vec_len, refl, sym, ap, ◌∙◌, subst, arith}
 use Rattle.std.proofs.lemmas.List.{take_more}
 use Rattle.plain_matches.specs.Patterns as plain
 use Rattle.plain_matches.specs.Positions.{AreEnds, BodySpans, Grows, IsIn, Known, Pairs, SpansBy}
@@ -17,13 +18,30 @@ body_of-requires c = c.requires.within c.row-item.result (c.loop-row.row-index, 
 pub union-requires : goal.union-requires
 union-requires c =
     let f = c.requires.fit c.row-item.result (c.loop-row.row-index, c.loop-row-test.true, sym c.row-item.is) in
-    omega (arith, f.0, ap length c.deref-in-loop-row.ensures.value, c.row-item.result.ends.ok.0, c.deref-in-loop-row-2.ensures.len, c.in_ok-more.ensures.len, c.deref.ensures.len, c.in_ok-from.ensures.len)
+    omega (
+      arith,
+      f.0,
+      ap length c.deref-in-loop-row.ensures.value,
+      c.row-item.result.ends.ok.0,
+      c.deref-in-loop-row-2.ensures.len,
+      c.in_ok-more.ensures.len,
+      c.deref.ensures.len,
+      c.in_ok-from.ensures.len,
+    )
 
 -- a row that has grown
-grows : (known : ℕ → ℕ → ℕ → Type 0) (bodies : List plain.Pattern) (list : List ℕ) (p : plain.Pattern) (old new : Row) (from more : List Bool) → slice_get bodies old.rule ≡ Some p →
-    ((j : ℕ) → IsIn from j ↔ (j ≡ old.start)) → AreEnds known list p from more → IsUnion new.ends.items old.ends.items more → new.rule ≡ old.rule → new.start ≡ old.start → vec_len new.ends ≡ vec_len old.ends →
+grows : (known : ℕ → ℕ → ℕ → Type 0) (bodies : List plain.Pattern) (list : List ℕ) (p : plain.Pattern) (old new : Row) (from more : List Bool)
+    → slice_get bodies old.rule ≡ Some p →
+    ((j : ℕ) → IsIn from j ↔ (j ≡ old.start)) → AreEnds known list p from more → IsUnion new.ends.items old.ends.items more → new.rule ≡ old.rule
+    → new.start ≡ old.start → vec_len new.ends ≡ vec_len old.ends →
     Grows known bodies list old new
-grows known bodies list p old new from more at only e u r s l = record { rule = r; start = s; len = l; marks = λ j. (λ h. into j ((in_union new.ends.items old.ends.items more u j).0 h), λ h. (in_union new.ends.items old.ends.items more u j).1 (back j h)) }
+grows known bodies list p old new from more at only e u r s l =
+    record {
+      rule = r;
+      start = s;
+      len = l;
+      marks = λ j. (λ h. into j ((in_union new.ends.items old.ends.items more u j).0 h), λ h. (in_union new.ends.items old.ends.items more u j).1 (back j h));
+    }
   where
     into : (j : ℕ) → IsIn old.ends.items j ⊎ IsIn more j → IsIn old.ends.items j ⊎ BodySpans known bodies list old.rule old.start j
     into j (inl h) = inl h
@@ -55,5 +73,6 @@ loop-row-preserved c =
     let g = grows known bodies K (pattern c.body_of.result.now) old new from more c.body_of.ensures c.in_ok-from.ensures.only ends joined refl refl len in
     let P : List Row → Type 0 = λ z. Pairs (Grows known bodies K) z (c.loop-row.next.items ++ new ∷ []) in
     let Q : List Row → Type 0 = λ z. Pairs (Grows known bodies K) (take (i + 1) c.args.rows.now) z in
-    subst Q (sym c.in_ok-push.ensures.items) (subst P (sym (take_more c.args.rows.now i old c.loop-row-test.true ∙ ap (λ z. take i c.args.rows.now ++ z ∷ []) (sym c.row-item.is)))
+    subst Q (sym c.in_ok-push.ensures.items)
+    (subst P (sym (take_more c.args.rows.now i old c.loop-row-test.true ∙ ap (λ z. take i c.args.rows.now ++ z ∷ []) (sym c.row-item.is)))
     (pairs_more (Grows known bodies K) (take i c.args.rows.now) c.loop-row.next.items old new c.loop-row.invariant g))

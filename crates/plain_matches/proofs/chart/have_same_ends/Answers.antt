@@ -25,22 +25,32 @@ bounds-new-i c = omega (arith, pairs_length SameLength c.args.old.now c.args.new
 
 pub are_same-requires : goal.are_same-requires
 are_same-requires c =
-    let s = pairs_at SameLength c.args.old.now c.args.new.now c.loop-i.i c.index-old-i.result c.index-new-i.result c.requires c.loop-i-test.true c.index-old-i.is c.index-new-i.is in
-    c.deref.ensures.len ∙ ap (λ (r : Row). vec_len r.ends) (sym c.index-old-i.is) ∙ s ∙ ap (λ (r : Row). vec_len r.ends) c.index-new-i.is ∙ sym c.deref-in-loop-i.ensures.len
+    let s =
+    pairs_at SameLength c.args.old.now c.args.new.now c.loop-i.i c.index-old-i.result c.index-new-i.result c.requires c.loop-i-test.true c.index-old-i.is
+    c.index-new-i.is in
+    c.deref.ensures.len ∙ ap (λ (r : Row). vec_len r.ends) (sym c.index-old-i.is) ∙ s ∙ ap (λ (r : Row). vec_len r.ends) c.index-new-i.is
+    ∙ sym c.deref-in-loop-i.ensures.len
 
 pub returns-then-not-are_same-clause-same : goal.returns-then-not-are_same-clause-same
 returns-then-not-are_same-clause-same c = λ t. absurd (true≢false (sym t))
 
 pub returns-then-not-are_same-clause-other : goal.returns-then-not-are_same-clause-other
 returns-then-not-are_same-clause-other c = λ _ p.
-    let s = pairs_at SameEnds c.args.old.now c.args.new.now c.loop-i.i c.index-old-i.result c.index-new-i.result p c.loop-i-test.true c.index-old-i.is c.index-new-i.is in
-    c.are_same.ensures.other c.if-not-are_same.true (c.deref.ensures.value ∙ ap (λ (r : Row). r.ends.items) (sym c.index-old-i.is) ∙ s ∙ ap (λ (r : Row). r.ends.items) c.index-new-i.is ∙ sym c.deref-in-loop-i.ensures.value)
+    let s =
+    pairs_at SameEnds c.args.old.now c.args.new.now c.loop-i.i c.index-old-i.result c.index-new-i.result p c.loop-i-test.true c.index-old-i.is
+    c.index-new-i.is in
+    c.are_same.ensures.other c.if-not-are_same.true
+    (c.deref.ensures.value ∙ ap (λ (r : Row). r.ends.items) (sym c.index-old-i.is) ∙ s ∙ ap (λ (r : Row). r.ends.items) c.index-new-i.is
+    ∙ sym c.deref-in-loop-i.ensures.value)
 
 pub loop-i-preserved : goal.loop-i-preserved
 loop-i-preserved c =
     let s = sym c.deref.ensures.value ∙ c.are_same.ensures.same c.if-not-are_same.false ∙ c.deref-in-loop-i.ensures.value in
-    longer c.args.old.now c.args.new.now c.loop-i.i c.index-old-i.result c.index-new-i.result (pairs_length SameLength c.args.old.now c.args.new.now c.requires) c.loop-i-test.true c.index-old-i.is c.index-new-i.is
+    longer c.args.old.now c.args.new.now c.loop-i.i c.index-old-i.result c.index-new-i.result
+    (pairs_length SameLength c.args.old.now c.args.new.now c.requires) c.loop-i-test.true c.index-old-i.is c.index-new-i.is
     (ap (λ (r : Row). r.ends.items) c.index-old-i.is ∙ s ∙ ap (λ (r : Row). r.ends.items) (sym c.index-new-i.is)) c.loop-i.invariant
 
 pub returns-clause-same : goal.returns-clause-same
-returns-clause-same c = λ _. whole c.args.old.now c.args.new.now c.loop-i.i (pairs_length SameLength c.args.old.now c.args.new.now c.requires) c.loop-i-test.false c.loop-i.invariant
+returns-clause-same c =
+    λ _. whole c.args.old.now c.args.new.now c.loop-i.i
+    (pairs_length SameLength c.args.old.now c.args.new.now c.requires) c.loop-i-test.false c.loop-i.invariant

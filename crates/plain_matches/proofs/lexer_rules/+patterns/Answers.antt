@@ -12,11 +12,13 @@ use Rattle.plain_matches.proofs.lexer_rules.+patterns.Goals as goal
 pub seq_pattern-returns : goal.seq_pattern-returns
 seq_pattern-returns t c =
     let e : c.loop-i.i ≡ 0 = omega arith in
-    let P : ℕ → Type 0 = λ n. pattern c.loop-i.whole ≡ spelled_seq (map rule_of c.args.rules.now) (lexer_seq (map lex_term (drop n (out-LexTerms c.args.terms.now).items.items))) in
+    let P : ℕ → Type 0 =
+    λ n. pattern c.loop-i.whole ≡ spelled_seq (map rule_of c.args.rules.now) (lexer_seq (map lex_term (drop n (out-LexTerms c.args.terms.now).items.items))) in
     subst P e c.loop-i.invariant ∙ ap (λ l. spelled_seq (map rule_of c.args.rules.now) (lexer_seq l)) (sym (lex_terms_out c.args.terms.now))
 
 pub alts_pattern-returns : goal.alts_pattern-returns
 alts_pattern-returns t c =
     let e : c.loop-i.i ≡ 0 = omega arith in
-    let P : ℕ → Type 0 = λ n. pattern c.loop-i.whole ≡ spelled_alts (map rule_of c.args.rules.now) (lexer_alts (map lex_terms (drop n (out-LexAlts c.args.alts.now).items.items))) in
+    let P : ℕ → Type 0 =
+    λ n. pattern c.loop-i.whole ≡ spelled_alts (map rule_of c.args.rules.now) (lexer_alts (map lex_terms (drop n (out-LexAlts c.args.alts.now).items.items))) in
     subst P e c.loop-i.invariant ∙ ap (λ l. spelled_alts (map rule_of c.args.rules.now) (lexer_alts l)) (sym (lex_alts_out c.args.alts.now))

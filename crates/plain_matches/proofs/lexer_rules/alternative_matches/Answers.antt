@@ -18,8 +18,13 @@ returns-then-not-index c =
     let ends = c.in_ok-ends.ends.items in
     let h : length K < length ends = omega (arith, c.in_ok-ends.ensures.len, c.in_ok-ends.ends.ok.0) in
     let m = marked_at ends (length K) c.index.result.now h c.index.ensures in
-    let e = ends_at c.args.rows.now c.args.rows.now (pattern c.in_ok-whole.whole) (spelled_seq rules s) K K ends refl c.in_ok-whole.ensures refl c.in_ok-ends.ensures.ends in
-    (λ t. absurd (true≢false (sym t)), λ a. absurd (true≢false (sym ((seq_matches rules K c.args.rows.now c.requires.exact ends s e).1 a.greedily) ∙ m ∙ c.if-not-index.true)))
+    let e =
+    ends_at c.args.rows.now c.args.rows.now (pattern c.in_ok-whole.whole)
+    (spelled_seq rules s) K K ends refl c.in_ok-whole.ensures refl c.in_ok-ends.ensures.ends in (
+      λ t. absurd (true≢false (sym t)),
+      λ a. absurd (true≢false
+          (sym ((seq_matches rules K c.args.rows.now c.requires.exact ends s e).1 a.greedily) ∙ m ∙ c.if-not-index.true)),
+    )
 
 pub returns-then-not-is_short : goal.returns-then-not-is_short
 returns-then-not-is_short c =
@@ -29,8 +34,12 @@ returns-then-not-is_short c =
     let ends = c.in_ok-ends.ends.items in
     let h : length K < length ends = omega (arith, c.in_ok-ends.ensures.len, c.in_ok-ends.ends.ok.0) in
     let m = marked_at ends (length K) c.index.result.now h c.index.ensures ∙ c.if-not-index.false in
-    let e = ends_at c.args.rows.now c.args.rows.now (pattern c.in_ok-whole.whole) (spelled_seq rules s) K K ends refl c.in_ok-whole.ensures refl c.in_ok-ends.ensures.ends in
-    (λ _. is_alternative rules K c.args.rows.now c.requires.exact ends s e m (λ short _. true≢false (sym short ∙ sym c.is_short.ensures ∙ c.if-not-is_short.true)), λ _. refl)
+    let e = ends_at c.args.rows.now c.args.rows.now (pattern c.in_ok-whole.whole)
+    (spelled_seq rules s) K K ends refl c.in_ok-whole.ensures refl c.in_ok-ends.ensures.ends in (
+      λ _. is_alternative rules K c.args.rows.now c.requires.exact ends s e m
+          (λ short _. true≢false (sym short ∙ sym c.is_short.ensures ∙ c.if-not-is_short.true)),
+      λ _. refl,
+    )
 
 pub returns : goal.returns
 returns c =
@@ -40,10 +49,12 @@ returns c =
     let ends = c.in_ok-ends.ends.items in
     let h : length K < length ends = omega (arith, c.in_ok-ends.ensures.len, c.in_ok-ends.ends.ok.0) in
     let m = marked_at ends (length K) c.index.result.now h c.index.ensures ∙ c.if-not-index.false in
-    let e = ends_at c.args.rows.now c.args.rows.now (pattern c.in_ok-whole.whole) (spelled_seq rules s) K K ends refl c.in_ok-whole.ensures refl c.in_ok-ends.ensures.ends in
+    let e = ends_at c.args.rows.now c.args.rows.now
+    (pattern c.in_ok-whole.whole) (spelled_seq rules s) K K ends refl c.in_ok-whole.ensures refl c.in_ok-ends.ensures.ends in
     let short = sym c.is_short.ensures ∙ c.if-not-is_short.false in
     let P : List Bool → Type 0 = λ x. (j : ℕ) × (j < length K) × IsIn x j in
     let Q : List Bool → Type 0 = λ x. (j : ℕ) → j < length K → IsIn x j → ⊥ in
-    by_answer (Shorter rules K c.args.rows.now c.requires.exact ends s e) c.is_any_before.result (λ t. subst P c.deref.ensures.value (c.is_any_before.ensures.some t))
+    by_answer (Shorter rules K c.args.rows.now c.requires.exact ends s e) c.is_any_before.result
+    (λ t. subst P c.deref.ensures.value (c.is_any_before.ensures.some t))
     (λ f (j, k, i). subst Q c.deref.ensures.value (c.is_any_before.ensures.none f) j k i)
     (is_alternative rules K c.args.rows.now c.requires.exact ends s e m) (not_shorter rules K c.args.rows.now c.requires.exact ends s e) short

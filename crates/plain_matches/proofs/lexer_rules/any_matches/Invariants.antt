@@ -9,4 +9,5 @@ use Rattle.plain_matches.proofs.lexer_rules.any_matches.Given as goal
 
 abbrev pub invariant-loop-i : goal.invariant-loop-i
 invariant-loop-i l =
-    MatchesRule (lexer_rules (map rule_of l.rules)) (lexer_alts (lex_alts l.alts)) l.list ↔ MatchesRule (lexer_rules (map rule_of l.rules)) (lexer_alts (map lex_terms (drop l.i (out-LexAlts l.alts).items.items))) l.list
+    MatchesRule (lexer_rules (map rule_of l.rules)) (lexer_alts (lex_alts l.alts)) l.list
+    ↔ MatchesRule (lexer_rules (map rule_of l.rules)) (lexer_alts (map lex_terms (drop l.i (out-LexAlts l.alts).items.items))) l.list

@@ -6,9 +6,12 @@ use Rattle.plain_matches.proofs.lexer_rules.matches_rule.Goals as goal
 
 pub any_matches-requires-clause-fit : goal.any_matches-requires-clause-fit
 any_matches-requires-clause-fit c =
-    fit_at c.in_ok-rows.rows.items c.deref-4.result.now c.deref-2.result.now c.deref-5.result.now (sym c.deref-4.ensures.value) (c.deref-2.ensures.value ∙ sym c.deref-5.ensures.value) c.in_ok-rows.ensures.fit
+    fit_at c.in_ok-rows.rows.items c.deref-4.result.now c.deref-2.result.now c.deref-5.result.now (sym c.deref-4.ensures.value)
+    (c.deref-2.ensures.value ∙ sym c.deref-5.ensures.value) c.in_ok-rows.ensures.fit
 
 pub any_matches-requires-clause-exact : goal.any_matches-requires-clause-exact
 any_matches-requires-clause-exact c =
-    exact_at c.in_ok-rows.rows.items c.deref-4.result.now (spelled_rules (map rule_of c.deref.result.now)) (spelled_rules (map rule_of c.deref-3.result.now)) c.deref-2.result.now c.deref-5.result.now
-    (sym c.deref-4.ensures.value) (ap (λ l. spelled_rules (map rule_of l)) (c.deref.ensures.value ∙ sym c.deref-3.ensures.value)) (c.deref-2.ensures.value ∙ sym c.deref-5.ensures.value) c.in_ok-rows.ensures.exact
+    exact_at c.in_ok-rows.rows.items c.deref-4.result.now (spelled_rules (map rule_of c.deref.result.now))
+    (spelled_rules (map rule_of c.deref-3.result.now)) c.deref-2.result.now c.deref-5.result.now
+    (sym c.deref-4.ensures.value) (ap (λ l. spelled_rules (map rule_of l)) (c.deref.ensures.value ∙ sym c.deref-3.ensures.value))
+    (c.deref-2.ensures.value ∙ sym c.deref-5.ensures.value) c.in_ok-rows.ensures.exact

@@ -20,5 +20,6 @@ loop-i-preserved c =
     record {
       len = omega (arith, c.in_ok-push-2.ensures.len, c.loop-i.invariant.len);
       first = first_stays old new i c.if-from-i.marked c.in_ok-push-2.ensures.items len c.loop-i.invariant.first;
-      rest = push_after (λ k. slice_index_or from k false && fits k) old new i c.if-from-i.marked c.in_ok-push-2.ensures.items len marked c.loop-i.invariant.rest;
+      rest =
+          push_after (λ k. slice_index_or from k false && fits k) old new i c.if-from-i.marked c.in_ok-push-2.ensures.items len marked c.loop-i.invariant.rest;
     }

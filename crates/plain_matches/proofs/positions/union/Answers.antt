@@ -17,5 +17,6 @@ loop-i-preserved c =
     record {
       len = omega (arith, c.in_ok-push.ensures.len, c.loop-i.invariant.len);
       either =
-          push_more either c.loop-i.marks.items c.push.new.self.items i c.if-left-i.marked c.in_ok-push.ensures.items (sym c.loop-i.marks.ok.0 ∙ c.loop-i.invariant.len) marked c.loop-i.invariant.either;
+          push_more either c.loop-i.marks.items c.push.new.self.items i c.if-left-i.marked c.in_ok-push.ensures.items
+          (sym c.loop-i.marks.ok.0 ∙ c.loop-i.invariant.len) marked c.loop-i.invariant.either;
     }

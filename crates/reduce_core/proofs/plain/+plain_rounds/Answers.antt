@@ -26,11 +26,13 @@ returns-then-len g t c =
     let texts = map (λ v. v.items) c.in_ok-texts.texts.items in
     let questions = ap (λ vs. map (λ v. v.items) vs) c.deref.ensures.value ∙ ap (λ (o : Outcome). o.questions) c.round.view_is in
     let texts_are = c.in_ok-texts.ensures ∙ ap (λ keeps. texts_asked (g.F.Relation.admits c.args.guard.now) c.args.lines keeps) questions in
-    let left_is = c.in_ok-remaining.ensures ∙ ap (λ keep. kept_of keep c.args.lines) (c.deref-2.ensures.value ∙ ap (λ (o : Outcome). o.result) c.round.view_is) in
+    let left_is =
+    c.in_ok-remaining.ensures ∙ ap (λ keep. kept_of keep c.args.lines) (c.deref-2.ensures.value ∙ ap (λ (o : Outcome). o.result) c.round.view_is) in
     let one = ap (λ (later : Reduction (List Line)). record later { questions = texts ++ later.questions; rounds = later.rounds + 1 }) c.nothing_more.ensures in
     IfOk-weaker c.after_round.result _ _
     (λ found is start. is ∙ one
-    ∙ last-round (g.F.Relation.admits c.args.guard.now) verdict start c.args.lines c.in_ok-round.round texts c.in_ok-remaining.remaining c.in_ok-round.ensures.round texts_are left_is (omega arith))
+    ∙ last-round (g.F.Relation.admits c.args.guard.now) verdict start c.args.lines c.in_ok-round.round texts c.in_ok-remaining.remaining
+    c.in_ok-round.ensures.round texts_are left_is (omega arith))
     c.after_round.ensures
 
 pub plain_rounds-requires : goal.plain_rounds-requires
@@ -38,7 +40,9 @@ plain_rounds-requires g t c κs within =
     let fewer : length (kept_of c.deref-2.result.now c.args.lines) ≤ length c.args.lines = length-kept_of c.deref-2.result.now c.args.lines in
     let remaining = ap length c.in_ok-remaining.ensures in
     let falls : length c.in_ok-remaining.remaining < length c.args.lines = omega arith in
-    let rising : Rises (numbers_of c.in_ok-remaining.remaining) = subst (λ (lines : List Line). Rises (numbers_of lines)) (sym c.in_ok-remaining.ensures) (kept_of-rises c.deref-2.result.now c.args.lines c.requires.rising) in
+    let rising : Rises (numbers_of c.in_ok-remaining.remaining) =
+    subst (λ (lines : List Line). Rises (numbers_of lines)) (sym c.in_ok-remaining.ensures)
+    (kept_of-rises c.deref-2.result.now c.args.lines c.requires.rising) in
     search rules
 
 pub after_round-requires-2 : goal.after_round-requires-2
@@ -55,9 +59,11 @@ returns g t c =
     let texts = map (λ v. v.items) c.in_ok-texts.texts.items in
     let questions = ap (λ vs. map (λ v. v.items) vs) c.deref.ensures.value ∙ ap (λ (o : Outcome). o.questions) c.round.view_is in
     let texts_are = c.in_ok-texts.ensures ∙ ap (λ keeps. texts_asked (g.F.Relation.admits c.args.guard.now) c.args.lines keeps) questions in
-    let left_is = c.in_ok-remaining.ensures ∙ ap (λ keep. kept_of keep c.args.lines) (c.deref-2.ensures.value ∙ ap (λ (o : Outcome). o.result) c.round.view_is) in
+    let left_is = c.in_ok-remaining.ensures ∙ ap (λ keep. kept_of keep c.args.lines)
+    (c.deref-2.ensures.value ∙ ap (λ (o : Outcome). o.result) c.round.view_is) in
     IfOk-weaker c.after_round-2.result _ _
     (λ found is start. is
     ∙ ap (λ (later : Reduction (List Line)). record later { questions = texts ++ later.questions; rounds = later.rounds + 1 }) (c.in_ok-later.ensures start)
-    ∙ next-rounds (g.F.Relation.admits c.args.guard.now) verdict start c.args.lines c.in_ok-round.round texts c.in_ok-remaining.remaining c.in_ok-round.ensures.round texts_are left_is (omega arith))
+    ∙ next-rounds (g.F.Relation.admits c.args.guard.now) verdict start c.args.lines c.in_ok-round.round texts c.in_ok-remaining.remaining
+    c.in_ok-round.ensures.round texts_are left_is (omega arith))
     c.after_round-2.ensures

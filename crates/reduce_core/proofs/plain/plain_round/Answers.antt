@@ -25,7 +25,8 @@ loop-keep-smaller g c =
     ∙ (λ i. first_other (map (λ v. v.items) (c.deref.ensures.value i)) (map (λ v. v.items) (c.deref-in-loop-keep.ensures.value i)))
     ∙ ap (λ (o : Outcome). first_other asked o.questions) (c.outcome.view_is ∙ c.loop-keep.invariant.step) in
     let found = found-other c.questions_fit.ensures.list_step (length lines) asked passed c.in-Some.keep.now (sym shown ∙ ap option_copied c.in-Some.is) in
-    subst (λ keeps. missing (λ keep. is_among keeps keep) (length lines) < missing (λ keep. is_among asked keep) (length lines)) (sym c.in_ok-add_answer.ensures.asked)
+    subst (λ keeps. missing (λ keep. is_among keeps keep) (length lines) < missing (λ keep. is_among asked keep) (length lines))
+    (sym c.in_ok-add_answer.ensures.asked)
     (missing-asked (length lines) asked c.in-Some.keep.now found.1 found.0)
 
 pub loop-keep-preserved : goal.loop-keep-preserved
@@ -38,7 +39,9 @@ loop-keep-preserved g c =
       answered = answered-next verdict asked passed
           (map (λ v. v.items) c.add_answer.new.answers.asked.items) (map (λ v. v.items) c.add_answer.new.answers.yes.items) c.in-Some.keep.now
           c.in_ok-add_answer.ensures.asked c.in_ok-add_answer.ensures.yes c.loop-keep.invariant.answered;
-      step = c.in_ok-outcome-2.ensures ∙ ap (λ n. list_step (λ keep. is_among (map (λ v. v.items) c.add_answer.new.answers.yes.items) keep) n true) c.loop-keep.invariant.len;
+      step =
+          c.in_ok-outcome-2.ensures ∙ ap (λ n. list_step (λ keep. is_among (map (λ v. v.items) c.add_answer.new.answers.yes.items) keep) n true)
+          c.loop-keep.invariant.len;
       len = c.loop-keep.invariant.len;
     }
 
@@ -51,7 +54,8 @@ returns-clause-round g c =
     ∙ (λ i. first_other (map (λ v. v.items) (c.deref.ensures.value i)) (map (λ v. v.items) (c.deref-in-loop-keep.ensures.value i)))
     ∙ ap (λ (o : Outcome). first_other asked o.questions) (c.outcome.view_is ∙ c.loop-keep.invariant.step) in
     c.loop-keep.invariant.step
-    ∙ whole-step c.agreeing_maps.ensures (verdict_on (g.F.Relation.admits c.args.guard.now) (g.T.Test.verdict c.args.test.now) lines) (length lines) asked passed c.loop-keep.invariant.answered
+    ∙ whole-step c.agreeing_maps.ensures (verdict_on (g.F.Relation.admits c.args.guard.now) (g.T.Test.verdict c.args.test.now) lines)
+    (length lines) asked passed c.loop-keep.invariant.answered
     (sym shown ∙ ap option_copied c.in_default.is)
 
 pub returns-clause-fits : goal.returns-clause-fits

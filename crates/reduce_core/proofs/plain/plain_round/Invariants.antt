@@ -7,7 +7,8 @@ use Rattle.reduce_core.proofs.plain.plain_round.Given as goal
 
 abbrev pub invariant-loop-keep : goal.invariant-loop-keep
 invariant-loop-keep g l = record {
-  answered : IsAnswered (verdict_on (g.F.Relation.admits l.guard) (g.T.Test.verdict l.test) l.lines) (map (λ v. v.items) l.answers.asked.items) (map (λ v. v.items) l.answers.yes.items);
+  answered : IsAnswered (verdict_on (g.F.Relation.admits l.guard) (g.T.Test.verdict l.test) l.lines) (map (λ v. v.items) l.answers.asked.items)
+      (map (λ v. v.items) l.answers.yes.items);
   step : l.outcome ≡ step.list_step (λ keep. is_among (map (λ v. v.items) l.answers.yes.items) keep) (length l.lines) true;
   len : l.len ≡ length l.lines;
 }

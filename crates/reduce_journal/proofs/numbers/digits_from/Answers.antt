@@ -15,13 +15,15 @@ pub returns-in_err-number : goal.returns-in_err-number
 returns-in_err-number c =
     let p = err_from_is_err_and c.from_residual.result c.from_residual.ensures.1 in
     rw (p.1, p.2) (sym c.loop-index.invariant.rest
-    ∙ digits_stop c.args.greatest c.loop-index.number _ c.args.bytes.now c.loop-index.index (omega arith) c.if-byte-eq10.false (sym c.in_err-number.ensures.value))
+    ∙ digits_stop c.args.greatest c.loop-index.number _ c.args.bytes.now c.loop-index.index (omega arith) c.if-byte-eq10.false
+    (sym c.in_err-number.ensures.value))
 
 pub loop-index-preserved : goal.loop-index-preserved
 loop-index-preserved c = record {
   within = c.in_ok-number.ensures.most;
   rest =
-      sym (digits_next c.args.greatest c.loop-index.number c.in_ok-number.number c.args.bytes.now c.loop-index.index (omega arith) c.if-byte-eq10.false (sym c.in_ok-number.ensures.value))
+      sym (digits_next c.args.greatest c.loop-index.number c.in_ok-number.number c.args.bytes.now c.loop-index.index (omega arith) c.if-byte-eq10.false
+      (sym c.in_ok-number.ensures.value))
       ∙ c.loop-index.invariant.rest;
 }
 

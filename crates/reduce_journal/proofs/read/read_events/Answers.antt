@@ -23,7 +23,8 @@ loop-event-preserved c =
       records =
           c.records_with-records.ensures ∙ (ap (λ n. records_with n event) c.loop-event.invariant.records
           ∙ (sym (records_more c.loop-event.events.items event) ∙ ap (λ es. length (records_of es)) (sym pushed)));
-      few = let most = few_records c.loop-event.records event in let shorter = more.1 in omega (arith, c.records_with-records.ensures, c.loop-event.invariant.few, most, shorter);
+      few = let most = few_records c.loop-event.records event in let shorter =
+          more.1 in omega (arith, c.records_with-records.ensures, c.loop-event.invariant.few, most, shorter);
     }
 
 pub returns-in-Err-Torn-clause-journal : goal.returns-in-Err-Torn-clause-journal
@@ -35,4 +36,5 @@ pub returns-in-Err-Bad-clause-bad_record : goal.returns-in-Err-Bad-clause-bad_re
 returns-in-Err-Bad-clause-bad_record c = λ offset e.
     let is : length c.args.bytes.now - length c.loop-event.rest.now ≡ offset = cc in
     is_bad c.args.bytes.now c.loop-event.events.items c.loop-event.rest.now c.loop-event.records offset
-    c.loop-event.invariant.events c.loop-event.invariant.records (omega arith) (rw c.in-Err-Bad.field-0-is at c.in-Err-Bad.ensures) (omega (arith, is, c.loop-event.invariant.few))
+    c.loop-event.invariant.events c.loop-event.invariant.records (omega arith) (rw c.in-Err-Bad.field-0-is at c.in-Err-Bad.ensures)
+    (omega (arith, is, c.loop-event.invariant.few))

@@ -19,7 +19,8 @@ returns-clause-each_journal c = λ events torn is.
 pub returns-clause-bad_head : goal.returns-clause-bad_head
 returns-clause-bad_head c = (
   λ e. absurd (c.read_events.ensures.head e),
-  λ lacks. absurd (lacks (drop 17 c.args.bytes.now) ((starts_is Decides-eqb c.args.bytes.now head c.starts_with.result c.starts_with.ensures.value).0 c.if-not-starts_with.false)),
+  λ lacks. absurd (lacks (drop 17 c.args.bytes.now)
+      ((starts_is Decides-eqb c.args.bytes.now head c.starts_with.result c.starts_with.ensures.value).0 c.if-not-starts_with.false)),
 )
 
 pub returns-clause-each_bad_record : goal.returns-clause-each_bad_record

@@ -18,7 +18,8 @@ returns-in-Ok-clause-grown c =
     (λ g.
     subst (λ old. IsGrown (EndsUpTo c.args.self.now.normal c.args.self.now.kinds s c.args.first c.args.last) old new) c.loop.invariant.1
     (subst (λ y. IsGrown (EndsUpTo y.normal y.kinds s c.args.first c.args.last) c.loop.positions.items new) c.loop.invariant.0
-    (grown_up_to (DerivesSpan x.normal x.kinds s c.args.first) c.in-Ok.ends.now c.up_to.result.now c.loop.positions.items new c.args.last c.in-Ok.ensures.ends c.up_to.ensures g)))
+    (grown_up_to (DerivesSpan x.normal x.kinds s c.args.first) c.in-Ok.ends.now c.up_to.result.now c.loop.positions.items new c.args.last c.in-Ok.ensures.ends
+    c.up_to.ensures g)))
     c.add_all.ensures.grown
 
 pub returns-in-Ok-clause-all : goal.returns-in-Ok-clause-all

@@ -18,10 +18,15 @@ returns-then-can_be_left_out c =
     let i = c.args.first in
     let m = i + 1 - i in
     let within = subst (λ x. i ≤ length x.kinds) (sym c.self.view_is) c.requires in
-    let one = ap (λ l. take m (drop i l)) c.deref-then-can_be_left_out.ensures.value ∙ one_position (length K) c.self.inside.positions.items i m c.self.invariant.positions_are within (omega arith) in
+    let one =
+    ap (λ l. take m (drop i l)) c.deref-then-can_be_left_out.ensures.value
+    ∙ one_position (length K) c.self.inside.positions.items i m c.self.invariant.positions_are within (omega arith) in
     let firsts = subst (AreFirsts N) (sym c.deref.ensures.value) c.self.invariant.firsts_are in
-    let exact = here_exact N K c.deref.result.now firsts r i (c.may_begin_at.ensures c.if-may_begin_at.false) (left_out_here N K r i (c.can_be_left_out.ensures c.if-can_be_left_out.true) within) in
-    subst (λ x. HasExactly (DerivesSpan x.normal x.kinds (Rule r) i) (take m (drop i c.deref-then-can_be_left_out.result.now))) c.self.view_is (subst (HasExactly (DerivesSpan N K (Rule r) i)) (sym one) exact)
+    let exact =
+    here_exact N K c.deref.result.now firsts r i (c.may_begin_at.ensures c.if-may_begin_at.false)
+    (left_out_here N K r i (c.can_be_left_out.ensures c.if-can_be_left_out.true) within) in
+    subst (λ x. HasExactly (DerivesSpan x.normal x.kinds (Rule r) i) (take m (drop i c.deref-then-can_be_left_out.result.now))) c.self.view_is
+    (subst (HasExactly (DerivesSpan N K (Rule r) i)) (sym one) exact)
 
 pub returns : goal.returns
 returns c =
@@ -31,5 +36,7 @@ returns c =
     let i = c.args.first in
     let firsts = subst (AreFirsts N) (sym c.deref.ensures.value) c.self.invariant.firsts_are in
     let same = c.deref.ensures.value ∙ sym c.deref-2.ensures.value in
-    let exact = none_exact N K c.deref.result.now firsts r i (c.may_begin_at.ensures c.if-may_begin_at.false) (λ e. false_true (sym c.if-may_be_empty.false ∙ c.may_be_empty.ensures.1 (subst (λ rows. MayBeEmpty rows (Rule r)) same e))) in
+    let exact =
+    none_exact N K c.deref.result.now firsts r i (c.may_begin_at.ensures c.if-may_begin_at.false)
+    (λ e. false_true (sym c.if-may_be_empty.false ∙ c.may_be_empty.ensures.1 (subst (λ rows. MayBeEmpty rows (Rule r)) same e))) in
     subst (λ x. HasExactly (DerivesSpan x.normal x.kinds (Rule r) i) []) c.self.view_is exact

@@ -7,4 +7,6 @@ pub returns-in-Ok-clause-answer : goal.returns-in-Ok-clause-answer
 returns-in-Ok-clause-answer c =
     let h = c.in-Ok.ensures.ends in
     let b = c.has.result in
-    subst (λ x. (IsTrue b → DerivesSpan x.normal x.kinds c.args.symbol c.args.first c.args.end) × (DerivesSpan x.normal x.kinds c.args.symbol c.args.first c.args.end → IsTrue b)) c.loop.invariant (λ t. h.only c.args.end (c.has.ensures.0 t), λ d. c.has.ensures.1 (h.all c.args.end d))
+    subst (λ x. (IsTrue b → DerivesSpan x.normal x.kinds c.args.symbol c.args.first c.args.end)
+    × (DerivesSpan x.normal x.kinds c.args.symbol c.args.first c.args.end → IsTrue b)) c.loop.invariant
+    (λ t. h.only c.args.end (c.has.ensures.0 t), λ d. c.has.ensures.1 (h.all c.args.end d))

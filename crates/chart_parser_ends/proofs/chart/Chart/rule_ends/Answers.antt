@@ -11,4 +11,5 @@ returns-in-Some-find c =
     let K = c.self.inside.kinds.now in
     let i = c.args.first in
     let ends = c.in-Some-find.ends.now in
-    subst (λ x. HasExactly (DerivesSpan x.normal x.kinds (Rule c.args.rule) i) ends) c.self.view_is (entry_exact N K c.self.inside.entries c.args.rule i ends c.self.invariant.exact c.in-Some-find.ensures)
+    subst (λ x. HasExactly (DerivesSpan x.normal x.kinds (Rule c.args.rule) i) ends) c.self.view_is
+    (entry_exact N K c.self.inside.entries c.args.rule i ends c.self.invariant.exact c.in-Some-find.ensures)

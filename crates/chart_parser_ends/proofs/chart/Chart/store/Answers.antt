@@ -17,5 +17,7 @@ invariant_of-self c =
       few = c.self.invariant.few;
       positions_are = c.self.invariant.positions_are;
       firsts_are = c.self.invariant.firsts_are;
-      exact = exact_stored N K c.self.inside.entries c.store.new.self (entry e.rule e.first c.deref.result.now) c.store.result c.self.invariant.exact (subst (HasExactly (DerivesSpan N K (Rule e.rule) e.first)) (sym c.deref.ensures.value) exact) c.store.ensures.ok c.store.ensures.err;
+      exact =
+          exact_stored N K c.self.inside.entries c.store.new.self (entry e.rule e.first c.deref.result.now) c.store.result c.self.invariant.exact
+          (subst (HasExactly (DerivesSpan N K (Rule e.rule) e.first)) (sym c.deref.ensures.value) exact) c.store.ensures.ok c.store.ensures.err;
     }

@@ -13,14 +13,17 @@ on_err (Err e) p = p
 pub returns-in_err-insert-clause-err : goal.returns-in_err-insert-clause-err
 returns-in_err-insert-clause-err c =
     let items = rw c.in_ok-extend_from_slice.was at c.extend_from_slice.ensures.items in
-    on_err c.from_residual-in_err-insert.result (ap (λ es. entries_in es c.self.inside.ranges.items) items ∙ entries_stay c.self.inside.ends.items c.args.ends.now c.self.inside.ranges.items c.self.invariant ∙ c.self.view_is)
+    on_err c.from_residual-in_err-insert.result
+    (ap (λ es. entries_in es c.self.inside.ranges.items) items
+    ∙ entries_stay c.self.inside.ends.items c.args.ends.now c.self.inside.ranges.items c.self.invariant ∙ c.self.view_is)
 
 pub returns-in_err-push-clause-err : goal.returns-in_err-push-clause-err
 returns-in_err-push-clause-err c =
     let items = rw c.in_ok-extend_from_slice.was at c.extend_from_slice.ensures.items in
     let same = rw c.in_err-push.was at c.push.ensures.items in
     on_err c.from_residual-in_err-push.result
-    (ap (entries_in c.extend_from_slice.new.self.items) same ∙ ap (λ es. entries_in es c.self.inside.ranges.items) items ∙ entries_stay c.self.inside.ends.items c.args.ends.now c.self.inside.ranges.items c.self.invariant ∙ c.self.view_is)
+    (ap (entries_in c.extend_from_slice.new.self.items) same ∙ ap (λ es. entries_in es c.self.inside.ranges.items) items
+    ∙ entries_stay c.self.inside.ends.items c.args.ends.now c.self.inside.ranges.items c.self.invariant ∙ c.self.view_is)
 
 pub returns-clause-ok : goal.returns-clause-ok
 returns-clause-ok c =
@@ -28,4 +31,5 @@ returns-clause-ok c =
     let pushed = rw c.in_ok-push.was at c.push.ensures.items in
     let r : EndsRange = record { rule = c.args.rule; first = c.args.first; from = c.len-from.result; count = length c.args.ends.now } in
     ap (entries_in c.extend_from_slice.new.self.items) pushed ∙ ap (λ es. entries_in es (c.self.inside.ranges.items ++ r ∷ [])) items
-    ∙ entries_pushed c.self.inside.ends.items c.args.ends.now c.self.inside.ranges.items r c.self.invariant (omega (arith, c.len-from.ensures, c.self.inside.ends.ok.0)) refl ∙ ap (λ es. es ++ entry c.args.rule c.args.first c.args.ends.now ∷ []) c.self.view_is
+    ∙ entries_pushed c.self.inside.ends.items c.args.ends.now c.self.inside.ranges.items r c.self.invariant
+    (omega (arith, c.len-from.ensures, c.self.inside.ends.ok.0)) refl ∙ ap (λ es. es ++ entry c.args.rule c.args.first c.args.ends.now ∷ []) c.self.view_is

@@ -6,5 +6,7 @@ pub returns-in_ok-add_all-in-Ok : goal.returns-in_ok-add_all-in-Ok
 returns-in_ok-add_all-in-Ok c =
     let new = c.add_all.new.positions.items in
     let more = c.in-Ok.more.now in
-    optional_ends c.args.chart.now.normal c.args.chart.now.kinds c.args.self.rule c.args.self.first c.args.self.symbol c.in_ok-ends-in-Ok.ends.items new c.requires.optional c.requires.within c.in_ok-ends-in-Ok.ensures.items
-    c.in_ok-add_all-in-Ok.ensures.rising (grown_exactly c.in_ok-ends-in-Ok.ends.items new more c.in-Ok.ensures.ends c.in_ok-add_all-in-Ok.ensures.grown) (all_exactly new more c.in-Ok.ensures.ends c.in_ok-add_all-in-Ok.ensures.all)
+    optional_ends c.args.chart.now.normal c.args.chart.now.kinds c.args.self.rule c.args.self.first c.args.self.symbol c.in_ok-ends-in-Ok.ends.items new
+    c.requires.optional c.requires.within c.in_ok-ends-in-Ok.ensures.items
+    c.in_ok-add_all-in-Ok.ensures.rising (grown_exactly c.in_ok-ends-in-Ok.ends.items new more c.in-Ok.ensures.ends c.in_ok-add_all-in-Ok.ensures.grown)
+    (all_exactly new more c.in-Ok.ensures.ends c.in_ok-add_all-in-Ok.ensures.all)

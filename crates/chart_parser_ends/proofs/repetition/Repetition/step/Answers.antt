@@ -12,8 +12,11 @@ past-requires-clause-covered c = subst (λ l. Contains l c.in-Some.position) c.d
 
 pub returns-in_default : goal.returns-in_default
 returns-in_default c =
-    repetition_found c.args.chart.now.normal c.args.chart.now.kinds c.args.self c.rule_ends.result (subst IsNormal c.normal.ensures c.is_normal.ensures) c.requires c.in_default.ensures c.rule_ends.ensures.rule c.rule_ends.ensures.first c.rule_ends.ensures.ends
+    repetition_found c.args.chart.now.normal c.args.chart.now.kinds c.args.self c.rule_ends.result
+    (subst IsNormal c.normal.ensures c.is_normal.ensures) c.requires c.in_default.ensures c.rule_ends.ensures.rule c.rule_ends.ensures.first
+    c.rule_ends.ensures.ends
 
 pub returns-in_ok-repetition-in-Ok : goal.returns-in_ok-repetition-in-Ok
 returns-in_ok-repetition-in-Ok c =
-    takes_entry c.args.chart.now.normal c.args.chart.now.kinds c.args.self c.in_ok-repetition-in-Ok.repetition c.in-Some.position c.in-Ok.ends.now c.requires c.in-Some.ensures c.in-Ok.ensures.ends c.in_ok-repetition-in-Ok.ensures
+    takes_entry c.args.chart.now.normal c.args.chart.now.kinds c.args.self c.in_ok-repetition-in-Ok.repetition c.in-Some.position c.in-Ok.ends.now c.requires
+    c.in-Some.ensures c.in-Ok.ensures.ends c.in_ok-repetition-in-Ok.ensures

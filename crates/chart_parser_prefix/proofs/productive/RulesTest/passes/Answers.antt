@@ -12,5 +12,7 @@ bounds-rules-node c = omega (arith, c.requires, ap length (sym c.rules-rules.ens
 pub returns : goal.returns
 returns c =
     let N = c.args.self.now.normal.now in
-    let at = rule_at c.rules-rules.result.now N.rules c.args.node c.index-rules-node.result c.rules-rules.ensures (omega (arith, c.requires, ap length (sym c.rules-rules.ensures), length-map c.rules-rules.result.now rule_form)) (sym c.index-rules-node.is) in
+    let at =
+    rule_at c.rules-rules.result.now N.rules c.args.node c.index-rules-node.result c.rules-rules.ensures
+    (omega (arith, c.requires, ap length (sym c.rules-rules.ensures), length-map c.rules-rules.result.now rule_form)) (sym c.index-rules-node.is) in
     c.rule_passes.ensures ∙ ap (λ o. option_map_or (form_passes N c.args.flags.now) o false) (sym at)

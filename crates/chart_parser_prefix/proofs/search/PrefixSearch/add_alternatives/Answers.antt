@@ -28,11 +28,15 @@ loop-symbols-preserved c =
     let i = c.loop-symbols.symbols-index in
     let alt = c.deref.result.now in
     let at = form_at alts i c.symbols-item.result alt c.loop-symbols-test.true c.symbols-item.is c.deref.ensures.value in
-    let more = alternatives_more N K (alts_form alts) i c.args.first alt c.args.lists.now.items c.loop-symbols.lists.items c.add_productive.new.lists.items at.0 at.1 inv.grown inv.all c.in_ok-add_productive.ensures.grown c.in_ok-add_productive.ensures.all in
+    let more =
+    alternatives_more N K (alts_form alts) i c.args.first alt c.args.lists.now.items c.loop-symbols.lists.items c.add_productive.new.lists.items at.0 at.1
+    inv.grown inv.all c.in_ok-add_productive.ensures.grown c.in_ok-add_productive.ensures.all in
     record { same = c.in_ok-add_productive.ensures.same ∙ inv.same; grown = more.0; all = more.1 }
 
 pub returns-clause-all : goal.returns-clause-all
 returns-clause-all c =
     let alts = c.args.alternatives.now in
-    subst (λ (l : List (List Sym)). ExpectsAll (IsInAlternatives c.args.self.now.normal.now c.args.self.now.kinds.now l c.args.first) c.loop-symbols.lists.items)
-    (take_all c.loop-symbols.symbols-index (alts_form alts) (omega (arith, c.loop-symbols-test.false, length-map alts (λ (a : Vec Sym). a.items)))) c.loop-symbols.invariant.all
+    subst (λ (l : List (List Sym)). ExpectsAll
+    (IsInAlternatives c.args.self.now.normal.now c.args.self.now.kinds.now l c.args.first) c.loop-symbols.lists.items)
+    (take_all c.loop-symbols.symbols-index (alts_form alts) (omega (arith, c.loop-symbols-test.false, length-map alts (λ (a : Vec Sym). a.items))))
+    c.loop-symbols.invariant.all

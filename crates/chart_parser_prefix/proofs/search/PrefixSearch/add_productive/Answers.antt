@@ -30,9 +30,12 @@ add_alternative-requires-clause-count c = omega (arith, c.requires.count, ap (λ
 pub returns-clause-grown : goal.returns-clause-grown
 returns-clause-grown c =
     let some = c.all_derive_some.ensures.0 c.if-not-all_derive_some.false in
-    let grown = subst (λ (x : ChartInput). IsGrownBy (IsInAlternative x.normal x.kinds c.args.symbols.now c.args.first) c.args.lists.now.items c.add_alternative.new.lists.items) c.requires.chart c.in_ok-add_alternative.ensures.grown in
+    let grown =
+    subst (λ (x : ChartInput). IsGrownBy (IsInAlternative x.normal x.kinds c.args.symbols.now c.args.first) c.args.lists.now.items
+    c.add_alternative.new.lists.items) c.requires.chart c.in_ok-add_alternative.ensures.grown in
     grown_weaker (λ s m x. (some, x)) grown
 
 pub returns-clause-all : goal.returns-clause-all
 returns-clause-all c s m h =
-    subst (λ (x : ChartInput). ExpectsAll (IsInAlternative x.normal x.kinds c.args.symbols.now c.args.first) c.add_alternative.new.lists.items) c.requires.chart c.in_ok-add_alternative.ensures.all s m h.1
+    subst (λ (x : ChartInput). ExpectsAll (IsInAlternative x.normal x.kinds c.args.symbols.now c.args.first) c.add_alternative.new.lists.items) c.requires.chart
+    c.in_ok-add_alternative.ensures.all s m h.1

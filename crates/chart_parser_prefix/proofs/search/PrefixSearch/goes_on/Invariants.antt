@@ -8,5 +8,6 @@ use Rattle.chart_parser_prefix.proofs.search.PrefixSearch.goes_on.Given as goal
 abbrev pub invariant-loop-symbol : goal.invariant-loop-symbol
 invariant-loop-symbol l = record {
   same : l.chart ≡ l.fn.chart;
-  none : (s : Sym) → Contains (take l.symbol-index l.symbols) s → is_token s ≡ true → ¬ DerivesSpan l.self.normal.now l.self.kinds.now s l.position (l.position + 1);
+  none : (s : Sym) → Contains (take l.symbol-index l.symbols) s → is_token s ≡ true
+      → ¬ DerivesSpan l.self.normal.now l.self.kinds.now s l.position (l.position + 1);
 }

@@ -45,7 +45,9 @@ pub returns-then-not-branch-clause-longest : goal.returns-then-not-branch-clause
 returns-then-not-branch-clause-longest c =
     let N = c.args.self.now.normal.now in
     let K = c.args.self.now.kinds.now in
-    is_longest N K c.args.self.now.start c.loop-position.position (omega (arith, c.loop-position-test.true, c.last-last.ensures)) c.loop-position.invariant.viable (λ l v. false_true (sym c.if-not-branch.true ∙ c.in_ok-goes_on.ensures.answer.1 v))
+    is_longest N K c.args.self.now.start c.loop-position.position
+    (omega (arith, c.loop-position-test.true, c.last-last.ensures)) c.loop-position.invariant.viable
+    (λ l v. false_true (sym c.if-not-branch.true ∙ c.in_ok-goes_on.ensures.answer.1 v))
 
 pub loop-position-preserved : goal.loop-position-preserved
 loop-position-preserved c =
@@ -53,7 +55,9 @@ loop-position-preserved c =
     let K = c.args.self.now.kinds.now in
     record {
       same = c.in_ok-goes_on.ensures.same ∙ c.in_ok-close.ensures.same ∙ c.loop-position.invariant.same;
-      walk = walk_on N K c.args.self.now.start c.loop-position.position c.close.new.lists.items c.in_ok-close.ensures.walk c.in_ok-close.ensures.closed c.clear_at.new.lists.items c.clear_at.ensures;
+      walk =
+          walk_on N K c.args.self.now.start c.loop-position.position c.close.new.lists.items c.in_ok-close.ensures.walk c.in_ok-close.ensures.closed
+          c.clear_at.new.lists.items c.clear_at.ensures;
       viable = c.in_ok-goes_on.ensures.answer.0 c.if-not-branch.false;
     }
 
@@ -62,4 +66,6 @@ returns-clause-longest c =
     let N = c.args.self.now.normal.now in
     let K = c.args.self.now.kinds.now in
     let end : c.loop-position.position ≡ length K = omega (arith, c.loop-position-test.false, c.last-last.ensures, c.loop-position.auto.position-end) in
-    subst (IsLongestViable N c.args.self.now.start K) (sym c.last-last.ensures) (is_longest N K c.args.self.now.start (length K) (omega arith) (subst (λ (n : ℕ). IsViablePrefix N c.args.self.now.start (take n K)) end c.loop-position.invariant.viable) (λ l v. omega (arith, l)))
+    subst (IsLongestViable N c.args.self.now.start K) (sym c.last-last.ensures)
+    (is_longest N K c.args.self.now.start (length K) (omega arith)
+    (subst (λ (n : ℕ). IsViablePrefix N c.args.self.now.start (take n K)) end c.loop-position.invariant.viable) (λ l v. omega (arith, l)))

@@ -14,8 +14,10 @@ returns-in_default-clause-all c s m h = absurd (other_predicts c.args.self.now.n
 
 pub returns-clause-grown : goal.returns-clause-grown
 returns-clause-grown c =
-    subst (λ (t : Sym). IsGrownBy (Predicts c.args.self.now.normal.now c.args.self.now.kinds.now t c.args.first) c.args.lists.now.items c.predict_rule.new.lists.items) (sym c.in-Rule.is) c.in_ok-predict_rule.ensures.grown
+    subst (λ (t : Sym). IsGrownBy (Predicts c.args.self.now.normal.now c.args.self.now.kinds.now t c.args.first) c.args.lists.now.items
+    c.predict_rule.new.lists.items) (sym c.in-Rule.is) c.in_ok-predict_rule.ensures.grown
 
 pub returns-clause-all : goal.returns-clause-all
 returns-clause-all c =
-    subst (λ (t : Sym). ExpectsAll (Predicts c.args.self.now.normal.now c.args.self.now.kinds.now t c.args.first) c.predict_rule.new.lists.items) (sym c.in-Rule.is) c.in_ok-predict_rule.ensures.all
+    subst (λ (t : Sym). ExpectsAll (Predicts c.args.self.now.normal.now c.args.self.now.kinds.now t c.args.first) c.predict_rule.new.lists.items)
+    (sym c.in-Rule.is) c.in_ok-predict_rule.ensures.all

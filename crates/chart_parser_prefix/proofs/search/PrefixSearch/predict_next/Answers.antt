@@ -43,7 +43,8 @@ returns-then-is_done-clause-more c e =
     let s = get_or symbols done (Kind 0) in
     let l : done < length (symbols_at old p) = subst (λ (x : List Sym). done < length x) at (omega (arith, c.if-done-symbols.false)) in
     let is = ap (λ (x : List Sym). get_or x done (Kind 0)) at in
-    closed_again N K start p done s (Kind 0) old l is c.requires.closed (subst (λ (x : List Sym). Contains (take done x) s) at (c.is_done.ensures c.if-is_done.true))
+    closed_again N K start p done s (Kind 0) old l is c.requires.closed
+    (subst (λ (x : List Sym). Contains (take done x) s) at (c.is_done.ensures c.if-is_done.true))
 
 pub returns-then-is_done-clause-all : goal.returns-then-is_done-clause-all
 returns-then-is_done-clause-all c e = absurd (false_true (sym e))
@@ -65,7 +66,8 @@ returns-clause-walk c =
     let l : done < length (symbols_at old p) = subst (λ (x : List Sym). done < length x) at (omega (arith, c.if-done-symbols.false)) in
     let is = ap (λ (x : List Sym). get_or x done (Kind 0)) at in
     let there = subst (λ (x : List Sym). Contains x s) at (Contains-get_or symbols done (Kind 0) (omega (arith, c.if-done-symbols.false))) in
-    walk_grown N K start p old c.predict.new.lists.items c.requires.walk c.in_ok-predict.ensures.grown (λ t m q. of_symbol s p t m (c.requires.walk.sound s p there) q)
+    walk_grown N K start p old c.predict.new.lists.items c.requires.walk c.in_ok-predict.ensures.grown
+    (λ t m q. of_symbol s p t m (c.requires.walk.sound s p there) q)
 
 pub returns-clause-more : goal.returns-clause-more
 returns-clause-more c e =

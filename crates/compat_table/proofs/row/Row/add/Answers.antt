@@ -17,7 +17,11 @@ loop-symbol-init c = record { marked = c.requires.marked; grown = grown_by_none 
 pub add_symbol-requires-clause-symbol : goal.add_symbol-requires-clause-symbol
 add_symbol-requires-clause-symbol c q e =
     let P : Sym → Type 0 = λ s. Contains c.args.symbols.now s in
-    omega (arith, c.requires.symbols q (subst P e (Contains-get_or c.args.symbols.now c.loop-symbol.symbol-index (Kind 0) c.loop-symbol-test.true)), c.loop-symbol.auto.marks)
+    omega (
+      arith,
+      c.requires.symbols q (subst P e (Contains-get_or c.args.symbols.now c.loop-symbol.symbol-index (Kind 0) c.loop-symbol-test.true)),
+      c.loop-symbol.auto.marks,
+    )
 
 pub add_symbol-requires-clause-marked : goal.add_symbol-requires-clause-marked
 add_symbol-requires-clause-marked c = c.loop-symbol.invariant.marked
@@ -28,7 +32,9 @@ returns-in_err-add_symbol-clause-same c n lt below = c.in_err-add_symbol.ensures
 pub loop-symbol-preserved : goal.loop-symbol-preserved
 loop-symbol-preserved c =
     let i = c.loop-symbol.symbol-index in
-    let more = grown_more (take i c.args.symbols.now) _ (symbols_of c.args.self.now) (symbols_of c.loop-symbol.self) (symbols_of c.add_symbol.new.self) c.loop-symbol.invariant.grown c.in_ok-add_symbol.ensures.grown in
+    let more =
+    grown_more (take i c.args.symbols.now) _ (symbols_of c.args.self.now) (symbols_of c.loop-symbol.self)
+    (symbols_of c.add_symbol.new.self) c.loop-symbol.invariant.grown c.in_ok-add_symbol.ensures.grown in
     record {
       marked = c.in_ok-add_symbol.ensures.marked;
       grown = rw (add-one, take-suc c.args.symbols.now i (Kind 0) c.loop-symbol-test.true) more;

@@ -21,9 +21,11 @@ returns-in-Kind c =
 pub returns-in-Set : goal.returns-in-Set
 returns-in-Set c =
     let P : Sym → Type 0 = λ s. IsTrue c.is_among-in-Set.result ↔ IsAmong (symbols_of c.args.self.now) s in
-    subst P (sym c.in-Set.is) (among c.is_among-in-Set.result c.deref-in-Set.result.now c.args.self.now.sets.items c.in-Set.set c.is_among-in-Set.ensures c.deref-in-Set.ensures.value)
+    subst P (sym c.in-Set.is) (among c.is_among-in-Set.result c.deref-in-Set.result.now c.args.self.now.sets.items c.in-Set.set c.is_among-in-Set.ensures
+    c.deref-in-Set.ensures.value)
 
 pub returns-in-Rule : goal.returns-in-Rule
 returns-in-Rule c =
     let P : Sym → Type 0 = λ s. IsTrue c.is_among-in-Rule.result ↔ IsAmong (symbols_of c.args.self.now) s in
-    subst P (sym c.in-Rule.is) (among c.is_among-in-Rule.result c.deref-in-Rule.result.now c.args.self.now.rules.items c.in-Rule.rule c.is_among-in-Rule.ensures c.deref-in-Rule.ensures.value)
+    subst P (sym c.in-Rule.is) (among c.is_among-in-Rule.result c.deref-in-Rule.result.now c.args.self.now.rules.items c.in-Rule.rule c.is_among-in-Rule.ensures
+    c.deref-in-Rule.ensures.value)

@@ -6,7 +6,8 @@ use Rattle.compat_table.proofs.table.Compat.fits_some_set.Goals as goal
 
 pub loop-set-preserved : goal.loop-set-preserved
 loop-set-preserved c =
-    below_more (λ k. IsKindIn c.args.self.now c.args.child (slice_index c.args.sets.now k) → ⊥) c.loop-set.set-index c.loop-set.invariant (λ at. true≢false (sym (c.if-fits_set.ensures.1 at)))
+    below_more (λ k. IsKindIn c.args.self.now c.args.child (slice_index c.args.sets.now k) → ⊥) c.loop-set.set-index c.loop-set.invariant
+    (λ at. true≢false (sym (c.if-fits_set.ensures.1 at)))
 
 pub returns : goal.returns
 returns c = (

@@ -13,7 +13,9 @@ enter-requires c =
     let P : ℕ × ℕ → Type 0 = λ p. p.0 < vec_len walk.entered in
     let node = last_of P walk.path.items c.pop.new.self.items (c.in-Some.node, c.in-Some.next) c.in-Some.ensures.items walk.path_within in
     let edges = c.args.edges.now in
-    let at = row_at items edges c.in-Some.node c.index-edges-node.result c.as_slice-row.result.now (omega (arith, node, c.requires.nodes)) c.index-edges-node.is c.as_slice-row.ensures.value in
+    let at =
+    row_at items edges c.in-Some.node c.index-edges-node.result c.as_slice-row.result.now
+    (omega (arith, node, c.requires.nodes)) c.index-edges-node.is c.as_slice-row.ensures.value in
     omega (arith, c.requires.nodes, row_within items edges c.in-Some.node c.as_slice-row.result.now c.requires.closed at c.in-Some.next 0 (omega arith))
 
 pub invariant_of-self-else-next-row : goal.invariant_of-self-else-next-row
@@ -24,5 +26,6 @@ invariant_of-self-else-next-row c =
     let node = last_of P walk.path.items c.pop.new.self.items (c.in-Some.node, c.in-Some.next) c.in-Some.ensures.items walk.path_within in
     record {
       path_within = (All-pop P walk.path.items c.pop.new.self.items c.pop.result c.pop.ensures.items walk.path_within).0;
-      finished_within = All-pushed Q _ c.push-else-next-row.new.self.items walk.finished.items c.in-Some.node c.push-else-next-row.ensures.items walk.finished_within node;
+      finished_within =
+          All-pushed Q _ c.push-else-next-row.new.self.items walk.finished.items c.in-Some.node c.push-else-next-row.ensures.items walk.finished_within node;
     }

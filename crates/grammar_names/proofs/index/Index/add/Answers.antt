@@ -13,4 +13,5 @@ returns c f finds =
     let sets = btree_map_updates_text (string_bytes c.in_ok-key.key) c.args.self.now.numbers c.insert.new.self _ c.in_ok-insert.ensures.updates in
     let at_text = rw is_text at sets in
     let P : List ℕ → Type 0 = λ text. MapFinds c.insert.new.self (λ t. or_added (f t) (same_text text t) c.args.number) in
-    subst P c.as_str-name.ensures (added c.args.self.now.numbers c.insert.new.self c.as_str-name.result.now c.args.number c.as_str-name.utf8 at_text (sym c.contains_key.ensures ∙ c.if-contains_key.false) f finds)
+    subst P c.as_str-name.ensures (added c.args.self.now.numbers c.insert.new.self c.as_str-name.result.now c.args.number c.as_str-name.utf8 at_text
+    (sym c.contains_key.ensures ∙ c.if-contains_key.false) f finds)

@@ -13,7 +13,8 @@ loop-token-preserved c =
     let h = reference_kind c.args.self.now in
     let before = map token_ref (take c.loop-token.token-index c.args.tokens.now) in
     let this = token_ref c.token-item.result in
-    let more = ap (filter_map h) (mapped_more token_ref c.args.tokens.now c.loop-token.token-index c.token-item.result c.loop-token-test.true c.token-item.is) in
+    let more =
+    ap (filter_map h) (mapped_more token_ref c.args.tokens.now c.loop-token.token-index c.token-item.result c.loop-token-test.true c.token-item.is) in
     elim c.match-reference_kind.branch [
       | in-Some+in_ok-push w ↦
           ap (λ v. v.items) w.kinds-is ∙ w.in_ok-push.ensures.items ∙ ap (λ l. l ++ w.in-Some.kind ∷ []) c.loop-token.invariant

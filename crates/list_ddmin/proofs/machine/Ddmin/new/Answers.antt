@@ -12,13 +12,16 @@ mark_candidate-requires-clause-counted c =
 
 pub invariant_of-result : goal.invariant_of-result
 invariant_of-result c =
-    let marked : take c.in_ok-asked.asked.len (c.mark_candidate.new.asked ++ drop (length c.mark_candidate.new.asked) c.in_ok-asked.asked.items) ≡ c.mark_candidate.new.asked = grind (arith, common_steps) in
+    let marked : take c.in_ok-asked.asked.len (c.mark_candidate.new.asked ++ drop (length c.mark_candidate.new.asked) c.in_ok-asked.asked.items)
+    ≡ c.mark_candidate.new.asked = grind (arith, common_steps) in
     let all : c.in_ok-keep.keep.items ≡ replicate c.args.len true = search rules in
     let marks : Marks c.first_phase-phase.result c.in_ok-keep.keep.items c.mark_candidate.new.asked = rw c.deref.ensures.value at c.mark_candidate.ensures in
-    rw marked (started c.args.len c.args.may_be_empty c.first_phase-phase.result c.in_ok-keep.keep.items c.mark_candidate.new.asked (omega arith) all c.first_phase-phase.ensures marks).0
+    rw marked (started c.args.len c.args.may_be_empty c.first_phase-phase.result c.in_ok-keep.keep.items c.mark_candidate.new.asked
+    (omega arith) all c.first_phase-phase.ensures marks).0
 
 pub returns : goal.returns
 returns c =
     let all : c.in_ok-keep.keep.items ≡ replicate c.args.len true = search rules in
     let marks : Marks c.first_phase-phase.result c.in_ok-keep.keep.items c.mark_candidate.new.asked = rw c.deref.ensures.value at c.mark_candidate.ensures in
-    (started c.args.len c.args.may_be_empty c.first_phase-phase.result c.in_ok-keep.keep.items c.mark_candidate.new.asked (omega arith) all c.first_phase-phase.ensures marks).1
+    (started c.args.len c.args.may_be_empty c.first_phase-phase.result c.in_ok-keep.keep.items c.mark_candidate.new.asked
+    (omega arith) all c.first_phase-phase.ensures marks).1

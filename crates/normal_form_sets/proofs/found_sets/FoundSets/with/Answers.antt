@@ -11,7 +11,8 @@ pub returns-then-is_some : goal.returns-then-is_some
 returns-then-is_some c =
     let s = c.args.self in
     let number = λ (l : List ℕ). position (λ other. same_text other (lacking s.all l)) s.sets in
-    with_known s (lacking s.all c.args.missing.items) (ap is_some (ap number (sym c.deref.ensures.value) ∙ sym c.number.ensures) ∙ sym c.is_some.ensures ∙ c.if-is_some.true)
+    with_known s (lacking s.all c.args.missing.items)
+    (ap is_some (ap number (sym c.deref.ensures.value) ∙ sym c.number.ensures) ∙ sym c.is_some.ensures ∙ c.if-is_some.true)
 
 pub add_number-requires-clause-numbers : goal.add_number-requires-clause-numbers
 add_number-requires-clause-numbers c = c.self.invariant
@@ -24,7 +25,8 @@ add_number-requires-clause-part c =
 pub add_number-requires-clause-is_new : goal.add_number-requires-clause-is_new
 add_number-requires-clause-is_new c =
     let number = λ (t : SetsOfKinds) (l : List ℕ). position (λ other. same_text other (lacking t.all l)) t.sets in
-    ap is_some (ap (λ t. number t c.deref-2.result.now) c.self.view_is ∙ ap (number c.args.self) (c.deref-2.ensures.value ∙ sym c.deref.ensures.value) ∙ sym c.number.ensures) ∙ sym c.is_some.ensures ∙ c.if-is_some.false
+    ap is_some (ap (λ t. number t c.deref-2.result.now) c.self.view_is ∙ ap (number c.args.self) (c.deref-2.ensures.value ∙ sym c.deref.ensures.value)
+    ∙ sym c.number.ensures) ∙ sym c.is_some.ensures ∙ c.if-is_some.false
 
 pub invariant_of-result : goal.invariant_of-result
 invariant_of-result c =
@@ -38,4 +40,5 @@ returns c =
     let number = λ (l : List ℕ). position (λ other. same_text other (lacking s.all l)) s.sets in
     let grown = λ (t : SetsOfKinds). (let u : SetsOfKinds = record { all = t.all; sets = t.sets ++ lacking t.all c.args.missing.items ∷ [] } in u) in
     c.in_ok-push.ensures ∙ ap grown c.self.view_is
-    ∙ with_new s (lacking s.all c.args.missing.items) (ap is_some (ap number (sym c.deref.ensures.value) ∙ sym c.number.ensures) ∙ sym c.is_some.ensures ∙ c.if-is_some.false)
+    ∙ with_new s (lacking s.all c.args.missing.items)
+    (ap is_some (ap number (sym c.deref.ensures.value) ∙ sym c.number.ensures) ∙ sym c.is_some.ensures ∙ c.if-is_some.false)

@@ -9,13 +9,15 @@ pub is_among-requires : goal.is_among-requires
 is_among-requires c = not_falling c.all.result.now (subst IsStrictlyIncreasing (sym c.all.ensures) c.missing.ensures.rising)
 
 pub is_among-requires-then-is_among : goal.is_among-requires-then-is_among
-is_among-requires-then-is_among c = not_falling c.in-Some.missing.now (part_rises c.args.self.now.all c.in-Some.missing.now c.missing.ensures.rising c.in-Some.ensures.part)
+is_among-requires-then-is_among c =
+    not_falling c.in-Some.missing.now (part_rises c.args.self.now.all c.in-Some.missing.now c.missing.ensures.rising c.in-Some.ensures.part)
 
 pub returns-then-is_among : goal.returns-then-is_among
 returns-then-is_among c =
     let in_all = c.is_among.ensures ∙ ap (λ l. is_in l c.args.kind) c.all.ensures in
     sym (and_in (not c.is_among-then-is_among.result) c.is_among.result c.if-is_among.true)
-    ∙ has_kind c.args.self.now.all c.in-Some.missing.now c.args.kind _ c.is_among.result c.is_among-then-is_among.result c.in-Some.ensures.lacks in_all c.is_among-then-is_among.ensures
+    ∙ has_kind c.args.self.now.all c.in-Some.missing.now c.args.kind _ c.is_among.result c.is_among-then-is_among.result c.in-Some.ensures.lacks in_all
+    c.is_among-then-is_among.ensures
 
 pub returns-else-is_among : goal.returns-else-is_among
 returns-else-is_among c =

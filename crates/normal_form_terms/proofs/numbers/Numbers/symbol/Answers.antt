@@ -35,4 +35,5 @@ returns-in_ok-missing-in-Not c =
     let refs = map token_ref c.in-Not.tokens.items.items in
     let same = c.as_slice.ensures.value ∙ c.in_ok-missing-in-Not.ensures ∙ ap (λ (H : WrittenGrammar). named_kinds H refs) c.self.view_is in
     c.set-in-Not.ensures ∙ ap (λ l. Set (M.set_of l)) (ap (lacking (any_kinds G)) same ∙ lacks_named G refs)
-    ∙ sym (ap (λ x. symbol M c.args.next (resolved G (parser_term x))) c.in-Not.is ∙ ap (λ x. symbol M c.args.next (resolved G x)) (parser_term-Not c.in-Not.tokens))
+    ∙ sym (ap (λ x. symbol M c.args.next (resolved G (parser_term x))) c.in-Not.is
+    ∙ ap (λ x. symbol M c.args.next (resolved G x)) (parser_term-Not c.in-Not.tokens))

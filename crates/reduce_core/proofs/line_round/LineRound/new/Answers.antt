@@ -14,7 +14,12 @@ overflow_cast-len g c =
 pub invariant_of-result : goal.invariant_of-result
 invariant_of-result g c =
     let step_is : c.in_ok-step.step ≡ list.start (length c.args.lines) true = search rules in
-    record { agrees = subst (λ s. Agrees (g.F.Relation.admits c.args.guard.now) c.args.lines s None) (sym step_is) (lemmas.agrees-begun (record { admits = g.F.Relation.admits c.args.guard.now; start = c.args.start.now }) c.args.lines (subst IsInLimit (sym c.requires.lines) (limit-lines_of c.args.start.now c.requires.short))) }
+    record {
+      agrees =
+          subst (λ s. Agrees (g.F.Relation.admits c.args.guard.now) c.args.lines s None) (sym step_is)
+          (lemmas.agrees-begun (record { admits = g.F.Relation.admits c.args.guard.now; start = c.args.start.now }) c.args.lines
+          (subst IsInLimit (sym c.requires.lines) (limit-lines_of c.args.start.now c.requires.short)));
+    }
 
 pub returns-clause-state : goal.returns-clause-state
 returns-clause-state g c =
