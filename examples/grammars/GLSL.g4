@@ -8,7 +8,8 @@
 // aren't replaced yet, and HLSL.
 //
 // Of 125 test shaders of glslang 12.0.0 without definitions, whose stored results have no error, 124 parse without the
-// preprocessor. The other one has a line that only the preprocessor makes GLSL of.
+// preprocessor. The other one has a line that only the preprocessor makes GLSL of. As the preprocessor leaves them,
+// 654 of its 655 test shaders parse (`bench/corpora`); the other one has attributes round a function's head.
 grammar GLSL;
 
 shader : external* EOF ;

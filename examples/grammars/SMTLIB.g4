@@ -6,7 +6,7 @@
 // commands may be names; those of terms, as `let` and `match`, may not. Not covered: strings with `\"` in them, as in
 // version 2.0, and names of other characters than the standard's.
 //
-// Of each fifth of the 1,735 regression tests of cvc4 1.8 all 339 parse that aren't too long (`bench/corpora`).
+// Of the 1,714 regression tests of cvc4 1.8 that aren't too long 1,704 parse (`bench/corpora`).
 grammar SMTLIB;
 
 script : command* EOF ;

@@ -7,8 +7,8 @@
 // modules, `...` among ports, and names that begin with `$`. Not covered: configurations, libraries, macros that
 // aren't replaced yet, a comment within a number, and SystemVerilog.
 //
-// Of the 335 test files of Yosys 0.23 that Yosys reads without SystemVerilog 331 were parsed by `bench/corpora`; three
-// of the others parse by rules that came after it. The last one has a comment within a number.
+// Of the 339 test files of Yosys 0.23 that Yosys reads without SystemVerilog 337 parse (`bench/corpora`). One of the
+// others has a comment within a number, and one SystemVerilog's `i++`.
 grammar Verilog;
 
 source : description* EOF ;

@@ -12,7 +12,8 @@
 // with brackets that are.
 //
 // Measured on the tests of Debian's wabt 1.0.32: all of the 657 files parse that `wat2wasm --enable-all` or `wast2json
-// --enable-all` takes, each tried with ANTLR 4 or with `perses`.
+// --enable-all` takes, each tried with ANTLR 4 or with `perses`. `bench/corpora` has those that `wat2wasm` takes: all
+// 531 parse.
 grammar WebAssembly;
 
 script : (command | field)* EOF ;
