@@ -17,8 +17,8 @@
 // Not covered: escapes such as \u007B but in names, strings and character literals; `>=` and `>>=` right after type
 // arguments (`List<String>=`, which javac alone takes); what is a preview in Java 17, as patterns in switch.
 //
-// All 3,050 files of guava-libraries 31.1 (Debian's source package) parse by a second parser that follows such grammars,
-// and all of a sample of 116 by `perses`.
+// Of guava-libraries 31.1 (Debian's source package) all 3,050 files parse by a second parser that follows such grammars,
+// and all 3,039 that `bench/corpora` takes by `perses`.
 grammar Java;
 
 // Files
