@@ -13,7 +13,8 @@ use Rattle.token_print.specs.declared.style.Style.{Style}
 use Rattle.token_print.specs.Printed.{final_newline, separator}
 use Rattle.token_print.specs.Runs.{run_at, run_from, run_limit, run_to, runs_at}
 use Rattle.token_print.specs.inner.Copies.{AreCopied, IsCopy}
-use Rattle.token_print.proofs.Stretches.{AreStretches, HasOffsets, decided, end_text, later_text, reaches, run_text, runs_text}
+use Rattle.token_print.specs.inner.RunTexts.{later_text, run_text, runs_text, text_after}
+use Rattle.token_print.proofs.Stretches.{AreStretches, HasOffsets, decided, run_rises}
 
 pub length_between : (a b : ℕ) (text : List ℕ) → a ≤ b → b ≤ length text → length (between a b text) ≡ b - a
 length_between a b text h k =
@@ -48,21 +49,10 @@ module _ (skips : Skips) (start : List ℕ) (tokens : List PlacedToken) (o : Has
       pick true = IsCharBoundary-end start
       pick false = bounds.starts (suc b) (omega (arith, h))
 
-  from_below : (style : Style) (a : ℕ) → from style a ≤ gap_end start tokens a
-  from_below Style.Squeezed a = omega arith
-  from_below Style.AsWas a = pick (nat_eq a 0)
-    where
-      pick : (x : Bool) → cond x 0 (gap_end start tokens a) ≤ gap_end start tokens a
-      pick true = omega arith
-      pick false = omega arith
-
-  rises : (style : Style) (a b : ℕ) → a ≤ b → b < length tokens → from style a < to style b
-  rises style a b h l = omega (arith, from_below style a, reaches skips start tokens o style a b h l)
-
   run_utf8 : (style : Style) (a b : ℕ) → a ≤ b → b < length tokens → IsUtf8 (run_text skips start tokens style (a, b))
   run_utf8 style a b h l =
-      IsUtf8-between start (from style a) (to style b) bounds.utf8 (omega (arith, rises style a b h l)) (from_boundary style a (omega (arith, h, l)))
-      (to_boundary style b l)
+      IsUtf8-between start (from style a) (to style b) bounds.utf8 (omega (arith, run_rises skips start tokens o style a b h l))
+      (from_boundary style a (omega (arith, h, l))) (to_boundary style b l)
 
   -- what separates is UTF-8
   newline_utf8 : IsUtf8 (10 ∷ [])
@@ -84,7 +74,7 @@ module _ (skips : Skips) (start : List ℕ) (tokens : List PlacedToken) (o : Has
   space_or true = space_utf8
   space_or false = none_utf8
 
-  end_utf8 : (style : Style) (b : ℕ) → IsUtf8 (end_text skips start tokens style b)
+  end_utf8 : (style : Style) (b : ℕ) → IsUtf8 (text_after skips start tokens style b)
   end_utf8 Style.Squeezed b = newline_or skips.newline [] none_utf8
   end_utf8 Style.AsWas b = pick (nat_eq (suc b) (length tokens))
     where
@@ -147,7 +137,7 @@ module _ (skips : Skips) (start : List ℕ) (tokens : List PlacedToken) (o : Has
         let b = to style s.1 in
         let word = run_text skips start tokens style s in
         let later = later_text skips start tokens style s.1 rest in
-        let less = rises style s.0 s.1 up below in
+        let less = run_rises skips start tokens o style s.0 s.1 up below in
         let inside = (to_boundary style s.1 below).0 in
         let long : length word ≡ b - a = length_between a b start (omega (arith, less)) inside in
         let whole : text ≡ (pre ++ word) ++ later = e ∙ sym (append_assoc pre word later) in
@@ -179,7 +169,7 @@ module _ (skips : Skips) (start : List ℕ) (tokens : List PlacedToken) (o : Has
         let word = run_text skips start tokens style s in
         let sep = separator skips (gap_text start tokens t.0) in
         let tail = runs_text skips start tokens style (t ∷ rest) in
-        let less = rises style s.0 s.1 up below in
+        let less = run_rises skips start tokens o style s.0 s.1 up below in
         let long : length word ≡ to style s.1 - from style s.0 =
         length_between (from style s.0) (to style s.1) start (omega (arith, less)) (to_boundary style s.1 below).0 in
         let next : text ≡ ((pre ++ word) ++ sep) ++ tail = e ∙ sym (append_assoc pre word (sep ++ tail)) ∙ sym (append_assoc (pre ++ word) sep tail) in

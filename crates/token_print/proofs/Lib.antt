@@ -1,6 +1,5 @@
 mod Offsets
 mod SameTokens
-mod Writing
 mod Keeping
 mod Skipped
 mod Whole
@@ -24,3 +23,4 @@ mod CarriedHere
 mod RunAt
 mod Reading
 mod Answering
+mod Writing

@@ -19,7 +19,8 @@ use Rattle.token_print.specs.Printed.{printed, printed_after}
 use Rattle.token_print.specs.Runs.{runs, runs_at, stretches}
 use Rattle.token_print.proofs.Copied.{copied, runs_utf8}
 use Rattle.token_print.proofs.StartFacts.{bounds, offsets, rising}
-use Rattle.token_print.proofs.Stretches.{AreRising, AreStretches, runs_text, stretches_rise, text_is}
+use Rattle.token_print.specs.inner.RunTexts.{runs_text}
+use Rattle.token_print.proofs.Stretches.{AreRising, AreStretches, stretches_rise, text_is}
 
 abbrev pub ArePrintedCopies : List ℕ → List ℕ → List Run → Type 0
 ArePrintedCopies start text all = IsUtf8 text × AreCopied start text 0 all
@@ -59,7 +60,7 @@ module _ (G : WrittenGrammar) (slices : GapsAreSlices) (skips : Skips) (start : 
     runs_copies : (style : Style) (text : List ℕ) → text ≡ printed_after skips start tokens style None kept
         → ArePrintedCopies start text (runs_at skips start tokens style 0 (stretches style kept))
     runs_copies style text e =
-        let o = offsets start tokens order G slices utf8 has in
+        let o = offsets start tokens order in
         let b = bounds start tokens order G slices utf8 has in
         let ss = stretches style kept in
         let risen : AreStretches (length tokens) 0 ss = stretches_rise (length tokens) 0 kept style rises in

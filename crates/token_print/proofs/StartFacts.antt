@@ -1,5 +1,5 @@
 -- What the laws on tokens say of the gaps and tokens of a start.
-use Rattle.std.proofs.Common.{◌≡◌, ◌<◌, ◌≤◌, ◌+◌, ◌⊎◌, inl, inr, ℕ, suc, List, [], ◌∷◌, Some, slice_get}
+use Rattle.std.proofs.Common.{◌≡◌, ◌<◌, ◌≤◌, ◌+◌, ◌⊎◌, inl, inr, ℕ, zero, suc, List, [], ◌∷◌, Some, slice_get}
 use Rattle.std.proofs.Common.{slice_index, slice_index_or, length, sym, ap, ap₂, ◌∙◌, subst, arith}
 use Rattle.std.specs.List.{All}
 use Rattle.std.specs.List.Sorted.{IsStrictlyIncreasing}
@@ -47,17 +47,34 @@ module _ (start : List ℕ) (tokens : List PlacedToken) where
             let Q : ℕ → Type 0 = λ n. gap_end start tokens n < gap_start start tokens (suc j) in
             subst Q (sym same) (omega (arith, begins_at j l, ends_at j l, here))
 
-    pub offsets : (G : WrittenGrammar) → GapsAreSlices → IsUtf8 start → HasTokens G (chars start) tokens → HasOffsets start tokens
-    offsets G slices utf8 has =
-        record {
-          gap = λ i h. (slices G start tokens i utf8 has h).rises;
-          word = word;
-          inside = λ i h. (slices G start tokens i utf8 has h).within;
-          last = ap (λ o. option_map_or (λ (t : PlacedToken). t.start) o (length start)) (slice_get_past tokens (length tokens) (omega arith));
-          spelled =
-              λ i h. ap (λ o. option_map_or (spelling start) o []) (there i h)
-              ∙ ap₂ (λ a b. spelling start (record { kind = 0; start = a; end = b })) (sym (begins_at i h)) (sym (ends_at i h));
-        }
+    past : (i : ℕ) → length tokens ≤ i → gap_end start tokens i ≡ length start
+    past i h = ap (λ o. option_map_or (λ (t : PlacedToken). t.start) o (length start)) (slice_get_past tokens i h)
+
+    inside : (i : ℕ) → i ≤ length tokens → gap_end start tokens i ≤ length start
+    inside i h = pick (cases_lt i (length tokens))
+      where
+        pick : (i < length tokens) ⊎ (length tokens ≤ i) → gap_end start tokens i ≤ length start
+        pick (inl l) = omega (arith, begins_at i l, (order.slices i no_token l).rises, (order.slices i no_token l).within)
+        pick (inr k) = omega (arith, past i k)
+
+    gap : (i : ℕ) → i ≤ length tokens → gap_start start tokens i ≤ gap_end start tokens i
+    gap zero h = omega arith
+    gap (suc i) h = pick (cases_lt (suc i) (length tokens))
+      where
+        pick : (suc i < length tokens) ⊎ (length tokens ≤ suc i) → gap_start start tokens (suc i) ≤ gap_end start tokens (suc i)
+        pick (inl l) = omega (arith, ends_at i (omega (arith, l)), begins_at (suc i) l, order.apart i (suc i) no_token (omega arith) l)
+        pick (inr k) = omega (arith, ends_at i (omega (arith, h)), past (suc i) k, (order.slices i no_token (omega (arith, h))).within)
+
+    pub offsets : HasOffsets start tokens
+    offsets = record {
+      gap = gap;
+      word = word;
+      inside = inside;
+      last = past (length tokens) (omega arith);
+      spelled =
+          λ i h. ap (λ o. option_map_or (spelling start) o []) (there i h)
+          ∙ ap₂ (λ a b. spelling start (record { kind = 0; start = a; end = b })) (sym (begins_at i h)) (sym (ends_at i h));
+    }
 
     pub bounds : (G : WrittenGrammar) → GapsAreSlices → IsUtf8 start → HasTokens G (chars start) tokens → HasBounds start tokens
     bounds G slices utf8 has =

@@ -12,6 +12,7 @@ use Rattle.token_print.specs.declared.style.Skips.{Skips}
 use Rattle.token_print.specs.declared.style.Style.{Style}
 use Rattle.token_print.specs.Printed.{final_newline, printed_after, separator}
 use Rattle.token_print.specs.Runs.{run_from, run_to, stretches, with_token}
+use Rattle.token_print.specs.inner.RunTexts.{later_text, runs_text, text_after}
 
 -- two parts of a text that follow each other
 pub joined : (a b c : ℕ) (text : List ℕ) → a ≤ b → b ≤ c → between a b text ++ between b c text ≡ between a c text
@@ -83,24 +84,6 @@ stretches_rise n low (i ∷ kept) Style.Squeezed (AreRising.by_token below first
     (h, omega arith, l, stretches_rise n (suc i) kept Style.Squeezed more)
 
 module _ (skips : Skips) (start : List ℕ) (tokens : List PlacedToken) where
-  -- what is printed after the last run, which ends with this token
-  abbrev pub end_text : Style → ℕ → List ℕ
-  end_text Style.AsWas b = cond (nat_eq (suc b) (length tokens)) [] (final_newline skips)
-  end_text Style.Squeezed b = final_newline skips
-
-  abbrev pub run_text : Style → ℕ × ℕ → List ℕ
-  run_text style s = between (run_from skips start tokens style s.0) (run_to skips start tokens style s.1) start
-
-  -- what is printed after a run that ends with the token: the runs of these tokens, with what is printed between and after them
-  abbrev pub later_text : Style → ℕ → List (ℕ × ℕ) → List ℕ
-  later_text style b [] = end_text style b
-  later_text style b (s ∷ rest) = separator skips (gap_text start tokens s.0) ++ (run_text style s ++ later_text style s.1 rest)
-
-  -- the runs of these tokens
-  abbrev pub runs_text : Style → List (ℕ × ℕ) → List ℕ
-  runs_text style [] = []
-  runs_text style (s ∷ rest) = run_text style s ++ later_text style s.1 rest
-
   module _ (o : HasOffsets start tokens) where
     -- a token and what is printed after it
     abbrev body : Style → ℕ → List ℕ → List ℕ
@@ -109,7 +92,7 @@ module _ (skips : Skips) (start : List ℕ) (tokens : List PlacedToken) where
     -- the text from the first token of the first stretch on
     abbrev from_word : Style → List (ℕ × ℕ) → List ℕ
     from_word style [] = []
-    from_word style (s ∷ rest) = between (gap_end start tokens s.0) (run_to skips start tokens style s.1) start ++ later_text style s.1 rest
+    from_word style (s ∷ rest) = between (gap_end start tokens s.0) (run_to skips start tokens style s.1) start ++ later_text skips start tokens style s.1 rest
 
     abbrev gs : ℕ → ℕ
     gs i = gap_start start tokens i
@@ -134,6 +117,30 @@ module _ (skips : Skips) (start : List ℕ) (tokens : List PlacedToken) where
             omega (arith, to_last b e, o.word j b h l, o.gap (suc b) (omega (arith, l)), o.inside (suc b) (omega (arith, l)))
         pick (inr (d, f)) = omega (arith, to_other b d, o.word j b h l)
 
+    from_below : (style : Style) (a : ℕ) → run_from skips start tokens style a ≤ ge a
+    from_below Style.Squeezed a = omega arith
+    from_below Style.AsWas a = pick (nat_eq a 0)
+      where
+        pick : (x : Bool) → cond x 0 (ge a) ≤ ge a
+        pick true = omega arith
+        pick false = omega arith
+
+    -- a run has some bytes
+    pub run_rises : (style : Style) (a b : ℕ) → a ≤ b → b < length tokens → run_from skips start tokens style a < run_to skips start tokens style b
+    run_rises style a b h l = omega (arith, from_below style a, reaches style a b h l)
+
+    before_end : (b : ℕ) → b < length tokens → gs (suc b) ≤ length start
+    before_end b l = omega (arith, o.gap (suc b) (omega (arith, l)), o.inside (suc b) (omega (arith, l)))
+
+    -- it ends in the start
+    pub run_within : (style : Style) (b : ℕ) → b < length tokens → run_to skips start tokens style b ≤ length start
+    run_within Style.Squeezed b l = before_end b l
+    run_within Style.AsWas b l = pick (nat_eq (suc b) (length tokens))
+      where
+        pick : (x : Bool) → cond x (length start) (gs (suc b)) ≤ length start
+        pick true = omega arith
+        pick false = before_end b l
+
     gs_reaches : (j b : ℕ) → j ≤ b → b < length tokens → gs j ≤ run_to skips start tokens Style.AsWas b
     gs_reaches j b h l = omega (arith, o.gap j (omega (arith, h, l)), reaches Style.AsWas j b h l)
 
@@ -151,7 +158,7 @@ module _ (skips : Skips) (start : List ℕ) (tokens : List PlacedToken) where
         last_gap e = ap₂ (λ x y. between x y start) (ap gs (sym e)) o.last
 
         pick : ((suc i ≡ n) × (nat_eq (suc i) n ≡ true)) ⊎ ((suc i ≢ n) × (nat_eq (suc i) n ≡ false))
-            → body Style.AsWas i [] ≡ between (ge i) (run_to skips start tokens Style.AsWas i) start ++ end_text Style.AsWas i
+            → body Style.AsWas i [] ≡ between (ge i) (run_to skips start tokens Style.AsWas i) start ++ text_after skips start tokens Style.AsWas i
         pick (inl (e, t)) =
             ap₂ (λ w x. w ++ cond x (gap_text start tokens n) (final_newline skips)) (o.spelled i l) t
             ∙ ap (λ g. spelled_as i ++ g) (last_gap e)
@@ -181,7 +188,7 @@ module _ (skips : Skips) (start : List ℕ) (tokens : List PlacedToken) where
             let R : List (ℕ × ℕ) → Type 0 = λ ss. AreStretches n (suc i) ss in
             let (low, up, below, others) = subst R is rises in
             let to = run_to skips start tokens Style.AsWas b in
-            let tail = later_text Style.AsWas b rest in
+            let tail = later_text skips start tokens Style.AsWas b rest in
             ap₂ (λ w x. w ++ (cond x gap (separator skips gap) ++ body Style.AsWas j kept)) (o.spelled i l) t
             ∙ ap (λ x. spelled_as i ++ (gap ++ x)) (later ∙ ap (from_word Style.AsWas) is)
             ∙ ap (λ g. spelled_as i ++ (between (gs g) (ge j) start ++ (between (ge j) to start ++ tail))) e
@@ -195,7 +202,7 @@ module _ (skips : Skips) (start : List ℕ) (tokens : List PlacedToken) where
         pick later (inr (d, f)) (b, rest, is) =
             let sep = separator skips gap in
             let to = run_to skips start tokens Style.AsWas b in
-            let tail = later_text Style.AsWas b rest in
+            let tail = later_text skips start tokens Style.AsWas b rest in
             let begin : ge j ≡ run_from skips start tokens Style.AsWas j = sym (ap (λ x. cond x 0 (ge j)) (eq_false j 0 (λ z. omega (arith, z, h)))) in
             ap₂ (λ w x. w ++ (cond x gap sep ++ body Style.AsWas j kept)) (o.spelled i l) f
             ∙ ap (λ x. spelled_as i ++ (sep ++ x)) (later ∙ ap (from_word Style.AsWas) is)
@@ -210,7 +217,7 @@ module _ (skips : Skips) (start : List ℕ) (tokens : List PlacedToken) where
 
     -- the text of kept tokens, if there are some
     pub text_is : (style : Style) (kept : List ℕ) → AreRising (length tokens) 0 kept
-        → printed_after skips start tokens style None kept ≡ runs_text style (stretches style kept)
+        → printed_after skips start tokens style None kept ≡ runs_text skips start tokens style (stretches style kept)
     text_is Style.AsWas [] rising = refl
     text_is Style.Squeezed [] rising = refl
     text_is Style.Squeezed (i ∷ kept) (AreRising.by_token low first others h l more) = squeezed i kept l more
@@ -224,21 +231,21 @@ module _ (skips : Skips) (start : List ℕ) (tokens : List PlacedToken) where
 
         pick : ((i ≡ 0) × (nat_eq i 0 ≡ true)) ⊎ ((i ≢ 0) × (nat_eq i 0 ≡ false)) → (b : ℕ) × (rest : List (ℕ × ℕ))
             × (stretches Style.AsWas (i ∷ kept) ≡ (i, b) ∷ rest)
-            → printed_after skips start tokens Style.AsWas None (i ∷ kept) ≡ runs_text Style.AsWas (stretches Style.AsWas (i ∷ kept))
+            → printed_after skips start tokens Style.AsWas None (i ∷ kept) ≡ runs_text skips start tokens Style.AsWas (stretches Style.AsWas (i ∷ kept))
         pick (inl (e, t)) (b, rest, is) =
             let R : List (ℕ × ℕ) → Type 0 = λ ss. AreStretches n 0 ss in
             let (low, up, below, others) = subst R is rises in
             let to = run_to skips start tokens Style.AsWas b in
-            let tail = later_text Style.AsWas b rest in
+            let tail = later_text skips start tokens Style.AsWas b rest in
             ap₂ (λ x y. cond x (gap_text start tokens i) [] ++ y) t (as_was i kept l more ∙ ap (from_word Style.AsWas) is)
             ∙ ap (λ g. between g (ge i) start ++ (between (ge i) to start ++ tail)) (ap gs e)
             ∙ sym (append_assoc (between 0 (ge i) start) (between (ge i) to start) tail)
             ∙ ap (λ x. x ++ tail) (joined 0 (ge i) to start (omega arith) (omega (arith, reaches Style.AsWas i b up below)))
             ∙ ap (λ x. between (cond x 0 (ge i)) to start ++ tail) (sym t)
-            ∙ ap (runs_text Style.AsWas) (sym is)
+            ∙ ap (runs_text skips start tokens Style.AsWas) (sym is)
         pick (inr (d, f)) (b, rest, is) =
             let to = run_to skips start tokens Style.AsWas b in
-            let tail = later_text Style.AsWas b rest in
+            let tail = later_text skips start tokens Style.AsWas b rest in
             ap₂ (λ x y. cond x (gap_text start tokens i) [] ++ y) f (as_was i kept l more ∙ ap (from_word Style.AsWas) is)
             ∙ ap (λ x. between (cond x 0 (ge i)) to start ++ tail) (sym f)
-            ∙ ap (runs_text Style.AsWas) (sym is)
+            ∙ ap (runs_text skips start tokens Style.AsWas) (sym is)

@@ -1,46 +1,59 @@
--- The kept tokens are written one after another.
-use Rattle.std.proofs.Common.{◌≡◌, ℕ, suc, ◌+◌, ◌<◌, ◌≤◌, List, [], ◌++◌, Option, Some, None, drop}
-use Rattle.std.proofs.Common.{slice_index_or, length, sym, ap, ap₂, ◌∙◌, arith, append_assoc, ◌^◌}
-use Rattle.std.proofs.Math.Seq.{drop-cons}
+-- The kept tokens are written run by run.
+use Rattle.std.proofs.Common.{◌≡◌, ◌≢◌, ◌≤◌, ◌<◌, ◌-◌, ℕ, cond, List, ◌∷◌, ◌++◌, drop}
+use Rattle.std.proofs.Common.{slice_index, length, sym, ap, ◌∙◌, subst, arith, append_assoc}
 use Rattle.std.proofs.lemmas.List.{drop_all}
 use Rattle.grammar_tree.specs.Lexes.{PlacedToken}
-use Rattle.token_laws.specs.Spelling.{spelling_at}
+use Rattle.token_laws.specs.Spelling.{gap_text}
 use Rattle.token_print.specs.declared.style.Skips.{Skips}
 use Rattle.token_print.specs.declared.style.Style.{Style}
-use Rattle.token_print.specs.Printed.{after, before, printed_after}
+use Rattle.token_print.specs.Printed.{separator}
+use Rattle.token_print.specs.Runs.{stretches}
+use Rattle.token_print.specs.inner.RunTexts.{later_text, run_text, runs_text, text_after, text_from}
+use Rattle.token_print.proofs.Stretches.{eq_false}
 
 module _ (skips : Skips) (start : List ℕ) (tokens : List PlacedToken) (style : Style) (kept : List ℕ) where
-  -- what is written, and what has to follow, is the whole text
-  abbrev pub IsWritten : List ℕ → Option ℕ → ℕ → Type 0
-  IsWritten written last i = written ++ printed_after skips start tokens style last (drop i kept) ≡ printed_after skips start tokens style None kept
+  abbrev here : ℕ → List ℕ
+  here i = text_from skips start tokens style kept i
 
-  pub begun : (written : List ℕ) → written ≡ [] → IsWritten written None 0
-  begun written e = ap (λ l. l ++ printed_after skips start tokens style None kept) e
+  -- after a run
+  later_at : (i : ℕ) → i ≢ 0 → here i ≡ later_text skips start tokens style (slice_index kept (i - 1)) (stretches style (drop i kept))
+  later_at i some =
+      ap (λ x. cond x (runs_text skips start tokens style (stretches style kept))
+      (later_text skips start tokens style (slice_index kept (i - 1)) (stretches style (drop i kept)))) (eq_false i 0 some)
 
-  -- one more kept token
-  pub more : (written with_gap longer : List ℕ) (last : Option ℕ) (i : ℕ) → i < length kept →
-      with_gap ≡ written ++ before skips start tokens style last (slice_index_or kept i 0) →
-      longer ≡ with_gap ++ spelling_at start tokens (slice_index_or kept i 0) →
-      IsWritten written last i → IsWritten longer (Some (slice_index_or kept i 0)) (i + 1)
-  more written with_gap longer last i h gap spelling is =
-      let x = slice_index_or kept i 0 in
-      let next : i + 1 ≡ suc i = omega arith in
-      let rest = printed_after skips start tokens style (Some x) (drop (suc i) kept) in
-      let b = before skips start tokens style last x in
-      let word = spelling_at start tokens x in
-      ap₂ (λ l k. l ++ printed_after skips start tokens style (Some x) (drop k kept)) (spelling ∙ ap (λ l. l ++ word) gap) next
-      ∙ append_assoc (written ++ b) word rest
-      ∙ append_assoc written b (word ++ rest)
-      ∙ ap (λ l. written ++ printed_after skips start tokens style last l) (sym (drop-cons kept i 0 h))
-      ∙ is
+  abbrev run : ℕ → ℕ → List ℕ
+  run first next = run_text skips start tokens style (slice_index kept first, slice_index kept (next - 1))
 
-  pub done : (written whole : List ℕ) (last : Option ℕ) (i : ℕ) → length kept ≤ i → whole ≡ written ++ after skips start tokens style last
-      → IsWritten written last i → whole ≡ printed_after skips start tokens style None kept
-  done written whole last i h e is =
-      e ∙ ap (λ l. written ++ printed_after skips start tokens style last l) (sym (drop_all i kept h)) ∙ is
+  abbrev IsNext : ℕ → ℕ → Type 0
+  IsNext first next = stretches style (drop first kept) ≡ (slice_index kept first, slice_index kept (next - 1)) ∷ stretches style (drop next kept)
 
-  -- what is counted, and what has to follow, is the whole length, where it is no more than can be counted
-  abbrev pub IsCounted : ℕ → Option ℕ → ℕ → Type 0
-  IsCounted size last i =
-      length (printed_after skips start tokens style None kept) < 2 ^ 64
-      → size + length (printed_after skips start tokens style last (drop i kept)) ≡ length (printed_after skips start tokens style None kept)
+  at_zero : (text longer : List ℕ) (next : ℕ) → 0 < next → IsNext 0 next → longer ≡ text ++ run 0 next → longer ++ here next ≡ text ++ here 0
+  at_zero text longer next h is more =
+      ap (λ l. l ++ here next) more
+      ∙ append_assoc text (run 0 next) (here next)
+      ∙ ap (λ l. text ++ (run 0 next ++ l)) (later_at next (λ e. omega (arith, h, e)))
+      ∙ ap (λ ss. text ++ runs_text skips start tokens style ss) (sym is)
+
+  -- the first run
+  pub first_run : (text longer : List ℕ) (first next : ℕ) → first ≡ 0 → first < next → IsNext first next → longer ≡ text ++ run first next
+      → longer ++ here next ≡ text ++ here first
+  first_run text longer first next e h =
+      let P : ℕ → Type 0 = λ n. n < next → IsNext n next → longer ≡ text ++ run n next → longer ++ here next ≡ text ++ here n in
+      subst P (sym e) (at_zero text longer next) h
+
+  -- each other run, after what separates it from the one before it
+  pub later_run : (text separated longer : List ℕ) (first next : ℕ) → 0 < first → first < next → IsNext first next
+      → separated ≡ text ++ separator skips (gap_text start tokens (slice_index kept first)) → longer ≡ separated ++ run first next
+      → longer ++ here next ≡ text ++ here first
+  later_run text separated longer first next some h is apart more =
+      let between_runs = separator skips (gap_text start tokens (slice_index kept first)) in
+      ap (λ l. l ++ here next) (more ∙ ap (λ l. l ++ run first next) apart)
+      ∙ append_assoc (text ++ between_runs) (run first next) (here next)
+      ∙ append_assoc text between_runs (run first next ++ here next)
+      ∙ ap (λ l. text ++ (between_runs ++ (run first next ++ l))) (later_at next (λ e. omega (arith, h, e)))
+      ∙ ap (λ ss. text ++ later_text skips start tokens style (slice_index kept (first - 1)) ss) (sym is)
+      ∙ ap (λ l. text ++ l) (sym (later_at first (λ e. omega (arith, some, e))))
+
+  -- after the last one
+  pub at_end : (n : ℕ) → n ≢ 0 → length kept ≤ n → here n ≡ text_after skips start tokens style (slice_index kept (n - 1))
+  at_end n some h = later_at n some ∙ ap (λ l. later_text skips start tokens style (slice_index kept (n - 1)) (stretches style l)) (drop_all n kept h)

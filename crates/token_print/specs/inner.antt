@@ -1,3 +1,4 @@
 pub mod Copies
 pub mod Ahead
 pub mod Joins
+pub mod RunTexts

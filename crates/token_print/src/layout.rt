@@ -1,15 +1,17 @@
-//! What is printed before, between and after the kept tokens of a start.
+//! What is printed of the kept tokens of a start: its runs, and what is between and after them.
 
-ghost use Rattle.std.specs.Prelude.{◌≡◌, ℕ, ◌<◌, ◌≤◌, ◌^◌, suc, nat_eq, true, false, cond, List, [], ◌∷◌, None, IfOk, length, map, string_bytes};
+ghost use Rattle.std.specs.Prelude.{◌≡◌, ℕ, ◌<◌, ◌≤◌, ◌^◌, ◌++◌, suc, true, false, cond, List, [], ◌∷◌, None, IfOk, length, map};
 ghost use Rattle.std.specs.List.{All};
+ghost use Rattle.std.specs.List.Sorted.{IsStrictlyIncreasing};
 ghost use Rattle.lexer.specs.Tokens.{token_of};
 ghost use Rattle.token_laws.specs.Laws.{AreInOrder};
-ghost use Rattle.token_laws.specs.Spelling.{gap_end, gap_start, gap_text, spelling_at};
-ghost use Rattle.token_print.specs.Printed.{after, before, final_newline, printed, printed_after, separator};
+ghost use Rattle.token_laws.specs.Spelling.{gap_end, gap_start, gap_text};
+ghost use Rattle.token_print.specs.Kept.{AreKept};
+ghost use Rattle.token_print.specs.Printed.{final_newline, printed, printed_after, separator};
 ghost use Rattle.token_print.specs.Runs.{run_at, run_from, run_limit, run_to, runs, runs_at, stretches};
+ghost use Rattle.token_print.specs.inner.RunTexts.{run_text, runs_text, text_after, text_from};
 
-use crate::runs::Run;
-use crate::spelling::spelling;
+use crate::runs::{Run, next_run};
 use crate::style::{Skips, Style};
 use faults::Memory;
 use lexer::Token;
@@ -33,24 +35,6 @@ fn final_newline(skips: Skips) -> &'static str
     ensures { result.now ≡ final_newline skips }
 {
     if skips.newline { "\n" } else { "" }
-}
-
-/// What is printed as it was before the first kept token, by its own gap.
-fn leading(gap: &str, index: u32) -> &str
-    ensures { result.now ≡ cond (nat_eq index 0) gap.now [] }
-{
-    if index == 0 { gap } else { "" }
-}
-
-/// What is printed as it was before a kept token after another one, by its own gap.
-fn between(skips: Skips, gap: &str, last: u32, index: u32) -> &str
-    ensures { result.now ≡ cond (nat_eq index (suc last)) gap.now (separator skips gap.now) }
-{
-    if index as usize == last as usize + 1 {
-        gap
-    } else {
-        separator(skips, gap)
-    }
 }
 
 /// A start with its tokens, and how it is printed.
@@ -97,92 +81,6 @@ impl<'a> Layout<'a> {
         &self.start[from..to]
     }
 
-    /// The spelling of the token with this number.
-    fn spelling(&self, index: usize) -> &'a str
-        requires index { index < length self.now.tokens.now }
-        requires order { AreInOrder self.now.start.now (map token_of self.now.tokens.now) }
-        ensures { result.now ≡ spelling_at self.now.start.now (map token_of self.now.tokens.now) index }
-    {
-        spelling(self.start, self.tokens[index])
-    }
-
-    /// What is printed before a kept token, after the kept token before it.
-    fn before(&self, last: Option<u32>, index: u32) -> &'a str
-        requires index { index < length self.now.tokens.now }
-        requires order { AreInOrder self.now.start.now (map token_of self.now.tokens.now) }
-        ensures { result.now ≡ before self.now.skips self.now.start.now (map token_of self.now.tokens.now) self.now.style last index }
-    {
-        let gap = self.gap(index as usize);
-        match (self.style, last) {
-            (Style::Squeezed, None) => "",
-            (Style::Squeezed, Some(_)) => separator(self.skips, gap),
-            (Style::AsWas, None) => leading(gap, index),
-            (Style::AsWas, Some(last)) => between(self.skips, gap, last, index),
-        }
-    }
-
-    /// What is printed as it was after the last kept token.
-    fn trailing(&self, last: u32) -> &'a str
-        requires order { AreInOrder self.now.start.now (map token_of self.now.tokens.now) }
-        ensures { result.now ≡ cond (nat_eq (suc last) (length self.now.tokens.now))
-            (gap_text self.now.start.now (map token_of self.now.tokens.now) (length self.now.tokens.now)) (final_newline self.now.skips) }
-    {
-        let count = self.tokens.len();
-        if last as usize + 1 == count {
-            self.gap(count)
-        } else {
-            final_newline(self.skips)
-        }
-    }
-
-    /// What is printed after the last kept token.
-    fn after(&self, last: Option<u32>) -> &'a str
-        requires order { AreInOrder self.now.start.now (map token_of self.now.tokens.now) }
-        ensures { result.now ≡ after self.now.skips self.now.start.now (map token_of self.now.tokens.now) self.now.style last }
-    {
-        match (self.style, last) {
-            (_, None) => "",
-            (Style::Squeezed, Some(_)) => final_newline(self.skips),
-            (Style::AsWas, Some(last)) => self.trailing(last),
-        }
-    }
-
-    /// How many bytes are printed of the kept tokens.
-    fn size(&self, kept: &[u32]) -> usize
-        requires kept { All (λ i. i < length self.now.tokens.now) kept.now }
-        requires order { AreInOrder self.now.start.now (map token_of self.now.tokens.now) }
-        ensures { let size = length (printed_after self.now.skips self.now.start.now (map token_of self.now.tokens.now) self.now.style None kept.now) in
-            size < 2 ^ 64 → result ≡ size }
-    {
-        let mut size = 0usize;
-        let mut last = None;
-        for index in kept {
-            let before = self.before(last, *index).len();
-            let spelling = self.spelling(*index as usize).len();
-            size = size.saturating_add(before).saturating_add(spelling);
-            last = Some(*index);
-        }
-        size.saturating_add(self.after(last).len())
-    }
-
-    /// What is printed of the kept tokens, one after another.
-    fn kept_text(&self, alloc: Global, kept: &[u32]) -> Result<String, Memory>
-        requires kept { All (λ i. i < length self.now.tokens.now) kept.now }
-        requires order { AreInOrder self.now.start.now (map token_of self.now.tokens.now) }
-        ensures { IfOk result (λ text. string_bytes text ≡ printed_after self.now.skips self.now.start.now
-            (map token_of self.now.tokens.now) self.now.style None kept.now) }
-    {
-        let mut text = String::with_capacity(alloc, self.size(kept))?;
-        let mut last = None;
-        for index in kept {
-            text.push_str(self.before(last, *index))?;
-            text.push_str(self.spelling(*index as usize))?;
-            last = Some(*index);
-        }
-        text.push_str(self.after(last))?;
-        Ok(text)
-    }
-
     /// Whether the start is printed whole, as it has no tokens.
     pub(crate) fn is_whole(&self) -> bool
         ensures whole { result ≡ true → (kept : List ℕ)
@@ -201,13 +99,13 @@ impl<'a> Layout<'a> {
         }
     }
 
-    /// How many bytes are printed between two runs, by the first token of the later one.
-    pub(crate) fn separator_size(&self, index: u32) -> usize
+    /// What is printed between two runs, by the first token of the later one.
+    pub(crate) fn separator(&self, index: u32) -> &'static str
         requires index { index < length self.now.tokens.now }
         requires order { AreInOrder self.now.start.now (map token_of self.now.tokens.now) }
-        ensures { result ≡ length (separator self.now.skips (gap_text self.now.start.now (map token_of self.now.tokens.now) index)) }
+        ensures { result.now ≡ separator self.now.skips (gap_text self.now.start.now (map token_of self.now.tokens.now) index) }
     {
-        separator(self.skips, self.gap(index as usize)).len()
+        separator(self.skips, self.gap(index as usize))
     }
 
     /// The run that is the whole start, where it is printed whole.
@@ -239,6 +137,8 @@ impl<'a> Layout<'a> {
             (gap_start self.now.start.now (map token_of self.now.tokens.now) (suc last)) }
         ensures limit { run_limit self.now.skips self.now.start.now (map token_of self.now.tokens.now) self.now.style last ≡ cond result
             (suc (length self.now.start.now)) (gap_start self.now.start.now (map token_of self.now.tokens.now) (suc last)) }
+        ensures after { text_after self.now.skips self.now.start.now (map token_of self.now.tokens.now) self.now.style last
+            ≡ cond result [] (final_newline self.now.skips) }
     {
         match self.style {
             Style::AsWas => last as usize + 1 == self.tokens.len(),
@@ -246,41 +146,106 @@ impl<'a> Layout<'a> {
         }
     }
 
+    /// Where the run that ends with this token ends in the start.
+    fn run_end(&self, last: u32) -> usize
+        requires { last < length self.now.tokens.now }
+        ensures { result ≡ run_to self.now.skips self.now.start.now (map token_of self.now.tokens.now) self.now.style last }
+    {
+        if self.trails(last) {
+            self.start.len()
+        } else {
+            self.gap_start(last as usize + 1)
+        }
+    }
+
     /// The run of the tokens with the numbers from the first up to the last, which begins there in the
     /// text.
     pub(crate) fn run(&self, at: usize, first: u32, last: u32) -> Run
-        requires order { AreInOrder self.now.start.now (map token_of self.now.tokens.now) }
         requires last { last < length self.now.tokens.now }
         requires small { length self.now.start.now < 2 ^ 32 }
         ensures { result ≡ run_at self.now.skips self.now.start.now (map token_of self.now.tokens.now) self.now.style at (first, last) }
     {
         let from = self.run_start(first);
-        if self.trails(last) {
-            return Run {
-                at,
-                from,
-                to: self.start.len(),
-                limit: self.start.len() + 1,
-            };
-        }
-        let to = self.gap_start(last as usize + 1);
+        let to = self.run_end(last);
+        let limit = if self.trails(last) { to + 1 } else { to };
         Run {
             at,
             from,
             to,
-            limit: to,
+            limit,
         }
     }
 
-    /// The text of the kept tokens.
-    pub(crate) fn text(&self, alloc: Global, kept: &[u32]) -> Result<String, Memory>
-        requires kept { All (λ i. i < length self.now.tokens.now) kept.now }
+    /// The bytes of this run.
+    fn run_bytes(&self, first: u32, last: u32) -> &'a [u8]
         requires order { AreInOrder self.now.start.now (map token_of self.now.tokens.now) }
-        ensures { IfOk result (λ text. string_bytes text ≡ printed self.now.skips self.now.start.now
+        requires rises { first ≤ last }
+        requires last { last < length self.now.tokens.now }
+        ensures { result.now ≡ run_text self.now.skips self.now.start.now (map token_of self.now.tokens.now) self.now.style (first, last) }
+    {
+        let from = self.run_start(first);
+        let to = self.run_end(last);
+        &self.start.as_bytes()[from..to]
+    }
+
+    /// What is printed after the last kept token.
+    fn ending(&self, kept: &[u32]) -> &'static str
+        ensures { result.now ≡ text_from self.now.skips self.now.start.now (map token_of self.now.tokens.now) self.now.style kept.now (length kept.now) }
+    {
+        match kept.last() {
+            Some(last) if !self.trails(*last) => final_newline(self.skips),
+            _ => "",
+        }
+    }
+
+    /// Prints the run that begins with the kept token at the index, after what separates it from the run
+    /// before it, and gives the index after the run.
+    fn push_run(&self, text: &mut Vec<u8>, kept: &[u32], first: usize) -> Result<usize, Memory>
+        requires order { AreInOrder self.now.start.now (map token_of self.now.tokens.now) }
+        requires rise { IsStrictlyIncreasing kept.now }
+        requires kept { All (λ i. i < length self.now.tokens.now) kept.now }
+        requires first { first < length kept.now }
+        ensures after { IfOk result (λ next. first < next) }
+        ensures inside { IfOk result (λ next. next ≤ length kept.now) }
+        ensures text { IfOk result (λ next.
+            text.new.items ++ text_from self.now.skips self.now.start.now (map token_of self.now.tokens.now) self.now.style kept.now next
+            ≡ text.old.items ++ text_from self.now.skips self.now.start.now (map token_of self.now.tokens.now) self.now.style kept.now first) }
+    {
+        if first > 0 {
+            text.extend_from_slice(self.separator(kept[first]).as_bytes())?;
+        }
+        let next = next_run(self.style, kept, first);
+        let run = self.run_bytes(kept[first], kept[next - 1]);
+        text.extend_from_slice(run)?;
+        Ok(next)
+    }
+
+    /// The text of the kept tokens, run by run.
+    fn kept_text(&self, alloc: Global, kept: &[u32]) -> Result<Vec<u8>, Memory>
+        requires order { AreInOrder self.now.start.now (map token_of self.now.tokens.now) }
+        requires rise { IsStrictlyIncreasing kept.now }
+        requires kept { All (λ i. i < length self.now.tokens.now) kept.now }
+        ensures { IfOk result (λ text. text.items
+            ≡ runs_text self.now.skips self.now.start.now (map token_of self.now.tokens.now) self.now.style (stretches self.now.style kept.now)) }
+    {
+        let mut text = Vec::new(alloc);
+        let mut next = 0;
+        while next < kept.len() {
+            next = self.push_run(&mut text, kept, next)?;
+        }
+        text.extend_from_slice(self.ending(kept).as_bytes())?;
+        Ok(text)
+    }
+
+    /// The text of the kept tokens.
+    pub(crate) fn text(&self, alloc: Global, kept: &[u32]) -> Result<Vec<u8>, Memory>
+        requires order { AreInOrder self.now.start.now (map token_of self.now.tokens.now) }
+        requires kept { AreKept (map token_of self.now.tokens.now) kept.now }
+        ensures { IfOk result (λ text. text.items ≡ printed self.now.skips self.now.start.now
             (map token_of self.now.tokens.now) kept.now self.now.style) }
     {
         if self.is_whole() {
-            let text = String::from_str(alloc, self.start)?;
+            let text = Vec::from_slice(alloc, self.start.as_bytes())?;
             Ok(text)
         } else {
             let text = self.kept_text(alloc, kept)?;

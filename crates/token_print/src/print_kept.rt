@@ -11,7 +11,7 @@ use crate::style::{Skips, Style};
 use faults::Memory;
 use lexer::{Lexer, Tokens};
 use std::alloc::Global;
-use token_laws::tokens_are_in_order;
+use token_laws::{gaps_are_slices, tokens_are_in_order};
 
 /// Which of the characters that separate tokens the lexer skips.
 fn skips(lexer: &Lexer) -> Result<Skips, Memory>
@@ -24,9 +24,9 @@ fn skips(lexer: &Lexer) -> Result<Skips, Memory>
 
 /// The text of the kept tokens of the start. They are given by their numbers, from 0.
 ///
-/// What the lexer skips is asked once for a newline and once for a space. The kept tokens are passed
-/// twice: once to find how long the text is, and once to write it into one buffer of this length. So
-/// it takes time in proportion to the kept tokens, their spellings and their own gaps.
+/// What the lexer skips is asked once for a newline and once for a space. Kept tokens that follow one
+/// another are copied as one piece, with their gaps. So beside the copy it takes, for each such run, time in
+/// proportion to the logarithm of how many tokens it has; squeezed, each token is by itself.
 pub fn print(
     alloc: Global,
     start: &str,
@@ -41,6 +41,7 @@ pub fn print(
     ensures printed { IfOk result (λ text. IsPrinted lexer.now.grammar start.now (map token_of tokens.now.items.items) kept.now style text.items) }
 {
     tokens_are_in_order();
+    gaps_are_slices();
     let layout = Layout {
         start,
         tokens: &tokens.items,
@@ -48,5 +49,5 @@ pub fn print(
         style,
     };
     let text = layout.text(alloc, kept)?;
-    Ok(text.into_bytes())
+    Ok(text)
 }

@@ -81,6 +81,21 @@ fn stretch_end(kept: &[u32], from: usize) -> usize
     end
 }
 
+/// The index of the kept token after the run that begins at the index.
+pub(crate) fn next_run(style: Style, kept: &[u32], first: usize) -> usize
+    requires first { first < length kept.now }
+    requires rise { IsStrictlyIncreasing kept.now }
+    ensures after { first < result }
+    ensures inside { result ≤ length kept.now }
+    ensures stretches { stretches style (drop first kept.now)
+        ≡ (slice_index kept.now first, slice_index kept.now (result - 1)) ∷ stretches style (drop result kept.now) }
+{
+    match style {
+        Style::AsWas => stretch_end(kept, first),
+        Style::Squeezed => first + 1,
+    }
+}
+
 /// The runs of a printed text, one after another.
 #[derive(Drop)]
 pub(crate) struct Runs<'a> {
@@ -123,22 +138,6 @@ impl<'a> Runs<'a> {
         runs
     }
 
-    /// The index of the kept token after the stretch that begins at the index.
-    fn end_of(&self, first: usize) -> usize
-        requires first { first < length self.now.kept.now }
-        requires rise { IsStrictlyIncreasing self.now.kept.now }
-        ensures after { first < result }
-        ensures inside { result ≤ length self.now.kept.now }
-        ensures stretches { stretches self.now.layout.style (drop first self.now.kept.now)
-            ≡ (slice_index self.now.kept.now first, slice_index self.now.kept.now (result - 1)) ∷ stretches self.now.layout.style
-            (drop result self.now.kept.now) }
-    {
-        match self.layout.style {
-            Style::AsWas => stretch_end(self.kept, first),
-            Style::Squeezed => first + 1,
-        }
-    }
-
     /// Where the run begins in the text whose first kept token has this index. What is printed before it
     /// begins at the offset, and is nothing before the first run.
     fn begin(&self, first: usize, at: usize) -> usize
@@ -154,7 +153,7 @@ impl<'a> Runs<'a> {
         if first == 0 {
             at
         } else {
-            at + self.layout.separator_size(self.kept[first])
+            at + self.layout.separator(self.kept[first]).len()
         }
     }
 
@@ -175,7 +174,7 @@ impl<'a> Runs<'a> {
             self.current = None;
             return;
         }
-        let end = self.end_of(first);
+        let end = next_run(self.layout.style, kept, first);
         let begin = self.begin(first, at);
         let run = self.layout.run(begin, kept[first], kept[end - 1]);
         self.current = Some(run);

@@ -1,9 +1,9 @@
-use Rattle.std.proofs.Common.{◌≡◌, ℕ, List, map, string_bytes, sym, ap, subst}
-use Rattle.std.specs.Str.{IsUtf8}
-use Rattle.std.proofs.lemmas.Str.{IsUtf8-string_bytes}
+use Rattle.std.proofs.Common.{List, map, sym, ap, ◌∙◌, subst}
 use Rattle.lexer.specs.Tokens.{token_of}
 use Rattle.lexer.specs.declared.token.Token.{Token}
 use Rattle.token_laws.specs.Laws.{AreInOrder}
+use Rattle.token_print.specs.Printed.{printed}
+use Rattle.token_print.proofs.PrintedCopies.{printed_copies}
 use Rattle.token_print.proofs.print_kept.print.Goals as goal
 
 pub text-requires-clause-order : goal.text-requires-clause-order
@@ -14,5 +14,10 @@ text-requires-clause-order c =
 
 pub returns-clause-utf8 : goal.returns-clause-utf8
 returns-clause-utf8 c =
-    let same : c.into_bytes.result.items ≡ string_bytes c.in_ok-text.text = ap (λ v. v.items) c.into_bytes.ensures.value in
-    let P : List ℕ → Type 0 = λ l. IsUtf8 l in subst P (sym same) (IsUtf8-string_bytes c.in_ok-text.text)
+    let G = c.args.lexer.now.grammar in
+    let start = c.args.start.now in
+    let tokens = map token_of c.args.tokens.now.items.items in
+    let order = c.tokens_are_in_order.ensures G start tokens c.utf8.start c.requires.tokens in
+    let same = ap (λ (ts : List Token). printed c.in_ok-skips.field-0 start (map token_of ts) c.args.kept.now c.args.style) c.deref.ensures.value in
+    (printed_copies G c.gaps_are_slices.ensures c.in_ok-skips.field-0 start c.utf8.start tokens order c.requires.tokens c.args.kept.now c.requires.kept
+    c.args.style c.in_ok-text.text.items (c.in_ok-text.ensures ∙ same)).0

@@ -8,5 +8,5 @@ returns-then-first-kept-clause-runs c =
 
 pub returns-clause-runs : goal.returns-clause-runs
 returns-clause-runs c =
-    run_ahead c.args.self.now.layout c.args.self.now.kept.now c.args.self.now.next c.end_of-end.result c.args.at c.begin-begin.result _ _ c.run-run.result
-    c.end_of-end.ensures.after c.end_of-end.ensures.stretches c.begin-begin.ensures c.run-run.ensures
+    run_ahead c.args.self.now.layout c.args.self.now.kept.now c.args.self.now.next c.next_run-end.result c.args.at c.begin-begin.result _ _ c.run-run.result
+    c.next_run-end.ensures.after c.next_run-end.ensures.stretches c.begin-begin.ensures c.run-run.ensures

@@ -2,11 +2,11 @@ use Rattle.std.proofs.Common.{◌≡◌, ◌+◌, ◌-◌, ◌∷◌, drop, slic
 use Rattle.token_print.specs.declared.style.Style.{Style}
 use Rattle.token_print.specs.Runs.{stretches}
 use Rattle.token_print.proofs.Running.{one_from, stretch_from}
-use Rattle.token_print.proofs.runs.Runs.end_of.Goals as goal
+use Rattle.token_print.proofs.runs.next_run.Goals as goal
 
 pub returns-in-AsWas-clause-stretches : goal.returns-in-AsWas-clause-stretches
 returns-in-AsWas-clause-stretches c =
-    let kept = c.args.self.now.kept.now in
+    let kept = c.args.kept.now in
     let s = c.stretch_end.ensures in
     let P : Style → Type 0 =
     λ style. stretches style (drop c.args.first kept) ≡ (slice_index kept c.args.first, slice_index kept (c.stretch_end.result - 1)) ∷ stretches style
@@ -15,7 +15,7 @@ returns-in-AsWas-clause-stretches c =
 
 pub returns-in-Squeezed-clause-stretches : goal.returns-in-Squeezed-clause-stretches
 returns-in-Squeezed-clause-stretches c =
-    let kept = c.args.self.now.kept.now in
+    let kept = c.args.kept.now in
     let n = c.args.first + 1 in
     let last : n - 1 ≡ c.args.first = omega arith in
     let P : Style → Type 0 =
