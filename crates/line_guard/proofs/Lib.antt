@@ -1,0 +1,6 @@
+mod EndsLemmas
+mod FlagLemmas
+mod LineParts
+mod NumberLemmas
+mod WishLemmas
+pub mod Lent
