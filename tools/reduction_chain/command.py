@@ -44,6 +44,8 @@ def main():
     arguments, passed_on = words().parse_known_args()
     if any(word.split("=")[0] in ("--mode", "--journal") for word in passed_on):
         return refused(BAD_COMMAND_LINE, "a chain has modes and journals of its own: neither --mode nor --journal")
+    if any(word.split("=")[0] in ("--protect", "--only") for word in passed_on):
+        return refused(BAD_COMMAND_LINE, "each step of a chain has other line numbers: neither --protect nor --only")
     try:
         return reduce(arguments, passed_on)
     except Stopped as stopped:

@@ -216,7 +216,7 @@ class ChainTests(unittest.TestCase):
         self.assertLess(len(self.asked()), 3)
 
     def test_refuses_what_it_can_not_do(self):
-        for status, more in [(2, ["--mode", "hdd"]), (2, ["--journal=j"]), (2, ["--modes", "hdd,hdd"]), (2, ["--modes", ""]), (11, ["--perses", "./none"])]:
+        for status, more in [(2, ["--mode", "hdd"]), (2, ["--journal=j"]), (2, ["--protect", "1-2"]), (2, ["--only=1-2"]), (2, ["--modes", "hdd,hdd"]), (2, ["--modes", ""]), (11, ["--perses", "./none"])]:
             with self.subTest(more=more):
                 self.assertEqual(self.run_chain(*more).returncode, status)
         self.write("script", SCRIPT, 0o644)

@@ -14,44 +14,44 @@ def read(path):
 def options_of_table(command):
     """The options of a command by the table that its command lines are read by."""
     table = re.search(rf"\n{command}_table =(.*?)(?=\n\n|\Z)", read("crates/command_words/specs/Tables.antt"), re.S)
-    return re.findall(r'(?:required|optional|repeated \d+) \(codes "(\w+)"\)', table.group(1))
+    return re.findall(r'(?:required|optional|repeated \d+) \(codes "([\w-]+)"\)', table.group(1))
 
 
 def options_of_manual(command):
     section = re.search(rf"\n\.SS {command}\n(.*?)(?=\n\.S[SH] )", read("docs/perses.1"), re.S)
-    return re.findall(r'^\.B[IR]? "?\\-\\-(\w+)', section.group(1), re.M)
+    return re.findall(r'^\.B[IR]? "?--([\w-]+)', section.group(1).replace("\\-", "-"), re.M)
 
 
 def options_of_formats(command):
     """The rows of a command are that with its name, and those without a name that follow it."""
     rows = re.search(rf"\n\| `{command}` (\|.*?\n)(?=\| `|\n)", read("docs/FORMATS.md"), re.S)
-    return re.findall(r"^(?:\| )?\| `--(\w+)", rows.group(1), re.M)
+    return re.findall(r"^(?:\| )?\| `--([\w-]+)", rows.group(1), re.M)
 
 
 def options_of_bash(command):
     text = read("docs/completions/perses.bash")
-    line = re.search(rf"^    {command}\) options=(['\"])(.*?)\1", text, re.M).group(2)
+    line = re.search(rf"^    {command}\)\s+options=(['\"])(.*?)\1", text, re.M).group(2)
     by_grammar = re.search(r"by_grammar='(.*?)'", text).group(1)
-    return re.findall(r"--(\w+)", line.replace("$by_grammar", by_grammar))
+    return re.findall(r"--([\w-]+)", line.replace("$by_grammar", by_grammar))
 
 
 def options_of_zsh(command):
     part = re.search(rf"\n  {command}\)\n(.*?)\n    ;;", read("docs/completions/_perses"), re.S)
-    return re.findall(r"'\*?--(\w+)=?\[", part.group(1))
+    return re.findall(r"'\*?--([\w-]+)=?\[", part.group(1))
 
 
 def options_of_usage(command):
     """Those of the usage: a line each for `reduce`, and in its own line for another command."""
     text = read("crates/notice_words/src/usage.rt")
     if command == "reduce":
-        return re.findall(r"^  --(\w+)", text, re.M)
-    return re.findall(r"--(\w+)", re.search(rf"perses {command} (.*)", text).group(1))
+        return re.findall(r"^  --([\w-]+)", text, re.M)
+    return re.findall(r"--([\w-]+)", re.search(rf"perses {command} (.*)", text).group(1))
 
 
 def options_of_faults(command):
     """The names by which the fault of a command line is named."""
     names = re.search(rf"\nstatic {command.upper()}: .*? = \[(.*?)\];", read("crates/notice_words/src/rows.rt"), re.S)
-    return re.findall(r'"(\w+)"', names.group(1))
+    return re.findall(r'"([\w-]+)"', names.group(1))
 
 
 class Options(unittest.TestCase):
@@ -61,7 +61,7 @@ class Options(unittest.TestCase):
                 self.assertEqual(sorted(named(command)), sorted(options_of_table(command)))
 
     def test_table_is_found(self):
-        self.assertEqual([len(options_of_table(command)) for command in COMMANDS], [12, 3, 3])
+        self.assertEqual([len(options_of_table(command)) for command in COMMANDS], [15, 3, 3])
 
     def test_usage_names_each_option(self):
         self.are_those_of_the_table(options_of_usage)

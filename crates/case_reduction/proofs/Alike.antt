@@ -22,7 +22,7 @@ use Rattle.reduce_trees_mode.specs.Listed.{text_of_state}
 use Rattle.reduce_step.specs.declared.mode.TreeMode.{TreeMode}
 use Rattle.run_problem.specs.Problem.{IsEditBy, IsReductionOf, Problem, counts_of, questions_of, recursion_of, reduced_text, reduction_of}
 use Rattle.reduce_journal.specs.Report.{first_lines, four_lines}
-use Rattle.case_reduction.specs.Summary.{rule_map, summary_text}
+use Rattle.case_reduction.specs.Summary.{admits_all, rule_map, summary_text}
 
 -- each record has the rule's verdict
 abbrev pub BySaid : List Record → Type 0
@@ -68,29 +68,30 @@ module _ (mode : TreeMode) (input : TreeInput) where
       (capped_count (length r.questions))
       ++ text_of_state input r.state
 
-  module _ (alike : AgreeingMapsReduceAlike (recursion_of [] problem)) where
+  module _ (alike : AgreeingMapsReduceAlike (recursion_of admits_all problem)) where
     -- the reduction over a map that agrees with the rule is that over the rule
-    same_reduction : (V : List ℕ → Option Verdict) → Agree V rule_map → HasVerdicts V (questions_of [] problem V)
-        → reduction_of [] problem V ≡ reduction_of [] problem rule_map
-    same_reduction V agrees defined = alike V rule_map agrees defined (rule_says (questions_of [] problem rule_map))
+    same_reduction : (V : List ℕ → Option Verdict) → Agree V rule_map → HasVerdicts V (questions_of admits_all problem V)
+        → reduction_of admits_all problem V ≡ reduction_of admits_all problem rule_map
+    same_reduction V agrees defined = alike V rule_map agrees defined (rule_says (questions_of admits_all problem rule_map))
 
-    same_summary : (V : List ℕ → Option Verdict) → Agree V rule_map → HasVerdicts V (questions_of [] problem V)
+    same_summary : (V : List ℕ → Option Verdict) → Agree V rule_map → HasVerdicts V (questions_of admits_all problem V)
         → summary_text problem V ≡ summary_text problem rule_map
     same_summary V agrees defined = ap summary_of (same_reduction V agrees defined)
 
     module _ (records : List Record) (by : BySaid records) where
       -- the reduction over the records is that over the rule
-      pub by_rule : (text : List ℕ) → IsReductionOf [] (verdict_in records) problem text → IsReductionOf [] rule_map problem (reduced_text [] problem rule_map)
+      pub by_rule : (text : List ℕ) → IsReductionOf admits_all (verdict_in records) problem text
+          → IsReductionOf admits_all rule_map problem (reduced_text admits_all problem rule_map)
       by_rule text is =
           let one = same_reduction (verdict_in records) (agree records by) is.defined in
-          let ends : text ≡ reduced_text [] problem rule_map = is.is_text ∙ ap (λ (r : rounds.Reduction TreeState). text_of_state input r.state) one in
+          let ends : text ≡ reduced_text admits_all problem rule_map = is.is_text ∙ ap (λ (r : rounds.Reduction TreeState). text_of_state input r.state) one in
           record {
             is_problem = is.is_problem;
-            defined = rule_says (questions_of [] problem rule_map);
+            defined = rule_says (questions_of admits_all problem rule_map);
             interesting = sym (ap (λ (r : rounds.Reduction TreeState). r.refused) one) ∙ is.interesting;
             is_text = refl;
             yes_at_end = subst (λ (t : List ℕ). rule_map t ≡ Some Yes) ends (rule_too records by text Yes is.yes_at_end);
-            keeps_stay = refl;
+            admitted = refl;
             candidate = subst (λ (t : List ℕ). IsCandidate input t) ends is.candidate;
             minimal = λ other edit lists.
                 rule_too records by (text_of_state input other) No
@@ -99,10 +100,11 @@ module _ (mode : TreeMode) (input : TreeInput) where
           }
 
       -- the lines and the text are the summary over each map that agrees with the rule
-      pub over_each : (text : List ℕ) (counts : Counts) → IsReductionOf [] (verdict_in records) problem text → counts ≡ counts_of [] problem records
-          → (V : List ℕ → Option Verdict) → Agree V rule_map → HasVerdicts V (questions_of [] problem V) → first_lines counts ++ text ≡ summary_text problem V
+      pub over_each : (text : List ℕ) (counts : Counts) → IsReductionOf admits_all (verdict_in records) problem text → counts ≡ counts_of admits_all problem records
+          → (V : List ℕ → Option Verdict) → Agree V rule_map → HasVerdicts V (questions_of admits_all problem V)
+          → first_lines counts ++ text ≡ summary_text problem V
       over_each text counts is is_counts V agrees defined =
           ap (λ (c : Counts). first_lines c ++ text) is_counts
-          ∙ ap (λ (t : List ℕ). first_lines (counts_of [] problem records) ++ t) is.is_text
+          ∙ ap (λ (t : List ℕ). first_lines (counts_of admits_all problem records) ++ t) is.is_text
           ∙ same_summary (verdict_in records) (agree records by) is.defined
           ∙ sym (same_summary V agrees defined)

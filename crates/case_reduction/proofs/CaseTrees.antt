@@ -1,9 +1,8 @@
 -- What is found in a program is ready to be reduced, and is the program's problem.
-use Rattle.std.proofs.Common.{arith, ◌≡◌, ◌≤◌, ◌+◌, ◌*◌, ℕ, List, [], false, true, None, length, refl, sym, ap, ◌∙◌, subst}
+use Rattle.std.proofs.Common.{arith, ◌≡◌, ◌≤◌, ◌+◌, ◌*◌, ℕ, List, false, true, None, length, refl, sym, ap, ◌∙◌, subst}
 use Rattle.grammar_tree.specs.Checked.{IsChecked}
 use Rattle.grammar_tree.specs.Written.{CheckedGrammar}
 use Rattle.grammar_tree.specs.Faults.{IsWellFormed}
-use Rattle.keep_guard.specs.Keep.{keeps_admit}
 use Rattle.grammar_load.specs.Answer.{Spells}
 use Rattle.reduce_step.specs.Limits.{text_limit}
 use Rattle.case_maker.specs.Cases.{case_text}
@@ -14,7 +13,7 @@ use Rattle.reduce_step.specs.declared.mode.TreeMode.{TreeMode}
 use Rattle.run_problem.specs.declared.problem.ReadProblem.TheVariants as read
 use Rattle.run_problem.specs.Problem.{Problem, start_text}
 use Rattle.run_problem.specs.Read.{IsFoundIn, IsReadAs}
-use Rattle.case_reduction.specs.Summary.{IsCaseProblem}
+use Rattle.case_reduction.specs.Summary.{IsCaseProblem, admits_all}
 
 module _ (grammar : CheckedGrammar) (text : List ℕ) (found : ParsedInput) (is : IsChecked grammar) (parsed : IsParsed grammar text found) where
   pub checked : IsChecked found.lexer
@@ -38,17 +37,17 @@ short text size most within = omega (arith, most, within)
 -- what is found in a program is its problem
 pub is_case : (mode : TreeMode) (number size : ℕ) (grammar : CheckedGrammar) (found : ParsedInput) → Spells mini_text None grammar
     → IsParsed grammar (case_text number size) found → MakesInputOf grammar (case_text number size) found
-    → (problem : Problem) × IsReadAs [] (read.Tree found mode false) problem × IsCaseProblem mode number size problem
+    → (problem : Problem) × IsReadAs admits_all (read.Tree found mode false) problem × IsCaseProblem mode number size problem
 is_case mode number size grammar found spelled parsed makes =
     let formed : IsWellFormed found.lexer.grammar found.lexer.start = (checked grammar (case_text number size) found spelled.checked parsed).well_formed in
-    let input = tree_input found formed (keeps_admit []) false in (
+    let input = tree_input found formed admits_all false in (
       Problem.of_tree mode input,
       (formed, refl),
       record {
         grammar = grammar;
         spelled = spelled;
         input = input;
-        of_case = makes formed (keeps_admit []) false;
+        of_case = makes formed admits_all false;
         admits = refl;
         plain = refl;
         is_problem = refl;

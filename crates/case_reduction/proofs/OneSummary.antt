@@ -1,5 +1,5 @@
 -- A program has one summary at most.
-use Rattle.std.proofs.Common.{◌≡◌, ◌∙◌, ℕ, List, [], None, refl, sym, ap, subst}
+use Rattle.std.proofs.Common.{◌≡◌, ◌∙◌, ℕ, List, None, refl, sym, ap, subst}
 use Rattle.std.proofs.lemmas.Option.{same_Some}
 use Rattle.grammar_tree.specs.Written.{CheckedGrammar, TokenKind, WrittenGrammar}
 use Rattle.grammar_tree.specs.Faults.{start_of}
@@ -13,7 +13,7 @@ use Rattle.case_language.specs.Mini.{mini}
 use Rattle.reduce_trees_mode.specs.Input.{TreeInput}
 use Rattle.reduce_step.specs.declared.mode.TreeMode.{TreeMode}
 use Rattle.run_problem.specs.Problem.{Problem, questions_of}
-use Rattle.case_reduction.specs.Summary.{IsCaseProblem, IsSummary, rule_map, summary_text}
+use Rattle.case_reduction.specs.Summary.{IsCaseProblem, IsSummary, admits_all, rule_map, summary_text}
 use Rattle.case_reduction.specs.Laws.{SummariesAreOne}
 use Rattle.case_reduction.proofs.Alike.{rule_says}
 
@@ -47,4 +47,4 @@ summaries_are_one only inputs mode number size one other of also =
     ∙ sym (over also)
   where
     over : {text : List ℕ} (is : IsSummary mode number size text) → text ≡ summary_text is.problem rule_map
-    over is = is.is_summary rule_map (λ t here there. refl) (rule_says (questions_of [] is.problem rule_map))
+    over is = is.is_summary rule_map (λ t here there. refl) (rule_says (questions_of admits_all is.problem rule_map))

@@ -20,6 +20,7 @@ use Rattle.run_gated.specs.declared.fault.RunFault.{RunFault}
 use Rattle.run_gated.specs.declared.ran.Reduced.{Reduced}
 use Rattle.run_gated.specs.declared.fault.RunFault.TheVariants as run_fault
 use Rattle.reduce_step.specs.declared.mode.TreeMode.{TreeMode}
+use Rattle.reduce_core.specs.Reduction.{Admits}
 use Rattle.run_problem.specs.Problem.{IsReductionOf, Problem, counts_of, start_text}
 use Rattle.run_problem.specs.Laws.{ProblemsReduceAlike}
 use Rattle.run_problem.specs.Ends.{IsRunOf, ProblemEnds, ReducesFrom, RunFails}
@@ -28,7 +29,7 @@ use Rattle.run_problem.specs.declared.problem.ReadProblem.{ReadProblem}
 use Rattle.worker_pool.specs.declared.worker.Worker.{Worker}
 use Rattle.case_language.specs.Laws.{CasesGetYes}
 use Rattle.reduce_journal.specs.Report.{first_lines}
-use Rattle.case_reduction.specs.Summary.{IsCaseProblem, IsSummary}
+use Rattle.case_reduction.specs.Summary.{IsCaseProblem, IsSummary, admits_all}
 use Rattle.case_reduction.proofs.Alike.{BySaid, by_rule, over_each}
 use Rattle.case_reduction.proofs.CaseTrees.{begins_with_case}
 
@@ -58,7 +59,7 @@ module _ (mode : TreeMode) (number size : ℕ) (problem : Problem) (of : IsCaseP
   -- it fails only where memory runs out
   pub only_memory : {G : Type 0} (log : G → Option Log) (workers : List (Worker G)) → run.after.gates ≡ seen_gates log (λ _. 0) workers
       → run.after.journal.faults ≡ 0
-      → CasesGetYes → 1 ≤ size → (fault : RunFault) → RunFails [] problem run fault → fault ≡ run_fault.Memory
+      → CasesGetYes → 1 ≤ size → (fault : RunFault) → RunFails admits_all problem run fault → fault ≡ run_fault.Memory
   only_memory log workers gates quiet get_yes some run_fault.NotInteresting why =
       absurd (not_refused (records_of run.history) (recursion_from_All _ (records_of run.history) by) (start_text problem)
       (ap (rule_verdict 23121) (begins_with_case mode number size problem of) ∙ get_yes number size some) why.0.first)
@@ -70,41 +71,42 @@ module _ (mode : TreeMode) (number size : ℕ) (problem : Problem) (of : IsCaseP
   only_memory log workers gates quiet get_yes some run_fault.Memory why = refl
 
   -- the report's first lines and the text are the summary
-  pub is_summary : ProblemsReduceAlike → (text : List ℕ) (counts : Counts) → ReducesFrom run.workers [] problem run.history text counts
+  pub is_summary : ProblemsReduceAlike → (text : List ℕ) (counts : Counts) → ReducesFrom run.workers admits_all problem run.history text counts
       → IsSummary mode number size (first_lines counts ++ text)
   is_summary alike text counts came =
       let records : List Record = records_of run.history in
-      let reduced : IsReductionOf [] (verdict_in records) (Problem.of_tree mode of.input) text =
-      subst (λ (p : Problem). IsReductionOf [] (verdict_in records) p text) of.is_problem came.reduced in
-      let is_counts : counts ≡ counts_of [] (Problem.of_tree mode of.input) records =
-      came.is_counts ∙ ap (λ (p : Problem). counts_of [] p records) of.is_problem in
+      let reduced : IsReductionOf admits_all (verdict_in records) (Problem.of_tree mode of.input) text =
+      subst (λ (p : Problem). IsReductionOf admits_all (verdict_in records) p text) of.is_problem came.reduced in
+      let is_counts : counts ≡ counts_of admits_all (Problem.of_tree mode of.input) records =
+      came.is_counts ∙ ap (λ (p : Problem). counts_of admits_all p records) of.is_problem in
       record {
         problem = Problem.of_tree mode of.input;
         of_case = subst (IsCaseProblem mode number size) of.is_problem of;
-        reduces = by_rule mode of.input (alike [] (Problem.of_tree mode of.input) of.of_case.is_input) records by text reduced;
-        is_summary = over_each mode of.input (alike [] (Problem.of_tree mode of.input) of.of_case.is_input) records by text counts reduced is_counts;
+        reduces = by_rule mode of.input (alike admits_all (Problem.of_tree mode of.input) of.of_case.is_input) records by text reduced;
+        is_summary = over_each mode of.input (alike admits_all (Problem.of_tree mode of.input) of.of_case.is_input) records by text counts reduced is_counts;
       }
 
 -- A run of what was read of the program, without keep texts.
-module _ (mode : TreeMode) (number size : ℕ) (read : ReadProblem) (of : (problem : Problem) × IsReadAs [] read problem × IsCaseProblem mode number size problem)
-    (keeps : List (List ℕ)) (none : keeps ≡ [])
-    (run : Run) (by : BySaid (records_of run.history)) (ran : (one : Problem) → IsReadAs keeps read one → IsRunOf keeps one run) where
-  its_end : ProblemEnds [] of.0 run run.outcome
+module _ (mode : TreeMode) (number size : ℕ) (read : ReadProblem)
+    (of : (problem : Problem) × IsReadAs admits_all read problem × IsCaseProblem mode number size problem)
+    (guard : Admits) (all : guard ≡ admits_all)
+    (run : Run) (by : BySaid (records_of run.history)) (ran : (one : Problem) → IsReadAs guard read one → IsRunOf guard one run) where
+  its_end : ProblemEnds admits_all of.0 run run.outcome
   its_end =
-      subst (λ (k : List (List ℕ)). ProblemEnds k of.0 run run.outcome) none
-      (ran of.0 (subst (λ (k : List (List ℕ)). IsReadAs k read of.0) (sym none) of.1)).ends
+      subst (λ (a : Admits). ProblemEnds a of.0 run run.outcome) all
+      (ran of.0 (subst (λ (a : Admits). IsReadAs a read of.0) (sym all) of.1)).ends
 
   pub ends_with_summary : ProblemsReduceAlike → (reduced : Reduced) → run.outcome ≡ Ok reduced
       → IsSummary mode number size (first_lines reduced.counts ++ reduced.text.items)
   ends_with_summary alike reduced is =
-      let end = subst (ProblemEnds [] of.0 run) is its_end in
+      let end = subst (ProblemEnds admits_all of.0 run) is its_end in
       is_summary mode number size of.0 of.2 run by alike reduced.text.items reduced.counts end.0
 
   pub ends_in_memory : {G : Type 0} (log : G → Option Log) (workers : List (Worker G)) → run.after.gates ≡ seen_gates log (λ _. 0) workers
       → run.after.journal.faults ≡ 0
       → CasesGetYes → 1 ≤ size → (fault : RunFault) → run.outcome ≡ Err fault → fault ≡ run_fault.Memory
   ends_in_memory log workers gates quiet get_yes some fault is =
-      only_memory mode number size of.0 of.2 run by log workers gates quiet get_yes some fault (subst (ProblemEnds [] of.0 run) is its_end)
+      only_memory mode number size of.0 of.2 run by log workers gates quiet get_yes some fault (subst (ProblemEnds admits_all of.0 run) is its_end)
 
 -- a text that is answered is this one
 pub answered : {X E : Type 0} (answer : Result X E) (items : X → List ℕ) (text : List ℕ) (P : List ℕ → Type 0) → IfOk answer (λ x. items x ≡ text) → P text

@@ -1,12 +1,12 @@
 //! The reduction.
 
-ghost use Rattle.std.specs.Prelude.{◌≡◌, ◌≤◌, [], None, IfOk};
+ghost use Rattle.std.specs.Prelude.{◌≡◌, ◌≤◌, None, IfOk};
 ghost use Rattle.grammar_load.specs.Answer.{Spells};
 ghost use Rattle.case_maker.specs.Mini.{mini_text};
 ghost use Rattle.run_gated.specs.declared.fault.RunFault.TheVariants.{Memory as OutOfMemory};
 ghost use Rattle.run_problem.specs.Problem.{Problem};
 ghost use Rattle.run_problem.specs.Read.{IsReadAs, IsReady};
-ghost use Rattle.case_reduction.specs.Summary.{IsCaseProblem, IsSummary};
+ghost use Rattle.case_reduction.specs.Summary.{IsCaseProblem, IsSummary, admits_all};
 
 use crate::summary::summary;
 use case_language::{cases_are_in_language, cases_get_yes, mini_is_spelled};
@@ -51,7 +51,7 @@ fn case_problem(
     requires least { 1 ≤ size }
     requires most { size ≤ 1500 }
     ensures ready { IfOk result IsReady }
-    ensures case { IfOk result (λ read. (problem : Problem) × IsReadAs [] read problem × IsCaseProblem mode number size problem) }
+    ensures case { IfOk result (λ read. (problem : Problem) × IsReadAs admits_all read problem × IsCaseProblem mode number size problem) }
 {
     cases_are_in_language();
     cases_are_short();

@@ -13,7 +13,7 @@ use Rattle.command_ends.specs.declared.status.NamedFile.{NamedFile}
 use Rattle.command_ends.specs.declared.status.NamedFile.TheVariants as read
 use Rattle.command_ends.specs.declared.status.Refusal.{Refusal}
 use Rattle.command_ends.specs.declared.status.Refusal.TheVariants.{Memory, Usage, CannotRead, CannotWrite, Grammar, Uncut, NoParse}
-use Rattle.command_ends.specs.declared.status.Refusal.TheVariants.{NotInteresting, KeepMissing, TooLong, Script, Journal}
+use Rattle.command_ends.specs.declared.status.Refusal.TheVariants.{NotInteresting, KeepMissing, TooLong, Script, Journal, BeyondLines}
 use Rattle.command_ends.specs.World.{PutsPrefix, CallFailed, FilesKept, IsQuiet, Puts, PutsLine, SeenFiles, SeenOut, line_of_text}
 
 -- how a line names a file that is read
@@ -29,6 +29,10 @@ fault_line text = line_of_text (codes "grammar: " ++ text)
 -- the text for an input in which keep text `number`, counted from 1, doesn't occur
 abbrev pub keep_text : ℕ → List ℕ
 keep_text number = codes "keep text " ++ (decimal number ++ codes " is missing")
+
+-- the text where an option names this line, counted from 1, of an input that has only so many
+abbrev pub beyond_text : ℕ → ℕ → List ℕ
+beyond_text line lines = codes "line " ++ (decimal line ++ (codes " is beyond line " ++ decimal lines))
 
 -- the text for a call that failed of the gate of this worker
 abbrev pub script_text : ℕ → List ℕ
@@ -52,6 +56,7 @@ ending_of (KeepMissing line) = (9, string_bytes line)
 ending_of (TooLong file) = (10, line_of_text (word_for file ++ codes " is too long"))
 ending_of (Script line) = (11, line.bytes)
 ending_of Journal = (12, line_of_text (codes "journal fault"))
+ending_of (BeyondLines line) = (16, string_bytes line)
 
 abbrev pub status_of : Refusal → ℕ
 status_of refusal = (ending_of refusal).0
@@ -123,3 +128,9 @@ abbrev pub IsKeepRefusal : ℕ → Refusal → Type 0
 IsKeepRefusal number Memory = Unit {0}
 IsKeepRefusal number (KeepMissing line) = string_bytes line ≡ line_of_text (keep_text number)
 IsKeepRefusal number _ = ⊥
+
+-- the refusal where an option names this line of an input that has only so many, or out of memory
+abbrev pub IsBeyondRefusal : ℕ → ℕ → Refusal → Type 0
+IsBeyondRefusal line lines Memory = Unit {0}
+IsBeyondRefusal line lines (BeyondLines text) = string_bytes text ≡ line_of_text (beyond_text line lines)
+IsBeyondRefusal line lines _ = ⊥

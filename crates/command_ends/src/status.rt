@@ -2,7 +2,7 @@
 
 ghost use Rattle.std.specs.Prelude.{◌≡◌};
 ghost use Rattle.grammar_load.specs.Message.{grammar_fault_text};
-ghost use Rattle.command_ends.specs.Status.{IsGrammarRefusal, IsInputRefusal, IsKeepRefusal, line_of, script_text, status_of};
+ghost use Rattle.command_ends.specs.Status.{IsBeyondRefusal, IsGrammarRefusal, IsInputRefusal, IsKeepRefusal, line_of, script_text, status_of};
 ghost use Rattle.command_ends.specs.World.{line_of_text};
 
 use arrayvec::ArrayString;
@@ -50,6 +50,8 @@ pub enum Refusal {
     Script(ArrayString<64>),
     /// The journal can't be written.
     Journal,
+    /// A line that an option names is beyond the last of the input, which this line says.
+    BeyondLines(String),
 }
 
 /// The line for a call that failed of the gate of this worker. It takes no memory, so that a fault of a
@@ -103,6 +105,17 @@ impl Refusal {
         }
     }
 
+    /// The refusal where an option names this line, counted from 1, of an input that has fewer; `Memory`
+    /// where memory runs out.
+    pub fn of_beyond(alloc: Global, line: u64, lines: u64) -> Refusal
+        ensures { IsBeyondRefusal line lines result }
+    {
+        match format!(in alloc; "perses: line {line} is beyond line {lines}\n") {
+            Ok(line) => Refusal::BeyondLines(line),
+            Err(_) => Refusal::Memory,
+        }
+    }
+
     /// The status that the program ends with, and the line that it puts on `out`.
     pub fn ending(&self) -> (u8, &str)
         ensures status { result.0 ≡ status_of self.now }
@@ -125,6 +138,7 @@ impl Refusal {
             Refusal::TooLong(NamedFile::Lexer) => (10, "perses: lexer grammar is too long\n"),
             Refusal::Script(line) => (11, line.as_str()),
             Refusal::Journal => (12, "perses: journal fault\n"),
+            Refusal::BeyondLines(line) => (16, line.as_str()),
         }
     }
 }

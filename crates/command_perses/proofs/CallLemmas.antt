@@ -46,6 +46,7 @@ module _ (may_say : List ℕ → Verdict → Type 0) (old : World) (out : SeenOu
         no_token = λ g is shown. refl;
         unparsed = λ g is shown. refl;
         keep_missing = λ shown. refl;
+        beyond = λ shown. refl;
         complete = λ shown files_fine gate_fine journal_fine out_fine. refl;
         first_no = λ first_no. refl;
         first_no_alone = λ alone first_no. refl;
@@ -103,7 +104,7 @@ refused_status out out' status command _ why end = absurd why
 pub reduce_not_usage : (options : ReduceOptions) (may_say : List ℕ → Verdict → Type 0) (old new : World) (status : ℕ) → Reduces options may_say old new status
     → status ≢ 2
 reduce_not_usage options may_say old new status runs two =
-    false≢true (subst (IsOneOf (0 ∷ 1 ∷ 3 ∷ 4 ∷ 5 ∷ 6 ∷ 7 ∷ 8 ∷ 9 ∷ 10 ∷ 11 ∷ 12 ∷ [])) two
+    false≢true (subst (IsOneOf (0 ∷ 1 ∷ 3 ∷ 4 ∷ 5 ∷ 6 ∷ 7 ∷ 8 ∷ 9 ∷ 10 ∷ 11 ∷ 12 ∷ 16 ∷ [])) two
     (reduce_by_status options runs.history old new status runs.ends).known)
 
 pub normal_not_usage : (grammar : GrammarSource) (files files' : SeenFiles) (out out' : SeenOut) (status : ℕ)

@@ -1,6 +1,6 @@
 -- The headline, from how `reduce` ends.
 use Rattle.std.proofs.Common.{◌≡◌, ◌≢◌, ◌⊎◌, ◌∙◌, inl, inr, ⊎_elim, ℕ, List, [], ◌∷◌, Option, Some, None, IsSome, true, refl, sym, ap, subst}
-use Rattle.std.proofs.lemmas.Bool.{false≢true}
+use Rattle.std.proofs.lemmas.Bool.{and_parts, false≢true}
 use Rattle.std.proofs.lemmas.Option.{same_Some}
 use Rattle.edge_io.specs.Files.{FileContent, Holds}
 use Rattle.script_gate_trait.specs.declared.gate.Verdict.{Verdict}
@@ -23,6 +23,8 @@ use Rattle.command_grammar.proofs.Lent.{one_grammar}
 use Rattle.command_ends.specs.Status.{IsOneOf}
 use Rattle.command_ends.specs.World.{Puts, SeenFiles, World}
 use Rattle.command_reduce_calls.specs.Journal.{JournalSoFar}
+use Rattle.command_reduce_calls.specs.Stays.{AcceptsStart}
+use Rattle.command_reduce.specs.Reduce.{admits_of}
 use Rattle.command_reduce.specs.Reduce.{IsHistoryOfInput, IsShownProblem, ProblemAccepted, ReadIn, ReduceEnds, ReduceMustEnd, Reduces, ReducesTo}
 use Rattle.command_reduce.specs.Reduce.ReduceEnds.{done, memory, script, uninteresting, unput, unwritten}
 use Rattle.command_reduce.specs.ReduceByStatus.{ReduceMeans}
@@ -68,17 +70,18 @@ module _ (options : ReduceOptions) (files : SeenFiles) where
 
   the_problem : (P : Problem → Type 0) → ProblemAccepted options files P → (problem : Problem) × IsProblemOf options files problem × P problem
   the_problem P accepted =
-      let Kept : Problem → Type 0 = λ problem. (holds_all options.keeps (start_text problem) ≡ true) × P problem in
+      let Kept : Problem → Type 0 = λ problem. AcceptsStart options (start_text problem) × P problem in
       let it : (problem : Problem) × ReadIn options.mode options files (λ one. one ≡ problem) × Kept problem = known_in options.mode Kept accepted in
-      (it.0, record { read = it.1; kept = it.2.0; only = λ visible other read. one_in options.mode it.0 other visible it.1 read }, it.2.1)
+      (it.0, record { read = it.1; accepted = it.2.0; only = λ visible other read. one_in options.mode it.0 other visible it.1 read }, it.2.1)
 
   -- that of a history; without one any will do
   problem_of : (history : History) → IsHistoryOfInput options files history
-      → (problem : Problem) × (history ≢ [] → IsProblemOf options files problem) × AreOf options.jobs options.keeps problem history
-  problem_of [] are = (Problem.of_lines [], λ some. absurd (some refl), none_of options.jobs options.keeps (Problem.of_lines []) [] refl)
+      → (problem : Problem) × (history ≢ [] → IsProblemOf options files problem) × AreOf options.jobs (admits_of options problem) problem history
+  problem_of [] are =
+      (Problem.of_lines [], λ some. absurd (some refl), none_of options.jobs (admits_of options (Problem.of_lines [])) (Problem.of_lines []) [] refl)
   problem_of (event ∷ history) are =
-      let it : (problem : Problem) × IsProblemOf options files problem × AreOf options.jobs options.keeps problem (event ∷ history) =
-      the_problem (λ problem. AreOf options.jobs options.keeps problem (event ∷ history)) are in
+      let it : (problem : Problem) × IsProblemOf options files problem × AreOf options.jobs (admits_of options problem) problem (event ∷ history) =
+      the_problem (λ problem. AreOf options.jobs (admits_of options problem) problem (event ∷ history)) are in
       (it.0, λ some. it.1, it.2)
 
 -- ---- the result
@@ -92,7 +95,7 @@ module _ (options : ReduceOptions) (history : History) (old new : World) where
   record ResultOf (problem : Problem) (status : ℕ) : Type 0 where
     text : List ℕ
     counts : Counts
-    reduces : ReducesFrom options.jobs options.keeps problem history text counts
+    reduces : ReducesFrom options.jobs (admits_of options problem) problem history text counts
     written : WasWritten old.files new.files status → Holds text (new.files.shown options.output)
     report : status ≡ 0 → Puts (report_text counts) old.out new.out
 
@@ -100,15 +103,15 @@ module _ (options : ReduceOptions) (history : History) (old new : World) where
   record HasCome (status : ℕ) : Type 0 where
     problem : Problem
     of_files : IsProblemOf options old.files problem
-    are : AreOf options.jobs options.keeps problem history
+    are : AreOf options.jobs (admits_of options problem) problem history
     result : ResultOf problem status
 
   come : {status : ℕ} (text report : List ℕ) → ReducesTo options old.files history text report
       → (WasWritten old.files new.files status → Holds text (new.files.shown options.output)) → (status ≡ 0 → Puts report old.out new.out) → HasCome status
   come text report reduces written put =
       let P : Problem → Type 0 =
-      λ problem. (counts : Counts) × ReducesFrom options.jobs options.keeps problem history text counts × (report ≡ report_text counts)
-      × AreOf options.jobs options.keeps problem history in
+      λ problem. (counts : Counts) × ReducesFrom options.jobs (admits_of options problem) problem history text counts × (report ≡ report_text counts)
+      × AreOf options.jobs (admits_of options problem) problem history in
       let it : (problem : Problem) × IsProblemOf options old.files problem × P problem = the_problem options old.files P reduces in
       record {
         problem = it.0;
@@ -142,7 +145,7 @@ module _ (options : ReduceOptions) (history : History) (old new : World) where
   -- the run succeeds
   done_at : {status : ℕ} → ReduceEnds options history old new status → ReduceMustEnd options (records_of history) old new status
       → (status ≡ 8 → OnlyNo (records_of history))
-      → IsShownProblem options old.files (λ start. holds_all options.keeps start ≡ true) → NoCallFailed options.jobs old new
+      → IsShownProblem options old.files (AcceptsStart options) → NoCallFailed options.jobs old new
       → (status ≡ 0) ⊎ ((status ≡ 8) × OnlyNo (records_of history)) ⊎ (status ≡ 1)
   done_at (done report writes put) must refused shown quiet = inl refl
   done_at (memory files gates_quiet kept put) must refused shown quiet = inr (inr refl)
@@ -159,7 +162,7 @@ module _ (one_history : BytesHaveOneHistory) (bounded : AnswersAreBounded) (may_
   means : ReduceMeans options history old new status
   means = reduce_by_status options history old new status runs.ends
 
-  headline_at : (problem : Problem) → (history ≢ [] → IsProblemOf options old.files problem) → AreOf options.jobs options.keeps problem history
+  headline_at : (problem : Problem) → (history ≢ [] → IsProblemOf options old.files problem) → AreOf options.jobs (admits_of options problem) problem history
       → (HasResult status → ResultOf options history old new problem status) → Headline may_say options old new status
   headline_at problem of_files are result = record {
     history = history;
@@ -180,7 +183,7 @@ module _ (one_history : BytesHaveOneHistory) (bounded : AnswersAreBounded) (may_
     first = are.first;
     ends_at_no = are.ends_at_no;
     legal = are.legal;
-    bounded = bounded.of_questions history (questions_over options.keeps problem history) are.readable are.legal;
+    bounded = bounded.of_questions history (questions_over (admits_of options problem) problem history) are.readable are.legal;
     alone = are.sequential;
     written = λ was.
         let it = result (has_written old.files new.files status was) in
@@ -192,8 +195,13 @@ module _ (one_history : BytesHaveOneHistory) (bounded : AnswersAreBounded) (may_
     ended = λ has. (result has).reduces.committed;
     whole = λ has. (result has).reduces.whole;
     yes_at_end = λ has. let it = (result has).reduces.reduced in subst (λ (text : List ℕ). verdicts_of history text ≡ Some Yes) it.is_text it.yes_at_end;
-    candidate = λ has. let it = (result has).reduces.reduced in subst (λ (text : List ℕ). IsCandidateOf options.keeps problem text) it.is_text it.candidate;
-    keeps = λ has. let it = (result has).reduces.reduced in subst (λ (text : List ℕ). holds_all options.keeps text ≡ true) it.is_text it.keeps_stay;
+    candidate = λ has.
+        let it = (result has).reduces.reduced in
+        subst (λ (text : List ℕ). IsCandidateOf (admits_of options problem) problem text) it.is_text it.candidate;
+    keeps = λ has.
+        let it = (result has).reduces.reduced in
+        subst (λ (text : List ℕ). holds_all options.keeps text ≡ true) it.is_text (and_parts _ _ it.admitted).0;
+    protected = λ has. (and_parts _ _ (result has).reduces.reduced.admitted).1;
     minimal = λ has. (result has).reduces.reduced.minimal;
     report = λ is.
         let it = result (subst HasResult (sym is) refl) in

@@ -14,13 +14,15 @@ use Rattle.reduce_rounds.specs.Verdicts.{HasVerdicts}
 use Rattle.run_gated.specs.Records.{BeginsAt, FirstIs, FirstIsNo, OnlyNo}
 use Rattle.run_problem.specs.Committed.{IsPrefix, committed_texts, questions_over, thread_over}
 use Rattle.run_problem.specs.Laws.{answer_count}
-use Rattle.run_problem.specs.Problem.{EndsMinimally, IsCandidateOf, Problem, counts_of, reduced_text, start_text}
+use Rattle.line_guard.specs.MustStay.{keeps_numbers}
+use Rattle.run_problem.specs.Problem.{EndsMinimally, IsCandidateOf, Problem, counts_of, reduced_numbers, reduced_text, start_text}
 use Rattle.command_words.specs.Commands.{ModeOptions, ReduceOptions}
 use Rattle.command_grammar.specs.Texts.{GrammarIsVisible}
 use Rattle.command_ends.specs.Status.{IsOneOf}
 use Rattle.command_ends.specs.World.{AnyGateFailed, CallFailed, NotReached, Puts, SeenFiles, World, logs_of}
 use Rattle.command_reduce_calls.specs.Journal.{JournalBroken, JournalSoFar, JournalWhole}
-use Rattle.command_reduce.specs.Reduce.{GatesWereUsed, IsShownProblem, ProblemRead}
+use Rattle.command_reduce_calls.specs.Stays.{AcceptsStart}
+use Rattle.command_reduce.specs.Reduce.{GatesWereUsed, IsShownProblem, ProblemRead, admits_of, numbers_stay}
 
 -- the content is visible of the files that are read
 abbrev pub AreVisible : ModeOptions → ReduceOptions → SeenFiles → Type 0
@@ -28,10 +30,10 @@ AreVisible ModeOptions.lines options files = IsSome (files.shown options.input)
 AreVisible (ModeOptions.by_grammar trees) options files = GrammarIsVisible trees.grammar files × IsSome (files.shown options.input)
 
 -- The problem is that of the files: the lines of the input; or its tree, by the grammar that its file spells, or the files of its lexer and its parser.
--- Each keep text occurs in its start. Where the files are visible, they have no other.
+-- Each keep text occurs in its start, which has the lines that are named. Where the files are visible, they have no other.
 pub record IsProblemOf (options : ReduceOptions) (files : SeenFiles) (problem : Problem) : Type 0 where
   pub read : ProblemRead options files (λ one. one ≡ problem)
-  pub kept : holds_all options.keeps (start_text problem) ≡ true
+  pub accepted : AcceptsStart options (start_text problem)
   pub only : AreVisible options.mode options files → (other : Problem) → ProblemRead options files (λ one. one ≡ other) → other ≡ problem
 
 -- the recorded verdicts; and the text that the recursive reduction ends with over them
@@ -39,7 +41,11 @@ abbrev pub verdicts_of : History → List ℕ → Option Verdict
 verdicts_of history = verdict_in (records_of history)
 
 abbrev pub result_text : ReduceOptions → Problem → History → List ℕ
-result_text options problem history = reduced_text options.keeps problem (verdicts_of history)
+result_text options problem history = reduced_text (admits_of options problem) problem (verdicts_of history)
+
+-- the numbers, from 0, of its lines or tokens
+abbrev pub result_numbers : ReduceOptions → Problem → History → List ℕ
+result_numbers options problem history = reduced_numbers (admits_of options problem) problem (verdicts_of history)
 
 -- the reduction came to its result: status 0 or 4
 abbrev pub HasResult : ℕ → Type 0
@@ -72,13 +78,15 @@ pub record Headline (may_say : List ℕ → Verdict → Type 0) (options : Reduc
   pub files_kept : status ≢ 0 → status ≢ 4 → SameFiles old.files.shown new.files.shown
   -- the start's verdict is yes, and each text that the reduction asks has one
   pub start_yes : HasResult status → FirstIs (start_text problem) Yes (records_of history)
-  pub defined : HasResult status → HasVerdicts (verdicts_of history) (questions_over options.keeps problem history)
+  pub defined : HasResult status → HasVerdicts (verdicts_of history) (questions_over (admits_of options problem) problem history)
   -- the result's verdict is yes; it is a candidate too, with each keep text
   pub yes_at_end : HasResult status → verdicts_of history (result_text options problem history) ≡ Some Yes
-  pub candidate : HasResult status → IsCandidateOf options.keeps problem (result_text options problem history)
+  pub candidate : HasResult status → IsCandidateOf (admits_of options problem) problem (result_text options problem history)
   pub keeps : HasResult status → holds_all options.keeps (result_text options problem history) ≡ true
+  -- and it keeps the lines or tokens that must stay
+  pub protected : HasResult status → keeps_numbers (result_numbers options problem history) (numbers_stay options problem) ≡ true
   -- no single edit of it has a yes: each that may be asked has its recorded no
-  pub minimal : HasResult status → EndsMinimally options.keeps problem (verdicts_of history)
+  pub minimal : HasResult status → EndsMinimally (admits_of options problem) problem (verdicts_of history)
   -- ---- the verdicts
   -- each is one that a gate may say of its text, and only `ask` gives it
   pub said : All (λ r. may_say r.text r.verdict) (records_of history)
@@ -88,8 +96,9 @@ pub record Headline (may_say : List ℕ → Verdict → Type 0) (options : Reduc
   -- The others are as handed in
   pub asked : GatesWereUsed options (texts_of (records_of history)) (logs_of old.gates) (logs_of new.gates) old.journal new.journal
   pub other_gates : drop options.jobs new.gates ≡ drop options.jobs old.gates
-  -- each text is of some of the start's lines or tokens, in the language of the grammar as it is written, and has each keep text
-  pub candidates : All (λ r. IsCandidateOf options.keeps problem r.text) (records_of history)
+  -- each text is of some of the start's lines or tokens, those that must stay among them, in the language of the grammar as it is written, and has each
+  -- keep text
+  pub candidates : All (λ r. IsCandidateOf (admits_of options problem) problem r.text) (records_of history)
   -- none is longer than the start
   pub short : All (λ r. length r.text ≤ length (start_text problem)) (records_of history)
   -- the first is the start, and after its no nothing was asked
@@ -109,16 +118,17 @@ pub record Headline (may_say : List ℕ → Verdict → Type 0) (options : Reduc
   pub readable : IsHistory history
   pub only : (other : History) → IsHistory other → journal_text other ≡ journal_text history → other ≡ history
   -- the texts of the earlier records that the commits name are what the reduction asks, in its order, from the first on; so there are no more
-  pub legal : IsPrefix (committed_texts history) (questions_over options.keeps problem history)
-  pub bounded : answer_count history ≤ length (questions_over options.keeps problem history)
+  pub legal : IsPrefix (committed_texts history) (questions_over (admits_of options problem) problem history)
+  pub bounded : answer_count history ≤ length (questions_over (admits_of options problem) problem history)
   -- where there is a result, they are all of them
-  pub ended : HasResult status → committed_texts history ≡ questions_over options.keeps problem history
+  pub ended : HasResult status → committed_texts history ≡ questions_over (admits_of options problem) problem history
   -- by one worker the history is a beginning of what one thread does that asks these texts; where there is a result, all of it
-  pub alone : options.jobs ≡ 1 → IsPrefix history (thread_over options.keeps problem history)
-  pub whole : HasResult status → options.jobs ≡ 1 → history ≡ thread_over options.keeps problem history
+  pub alone : options.jobs ≡ 1 → IsPrefix history (thread_over (admits_of options problem) problem history)
+  pub whole : HasResult status → options.jobs ≡ 1 → history ≡ thread_over (admits_of options problem) problem history
   -- at 0 the report was put on `out`, and nothing else
-  pub report : status ≡ 0 → Puts (report_text (counts_of options.keeps problem (records_of history))) old.out new.out
+  pub report : status ≡ 0 → Puts (report_text (counts_of (admits_of options problem) problem (records_of history))) old.out new.out
   -- ---- the run succeeds
-  -- where the input is one of its mode, with each keep text, and no call failed; unless its only verdict is no (8), or memory ran out (1)
-  pub succeeds : IsShownProblem options old.files (λ start. holds_all options.keeps start ≡ true) → NoCallFailed options.jobs old new
+  -- where the input is one of its mode, with each keep text and the lines that are named, and no call failed;
+  -- unless its only verdict is no (8), or memory ran out (1)
+  pub succeeds : IsShownProblem options old.files (AcceptsStart options) → NoCallFailed options.jobs old new
       → (status ≡ 0) ⊎ ((status ≡ 8) × OnlyNo (records_of history)) ⊎ (status ≡ 1)

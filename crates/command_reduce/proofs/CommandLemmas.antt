@@ -1,13 +1,15 @@
 -- How the steps of `reduce` end it.
-use Rattle.std.proofs.Common.{◌≡◌, inl, inr, ℕ, List, [], ◌∷◌, true, drop, refl, sym, ap, ◌∙◌, subst, ⊎_elim, Result, Ok, Err, MatchResult}
+use Rattle.std.proofs.Common.{◌≡◌, inl, inr, ℕ, List, [], ◌∷◌, drop, refl, sym, ap, ◌∙◌, subst, ⊎_elim, Result, Ok, Err, MatchResult}
 use Rattle.std.specs.Global.{Vec}
 use Rattle.faults.specs.Count.{Rose}
-use Rattle.keep_guard.specs.Keep.{holds_all}
+use Rattle.reduce_core.specs.Reduction.{Admits}
+use Rattle.line_guard.specs.MustStay.{Stays, stays_admit}
+use Rattle.command_reduce_calls.specs.Stays.{AcceptsStart}
 use Rattle.edge_io.specs.Files.{SameFiles}
 use Rattle.script_gate_trait.specs.declared.gate.Verdict.{Verdict}
 use Rattle.reduce_trees_input.specs.Laws.{InputFaultOnce, InputsAreInLanguage}
 use Rattle.command_ends.specs.declared.status.Refusal.{Refusal}
-use Rattle.command_ends.specs.declared.status.Refusal.TheVariants.{Memory, CannotRead, CannotWrite, Grammar, KeepMissing, NoParse, TooLong, Uncut}
+use Rattle.command_ends.specs.declared.status.Refusal.TheVariants.{Memory, CannotRead, CannotWrite, Grammar, KeepMissing, BeyondLines, NoParse, TooLong, Uncut}
 use Rattle.run_problem.specs.Problem.{Problem, start_text}
 use Rattle.run_problem.specs.Ends.{AreOf, IsRefused, IsRunOf, IsUnfinished, ProblemEnds, ReducesFrom, RunFails}
 use Rattle.run_problem.specs.Read.{IsReadAs, start_read}
@@ -22,20 +24,21 @@ use Rattle.run_gated.specs.Run.{Run}
 use Rattle.script_gate_trait.specs.declared.gate.GateFault.{GateFault}
 use Rattle.script_gate_trait.specs.declared.gate.GateFault.TheVariants.{Failed as GateFailed, Memory as GateMemory}
 use Rattle.command_reduce.specs.Reduce.{GateUnopened, IsHistoryOfInput, ProblemAccepted, ProblemRead, RecordsAreSound, ReduceEnds, Reduces, ReducesTo}
+use Rattle.command_reduce.specs.Reduce.{admits_of}
 use Rattle.command_reduce.specs.inner.Reduce.{Inside, ProblemFails, ReduceFails, ReduceReports, ReduceSteps, beside}
 use Rattle.command_reduce_calls.specs.Journal.{JournalSoFar, JournalWhole}
-use Rattle.command_reduce.specs.inner.Read.{AcceptFails, KeepRefused}
+use Rattle.command_reduce.specs.inner.Read.{AcceptFails, StaysRefused, admits_read, stays_read}
 use Rattle.command_reduce.specs.inner.Run.{IsSoundStarted, JournalAfter, StartLeaves, Unopened}
 use Rattle.command_reduce_calls.specs.Calls.{WriteEnds}
 use Rattle.command_reduce.specs.Reduce.ReduceEnds.{done, memory, unread, unwritten, faulty, no_token, unparsed}
-use Rattle.command_reduce.specs.Reduce.ReduceEnds.{uninteresting, unput, keep_missing, too_long, script, journal}
+use Rattle.command_reduce.specs.Reduce.ReduceEnds.{uninteresting, unput, keep_missing, beyond, too_long, script, journal}
 use Rattle.run_gated.specs.declared.fault.RunFault.{RunFault}
 use Rattle.run_gated.specs.declared.fault.RunFault.TheVariants as run_fault
 use Rattle.command_ends.specs.Status.{EndsRefused, EndsWithAnswer, ending_of, ending_of_run}
 use Rattle.command_words.specs.Commands.{ReduceOptions}
 use Rattle.command_ends.specs.World.{AreQuiet, FilesKept, fault_counts_of, logs_of, IsQuiet, PutsLine, NotReached, SeenFiles, SeenGate, SeenOut}
 use Rattle.command_reduce.proofs.MustEndLemmas.{must_end}
-use Rattle.command_reduce.proofs.ProblemLemmas.{accepted_as, any_problem, problem_map}
+use Rattle.command_reduce.proofs.ProblemLemmas.{accepted_as, any_problem, problem_map, stays_as}
 use Rattle.command_reduce.proofs.UsedLemmas.{none_sound}
 use Rattle.command_reduce.proofs.LentLemmas.{AreFirst, all_quiet, one_failed, one_unopened, sound_among}
 
@@ -45,7 +48,7 @@ no_history options files history none = subst (IsHistoryOfInput options files) (
 
 -- that of a problem that was accepted
 history_of : (options : ReduceOptions) (files : SeenFiles) (history : History)
-    → ProblemAccepted options files (λ problem. AreOf options.jobs options.keeps problem history) → IsHistoryOfInput options files history
+    → ProblemAccepted options files (λ problem. AreOf options.jobs (admits_of options problem) problem history) → IsHistoryOfInput options files history
 history_of options files [] are = tt
 history_of options files (event ∷ history) are = are
 
@@ -76,10 +79,12 @@ module _ (options : ReduceOptions) (may_say : List ℕ → Verdict → Type 0) (
     kept : FilesKept old.files new.files
     kept = record { same = same; quiet = quiet }
 
-    keep_at : (refusal : Refusal) → KeepRefused options old.files refusal → ReduceFails options history old new refusal
-    keep_at Memory why = λ out out' put. memory kept (λ alone. gates_quiet) so_far put
-    keep_at (KeepMissing line) why = λ out out' put. keep_missing why.0 why.1 kept (untouched out out') (subst (λ l. PutsLine l out out') why.2 put)
-    keep_at _ why = absurd why
+    stays_at : (refusal : Refusal) → StaysRefused options old.files refusal → ReduceFails options history old new refusal
+    stays_at Memory why = λ out out' put. memory kept (λ alone. gates_quiet) so_far put
+    stays_at (KeepMissing line) why = λ out out' put. keep_missing why.0 why.1 kept (untouched out out') (subst (λ l. PutsLine l out out') why.2 put)
+    stays_at (BeyondLines line) why =
+        λ out out' put. beyond why.0 why.1 why.2 kept (untouched out out') (subst (λ l. PutsLine l out out') why.3 put)
+    stays_at _ why = absurd why
 
   -- there is no problem, or it wasn't accepted
   pub stops_accept : (refusal : Refusal) → AcceptFails options old.files new.files refusal → ReduceSteps options may_say history old new (Err refusal)
@@ -89,14 +94,14 @@ module _ (options : ReduceOptions) (may_say : List ℕ → Verdict → Type 0) (
         (ap logs_of same_gates) same_journal;
     of_input = no_history options old.files history none;
     others = ap (drop options.jobs) same_gates;
-    ends = ⊎_elim (λ problem. problem_at refusal problem) (λ keep. keep_at keep.0 refusal keep.1) why;
+    ends = ⊎_elim (λ problem. problem_at refusal problem) (λ stays. stays_at stays.0 refusal stays.1) why;
   }
 
 -- a problem was accepted, and its run ended, which used these gates
 module _ (options : ReduceOptions) (may_say : List ℕ → Verdict → Type 0) (history : History) (old new : Inside) (part part' : List SeenGate)
     (first : AreFirst options part part' old.gates new.gates)
     (sound : RecordsAreSound options may_say (records_of history) (logs_of part) (logs_of part') old.journal new.journal)
-    (are : ProblemAccepted options old.files (λ problem. AreOf options.jobs options.keeps problem history)) where
+    (are : ProblemAccepted options old.files (λ problem. AreOf options.jobs (admits_of options problem) problem history)) where
   -- the run, by what it answered
   abbrev run_to : Result Reduced RunFault → Run
   run_to outcome = record {
@@ -107,17 +112,17 @@ module _ (options : ReduceOptions) (may_say : List ℕ → Verdict → Type 0) (
     outcome = outcome;
   }
 
-  some : (P : Problem → Type 0) → ProblemAccepted options old.files P → (problem : Problem) × ((holds_all options.keeps (start_text problem) ≡ true) × P problem)
-  some P read = any_problem options old.files (λ problem. (holds_all options.keeps (start_text problem) ≡ true) × P problem) read
+  some : (P : Problem → Type 0) → ProblemAccepted options old.files P → (problem : Problem) × (AcceptsStart options (start_text problem) × P problem)
+  some P read = any_problem options old.files (λ problem. AcceptsStart options (start_text problem) × P problem) read
 
   but : (P Q : Problem → Type 0) → ((problem : Problem) → P problem → Q problem) → ProblemAccepted options old.files P → ProblemAccepted options old.files Q
   but P Q then read =
-      problem_map options old.files (λ problem. (holds_all options.keeps (start_text problem) ≡ true) × P problem)
-      (λ problem. (holds_all options.keeps (start_text problem) ≡ true) × Q problem)
+      problem_map options old.files (λ problem. AcceptsStart options (start_text problem) × P problem)
+      (λ problem. AcceptsStart options (start_text problem) × Q problem)
       (λ problem is. (is.0, then problem is.1)) read
 
   abbrev Fails : RunFault → Problem → Type 0
-  Fails fault problem = RunFails options.keeps problem (run_to (Err fault)) fault
+  Fails fault problem = RunFails (admits_of options problem) problem (run_to (Err fault)) fault
 
   -- it ends with this status and this line, whatever becomes of the line
   abbrev EndsBy : ℕ × List ℕ → Type 0
@@ -126,17 +131,19 @@ module _ (options : ReduceOptions) (may_say : List ℕ → Verdict → Type 0) (
   -- the history is one of the problem, which reduces to this
   abbrev Comes : Reduced → Problem → Type 0
   Comes reduced problem =
-      AreOf options.jobs options.keeps problem history × ReducesFrom options.jobs options.keeps problem history reduced.text.items reduced.counts
+      AreOf options.jobs (admits_of options problem) problem history
+      × ReducesFrom options.jobs (admits_of options problem) problem history reduced.text.items reduced.counts
 
   abbrev Waits : Problem → Type 0
-  Waits problem = options.jobs ≡ 1 → IsUnfinished options.keeps problem history
+  Waits problem = options.jobs ≡ 1 → IsUnfinished (admits_of options problem) problem history
 
   -- without a reduction
   fault_at : (fault : RunFault) → FilesKept old.files new.files → ProblemAccepted options old.files (Fails fault)
       → JournalAfter {A = Reduced} options.jobs options.journal history old.journal new.journal (Err fault) → EndsBy (ending_of_run fault)
   fault_at run_fault.Memory kept why ends = λ out out' put. memory kept (λ alone. all_quiet first ((some (Fails run_fault.Memory) why).1.1.1 alone)) ends put
   fault_at run_fault.NotInteresting kept why ends = λ out out' put.
-      uninteresting (but (Fails run_fault.NotInteresting) (λ problem. IsRefused options.jobs options.keeps problem history) (λ problem is. is.0) why) kept
+      uninteresting
+      (but (Fails run_fault.NotInteresting) (λ problem. IsRefused options.jobs (admits_of options problem) problem history) (λ problem is. is.0) why) kept
       (all_quiet first (some (Fails run_fault.NotInteresting) why).1.1.1.gates) ends put
   fault_at (run_fault.Script worker) kept why ends = λ out out' put.
       let failed = one_failed first worker (some (Fails (run_fault.Script worker)) why).1.1.0 in
@@ -177,8 +184,8 @@ module _ (options : ReduceOptions) (may_say : List ℕ → Verdict → Type 0) (
     reduces_to report is =
         but (Comes reduced)
         (λ problem.
-        (counts : Counts) × ReducesFrom options.jobs options.keeps problem history reduced.text.items counts × (report ≡ report_text counts)
-        × AreOf options.jobs options.keeps problem history)
+        (counts : Counts) × ReducesFrom options.jobs (admits_of options problem) problem history reduced.text.items counts × (report ≡ report_text counts)
+        × AreOf options.jobs (admits_of options problem) problem history)
         (λ problem from. (reduced.counts, from.1, is, from.0)) reduces
 
     write_at : (outcome : Result (Vec ℕ) Refusal) → WriteEnds options.output read new.files (Ok reduced) outcome
@@ -206,30 +213,32 @@ module _ (options : ReduceOptions) (may_say : List ℕ → Verdict → Type 0) (
   -- whatever the run came to
   pub stops_ran : (read : SeenFiles) → SameFiles old.files.shown read.shown → IsQuiet old.files read → (ran : Result Reduced RunFault)
       → ProblemAccepted options old.files
-      (λ problem. AreOf options.jobs options.keeps problem history × ProblemEnds options.keeps problem (run_to ran) ran)
+      (λ problem. AreOf options.jobs (admits_of options problem) problem history × ProblemEnds (admits_of options problem) problem (run_to ran) ran)
       → JournalAfter options.jobs options.journal history old.journal new.journal ran → (outcome : Result (Vec ℕ) Refusal)
       → WriteEnds options.output read new.files ran outcome → ReduceSteps options may_say history old new outcome
   stops_ran read same quiet (Ok reduced) ends whole outcome writes =
       let P : Problem → Type 0 =
-      λ problem. AreOf options.jobs options.keeps problem history
-      × (ReducesFrom options.jobs options.keeps problem history reduced.text.items reduced.counts
+      λ problem. AreOf options.jobs (admits_of options problem) problem history
+      × (ReducesFrom options.jobs (admits_of options problem) problem history reduced.text.items reduced.counts
       × NoneFailed (run_to (Ok reduced)).before (run_to (Ok reduced)).after) in
       stops_write read reduced same quiet (all_quiet first (some P ends).1.1.1.1.gates) whole
       (but P (Comes reduced) (λ problem is. (is.0, is.1.0)) ends) outcome writes
   stops_ran read same quiet (Err fault) ends after outcome writes =
       subst (λ (o : Result (Vec ℕ) Refusal). ReduceSteps options may_say history old new o) (sym writes.0.1)
       (stops_run fault writes.0.0 writes.0.2 (subst (FilesKept old.files) (sym writes.1) (record { same = same; quiet = quiet }))
-      (but (λ problem. AreOf options.jobs options.keeps problem history × Fails fault problem) (Fails fault) (λ problem is. is.1) ends) after)
+      (but (λ problem. AreOf options.jobs (admits_of options problem) problem history × Fails fault problem) (Fails fault) (λ problem is. is.1) ends) after)
 
   -- a gate wasn't opened
   pub stops_unopened : (read : SeenFiles) → SameFiles old.files.shown read.shown → IsQuiet old.files read → (ran : Result Reduced RunFault)
-      → ProblemAccepted options old.files (λ problem. ProblemEnds options.keeps problem (run_to ran) ran)
+      → ProblemAccepted options old.files (λ problem. ProblemEnds (admits_of options problem) problem (run_to ran) ran)
       → Unopened options history (logs_of part) (logs_of part') old.journal new.journal ran → (outcome : Result (Vec ℕ) Refusal)
       → WriteEnds options.output read new.files ran outcome → ReduceSteps options may_say history old new outcome
   stops_unopened read same quiet ran ends un outcome writes =
       let answer : Result Reduced RunFault = Err (fault_of un.worker un.fault) in
       let why : ProblemAccepted options old.files (Fails (fault_of un.worker un.fault)) =
-      subst (λ (r : Result Reduced RunFault). ProblemAccepted options old.files (λ problem. ProblemEnds options.keeps problem (run_to ran) r)) un.answer ends in
+      subst
+      (λ (r : Result Reduced RunFault). ProblemAccepted options old.files (λ problem. ProblemEnds (admits_of options problem) problem (run_to ran) r))
+      un.answer ends in
       let wrote : WriteEnds options.output read new.files answer outcome =
       subst (λ (r : Result Reduced RunFault). WriteEnds options.output read new.files r outcome) un.answer writes in
       subst (λ (o : Result (Vec ℕ) Refusal). ReduceSteps options may_say history old new o) (sym wrote.0.1) (record {
@@ -241,34 +250,37 @@ module _ (options : ReduceOptions) (may_say : List ℕ → Verdict → Type 0) (
             (subst (FilesKept old.files) (sym wrote.1) (record { same = same; quiet = quiet })) why un.left);
       })
 
--- the steps of a problem that was read and accepted, with these keep texts, and whose run is this
+-- the steps of a problem that was read and accepted, of which this must stay, and whose run is this
 pub steps_end : (options : ReduceOptions) (may_say : List ℕ → Verdict → Type 0) (run : Run) (files files' : SeenFiles) (gates gates' : List SeenGate)
-    (read : SeenFiles) (problem : ReadProblem) (keeps : List (List ℕ)) (outcome : Result (Vec ℕ) Refusal)
+    (read : SeenFiles) (problem : ReadProblem) (stays : Stays) (outcome : Result (Vec ℕ) Refusal)
     → AreFirst options run.before.gates run.after.gates gates gates' → options.jobs ≡ run.workers
-    → ProblemRead options files (IsReadAs options.keeps problem) → keeps ≡ options.keeps → holds_all keeps (start_read problem) ≡ true
+    → ProblemRead options files (IsReadAs (admits_read options problem) problem) → stays ≡ stays_read options problem
+    → AcceptsStart options (start_read problem)
     → SameFiles files.shown read.shown → IsQuiet files read
-    → IsSoundStarted options may_say run → ((one : Problem) → IsReadAs keeps problem one → IsRunOf keeps one run)
+    → IsSoundStarted options may_say run → ((one : Problem) → IsReadAs (stays_admit stays) problem one → IsRunOf (stays_admit stays) one run)
     → WriteEnds options.output read files' run.outcome outcome
     → ReduceSteps options may_say run.history (record { files = files; gates = gates; journal = run.before.journal })
     (record { files = files'; gates = gates'; journal = run.after.journal }) outcome
-steps_end options may_say run files files' gates gates' read problem keeps outcome first jobs was these holds same quiet sound runs writes =
+steps_end options may_say run files files' gates gates' read problem stays outcome first jobs was these all same quiet sound runs writes =
     let old : Inside = record { files = files; gates = gates; journal = run.before.journal } in
     let new : Inside = record { files = files'; gates = gates'; journal = run.after.journal } in
     let lent : Run = record run { workers = options.jobs } in
-    let all : holds_all options.keeps (start_read problem) ≡ true = subst (λ (k : List (List ℕ)). holds_all k (start_read problem) ≡ true) these holds in
-    let all_run : (one : Problem) → IsReadAs options.keeps problem one → IsRunOf options.keeps one lent =
-    subst (λ (n : ℕ). (one : Problem) → IsReadAs options.keeps problem one → IsRunOf options.keeps one (record run { workers = n })) (sym jobs)
-    (subst (λ (k : List (List ℕ)). (one : Problem) → IsReadAs k problem one → IsRunOf k one run) these runs) in
-    let Of : Problem → Type 0 = λ one. AreOf options.jobs options.keeps one run.history in
-    let Ends : Problem → Type 0 = λ one. ProblemEnds options.keeps one lent run.outcome in
+    let guard : Admits = admits_read options problem in
+    let these_run : (one : Problem) → IsReadAs guard problem one → IsRunOf guard one lent =
+    subst (λ (n : ℕ). (one : Problem) → IsReadAs guard problem one → IsRunOf guard one (record run { workers = n })) (sym jobs)
+    (subst (λ (k : Stays). (one : Problem) → IsReadAs (stays_admit k) problem one → IsRunOf (stays_admit k) one run) these runs) in
+    let all_run : (one : Problem) → IsReadAs guard problem one → IsRunOf (admits_of options one) one lent =
+    λ one is. subst (λ (k : Stays). IsRunOf (stays_admit k) one lent) (sym (stays_as options guard problem one is)) (these_run one is) in
+    let Of : Problem → Type 0 = λ one. AreOf options.jobs (admits_of options one) one run.history in
+    let Ends : Problem → Type 0 = λ one. ProblemEnds (admits_of options one) one lent run.outcome in
     let left : StartLeaves options.jobs options run.history (logs_of run.before.gates)
     (logs_of run.after.gates) run.before.journal run.after.journal run.outcome =
     subst (λ (n : ℕ). StartLeaves n options run.history (logs_of run.before.gates) (logs_of run.after.gates) run.before.journal run.after.journal run.outcome)
     (sym jobs) sound.journal in
-    let accepted : ProblemAccepted options files Of = accepted_as options files problem Of all (λ one is. (all_run one is).history) was in
-    let ended : ProblemAccepted options files Ends = accepted_as options files problem Ends all (λ one is. (all_run one is).ends) was in
+    let accepted : ProblemAccepted options files Of = accepted_as options files guard problem Of all (λ one is. (all_run one is).history) was in
+    let ended : ProblemAccepted options files Ends = accepted_as options files guard problem Ends all (λ one is. (all_run one is).ends) was in
     let both : ProblemAccepted options files (λ one. Of one × Ends one) =
-    accepted_as options files problem (λ one. Of one × Ends one) all (λ one is. ((all_run one is).history, (all_run one is).ends)) was in
+    accepted_as options files guard problem (λ one. Of one × Ends one) all (λ one is. ((all_run one is).history, (all_run one is).ends)) was in
     ⊎_elim (λ after. stops_ran options may_say run.history old new run.before.gates run.after.gates first sound.records accepted read same quiet run.outcome
     both after outcome writes)
     (λ un. stops_unopened options may_say run.history old new run.before.gates run.after.gates first sound.records accepted read same quiet run.outcome ended un

@@ -1,5 +1,5 @@
 -- Which status `reduce` has to end with, from how it ends.
-use Rattle.std.proofs.Common.{◌≡◌, ℕ, List, [], ◌∷◌, Some, true, false, ⊎_elim, refl, sym, ap, ◌∙◌, subst}
+use Rattle.std.proofs.Common.{◌≡◌, ◌≢◌, ℕ, List, [], ◌∷◌, Some, None, true, false, ⊎_elim, refl, sym, ap, ◌∙◌, subst}
 use Rattle.std.proofs.lemmas.Bool.{false≢true}
 use Rattle.edge_io.specs.Files.{IsLonger}
 use Rattle.keep_guard.specs.Keep.{first_missing, holds_all}
@@ -24,9 +24,10 @@ use Rattle.reduce_journal.specs.Report.{report_text}
 use Rattle.reduce_journal.specs.declared.counts.Counts.{Counts}
 use Rattle.command_reduce_calls.specs.Journal.{JournalSoFar}
 use Rattle.command_reduce.specs.Reduce.{InputHas, IsGrammarReached, IsShownFault, IsShownProblem, ProblemAccepted}
-use Rattle.command_reduce.specs.Reduce.{ProblemRead, ReduceEnds, ReduceMustEnd, ReducesTo, grammar_in}
+use Rattle.command_reduce.specs.Reduce.{ProblemRead, ReduceEnds, ReduceMustEnd, ReducesTo, admits_of, grammar_in}
+use Rattle.command_reduce_calls.specs.Stays.{AcceptsStart, NamesBeyond, first_beyond, first_beyond_start}
 use Rattle.command_reduce.specs.Reduce.ReduceEnds.{done, memory, unread, unwritten, unput, faulty, no_token, unparsed}
-use Rattle.command_reduce.specs.Reduce.ReduceEnds.{uninteresting, keep_missing, too_long, script, journal}
+use Rattle.command_reduce.specs.Reduce.ReduceEnds.{uninteresting, keep_missing, beyond, too_long, script, journal}
 use Rattle.command_ends.specs.Status.{IsUncut}
 use Rattle.command_words.specs.Commands.{GrammarOptions, GrammarSource, ModeOptions, ReduceOptions}
 use Rattle.command_ends.specs.World.{FilesKept, IsQuiet, IsShownWithin, NotReached, SeenJournal, fault_counts_of, World, grammar_limit, input_limit}
@@ -46,6 +47,10 @@ none_no records none first_no = subst FirstIsNo none first_no
 none_missing : (keeps : List (List ℕ)) (start : List ℕ) (index : ℕ) → holds_all keeps start ≡ true → first_missing keeps start ≡ Some index → ⊥
 none_missing keeps start index holds missing = absurd (cc (sym missing ∙ (holds_all_or_misses keeps start).0 holds))
 
+-- each keep text occurs in a start, and a line is named that is beyond its last
+abbrev IsBeyond : ReduceOptions → List ℕ → Type 0
+IsBeyond options start = (holds_all options.keeps start ≡ true) × (first_beyond_start options.protects start ≢ None)
+
 -- the grammar of a mode, and of one without a grammar this one
 abbrev named_in : GrammarSource → ModeOptions → GrammarSource
 named_in other ModeOptions.lines = other
@@ -63,34 +68,55 @@ module _ (faults : InputFaultOnce) (languages : InputsAreInLanguage) (options : 
   keeps_all : (P : Problem → Type 0) → ProblemAccepted options old.files P → IsShownProblem options old.files (λ start. holds_all options.keeps start ≡ false)
       → ⊥
   keeps_all P read shown =
-      let it : (problem : Problem) × ((holds_all options.keeps (start_text problem) ≡ true) × P problem) × (holds_all options.keeps (start_text problem) ≡ false) =
-      read_and_shown options old.files (λ problem. (holds_all options.keeps (start_text problem) ≡ true) × P problem)
+      let it : (problem : Problem) × (AcceptsStart options (start_text problem) × P problem) × (holds_all options.keeps (start_text problem) ≡ false) =
+      read_and_shown options old.files (λ problem. AcceptsStart options (start_text problem) × P problem)
       (λ start. holds_all options.keeps start ≡ false) read shown in
-      false≢true (sym it.2 ∙ it.1.0)
+      false≢true (sym it.2 ∙ it.1.0.0)
 
-  missing_keeps : (index : ℕ) → ProblemRead options old.files (λ problem. first_missing options.keeps (start_text problem) ≡ Some index)
-      → IsShownProblem options old.files (λ start. holds_all options.keeps start ≡ true) → ⊥
-  missing_keeps index read shown =
-      let it : (problem : Problem) × (first_missing options.keeps (start_text problem) ≡ Some index) × (holds_all options.keeps (start_text problem) ≡ true) =
-      read_and_shown options old.files (λ problem. first_missing options.keeps (start_text problem) ≡ Some index)
-      (λ start. holds_all options.keeps start ≡ true) read shown in
-      none_missing options.keeps (start_text it.0) index it.2 it.1
+  within_all : (P : Problem → Type 0) → ProblemAccepted options old.files P → IsShownProblem options old.files (IsBeyond options) → ⊥
+  within_all P read shown =
+      let it : (problem : Problem) × (AcceptsStart options (start_text problem) × P problem) × IsBeyond options (start_text problem) =
+      read_and_shown options old.files (λ problem. AcceptsStart options (start_text problem) × P problem) (IsBeyond options) read shown in
+      it.2.1 it.1.0.1
+
+  missing_keeps : (S : List ℕ → Type 0) → ((start : List ℕ) → S start → holds_all options.keeps start ≡ true) → (index : ℕ)
+      → ProblemRead options old.files (λ problem. first_missing options.keeps (start_text problem) ≡ Some index) → IsShownProblem options old.files S → ⊥
+  missing_keeps S holds index read shown =
+      let it : (problem : Problem) × (first_missing options.keeps (start_text problem) ≡ Some index) × S (start_text problem) =
+      read_and_shown options old.files (λ problem. first_missing options.keeps (start_text problem) ≡ Some index) S read shown in
+      none_missing options.keeps (start_text it.0) index (holds (start_text it.0) it.2) it.1
+
+  -- a start that names a line beyond its last has each keep text, and isn't accepted
+  module _ (last lines : ℕ) (read : ProblemRead options old.files (λ problem. NamesBeyond options last lines (start_text problem))) where
+    beyond_keeps : IsShownProblem options old.files (λ start. holds_all options.keeps start ≡ false) → ⊥
+    beyond_keeps shown =
+        let it : (problem : Problem) × NamesBeyond options last lines (start_text problem) × (holds_all options.keeps (start_text problem) ≡ false) =
+        read_and_shown options old.files (λ problem. NamesBeyond options last lines (start_text problem))
+        (λ start. holds_all options.keeps start ≡ false) read shown in
+        false≢true (sym it.2 ∙ it.1.0)
+
+    beyond_accepted : IsShownProblem options old.files (AcceptsStart options) → ⊥
+    beyond_accepted shown =
+        let it : (problem : Problem) × NamesBeyond options last lines (start_text problem) × AcceptsStart options (start_text problem) =
+        read_and_shown options old.files (λ problem. NamesBeyond options last lines (start_text problem)) (AcceptsStart options) read shown in
+        absurd (cc (sym it.1.2 ∙ ap (first_beyond options.protects) it.1.1 ∙ it.2.1))
 
   yes_first : (text report : List ℕ) → ReducesTo options old.files history text report → FirstIsNo records → ⊥
   yes_first text report reduces first_no =
       let P : Problem → Type 0 =
-      λ problem. (counts : Counts) × ReducesFrom options.jobs options.keeps problem history text counts × (report ≡ report_text counts)
-      × AreOf options.jobs options.keeps problem history in
-      let it : (problem : Problem) × ((holds_all options.keeps (start_text problem) ≡ true) × P problem) =
-      any_problem options old.files (λ problem. (holds_all options.keeps (start_text problem) ≡ true) × P problem) reduces in
+      λ problem. (counts : Counts) × ReducesFrom options.jobs (admits_of options problem) problem history text counts × (report ≡ report_text counts)
+      × AreOf options.jobs (admits_of options problem) problem history in
+      let it : (problem : Problem) × (AcceptsStart options (start_text problem) × P problem) =
+      any_problem options old.files (λ problem. AcceptsStart options (start_text problem) × P problem) reduces in
       yes_no (start_text it.0) records it.1.1.1.first first_no
 
-  not_no : options.jobs ≡ 1 → ProblemAccepted options old.files (λ problem. options.jobs ≡ 1 → IsUnfinished options.keeps problem history) → FirstIsNo records
+  not_no : options.jobs ≡ 1
+      → ProblemAccepted options old.files (λ problem. options.jobs ≡ 1 → IsUnfinished (admits_of options problem) problem history) → FirstIsNo records
       → ⊥
   not_no alone read first_no =
-      let P : Problem → Type 0 = λ problem. options.jobs ≡ 1 → IsUnfinished options.keeps problem history in
-      let it : (problem : Problem) × ((holds_all options.keeps (start_text problem) ≡ true) × P problem) =
-      any_problem options old.files (λ problem. (holds_all options.keeps (start_text problem) ≡ true) × P problem) read in
+      let P : Problem → Type 0 = λ problem. options.jobs ≡ 1 → IsUnfinished (admits_of options problem) problem history in
+      let it : (problem : Problem) × (AcceptsStart options (start_text problem) × P problem) =
+      any_problem options old.files (λ problem. AcceptsStart options (start_text problem) × P problem) read in
       (it.1.1 alone).not_no first_no
 
   so_far_quiet : (name : List ℕ) → JournalSoFar name history old.journal new.journal → IsQuiet old.journal new.journal
@@ -130,6 +156,7 @@ module _ (faults : InputFaultOnce) (languages : InputsAreInLanguage) (options : 
     no_token = λ g is shown. absurd (long_grammar_hidden options old.files g is file reached longer _ shown);
     unparsed = λ g is shown. absurd (long_grammar_hidden options old.files g is file reached longer _ shown);
     keep_missing = λ shown. absurd (long_grammar_not_shown options old.files file _ reached longer shown);
+    beyond = λ shown. absurd (long_grammar_not_shown options old.files file _ reached longer shown);
     complete = λ shown files_fine gate_fine journal_fine out_fine. absurd (long_grammar_not_shown options old.files file _ reached longer shown);
     first_no = λ first_no. absurd (none_no records (ap records_of untouched.no_history) first_no);
     first_no_alone = λ alone first_no. absurd (none_no records (ap records_of untouched.no_history) first_no);
@@ -157,6 +184,7 @@ module _ (faults : InputFaultOnce) (languages : InputsAreInLanguage) (options : 
         λ g is shown. absurd (no_fault options old.files _ writes.reduced.reduces g is faults languages
         (λ fault. fault ≡ input_fault.NoParse) parse_caused shown);
     keep_missing = λ shown. absurd (keeps_all _ writes.reduced.reduces shown);
+    beyond = λ shown. absurd (within_all _ writes.reduced.reduces shown);
     complete = λ shown files_fine gate_fine journal_fine out_fine. refl;
     first_no = λ first_no. absurd (yes_first _ _ writes.reduced.reduces first_no);
     first_no_alone = λ alone first_no. absurd (yes_first _ _ writes.reduced.reduces first_no);
@@ -180,6 +208,7 @@ module _ (faults : InputFaultOnce) (languages : InputsAreInLanguage) (options : 
     unparsed = λ g is shown. absurd (no_fault options old.files _ writes.reduced.reduces g is faults languages
         (λ fault. fault ≡ input_fault.NoParse) parse_caused shown);
     keep_missing = λ shown. absurd (keeps_all _ writes.reduced.reduces shown);
+    beyond = λ shown. absurd (within_all _ writes.reduced.reduces shown);
     complete = λ shown files_fine gate_fine journal_fine out_fine. absurd (out_fine put.failed);
     first_no = λ first_no. absurd (yes_first _ _ writes.reduced.reduces first_no);
     first_no_alone = λ alone first_no. absurd (yes_first _ _ writes.reduced.reduces first_no);
@@ -202,6 +231,7 @@ module _ (faults : InputFaultOnce) (languages : InputsAreInLanguage) (options : 
     no_token = λ g is shown. refl;
     unparsed = λ g is shown. refl;
     keep_missing = λ shown. refl;
+    beyond = λ shown. refl;
     complete = λ shown files_fine gate_fine journal_fine out_fine. refl;
     first_no = λ first_no. refl;
     first_no_alone = λ alone first_no. refl;
@@ -224,6 +254,7 @@ module _ (faults : InputFaultOnce) (languages : InputsAreInLanguage) (options : 
     no_token = λ g is shown. refl;
     unparsed = λ g is shown. refl;
     keep_missing = λ shown. refl;
+    beyond = λ shown. refl;
     complete = λ shown files_fine gate_fine journal_fine out_fine. absurd (files_fine call_failed);
     first_no = λ first_no. absurd (none_no records (ap records_of untouched.no_history) first_no);
     first_no_alone = λ alone first_no. absurd (none_no records (ap records_of untouched.no_history) first_no);
@@ -246,6 +277,7 @@ module _ (faults : InputFaultOnce) (languages : InputsAreInLanguage) (options : 
     no_token = λ g is shown. absurd (no_fault options old.files _ reduces g is faults languages IsUncut uncut_caused shown);
     unparsed = λ g is shown. absurd (no_fault options old.files _ reduces g is faults languages (λ fault. fault ≡ input_fault.NoParse) parse_caused shown);
     keep_missing = λ shown. absurd (keeps_all _ reduces shown);
+    beyond = λ shown. absurd (within_all _ reduces shown);
     complete = λ shown files_fine gate_fine journal_fine out_fine. absurd (files_fine call_failed);
     first_no = λ first_no. absurd (yes_first _ _ reduces first_no);
     first_no_alone = λ alone first_no. absurd (yes_first _ _ reduces first_no);
@@ -268,6 +300,7 @@ module _ (faults : InputFaultOnce) (languages : InputsAreInLanguage) (options : 
     no_token = λ g is shown. absurd (faulty_no_fault mode is text read IsUncut shown);
     unparsed = λ g is shown. absurd (faulty_no_fault mode is text read (λ fault. fault ≡ input_fault.NoParse) shown);
     keep_missing = λ shown. absurd (faulty_not_shown options old.files trees text _ mode read shown);
+    beyond = λ shown. absurd (faulty_not_shown options old.files trees text _ mode read shown);
     complete = λ shown files_fine gate_fine journal_fine out_fine. absurd (faulty_not_shown options old.files trees text _ mode read shown);
     first_no = λ first_no. absurd (none_no records (ap records_of untouched.no_history) first_no);
     first_no_alone = λ alone first_no. absurd (none_no records (ap records_of untouched.no_history) first_no);
@@ -293,6 +326,7 @@ module _ (faults : InputFaultOnce) (languages : InputsAreInLanguage) (options : 
         absurd (subst IsUncut (fault_is options old.files faults g fault (uncut_caused fault uncut) (has_at mode is fault read)
         (λ f. f ≡ input_fault.NoParse) parse_caused shown) uncut);
     keep_missing = λ shown. absurd (fault_not_shown options old.files faults trees fault (uncut_caused fault uncut) read _ mode shown);
+    beyond = λ shown. absurd (fault_not_shown options old.files faults trees fault (uncut_caused fault uncut) read _ mode shown);
     complete =
         λ shown files_fine gate_fine journal_fine out_fine.
         absurd (fault_not_shown options old.files faults trees fault (uncut_caused fault uncut) read _ mode shown);
@@ -320,6 +354,8 @@ module _ (faults : InputFaultOnce) (languages : InputsAreInLanguage) (options : 
     unparsed = λ g is shown. refl;
     keep_missing =
         λ shown. absurd (fault_not_shown options old.files faults trees input_fault.NoParse (parse_caused input_fault.NoParse refl) read _ mode shown);
+    beyond =
+        λ shown. absurd (fault_not_shown options old.files faults trees input_fault.NoParse (parse_caused input_fault.NoParse refl) read _ mode shown);
     complete =
         λ shown files_fine gate_fine journal_fine out_fine.
         absurd (fault_not_shown options old.files faults trees input_fault.NoParse (parse_caused input_fault.NoParse refl) read _ mode shown);
@@ -344,6 +380,7 @@ module _ (faults : InputFaultOnce) (languages : InputsAreInLanguage) (options : 
     no_token = λ g is shown. absurd (no_fault options old.files _ read g is faults languages IsUncut uncut_caused shown);
     unparsed = λ g is shown. absurd (no_fault options old.files _ read g is faults languages (λ fault. fault ≡ input_fault.NoParse) parse_caused shown);
     keep_missing = λ shown. absurd (keeps_all _ read shown);
+    beyond = λ shown. absurd (within_all _ read shown);
     complete = λ shown files_fine gate_fine journal_fine out_fine. refl;
     first_no = λ first_no. refl;
     first_no_alone = λ alone first_no. refl;
@@ -366,7 +403,31 @@ module _ (faults : InputFaultOnce) (languages : InputsAreInLanguage) (options : 
     no_token = λ g is shown. absurd (no_fault options old.files _ read g is faults languages IsUncut uncut_caused shown);
     unparsed = λ g is shown. absurd (no_fault options old.files _ read g is faults languages (λ fault. fault ≡ input_fault.NoParse) parse_caused shown);
     keep_missing = λ shown. refl;
-    complete = λ shown files_fine gate_fine journal_fine out_fine. absurd (missing_keeps index read shown);
+    beyond = λ shown. absurd (missing_keeps (IsBeyond options) (λ start it. it.0) index read shown);
+    complete = λ shown files_fine gate_fine journal_fine out_fine. absurd (missing_keeps (AcceptsStart options) (λ start it. it.0) index read shown);
+    first_no = λ first_no. absurd (none_no records (ap records_of untouched.no_history) first_no);
+    first_no_alone = λ alone first_no. absurd (none_no records (ap records_of untouched.no_history) first_no);
+    files_failed = λ failed. absurd (failed files.quiet);
+    gate_failed = λ failed. absurd (failed (ap fault_counts_of untouched.gates));
+    gate_failed_alone = λ alone failed. absurd (failed (ap fault_counts_of untouched.gates));
+    journal_failed = λ failed. absurd (failed (ap (λ (j : SeenJournal). j.faults) untouched.journal));
+    out_failed = λ failed is. cc is;
+  }
+  must_end (beyond last lines read files untouched put) = record {
+    grammar_over = λ g is over. absurd (grammar_not_over options old.files _ read g is over);
+    grammar_missing = λ g is none. absurd (grammar_not_missing options old.files _ read g is none);
+    lexer_over = λ g lexer is named over. absurd (no_lexer_over options old.files _ read g is lexer named over);
+    lexer_missing = λ g lexer is named none. absurd (no_lexer_missing options old.files _ read g is lexer named none);
+    faulty = λ g is shown. absurd (grammar_not_faulty options old.files _ read g is shown);
+    input_over = λ fine over. absurd (read_not_over (input_read options old.files _ read) over);
+    input_missing = λ fine none. absurd (read_not_missing (input_read options old.files _ read) none);
+    over = λ over. absurd (read_not_over (input_read options old.files _ read) over);
+    missing = λ none. absurd (read_not_missing (input_read options old.files _ read) none);
+    no_token = λ g is shown. absurd (no_fault options old.files _ read g is faults languages IsUncut uncut_caused shown);
+    unparsed = λ g is shown. absurd (no_fault options old.files _ read g is faults languages (λ fault. fault ≡ input_fault.NoParse) parse_caused shown);
+    keep_missing = λ shown. absurd (beyond_keeps last lines read shown);
+    beyond = λ shown. refl;
+    complete = λ shown files_fine gate_fine journal_fine out_fine. absurd (beyond_accepted last lines read shown);
     first_no = λ first_no. absurd (none_no records (ap records_of untouched.no_history) first_no);
     first_no_alone = λ alone first_no. absurd (none_no records (ap records_of untouched.no_history) first_no);
     files_failed = λ failed. absurd (failed files.quiet);
@@ -388,6 +449,7 @@ module _ (faults : InputFaultOnce) (languages : InputsAreInLanguage) (options : 
     no_token = λ g is shown. absurd (long_input_no_fault options old.files g is IsUncut reached longer shown);
     unparsed = λ g is shown. absurd (long_input_no_fault options old.files g is (λ fault. fault ≡ input_fault.NoParse) reached longer shown);
     keep_missing = λ shown. absurd (long_input_not_shown options old.files _ reached longer shown);
+    beyond = λ shown. absurd (long_input_not_shown options old.files _ reached longer shown);
     complete = λ shown files_fine gate_fine journal_fine out_fine. absurd (long_input_not_shown options old.files _ reached longer shown);
     first_no = λ first_no. absurd (none_no records (ap records_of untouched.no_history) first_no);
     first_no_alone = λ alone first_no. absurd (none_no records (ap records_of untouched.no_history) first_no);
@@ -412,6 +474,7 @@ module _ (faults : InputFaultOnce) (languages : InputsAreInLanguage) (options : 
     no_token = λ g is shown. absurd (no_fault options old.files _ read g is faults languages IsUncut uncut_caused shown);
     unparsed = λ g is shown. absurd (no_fault options old.files _ read g is faults languages (λ fault. fault ≡ input_fault.NoParse) parse_caused shown);
     keep_missing = λ shown. absurd (keeps_all _ read shown);
+    beyond = λ shown. absurd (within_all _ read shown);
     complete = λ shown files_fine gate_fine journal_fine out_fine. absurd (gate_fine (worker, one_of, call_failed));
     first_no = λ first_no. refl;
     first_no_alone = λ alone first_no. absurd (not_no alone read first_no);
@@ -434,6 +497,7 @@ module _ (faults : InputFaultOnce) (languages : InputsAreInLanguage) (options : 
     no_token = λ g is shown. absurd (no_fault options old.files _ read g is faults languages IsUncut uncut_caused shown);
     unparsed = λ g is shown. absurd (no_fault options old.files _ read g is faults languages (λ fault. fault ≡ input_fault.NoParse) parse_caused shown);
     keep_missing = λ shown. absurd (keeps_all _ read shown);
+    beyond = λ shown. absurd (within_all _ read shown);
     complete = λ shown files_fine gate_fine journal_fine out_fine. absurd (journal_fine call_failed);
     first_no = λ first_no. refl;
     first_no_alone = λ alone first_no. refl;

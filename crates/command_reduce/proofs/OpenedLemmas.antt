@@ -11,6 +11,7 @@ use Rattle.run_gated.specs.Workers.{HasPartBy}
 use Rattle.run_gated.specs.declared.fault.RunFault.{RunFault}
 use Rattle.run_gated.specs.declared.fault.RunFault.TheVariants.{Journal, Memory, NotInteresting, Script}
 use Rattle.run_gated.specs.declared.ran.Reduced.{Reduced}
+use Rattle.reduce_core.specs.Reduction.{Admits}
 use Rattle.run_problem.specs.Problem.{Problem}
 use Rattle.run_problem.specs.Ends.{IsRunOf, ProblemEnds, RunFails}
 use Rattle.run_problem.proofs.Lent.{none_answers, none_of}
@@ -27,19 +28,19 @@ module _ (name : List ℕ) (run : Run) (earlier : SeenJournal) (opened : run.bef
   none_failed : NoneFailed run.before run.after → NoneFailed whole_run.before whole_run.after
   none_failed none = record { gates = none.gates; journal = none.journal ∙ quiet }
 
-  fails_since : (keeps : List (List ℕ)) (problem : Problem) (fault : RunFault) → RunFails keeps problem run fault → RunFails keeps problem whole_run fault
-  fails_since keeps problem NotInteresting why = (why.0, none_failed why.1)
-  fails_since keeps problem (Script worker) why = (why.0, why.1 ∙ quiet, why.2)
-  fails_since keeps problem Journal why = (subst (λ (n : ℕ). Rose n run.after.journal.faults) quiet why.0, why.1)
-  fails_since keeps problem Memory why = (why.0 ∙ quiet, why.1)
+  fails_since : (guard : Admits) (problem : Problem) (fault : RunFault) → RunFails guard problem run fault → RunFails guard problem whole_run fault
+  fails_since guard problem NotInteresting why = (why.0, none_failed why.1)
+  fails_since guard problem (Script worker) why = (why.0, why.1 ∙ quiet, why.2)
+  fails_since guard problem Journal why = (subst (λ (n : ℕ). Rose n run.after.journal.faults) quiet why.0, why.1)
+  fails_since guard problem Memory why = (why.0 ∙ quiet, why.1)
 
-  ends_since : (keeps : List (List ℕ)) (problem : Problem) (outcome : Result Reduced RunFault) → ProblemEnds keeps problem run outcome
-      → ProblemEnds keeps problem whole_run outcome
-  ends_since keeps problem (Ok reduced) ends = (ends.0, none_failed ends.1)
-  ends_since keeps problem (Err fault) why = fails_since keeps problem fault why
+  ends_since : (guard : Admits) (problem : Problem) (outcome : Result Reduced RunFault) → ProblemEnds guard problem run outcome
+      → ProblemEnds guard problem whole_run outcome
+  ends_since guard problem (Ok reduced) ends = (ends.0, none_failed ends.1)
+  ends_since guard problem (Err fault) why = fails_since guard problem fault why
 
-  pub run_since : (keeps : List (List ℕ)) (problem : Problem) → IsRunOf keeps problem run → IsRunOf keeps problem whole_run
-  run_since keeps problem ran = record { history = ran.history; ends = ends_since keeps problem run.outcome ran.ends }
+  pub run_since : (guard : Admits) (problem : Problem) → IsRunOf guard problem run → IsRunOf guard problem whole_run
+  run_since guard problem ran = record { history = ran.history; ends = ends_since guard problem run.outcome ran.ends }
 
   whole_since : IsWrittenWhole run → JournalWhole name run.history earlier run.after.journal
   whole_since has = record { written = subst (λ (put : Option Put). HasWritten run.history put run.after.journal.shown) opened has.0; quiet = has.1 ∙ quiet }
@@ -79,14 +80,14 @@ module _ (run : Run) (fault : RunFault) (none : run.history ≡ []) (out : run.o
   quiet_gates : AreQuiet run.before.gates run.after.gates
   quiet_gates = ap fault_counts_of same
 
-  fails_unopened : (keeps : List (List ℕ)) (problem : Problem) (fault : RunFault) → OpeningFails run.before.journal.faults run.after.journal.faults fault
-      → RunFails keeps problem run fault
-  fails_unopened keeps problem Journal why = (why, λ _. quiet_gates)
-  fails_unopened keeps problem Memory why = (why, λ _. quiet_gates)
-  fails_unopened keeps problem _ why = absurd why
+  fails_unopened : (guard : Admits) (problem : Problem) (fault : RunFault) → OpeningFails run.before.journal.faults run.after.journal.faults fault
+      → RunFails guard problem run fault
+  fails_unopened guard problem Journal why = (why, λ _. quiet_gates)
+  fails_unopened guard problem Memory why = (why, λ _. quiet_gates)
+  fails_unopened guard problem _ why = absurd why
 
-  pub unopened_run : (keeps : List (List ℕ)) (problem : Problem) → IsRunOf keeps problem run
-  unopened_run keeps problem = record {
-    history = none_of run.workers keeps problem run.history none;
-    ends = subst (ProblemEnds keeps problem run) (sym out) (fails_unopened keeps problem fault why);
+  pub unopened_run : (guard : Admits) (problem : Problem) → IsRunOf guard problem run
+  unopened_run guard problem = record {
+    history = none_of run.workers guard problem run.history none;
+    ends = subst (ProblemEnds guard problem run) (sym out) (fails_unopened guard problem fault why);
   }

@@ -1,8 +1,7 @@
 -- What the files had to be reduced isn't at odds with what is visible of them.
-use Rattle.std.proofs.Common.{◌≡◌, ◌≢◌, ℕ, List, Option, Some, None, true, ap, sym, ◌∙◌, subst}
+use Rattle.std.proofs.Common.{◌≡◌, ◌≢◌, ℕ, List, Option, Some, None, ap, sym, ◌∙◌, subst}
 use Rattle.std.proofs.lemmas.Option.{same_Some}
 use Rattle.edge_io.specs.Files.{FileContent, Holds, IsLonger}
-use Rattle.keep_guard.specs.Keep.{holds_all}
 use Rattle.grammar_tree.specs.Written.{CheckedGrammar}
 use Rattle.reduce_trees_mode.specs.Candidates.{InLanguage}
 use Rattle.reduce_trees_mode.specs.Input.{TreeInput}
@@ -18,10 +17,13 @@ use Rattle.command_grammar.specs.Grammar.{GrammarRead, IsFaultIn, IsGrammarText}
 use Rattle.command_grammar.specs.Texts.{GrammarIsShown, GrammarTexts, GrammarWasRead, IsGrammarFile, path_of}
 use Rattle.command_grammar.proofs.Lent.{fault_not_shown as file_fault_not_shown, grammar_not_missing as file_not_missing, grammar_not_over as file_not_over}
 use Rattle.command_grammar.proofs.Lent.{lexer_not_missing, lexer_not_over, long_not_missing, no_grammar, not_faulty, of_grammar, shown_not_longer}
+use Rattle.reduce_core.specs.Reduction.{Admits}
 use Rattle.run_problem.specs.Problem.{Problem, start_text}
 use Rattle.run_problem.specs.Read.{IsReadAs, start_read}
 use Rattle.command_reduce.specs.Reduce.{InputHas, IsGrammarReached, IsReached, IsShownFault, IsShownGrammar, IsTreeProblem}
-use Rattle.command_reduce.specs.Reduce.{ProblemAccepted, ProblemRead, ReadIn, ShownIn, grammar_in}
+use Rattle.command_reduce.specs.Reduce.{ProblemAccepted, ProblemRead, ReadIn, ShownIn, grammar_in, stays_of}
+use Rattle.command_reduce.specs.inner.Read.{stays_read}
+use Rattle.command_reduce_calls.specs.Stays.{AcceptsStart}
 use Rattle.command_ends.specs.Status.{IsUncut}
 use Rattle.command_words.specs.Commands.{GrammarOptions, ModeOptions, ReduceOptions}
 use Rattle.command_ends.specs.World.{IsOver, IsShownWithin, SeenFiles, WasRead, grammar_limit, input_limit}
@@ -42,9 +44,15 @@ pub parse_caused : (fault : InputFault) → fault ≡ input_fault.NoParse → fa
 parse_caused fault no_parse is = cc (sym no_parse ∙ is)
 
 -- the start of what was read is its text
-pub start_as : (keeps : List (List ℕ)) (read : ReadProblem) (problem : Problem) → IsReadAs keeps read problem → start_text problem ≡ start_read read
-start_as keeps (read_problem.Lines start) problem is = ap start_text is
-start_as keeps (read_problem.Tree found mode squeeze) problem is = ap start_text is.1
+pub start_as : (guard : Admits) (read : ReadProblem) (problem : Problem) → IsReadAs guard read problem → start_text problem ≡ start_read read
+start_as guard (read_problem.Lines start) problem is = ap start_text is
+start_as guard (read_problem.Tree found mode squeeze) problem is = ap start_text is.1
+
+-- and what must stay of it is what must stay of that
+pub stays_as : (options : ReduceOptions) (guard : Admits) (read : ReadProblem) (problem : Problem) → IsReadAs guard read problem
+    → stays_of options problem ≡ stays_read options read
+stays_as options guard (read_problem.Lines start) problem is = ap (stays_of options) is
+stays_as options guard (read_problem.Tree found mode squeeze) problem is = ap (stays_of options) is.1
 
 module _ (options : ReduceOptions) (files : SeenFiles) where
   -- what holds of a problem that was read also holds of another fact
@@ -60,13 +68,13 @@ module _ (options : ReduceOptions) (files : SeenFiles) where
   pub problem_map : (P Q : Problem → Type 0) → ((problem : Problem) → P problem → Q problem) → ProblemRead options files P → ProblemRead options files Q
   problem_map P Q then read = read_as options.mode P Q then read
 
-  -- what was read, in whose text each keep text occurs, is accepted
-  pub accepted_as : (read : ReadProblem) (Q : Problem → Type 0) → holds_all options.keeps (start_read read) ≡ true
-      → ((problem : Problem) → IsReadAs options.keeps read problem → Q problem)
-      → ProblemRead options files (IsReadAs options.keeps read) → ProblemAccepted options files Q
-  accepted_as read Q kept then was =
-      problem_map (IsReadAs options.keeps read) (λ problem. (holds_all options.keeps (start_text problem) ≡ true) × Q problem)
-      (λ problem is. (ap (holds_all options.keeps) (start_as options.keeps read problem is) ∙ kept, then problem is)) was
+  -- what was read, whose text is accepted, is accepted
+  pub accepted_as : (guard : Admits) (read : ReadProblem) (Q : Problem → Type 0) → AcceptsStart options (start_read read)
+      → ((problem : Problem) → IsReadAs guard read problem → Q problem)
+      → ProblemRead options files (IsReadAs guard read) → ProblemAccepted options files Q
+  accepted_as guard read Q accepts then was =
+      problem_map (IsReadAs guard read) (λ problem. AcceptsStart options (start_text problem) × Q problem)
+      (λ problem is. (subst (AcceptsStart options) (sym (start_as guard read problem is)) accepts, then problem is)) was
 
   any_in : (mode : ModeOptions) (P : Problem → Type 0) → ReadIn mode options files P → (problem : Problem) × P problem
   any_in ModeOptions.lines P read = (Problem.of_lines read.bytes, read.holds)
@@ -128,7 +136,7 @@ module _ (options : ReduceOptions) (files : SeenFiles) where
     no_fault faults languages Q caused shown =
         let content = files.shown options.input in
         let c : CheckedGrammar = grammar_read.0 in
-        let input : WasRead input_limit content (λ text. (input : TreeInput) × IsTreeProblem options.keeps c trees.squeeze text input
+        let input : WasRead input_limit content (λ text. (input : TreeInput) × IsTreeProblem options c trees.squeeze text input
         × P (Problem.of_tree trees.mode input)) = grammar_read.2 in
         let visible : IsShownWithin input_limit content (λ text. (fault : InputFault) × IsInputFault c text fault × Q fault) =
         of_grammar trees.grammar files c grammar_read.1

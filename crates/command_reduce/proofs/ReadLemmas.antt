@@ -1,31 +1,44 @@
 -- What was read of the files, and why nothing was.
-use Rattle.std.proofs.Common.{arith, ◌≡◌, ◌≤◌, ℕ, List, length, Some, true, false, refl, sym, ap, ◌∙◌, subst}
+use Rattle.std.proofs.Common.{arith, ◌≡◌, ◌<◌, ◌≤◌, ℕ, List, length, Some, true, false, refl, sym, ap, ◌∙◌, string_bytes, subst}
+use Rattle.std.proofs.lemmas.Bool.{and_from}
+use Rattle.std.proofs.lemmas.List.{length-map}
 use Rattle.edge_io.specs.Files.{Holds, IsLonger}
 use Rattle.grammar_tree.specs.Checked.{IsChecked}
 use Rattle.grammar_tree.specs.Written.{CheckedGrammar}
-use Rattle.keep_guard.specs.Keep.{first_missing, keeps_admit}
+use Rattle.keep_guard.specs.Keep.{first_missing, holds_all}
+use Rattle.lexer.specs.Tokens.{token_of}
+use Rattle.line_guard.specs.Laws.{AllKeepProtected}
+use Rattle.reduce_core.specs.Reduction.{Admits}
 use Rattle.reduce_step.specs.Limits.{text_limit}
+use Rattle.reduce_trees_mode.specs.Input.{TreeInput}
 use Rattle.reduce_trees_input.specs.Faults.{IsInputFault}
 use Rattle.reduce_trees_input.specs.Laws.{InputsAreOne}
-use Rattle.reduce_trees_input.specs.Parsed.{IsParsed, MakesInputOf, tree_input}
+use Rattle.reduce_trees_input.specs.Parsed.{IsInputOf, IsParsed, MakesInputOf, tokens_in, tree_input}
 use Rattle.reduce_trees_input.specs.declared.fault.InputFault.{InputFault}
 use Rattle.reduce_trees_input.specs.declared.parsed.ParsedInput.{ParsedInput}
 use Rattle.run_problem.specs.declared.problem.ReadProblem.{ReadProblem}
 use Rattle.run_problem.specs.declared.problem.ReadProblem.TheVariants as read
 use Rattle.run_problem.specs.Problem.{start_text}
-use Rattle.run_problem.specs.Read.{IsReadAs, start_read}
+use Rattle.run_problem.specs.Read.{IsFoundIn, IsReadAs, numbers_read, start_read}
+use Rattle.token_laws.specs.Laws.{TokensAreInOrder}
 use Rattle.command_ends.specs.declared.status.Refusal.{Refusal}
 use Rattle.command_ends.specs.declared.status.NamedFile.TheVariants as named
-use Rattle.command_ends.specs.declared.status.Refusal.TheVariants.{Memory, CannotRead, Grammar, KeepMissing, NoParse, TooLong, Uncut}
+use Rattle.command_ends.specs.declared.status.Refusal.TheVariants.{Memory, CannotRead, Grammar, KeepMissing, BeyondLines, NoParse, TooLong, Uncut}
 use Rattle.command_grammar.specs.Grammar.{GrammarFails, GrammarRead}
-use Rattle.command_reduce.specs.inner.Read.{GivesTree, KeepRefused, TreeFails}
-use Rattle.command_reduce.specs.Reduce.{IsReached, ProblemRead, ReadIn, grammar_in}
+use Rattle.command_reduce.specs.inner.Read.{GivesTree, StaysRefused, TreeFails, admits_read}
+use Rattle.command_reduce.specs.Reduce.{IsReached, ProblemRead, ReadIn, grammar_in, tree_admits}
 use Rattle.command_reduce.specs.inner.Reduce.{ProblemFails}
 use Rattle.command_ends.specs.Status.{IsInputRefusal}
-use Rattle.command_reduce_calls.specs.Keeps.{KeepFails}
+use Rattle.command_reduce_calls.specs.Stays.{NamesBeyond, StaysFail, wishes_of}
 use Rattle.command_words.specs.Commands.{GrammarOptions, GrammarSource, ModeOptions, ReduceOptions}
 use Rattle.command_ends.specs.World.{IsQuiet, SeenFiles, grammar_limit, input_limit}
 use Rattle.command_reduce.proofs.ProblemLemmas.{problem_map, start_as}
+
+-- what was found has fewer tokens than a number of 32 bits counts
+pub few-tokens : TokensAreInOrder → (found : ParsedInput) → IsFoundIn found → length found.tokens.items.items < 4294967296
+few-tokens in_order found ready =
+    let placed = in_order found.lexer.grammar (string_bytes found.text) (tokens_in found.tokens) ready.parsed.utf8 ready.parsed.has_tokens in
+    omega (arith, placed.few, ready.short, length-map found.tokens.items.items token_of)
 
 -- an input within its limit can be reduced
 within_more : {n : ℕ} → n ≤ input_limit → n ≤ text_limit
@@ -75,14 +88,35 @@ module _ (grammar : GrammarSource) (input : List ℕ) (files files' : SeenFiles)
       ((c, spelled, record { bytes = bytes; read = here; within = within; holds = subst (IsInputFault c bytes) why is }), quiet)
   fault_fails bytes here within quiet fault is _ why = absurd why
 
+-- whatever is admitted, an input is of its text
+with_admits : (c : CheckedGrammar) (text : List ℕ) (input : TreeInput) (admits : Admits) → IsInputOf c text input
+    → IsInputOf c text (record input { admits = admits })
+with_admits c text input admits of = record {
+  same_grammar = of.same_grammar;
+  same_text = of.same_text;
+  is_input =
+      record {
+        checked = of.is_input.checked;
+        form_is = of.is_input.form_is;
+        symbol_is = of.is_input.symbol_is;
+        utf8 = of.is_input.utf8;
+        has_tokens = of.is_input.has_tokens;
+        is_whole = of.is_input.is_whole;
+        kinds_are = of.is_input.kinds_are;
+      };
+  preferred = of.preferred;
+}
+
 module _ (options : ReduceOptions) (files : SeenFiles) (trees : GrammarOptions) (mode : options.mode ≡ ModeOptions.by_grammar trees) where
   -- the tree of the input
   pub tree_read : InputsAreOne → (found : ParsedInput) → GivesTree trees.grammar options.input files found
-      → ProblemRead options files (IsReadAs options.keeps (read.Tree found trees.mode trees.squeeze))
+      → ProblemRead options files (IsReadAs (admits_read options (read.Tree found trees.mode trees.squeeze)) (read.Tree found trees.mode trees.squeeze))
   tree_read one found gives =
       let formed = gives.ready.checked.well_formed in
-      let admits = keeps_admit options.keeps in
-      subst (λ (m : ModeOptions). ReadIn m options files (IsReadAs options.keeps (read.Tree found trees.mode trees.squeeze))) (sym mode) (
+      let admits : Admits = admits_read options (read.Tree found trees.mode trees.squeeze) in
+      let input : TreeInput = tree_input found formed admits trees.squeeze in
+      let of_text = gives.read.holds formed admits trees.squeeze in
+      subst (λ (m : ModeOptions). ReadIn m options files (IsReadAs admits (read.Tree found trees.mode trees.squeeze))) (sym mode) (
         gives.checked,
         gives.spelled,
         record {
@@ -90,19 +124,27 @@ module _ (options : ReduceOptions) (files : SeenFiles) (trees : GrammarOptions) 
           read = gives.read.read;
           within = gives.read.within;
           holds = (
-            tree_input found formed admits trees.squeeze,
+            input,
             record {
-              of_text = gives.read.holds formed admits trees.squeeze;
+              of_text = of_text;
               admits = refl;
               squeezes = refl;
               only = λ other of admits_so squeezes_so.
-                  one gives.checked gives.read.bytes (tree_input found formed admits trees.squeeze) other (gives.read.holds formed admits trees.squeeze) of
-                  (sym admits_so) (sym squeezes_so);
+                  one gives.checked gives.read.bytes input other of_text of
+                  (same_admits one gives.checked gives.read.bytes input other of_text of (sym squeezes_so) ∙ sym admits_so) (sym squeezes_so);
             },
             (formed, refl),
           );
         },
       )
+    where
+      -- inputs of one text have the same tokens, so the same is admitted of them
+      same_admits : InputsAreOne → (c : CheckedGrammar) (text : List ℕ) (input other : TreeInput) → IsInputOf c text input → IsInputOf c text other
+          → input.squeezes ≡ other.squeezes → tree_admits options input ≡ tree_admits options other
+      same_admits one c text input other of also squeezes =
+          let same : input ≡ record other { admits = input.admits } =
+          one c text input (record other { admits = input.admits }) of (with_admits c text other input.admits also) refl squeezes in
+          ap (tree_admits options) same
 
   -- why there is no tree
   pub tree_fails : (files' : SeenFiles) (refusal : Refusal) → TreeFails trees.grammar options.input files files' refusal
@@ -123,15 +165,28 @@ module _ (options : ReduceOptions) (files : SeenFiles) (trees : GrammarOptions) 
   tree_fails files' NoParse why = (trees, mode, why.0, why.1)
   tree_fails files' _ why = absurd why
 
--- a keep text that isn't in the text of what was read is missing in the problem's start
-pub keep_refused : (options : ReduceOptions) (files : SeenFiles) (problem : ReadProblem) (start : List ℕ) (refusal : Refusal) → start ≡ start_read problem
-    → ProblemRead options files (IsReadAs options.keeps problem)
-    → KeepFails options.keeps start refusal → KeepRefused options files refusal
-keep_refused options files problem start Memory is was why = tt
-keep_refused options files problem start (KeepMissing line) is was why = (
+-- why the text of what was read isn't accepted is why the problem isn't
+pub stays_refused : (options : ReduceOptions) (files : SeenFiles) (guard : Admits) (problem : ReadProblem) (refusal : Refusal)
+    → ProblemRead options files (IsReadAs guard problem) → StaysFail options (start_read problem) refusal → StaysRefused options files refusal
+stays_refused options files guard problem Memory was why = tt
+stays_refused options files guard problem (KeepMissing line) was why = (
   why.0,
-  problem_map options files (IsReadAs options.keeps problem) (λ one. first_missing options.keeps (start_text one) ≡ Some why.0)
-      (λ one as_one. ap (first_missing options.keeps) (start_as options.keeps problem one as_one ∙ sym is) ∙ why.1) was,
+  problem_map options files (IsReadAs guard problem) (λ one. first_missing options.keeps (start_text one) ≡ Some why.0)
+      (λ one as_one. ap (first_missing options.keeps) (start_as guard problem one as_one) ∙ why.1) was,
   why.2,
 )
-keep_refused options files problem start _ is was why = absurd why
+stays_refused options files guard problem (BeyondLines line) was why = (
+  why.0,
+  why.1,
+  problem_map options files (IsReadAs guard problem) (λ one. NamesBeyond options why.0 why.1 (start_text one))
+      (λ one as_one. subst (NamesBeyond options why.0 why.1) (sym (start_as guard problem one as_one)) why.2) was,
+  why.3,
+)
+stays_refused options files guard problem _ was why = absurd why
+
+-- a text in which each keep text occurs is admitted with all of its lines or tokens
+pub start_stays : AllKeepProtected → (options : ReduceOptions) (problem : ReadProblem) → holds_all options.keeps (start_read problem) ≡ true
+    → admits_read options problem (numbers_read problem) (start_read problem) ≡ true
+start_stays all options (read.Lines start) kept = and_from _ _ kept (all.lines (wishes_of options.protects) start.items)
+start_stays all options (read.Tree found mode squeeze) kept =
+    and_from _ _ kept (all.tokens (wishes_of options.protects) (string_bytes found.text) (tokens_in found.tokens))

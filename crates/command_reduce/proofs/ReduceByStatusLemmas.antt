@@ -1,7 +1,7 @@
 -- Each status of `reduce`, from how it ends.
-use Rattle.std.proofs.Common.{◌≡◌, ◌≢◌, ◌≤◌, ◌⊎◌, inl, inr, true, ℕ, ◌+◌, List, [], ◌∷◌, Some, refl, sym, ◌∙◌}
+use Rattle.std.proofs.Common.{◌≡◌, ◌≢◌, ◌≤◌, ◌⊎◌, inl, inr, ℕ, ◌+◌, List, [], ◌∷◌, Some, refl, sym, ◌∙◌}
 use Rattle.std.proofs.lemmas.Bool.{false≢true}
-use Rattle.keep_guard.specs.Keep.{first_missing, holds_all}
+use Rattle.keep_guard.specs.Keep.{first_missing}
 use Rattle.edge_io.specs.Files.{IsLonger, SameFiles, SameOthers}
 use Rattle.reduce_journal.specs.History.{History, records_of}
 use Rattle.reduce_trees_input.specs.Faults.{IsInputFault}
@@ -17,13 +17,14 @@ use Rattle.command_grammar.specs.Texts.{GrammarWasRead}
 use Rattle.run_problem.specs.Problem.{start_text}
 use Rattle.run_problem.specs.Ends.{IsRefused}
 use Rattle.command_reduce_calls.specs.Journal.{JournalBroken, JournalSoFar, JournalWhole}
+use Rattle.command_reduce_calls.specs.Stays.{AcceptsStart, NamesBeyond}
 use Rattle.command_reduce.proofs.ProblemLemmas.{any_problem}
-use Rattle.command_reduce.specs.Reduce.{InputHas, IsReached, IsReduced, ProblemRead, ReduceEnds, ReducesTo, ScriptLeaves, limit_of, name_of}
+use Rattle.command_reduce.specs.Reduce.{InputHas, IsReached, IsReduced, ProblemRead, ReduceEnds, ReducesTo, ScriptLeaves, admits_of, limit_of, name_of}
 use Rattle.command_reduce.specs.Reduce.ReduceEnds.{done, memory, unread, unwritten, unput, faulty, no_token, unparsed}
-use Rattle.command_reduce.specs.Reduce.ReduceEnds.{uninteresting, keep_missing, too_long, script, journal}
+use Rattle.command_reduce.specs.Reduce.ReduceEnds.{uninteresting, keep_missing, beyond, too_long, script, journal}
 use Rattle.command_reduce.specs.ReduceByStatus.{PutsItsLine, ReduceByStatus}
 use Rattle.command_words.specs.Commands.{GrammarOptions, ModeOptions, ReduceOptions}
-use Rattle.command_ends.specs.Status.{IsOneOf, IsUncut, fault_line, keep_text, script_text}
+use Rattle.command_ends.specs.Status.{IsOneOf, IsUncut, beyond_text, fault_line, keep_text, script_text}
 use Rattle.command_ends.specs.World.{CallFailed, GateFailed, NotReached, Puts, PutsLine, PutsMessage, PutsPrefix, SeenFiles, World}
 
 -- some file is read in each mode
@@ -36,7 +37,7 @@ module _ (options : ReduceOptions) (history : History) (old new : World) where
   Ends status = ReduceEnds options history old new status
 
   -- only a mode with a grammar has faults of it, and texts that aren't in its language
-  is_of_lines : {status : ℕ} → Ends status → options.mode ≡ ModeOptions.lines → IsOneOf (0 ∷ 1 ∷ 3 ∷ 4 ∷ 8 ∷ 9 ∷ 10 ∷ 11 ∷ 12 ∷ []) status
+  is_of_lines : {status : ℕ} → Ends status → options.mode ≡ ModeOptions.lines → IsOneOf (0 ∷ 1 ∷ 3 ∷ 4 ∷ 8 ∷ 9 ∷ 10 ∷ 11 ∷ 12 ∷ 16 ∷ []) status
   is_of_lines (faulty trees text mode read files untouched put) is = absurd (cc (sym mode ∙ is))
   is_of_lines (no_token trees fault mode uncut read files untouched put) is = absurd (cc (sym mode ∙ is))
   is_of_lines (unparsed trees mode read files untouched put) is = absurd (cc (sym mode ∙ is))
@@ -46,6 +47,7 @@ module _ (options : ReduceOptions) (history : History) (old new : World) where
   is_of_lines (unwritten failed text report reduces others gates_quiet kept put) is = refl
   is_of_lines (uninteresting read files gates_quiet kept put) is = refl
   is_of_lines (keep_missing index read files untouched put) is = refl
+  is_of_lines (beyond last lines read files untouched put) is = refl
   is_of_lines (too_long file reached longer files untouched put) is = refl
   is_of_lines (script worker one_of failed read files kept put) is = refl
   is_of_lines (unput report writes put) is = refl
@@ -74,7 +76,7 @@ module _ (options : ReduceOptions) (history : History) (old new : World) where
 
   is_uninteresting : {status : ℕ} → Ends status → status ≡ 8 → OnlyNo (records_of history)
   is_uninteresting (uninteresting read files gates_quiet kept put) is =
-      (any_problem options old.files (λ problem. (holds_all options.keeps (start_text problem) ≡ true) × IsRefused options.jobs options.keeps problem history)
+      (any_problem options old.files (λ problem. AcceptsStart options (start_text problem) × IsRefused options.jobs (admits_of options problem) problem history)
       read).1.1.only
   is_uninteresting _ is = absurd (cc is)
 
@@ -110,6 +112,12 @@ module _ (options : ReduceOptions) (history : History) (old new : World) where
   is_keep_missing (keep_missing index read files untouched put) is = (index, read, put)
   is_keep_missing _ is = absurd (cc is)
 
+  is_beyond : {status : ℕ} → Ends status → status ≡ 16 → (last : ℕ) × (lines : ℕ)
+      × ProblemRead options old.files (λ problem. NamesBeyond options last lines (start_text problem))
+      × PutsMessage (beyond_text last lines) old.out new.out
+  is_beyond (beyond last lines read files untouched put) is = (last, lines, read, put)
+  is_beyond _ is = absurd (cc is)
+
   is_fault : {status : ℕ} → Ends status → status ≡ 5
       → (trees : GrammarOptions) × (text : List ℕ) × (options.mode ≡ ModeOptions.by_grammar trees)
       × GrammarWasRead trees.grammar old.files (λ texts. IsFaultIn trees.grammar texts text) × PutsLine (fault_line text) old.out new.out
@@ -134,6 +142,7 @@ module _ (options : ReduceOptions) (history : History) (old new : World) where
   is_early (no_token trees fault mode uncut read files untouched put) other = untouched
   is_early (unparsed trees mode read files untouched put) other = untouched
   is_early (keep_missing index read files untouched put) other = untouched
+  is_early (beyond last lines read files untouched put) other = untouched
   is_early (too_long file reached longer files untouched put) other = untouched
   is_early _ other = absurd (other refl)
 
@@ -147,6 +156,7 @@ module _ (options : ReduceOptions) (history : History) (old new : World) where
   same_others (unparsed trees mode read files untouched put) = λ name other. files.same name
   same_others (uninteresting read files gates_quiet kept put) = λ name other. files.same name
   same_others (keep_missing index read files untouched put) = λ name other. files.same name
+  same_others (beyond last lines read files untouched put) = λ name other. files.same name
   same_others (too_long file reached longer files untouched put) = λ name other. files.same name
   same_others (script worker one_of failed read files kept put) = λ name other. files.same name
   same_others (unput report writes put) = writes.others
@@ -162,12 +172,13 @@ module _ (options : ReduceOptions) (history : History) (old new : World) where
   same_files (unparsed trees mode read files untouched put) not_done not_written = files.same
   same_files (uninteresting read files gates_quiet kept put) not_done not_written = files.same
   same_files (keep_missing index read files untouched put) not_done not_written = files.same
+  same_files (beyond last lines read files untouched put) not_done not_written = files.same
   same_files (too_long file reached longer files untouched put) not_done not_written = files.same
   same_files (script worker one_of failed read files kept put) not_done not_written = files.same
   same_files (unput report writes put) not_done not_written = absurd (not_written refl)
   same_files (journal failed read broken gates_quiet files put) not_done not_written = files.same
 
-  is_known : {status : ℕ} → Ends status → IsOneOf (0 ∷ 1 ∷ 3 ∷ 4 ∷ 5 ∷ 6 ∷ 7 ∷ 8 ∷ 9 ∷ 10 ∷ 11 ∷ 12 ∷ []) status
+  is_known : {status : ℕ} → Ends status → IsOneOf (0 ∷ 1 ∷ 3 ∷ 4 ∷ 5 ∷ 6 ∷ 7 ∷ 8 ∷ 9 ∷ 10 ∷ 11 ∷ 12 ∷ 16 ∷ []) status
   is_known (done report writes put) = refl
   is_known (memory files gates_quiet kept put) = refl
   is_known (unread file reached failed same untouched put) = refl
@@ -177,6 +188,7 @@ module _ (options : ReduceOptions) (history : History) (old new : World) where
   is_known (unparsed trees mode read files untouched put) = refl
   is_known (uninteresting read files gates_quiet kept put) = refl
   is_known (keep_missing index read files untouched put) = refl
+  is_known (beyond last lines read files untouched put) = refl
   is_known (too_long file reached longer files untouched put) = refl
   is_known (script worker one_of failed read files kept put) = refl
   is_known (unput report writes put) = refl
@@ -210,6 +222,7 @@ reduce_by_status options history old new status ends = record {
   too_long = is_too_long options history old new ends;
   script = is_script options history old new ends;
   journal = is_journal options history old new ends;
+  beyond = is_beyond options history old new ends;
   whole = is_whole options history old new ends;
   so_far = is_so_far options history old new ends;
   early = is_early options history old new ends;

@@ -11,8 +11,12 @@ use Rattle.reduce_journal.specs.History.{History, records_of}
 use Rattle.reduce_journal.specs.Report.{report_text}
 use Rattle.reduce_journal.specs.declared.counts.Counts.{Counts}
 use Rattle.command_reduce_calls.specs.Journal.{JournalBroken, JournalSoFar, JournalUntouched, JournalWhole}
+use Rattle.command_reduce_calls.specs.Stays.{AcceptsStart, NamesBeyond, first_beyond_start, tokens_stay, wishes_of}
 use Rattle.verdict_table.specs.TableState.{texts_of}
-use Rattle.keep_guard.specs.Keep.{first_missing, holds_all, keeps_admit}
+use Rattle.keep_guard.specs.Keep.{first_missing, holds_all}
+use Rattle.reduce_core.specs.Reduction.{Admits}
+use Rattle.line_guard.specs.MustStay.{Stays, stays_admit}
+use Rattle.line_guard.specs.Protected.{protected_lines, protected_tokens}
 use Rattle.run_gated.specs.Records.{FirstIsNo}
 use Rattle.grammar_tree.specs.Written.{CheckedGrammar}
 use Rattle.reduce_trees_mode.specs.Candidates.{InLanguage}
@@ -28,7 +32,7 @@ use Rattle.command_grammar.specs.Grammar.{GrammarRead, IsFaultIn, IsGrammarText}
 use Rattle.command_grammar.specs.Texts.{AreSpelled, GrammarIsShown, GrammarWasRead, IsGrammarFile, path_of}
 use Rattle.run_problem.specs.Problem.{Problem, start_text}
 use Rattle.run_problem.specs.Ends.{AreOf, IsRefused, IsUnfinished, ReducesFrom}
-use Rattle.command_ends.specs.Status.{IsOneOf, IsUncut, fault_line, keep_text, script_text, word_for}
+use Rattle.command_ends.specs.Status.{IsOneOf, IsUncut, beyond_text, fault_line, keep_text, script_text, word_for}
 use Rattle.command_words.specs.Commands.{GrammarOptions, GrammarSource, ModeOptions, ReduceOptions}
 use Rattle.run_worker.specs.RunHistory.{with_all_asked}
 use Rattle.command_reduce_calls.specs.Openings.{opened_from, opened_log}
@@ -36,13 +40,16 @@ use Rattle.command_grammar.specs.Grammar.{start_name}
 use Rattle.command_ends.specs.World.{AnyGateFailed, AreQuiet, CallFailed, GateFailed, logs_of, FilesKept, IsOver, IsQuiet, IsShownWithin, NotReached, Puts}
 use Rattle.command_ends.specs.World.{PutsLine, PutsMessage, PutsPrefix, SeenFiles, SeenJournal, WasRead, World, grammar_limit, input_limit}
 
--- The input is made of this text by this grammar, what is admitted is what has each keep text, and the squeezed text of the whole is tried or not; there is
--- no other such input.
-pub record IsTreeProblem (keeps : List (List ℕ)) (grammar : CheckedGrammar) (squeeze : Bool) (text : List ℕ) (input : TreeInput) : Type 0 where
+-- what is admitted of a tree: what has each keep text, and keeps the tokens that must stay
+abbrev pub tree_admits : ReduceOptions → TreeInput → Admits
+tree_admits options input = stays_admit (tokens_stay options input.start input.tokens)
+
+-- The input is made of this text by this grammar, `tree_admits` is admitted of it, and the squeezed text of the whole is tried or not; no other is such.
+pub record IsTreeProblem (options : ReduceOptions) (grammar : CheckedGrammar) (squeeze : Bool) (text : List ℕ) (input : TreeInput) : Type 0 where
   pub of_text : IsInputOf grammar text input
-  pub admits : input.admits ≡ keeps_admit keeps
+  pub admits : input.admits ≡ tree_admits options input
   pub squeezes : input.squeezes ≡ squeeze
-  pub only : (other : TreeInput) → IsInputOf grammar text other → other.admits ≡ keeps_admit keeps → other.squeezes ≡ squeeze → input ≡ other
+  pub only : (other : TreeInput) → IsInputOf grammar text other → other.admits ≡ tree_admits options other → other.squeezes ≡ squeeze → input ≡ other
 
 -- The files were read whole, each within its limit, and the fact holds of what they have to be reduced: the lines of the input; or, where the grammar's texts
 -- spell a grammar that has the input in its language, its tree.
@@ -51,20 +58,33 @@ ReadIn ModeOptions.lines options files P = WasRead input_limit (files.shown opti
 ReadIn (ModeOptions.by_grammar trees) options files P =
     (c : CheckedGrammar) × GrammarRead trees.grammar files c
     × WasRead input_limit (files.shown options.input)
-    (λ text. (input : TreeInput) × IsTreeProblem options.keeps c trees.squeeze text input × P (Problem.of_tree trees.mode input))
+    (λ text. (input : TreeInput) × IsTreeProblem options c trees.squeeze text input × P (Problem.of_tree trees.mode input))
 
 abbrev pub ProblemRead : ReduceOptions → SeenFiles → (Problem → Type 0) → Type 0
 ProblemRead options files P = ReadIn options.mode options files P
 
--- the same of a problem in whose start each keep text occurs
+-- the same of a problem in whose start each keep text occurs, and each line that is named is there
 abbrev pub ProblemAccepted : ReduceOptions → SeenFiles → (Problem → Type 0) → Type 0
-ProblemAccepted options files P = ProblemRead options files (λ problem. (holds_all options.keeps (start_text problem) ≡ true) × P problem)
+ProblemAccepted options files P = ProblemRead options files (λ problem. AcceptsStart options (start_text problem) × P problem)
+
+-- the numbers, from 0, of the lines or tokens of a problem that must stay
+abbrev pub numbers_stay : ReduceOptions → Problem → List ℕ
+numbers_stay options (Problem.of_lines start) = protected_lines (wishes_of options.protects) start
+numbers_stay options (Problem.of_tree mode input) = protected_tokens (wishes_of options.protects) input.start input.tokens
+
+-- what must stay of a problem
+abbrev pub stays_of : ReduceOptions → Problem → Stays
+stays_of options problem = record { texts = options.keeps; numbers = numbers_stay options problem }
+
+-- what is admitted of it
+abbrev pub admits_of : ReduceOptions → Problem → Admits
+admits_of options problem = stays_admit (stays_of options problem)
 
 -- the problem, whose history this is, reduces to the text, and this is its report
 abbrev pub ReducesTo : ReduceOptions → SeenFiles → History → List ℕ → List ℕ → Type 0
 ReducesTo options files history text report = ProblemAccepted options files (λ problem.
-    (counts : Counts) × ReducesFrom options.jobs options.keeps problem history text counts × (report ≡ report_text counts)
-    × AreOf options.jobs options.keeps problem history)
+    (counts : Counts) × ReducesFrom options.jobs (admits_of options problem) problem history text counts × (report ≡ report_text counts)
+    × AreOf options.jobs (admits_of options problem) problem history)
 
 -- the output file holds what the input reduces to, of which this is the report
 pub record IsReduced (options : ReduceOptions) (files files' : SeenFiles) (history : History) (report : List ℕ) : Type 0 where
@@ -72,10 +92,11 @@ pub record IsReduced (options : ReduceOptions) (files files' : SeenFiles) (histo
   pub reduces : ReducesTo options files history text report
   pub written : Holds text (files'.shown options.output)
 
--- where there is an event, the history is one of the input that was read, in which each keep text occurs
+-- where there is an event, the history is one of the input that was read, which was accepted
 abbrev pub IsHistoryOfInput : ReduceOptions → SeenFiles → History → Type 0
 IsHistoryOfInput options files [] = Unit {0}
-IsHistoryOfInput options files (event ∷ history) = ProblemAccepted options files (λ problem. AreOf options.jobs options.keeps problem (event ∷ history))
+IsHistoryOfInput options files (event ∷ history) =
+    ProblemAccepted options files (λ problem. AreOf options.jobs (admits_of options problem) problem (event ∷ history))
 
 -- the logs of gates after those of the workers from this number on were opened, and then asked these texts, a list for each; the others are as before
 abbrev pub used_from : ReduceOptions → ℕ → List (List (List ℕ)) → List (Option Log) → List (Option Log)
@@ -223,7 +244,7 @@ pub data ReduceEnds (options : ReduceOptions) (history : History) (old new : Wor
       → (line : PutsMessage (codes "input does not parse") old.out new.out)
       → ReduceEnds options history old new 7
   -- the input was read, and a gate said no to it
-  uninteresting : (read : ProblemAccepted options old.files (λ problem. IsRefused options.jobs options.keeps problem history))
+  uninteresting : (read : ProblemAccepted options old.files (λ problem. IsRefused options.jobs (admits_of options problem) problem history))
       → (files : FilesKept old.files new.files)
       → (gates_quiet : AreQuiet old.gates new.gates)
       → (journal : JournalWhole options.journal history old.journal new.journal)
@@ -247,19 +268,27 @@ pub data ReduceEnds (options : ReduceOptions) (history : History) (old new : Wor
   -- the input was read, a call failed of the gate of the worker that the line names, and the journal has the whole history, unless that gate wasn't opened;
   -- with one worker the gate hadn't said no to the input, its reduction wasn't finished, and the history is all that one thread does over its records
   script : (worker : ℕ) (one_of : worker ≤ options.jobs) (failed : GateFailed worker old.gates new.gates)
-      → (read : ProblemAccepted options old.files (λ problem. options.jobs ≡ 1 → IsUnfinished options.keeps problem history))
+      → (read : ProblemAccepted options old.files (λ problem. options.jobs ≡ 1 → IsUnfinished (admits_of options problem) problem history))
       → (files : FilesKept old.files new.files)
       → (journal : ScriptLeaves options history worker old new)
       → (line : PutsMessage (script_text worker) old.out new.out)
       → ReduceEnds options history old new 11
   -- the input was read, and a call of the journal failed: it wasn't opened, or it broke off
   journal : (failed : CallFailed old.journal new.journal)
-      → (read : ProblemAccepted options old.files (λ problem. AreOf options.jobs options.keeps problem history))
+      → (read : ProblemAccepted options old.files (λ problem. AreOf options.jobs (admits_of options problem) problem history))
       → (broken : JournalBroken options.jobs options.journal history old.journal new.journal)
       → (gates_quiet : options.jobs ≡ 1 → AreQuiet old.gates new.gates)
       → (files : FilesKept old.files new.files)
       → (line : PutsMessage (codes "journal fault") old.out new.out)
       → ReduceEnds options history old new 12
+  -- the input was read, each keep text occurs in it, the line on `out` names the first last line of `--protect`, and then of `--only`, that is beyond its
+  -- lines, and neither a gate nor the journal was reached
+  beyond : (last lines : ℕ)
+      → (read : ProblemRead options old.files (λ problem. NamesBeyond options last lines (start_text problem)))
+      → (files : FilesKept old.files new.files)
+      → (untouched : NotReached history old new)
+      → (line : PutsMessage (beyond_text last lines) old.out new.out)
+      → ReduceEnds options history old new 16
 
 -- what is visible of the files has this fact of what is reduced: the input is within its limit; and by a grammar that is too, and spells a grammar that has
 -- the input in its language
@@ -315,8 +344,11 @@ pub record ReduceMustEnd (options : ReduceOptions) (records : List Record) (old 
       → IsShownFault trees.grammar options old.files (λ fault. fault ≡ input_fault.NoParse) → IsOneOf (7 ∷ 3 ∷ 1 ∷ []) status
   -- an input in which a keep text doesn't occur is refused, where it is a problem of its mode
   pub keep_missing : IsShownProblem options old.files (λ start. holds_all options.keeps start ≡ false) → IsOneOf (9 ∷ 3 ∷ 1 ∷ []) status
-  -- a problem in which each keep text occurs is reduced, or isn't interesting, where no call failed
-  pub complete : IsShownProblem options old.files (λ start. holds_all options.keeps start ≡ true) → ¬ CallFailed old.files new.files
+  -- so is one, in which each keep text occurs, that has no line of a number that is named
+  pub beyond : IsShownProblem options old.files (λ start. (holds_all options.keeps start ≡ true) × (first_beyond_start options.protects start ≢ None))
+      → IsOneOf (16 ∷ 3 ∷ 1 ∷ []) status
+  -- a problem in which each keep text occurs, and that has the lines that are named, is reduced, or isn't interesting, where no call failed
+  pub complete : IsShownProblem options old.files (AcceptsStart options) → ¬ CallFailed old.files new.files
       → ¬ AnyGateFailed options.jobs old.gates new.gates → ¬ CallFailed old.journal new.journal → ¬ CallFailed old.out new.out
       → IsOneOf (0 ∷ 8 ∷ 1 ∷ []) status
   -- a first no ends the run, unless it can't be written; or another worker's gate fails

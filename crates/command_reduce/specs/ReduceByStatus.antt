@@ -5,6 +5,7 @@ use Rattle.edge_io.specs.Files.{IsLonger, SameFiles, SameOthers}
 use Rattle.reduce_journal.specs.History.{History, records_of}
 use Rattle.run_gated.specs.Records.{OnlyNo}
 use Rattle.command_reduce_calls.specs.Journal.{JournalBroken, JournalSoFar, JournalWhole}
+use Rattle.command_reduce_calls.specs.Stays.{NamesBeyond}
 use Rattle.reduce_trees_input.specs.Faults.{IsInputFault}
 use Rattle.reduce_trees_input.specs.FaultText.{input_fault_text}
 use Rattle.reduce_trees_input.specs.declared.fault.InputFault.{InputFault}
@@ -14,7 +15,7 @@ use Rattle.command_grammar.specs.Grammar.{IsFaultIn}
 use Rattle.command_grammar.specs.Texts.{GrammarWasRead}
 use Rattle.run_problem.specs.Problem.{start_text}
 use Rattle.command_reduce.specs.Reduce.{InputHas, IsReached, IsReduced, ProblemRead, ReduceEnds, ReducesTo, ScriptLeaves, limit_of, name_of}
-use Rattle.command_ends.specs.Status.{IsOneOf, IsUncut, PutsRefusal, fault_line, keep_text, script_text}
+use Rattle.command_ends.specs.Status.{IsOneOf, IsUncut, PutsRefusal, beyond_text, fault_line, keep_text, script_text}
 use Rattle.command_words.specs.Commands.{GrammarOptions, ModeOptions, ReduceOptions}
 use Rattle.command_ends.specs.World.{CallFailed, GateFailed, NotReached, Puts, PutsLine, PutsMessage, PutsPrefix, SeenFiles, SeenOut, World}
 
@@ -24,8 +25,8 @@ PutsItsLine mode files out out' status = (file : NamedFile) × IsReached mode fi
 
 -- What `reduce` has done, by the number of its status.
 pub record ReduceMeans (options : ReduceOptions) (history : History) (old new : World) (status : ℕ) : Type 0 where
-  pub known : IsOneOf (0 ∷ 1 ∷ 3 ∷ 4 ∷ 5 ∷ 6 ∷ 7 ∷ 8 ∷ 9 ∷ 10 ∷ 11 ∷ 12 ∷ []) status
-  pub of_lines : options.mode ≡ ModeOptions.lines → IsOneOf (0 ∷ 1 ∷ 3 ∷ 4 ∷ 8 ∷ 9 ∷ 10 ∷ 11 ∷ 12 ∷ []) status
+  pub known : IsOneOf (0 ∷ 1 ∷ 3 ∷ 4 ∷ 5 ∷ 6 ∷ 7 ∷ 8 ∷ 9 ∷ 10 ∷ 11 ∷ 12 ∷ 16 ∷ []) status
+  pub of_lines : options.mode ≡ ModeOptions.lines → IsOneOf (0 ∷ 1 ∷ 3 ∷ 4 ∷ 8 ∷ 9 ∷ 10 ∷ 11 ∷ 12 ∷ 16 ∷ []) status
   pub done : status ≡ 0 → (report : List ℕ) × IsReduced options old.files new.files history report × Puts report old.out new.out
   pub unread : status ≡ 3 → CallFailed old.files new.files
   pub write : status ≡ 4
@@ -50,6 +51,9 @@ pub record ReduceMeans (options : ReduceOptions) (history : History) (old new : 
       → (worker : ℕ) × (worker ≤ options.jobs) × GateFailed worker old.gates new.gates × ScriptLeaves options history worker old new
       × PutsMessage (script_text worker) old.out new.out
   pub journal : status ≡ 12 → CallFailed old.journal new.journal × JournalBroken options.jobs options.journal history old.journal new.journal
+  pub beyond : status ≡ 16
+      → (last : ℕ) × (lines : ℕ) × ProblemRead options old.files (λ problem. NamesBeyond options last lines (start_text problem))
+      × PutsMessage (beyond_text last lines) old.out new.out
   pub whole : IsOneOf (0 ∷ 4 ∷ 8 ∷ []) status → JournalWhole options.journal history old.journal new.journal
   pub so_far : status ≡ 1 → JournalSoFar options.journal history old.journal new.journal
   pub early : ¬ IsOneOf (0 ∷ 1 ∷ 4 ∷ 8 ∷ 11 ∷ 12 ∷ []) status → NotReached history old new

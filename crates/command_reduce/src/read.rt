@@ -4,7 +4,7 @@ ghost use Rattle.std.specs.Prelude.{◌≡◌, IfErr, IfOk, OnOk};
 ghost use Rattle.edge_io.specs.Files.{SameFiles};
 ghost use Rattle.run_problem.specs.declared.problem.ReadProblem.TheVariants.{Tree};
 ghost use Rattle.run_problem.specs.Read.{IsReadAs, IsReady};
-ghost use Rattle.command_reduce.specs.inner.Read.{GivesTree, TreeFails};
+ghost use Rattle.command_reduce.specs.inner.Read.{GivesTree, TreeFails, admits_read};
 ghost use Rattle.command_reduce.specs.Reduce.{ProblemRead};
 ghost use Rattle.command_reduce.specs.inner.Reduce.{ProblemFails};
 ghost use Rattle.command_words.specs.Lines.{grammar_read, reduce_read};
@@ -59,7 +59,7 @@ pub fn read_problem<F: Files>(
     files: &mut F,
 ) -> Result<ReadProblem, Refusal>
     ensures problem { IfOk result (λ problem. ProblemRead (reduce_read line.now) (seen F.content F.faults files.old)
-        (IsReadAs (reduce_read line.now).keeps problem)) }
+        (IsReadAs (admits_read (reduce_read line.now) problem) problem)) }
     ensures ready { IfOk result IsReady }
     ensures quiet { OnOk result (IsQuiet (seen F.content F.faults files.old) (seen F.content F.faults files.new)) }
     ensures same { SameFiles (F.content files.old) (F.content files.new) }

@@ -2,25 +2,29 @@
 
 ghost use Rattle.std.specs.Prelude.{◌≡◌, ◌≤◌, true, IfErr, IfOk, OnOk, length};
 ghost use Rattle.edge_io.specs.Files.{SameFiles};
-ghost use Rattle.keep_guard.specs.Keep.{holds_all};
+ghost use Rattle.line_guard.specs.MustStay.{stays_admit};
 ghost use Rattle.run_gated.specs.Run.{run_of};
 ghost use Rattle.run_gated.specs.Workers.{AreIdle};
 ghost use Rattle.run_problem.specs.Problem.{Problem};
-ghost use Rattle.run_problem.specs.Read.{IsReadAs, IsReady, start_read};
+ghost use Rattle.run_problem.specs.Read.{IsReadAs, IsReady, numbers_read, start_read};
 ghost use Rattle.run_problem.specs.Ends.{IsRunOf};
 ghost use Rattle.command_reduce.specs.Reduce.{ProblemRead, Reduces};
 ghost use Rattle.command_reduce.specs.inner.Reduce.{ReduceSteps};
-ghost use Rattle.command_reduce.specs.inner.Read.{AcceptFails};
+ghost use Rattle.command_reduce.specs.inner.Read.{AcceptFails, admits_read, stays_read};
+ghost use Rattle.command_reduce_calls.specs.Stays.{AcceptsStart, StaysFail};
 ghost use Rattle.command_reduce.specs.inner.Run.{IsSoundOpened, IsSoundStarted};
 ghost use Rattle.command_words.specs.Lines.{reduce_read};
 ghost use Rattle.command_ends.specs.World.{IsQuiet, seen, seen_gates};
 
 use crate::read::read_problem;
 use command_ends::{Ended, Refusal, end_with};
-use command_reduce_calls::{guard_of, open_gates, open_journal, without_gate, write_result};
+use command_reduce_calls::{
+    guard_of_lines, guard_of_tokens, open_gates, open_journal, without_gate, write_result,
+};
 use command_words::ReduceLine;
 use edge_io::{Files, Sink};
-use keep_guard::{Guard, KeepTexts};
+use keep_guard::Guard;
+use line_guard::{MustStay, all_keep_protected};
 use reduce_journal::Event;
 use reduce_trees_input::{input_fault_once, inputs_are_in_language};
 use run_gated::Ran;
@@ -29,6 +33,7 @@ use script_gate_trait::Gate;
 use std::alloc::Global;
 use std::sync::Wait;
 use std::thread::Threads;
+use token_laws::tokens_are_in_order;
 use worker_pool::Worker;
 
 /// Opens the journal and reduces what was read, by these workers, whose gates are open.
@@ -37,19 +42,19 @@ fn run_opened<G: Gate + Send, J: Sink + Drop + Send, W: Threads + Wait + Sync>(
     alloc: Global,
     line: &ReduceLine<'_>,
     problem: ReadProblem,
-    guard: Guard<KeepTexts<'_>>,
+    guard: Guard<MustStay<'_>>,
     workers: &mut [Worker<G>],
     journal: J,
 ) -> Ran<J>
     requires ready { IsReady problem }
-    requires kept { holds_all guard (start_read problem) ≡ true }
+    requires kept { stays_admit guard (numbers_read problem) (start_read problem) ≡ true }
     requires idle { AreIdle workers.old }
     ensures idle { AreIdle workers.new }
     ensures as_many { length workers.new ≡ length workers.old }
     ensures sound { IsSoundOpened ((reduce_read line.now).journal) G.may_say
         (run_of G.log G.faults J.put_so_far J.faults workers.old workers.new journal result) }
-    ensures problem { (one : Problem) → IsReadAs guard.entry problem one
-        → IsRunOf guard.entry one (run_of G.log G.faults J.put_so_far J.faults workers.old workers.new journal result) }
+    ensures problem { (one : Problem) → IsReadAs (stays_admit guard.entry) problem one
+        → IsRunOf (stays_admit guard.entry) one (run_of G.log G.faults J.put_so_far J.faults workers.old workers.new journal result) }
 {
     let mut journal = journal;
     match open_journal(alloc, &mut journal, line) {
@@ -65,18 +70,18 @@ fn reduce_start<G: Gate + Send, J: Sink + Drop + Send, W: Threads + Wait + Sync>
     alloc: Global,
     line: &ReduceLine<'_>,
     problem: ReadProblem,
-    guard: Guard<KeepTexts<'_>>,
+    guard: Guard<MustStay<'_>>,
     workers: &mut [Worker<G>],
     journal: J,
 ) -> Ran<J>
     requires ready { IsReady problem }
-    requires kept { holds_all guard (start_read problem) ≡ true }
+    requires kept { stays_admit guard (numbers_read problem) (start_read problem) ≡ true }
     requires idle { AreIdle workers.old }
     requires jobs { length workers.old ≡ line.now.jobs }
     ensures idle { AreIdle workers.new }
     ensures as_many { length workers.new ≡ length workers.old }
     ensures sound { IsSoundStarted (reduce_read line.now) G.may_say (run_of G.log G.faults J.put_so_far J.faults workers.old workers.new journal result) }
-    ensures problem { (one : Problem) → IsReadAs guard.entry problem one → IsRunOf guard.entry one
+    ensures problem { (one : Problem) → IsReadAs (stays_admit guard.entry) problem one → IsRunOf (stays_admit guard.entry) one
         (run_of G.log G.faults J.put_so_far J.faults workers.old workers.new journal result) }
 {
     match open_gates(workers, line) {
@@ -85,24 +90,47 @@ fn reduce_start<G: Gate + Send, J: Sink + Drop + Send, W: Threads + Wait + Sync>
     }
 }
 
-/// What is reduced, and the guard of the keep texts, each of which occurs in it.
+/// The guard of what must stay of what was read: each keep text occurs in its text, and each line that is
+/// named is there.
+fn guard_of<'a>(
+    alloc: Global,
+    line: &ReduceLine<'a>,
+    problem: &ReadProblem,
+) -> Result<Guard<MustStay<'a>>, Refusal>
+    requires { IsReady problem.now }
+    ensures guard { IfOk result (λ guard. guard ≡ stays_read (reduce_read line.now) problem.now) }
+    ensures accepts { OnOk result (AcceptsStart (reduce_read line.now) (start_read problem.now)) }
+    ensures refused { IfErr result (λ refusal. StaysFail (reduce_read line.now) (start_read problem.now) refusal) }
+{
+    tokens_are_in_order();
+    match problem {
+        ReadProblem::Lines(start) => guard_of_lines(alloc, line, start),
+        ReadProblem::Tree { found, .. } => {
+            guard_of_tokens(alloc, line, found.text.as_bytes(), &found.tokens)
+        }
+    }
+}
+
+/// What is reduced, and the guard of what must stay of it.
 fn accept<'a, F: Files>(
     alloc: Global,
     line: &ReduceLine<'a>,
     files: &mut F,
-) -> Result<(ReadProblem, Guard<KeepTexts<'a>>), Refusal>
+) -> Result<(ReadProblem, Guard<MustStay<'a>>), Refusal>
     ensures problem { IfOk result (λ accepted. ProblemRead (reduce_read line.now) (seen F.content F.faults files.old)
-        (IsReadAs (reduce_read line.now).keeps accepted.0)) }
+        (IsReadAs (admits_read (reduce_read line.now) accepted.0) accepted.0)) }
     ensures ready { IfOk result (λ accepted. IsReady accepted.0) }
-    ensures guard { IfOk result (λ accepted. accepted.1 ≡ (reduce_read line.now).keeps) }
-    ensures kept { IfOk result (λ accepted. holds_all accepted.1 (start_read accepted.0) ≡ true) }
+    ensures guard { IfOk result (λ accepted. accepted.1 ≡ stays_read (reduce_read line.now) accepted.0) }
+    ensures accepts { IfOk result (λ accepted. AcceptsStart (reduce_read line.now) (start_read accepted.0)) }
+    ensures kept { IfOk result (λ accepted. stays_admit accepted.1 (numbers_read accepted.0) (start_read accepted.0) ≡ true) }
     ensures quiet { OnOk result (IsQuiet (seen F.content F.faults files.old) (seen F.content F.faults files.new)) }
     ensures same { SameFiles (F.content files.old) (F.content files.new) }
     ensures refused { IfErr result (λ refusal. AcceptFails (reduce_read line.now) (seen F.content F.faults files.old)
         (seen F.content F.faults files.new) refusal) }
 {
+    all_keep_protected();
     let problem = read_problem(alloc, line, files)?;
-    let guard = guard_of(alloc, line, problem.start())?;
+    let guard = guard_of(alloc, line, &problem)?;
     Ok((problem, guard))
 }
 
@@ -114,7 +142,7 @@ struct Steps<J> {
     outcome: Result<Vec<u8>, Refusal>,
 }
 
-/// The steps of `reduce` after the words: the grammar, the input, its tokens and tree, the keep texts,
+/// The steps of `reduce` after the words: the grammar, the input, its tokens and tree, what must stay,
 /// the reduction, and the result, which is written only at the end.
 fn reduce_steps<F: Files, G: Gate + Send, J: Sink + Drop + Send, W: Threads + Wait + Sync>(
     rt: &W,
@@ -170,7 +198,7 @@ fn reduce_steps<F: Files, G: Gate + Send, J: Sink + Drop + Send, W: Threads + Wa
 
 /// Reduces a file as the command line says, in this order: the grammar is read, where there is one;
 /// the input is read, and cut into tokens and parsed by the grammar; the keep texts are looked for in
-/// it; the gates of as many workers as the command line says are opened, and the journal; the gates are
+/// it, and the lines that are named; the gates of as many workers as the command line says are opened, and the journal; the gates are
 /// asked, one of them for each text, and each verdict is written into the journal before it is used; the
 /// result is written; and its report is put on `out`. A start whose verdict is no ends the run. The other
 /// workers do nothing.

@@ -1,3 +1,3 @@
-mod KeepsLemmas
+mod StaysLemmas
 mod NameLemmas
 mod OpeningLemmas

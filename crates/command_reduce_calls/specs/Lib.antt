@@ -1,6 +1,6 @@
 pub use Rattle.command_words.specs as CommandWords
 pub use Rattle.script_gate_trait.specs.Log
-pub use Rattle.keep_guard.specs.Keep
+pub use Rattle.line_guard.specs as LineGuard
 pub use Rattle.run_gated.specs.Faults
 pub use Rattle.reduce_journal.specs as ReduceJournal
 pub use Rattle.run_worker.specs.RunEnds
@@ -9,5 +9,5 @@ pub mod FileName
 pub mod Openings
 pub mod Journal
 pub mod Calls
-pub mod Keeps
+pub mod Stays
 pub mod inner

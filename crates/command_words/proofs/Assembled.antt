@@ -6,13 +6,14 @@ use Rattle.std.proofs.lemmas.List.{take_all}
 use Rattle.std.specs.List.{list_all}
 use Rattle.std.specs.Str.Parse.{digits_value}
 use Rattle.clap.specs.declared.parser.matches.ArgMatches.{ArgMatches}
-use Rattle.command_words.specs.Options.{OptionRow, Use, Values, fits_table, is_number_in, options_in, takes_value, uses_from, values_for, where_fits}
-use Rattle.command_words.specs.Tables.{normal_table, reduce_table, selftest_table, tree_modes}
-use Rattle.command_words.specs.Commands.{Command, GrammarSource, ModeOptions, ReduceOptions, SelftestOptions, command_line_of, command_of, is_given}
+use Rattle.command_words.specs.Options.{OptionRow, Use, Values, fits_table, is_number_in, options_in, span_of, takes_value, uses_from, values_for, where_fits}
+use Rattle.command_words.specs.Tables.{any_lines, normal_table, reduce_table, selftest_table, tree_modes}
+use Rattle.command_words.specs.Commands.{Command, GrammarSource, ModeOptions, ProtectOptions, ReduceOptions, SelftestOptions, command_line_of, command_of}
+use Rattle.command_words.specs.Commands.{is_given}
 use Rattle.command_words.specs.Commands.{mode_options, named_grammar, normal_line, number_of, reduce_line, reduce_of, reduction_in, selftest_line}
 use Rattle.command_words.specs.Commands.{selftest_of, text_of, tree_mode_named, tree_mode_of, value_of, value_or}
-use Rattle.command_words.specs.inner.Found.{HasFound, fitting_jobs, fitting_keeps, fitting_mode, fitting_number}
-use Rattle.command_words.specs.inner.Found.{line_of_parts, line_with, names_files, values_fit}
+use Rattle.command_words.specs.inner.Found.{HasFound, fitting_jobs, fitting_keeps, fitting_mode, fitting_number, fitting_protects}
+use Rattle.command_words.specs.inner.Found.{line_of_parts, line_with, names_files, protects_of_parts, values_fit}
 use Rattle.command_words.specs.inner.Read.{IsAnswered, IsOnce, IsTable}
 use Rattle.reduce_step.specs.declared.mode.TreeMode.{TreeMode}
 use Rattle.command_words.proofs.Fits.{fits_once, flags_once, normal_fits, reduce_fits, selftest_fits}
@@ -42,7 +43,7 @@ found_in_words table words matches read = record { once = read.once; has = read.
 -- ---- the tables
 
 pub reduce_is_table : IsTable reduce_table
-reduce_is_table = ((refl, (refl, (refl, (refl, (refl, (refl, (refl, (refl, (refl, (refl, (refl, (refl, tt)))))))))))), refl)
+reduce_is_table = ((refl, (refl, (refl, (refl, (refl, (refl, (refl, (refl, (refl, (refl, (refl, (refl, (refl, (refl, (refl, tt))))))))))))))), refl)
 
 pub normal_is_table : IsTable normal_table
 normal_is_table = ((refl, (refl, (refl, tt))), refl)
@@ -60,63 +61,90 @@ either_nothing true = refl
 either_nothing false = refl
 
 -- part by part, or all at once
-by_parts : (uses : List Use) (files mode_fits jobs_fit keeps_fit : Bool) (mode : Option ModeOptions)
+by_parts : (uses : List Use) (files mode_fits jobs_fit keeps_fit few spans texts only : Bool) (mode : Option ModeOptions)
     → (if files then line_of_parts uses (if mode_fits then mode else None)
     (if jobs_fit then Some (digits_value 10 (value_or (codes "1") (codes "jobs") uses)) else None)
-    (if keeps_fit then Some (values_for (codes "keep") uses) else None) else nothing)
-    ≡ (if files && (mode_fits && (jobs_fit && keeps_fit)) then option_map (reduction_in uses) mode else nothing)
-by_parts uses false mode_fits jobs_fit keeps_fit mode = refl
-by_parts uses true false jobs_fit keeps_fit mode = refl
-by_parts uses true true jobs_fit keeps_fit None = either_nothing (jobs_fit && keeps_fit)
-by_parts uses true true false keeps_fit (Some mode) = refl
-by_parts uses true true true false (Some mode) = refl
-by_parts uses true true true true (Some mode) = refl
+    (if keeps_fit then Some (values_for (codes "keep") uses) else None)
+    (protects_of_parts (if few then (if spans then Some (map span_of (values_for (codes "protect") uses)) else None) else None)
+    (if texts then Some (values_for (codes "protect-text") uses) else None)
+    (if only then Some (option_map span_of (value_of (codes "only") uses)) else None)) else nothing)
+    ≡ (if files && (mode_fits && (jobs_fit && (keeps_fit && ((few && spans) && (texts && only))))) then option_map (reduction_in uses) mode else nothing)
+by_parts uses false mode_fits jobs_fit keeps_fit few spans texts only mode = refl
+by_parts uses true false jobs_fit keeps_fit few spans texts only mode = refl
+by_parts uses true true jobs_fit keeps_fit few spans texts only None = either_nothing (jobs_fit && (keeps_fit && ((few && spans) && (texts && only))))
+by_parts uses true true false keeps_fit few spans texts only (Some mode) = refl
+by_parts uses true true true false few spans texts only (Some mode) = refl
+by_parts uses true true true true false spans texts only (Some mode) = refl
+by_parts uses true true true true true false texts only (Some mode) = refl
+by_parts uses true true true true true true false only (Some mode) = refl
+by_parts uses true true true true true true true false (Some mode) = refl
+by_parts uses true true true true true true true true (Some mode) = refl
 
 where_true : (uses : List Use) (b : Bool) → (if b then reduce_of uses else None) ≡ option_and_then reduce_of (if b then Some uses else None)
 where_true uses true = refl
 where_true uses false = refl
 
 pub reduce_found : (uses : List Use) → IsOnce reduce_table uses
-    → line_with uses (fitting_keeps uses) ≡ option_and_then reduce_of (where_fits reduce_table (Some uses))
+    → line_with uses (fitting_keeps uses) (fitting_protects uses) ≡ option_and_then reduce_of (where_fits reduce_table (Some uses))
 reduce_found uses once =
     by_parts uses (names_files uses) (values_fit (Values.one_of (codes "lines" ∷ tree_modes)) (codes "mode") uses)
-    (values_fit (Values.number 1 16) (codes "jobs") uses) (nat_le (length (values_for (codes "keep") uses)) 8) (mode_options uses)
+    (values_fit (Values.number 1 16) (codes "jobs") uses) (nat_le (length (values_for (codes "keep") uses)) 8)
+    (nat_le (length (values_for (codes "protect") uses)) 8) (values_fit any_lines (codes "protect") uses)
+    (nat_le (length (values_for (codes "protect-text") uses)) 8) (values_fit any_lines (codes "only") uses) (mode_options uses)
     ∙ sym (ap (λ (b : Bool). if b then reduce_of uses else None) (reduce_fits uses once))
     ∙ where_true uses (fits_table reduce_table uses)
 
 -- without keep texts there is no line
-pub no_line : (uses : List Use) → None ≡ line_with uses None
-no_line uses = go (names_files uses) (fitting_mode uses) (fitting_jobs uses)
+pub no_line : (uses : List Use) (protects : Option ProtectOptions) → None ≡ line_with uses None protects
+no_line uses protects = go (names_files uses) (fitting_mode uses) (fitting_jobs uses)
   where
-    go : (files : Bool) (mode : Option ModeOptions) (jobs : Option ℕ) → None ≡ (if files then line_of_parts uses mode jobs None else None)
+    go : (files : Bool) (mode : Option ModeOptions) (jobs : Option ℕ) → None ≡ (if files then line_of_parts uses mode jobs None protects else None)
     go false mode jobs = refl
     go true None jobs = refl
     go true (Some mode) None = refl
     go true (Some mode) (Some jobs) = refl
 
-pub line_without_files : (uses : List Use) (keeps : Option (List (List ℕ))) → names_files uses ≡ false → None ≡ line_with uses keeps
-line_without_files uses keeps none = sym (ap (λ (b : Bool). if b then line_of_parts uses (fitting_mode uses) (fitting_jobs uses) keeps else None) none)
-
-pub line_without_mode : (uses : List Use) (keeps : Option (List (List ℕ))) → None ≡ fitting_mode uses → None ≡ line_with uses keeps
-line_without_mode uses keeps none =
-    go (names_files uses) ∙ ap (λ (mode : Option ModeOptions). if names_files uses then line_of_parts uses mode (fitting_jobs uses) keeps else None) none
+-- nor is there one where what must stay isn't such
+pub nothing_stays : (uses : List Use) (keeps : Option (List (List ℕ))) → None ≡ line_with uses keeps None
+nothing_stays uses keeps = go (names_files uses) (fitting_mode uses) (fitting_jobs uses) keeps
   where
-    go : (files : Bool) → None ≡ (if files then line_of_parts uses None (fitting_jobs uses) keeps else None)
+    go : (files : Bool) (mode : Option ModeOptions) (jobs : Option ℕ) (keeps : Option (List (List ℕ)))
+        → None ≡ (if files then line_of_parts uses mode jobs keeps None else None)
+    go false mode jobs keeps = refl
+    go true None jobs keeps = refl
+    go true (Some mode) None keeps = refl
+    go true (Some mode) (Some jobs) None = refl
+    go true (Some mode) (Some jobs) (Some keeps) = refl
+
+pub line_without_files : (uses : List Use) (keeps : Option (List (List ℕ))) (protects : Option ProtectOptions) → names_files uses ≡ false
+    → None ≡ line_with uses keeps protects
+line_without_files uses keeps protects none =
+    sym (ap (λ (b : Bool). if b then line_of_parts uses (fitting_mode uses) (fitting_jobs uses) keeps protects else None) none)
+
+pub line_without_mode : (uses : List Use) (keeps : Option (List (List ℕ))) (protects : Option ProtectOptions) → None ≡ fitting_mode uses
+    → None ≡ line_with uses keeps protects
+line_without_mode uses keeps protects none =
+    go (names_files uses)
+    ∙ ap (λ (mode : Option ModeOptions). if names_files uses then line_of_parts uses mode (fitting_jobs uses) keeps protects else None) none
+  where
+    go : (files : Bool) → None ≡ (if files then line_of_parts uses None (fitting_jobs uses) keeps protects else None)
     go true = refl
     go false = refl
 
-pub line_without_jobs : (uses : List Use) (keeps : Option (List (List ℕ))) → None ≡ fitting_jobs uses → None ≡ line_with uses keeps
-line_without_jobs uses keeps none =
+pub line_without_jobs : (uses : List Use) (keeps : Option (List (List ℕ))) (protects : Option ProtectOptions) → None ≡ fitting_jobs uses
+    → None ≡ line_with uses keeps protects
+line_without_jobs uses keeps protects none =
     go (names_files uses) (fitting_mode uses)
-    ∙ ap (λ (jobs : Option ℕ). if names_files uses then line_of_parts uses (fitting_mode uses) jobs keeps else None) none
+    ∙ ap (λ (jobs : Option ℕ). if names_files uses then line_of_parts uses (fitting_mode uses) jobs keeps protects else None) none
   where
-    go : (files : Bool) (mode : Option ModeOptions) → None ≡ (if files then line_of_parts uses mode None keeps else None)
+    go : (files : Bool) (mode : Option ModeOptions) → None ≡ (if files then line_of_parts uses mode None keeps protects else None)
     go false mode = refl
     go true None = refl
     go true (Some mode) = refl
 
 -- what is said of the files, of the journal and of the folder, by their options
-line_is : (uses : List Use) (mode : ModeOptions) (jobs : ℕ) (keeps : List (List ℕ)) (input output script : List ℕ) (journal : Option (List ℕ)) (work : List ℕ)
+line_is : (uses : List Use) (mode : ModeOptions) (jobs : ℕ) (keeps : List (List ℕ)) (protects : ProtectOptions) (input output script : List ℕ)
+    (journal : Option (List ℕ)) (work : List ℕ)
     → input ≡ text_of (codes "input") uses
     → output ≡ text_of (codes "output") uses → script ≡ text_of (codes "script") uses → journal ≡ value_of (codes "journal") uses
     → work ≡ value_or (codes "perses-work") (codes "work") uses
@@ -130,13 +158,14 @@ line_is : (uses : List Use) (mode : ModeOptions) (jobs : ℕ) (keeps : List (Lis
       work = work;
       jobs = jobs;
       keeps = keeps;
+      protects = protects;
     })
-    ≡ line_of_parts uses (Some mode) (Some jobs) (Some keeps)
-line_is uses mode jobs keeps input output script journal work input_is output_is script_is journal_is work_is =
+    ≡ line_of_parts uses (Some mode) (Some jobs) (Some keeps) (Some protects)
+line_is uses mode jobs keeps protects input output script journal work input_is output_is script_is journal_is work_is =
     rw (input_is, output_is, script_is, journal_is, work_is) refl
 
-pub this_line : (uses : List Use) (mode : ModeOptions) (jobs : ℕ) (keeps : List (List ℕ)) (input output script : List ℕ) (journal : Option (List ℕ))
-    (work : List ℕ)
+pub this_line : (uses : List Use) (mode : ModeOptions) (jobs : ℕ) (keeps : List (List ℕ)) (protects : ProtectOptions) (input output script : List ℕ)
+    (journal : Option (List ℕ)) (work : List ℕ)
     → (names_files uses ≡ true) × (input ≡ text_of (codes "input") uses) × (output ≡ text_of (codes "output") uses) × (script ≡ text_of (codes "script") uses)
     → journal ≡ value_of (codes "journal") uses → work ≡ value_or (codes "perses-work") (codes "work") uses → Some mode ≡ fitting_mode uses
     → Some jobs ≡ fitting_jobs uses
@@ -149,12 +178,13 @@ pub this_line : (uses : List Use) (mode : ModeOptions) (jobs : ℕ) (keeps : Lis
       work = work;
       jobs = jobs;
       keeps = keeps;
+      protects = protects;
     })
-    ≡ line_with uses (Some keeps)
-this_line uses mode jobs keeps input output script journal work files journal_is work_is mode_is jobs_are =
-    line_is uses mode jobs keeps input output script journal work files.1 files.2 files.3 journal_is work_is
-    ∙ ap₂ (λ (m : Option ModeOptions) (j : Option ℕ). line_of_parts uses m j (Some keeps)) mode_is jobs_are
-    ∙ sym (ap (λ (b : Bool). if b then line_of_parts uses (fitting_mode uses) (fitting_jobs uses) (Some keeps) else None) files.0)
+    ≡ line_with uses (Some keeps) (Some protects)
+this_line uses mode jobs keeps protects input output script journal work files journal_is work_is mode_is jobs_are =
+    line_is uses mode jobs keeps protects input output script journal work files.1 files.2 files.3 journal_is work_is
+    ∙ ap₂ (λ (m : Option ModeOptions) (j : Option ℕ). line_of_parts uses m j (Some keeps) (Some protects)) mode_is jobs_are
+    ∙ sym (ap (λ (b : Bool). if b then line_of_parts uses (fitting_mode uses) (fitting_jobs uses) (Some keeps) (Some protects) else None) files.0)
 
 -- ---- a line of `normal`
 

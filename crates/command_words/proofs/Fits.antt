@@ -4,7 +4,7 @@ use Rattle.std.proofs.Common.{ap, subst, cond, is_some, slice_get, codes, arith,
 use Rattle.std.specs.List.{list_all}
 use Rattle.std.proofs.lemmas.Bool.{and_parts}
 use Rattle.command_words.specs.Options.{OptionRow, Use, Values, fits_row, fits_table, has_value, takes_value, values_for}
-use Rattle.command_words.specs.Tables.{normal_table, optional, reduce_table, required, selftest_table, tree_modes}
+use Rattle.command_words.specs.Tables.{any_lines, normal_table, optional, reduce_table, required, selftest_table, tree_modes}
 use Rattle.command_words.specs.Commands.{is_given}
 use Rattle.command_words.specs.inner.Found.{names_files, values_fit}
 use Rattle.command_words.specs.inner.Read.{IsOnce, is_several, takes_of}
@@ -57,30 +57,39 @@ keeps_fit values =
     ap (λ (b : Bool). (nat_le (length values) 8 && true) && b) (any_fits values) ∙ and_true (nat_le (length values) 8 && true)
     ∙ and_true (nat_le (length values) 8)
 
+pub spans_fit : (values : List (List ℕ))
+    → ((nat_le (length values) 8 && (true || nat_le 1 (length values))) && list_all (takes_value any_lines) values)
+    ≡ (nat_le (length values) 8 && list_all (takes_value any_lines) values)
+spans_fit values = ap (λ (b : Bool). b && list_all (takes_value any_lines) values) (and_true (nat_le (length values) 8))
+
 -- ---- tables
 
-reduce_conjuncts : (a b c e g j a' b' c' d l e' f g' h i j' k : Bool) → a ≡ a' → b ≡ b' → c ≡ c' → d ≡ true → l ≡ true → e ≡ e' → f ≡ true → g ≡ g' → h ≡ true
-    → i ≡ true → j ≡ j' → k ≡ true
-    → (a && (b && (c && (d && (l && (e && (f && (g && (h && (i && (j && (k && true)))))))))))) ≡ ((a' && (b' && c')) && (e' && (g' && j')))
-reduce_conjuncts a b c e g j a' b' c' d l e' f g' h i j' k a_is b_is c_is d_is l_is e_is f_is g_is h_is i_is j_is k_is =
-    rw (a_is, b_is, c_is, d_is, l_is, e_is, f_is, g_is, h_is, i_is, j_is, k_is) (regroup a' b' c' e' g' j')
+reduce_conjuncts : (a b c e g j m n o a' b' c' d l e' f g' h i j' k m' n' o' : Bool) → a ≡ a' → b ≡ b' → c ≡ c' → d ≡ true → l ≡ true → e ≡ e' → f ≡ true
+    → g ≡ g' → h ≡ true → i ≡ true → j ≡ j' → k ≡ true → m ≡ m' → n ≡ n' → o ≡ o'
+    → (a && (b && (c && (d && (l && (e && (f && (g && (h && (i && (j && (k && (m && (n && (o && true)))))))))))))))
+    ≡ ((a' && (b' && c')) && (e' && (g' && (j' && (m' && (n' && o'))))))
+reduce_conjuncts a b c e g j m n o a' b' c' d l e' f g' h i j' k m' n' o' a_is b_is c_is d_is l_is e_is f_is g_is h_is i_is j_is k_is m_is n_is o_is =
+    rw (a_is, b_is, c_is, d_is, l_is, e_is, f_is, g_is, h_is, i_is, j_is, k_is, m_is, n_is, o_is) (regroup a' b' c' e' g' j' m' n' o')
   where
-    regroup : (a b c e g j : Bool) → (a && (b && (c && (true && (true && (e && (true && (g && (true && (true && (j && (true && true))))))))))))
-        ≡ ((a && (b && c)) && (e && (g && j)))
-    regroup false b c e g j = refl
-    regroup true false c e g j = refl
-    regroup true true false e g j = refl
-    regroup true true true e g j = ap (λ (x : Bool). e && (g && x)) (and_true j)
+    regroup : (a b c e g j m n o : Bool)
+        → (a && (b && (c && (true && (true && (e && (true && (g && (true && (true && (j && (true && (m && (n && (o && true)))))))))))))))
+        ≡ ((a && (b && c)) && (e && (g && (j && (m && (n && o))))))
+    regroup false b c e g j m n o = refl
+    regroup true false c e g j m n o = refl
+    regroup true true false e g j m n o = refl
+    regroup true true true e g j m n o = ap (λ (x : Bool). e && (g && (j && (m && (n && x))))) (and_true o)
 
--- the options of `reduce` fit: the files are named, the mode and the number of workers are such, and there are not too many keep texts
+-- the options of `reduce` fit: the files are named, the mode and the number of workers are such, there are not too many keep texts, and what must stay is such
 pub reduce_fits : (uses : List Use) → IsOnce reduce_table uses
     → fits_table reduce_table uses
     ≡ (names_files uses
     && (values_fit (Values.one_of (codes "lines" ∷ tree_modes)) (codes "mode") uses &&
-    (values_fit (Values.number 1 16) (codes "jobs") uses && nat_le (length (values_for (codes "keep") uses)) 8)))
+    (values_fit (Values.number 1 16) (codes "jobs") uses && (nat_le (length (values_for (codes "keep") uses)) 8
+    && ((nat_le (length (values_for (codes "protect") uses)) 8 && values_fit any_lines (codes "protect") uses)
+    && (nat_le (length (values_for (codes "protect-text") uses)) 8 && values_fit any_lines (codes "only") uses))))))
 reduce_fits uses once =
     let g : List ℕ → List (List ℕ) = λ name. values_for name uses in
-    reduce_conjuncts _ _ _ _ _ _ _ _ _ _ _ _ _ _ _ _ _ _
+    reduce_conjuncts _ _ _ _ _ _ _ _ _ _ _ _ _ _ _ _ _ _ _ _ _ _ _ _
     (required_fits (g (codes "input")) (once (required (codes "input") Values.any_text) refl refl))
     (required_fits (g (codes "output")) (once (required (codes "output") Values.any_text) refl refl))
     (required_fits (g (codes "script")) (once (required (codes "script") Values.any_text) refl refl))
@@ -94,6 +103,9 @@ reduce_fits uses once =
     (optional_fits (g (codes "work")) (once (optional (codes "work") Values.any_text) refl refl))
     (keeps_fit (g (codes "keep")))
     (flag_fits (g (codes "squeeze")) (once (optional (codes "squeeze") Values.no_value) refl refl))
+    (spans_fit (g (codes "protect")))
+    (keeps_fit (g (codes "protect-text")))
+    (optional_values_fit any_lines (g (codes "only")) (once (optional (codes "only") any_lines) refl refl))
 
 normal_conjuncts : (a b c a' : Bool) → a ≡ a' → b ≡ true → c ≡ true → (a && (b && (c && true))) ≡ a'
 normal_conjuncts a b c a' a_is b_is c_is = rw (a_is, b_is, c_is) (and_true a')

@@ -1,13 +1,13 @@
 -- What the values that were found give, option by option.
 use Rattle.std.proofs.Common.{◌≡◌, ◌∙◌, ℕ, ◌<◌, ◌≤◌, Bool, true, false, ◌&&◌, ◌||◌, List, [], ◌∷◌, length, nat_le, Option, Some, None}
-use Rattle.std.proofs.Common.{MatchOption, refl, sym, ap, ap₂, bytes_eq, is_some, slice_get, unwrap_or, if◌then◌else◌, codes, arith}
+use Rattle.std.proofs.Common.{MatchOption, refl, sym, ap, ap₂, bytes_eq, is_some, option_map, slice_get, unwrap_or, if◌then◌else◌, codes, arith}
 use Rattle.std.proofs.lemmas.Bool.{le-leb, lt-leb}
 use Rattle.std.specs.List.{list_all}
 use Rattle.std.specs.Str.Parse.{digits_value}
-use Rattle.command_words.specs.Options.{OptionRow, Use, Values, has_value, is_number_in, row_of, takes_value, values_for}
-use Rattle.command_words.specs.Tables.{tree_modes}
+use Rattle.command_words.specs.Options.{LineSpan, OptionRow, Use, Values, has_value, is_number_in, is_span_in, row_of, span_of, takes_value, values_for}
+use Rattle.command_words.specs.Tables.{any_lines, tree_modes}
 use Rattle.command_words.specs.Commands.{ModeOptions, is_given, lines_options, text_of, tree_mode_named, trees_options, value_of}
-use Rattle.command_words.specs.inner.Found.{fitting_jobs, fitting_keeps, fitting_mode}
+use Rattle.command_words.specs.inner.Found.{fitting_jobs, fitting_mode, fitting_only, fitting_spans, fitting_texts, spans_in}
 use Rattle.command_words.specs.inner.Read.{NamesValue, where_some}
 use Rattle.reduce_step.specs.declared.mode.TreeMode.{TreeMode}
 use Rattle.reduce_step.specs.declared.mode.TreeMode.TheVariants.{Perses}
@@ -109,7 +109,7 @@ mode_of_trees uses text mode few some other takes named =
     then (if lines then lines_options uses else trees_options (tree_mode_named text) uses) else None) (mode_takes text true other takes) other)
     ∙ mode_is uses text few some
 
--- ---- keep texts
+-- ---- texts that may be given several times
 
 where_none : (values : List (List ℕ)) → where_some values ≡ None → values ≡ []
 where_none [] none = refl
@@ -122,16 +122,61 @@ where_these (v ∷ vs) texts some = cc some
 abbrev few_of : List (List ℕ) → Option (List (List ℕ))
 few_of values = if nat_le (length values) 8 then Some values else None
 
-pub no_keeps : (uses : List Use) → where_some (values_for (codes "keep") uses) ≡ None → Some [] ≡ fitting_keeps uses
-no_keeps uses none = sym (ap few_of (where_none (values_for (codes "keep") uses) none))
+pub no_texts : (name : List ℕ) (uses : List Use) → where_some (values_for name uses) ≡ None → Some [] ≡ fitting_texts name uses
+no_texts name uses none = sym (ap few_of (where_none (values_for name uses) none))
 
-pub keeps_are : (uses : List Use) (texts : List (List ℕ)) → where_some (values_for (codes "keep") uses) ≡ Some texts → few_of texts ≡ fitting_keeps uses
-keeps_are uses texts some = sym (ap few_of (where_these (values_for (codes "keep") uses) texts some))
+texts_are : (name : List ℕ) (uses : List Use) (texts : List (List ℕ)) → where_some (values_for name uses) ≡ Some texts → few_of texts ≡ fitting_texts name uses
+texts_are name uses texts some = sym (ap few_of (where_these (values_for name uses) texts some))
 
-pub too_many : (uses : List Use) (texts : List (List ℕ)) → 8 < length texts → where_some (values_for (codes "keep") uses) ≡ Some texts
-    → None ≡ fitting_keeps uses
-too_many uses texts many some = sym (ap (λ (b : Bool). if b then Some texts else None) (lt-leb (length texts) 8 many)) ∙ keeps_are uses texts some
+pub too_many : (name : List ℕ) (uses : List Use) (texts : List (List ℕ)) → 8 < length texts → where_some (values_for name uses) ≡ Some texts
+    → None ≡ fitting_texts name uses
+too_many name uses texts many some =
+    sym (ap (λ (b : Bool). if b then Some texts else None) (lt-leb (length texts) 8 many)) ∙ texts_are name uses texts some
 
-pub few_enough : (uses : List Use) (texts : List (List ℕ)) → length texts ≤ 8 → where_some (values_for (codes "keep") uses) ≡ Some texts
-    → Some texts ≡ fitting_keeps uses
-few_enough uses texts few some = sym (ap (λ (b : Bool). if b then Some texts else None) (le-leb (length texts) 8 few)) ∙ keeps_are uses texts some
+pub few_enough : (name : List ℕ) (uses : List Use) (texts : List (List ℕ)) → length texts ≤ 8 → where_some (values_for name uses) ≡ Some texts
+    → Some texts ≡ fitting_texts name uses
+few_enough name uses texts few some =
+    sym (ap (λ (b : Bool). if b then Some texts else None) (le-leb (length texts) 8 few)) ∙ texts_are name uses texts some
+
+-- ---- lines
+
+abbrev few_spans_of : List (List ℕ) → Option (List LineSpan)
+few_spans_of values = if nat_le (length values) 8 then spans_in values else None
+
+pub no_spans : (uses : List Use) → where_some (values_for (codes "protect") uses) ≡ None → Some [] ≡ fitting_spans uses
+no_spans uses none = sym (ap few_spans_of (where_none (values_for (codes "protect") uses) none))
+
+spans_are : (uses : List Use) (texts : List (List ℕ)) → where_some (values_for (codes "protect") uses) ≡ Some texts → few_spans_of texts ≡ fitting_spans uses
+spans_are uses texts some = sym (ap few_spans_of (where_these (values_for (codes "protect") uses) texts some))
+
+pub too_many_spans : (uses : List Use) (texts : List (List ℕ)) → 8 < length texts → where_some (values_for (codes "protect") uses) ≡ Some texts
+    → None ≡ fitting_spans uses
+too_many_spans uses texts many some =
+    sym (ap (λ (b : Bool). if b then spans_in texts else None) (lt-leb (length texts) 8 many)) ∙ spans_are uses texts some
+
+pub few_spans : (uses : List Use) (texts : List (List ℕ)) → length texts ≤ 8 → where_some (values_for (codes "protect") uses) ≡ Some texts
+    → spans_in texts ≡ fitting_spans uses
+few_spans uses texts few some =
+    sym (ap (λ (b : Bool). if b then spans_in texts else None) (le-leb (length texts) 8 few)) ∙ spans_are uses texts some
+
+-- the lines that these values give, if there are some
+abbrev only_from : List (List ℕ) → Option (Option LineSpan)
+only_from values = if list_all (takes_value any_lines) values then Some (option_map span_of (slice_get values 0)) else None
+
+pub no_only : (uses : List Use) → value_of (codes "only") uses ≡ None → Some None ≡ fitting_only uses
+no_only uses none = sym (ap only_from (no_values (values_for (codes "only") uses) none))
+
+-- what the text of `--only` gives
+only_with : (uses : List Use) (text : List ℕ) (b : Bool) → length (values_for (codes "only") uses) ≤ 1 → value_of (codes "only") uses ≡ Some text
+    → is_span_in 1 4294967295 text ≡ b → (if b && true then Some (Some (span_of text)) else None) ≡ fitting_only uses
+only_with uses text b few some is =
+    sym (ap (λ (fits : Bool). if fits && true then Some (Some (span_of text)) else None) is)
+    ∙ sym (ap only_from (one_value (values_for (codes "only") uses) text few some))
+
+pub no_span : (uses : List Use) (text : List ℕ) → length (values_for (codes "only") uses) ≤ 1 → value_of (codes "only") uses ≡ Some text
+    → is_span_in 1 4294967295 text ≡ false → None ≡ fitting_only uses
+no_span uses text few some is = only_with uses text false few some is
+
+pub this_span : (uses : List Use) (text : List ℕ) (span : LineSpan) → length (values_for (codes "only") uses) ≤ 1 → value_of (codes "only") uses ≡ Some text
+    → is_span_in 1 4294967295 text ≡ true → span ≡ span_of text → Some (Some span) ≡ fitting_only uses
+this_span uses text span few some is span_is = ap (λ (s : LineSpan). Some (Some s)) span_is ∙ only_with uses text true few some is

@@ -1,6 +1,7 @@
 mod Texts
 mod Parts
 mod Numbers
+mod Spans
 mod Rules
 mod Rows
 mod Steps

@@ -1,9 +1,9 @@
 -- Which words are a command line, and what it asks for.
 use Rattle.std.specs.Prelude.{ℕ, ◌||◌, Bool, List, [], ◌∷◌, ◌++◌, Option, Some, None, if◌then◌else◌, codes}
-use Rattle.std.specs.Prelude.{is_some, option_and_then, option_map, slice_get, unwrap_or}
+use Rattle.std.specs.Prelude.{is_some, map, option_and_then, option_map, slice_get, unwrap_or}
 use Rattle.std.specs.Str.{bytes_eq}
 use Rattle.std.specs.Str.Parse.{digits_value}
-use Rattle.command_words.specs.Options.{Use, options_in, values_for}
+use Rattle.command_words.specs.Options.{LineSpan, Use, options_in, span_of, values_for}
 use Rattle.command_words.specs.Tables.{normal_table, reduce_table, selftest_table}
 use Rattle.reduce_step.specs.declared.mode.TreeMode.{TreeMode}
 use Rattle.reduce_step.specs.declared.mode.TreeMode.TheVariants.{Hdd, Perses}
@@ -25,8 +25,14 @@ pub data ModeOptions : Type 0 where
   lines : ModeOptions
   by_grammar : GrammarOptions → ModeOptions
 
+-- which lines must stay: those of these numbers, those that hold one of the texts, and all but those of `only`
+pub record ProtectOptions : Type 0 where
+  pub lines : List LineSpan
+  pub texts : List (List ℕ)
+  pub only : Option LineSpan
+
 -- what a command line of `reduce` gives: the mode; the paths of the input, the output, the script and
--- the journal; the folder of the candidates; the number of workers; and the keep texts
+-- the journal; the folder of the candidates; the number of workers; the keep texts; and which lines must stay
 pub record ReduceOptions : Type 0 where
   pub mode : ModeOptions
   pub input : List ℕ
@@ -36,6 +42,7 @@ pub record ReduceOptions : Type 0 where
   pub work : List ℕ
   pub jobs : ℕ
   pub keeps : List (List ℕ)
+  pub protects : ProtectOptions
 
 -- what a command line of `selftest` gives: the number and the size of the program that is made and reduced, and the mode
 pub record SelftestOptions : Type 0 where
@@ -101,6 +108,14 @@ trees_options mode uses =
 abbrev pub mode_options : List Use → Option ModeOptions
 mode_options uses = if bytes_eq (text_of (codes "mode") uses) (codes "lines") then lines_options uses else trees_options (tree_mode_of uses) uses
 
+-- what `--protect`, `--protect-text` and `--only` say
+abbrev pub protects_in : List Use → ProtectOptions
+protects_in uses = record {
+  lines = map span_of (values_for (codes "protect") uses);
+  texts = values_for (codes "protect-text") uses;
+  only = option_map span_of (value_of (codes "only") uses);
+}
+
 -- a reduction in this mode; the journal has the output's name followed by `.journal` where none is given
 abbrev pub reduction_in : List Use → ModeOptions → ReduceOptions
 reduction_in uses mode = record {
@@ -112,6 +127,7 @@ reduction_in uses mode = record {
   work = value_or (codes "perses-work") (codes "work") uses;
   jobs = digits_value 10 (value_or (codes "1") (codes "jobs") uses);
   keeps = values_for (codes "keep") uses;
+  protects = protects_in uses;
 }
 
 abbrev pub reduce_of : List Use → Option ReduceOptions

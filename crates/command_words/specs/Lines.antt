@@ -1,11 +1,14 @@
 -- What is asked for by the command line that was read.
 use Rattle.std.specs.Prelude.{ℕ, ◌≤◌, ◌++◌, List, codes, map, option_map, unwrap_or}
-use Rattle.command_words.specs.Commands.{Command, GrammarSource, ModeOptions, ReduceOptions, SelftestOptions}
+use Rattle.command_words.specs.Options.{LineSpan}
+use Rattle.command_words.specs.Commands.{Command, GrammarSource, ModeOptions, ProtectOptions, ReduceOptions, SelftestOptions}
 use Rattle.command_words.specs.declared.commands.CommandLine.{CommandLine}
 use Rattle.command_words.specs.declared.commands.CommandLine.TheVariants as read
 use Rattle.command_words.specs.declared.commands.ModeLine.{ModeLine}
 use Rattle.command_words.specs.declared.commands.ModeLine.TheVariants as mode_read
 use Rattle.command_words.specs.declared.commands.NamedGrammar.{NamedGrammar}
+use Rattle.command_words.specs.declared.commands.LineSpan.{LineSpan as LineSpanRead}
+use Rattle.command_words.specs.declared.commands.ProtectLine.{ProtectLine}
 use Rattle.command_words.specs.declared.commands.ReduceLine.{ReduceLine}
 use Rattle.command_words.specs.declared.commands.SelftestLine.{SelftestLine}
 
@@ -16,6 +19,16 @@ grammar_read grammar =
 abbrev pub mode_of : ModeLine → ModeOptions
 mode_of mode_read.Lines = ModeOptions.lines
 mode_of (mode_read.ByGrammar line) = ModeOptions.by_grammar (record { grammar = grammar_read line.grammar; mode = line.mode; squeeze = line.squeeze })
+
+abbrev pub span_read : LineSpanRead → LineSpan
+span_read span = record { first = span.first; last = span.last }
+
+abbrev pub protects_read : ProtectLine → ProtectOptions
+protects_read protects = record {
+  lines = map span_read protects.lines.items;
+  texts = map (λ text. text.now) protects.texts.items;
+  only = option_map span_read protects.only;
+}
 
 -- the journal's path: the output's followed by `.journal` where none is named
 abbrev pub journal_of : ReduceLine → List ℕ
@@ -31,6 +44,7 @@ reduce_read line = record {
   work = line.work.now;
   jobs = line.jobs;
   keeps = map (λ keep. keep.now) line.keeps.items;
+  protects = protects_read line.protects;
 }
 
 abbrev pub selftest_read : SelftestLine → SelftestOptions

@@ -6,12 +6,13 @@ use Rattle.std.specs.Char.{is_ascii_digit}
 use Rattle.std.specs.Str.{bytes_eq}
 use Rattle.std.specs.Str.Parse.{digits_value}
 
--- which values an option takes: none, any text, one of these words, or a number from the first to the second
+-- which values an option takes: none, any text, one of these words, a number from the first to the second, or lines by two such numbers
 pub data Values : Type 0 where
   no_value : Values
   any_text : Values
   one_of : List (List ℕ) → Values
   number : ℕ → ℕ → Values
+  lines : ℕ → ℕ → Values
 
 -- an option that a command has: its name, without the hyphens; which values it takes; how often it may be there at most; and whether it must be there
 pub record OptionRow : Type 0 where
@@ -109,11 +110,31 @@ is_decimal (digit ∷ (next ∷ digits)) = not (digit == 48) && list_all is_asci
 abbrev pub is_number_in : ℕ → ℕ → List ℕ → Bool
 is_number_in least most text = is_decimal text && (nat_le least (digits_value 10 text) && nat_le (digits_value 10 text) most)
 
+-- the byte is `-`
+abbrev pub is_hyphen : ℕ → Bool
+is_hyphen byte = byte == 45
+
+-- the numbers of the first and the last of some lines
+pub record LineSpan : Type 0 where
+  pub first : ℕ
+  pub last : ℕ
+
+-- the lines of a text `first-last`
+abbrev pub span_of : List ℕ → LineSpan
+span_of text = record { first = digits_value 10 (before_first is_hyphen text); last = digits_value 10 (after_first is_hyphen text) }
+
+-- the text is two numbers in these bounds with a `-` between them, of which the first isn't greater than the second
+abbrev pub is_span_in : ℕ → ℕ → List ℕ → Bool
+is_span_in least most text =
+    is_number_in least most (before_first is_hyphen text)
+    && (is_number_in least most (after_first is_hyphen text) && nat_le (span_of text).first (span_of text).last)
+
 abbrev pub takes_value : Values → List ℕ → Bool
 takes_value Values.no_value value = true
 takes_value Values.any_text value = true
 takes_value (Values.one_of words) value = list_any (λ word. bytes_eq word value) words
 takes_value (Values.number least most) value = is_number_in least most value
+takes_value (Values.lines least most) value = is_span_in least most value
 
 -- the option of this row is there often enough and not too often, and takes each value that is given
 abbrev pub fits_row : List Use → OptionRow → Bool

@@ -18,6 +18,10 @@ repeated most name values = record { name = name; values = values; most = most; 
 abbrev pub tree_modes : List (List ℕ)
 tree_modes = codes "perses" ∷ codes "hdd" ∷ []
 
+-- lines, by the numbers of the first and the last, from 1
+abbrev pub any_lines : Values
+any_lines = Values.lines 1 4294967295
+
 -- `--grammar` must be there unless the mode is `lines`, in which it may not be, nor may `--lexer`, `--start` or `--squeeze`: `mode_options` says so
 abbrev pub reduce_table : List OptionRow
 reduce_table =
@@ -33,7 +37,10 @@ reduce_table =
     ∷ (optional (codes "work") Values.any_text
     ∷ (repeated 8 (codes "keep") Values.any_text
     ∷ (optional (codes "squeeze") Values.no_value
-    ∷ [])))))))))))
+    ∷ (repeated 8 (codes "protect") any_lines
+    ∷ (repeated 8 (codes "protect-text") Values.any_text
+    ∷ (optional (codes "only") any_lines
+    ∷ []))))))))))))))
 
 abbrev pub normal_table : List OptionRow
 normal_table =

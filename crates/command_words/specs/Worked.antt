@@ -33,6 +33,7 @@ plain_reduction mode =
       work = codes "perses-work";
       jobs = 1;
       keeps = [];
+      protects = record { lines = []; texts = []; only = None };
     })
 
 abbrev pub by_g : ModeOptions
@@ -53,6 +54,11 @@ with_all = record {
   work = codes "w";
   jobs = 16;
   keeps = codes "a=b" ∷ codes "c" ∷ [];
+  protects = record {
+    lines = record { first = 1; last = 4294967295 } ∷ record { first = 7; last = 7 } ∷ [];
+    texts = codes "2-1" ∷ [];
+    only = Some (record { first = 3; last = 20 });
+  };
 }
 
 -- the words of mode `lines`, and others after them
@@ -80,6 +86,14 @@ refused_lines =
     ∷ after_lines (codes " --jobs 01")
     ∷ after_lines (codes " --keep=")
     ∷ after_lines (codes " --keep -a")
+    ∷ after_lines (codes " --protect 2-1")
+    ∷ after_lines (codes " --protect 0-1")
+    ∷ after_lines (codes " --protect 2")
+    ∷ after_lines (codes " --protect 1-02")
+    ∷ after_lines (codes " --protect 1-2-3")
+    ∷ after_lines (codes " --only 1-4294967296")
+    ∷ after_lines (codes " --only 1-2 --only 1-2")
+    ∷ after_lines (codes " --protect-text -a")
     ∷ after_lines (codes " --")
     ∷ after_lines (codes " --keep 1 --keep 2 --keep 3 --keep 4 --keep 5 --keep 6 --keep 7 --keep 8 --keep 9")
     ∷ []
@@ -97,5 +111,6 @@ pub record WorkedLines : Type 0 where
   pub in_mode : asked (codes "perses selftest --mode hdd --number=4294967295 --size=1") ≡ Some
       (Command.selftest (record { number = 4294967295; size = 1; mode = Hdd }))
   pub all : asked
-      (codes "p reduce --squeeze --keep a=b --mode=hdd --start r --journal j --work w --jobs=16 --keep=c --lexer l --grammar g --input i --output o --script s")
+      (codes "p reduce --squeeze --keep a=b --mode=hdd --start r --journal j --work w --jobs=16 --keep=c --lexer l --protect 1-4294967295"
+      ++ codes " --protect-text=2-1 --only 3-20 --protect=7-7 --grammar g --input i --output o --script s")
       ≡ Some (Command.reduce with_all)

@@ -33,6 +33,24 @@ pub enum ModeLine<'a> {
     ByGrammar(GrammarLine<'a>),
 }
 
+/// Some lines, by the numbers of the first and the last, from 1.
+#[derive(Clone, Copy, Debug, PartialEq, Eq)]
+pub struct LineSpan {
+    pub first: u32,
+    pub last: u32,
+}
+
+/// Which lines of the input must stay.
+#[derive(Debug, Drop)]
+pub struct ProtectLine<'a> {
+    /// These lines.
+    pub lines: Vec<LineSpan>,
+    /// Lines that hold one of these texts.
+    pub texts: Vec<&'a str>,
+    /// All lines but these; none where it isn't said.
+    pub only: Option<LineSpan>,
+}
+
 /// What a command line of `reduce` gives.
 #[derive(Debug, Drop)]
 pub struct ReduceLine<'a> {
@@ -52,6 +70,8 @@ pub struct ReduceLine<'a> {
     pub jobs: u32,
     /// The texts that each candidate must hold, in their order.
     pub keeps: Vec<&'a str>,
+    /// Which lines of the input must stay.
+    pub protects: ProtectLine<'a>,
 }
 
 /// What a command line of `selftest` gives.

@@ -11,12 +11,16 @@ mod grammar;
 mod laws;
 mod normal;
 mod options;
+mod protects;
 mod reduce;
 mod selftest;
 mod values;
 mod words;
 
-pub use commands::{CommandLine, GrammarLine, ModeLine, NamedGrammar, ReduceLine, SelftestLine};
+pub use commands::{
+    CommandLine, GrammarLine, LineSpan, ModeLine, NamedGrammar, ProtectLine, ReduceLine,
+    SelftestLine,
+};
 pub use faults::Memory;
 pub use laws::worked_lines;
 pub use reduce::journal_name;

@@ -3,13 +3,14 @@
 ghost use Rattle.std.specs.Prelude.{◌≡◌, List, IfOk, MatchOption, codes, false, map, option_and_then, option_map, string_bytes, true, IfSome, ◌≤◌};
 ghost use Rattle.command_words.specs.Options.{Use, Values, takes_value, where_fits};
 ghost use Rattle.command_words.specs.Tables.{reduce_table, tree_modes};
-ghost use Rattle.command_words.specs.inner.Found.{HasFound, fitting_jobs, fitting_keeps, fitting_mode, line_with, names_files};
+ghost use Rattle.command_words.specs.inner.Found.{HasFound, fitting_jobs, fitting_mode, line_with, names_files};
 ghost use Rattle.command_words.specs.Commands.{lines_options, names_grammar, reduce_line, reduce_of, says_grammar, text_of, tree_mode_named, trees_options};
-ghost use Rattle.command_words.specs.Lines.{journal_of, mode_of, reduce_read};
+ghost use Rattle.command_words.specs.Lines.{journal_of, mode_of, protects_read, reduce_read};
 
-use crate::commands::{GrammarLine, ModeLine, ReduceLine};
+use crate::commands::{GrammarLine, ModeLine, ProtectLine, ReduceLine};
 use crate::grammar::grammar_of;
 use crate::options::{ClapOption, Takes, read_options};
+use crate::protects::{protects_of, texts_of};
 use crate::values::read_number;
 use clap::ArgMatches;
 use faults::Memory;
@@ -17,7 +18,7 @@ use reduce_step::TreeMode;
 use std::alloc::Global;
 
 /// The options of `reduce`.
-static OPTIONS: [ClapOption; 12] = [
+static OPTIONS: [ClapOption; 15] = [
     ClapOption {
         name: "input",
         takes: Takes::Value,
@@ -66,14 +67,24 @@ static OPTIONS: [ClapOption; 12] = [
         name: "squeeze",
         takes: Takes::Nothing,
     },
+    ClapOption {
+        name: "protect",
+        takes: Takes::Several,
+    },
+    ClapOption {
+        name: "protect-text",
+        takes: Takes::Several,
+    },
+    ClapOption {
+        name: "only",
+        takes: Takes::Value,
+    },
 ];
 
 /// The folder of the candidates, where none is named.
 const WORK_FOLDER: &str = "perses-work";
 /// The most workers.
 const MOST_JOBS: u32 = 16;
-/// The most keep texts of a command line.
-const MOST_KEEPS: usize = 8;
 
 /// What the words after `reduce` ask for. None where they are no options of it.
 pub(crate) fn read_reduce<'a>(
@@ -96,17 +107,25 @@ fn line_of<'a>(alloc: Global, matches: &ArgMatches<'a>) -> Result<Option<ReduceL
         → IfOk result (λ line. option_map reduce_read line ≡ option_and_then reduce_of (where_fits reduce_table (Some uses))) }
     ensures size { IfOk result (λ found. IfSome found (λ line. (1 ≤ line.jobs) × (line.jobs ≤ 16))) }
 {
-    match keeps_of(alloc, matches)? {
+    let Some(keeps) = texts_of(alloc, matches, "keep")? else {
+        return Ok(None);
+    };
+    match protects_of(alloc, matches)? {
         None => Ok(None),
-        Some(keeps) => Ok(line_with(matches, keeps)),
+        Some(protects) => Ok(line_with(matches, keeps, protects)),
     }
 }
 
-/// What the options that were found ask for, with these keep texts. None as for `line_of`.
-fn line_with<'a>(matches: &ArgMatches<'a>, keeps: Vec<&'a str>) -> Option<ReduceLine<'a>>
+/// What the options that were found ask for, with these keep texts and these lines that must stay. None as
+/// for `line_of`.
+fn line_with<'a>(
+    matches: &ArgMatches<'a>,
+    keeps: Vec<&'a str>,
+    protects: ProtectLine<'a>,
+) -> Option<ReduceLine<'a>>
     ensures size { IfSome result (λ line. (1 ≤ line.jobs) × (line.jobs ≤ 16)) }
     ensures line { (uses : List Use) → HasFound reduce_table uses matches.now
-        → option_map reduce_read result ≡ line_with uses (Some (map (λ keep. keep.now) keeps.entry.items)) }
+        → option_map reduce_read result ≡ line_with uses (Some (map (λ keep. keep.now) keeps.entry.items)) (Some (protects_read protects.entry)) }
 {
     let files = files_of(matches)?;
     let mode = mode_of(matches)?;
@@ -120,6 +139,7 @@ fn line_with<'a>(matches: &ArgMatches<'a>, keeps: Vec<&'a str>) -> Option<Reduce
         work: matches.get_str("work").unwrap_or(WORK_FOLDER),
         jobs,
         keeps,
+        protects,
     })
 }
 
@@ -221,18 +241,6 @@ fn jobs_of(matches: &ArgMatches<'_>) -> Option<u32>
     match matches.get_str("jobs") {
         None => Some(1),
         Some(jobs) => read_number(jobs, 1, MOST_JOBS),
-    }
-}
-
-/// The keep texts, where there are not too many.
-fn keeps_of<'a>(alloc: Global, matches: &ArgMatches<'a>) -> Result<Option<Vec<&'a str>>, Memory>
-    ensures { (uses : List Use) → HasFound reduce_table uses matches.now
-        → IfOk result (λ keeps. option_map (λ texts. map (λ text. text.now) texts.items) keeps ≡ fitting_keeps uses) }
-{
-    match matches.get_strs("keep") {
-        None => Ok(Some(Vec::new(alloc))),
-        Some(keeps) if keeps.len() > MOST_KEEPS => Ok(None),
-        Some(keeps) => Ok(Some(Vec::from_slice(alloc, keeps)?)),
     }
 }
 

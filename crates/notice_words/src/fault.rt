@@ -38,6 +38,11 @@ pub enum WordFault<'a> {
         least: u64,
         most: u64,
     },
+    /// The option's value isn't the numbers of a first and a last line.
+    NoLines {
+        option: &'static str,
+        value: &'a str,
+    },
     /// The command has no mode of this name.
     NoMode {
         value: &'a str,
@@ -81,6 +86,10 @@ impl fmt::Display for WordFault<'_> {
             } => write!(
                 f,
                 "--{option} wants a number from {least} to {most}, without a leading zero: '{value}'"
+            ),
+            WordFault::NoLines { option, value } => write!(
+                f,
+                "--{option} wants the numbers of a first and a last line, as 7-12: '{value}'"
             ),
             WordFault::NoMode { value } => write!(f, "no mode '{value}'"),
             WordFault::TooOften { option, most: 1 } => write!(f, "--{option} is there twice"),

@@ -15,6 +15,8 @@ pub(crate) enum Takes {
     TreeMode,
     /// A number from the first to the second.
     Number(u64, u64),
+    /// The numbers of a first and a last line.
+    Lines,
 }
 
 /// An option of a command.
@@ -30,9 +32,22 @@ pub(crate) struct Row {
     pub(crate) required: bool,
 }
 
-static REDUCE: [&str; 12] = [
-    "input", "output", "script", "grammar", "lexer", "mode", "start", "jobs", "journal", "work",
-    "keep", "squeeze",
+static REDUCE: [&str; 15] = [
+    "input",
+    "output",
+    "script",
+    "grammar",
+    "lexer",
+    "mode",
+    "start",
+    "jobs",
+    "journal",
+    "work",
+    "keep",
+    "squeeze",
+    "protect",
+    "protect-text",
+    "only",
 ];
 
 static NORMAL: [&str; 3] = ["grammar", "lexer", "start"];
@@ -52,12 +67,21 @@ pub(crate) fn options_of(command: &str) -> Option<&'static [&'static str]> {
 fn takes_of(command: &str, option: &str) -> Takes {
     match option {
         "squeeze" => Takes::Nothing,
+        "protect" | "only" => Takes::Lines,
         "jobs" => Takes::Number(1, 16),
         "number" => Takes::Number(0, 4_294_967_295),
         "size" => Takes::Number(1, 1500),
         "mode" if command == "reduce" => Takes::Mode,
         "mode" => Takes::TreeMode,
         _ => Takes::Text,
+    }
+}
+
+/// How often the option may be there.
+fn most_of(option: &str) -> usize {
+    match option {
+        "keep" | "protect" | "protect-text" => 8,
+        _ => 1,
     }
 }
 
@@ -74,7 +98,7 @@ pub(crate) fn row_of(command: &str, name: &'static str) -> Row {
     Row {
         name,
         takes: takes_of(command, name),
-        most: if name == "keep" { 8 } else { 1 },
+        most: most_of(name),
         required: is_required(command, name),
     }
 }
@@ -96,6 +120,20 @@ fn is_number(text: &str, least: u64, most: u64) -> bool {
     }
 }
 
+/// Whether the text is the numbers of a first and a last line, from 1, with a hyphen between them.
+fn is_lines(text: &str) -> bool {
+    let Some((first, last)) = text.split_once('-') else {
+        return false;
+    };
+    if !is_number(first, 1, 4_294_967_295) || !is_number(last, 1, 4_294_967_295) {
+        return false;
+    }
+    match (first.parse::<u64>(), last.parse::<u64>()) {
+        (Ok(first), Ok(last)) => first <= last,
+        _ => false,
+    }
+}
+
 impl Takes {
     /// Whether the option takes this value.
     fn accepts(self, value: &str) -> bool {
@@ -104,6 +142,7 @@ impl Takes {
             Takes::Mode => value == "perses" || value == "hdd" || value == "lines",
             Takes::TreeMode => value == "perses" || value == "hdd",
             Takes::Number(least, most) => is_number(value, least, most),
+            Takes::Lines => is_lines(value),
         }
     }
 }
@@ -128,6 +167,7 @@ impl Row {
                 least,
                 most,
             }),
+            Takes::Lines => Err(WordFault::NoLines { option, value }),
             _ => Err(WordFault::NoMode { value }),
         }
     }

@@ -55,7 +55,23 @@ fn names_the_word_or_the_option(rt: HostRuntime) -> Result<(), AllocError> {
             "{files} --grammar g --squeeze=1",
             "--squeeze takes no value",
         ),
+        (
+            "{files} --mode lines --protect 2-1",
+            "--protect wants the numbers of a first and a last line, as 7-12: '2-1'",
+        ),
+        (
+            "{files} --mode lines --only 1-02",
+            "--only wants the numbers of a first and a last line, as 7-12: '1-02'",
+        ),
+        (
+            "{files} --mode lines --only 1-2 --only 3-4",
+            "--only is there twice",
+        ),
         ("{files} --mode lines", "nothing"),
+        (
+            "{files} --mode lines --protect 7-12 --protect=1-1 --protect-text 2-1 --only 3-3",
+            "nothing",
+        ),
         ("{files} --grammar g --jobs 16", "nothing"),
         ("{files} --grammar g --lexer l", "nothing"),
     ];

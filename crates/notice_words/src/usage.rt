@@ -17,6 +17,9 @@ gets the name of a file as its argument, and ends with 0 if that still fails.
   --journal F  where each answer is kept; else the output's name and .journal
   --work D     the folder for candidates; else perses-work
   --keep T     a text that must stay, up to 8 times
+  --protect A-B  lines A to B must stay, up to 8 times
+  --protect-text T  each line with this text must stay, up to 8 times
+  --only A-B   all lines but A to B must stay
   --squeeze    tries the input without comments and long gaps first
 normal prints the normal form of a grammar. selftest reduces a generated case.
 On standard error PERSES_QUIET=1 in the environment silences all, and

@@ -160,12 +160,18 @@ ends 0 "$kept" reduce --mode lines --input mixed --output kept --script always -
 test "$(od -An -c kept | tr -d ' ')" = 'x\n'
 ends 0 "$kept" reduce --mode lines --input mixed --output kept --script always \
     --keep x --keep x --keep x --keep x --keep x --keep x --keep x --keep x
+# So does a line that is named, or that holds a text.
+ends 0 "$kept" reduce --mode lines --input mixed --output kept --script always --protect 2-2
+ends 0 "$kept" reduce --mode lines --input mixed --output kept --script always --protect-text x
+test "$(od -An -c kept | tr -d ' ')" = 'x\n'
 # A keep text that is no text is no command line, also where its bytes are in the input.
 ends 2 'perses: bad command line' reduce --mode lines --input mixed --output kept --script always --keep "$(printf '\377')"
-# No file changes where a keep text is missing.
+# No file changes where a keep text is missing, or a line.
 printf old > kept
 rm -r perses-work kept.journal
 ends 9 'perses: keep text 2 is missing' reduce --mode lines --input mixed --output kept --script always --keep x --keep y
+ends 16 'perses: line 4 is beyond line 3' reduce --mode lines --input mixed --output kept --script always \
+    --only 2-4
 test "$(cat kept)" = old
 test ! -e perses-work
 test ! -e kept.journal

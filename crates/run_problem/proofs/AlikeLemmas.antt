@@ -4,7 +4,6 @@ use Rattle.std.proofs.lemmas.List.Elements.{All-head, All-tail}
 use Rattle.std.proofs.lemmas.Slice.Eq.{bytes_eq-Decides}
 use Rattle.std.specs.Str.{bytes_eq}
 use Rattle.script_gate_trait.specs.declared.gate.Verdict.{Verdict}
-use Rattle.keep_guard.specs.Keep.{keeps_admit}
 use Rattle.verdict_table.specs.declared.record.Record.{Record}
 use Rattle.verdict_table.specs.TableState.{verdict_in}
 use Rattle.reduce_journal.specs.declared.counts.Counts.{Counts}
@@ -16,7 +15,7 @@ use Rattle.reduce_rounds.specs.Reduction.{Recursion, Reduction, capped_count, re
 use Rattle.reduce_rounds.proofs.Lent.{agreeing_maps}
 use Rattle.reduce_core.specs.Laws.{LinesAreRecursions}
 use Rattle.reduce_core.specs.LineMode.{line_mode}
-use Rattle.reduce_core.specs.Reduction.{line_recursion}
+use Rattle.reduce_core.specs.Reduction.{Admits, line_recursion}
 use Rattle.reduce_perses.specs.VisitRounds.{visit_round}
 use Rattle.reduce_hdd.specs.LevelRounds.{level_round}
 use Rattle.reduce_step.specs.declared.mode.TreeMode.TheVariants.{Hdd, Perses}
@@ -40,41 +39,41 @@ moved {T = T} one other same alike V W agree has has' =
     ∙ sym (same (says_yes W))
 
 pub problems_reduce_alike : LinesAreRecursions → WalksAreRecursions Perses visit_round → WalksAreRecursions Hdd level_round → ProblemsReduceAlike
-problems_reduce_alike lines visits levels keeps (Problem.of_lines start) is =
-    moved (line_recursion (keeps_admit keeps) start) (trials.recursion_of (line_mode (record { admits = keeps_admit keeps; start = start })))
-    (λ verdict. lines (keeps_admit keeps) verdict start) (agreeing_maps (line_mode (record { admits = keeps_admit keeps; start = start })))
-problems_reduce_alike lines visits levels keeps (Problem.of_tree Perses input) is =
+problems_reduce_alike lines visits levels guard (Problem.of_lines start) is =
+    moved (line_recursion guard start) (trials.recursion_of (line_mode (record { admits = guard; start = start })))
+    (λ verdict. lines guard verdict start) (agreeing_maps (line_mode (record { admits = guard; start = start })))
+problems_reduce_alike lines visits levels guard (Problem.of_tree Perses input) is =
     moved (tree_recursion (tree_round Perses input) input) (trials.recursion_of (walk_mode visit_round input)) (λ verdict. visits input verdict is)
     (agreeing_maps (walk_mode visit_round input))
-problems_reduce_alike lines visits levels keeps (Problem.of_tree Hdd input) is =
+problems_reduce_alike lines visits levels guard (Problem.of_tree Hdd input) is =
     moved (tree_recursion (tree_round Hdd input) input) (trials.recursion_of (walk_mode level_round input)) (λ verdict. levels input verdict is)
     (agreeing_maps (walk_mode level_round input))
 
-module _ (keeps : List (List ℕ)) (V W : List ℕ → Option Verdict) (agree : Agree V W) where
+module _ (guard : Admits) (V W : List ℕ → Option Verdict) (agree : Agree V W) where
   -- what is told of a reduction is the same of both
   record AreSame (problem : Problem) : Type 0 where
-    questions : questions_of keeps problem V ≡ questions_of keeps problem W
-    text : reduced_text keeps problem V ≡ reduced_text keeps problem W
-    units : reduced_units keeps problem V ≡ reduced_units keeps problem W
-    rounds : rounds_of keeps problem V ≡ rounds_of keeps problem W
+    questions : questions_of guard problem V ≡ questions_of guard problem W
+    text : reduced_text guard problem V ≡ reduced_text guard problem W
+    units : reduced_units guard problem V ≡ reduced_units guard problem W
+    rounds : rounds_of guard problem V ≡ rounds_of guard problem W
 
-  are_same : ProblemsReduceAlike → (problem : Problem) → IsProblem problem → HasVerdicts V (questions_of keeps problem V)
-      → HasVerdicts W (questions_of keeps problem W) → AreSame problem
+  are_same : ProblemsReduceAlike → (problem : Problem) → IsProblem problem → HasVerdicts V (questions_of guard problem V)
+      → HasVerdicts W (questions_of guard problem W) → AreSame problem
   are_same alike problem is has has' =
-      let same : reduction_of keeps problem V ≡ reduction_of keeps problem W = alike keeps problem is V W agree has has' in
+      let same : reduction_of guard problem V ≡ reduction_of guard problem W = alike guard problem is V W agree has has' in
       record {
         questions = ap (λ (r : Reduction (StateOf problem)). r.questions) same;
-        text = ap (λ (r : Reduction (StateOf problem)). (recursion_of keeps problem).text r.state) same;
-        units = ap (λ (r : Reduction (StateOf problem)). (recursion_of keeps problem).size r.state) same;
+        text = ap (λ (r : Reduction (StateOf problem)). (recursion_of guard problem).text r.state) same;
+        units = ap (λ (r : Reduction (StateOf problem)). (recursion_of guard problem).size r.state) same;
         rounds = ap (λ (r : Reduction (StateOf problem)). r.rounds) same;
       }
 
 -- ---- two runs
 
-counts_alike : (keeps : List (List ℕ)) (problem : Problem) (rs rs' : List Record) (agree : Agree (verdict_in rs) (verdict_in rs'))
-    → AreSame keeps (verdict_in rs) (verdict_in rs') agree problem
-    → counts_of keeps problem rs ≡ record (counts_of keeps problem rs') { records = length rs }
-counts_alike keeps problem rs rs' agree same = λ i. record {
+counts_alike : (guard : Admits) (problem : Problem) (rs rs' : List Record) (agree : Agree (verdict_in rs) (verdict_in rs'))
+    → AreSame guard (verdict_in rs) (verdict_in rs') agree problem
+    → counts_of guard problem rs ≡ record (counts_of guard problem rs') { records = length rs }
+counts_alike guard problem rs rs' agree same = λ i. record {
   start_units = units_of problem;
   end_units = same.units i;
   start_bytes = length (start_text problem);
@@ -85,12 +84,12 @@ counts_alike keeps problem rs rs' agree same = λ i. record {
 }
 
 pub runs_reduce_alike : ProblemsReduceAlike → RunsReduceAlike
-runs_reduce_alike alike workers workers' keeps problem history history' text text' counts counts' ran ran' agree =
+runs_reduce_alike alike workers workers' guard problem history history' text text' counts counts' ran ran' agree =
     let V = verdict_in (records_of history) in
     let W = verdict_in (records_of history') in
-    let same = are_same keeps V W agree alike problem ran.reduced.is_problem ran.reduced.defined ran'.reduced.defined in (
+    let same = are_same guard V W agree alike problem ran.reduced.is_problem ran.reduced.defined ran'.reduced.defined in (
       ran.reduced.is_text ∙ same.text ∙ sym ran'.reduced.is_text,
-      ran.is_counts ∙ counts_alike keeps problem (records_of history) (records_of history') agree same
+      ran.is_counts ∙ counts_alike guard problem (records_of history) (records_of history') agree same
           ∙ ap (λ (c : Counts). record c { records = length (records_of history) }) (sym ran'.is_counts),
     )
 

@@ -1,5 +1,5 @@
 -- What a run of a reducer says, in the words of the reduction of lines and of that of trees.
-use Rattle.std.proofs.Common.{◌≡◌, ◌≤◌, arith, ℕ, Bool, List, [], ◌∷◌, All, length, Option, IsSome, true}
+use Rattle.std.proofs.Common.{◌≡◌, ◌≤◌, arith, ℕ, List, [], ◌∷◌, All, length, Option, IsSome, true}
 use Rattle.std.proofs.Common.{false, refl, sym, ap, ◌∙◌, subst, inr, Result, Ok, Err}
 use Rattle.std.proofs.lemmas.Bool.{false≢true}
 use Rattle.std.proofs.lemmas.List.{length-append}
@@ -11,7 +11,6 @@ use Rattle.script_gate_trait.specs.declared.gate.Verdict.TheVariants.{Yes, No}
 use Rattle.verdict_table.specs.declared.record.Record.{Record}
 use Rattle.reduce_step.specs.Plan.{StepResult}
 use Rattle.verdict_table.specs.TableState.{texts_of, verdict_in}
-use Rattle.keep_guard.specs.Keep.{holds_all, keeps_admit}
 use Rattle.reduce_rounds.specs.ByTrials as trials
 use Rattle.reduce_rounds.specs.Reduction.{Recursion, Reduction, reduction}
 use Rattle.reduce_rounds.specs.Trials.{IsTriedAtNo}
@@ -36,9 +35,10 @@ use Rattle.reduce_core.specs.Laws.{LinesAreRecursions, LinesEndMinimal}
 use Rattle.reduce_core.specs.LineMode.{AreOfStart, LineInput, line_mode}
 use Rattle.reduce_core.specs.Candidates.{IsLineCandidate, IsSubsequence}
 use Rattle.reduce_core.specs.Candidates.IsSubsequence.{nothing, keeps as keeps_line, leaves as leaves_line}
-use Rattle.reduce_core.specs.Lines.{numbered_lines, text_of}
-use Rattle.reduce_core.specs.Reduction.{is_listed, line_recursion}
+use Rattle.reduce_core.specs.Lines.{numbered_lines, numbers_of, text_of}
+use Rattle.reduce_core.specs.Reduction.{Admits, is_listed, line_recursion}
 use Rattle.reduce_core.proofs.Lent.{text-numbered_lines}
+use Rattle.syntax_tree.specs.Trees.{leaves}
 use Rattle.reduce_trees_mode.specs.Input.{IsInput, TreeInput, TreeState}
 use Rattle.reduce_trees_mode.specs.Candidates.{IsCandidate}
 use Rattle.reduce_trees_mode.specs.Listed.{IsKept, text_of_state}
@@ -70,14 +70,18 @@ none_answers may_say run none same = record {
     no_records : records_of run.history ≡ []
     no_records = ap records_of none
 
-module _ (keeps : List (List ℕ)) where
+module _ (guard : Admits) where
   -- the input of mode lines
   abbrev pub lines_of : List ℕ → LineInput
-  lines_of start = record { admits = keeps_admit keeps; start = start }
+  lines_of start = record { admits = guard; start = start }
 
-  -- a start in which each keep text occurs is admitted
-  pub admits_start : (start : List ℕ) → holds_all keeps start ≡ true → is_listed (keeps_admit keeps) (numbered_lines start) ≡ true
-  admits_start start kept = ap (holds_all keeps) (text-numbered_lines start) ∙ kept
+  -- the start is admitted with all of its lines
+  abbrev pub IsAdmitted : List ℕ → Type 0
+  IsAdmitted start = guard (numbers_of (numbered_lines start)) start ≡ true
+
+  -- so it may be asked
+  pub admits_start : (start : List ℕ) → IsAdmitted start → is_listed guard (numbered_lines start) ≡ true
+  admits_start start kept = ap (guard (numbers_of (numbered_lines start))) (text-numbered_lines start) ∙ kept
 
   -- some lines of a start have no more bytes than all of them
   part_no_longer : (lines all : List Line) → IsSubsequence lines all → length (text_of lines) ≤ length (text_of all)
@@ -101,10 +105,10 @@ module _ (keeps : List (List ℕ)) where
 
   -- the history is one of lines
   pub are_of : HistoriesGoByQuestions → (workers : ℕ) (start : List ℕ) (history : History)
-      → AreOfMode workers (line_mode (lines_of start)) (AreOfStart (lines_of start)) history → AreOf workers keeps (Problem.of_lines start) history
+      → AreOfMode workers (line_mode (lines_of start)) (AreOfStart (lines_of start)) history → AreOf workers guard (Problem.of_lines start) history
   are_of by workers start history of =
       let records : List Record = records_of history in
-      let goes : GoesByQuestions keeps (Problem.of_lines start) history = by keeps (Problem.of_lines start) tt history in
+      let goes : GoesByQuestions guard (Problem.of_lines start) history = by guard (Problem.of_lines start) tt history in
       record {
         distinct = of.legal.distinct;
         legal = goes.answers of.legal;
@@ -112,7 +116,7 @@ module _ (keeps : List (List ℕ)) where
         sequential = λ alone. subst (IsPrefix history) goes.alone (of.sequential alone);
         candidates =
             All-weaker (λ (r : Record). IsTextOf (line_mode (lines_of start)) (AreOfStart (lines_of start)) r.text)
-            (λ (r : Record). IsLineCandidate (keeps_admit keeps) start r.text)
+            (λ (r : Record). IsLineCandidate guard start r.text)
             (λ r one. record { lines = one.state; some = one.kept; listed = one.listed; joined = one.same }) records of.candidates;
         short =
             All-weaker (λ (r : Record). IsTextOf (line_mode (lines_of start)) (AreOfStart (lines_of start)) r.text)
@@ -123,34 +127,34 @@ module _ (keeps : List (List ℕ)) where
       }
 
   module _ (recursions : LinesAreRecursions) (by : HistoriesGoByQuestions) (start : List ℕ) (run : Run)
-      (legal : IsLegal (reducer_of keeps (Problem.of_lines start)) run.history) where
+      (legal : IsLegal (reducer_of guard (Problem.of_lines start)) run.history) where
     abbrev records : List Record
     records = records_of run.history
 
-    goes : GoesByQuestions keeps (Problem.of_lines start) run.history
-    goes = by keeps (Problem.of_lines start) tt run.history
+    goes : GoesByQuestions guard (Problem.of_lines start) run.history
+    goes = by guard (Problem.of_lines start) tt run.history
 
     abbrev R : Reduction (List Line)
-    R = reduction (line_recursion (keeps_admit keeps) start) (says_yes (verdict_in records))
+    R = reduction (line_recursion guard start) (says_yes (verdict_in records))
 
     same_reduction : reduction_over (line_mode (lines_of start)) records ≡ R
-    same_reduction = sym (recursions (keeps_admit keeps) (says_yes (verdict_in records)) start)
+    same_reduction = sym (recursions guard (says_yes (verdict_in records)) start)
 
     first_text : (verdict : Verdict) → FirstIs (text_of (numbered_lines start)) verdict records → FirstIs start verdict records
     first_text verdict first = subst (λ (text : List ℕ). FirstIs text verdict records) (text-numbered_lines start) first
 
     -- the start is reduced to the text of the result
-    reduces : LinesEndMinimal → holds_all keeps start ≡ true → (result : StepResult) (counts : Counts)
+    reduces : LinesEndMinimal → IsAdmitted start → (result : StepResult) (counts : Counts)
         → counts ≡ ends.counts_of_result (length (numbered_lines start)) (length (text_of (numbered_lines start))) result (length records)
         → ReducesIn run.workers (line_mode (lines_of start)) (AreOfStart (lines_of start)) run.history result
-        → ReducesFrom run.workers keeps (Problem.of_lines start) run.history result.text counts
+        → ReducesFrom run.workers guard (Problem.of_lines start) run.history result.text counts
     reduces minimal kept result counts are_counts it =
         let V = verdict_in records in
         let defined : HasVerdicts V R.questions = subst (λ (r : Reduction (List Line)). HasVerdicts V r.questions) same_reduction it.defined in
         let interesting : R.refused ≡ false = sym (ap (λ (r : Reduction (List Line)). r.refused) same_reduction) ∙ it.interesting in
         let text : result.text ≡ text_of R.state =
         ap (λ (r : StepResult). r.text) it.is_result ∙ ap (λ (r : Reduction (List Line)). text_of r.state) same_reduction in
-        let well = minimal (keeps_admit keeps) V start (admits_start start kept) interesting defined in
+        let well = minimal guard V start (admits_start start kept) interesting defined in
         record {
           first = first_text Yes it.first;
           reduced =
@@ -160,7 +164,7 @@ module _ (keeps : List (List ℕ)) where
                 interesting = interesting;
                 is_text = text;
                 yes_at_end = ap V text ∙ well.yes_at_end;
-                keeps_stay = ap (holds_all keeps) text ∙ well.listed;
+                admitted = ap (guard (numbers_of R.state)) text ∙ well.listed;
                 candidate = record { lines = R.state; some = well.kept; listed = well.listed; joined = text };
                 minimal = well.minimal;
               };
@@ -174,7 +178,7 @@ module _ (keeps : List (List ℕ)) where
         }
 
     -- why the start has no reduction
-    fails : (fault : RunFault) → RunFailsIn (line_mode (lines_of start)) run fault → RunFails keeps (Problem.of_lines start) run fault
+    fails : (fault : RunFault) → RunFailsIn (line_mode (lines_of start)) run fault → RunFails guard (Problem.of_lines start) run fault
     fails run_fault.NotInteresting why =
         (record { first = first_text No why.0; only = why.1; whole = λ alone. why.3 alone ∙ goes.alone; committed = goes.answered legal why.4 }, why.2)
     fails (run_fault.Script worker) why = (
@@ -192,10 +196,10 @@ module _ (keeps : List (List ℕ)) where
     fails run_fault.Memory why = why
 
     -- how the run of the start's lines ends
-    pub lines_end : LinesEndMinimal → holds_all keeps start ≡ true → (result : Result Reduced RunFault)
-        → RunEndsIn (line_mode (lines_of start)) (AreOfStart (lines_of start)) run result → ProblemEnds keeps (Problem.of_lines start) run result
+    pub lines_end : LinesEndMinimal → IsAdmitted start → (result : Result Reduced RunFault)
+        → RunEndsIn (line_mode (lines_of start)) (AreOfStart (lines_of start)) run result → ProblemEnds guard (Problem.of_lines start) run result
     lines_end minimal kept (Ok reduced) came = (
-      subst (λ (text : List ℕ). ReducesFrom run.workers keeps (Problem.of_lines start) run.history text reduced.counts) (sym came.0.1)
+      subst (λ (text : List ℕ). ReducesFrom run.workers guard (Problem.of_lines start) run.history text reduced.counts) (sym came.0.1)
           (reduces minimal kept came.0.0 reduced.counts came.0.2 came.0.3),
       came.1,
     )
@@ -206,16 +210,16 @@ none_answered : (questions : List (List ℕ)) → thread_history (verdict_in [])
 none_answered [] = refl
 none_answered (text ∷ questions) = refl
 
-none_own : (keeps : List (List ℕ)) (problem : Problem) → thread_over keeps problem [] ≡ []
-none_own keeps problem = none_answered (questions_over keeps problem [])
+none_own : (guard : Admits) (problem : Problem) → thread_over guard problem [] ≡ []
+none_own guard problem = none_answered (questions_over guard problem [])
 
-pub none_of : (workers : ℕ) (keeps : List (List ℕ)) (problem : Problem) (history : History) → history ≡ [] → AreOf workers keeps problem history
+pub none_of : (workers : ℕ) (guard : Admits) (problem : Problem) (history : History) → history ≡ [] → AreOf workers guard problem history
 unfolding IsDistinct
-none_of workers keeps problem history none = subst (AreOf workers keeps problem) (sym none) (record {
+none_of workers guard problem history none = subst (AreOf workers guard problem) (sym none) (record {
   distinct = tt;
-  legal = (questions_over keeps problem [], refl);
+  legal = (questions_over guard problem [], refl);
   readable = tt;
-  sequential = λ _. ([], none_own keeps problem);
+  sequential = λ _. ([], none_own guard problem);
   candidates = All-nil _;
   short = All-nil _;
   first = tt;
@@ -230,11 +234,11 @@ module _ (run : Run) (none : run.history ≡ []) (out : run.outcome ≡ Err run_
     journal = subst (JournalHas run) (sym out) (inr (none, ap (λ (r : Reached). r.journal.shown) same), ap (λ (r : Reached). r.journal.faults) same);
   }
 
-  pub refused_of : (keeps : List (List ℕ)) (problem : Problem) → IsRunOf keeps problem run
-  refused_of keeps problem = record {
-    history = none_of run.workers keeps problem run.history none;
+  pub refused_of : (guard : Admits) (problem : Problem) → IsRunOf guard problem run
+  refused_of guard problem = record {
+    history = none_of run.workers guard problem run.history none;
     ends =
-        subst (ProblemEnds keeps problem run) (sym out) (ap (λ (r : Reached). r.journal.faults) same, λ _. ap (λ (r : Reached). fault_counts_of r.gates) same);
+        subst (ProblemEnds guard problem run) (sym out) (ap (λ (r : Reached). r.journal.faults) same, λ _. ap (λ (r : Reached). fault_counts_of r.gates) same);
   }
 
 -- the start is asked first, so without a record the reduction waits for its verdict
@@ -243,11 +247,11 @@ start_known : {T : Type 0} (V : List ℕ → Option Verdict) (recursion : Recurs
 unfolding reduction
 start_known V recursion has = has.0
 
-none_waits : (keeps : List (List ℕ)) (problem : Problem) → HasVerdicts (verdict_in []) (questions_of keeps problem (verdict_in [])) → ⊥
-none_waits keeps problem has = false≢true (start_known (verdict_in []) (recursion_of keeps problem) has)
+none_waits : (guard : Admits) (problem : Problem) → HasVerdicts (verdict_in []) (questions_of guard problem (verdict_in [])) → ⊥
+none_waits guard problem has = false≢true (start_known (verdict_in []) (recursion_of guard problem) has)
 
-pub unfinished_without : (keeps : List (List ℕ)) (problem : Problem) → IsUnfinished keeps problem []
-unfinished_without keeps problem = record { waits = none_waits keeps problem; not_no = λ first_no. first_no; whole = sym (none_own keeps problem) }
+pub unfinished_without : (guard : Admits) (problem : Problem) → IsUnfinished guard problem []
+unfinished_without guard problem = record { waits = none_waits guard problem; not_no = λ first_no. first_no; whole = sym (none_own guard problem) }
 
 -- What a run of a reducer of trees says, in the words of the reduction of trees.
 module _ (mode : TreeMode) (laws : IsTreeMode (round_trials mode) (IsEditBy mode)) (recursions : WalksAreRecursions mode (round_trials mode))
@@ -258,28 +262,28 @@ module _ (mode : TreeMode) (laws : IsTreeMode (round_trials mode) (IsEditBy mode
   abbrev trees : RoundMode TreeState
   trees = walk_mode (round_trials mode) input
 
-  -- the reduction over the records, whatever the keep texts are
-  abbrev over_records : List (List ℕ) → Reduction TreeState
-  over_records keeps = reduction_of keeps (Problem.of_tree mode input) (verdict_in tree_records)
+  -- the reduction over the records, whatever is said to be admitted
+  abbrev over_records : Admits → Reduction TreeState
+  over_records guard = reduction_of guard (Problem.of_tree mode input) (verdict_in tree_records)
 
-  same_trees : (keeps : List (List ℕ)) → reduction_over trees tree_records ≡ over_records keeps
-  same_trees keeps = sym (recursions input (says_yes (verdict_in tree_records)) is)
+  same_trees : (guard : Admits) → reduction_over trees tree_records ≡ over_records guard
+  same_trees guard = sym (recursions input (says_yes (verdict_in tree_records)) is)
 
   begins : BeginsWith trees input.start
   begins = laws.begins input is admitted
 
-  goes_on : (keeps : List (List ℕ)) → GoesByQuestions keeps (Problem.of_tree mode input) run.history
-  goes_on keeps = by keeps (Problem.of_tree mode input) is run.history
+  goes_on : (guard : Admits) → GoesByQuestions guard (Problem.of_tree mode input) run.history
+  goes_on guard = by guard (Problem.of_tree mode input) is run.history
 
   -- the history is one of trees
-  are_of_tree : (keeps : List (List ℕ)) → AreOfMode run.workers trees (IsKept input) run.history
-      → AreOf run.workers keeps (Problem.of_tree mode input) run.history
-  are_of_tree keeps of =
+  are_of_tree : (guard : Admits) → AreOfMode run.workers trees (IsKept input) run.history
+      → AreOf run.workers guard (Problem.of_tree mode input) run.history
+  are_of_tree guard of =
       record {
         distinct = of.legal.distinct;
-        legal = (goes_on keeps).answers of.legal;
+        legal = (goes_on guard).answers of.legal;
         readable = of.readable;
-        sequential = λ alone. subst (IsPrefix run.history) (goes_on keeps).alone (of.sequential alone);
+        sequential = λ alone. subst (IsPrefix run.history) (goes_on guard).alone (of.sequential alone);
         candidates =
             All-weaker (λ (r : Record). IsTextOf trees (IsKept input) r.text) (λ (r : Record). IsCandidate input r.text)
             (λ r one. laws.asks input r.text is one) tree_records of.candidates;
@@ -291,14 +295,14 @@ module _ (mode : TreeMode) (laws : IsTreeMode (round_trials mode) (IsEditBy mode
       }
 
   -- the tree is reduced to the text of the result
-  tree_reduces : (keeps : List (List ℕ)) → IsLegal (plan_first trees) run.history → input.admits ≡ keeps_admit keeps → (result : StepResult) (counts : Counts)
+  tree_reduces : (guard : Admits) → IsLegal (plan_first trees) run.history → input.admits ≡ guard → (result : StepResult) (counts : Counts)
       → counts ≡ ends.counts_of_result (trees.size trees.start) (length (trees.text trees.start)) result (length tree_records)
       → ReducesIn run.workers trees (IsKept input) run.history result
-      → ReducesFrom run.workers keeps (Problem.of_tree mode input) run.history result.text counts
-  tree_reduces keeps legal admits result counts are_counts it =
+      → ReducesFrom run.workers guard (Problem.of_tree mode input) run.history result.text counts
+  tree_reduces guard legal admits result counts are_counts it =
       let V = verdict_in tree_records in
-      let R = over_records keeps in
-      let same = same_trees keeps in
+      let R = over_records guard in
+      let same = same_trees guard in
       let well =
       subst (λ (r : Reduction TreeState). EndsWell trees (IsKept input) (λ one other. IsTriedAtNo (trees.round one) other) V r.state) same
       (it.ends_well (laws.lawful input is) begins.listed) in
@@ -316,7 +320,8 @@ module _ (mode : TreeMode) (laws : IsTreeMode (round_trials mode) (IsEditBy mode
               interesting = sym (ap (λ (r : Reduction TreeState). r.refused) same) ∙ it.interesting;
               is_text = text;
               yes_at_end = ap V text ∙ well.yes_at_end;
-              keeps_stay = sym (ap (λ (a : List ℕ → List ℕ → Bool). a candidate.kept result.text) admits) ∙ candidate.admitted;
+              admitted =
+                  sym (ap (λ (a : Admits). a (leaves R.state.tree) result.text) admits) ∙ ap (input.admits (leaves R.state.tree)) text ∙ end.listed.admitted;
               candidate = candidate;
               minimal = end.minimal;
             };
@@ -325,49 +330,49 @@ module _ (mode : TreeMode) (laws : IsTreeMode (round_trials mode) (IsEditBy mode
             (it.is_result ∙ ap (result_of (trials.recursion_of trees)) same)
             ∙ ap (λ (text : List ℕ). ends.counts_of_result (trees.size trees.start) (length text) (result_of (trials.recursion_of trees) R)
             (length tree_records)) begins.text;
-        whole = λ alone. it.whole alone ∙ (goes_on keeps).alone;
-        committed = (goes_on keeps).answered legal it.committed;
+        whole = λ alone. it.whole alone ∙ (goes_on guard).alone;
+        committed = (goes_on guard).answered legal it.committed;
       }
 
   -- why the tree has no reduction
-  tree_fails : (keeps : List (List ℕ)) → IsLegal (plan_first trees) run.history → (fault : RunFault) → RunFailsIn trees run fault
-      → RunFails keeps (Problem.of_tree mode input) run fault
-  tree_fails keeps legal run_fault.NotInteresting why = (
+  tree_fails : (guard : Admits) → IsLegal (plan_first trees) run.history → (fault : RunFault) → RunFailsIn trees run fault
+      → RunFails guard (Problem.of_tree mode input) run fault
+  tree_fails guard legal run_fault.NotInteresting why = (
     record {
       first = subst (λ (start : List ℕ). FirstIs start No tree_records) begins.text why.0;
       only = why.1;
-      whole = λ alone. why.3 alone ∙ (goes_on keeps).alone;
-      committed = (goes_on keeps).answered legal why.4;
+      whole = λ alone. why.3 alone ∙ (goes_on guard).alone;
+      committed = (goes_on guard).answered legal why.4;
     },
     why.2,
   )
-  tree_fails keeps legal (run_fault.Script worker) why = (
+  tree_fails guard legal (run_fault.Script worker) why = (
     why.0,
     why.1,
     λ alone.
         let waits = why.2 alone in
         record {
-          waits = λ has. waits.1 (subst (λ (r : Reduction TreeState). HasVerdicts (verdict_in tree_records) r.questions) (sym (same_trees keeps)) has);
+          waits = λ has. waits.1 (subst (λ (r : Reduction TreeState). HasVerdicts (verdict_in tree_records) r.questions) (sym (same_trees guard)) has);
           not_no = waits.0;
-          whole = waits.2 ∙ (goes_on keeps).alone;
+          whole = waits.2 ∙ (goes_on guard).alone;
         },
   )
-  tree_fails keeps legal run_fault.Journal why = why
-  tree_fails keeps legal run_fault.Memory why = why
+  tree_fails guard legal run_fault.Journal why = why
+  tree_fails guard legal run_fault.Memory why = why
 
   -- how the run of the tree ends
-  tree_ends : (keeps : List (List ℕ)) → IsLegal (plan_first trees) run.history → input.admits ≡ keeps_admit keeps → (result : Result Reduced RunFault)
-      → RunEndsIn trees (IsKept input) run result → ProblemEnds keeps (Problem.of_tree mode input) run result
-  tree_ends keeps legal admits (Ok reduced) came = (
-    subst (λ (text : List ℕ). ReducesFrom run.workers keeps (Problem.of_tree mode input) run.history text reduced.counts) (sym came.0.1)
-        (tree_reduces keeps legal admits came.0.0 reduced.counts came.0.2 came.0.3),
+  tree_ends : (guard : Admits) → IsLegal (plan_first trees) run.history → input.admits ≡ guard → (result : Result Reduced RunFault)
+      → RunEndsIn trees (IsKept input) run result → ProblemEnds guard (Problem.of_tree mode input) run result
+  tree_ends guard legal admits (Ok reduced) came = (
+    subst (λ (text : List ℕ). ReducesFrom run.workers guard (Problem.of_tree mode input) run.history text reduced.counts) (sym came.0.1)
+        (tree_reduces guard legal admits came.0.0 reduced.counts came.0.2 came.0.3),
     came.1,
   )
-  tree_ends keeps legal admits (Err fault) came = tree_fails keeps legal fault came
+  tree_ends guard legal admits (Err fault) came = tree_fails guard legal fault came
 
-  -- what the run of the tree comes to, with the keep texts that say what is admitted
-  pub tree_run : (keeps : List (List ℕ)) → input.admits ≡ keeps_admit keeps → (so_far : StepResult) → IsStart trees so_far
-      → IsRunIn trees (IsKept input) so_far run → IsRunOf keeps (Problem.of_tree mode input) run
-  tree_run keeps admits so_far start ran =
+  -- what the run of the tree comes to, where this is what is admitted
+  pub tree_run : (guard : Admits) → input.admits ≡ guard → (so_far : StepResult) → IsStart trees so_far
+      → IsRunIn trees (IsKept input) so_far run → IsRunOf guard (Problem.of_tree mode input) run
+  tree_run guard admits so_far start ran =
       let of = ran.history (laws.lawful input is).keeps begins.listed in
-      record { history = are_of_tree keeps of; ends = tree_ends keeps of.legal admits run.outcome (ran.ends start) }
+      record { history = are_of_tree guard of; ends = tree_ends guard of.legal admits run.outcome (ran.ends start) }

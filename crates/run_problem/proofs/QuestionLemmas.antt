@@ -14,7 +14,7 @@ use Rattle.reduce_journal.specs.declared.event.Event.TheVariants.{Recorded, Comm
 use Rattle.ordered_commit_moves.specs.Replay.{CommitsWhatIsAsked, IsLegal, answered, record_at, replay, replay_from}
 use Rattle.ordered_commit_moves.proofs.Lent.{extends_at}
 use Rattle.run_worker.specs.Sequential.{answer_events, by_verdict, records_after, sequential_from}
-use Rattle.keep_guard.specs.Keep.{keeps_admit}
+use Rattle.reduce_core.specs.Reduction.{Admits}
 use Rattle.reduce_rounds.specs.Trials.{Trials, Done, Try}
 use Rattle.reduce_rounds.specs.Mode.{RoundMode}
 use Rattle.reduce_rounds.specs.Reduction.{Reduction, asks_first, capped_count, ends_with}
@@ -102,15 +102,15 @@ module _ {T : Type 0} (mode : RoundMode T) (verdict : List ℕ → Bool) where
   asks_questions = whole ∙ sym (ap (λ (r : Reduction T). r.questions) (reduction-in mode verdict))
 
 -- of a problem
-problem_asks : LinesAreRecursions → WalksAreRecursions Perses visit_round → WalksAreRecursions Hdd level_round → (keeps : List (List ℕ)) (problem : Problem)
+problem_asks : LinesAreRecursions → WalksAreRecursions Perses visit_round → WalksAreRecursions Hdd level_round → (guard : Admits) (problem : Problem)
     → IsProblem problem
-    → (V : List ℕ → Option Verdict) → asked_by (says_yes V) (reducer_of keeps problem) ≡ questions_of keeps problem V
-problem_asks lines visits levels keeps (Problem.of_lines start) is V =
-    asks_questions (line_mode (record { admits = keeps_admit keeps; start = start })) (says_yes V)
-    ∙ sym (ap (λ (r : Reduction (List Line)). r.questions) (lines (keeps_admit keeps) (says_yes V) start))
-problem_asks lines visits levels keeps (Problem.of_tree Perses input) is V =
+    → (V : List ℕ → Option Verdict) → asked_by (says_yes V) (reducer_of guard problem) ≡ questions_of guard problem V
+problem_asks lines visits levels guard (Problem.of_lines start) is V =
+    asks_questions (line_mode (record { admits = guard; start = start })) (says_yes V)
+    ∙ sym (ap (λ (r : Reduction (List Line)). r.questions) (lines guard (says_yes V) start))
+problem_asks lines visits levels guard (Problem.of_tree Perses input) is V =
     asks_questions (walk_mode visit_round input) (says_yes V) ∙ sym (ap (λ (r : Reduction TreeState). r.questions) (visits input (says_yes V) is))
-problem_asks lines visits levels keeps (Problem.of_tree Hdd input) is V =
+problem_asks lines visits levels guard (Problem.of_tree Hdd input) is V =
     asks_questions (walk_mode level_round input) (says_yes V) ∙ sym (ap (λ (r : Reduction TreeState). r.questions) (levels input (says_yes V) is))
 
 -- ---- where it has ended
@@ -280,11 +280,11 @@ module _ (first : Plan) (history : History) (questions : List (List ℕ)) (asks 
   has_ended legal all = asks_ended (says_yes V) (replay first history) (nothing_more (committed_texts history) left_asks (sym (all_asked legal) ∙ sym all))
 
 pub histories_go : LinesAreRecursions → WalksAreRecursions Perses visit_round → WalksAreRecursions Hdd level_round → HistoriesGoByQuestions
-histories_go lines visits levels keeps problem is history =
+histories_go lines visits levels guard problem is history =
     let V : List ℕ → Option Verdict = verdict_in (records_of history) in
-    let first : Plan = reducer_of keeps problem in
-    let questions : List (List ℕ) = questions_over keeps problem history in
-    let asks : asked_by (says_yes V) first ≡ questions = problem_asks lines visits levels keeps problem is V in
+    let first : Plan = reducer_of guard problem in
+    let questions : List (List ℕ) = questions_over guard problem history in
+    let asks : asked_by (says_yes V) first ≡ questions = problem_asks lines visits levels guard problem is V in
     record {
       answers = first_asked first history questions asks;
       legal = is_legal first history questions asks;

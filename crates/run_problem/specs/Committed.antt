@@ -7,6 +7,7 @@ use Rattle.reduce_journal.specs.History.{History, records_of}
 use Rattle.reduce_journal.specs.declared.event.Event.TheVariants.{Recorded, Committed}
 use Rattle.ordered_commit_moves.specs.Replay.{record_at}
 use Rattle.run_worker.specs.Sequential.{answer_events, records_after}
+use Rattle.reduce_core.specs.Reduction.{Admits}
 use Rattle.run_problem.specs.Problem.{Problem, questions_of}
 
 -- the list begins with these elements, in their order
@@ -46,9 +47,9 @@ thread_history V questions = thread_from V [] questions
 -- ---- of a problem
 
 -- what its reduction asks over the verdicts of a history
-abbrev pub questions_over : List (List ℕ) → Problem → History → List (List ℕ)
-questions_over keeps problem history = questions_of keeps problem (verdict_in (records_of history))
+abbrev pub questions_over : Admits → Problem → History → List (List ℕ)
+questions_over guard problem history = questions_of guard problem (verdict_in (records_of history))
 
 -- what one thread does over these verdicts
-abbrev pub thread_over : List (List ℕ) → Problem → History → History
-thread_over keeps problem history = thread_history (verdict_in (records_of history)) (questions_over keeps problem history)
+abbrev pub thread_over : Admits → Problem → History → History
+thread_over guard problem history = thread_history (verdict_in (records_of history)) (questions_over guard problem history)

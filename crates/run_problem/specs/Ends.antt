@@ -13,70 +13,71 @@ use Rattle.run_gated.specs.Run.{Run}
 use Rattle.run_gated.specs.declared.fault.RunFault.{RunFault}
 use Rattle.run_gated.specs.declared.fault.RunFault.TheVariants.{NotInteresting, Script, Journal, Memory}
 use Rattle.run_gated.specs.declared.ran.Reduced.{Reduced}
+use Rattle.reduce_core.specs.Reduction.{Admits}
 use Rattle.run_problem.specs.Problem.{IsCandidateOf, IsReductionOf, Problem, counts_of, start_text}
 use Rattle.run_problem.specs.Committed.{IsPrefix, committed_texts, questions_over, thread_over}
 
 -- No text has two records. What the commits answer, each by an earlier record, is what the problem's reduction asks, in its order, from the first question on.
 -- Each record's text may be asked, and isn't longer than the start; the first is the start, and after its no nothing was asked.
 -- With one worker the history is a beginning of what one thread does over its records.
-pub record AreOf (workers : ℕ) (keeps : List (List ℕ)) (problem : Problem) (history : History) : Type 0 where
+pub record AreOf (workers : ℕ) (guard : Admits) (problem : Problem) (history : History) : Type 0 where
   pub distinct : IsDistinct bytes_eq (texts_of (records_of history))
-  pub legal : IsPrefix (committed_texts history) (questions_over keeps problem history)
+  pub legal : IsPrefix (committed_texts history) (questions_over guard problem history)
   pub readable : IsHistory history
-  pub candidates : All (λ r. IsCandidateOf keeps problem r.text) (records_of history)
+  pub candidates : All (λ r. IsCandidateOf guard problem r.text) (records_of history)
   pub short : All (λ r. length r.text ≤ length (start_text problem)) (records_of history)
   pub first : BeginsAt (start_text problem) (records_of history)
   pub ends_at_no : FirstIsNo (records_of history) → OnlyNo (records_of history)
-  pub sequential : workers ≡ 1 → IsPrefix history (thread_over keeps problem history)
+  pub sequential : workers ≡ 1 → IsPrefix history (thread_over guard problem history)
 
 -- each question of the reduction was answered
-abbrev pub IsAnswered : List (List ℕ) → Problem → History → Type 0
-IsAnswered keeps problem history = committed_texts history ≡ questions_over keeps problem history
+abbrev pub IsAnswered : Admits → Problem → History → Type 0
+IsAnswered guard problem history = committed_texts history ≡ questions_over guard problem history
 
 -- the history is all that one thread does over its records
-abbrev pub IsWhole : List (List ℕ) → Problem → History → Type 0
-IsWhole keeps problem history = history ≡ thread_over keeps problem history
+abbrev pub IsWhole : Admits → Problem → History → Type 0
+IsWhole guard problem history = history ≡ thread_over guard problem history
 
 -- A problem reduces to the text over the verdicts of the records, of which the first is the start's yes, and these are its counts.
 -- Each question was answered; with one worker the history is all that one thread does over the records.
-pub record ReducesFrom (workers : ℕ) (keeps : List (List ℕ)) (problem : Problem) (history : History) (text : List ℕ) (counts : Counts) : Type 0 where
+pub record ReducesFrom (workers : ℕ) (guard : Admits) (problem : Problem) (history : History) (text : List ℕ) (counts : Counts) : Type 0 where
   pub first : FirstIs (start_text problem) Yes (records_of history)
-  pub reduced : IsReductionOf keeps (verdict_in (records_of history)) problem text
-  pub is_counts : counts ≡ counts_of keeps problem (records_of history)
-  pub whole : workers ≡ 1 → IsWhole keeps problem history
-  pub committed : IsAnswered keeps problem history
+  pub reduced : IsReductionOf guard (verdict_in (records_of history)) problem text
+  pub is_counts : counts ≡ counts_of guard problem (records_of history)
+  pub whole : workers ≡ 1 → IsWhole guard problem history
+  pub committed : IsAnswered guard problem history
 
 -- The reduction asks for a text that has no record; the gate hadn't said no to the start; and the history is all that one thread does over its records.
-pub record IsUnfinished (keeps : List (List ℕ)) (problem : Problem) (history : History) : Type 0 where
-  pub waits : ¬ HasVerdicts (verdict_in (records_of history)) (questions_over keeps problem history)
+pub record IsUnfinished (guard : Admits) (problem : Problem) (history : History) : Type 0 where
+  pub waits : ¬ HasVerdicts (verdict_in (records_of history)) (questions_over guard problem history)
   pub not_no : ¬ FirstIsNo (records_of history)
-  pub whole : IsWhole keeps problem history
+  pub whole : IsWhole guard problem history
 
 -- a gate said no to the start, and none was asked again; and each question was answered
-pub record IsRefused (workers : ℕ) (keeps : List (List ℕ)) (problem : Problem) (history : History) : Type 0 where
+pub record IsRefused (workers : ℕ) (guard : Admits) (problem : Problem) (history : History) : Type 0 where
   pub first : FirstIs (start_text problem) No (records_of history)
   pub only : OnlyNo (records_of history)
-  pub whole : workers ≡ 1 → IsWhole keeps problem history
-  pub committed : IsAnswered keeps problem history
+  pub whole : workers ≡ 1 → IsWhole guard problem history
+  pub committed : IsAnswered guard problem history
 
 -- Why a problem has no reduction: a gate said no to its start; or a call failed of the gate of the worker that is
 -- named, and with one worker the reduction wasn't finished; or a call of the journal failed; or out of memory.
 -- After a no, no call failed; and with one worker no call failed but the one that is the cause.
-abbrev pub RunFails : List (List ℕ) → Problem → Run → RunFault → Type 0
-RunFails keeps problem run NotInteresting = IsRefused run.workers keeps problem run.history × NoneFailed run.before run.after
-RunFails keeps problem run (Script worker) =
+abbrev pub RunFails : Admits → Problem → Run → RunFault → Type 0
+RunFails guard problem run NotInteresting = IsRefused run.workers guard problem run.history × NoneFailed run.before run.after
+RunFails guard problem run (Script worker) =
     GateFailed worker run.before.gates run.after.gates × IsQuiet run.before.journal run.after.journal
-    × (run.workers ≡ 1 → IsUnfinished keeps problem run.history)
-RunFails keeps problem run Journal = CallFailed run.before.journal run.after.journal × (run.workers ≡ 1 → AreQuiet run.before.gates run.after.gates)
-RunFails keeps problem run Memory = IsQuiet run.before.journal run.after.journal × (run.workers ≡ 1 → AreQuiet run.before.gates run.after.gates)
+    × (run.workers ≡ 1 → IsUnfinished guard problem run.history)
+RunFails guard problem run Journal = CallFailed run.before.journal run.after.journal × (run.workers ≡ 1 → AreQuiet run.before.gates run.after.gates)
+RunFails guard problem run Memory = IsQuiet run.before.journal run.after.journal × (run.workers ≡ 1 → AreQuiet run.before.gates run.after.gates)
 
 -- how the run ended: with the text that the problem reduces to and what the report says, or why there is none
-abbrev pub ProblemEnds : List (List ℕ) → Problem → Run → Result Reduced RunFault → Type 0
-ProblemEnds keeps problem run (Ok reduced) =
-    ReducesFrom run.workers keeps problem run.history reduced.text.items reduced.counts × NoneFailed run.before run.after
-ProblemEnds keeps problem run (Err fault) = RunFails keeps problem run fault
+abbrev pub ProblemEnds : Admits → Problem → Run → Result Reduced RunFault → Type 0
+ProblemEnds guard problem run (Ok reduced) =
+    ReducesFrom run.workers guard problem run.history reduced.text.items reduced.counts × NoneFailed run.before run.after
+ProblemEnds guard problem run (Err fault) = RunFails guard problem run fault
 
 -- What the run of a problem comes to: its history, and its end.
-pub record IsRunOf (keeps : List (List ℕ)) (problem : Problem) (run : Run) : Type 0 where
-  pub history : AreOf run.workers keeps problem run.history
-  pub ends : ProblemEnds keeps problem run run.outcome
+pub record IsRunOf (guard : Admits) (problem : Problem) (run : Run) : Type 0 where
+  pub history : AreOf run.workers guard problem run.history
+  pub ends : ProblemEnds guard problem run run.outcome

@@ -14,6 +14,7 @@ use Rattle.reduce_rounds.specs.Laws.{AgreeingMapsReduceAlike}
 use Rattle.reduce_rounds.specs.Verdicts.{Agree}
 use Rattle.run_worker.specs.RunHistory.{own_history}
 use Rattle.run_worker.specs.Sequential.{sequential_history}
+use Rattle.reduce_core.specs.Reduction.{Admits}
 use Rattle.run_problem.specs.Problem.{IsProblem, Problem, recursion_of}
 use Rattle.run_problem.specs.Reducer.{reducer_of}
 use Rattle.run_problem.specs.Committed.{IsPrefix, committed_texts, questions_over, thread_over}
@@ -21,13 +22,13 @@ use Rattle.run_problem.specs.Ends.{IsAnswered, ReducesFrom}
 
 -- Reductions of a problem over two maps of verdicts that agree are equal, where each map has a verdict for each text that its own reduction asks.
 abbrev pub ProblemsReduceAlike : Type 0
-ProblemsReduceAlike = (keeps : List (List ℕ)) (problem : Problem) → IsProblem problem → AgreeingMapsReduceAlike (recursion_of keeps problem)
+ProblemsReduceAlike = (guard : Admits) (problem : Problem) → IsProblem problem → AgreeingMapsReduceAlike (recursion_of guard problem)
 
 -- Two runs whose verdicts agree come to one text, and to one report but for the number of records, however many workers each had and however they interleaved.
 abbrev pub RunsReduceAlike : Type 0
 RunsReduceAlike =
-    (workers workers' : ℕ) (keeps : List (List ℕ)) (problem : Problem) (history history' : History) (text text' : List ℕ) (counts counts' : Counts)
-    → ReducesFrom workers keeps problem history text counts → ReducesFrom workers' keeps problem history' text' counts'
+    (workers workers' : ℕ) (guard : Admits) (problem : Problem) (history history' : History) (text text' : List ℕ) (counts counts' : Counts)
+    → ReducesFrom workers guard problem history text counts → ReducesFrom workers' guard problem history' text' counts'
     → Agree (verdict_in (records_of history)) (verdict_in (records_of history'))
     → (text ≡ text') × (counts ≡ record counts' { records = length (records_of history) })
 
@@ -56,14 +57,14 @@ pub record AnswersAreBounded : Type 0 where
 
 -- What a problem's reducer, which is made of what it tries, says of a history is what the questions of its reduction say: that it can have it, that it has
 -- ended, and what one thread does. There are at most as many questions as the reducer takes answers.
-pub record GoesByQuestions (keeps : List (List ℕ)) (problem : Problem) (history : History) : Type 0 where
-  pub answers : IsLegal (reducer_of keeps problem) history → IsPrefix (committed_texts history) (questions_over keeps problem history)
+pub record GoesByQuestions (guard : Admits) (problem : Problem) (history : History) : Type 0 where
+  pub answers : IsLegal (reducer_of guard problem) history → IsPrefix (committed_texts history) (questions_over guard problem history)
   pub legal : IsDistinct bytes_eq (texts_of (records_of history)) → IsHistory history
-      → IsPrefix (committed_texts history) (questions_over keeps problem history) → IsLegal (reducer_of keeps problem) history
-  pub answered : IsLegal (reducer_of keeps problem) history → HasEnded (replay (reducer_of keeps problem) history) → IsAnswered keeps problem history
-  pub ended : IsLegal (reducer_of keeps problem) history → IsAnswered keeps problem history → HasEnded (replay (reducer_of keeps problem) history)
-  pub alone : own_history (reducer_of keeps problem) history ≡ thread_over keeps problem history
-  pub within : length (questions_over keeps problem history) ≤ height (reducer_of keeps problem)
+      → IsPrefix (committed_texts history) (questions_over guard problem history) → IsLegal (reducer_of guard problem) history
+  pub answered : IsLegal (reducer_of guard problem) history → HasEnded (replay (reducer_of guard problem) history) → IsAnswered guard problem history
+  pub ended : IsLegal (reducer_of guard problem) history → IsAnswered guard problem history → HasEnded (replay (reducer_of guard problem) history)
+  pub alone : own_history (reducer_of guard problem) history ≡ thread_over guard problem history
+  pub within : length (questions_over guard problem history) ≤ height (reducer_of guard problem)
 
 abbrev pub HistoriesGoByQuestions : Type 0
-HistoriesGoByQuestions = (keeps : List (List ℕ)) (problem : Problem) → IsProblem problem → (history : History) → GoesByQuestions keeps problem history
+HistoriesGoByQuestions = (guard : Admits) (problem : Problem) → IsProblem problem → (history : History) → GoesByQuestions guard problem history

@@ -1,4 +1,3 @@
-pub use Rattle.keep_guard.specs.Keep
 pub use Rattle.run_gated.specs as RunGated
 pub use Rattle.reduce_core.specs as ReduceCore
 pub use Rattle.reduce_trees_input.specs.Parsed

@@ -2,7 +2,6 @@
 use Rattle.std.specs.Prelude.{◌≡◌, ℕ, Bool, true, false, List, Option, Some, length}
 use Rattle.script_gate_trait.specs.declared.gate.Verdict.{Verdict}
 use Rattle.script_gate_trait.specs.declared.gate.Verdict.TheVariants.{Yes}
-use Rattle.keep_guard.specs.Keep.{holds_all, keeps_admit}
 use Rattle.reduce_rounds.specs.Verdicts.{HasVerdicts, says_yes}
 use Rattle.reduce_rounds.specs.Minimal.{IsMinimal}
 use Rattle.reduce_rounds.specs.Reduction.{Recursion, Reduction, capped_count, reduction}
@@ -12,11 +11,11 @@ use Rattle.verdict_table.specs.TableState.{verdict_in}
 use Rattle.normal_form.specs.declared.normal.Sym.{Sym}
 use Rattle.normal_form.specs.Form.{NormalForm}
 use Rattle.syntax_tree.specs.Edits.{IsSingleDeletion, IsSingleEdit}
-use Rattle.syntax_tree.specs.Trees.{PlainTree, weight}
+use Rattle.syntax_tree.specs.Trees.{PlainTree, leaves, weight}
 use Rattle.reduce_core.specs.declared.lines.Line.{Line}
-use Rattle.reduce_core.specs.Lines.{numbered_lines}
+use Rattle.reduce_core.specs.Lines.{numbered_lines, numbers_of}
 use Rattle.reduce_core.specs.Candidates.{IsLineCandidate, IsLineEdit}
-use Rattle.reduce_core.specs.Reduction.{is_listed, line_recursion}
+use Rattle.reduce_core.specs.Reduction.{Admits, is_listed, line_recursion}
 use Rattle.reduce_trees_mode.specs.Candidates.{IsCandidate}
 use Rattle.reduce_trees_mode.specs.Input.{IsInput, TreeInput, TreeState}
 use Rattle.reduce_trees_mode.specs.InStyles.{IsEditIn, tree_recursion}
@@ -45,9 +44,9 @@ units_of (Problem.of_lines start) = length (numbered_lines start)
 units_of (Problem.of_tree mode input) = weight input.whole
 
 -- the text may be asked: it has some of the start's lines, or is printed of some of its tokens and is in the grammar's language; and it is admitted
-abbrev pub IsCandidateOf : List (List ℕ) → Problem → List ℕ → Type 0
-IsCandidateOf keeps (Problem.of_lines start) text = IsLineCandidate (keeps_admit keeps) start text
-IsCandidateOf keeps (Problem.of_tree mode input) text = IsCandidate input text
+abbrev pub IsCandidateOf : Admits → Problem → List ℕ → Type 0
+IsCandidateOf guard (Problem.of_lines start) text = IsLineCandidate guard start text
+IsCandidateOf guard (Problem.of_tree mode input) text = IsCandidate input text
 
 -- what remains of it: some of the lines, or a tree with its style
 abbrev pub StateOf : Problem → Type 0
@@ -65,64 +64,73 @@ IsEditOf (Problem.of_lines start) = IsLineEdit
 IsEditOf (Problem.of_tree mode input) = IsEditIn (IsEditBy mode input.form input.symbol)
 
 -- a state may be asked
-abbrev pub IsListedOf : List (List ℕ) → (problem : Problem) → StateOf problem → Type 0
-IsListedOf keeps (Problem.of_lines start) = λ lines. is_listed (keeps_admit keeps) lines ≡ true
-IsListedOf keeps (Problem.of_tree mode input) = IsListed input
+abbrev pub IsListedOf : Admits → (problem : Problem) → StateOf problem → Type 0
+IsListedOf guard (Problem.of_lines start) = λ lines. is_listed guard lines ≡ true
+IsListedOf guard (Problem.of_tree mode input) = IsListed input
 
 -- what its reduction is made of: by lines a round is one list step; by a tree it visits node after node, or goes level after level
-abbrev pub recursion_of : List (List ℕ) → (problem : Problem) → Recursion (StateOf problem)
-recursion_of keeps (Problem.of_lines start) = line_recursion (keeps_admit keeps) start
-recursion_of keeps (Problem.of_tree mode input) = tree_recursion (tree_round mode input) input
+abbrev pub recursion_of : Admits → (problem : Problem) → Recursion (StateOf problem)
+recursion_of guard (Problem.of_lines start) = line_recursion guard start
+recursion_of guard (Problem.of_tree mode input) = tree_recursion (tree_round mode input) input
 
 -- its reduction over a map of verdicts
-abbrev pub reduction_of : List (List ℕ) → (problem : Problem) → (List ℕ → Option Verdict) → Reduction (StateOf problem)
-reduction_of keeps problem V = reduction (recursion_of keeps problem) (says_yes V)
+abbrev pub reduction_of : Admits → (problem : Problem) → (List ℕ → Option Verdict) → Reduction (StateOf problem)
+reduction_of guard problem V = reduction (recursion_of guard problem) (says_yes V)
 
 -- the texts that the reduction asks, in order
-abbrev pub questions_of : List (List ℕ) → Problem → (List ℕ → Option Verdict) → List (List ℕ)
-questions_of keeps problem V = (reduction_of keeps problem V).questions
+abbrev pub questions_of : Admits → Problem → (List ℕ → Option Verdict) → List (List ℕ)
+questions_of guard problem V = (reduction_of guard problem V).questions
 
 -- whether it refuses the start
-abbrev pub refuses : List (List ℕ) → Problem → (List ℕ → Option Verdict) → Bool
-refuses keeps problem V = (reduction_of keeps problem V).refused
+abbrev pub refuses : Admits → Problem → (List ℕ → Option Verdict) → Bool
+refuses guard problem V = (reduction_of guard problem V).refused
 
 -- the text that it ends with
-abbrev pub reduced_text : List (List ℕ) → Problem → (List ℕ → Option Verdict) → List ℕ
-reduced_text keeps problem V = (recursion_of keeps problem).text (reduction_of keeps problem V).state
+abbrev pub reduced_text : Admits → Problem → (List ℕ → Option Verdict) → List ℕ
+reduced_text guard problem V = (recursion_of guard problem).text (reduction_of guard problem V).state
+
+-- the numbers, from 0, of the lines or tokens that a state has
+abbrev pub numbers_in : (problem : Problem) → StateOf problem → List ℕ
+numbers_in (Problem.of_lines start) = numbers_of
+numbers_in (Problem.of_tree mode input) = λ state. leaves state.tree
+
+-- those of the state that it ends with
+abbrev pub reduced_numbers : Admits → Problem → (List ℕ → Option Verdict) → List ℕ
+reduced_numbers guard problem V = numbers_in problem (reduction_of guard problem V).state
 
 -- how many units are left
-abbrev pub reduced_units : List (List ℕ) → Problem → (List ℕ → Option Verdict) → ℕ
-reduced_units keeps problem V = (recursion_of keeps problem).size (reduction_of keeps problem V).state
+abbrev pub reduced_units : Admits → Problem → (List ℕ → Option Verdict) → ℕ
+reduced_units guard problem V = (recursion_of guard problem).size (reduction_of guard problem V).state
 
 -- how many rounds it takes, the last one included, in which nothing changes
-abbrev pub rounds_of : List (List ℕ) → Problem → (List ℕ → Option Verdict) → ℕ
-rounds_of keeps problem V = (reduction_of keeps problem V).rounds
+abbrev pub rounds_of : Admits → Problem → (List ℕ → Option Verdict) → ℕ
+rounds_of guard problem V = (reduction_of guard problem V).rounds
 
 -- what the report says: units and bytes of the start and of the result, the rounds, the
 -- answers and the records; counts of 64 bits, which stay at their greatest value
-abbrev pub counts_of : List (List ℕ) → Problem → List Record → Counts
-counts_of keeps problem records = record {
+abbrev pub counts_of : Admits → Problem → List Record → Counts
+counts_of guard problem records = record {
   start_units = units_of problem;
-  end_units = reduced_units keeps problem (verdict_in records);
+  end_units = reduced_units guard problem (verdict_in records);
   start_bytes = length (start_text problem);
-  end_bytes = length (reduced_text keeps problem (verdict_in records));
-  rounds = capped_count (rounds_of keeps problem (verdict_in records));
-  used = capped_count (length (questions_of keeps problem (verdict_in records)));
+  end_bytes = length (reduced_text guard problem (verdict_in records));
+  rounds = capped_count (rounds_of guard problem (verdict_in records));
+  used = capped_count (length (questions_of guard problem (verdict_in records)));
   records = length records;
 }
 
 -- what it ends with is minimal: each single edit of it that may be asked has a recorded no
-abbrev pub EndsMinimally : List (List ℕ) → Problem → (List ℕ → Option Verdict) → Type 0
-EndsMinimally keeps problem V = IsMinimal (IsEditOf problem) (IsListedOf keeps problem) (recursion_of keeps problem).text V (reduction_of keeps problem V).state
+abbrev pub EndsMinimally : Admits → Problem → (List ℕ → Option Verdict) → Type 0
+EndsMinimally guard problem V = IsMinimal (IsEditOf problem) (IsListedOf guard problem) (recursion_of guard problem).text V (reduction_of guard problem V).state
 
 -- The text is what is reduced to over a map of verdicts. The map has a verdict for each text that the reduction asks; the start
--- is interesting, and so is the text, in which each keep text occurs and which may be asked; and it is minimal.
-pub record IsReductionOf (keeps : List (List ℕ)) (V : List ℕ → Option Verdict) (problem : Problem) (text : List ℕ) : Type 0 where
+-- is interesting, and so is the text, which is admitted with the lines or tokens that are left and may be asked; and it is minimal.
+pub record IsReductionOf (guard : Admits) (V : List ℕ → Option Verdict) (problem : Problem) (text : List ℕ) : Type 0 where
   pub is_problem : IsProblem problem
-  pub defined : HasVerdicts V (questions_of keeps problem V)
-  pub interesting : refuses keeps problem V ≡ false
-  pub is_text : text ≡ reduced_text keeps problem V
+  pub defined : HasVerdicts V (questions_of guard problem V)
+  pub interesting : refuses guard problem V ≡ false
+  pub is_text : text ≡ reduced_text guard problem V
   pub yes_at_end : V text ≡ Some Yes
-  pub keeps_stay : holds_all keeps text ≡ true
-  pub candidate : IsCandidateOf keeps problem text
-  pub minimal : EndsMinimally keeps problem V
+  pub admitted : guard (reduced_numbers guard problem V) text ≡ true
+  pub candidate : IsCandidateOf guard problem text
+  pub minimal : EndsMinimally guard problem V

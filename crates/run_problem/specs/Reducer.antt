@@ -1,6 +1,4 @@
 -- The reducer of a problem: what it asks, and how it goes on at each answer.
-use Rattle.std.specs.Prelude.{ℕ, List}
-use Rattle.keep_guard.specs.Keep.{keeps_admit}
 use Rattle.normal_form.specs.declared.normal.Sym.{Sym}
 use Rattle.normal_form.specs.Form.{NormalForm}
 use Rattle.syntax_tree.specs.Trees.{PlainTree}
@@ -10,6 +8,7 @@ use Rattle.reduce_step.specs.declared.mode.TreeMode.TheVariants.{Hdd, Perses}
 use Rattle.reduce_rounds.specs.Trials.{Trials}
 use Rattle.reduce_rounds.specs.RoundsPlan.{plan_first}
 use Rattle.reduce_core.specs.LineMode.{line_plan}
+use Rattle.reduce_core.specs.Reduction.{Admits}
 use Rattle.reduce_perses.specs.VisitRounds.{visit_round}
 use Rattle.reduce_hdd.specs.LevelRounds.{level_round}
 use Rattle.reduce_trees.specs.WalkMode.{walk_mode}
@@ -20,7 +19,7 @@ abbrev pub round_trials : TreeMode → NormalForm → Sym → PlainTree → Tria
 round_trials Perses = visit_round
 round_trials Hdd = level_round
 
--- the reducer of the problem, whose mode this is
-abbrev pub reducer_of : List (List ℕ) → Problem → Plan
-reducer_of keeps (Problem.of_lines start) = line_plan (keeps_admit keeps) start
-reducer_of keeps (Problem.of_tree mode input) = plan_first (walk_mode (round_trials mode) input)
+-- the reducer of the problem, whose mode this is, where this is what is admitted
+abbrev pub reducer_of : Admits → Problem → Plan
+reducer_of guard (Problem.of_lines start) = line_plan guard start
+reducer_of guard (Problem.of_tree mode input) = plan_first (walk_mode (round_trials mode) input)

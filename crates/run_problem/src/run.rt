@@ -1,11 +1,11 @@
 //! The run, by the mode of what was read.
 
-ghost use Rattle.std.specs.Prelude.{◌≡◌, ◌≤◌, [], ℕ, List, true, IfOk, IfSome, length};
+ghost use Rattle.std.specs.Prelude.{◌≡◌, ◌≤◌, [], true, IfOk, IfSome, length};
+ghost use Rattle.reduce_core.specs.Lines.{numbered_lines, numbers_of};
 ghost use Rattle.reduce_step.specs.Limits.{text_limit};
-ghost use Rattle.keep_guard.specs.Keep.{holds_all, keeps_admit};
 ghost use Rattle.grammar_tree.specs.Faults.{IsWellFormed};
 ghost use Rattle.reduce_trees_input.specs.Parsed.{tree_input};
-ghost use Rattle.reduce_trees.specs.Ends.{AdmitsStart};
+ghost use Rattle.token_print.specs.Laws.{all_kept};
 ghost use Rattle.reduce_rounds.specs.RoundsPlan.{plan_first};
 ghost use Rattle.reduce_trees.specs.WalkMode.{walk_mode};
 ghost use Rattle.reduce_trees_mode.specs.Input.{TreeInput};
@@ -14,7 +14,7 @@ ghost use Rattle.run_gated.specs.Run.{run_of};
 ghost use Rattle.run_gated.specs.Workers.{AreIdle};
 ghost use Rattle.run_gated.specs.RunEnds.{IsRunIn, IsSound};
 ghost use Rattle.run_problem.specs.Problem.{Problem};
-ghost use Rattle.run_problem.specs.Read.{IsFoundIn, IsReadAs, IsReady, start_read};
+ghost use Rattle.run_problem.specs.Read.{IsFoundIn, IsReadAs, IsReady, numbers_read, start_read};
 ghost use Rattle.run_problem.specs.Ends.{IsRunOf};
 ghost use Rattle.run_problem.specs.inner.Walks.{IsTreeMode};
 
@@ -23,7 +23,7 @@ use crate::problem::ReadProblem;
 use compat_table::compat;
 use edge_io::Sink;
 use faults::Memory;
-use keep_guard::{Guard, KeepTexts};
+use keep_guard::{Guard, Relation};
 use reduce_core::{line_reducer, lines_are_recursions, lines_end_minimal};
 use reduce_hdd::TreeLevels;
 use reduce_perses::TreeVisits;
@@ -35,7 +35,7 @@ use reduce_trees::{
     walks_end_minimal,
 };
 use reduce_trees_input::ParsedInput;
-use reduce_trees_mode::texts_are_no_longer;
+use reduce_trees_mode::{texts_are_no_longer, whole_is_start};
 use reduce_walk::TreeWalk;
 use run_gated::{Ran, RunFault, run_to_text};
 use script_gate_trait::Gate;
@@ -45,22 +45,27 @@ use std::thread::Threads;
 use worker_pool::Worker;
 
 /// The text that the lines of a start reduce to.
-fn lines_result<G: Gate + Send, J: Sink + Drop + Send, T: Threads + Wait + Sync>(
+fn lines_result<
+    F: Relation + Drop + Sync,
+    G: Gate + Send,
+    J: Sink + Drop + Send,
+    T: Threads + Wait + Sync,
+>(
     rt: &T,
     alloc: Global,
     start: &[u8],
-    guard: &Guard<KeepTexts<'_>>,
+    guard: &Guard<F>,
     workers: &mut [Worker<G>],
     journal: J,
 ) -> Ran<J>
     requires few { length start.now ≤ text_limit }
-    requires kept { holds_all guard.now start.now ≡ true }
+    requires kept { F.admits guard.now (numbers_of (numbered_lines start.now)) start.now ≡ true }
     requires idle { AreIdle workers.old }
     requires empty { IfSome (J.put_so_far journal) (λ put. put.bytes ≡ []) }
     ensures idle { AreIdle workers.new }
     ensures as_many { length workers.new ≡ length workers.old }
     ensures sound { IsSound G.may_say (run_of G.log G.faults J.put_so_far J.faults workers.old workers.new journal result) }
-    ensures problem { IsRunOf guard.now (Problem.of_lines start.now) (run_of G.log G.faults J.put_so_far J.faults workers.old workers.new journal result) }
+    ensures problem { IsRunOf (F.admits guard.now) (Problem.of_lines start.now) (run_of G.log G.faults J.put_so_far J.faults workers.old workers.new journal result) }
 {
     lines_are_recursions();
     lines_end_minimal();
@@ -72,15 +77,15 @@ fn lines_result<G: Gate + Send, J: Sink + Drop + Send, T: Threads + Wait + Sync>
 }
 
 /// The parts of a reduction of trees: what was found, the table of its symbols, and the guard.
-fn tree_parts<'a>(
+fn tree_parts<F: Relation + Drop>(
     alloc: Global,
     found: ParsedInput,
-    guard: Guard<KeepTexts<'a>>,
+    guard: Guard<F>,
     squeezes: bool,
-) -> Result<TreeParts<KeepTexts<'a>>, Memory>
+) -> Result<TreeParts<F>, Memory>
     requires { IsFoundIn found }
     ensures { IfOk result (λ parts. (formed : IsWellFormed found.lexer.grammar found.lexer.start)
-        → ⟦<TreeParts<KeepTexts<'a>> as HasInput>⟧.input parts ≡ tree_input found formed (keeps_admit guard.entry) squeezes) }
+        → ⟦<TreeParts<F> as HasInput>⟧.input parts ≡ tree_input found formed (F.admits guard) squeezes) }
 {
     let compat = compat(alloc, found.tree.normal())?;
     let ParsedInput {
@@ -107,7 +112,7 @@ fn walk_laws<W: TreeWalk>()
 /// The text that a reducer of a tree comes to, in the mode of a walk.
 fn walk_result<
     'p,
-    'a,
+    F: Relation + Drop + Sync,
     W: TreeWalk + Drop + Send,
     G: Gate + Send,
     J: Sink + Drop + Send,
@@ -115,43 +120,48 @@ fn walk_result<
 >(
     rt: &T,
     alloc: Global,
-    reducer: TreeReducer<'p, KeepTexts<'a>, W>,
+    reducer: TreeReducer<'p, F, W>,
     workers: &mut [Worker<G>],
     journal: J,
 ) -> Ran<J>
-    requires new { ⟦<Rounds<TreeRound<'p, KeepTexts<'a>, W>> as Step>⟧.first reducer ≡ ⟦<Rounds<TreeRound<'p, KeepTexts<'a>, W>> as Step>⟧.plan reducer }
+    requires new { ⟦<Rounds<TreeRound<'p, F, W>> as Step>⟧.first reducer ≡ ⟦<Rounds<TreeRound<'p, F, W>> as Step>⟧.plan reducer }
     requires idle { AreIdle workers.old }
     requires empty { IfSome (J.put_so_far journal) (λ put. put.bytes ≡ []) }
     ensures idle { AreIdle workers.new }
     ensures as_many { length workers.new ≡ length workers.old }
     ensures sound { IsSound G.may_say (run_of G.log G.faults J.put_so_far J.faults workers.old workers.new journal result) }
-    ensures in_mode { (input : TreeInput) → ⟦<Rounds<TreeRound<'p, KeepTexts<'a>, W>> as Step>⟧.first reducer.entry ≡ plan_first (walk_mode W.round input)
-        → IsRunIn (walk_mode W.round input) (IsKept input) (⟦<Rounds<TreeRound<'p, KeepTexts<'a>, W>> as ReducerStep>⟧.so_far reducer.entry)
+    ensures in_mode { (input : TreeInput) → ⟦<Rounds<TreeRound<'p, F, W>> as Step>⟧.first reducer.entry ≡ plan_first (walk_mode W.round input)
+        → IsRunIn (walk_mode W.round input) (IsKept input) (⟦<Rounds<TreeRound<'p, F, W>> as ReducerStep>⟧.so_far reducer.entry)
         (run_of G.log G.faults J.put_so_far J.faults workers.old workers.new journal result) }
 {
     run_to_text(rt, alloc, reducer, workers, journal)
 }
 
 /// The text that the tree of an input reduces to, in this mode.
-fn tree_result<'a, G: Gate + Send, J: Sink + Drop + Send, T: Threads + Wait + Sync>(
+fn tree_result<
+    F: Relation + Drop + Sync,
+    G: Gate + Send,
+    J: Sink + Drop + Send,
+    T: Threads + Wait + Sync,
+>(
     rt: &T,
     alloc: Global,
     mode: TreeMode,
-    parts: &TreeParts<KeepTexts<'a>>,
+    parts: &TreeParts<F>,
     workers: &mut [Worker<G>],
     journal: J,
 ) -> Ran<J>
-    requires kept { AdmitsStart (⟦<TreeParts<KeepTexts<'a>> as HasInput>⟧.input parts.now) }
+    requires kept { let input = ⟦<TreeParts<F> as HasInput>⟧.input parts.now in input.admits (all_kept input.tokens) input.start ≡ true }
     requires idle { AreIdle workers.old }
     requires empty { IfSome (J.put_so_far journal) (λ put. put.bytes ≡ []) }
     ensures idle { AreIdle workers.new }
     ensures as_many { length workers.new ≡ length workers.old }
     ensures sound { IsSound G.may_say (run_of G.log G.faults J.put_so_far J.faults workers.old workers.new journal result) }
-    ensures problem { (keeps : List (List ℕ)) → (⟦<TreeParts<KeepTexts<'a>> as HasInput>⟧.input parts.now).admits ≡ keeps_admit keeps
-        → IsRunOf keeps (Problem.of_tree mode (⟦<TreeParts<KeepTexts<'a>> as HasInput>⟧.input parts.now))
+    ensures problem { let input = ⟦<TreeParts<F> as HasInput>⟧.input parts.now in IsRunOf input.admits (Problem.of_tree mode input)
         (run_of G.log G.faults J.put_so_far J.faults workers.old workers.new journal result) }
 {
     parts.is_input();
+    whole_is_start();
     histories_go_by_questions();
     match mode {
         TreeMode::Perses => {
@@ -173,29 +183,34 @@ fn tree_result<'a, G: Gate + Send, J: Sink + Drop + Send, T: Threads + Wait + Sy
     }
 }
 
-/// Reduces what was read, each keep text of which occurs in its text: the gates of the workers are asked,
-/// the history is written into the journal, and the text that it reduces to is given, with what the report
-/// says. No text is recorded twice, and the gates are asked as often as there are records. A start whose
-/// verdict is no ends the run.
+/// Reduces what was read, which the guard admits: the gates of the workers are asked, the history is
+/// written into the journal, and the text that it reduces to is given, with what the report says. No text
+/// is recorded twice, and the gates are asked as often as there are records. A start whose verdict is no
+/// ends the run.
 ///
 /// Beside what a gate takes, an answer costs what the reducer of the mode says.
-pub fn run_problem<G: Gate + Send, J: Sink + Drop + Send, T: Threads + Wait + Sync>(
+pub fn run_problem<
+    F: Relation + Drop + Sync,
+    G: Gate + Send,
+    J: Sink + Drop + Send,
+    T: Threads + Wait + Sync,
+>(
     rt: &T,
     alloc: Global,
     problem: ReadProblem,
-    guard: Guard<KeepTexts<'_>>,
+    guard: Guard<F>,
     workers: &mut [Worker<G>],
     journal: J,
 ) -> Ran<J>
     requires ready { IsReady problem }
-    requires kept { holds_all guard (start_read problem) ≡ true }
+    requires kept { F.admits guard (numbers_read problem) (start_read problem) ≡ true }
     requires idle { AreIdle workers.old }
     requires empty { IfSome (J.put_so_far journal) (λ put. put.bytes ≡ []) }
     ensures idle { AreIdle workers.new }
     ensures as_many { length workers.new ≡ length workers.old }
     ensures sound { IsSound G.may_say (run_of G.log G.faults J.put_so_far J.faults workers.old workers.new journal result) }
-    ensures problem { (one : Problem) → IsReadAs guard.entry problem one
-        → IsRunOf guard.entry one (run_of G.log G.faults J.put_so_far J.faults workers.old workers.new journal result) }
+    ensures problem { (one : Problem) → IsReadAs (F.admits guard) problem one
+        → IsRunOf (F.admits guard) one (run_of G.log G.faults J.put_so_far J.faults workers.old workers.new journal result) }
 {
     match problem {
         ReadProblem::Lines(start) => lines_result(rt, alloc, &start, &guard, workers, journal),

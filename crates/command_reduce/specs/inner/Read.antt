@@ -3,8 +3,12 @@ use Rattle.std.specs.Prelude.{◌≡◌, ◌⊎◌, ℕ, ◌+◌, List, Some, st
 use Rattle.edge_io.specs.Files.{IsLonger}
 use Rattle.grammar_tree.specs.Written.{CheckedGrammar}
 use Rattle.keep_guard.specs.Keep.{first_missing}
-use Rattle.reduce_trees_input.specs.Parsed.{MakesInputOf}
+use Rattle.line_guard.specs.MustStay.{Stays, stays_admit}
+use Rattle.reduce_core.specs.Reduction.{Admits}
+use Rattle.reduce_trees_input.specs.Parsed.{MakesInputOf, tokens_in}
 use Rattle.reduce_trees_input.specs.declared.parsed.ParsedInput.{ParsedInput}
+use Rattle.run_problem.specs.declared.problem.ReadProblem.{ReadProblem}
+use Rattle.run_problem.specs.declared.problem.ReadProblem.TheVariants as read
 use Rattle.run_problem.specs.Problem.{start_text}
 use Rattle.run_problem.specs.Read.{IsFoundIn}
 use Rattle.reduce_trees_input.specs.Faults.{IsInputFault}
@@ -13,13 +17,23 @@ use Rattle.reduce_trees_input.specs.declared.fault.InputFault.{InputFault}
 use Rattle.reduce_trees_input.specs.declared.fault.InputFault.TheVariants as input_fault
 use Rattle.command_ends.specs.declared.status.NamedFile.TheVariants as named
 use Rattle.command_ends.specs.declared.status.Refusal.{Refusal}
-use Rattle.command_ends.specs.declared.status.Refusal.TheVariants.{Memory, CannotRead, TooLong, Grammar, Uncut, NoParse, KeepMissing}
+use Rattle.command_ends.specs.declared.status.Refusal.TheVariants.{Memory, CannotRead, TooLong, Grammar, Uncut, NoParse, KeepMissing, BeyondLines}
 use Rattle.command_grammar.specs.Grammar.{GrammarFails, GrammarRead}
 use Rattle.command_reduce.specs.Reduce.{ProblemRead}
 use Rattle.command_reduce.specs.inner.Reduce.{ProblemFails}
-use Rattle.command_ends.specs.Status.{IsKeepRefusal, IsUncut}
+use Rattle.command_ends.specs.Status.{IsBeyondRefusal, IsKeepRefusal, IsUncut}
+use Rattle.command_reduce_calls.specs.Stays.{NamesBeyond, lines_stay, tokens_stay}
 use Rattle.command_words.specs.Commands.{GrammarSource, ReduceOptions}
 use Rattle.command_ends.specs.World.{CallFailed, IsQuiet, SeenFiles, WasRead, input_limit, line_of_text}
+
+-- what must stay of what was read
+abbrev pub stays_read : ReduceOptions → ReadProblem → Stays
+stays_read options (read.Lines start) = lines_stay options start.items
+stays_read options (read.Tree found mode squeeze) = tokens_stay options (string_bytes found.text) (tokens_in found.tokens)
+
+-- what is admitted of it
+abbrev pub admits_read : ReduceOptions → ReadProblem → Admits
+admits_read options problem = stays_admit (stays_read options problem)
 
 -- The grammar was read, and the input, of whose text what was found makes the input of a reduction.
 pub record GivesTree (named : GrammarSource) (input : List ℕ) (files : SeenFiles) (found : ParsedInput) : Type 0 where
@@ -51,14 +65,18 @@ TreeFails grammar input files files' (Uncut line) =
 TreeFails grammar input files files' NoParse = InputIsFaulty grammar input files input_fault.NoParse × IsQuiet files files'
 TreeFails grammar input files files' _ = ⊥
 
--- why a problem that was read wasn't accepted: this keep text is the first that doesn't occur in its start, or out of memory
-abbrev pub KeepRefused : ReduceOptions → SeenFiles → Refusal → Type 0
-KeepRefused options files Memory = Unit {0}
-KeepRefused options files (KeepMissing line) =
+-- why a problem that was read wasn't accepted: this keep text is the first that doesn't occur in its start, this is the first named last line that is
+-- beyond its lines, or out of memory
+abbrev pub StaysRefused : ReduceOptions → SeenFiles → Refusal → Type 0
+StaysRefused options files Memory = Unit {0}
+StaysRefused options files (KeepMissing line) =
     (index : ℕ) × ProblemRead options files (λ problem. first_missing options.keeps (start_text problem) ≡ Some index)
     × IsKeepRefusal (index + 1) (KeepMissing line)
-KeepRefused options files _ = ⊥
+StaysRefused options files (BeyondLines line) =
+    (last : ℕ) × (lines : ℕ) × ProblemRead options files (λ problem. NamesBeyond options last lines (start_text problem))
+    × IsBeyondRefusal last lines (BeyondLines line)
+StaysRefused options files _ = ⊥
 
 -- why there is no problem that is accepted: none was read, or that
 abbrev pub AcceptFails : ReduceOptions → SeenFiles → SeenFiles → Refusal → Type 0
-AcceptFails options old new refusal = ProblemFails options old new refusal ⊎ (IsQuiet old new × KeepRefused options old refusal)
+AcceptFails options old new refusal = ProblemFails options old new refusal ⊎ (IsQuiet old new × StaysRefused options old refusal)

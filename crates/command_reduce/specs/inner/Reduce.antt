@@ -14,7 +14,7 @@ use Rattle.command_ends.specs.declared.status.Refusal.TheVariants.{Memory, Canno
 use Rattle.command_ends.specs.Status.{IsUncut, line_of, status_of}
 use Rattle.command_words.specs.Commands.{GrammarOptions, ModeOptions, ReduceOptions}
 use Rattle.command_ends.specs.World.{CallFailed, logs_of, IsQuiet, PutsLine, SeenFiles, SeenGate, SeenJournal, SeenOut, World, line_of_text}
-use Rattle.command_reduce.specs.Reduce.{IsReached, limit_of, name_of, InputHas, journal, ReduceEnds, WritesReduced, RecordsAreSound, IsHistoryOfInput}
+use Rattle.command_reduce.specs.Reduce.{IsReached, limit_of, name_of, InputHas, ReduceEnds, WritesReduced, RecordsAreSound, IsHistoryOfInput}
 
 -- why there is no problem: a file wasn't read, the grammar is faulty, or the input isn't in its language
 abbrev pub ProblemFails : ReduceOptions → SeenFiles → SeenFiles → Refusal → Type 0

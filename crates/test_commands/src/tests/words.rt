@@ -1,7 +1,8 @@
 //! What words ask for, as one text.
 
 use command_words::{
-    CommandLine, ModeLine, NamedGrammar, ReduceLine, SelftestLine, journal_name, read_words,
+    CommandLine, ModeLine, NamedGrammar, ProtectLine, ReduceLine, SelftestLine, journal_name,
+    read_words,
 };
 use reduce_step::TreeMode;
 use std::alloc::Global;
@@ -43,6 +44,24 @@ fn mode_text(alloc: Global, mode: ModeLine<'_>) -> Result<String, Fail> {
     }
 }
 
+/// Which lines must stay, with a comma before each.
+fn protects_text(alloc: Global, protects: &ProtectLine<'_>) -> Result<String, Fail> {
+    let mut text = String::new(alloc);
+    for span in &protects.lines {
+        let lines = format!(in alloc; ", protect {}-{}", span.first, span.last)?;
+        text.push_str(lines.as_str())?;
+    }
+    for held in &protects.texts {
+        text.push_str(", protect with ")?;
+        text.push_str(held)?;
+    }
+    if let Some(only) = protects.only {
+        let lines = format!(in alloc; ", only {}-{}", only.first, only.last)?;
+        text.push_str(lines.as_str())?;
+    }
+    Ok(text)
+}
+
 fn reduce_text(alloc: Global, line: &ReduceLine<'_>) -> Result<String, Fail> {
     let mode = mode_text(alloc, line.mode)?;
     let journal = journal_name(alloc, line)?;
@@ -54,6 +73,8 @@ fn reduce_text(alloc: Global, line: &ReduceLine<'_>) -> Result<String, Fail> {
         text.push_str(", keep ")?;
         text.push_str(keep)?;
     }
+    let protects = protects_text(alloc, &line.protects)?;
+    text.push_str(protects.as_str())?;
     Ok(text)
 }
 
@@ -89,7 +110,7 @@ const LINES: &str = "lines: i to o asking s, o.journal, perses-work, 1";
 const TREES: &str = "perses by g from -: i to o asking s, o.journal, perses-work, 1";
 
 /// Command lines, each with what it asks for.
-const ACCEPTED: [(&str, &str); 20] = [
+const ACCEPTED: [(&str, &str); 22] = [
     (
         "perses reduce --mode lines --input i --output o --script s",
         LINES,
@@ -125,6 +146,14 @@ const ACCEPTED: [(&str, &str); 20] = [
     (
         "p reduce --mode lines --input i --output o --script s --keep 1 --keep 2 --keep 3 --keep 4 --keep 5 --keep 6 --keep 7 --keep 8",
         "lines: i to o asking s, o.journal, perses-work, 1, keep 1, keep 2, keep 3, keep 4, keep 5, keep 6, keep 7, keep 8",
+    ),
+    (
+        "p reduce --only 3-3 --mode lines --protect 7-12 --input i --output o --script s --protect=1-1 --protect-text 2-1 --protect-text=b --protect-text b",
+        "lines: i to o asking s, o.journal, perses-work, 1, protect 7-12, protect 1-1, protect with 2-1, protect with b, protect with b, only 3-3",
+    ),
+    (
+        "p reduce --only=1-4294967295 --protect 4294967295-4294967295 --grammar g --input i --output o --script s --keep a",
+        "perses by g from -: i to o asking s, o.journal, perses-work, 1, keep a, protect 4294967295-4294967295, only 1-4294967295",
     ),
     ("p normal --grammar g", "normal g from -"),
     ("p normal --start r --grammar=g", "normal g from r"),
@@ -168,7 +197,7 @@ fn reads_command_lines_in_any_order(rt: HostRuntime) -> Result<(), Fail> {
 }
 
 /// What is no command line where it comes after the words of mode `lines`.
-const REFUSED_AFTER_LINES: [&str; 25] = [
+const REFUSED_AFTER_LINES: [&str; 36] = [
     "--squeeze",
     "--grammar g",
     "--lexer l",
@@ -184,6 +213,17 @@ const REFUSED_AFTER_LINES: [&str; 25] = [
     "--keep -",
     "--keep --keep",
     "--keep -- a",
+    "--protect 1-1 --protect 1-1 --protect 1-1 --protect 1-1 --protect 1-1 --protect 1-1 --protect 1-1 --protect 1-1 --protect 1-1",
+    "--protect-text 1 --protect-text 2 --protect-text 3 --protect-text 4 --protect-text 5 --protect-text 6 --protect-text 7 --protect-text 8 --protect-text 9",
+    "--protect 0-1",
+    "--protect 2-1",
+    "--protect 1--2",
+    "--protect +1-2",
+    "--protect 1-",
+    "--protect 1",
+    "--protect-text=",
+    "--only 2-1",
+    "--only 1-2 --only 1-2",
     "--jobs 0",
     "--jobs 17",
     "--jobs 01",

@@ -1,4 +1,5 @@
-use Rattle.std.proofs.Common.{◌∙◌, ◌++◌, refl}
+use Rattle.std.proofs.Common.{◌∙◌, ◌++◌, ap, refl}
+use Rattle.keep_guard.specs.Keep.{keeps_admit}
 use Rattle.reduce_journal.specs.Report.{first_lines}
 use Rattle.case_reduction.specs.Summary.{IsSummary}
 use Rattle.case_reduction.proofs.RuleRuns.{answered, ends_in_memory, ends_with_summary}
@@ -11,12 +12,12 @@ returns-in-Ok g c =
     answered c.summary.result (λ v. v.items) (first_lines reduced.counts ++ reduced.text.items)
     (IsSummary c.args.mode c.args.number c.args.size) c.summary.ensures
     (ends_with_summary c.args.mode c.args.number c.args.size c.in_ok-problem.problem c.in_ok-problem.ensures.case _
-    (c.new-guard.ensures ∙ c.new.ensures) _ ran.ensures.sound.answers.said ran.ensures.problem
+    (ap keeps_admit (c.new-guard.ensures ∙ c.new.ensures)) _ ran.ensures.sound.answers.said ran.ensures.problem
     c.problems_reduce_alike.ensures reduced c.in-Ok.is)
 
 pub memory_of-requires : goal.memory_of-requires
 memory_of-requires g c =
     let ran = c.run_problem-outcome in
     ends_in_memory c.args.mode c.args.number c.args.size c.in_ok-problem.problem c.in_ok-problem.ensures.case _
-    (c.new-guard.ensures ∙ c.new.ensures) _ ran.ensures.sound.answers.said ran.ensures.problem
+    (ap keeps_admit (c.new-guard.ensures ∙ c.new.ensures)) _ ran.ensures.sound.answers.said ran.ensures.problem
     _ ran.new.workers refl refl c.cases_get_yes.ensures c.requires.least c.in-Err.fault c.in-Err.is

@@ -5,6 +5,7 @@ use Rattle.command_words.specs.Lines.{grammar_read, mode_of, reduce_read}
 use Rattle.run_problem.specs.declared.problem.ReadProblem.{ReadProblem}
 use Rattle.run_problem.specs.Read.{IsReadAs}
 use Rattle.command_reduce.specs.Reduce.{ProblemRead}
+use Rattle.command_reduce.specs.inner.Read.{admits_read}
 use Rattle.command_ends.specs.World.{seen}
 use Rattle.command_reduce.proofs.ReadLemmas.{tree_fails, tree_read}
 use Rattle.command_reduce.proofs.read.read_problem.Goals as goal
@@ -14,7 +15,7 @@ returns-in_ok-found-in-ByGrammar-clause-problem g c =
     let files = seen g.F.Files.content g.F.Files.faults c.args.files.now in
     let trees : GrammarOptions =
     record { grammar = grammar_read c.in-ByGrammar.trees.grammar; mode = c.in-ByGrammar.trees.mode; squeeze = c.in-ByGrammar.trees.squeeze } in
-    subst (λ (problem : ReadProblem). ProblemRead (reduce_read c.args.line.now) files (IsReadAs (reduce_read c.args.line.now).keeps problem))
+    subst (λ (problem : ReadProblem). ProblemRead (reduce_read c.args.line.now) files (IsReadAs (admits_read (reduce_read c.args.line.now) problem) problem))
     (sym c.tree_problem.ensures) (tree_read (reduce_read c.args.line.now) files trees
     (ap mode_of c.in-ByGrammar.is) c.inputs_are_one.ensures c.in_ok-found-in-ByGrammar.found c.in_ok-found-in-ByGrammar.ensures.found)
 

@@ -1,5 +1,6 @@
 use Rattle.std.proofs.Common.{◌∙◌, ℕ, ap, inl, inr, length, subst}
 use Rattle.std.proofs.lemmas.List.{length-map}
+use Rattle.line_guard.specs.MustStay.{stays_admit}
 use Rattle.run_gated.specs.Run.{Run, run_of}
 use Rattle.command_words.specs.Lines.{reduce_read}
 use Rattle.command_ends.specs.World.{logs_of, seen, seen_gates}
@@ -29,7 +30,7 @@ pub returns-in-Ok-clause-problem : goal.returns-in-Ok-clause-problem
 returns-in-Ok-clause-problem g c one is =
     let run : Run = run_of g.G.Gate.log g.G.Gate.faults g.J.Sink.put_so_far g.J.Sink.faults c.open_gates.new.workers c.run_opened.new.workers c.args.journal
     c.run_opened.result in
-    started_of c.args.guard one run (length c.args.workers.now)
+    started_of (stays_admit c.args.guard) one run (length c.args.workers.now)
     (seen_gates g.G.Gate.log g.G.Gate.faults c.args.workers.now) c.open_gates.ensures.as_many c.in-Ok.ensures.quiet
     (c.run_opened.ensures.problem one is)
 
@@ -58,6 +59,6 @@ pub returns-in-Err-clause-problem : goal.returns-in-Err-clause-problem
 returns-in-Err-clause-problem g c one is =
     let run : Run = run_of g.G.Gate.log g.G.Gate.faults g.J.Sink.put_so_far g.J.Sink.faults c.args.workers.now c.open_gates.new.workers c.args.journal
     c.without_gate.result in
-    unopened_of c.args.guard one run c.without_gate.ensures.events
+    unopened_of (stays_admit c.args.guard) one run c.without_gate.ensures.events
     (ap g.J.Sink.faults c.without_gate.ensures.journal) c.in-Err.fault.worker c.in-Err.fault.fault c.without_gate.ensures.outcome
     c.in-Err.ensures.refused.fault

@@ -47,6 +47,6 @@ returns-in-Ok-clause-steps g c =
     (seen g.F.Files.content g.F.Files.faults c.accept.new.files) c.in-Ok.problem c.in-Ok.guard c.write_result-outcome.result
     (lent_first workers jobs c.requires.idle c.requires.enough ran.new.workers ran.ensures.as_many
     (reduce_read c.args.line.now) refl g.G.Gate.log g.G.Gate.faults)
-    (sym (lent_many workers jobs c.requires.idle c.requires.enough)) c.in-Ok.ensures.problem c.in-Ok.ensures.guard c.in-Ok.ensures.kept c.accept.ensures.same
+    (sym (lent_many workers jobs c.requires.idle c.requires.enough)) c.in-Ok.ensures.problem c.in-Ok.ensures.guard c.in-Ok.ensures.accepts c.accept.ensures.same
     c.in-Ok.ensures.quiet ran.ensures.sound ran.ensures.problem
     c.write_result-outcome.ensures

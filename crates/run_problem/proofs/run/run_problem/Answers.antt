@@ -1,12 +1,11 @@
-use Rattle.std.proofs.Common.{◌≡◌, true, ap, sym, ◌∙◌, subst}
-use Rattle.keep_guard.specs.Keep.{holds_all}
+use Rattle.std.proofs.Common.{◌≡◌, true, ap, sym, subst}
 use Rattle.reduce_trees_mode.specs.Input.{TreeInput}
-use Rattle.reduce_trees.specs.Ends.{AdmitsStart}
+use Rattle.token_print.specs.Laws.{all_kept}
 use Rattle.run_gated.specs.Seen.{reached}
 use Rattle.run_gated.specs.Run.{Run, run_of}
 use Rattle.run_problem.specs.declared.problem.ReadProblem.{ReadProblem}
 use Rattle.run_problem.specs.Problem.{Problem}
-use Rattle.run_problem.specs.Read.{IsReadAs, IsReady, start_read}
+use Rattle.run_problem.specs.Read.{IsReadAs, IsReady, numbers_read, start_read}
 use Rattle.run_problem.specs.Ends.{IsRunOf}
 use Rattle.run_problem.proofs.ModeLemmas.{refused_of, refused_sound}
 use Rattle.run_problem.proofs.run.run_problem.Goals as goal
@@ -23,19 +22,19 @@ returns-in-Err-clause-problem g c one is =
     let run : Run = run_of g.G.Gate.log g.G.Gate.faults g.J.Sink.put_so_far g.J.Sink.faults c.args.workers.now c.args.workers.now c.args.journal
     c.refused.result in
     refused_of run c.refused.ensures.events c.refused.ensures.outcome
-    (ap (reached g.G.Gate.log g.G.Gate.faults g.J.Sink.put_so_far g.J.Sink.faults c.args.workers.now) c.refused.ensures.journal) c.args.guard one
+    (ap (reached g.G.Gate.log g.G.Gate.faults g.J.Sink.put_so_far g.J.Sink.faults c.args.workers.now) c.refused.ensures.journal)
+    (g.F.Relation.admits c.args.guard) one
 
 pub tree_result-requires-clause-kept : goal.tree_result-requires-clause-kept
 tree_result-requires-clause-kept g c κs within =
     let ready = subst IsReady c.in-Tree.is c.requires.ready in
-    subst AdmitsStart (sym (c.in-Ok.ensures ready.checked.well_formed))
-    (subst (λ (p : ReadProblem). holds_all c.args.guard (start_read p) ≡ true) c.in-Tree.is c.requires.kept)
+    subst (λ (i : TreeInput). i.admits (all_kept i.tokens) i.start ≡ true) (sym (c.in-Ok.ensures ready.checked.well_formed))
+    (subst (λ (p : ReadProblem). g.F.Relation.admits c.args.guard (numbers_read p) (start_read p) ≡ true) c.in-Tree.is c.requires.kept)
 
 pub returns-in-Ok-clause-problem : goal.returns-in-Ok-clause-problem
 returns-in-Ok-clause-problem g c one is =
-    let it = subst (λ (p : ReadProblem). IsReadAs c.args.guard p one) c.in-Tree.is is in
-    let same = c.in-Ok.ensures it.0 in
-    subst (λ (p : Problem). IsRunOf c.args.guard p
-    (run_of g.G.Gate.log g.G.Gate.faults g.J.Sink.put_so_far g.J.Sink.faults c.args.workers.now c.tree_result.new.workers c.args.journal c.tree_result.result))
-    (ap (Problem.of_tree c.in-Tree.mode) same ∙ sym it.1)
-    (c.tree_result.ensures.problem c.args.guard (ap (λ (i : TreeInput). i.admits) same))
+    let it = subst (λ (p : ReadProblem). IsReadAs (g.F.Relation.admits c.args.guard) p one) c.in-Tree.is is in
+    let run : Run =
+    run_of g.G.Gate.log g.G.Gate.faults g.J.Sink.put_so_far g.J.Sink.faults c.args.workers.now c.tree_result.new.workers c.args.journal c.tree_result.result in
+    subst (λ (p : Problem). IsRunOf (g.F.Relation.admits c.args.guard) p run) (sym it.1)
+    (subst (λ (i : TreeInput). IsRunOf i.admits (Problem.of_tree c.in-Tree.mode i) run) (c.in-Ok.ensures it.0) c.tree_result.ensures.problem)

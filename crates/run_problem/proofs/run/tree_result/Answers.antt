@@ -1,6 +1,8 @@
-use Rattle.std.proofs.Common.{ap, sym, subst}
-use Rattle.keep_guard.specs.Keep.{keeps_admit}
-use Rattle.reduce_trees_mode.specs.Input.{TreeInput}
+use Rattle.std.proofs.Common.{◌≡◌, ℕ, List, true, ap, refl, sym, subst}
+use Rattle.token_print.specs.Laws.{all_kept}
+use Rattle.reduce_trees_mode.specs.Input.{IsInput, TreeInput}
+use Rattle.reduce_trees_mode.specs.Laws.{WholeIsStart}
+use Rattle.reduce_trees.specs.Ends.{AdmitsStart}
 use Rattle.reduce_trees_mode.specs.InputOf.{input_of}
 use Rattle.reduce_step.specs.declared.mode.TreeMode.{TreeMode}
 use Rattle.reduce_step.specs.declared.mode.TreeMode.TheVariants.{Hdd, Perses}
@@ -11,6 +13,10 @@ use Rattle.run_problem.specs.Ends.{IsRunOf}
 use Rattle.run_problem.proofs.ModeLemmas.{refused_of, refused_sound, tree_run}
 use Rattle.run_problem.proofs.run.tree_result.Goals as goal
 
+-- the start is admitted with the leaves of its tree, which are all tokens
+admitted : (input : TreeInput) → WholeIsStart → IsInput input → input.admits (all_kept input.tokens) input.start ≡ true → AdmitsStart input
+admitted input whole is kept = subst (λ (numbers : List ℕ). input.admits numbers input.start ≡ true) (sym (whole input is).tokens) kept
+
 pub returns-in-Err-clause-sound : goal.returns-in-Err-clause-sound
 returns-in-Err-clause-sound g c =
     let run : Run =
@@ -19,23 +25,24 @@ returns-in-Err-clause-sound g c =
     (ap (reached g.G.Gate.log g.G.Gate.faults g.J.Sink.put_so_far g.J.Sink.faults c.args.workers.now) c.refused.ensures.journal) g.G.Gate.may_say
 
 pub returns-in-Err-clause-problem : goal.returns-in-Err-clause-problem
-returns-in-Err-clause-problem g c keeps admits =
+returns-in-Err-clause-problem g c =
     let run : Run = run_of g.G.Gate.log g.G.Gate.faults g.J.Sink.put_so_far g.J.Sink.faults c.args.workers.now c.args.workers.now c.args.journal
     c.refused.result in
     refused_of run c.refused.ensures.events c.refused.ensures.outcome
-    (ap (reached g.G.Gate.log g.G.Gate.faults g.J.Sink.put_so_far g.J.Sink.faults c.args.workers.now) c.refused.ensures.journal) keeps
+    (ap (reached g.G.Gate.log g.G.Gate.faults g.J.Sink.put_so_far g.J.Sink.faults c.args.workers.now) c.refused.ensures.journal) _
     (Problem.of_tree c.args.mode _)
 
 pub returns-in-Ok-clause-problem : goal.returns-in-Ok-clause-problem
-returns-in-Ok-clause-problem g c keeps admits =
+returns-in-Ok-clause-problem g c =
     let parts = c.args.parts.now in
     let input : TreeInput =
-    input_of parts.start.grammar parts.formed parts.tree parts.start.bytes parts.tokens.items.items (keeps_admit parts.guard) parts.squeezes in
+    input_of parts.start.grammar parts.formed parts.tree parts.start.bytes parts.tokens.items.items (g.F.Relation.admits parts.guard) parts.squeezes in
     let run : Run =
     run_of g.G.Gate.log g.G.Gate.faults g.J.Sink.put_so_far g.J.Sink.faults c.args.workers.now c.walk_result.new.workers c.args.journal c.walk_result.result in
-    subst (λ (mode : TreeMode). IsRunOf keeps (Problem.of_tree mode input) run) (sym c.in-Perses.is)
-    (tree_run Perses c.walk_laws.ensures c.perses_is_its_recursion.ensures c.histories_go_by_questions.ensures input c.is_input.ensures.is c.requires.kept run
-    keeps admits _ c.in-Ok.ensures.start
+    subst (λ (mode : TreeMode). IsRunOf input.admits (Problem.of_tree mode input) run) (sym c.in-Perses.is)
+    (tree_run Perses c.walk_laws.ensures c.perses_is_its_recursion.ensures c.histories_go_by_questions.ensures input c.is_input.ensures.is
+    (admitted input c.whole_is_start.ensures c.is_input.ensures.is c.requires.kept) run
+    input.admits refl _ c.in-Ok.ensures.start
     (c.walk_result.ensures.in_mode input c.in-Ok.ensures.first))
 
 pub returns-in-Err-hdd_reducer-clause-sound : goal.returns-in-Err-hdd_reducer-clause-sound
@@ -48,22 +55,23 @@ returns-in-Err-hdd_reducer-clause-sound g c =
     g.G.Gate.may_say
 
 pub returns-in-Err-hdd_reducer-clause-problem : goal.returns-in-Err-hdd_reducer-clause-problem
-returns-in-Err-hdd_reducer-clause-problem g c keeps admits =
+returns-in-Err-hdd_reducer-clause-problem g c =
     let run : Run = run_of g.G.Gate.log g.G.Gate.faults g.J.Sink.put_so_far g.J.Sink.faults c.args.workers.now c.args.workers.now c.args.journal
     c.refused-in-Err-hdd_reducer.result in
     refused_of run c.refused-in-Err-hdd_reducer.ensures.events c.refused-in-Err-hdd_reducer.ensures.outcome
-    (ap (reached g.G.Gate.log g.G.Gate.faults g.J.Sink.put_so_far g.J.Sink.faults c.args.workers.now) c.refused-in-Err-hdd_reducer.ensures.journal) keeps
+    (ap (reached g.G.Gate.log g.G.Gate.faults g.J.Sink.put_so_far g.J.Sink.faults c.args.workers.now) c.refused-in-Err-hdd_reducer.ensures.journal) _
     (Problem.of_tree c.args.mode _)
 
 pub returns-in-Ok-hdd_reducer-clause-problem : goal.returns-in-Ok-hdd_reducer-clause-problem
-returns-in-Ok-hdd_reducer-clause-problem g c keeps admits =
+returns-in-Ok-hdd_reducer-clause-problem g c =
     let parts = c.args.parts.now in
     let input : TreeInput = input_of parts.start.grammar parts.formed parts.tree parts.start.bytes parts.tokens.items.items
-    (keeps_admit parts.guard) parts.squeezes in
+    (g.F.Relation.admits parts.guard) parts.squeezes in
     let run : Run =
     run_of g.G.Gate.log g.G.Gate.faults g.J.Sink.put_so_far g.J.Sink.faults c.args.workers.now c.walk_result-in-Ok-hdd_reducer.new.workers c.args.journal
     c.walk_result-in-Ok-hdd_reducer.result in
-    subst (λ (mode : TreeMode). IsRunOf keeps (Problem.of_tree mode input) run) (sym c.in-Hdd.is)
-    (tree_run Hdd c.walk_laws-in-Hdd.ensures c.hdd_is_its_recursion.ensures c.histories_go_by_questions.ensures input c.is_input.ensures.is c.requires.kept run
-    keeps admits _ c.in-Ok-hdd_reducer.ensures.start
+    subst (λ (mode : TreeMode). IsRunOf input.admits (Problem.of_tree mode input) run) (sym c.in-Hdd.is)
+    (tree_run Hdd c.walk_laws-in-Hdd.ensures c.hdd_is_its_recursion.ensures c.histories_go_by_questions.ensures input c.is_input.ensures.is
+    (admitted input c.whole_is_start.ensures c.is_input.ensures.is c.requires.kept) run
+    input.admits refl _ c.in-Ok-hdd_reducer.ensures.start
     (c.walk_result-in-Ok-hdd_reducer.ensures.in_mode input c.in-Ok-hdd_reducer.ensures.first))

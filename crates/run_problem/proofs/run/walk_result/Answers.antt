@@ -1,6 +1,5 @@
 use denote.Exit.{no}
 use denote.Param.Send.{arg_send, param_send}
-use Rattle.keep_guard.proofs.keep.KeepTexts.TheSendSync as keeps
 use Rattle.reduce_trees.proofs.Lent.{round_send}
 use Rattle.run_problem.proofs.run.walk_result.Goals as goal
 
@@ -8,4 +7,4 @@ pub returns-clause-in_mode : goal.returns-clause-in_mode
 returns-clause-in_mode g c input same = c.run_to_text.ensures.in_mode input same
 
 pub run_to_text-requires-send-R : goal.run_to_text-requires-send-R
-run_to_text-requires-send-R g c κs within = param_send _ _ (arg_send _ no _ (round_send _ _ _ _ _ (keeps.the_sync _) c.type_bounds.send-W))
+run_to_text-requires-send-R g c κs within = param_send _ _ (arg_send _ no _ (round_send _ _ _ _ _ c.type_bounds.sync-F c.type_bounds.send-W))

@@ -1,5 +1,5 @@
 use Rattle.std.proofs.Common.{◌≡◌, map, take}
-use Rattle.command_reduce_calls.proofs.keeps.keep_texts.Given as goal
+use Rattle.command_reduce_calls.proofs.stays.keep_texts.Given as goal
 
 -- the texts so far
 abbrev pub invariant-loop-text : goal.invariant-loop-text
