@@ -32,20 +32,22 @@ _perses() {
         esac
         return
         ;;
-    --start | --jobs | --keep | --number | --size)
+    --start | --jobs | --keep | --protect | --protect-text | --only | --number | --size)
         return
         ;;
     esac
     # In mode `lines` nothing is said of a grammar.
     [[ ${COMP_WORDS[*]} =~ \ --mode\ (=\ )?lines( |$) ]] && by_grammar=''
     case $command in
-    reduce) options="--input --output --script --mode --jobs --journal --work --keep $by_grammar" ;;
+    reduce)
+        options="--input --output --script --mode --jobs --journal --work --keep --protect --protect-text --only $by_grammar"
+        ;;
     normal) options='--grammar --lexer --start' ;;
     selftest) options='--number --size --mode' ;;
     esac
-    # Each option once, but --keep.
+    # Each option once, but those that may be there several times.
     for given in "${COMP_WORDS[@]:2}"; do
-        if [[ $given == --* && $given != --keep && $given != "$word" ]]; then
+        if [[ $given == --* && $given != --keep && $given != --protect* && $given != "$word" ]]; then
             options=" $options "
             options=${options/ $given / }
         fi
