@@ -1,6 +1,7 @@
 """The command line of the journal reader."""
 import argparse
 import sys
+from pathlib import Path
 
 from .reading import BadEvent, BadHead, Record, read_journal
 
@@ -13,6 +14,7 @@ def words():
     which = parser.add_mutually_exclusive_group()
     which.add_argument("--text", type=int, metavar="N", help="writes the text of record N, from 1, and nothing else")
     which.add_argument("--last-yes", action="store_true", help="writes the text of the last yes that the reducer was answered with, and nothing else")
+    which.add_argument("--best", metavar="FILE", help="writes the shortest text with a yes to this file, and prints nothing; also where no answer used it yet")
     return parser
 
 
@@ -37,6 +39,8 @@ def print_events(journal):
 
 def chosen(journal, arguments):
     """The record whose text is asked for; None where there is none."""
+    if arguments.best is not None:
+        return journal.best()
     if arguments.last_yes:
         return journal.last_yes()
     records = journal.records()
@@ -46,20 +50,27 @@ def chosen(journal, arguments):
 def main():
     arguments = words().parse_args()
     try:
-        with open(arguments.journal, "rb") as file:
-            journal = read_journal(file.read())
+        journal = read_journal(Path(arguments.journal).read_bytes())
+        return answered(journal, arguments)
     except OSError as error:
         return refused(error.strerror)
     except BadHead:
         return refused("no journal: its first line isn't there")
     except BadEvent as bad:
         return refused(f"no event at byte {bad.offset}")
-    if arguments.text is None and not arguments.last_yes:
+
+
+def answered(journal, arguments):
+    """Prints the events, or writes the text that is asked for. Gives the status."""
+    if arguments.text is None and arguments.best is None and not arguments.last_yes:
         print_events(journal)
         return 0
     record = chosen(journal, arguments)
     if record is None:
         return refused("no such record")
+    if arguments.best is not None:
+        Path(arguments.best).write_bytes(record.text)
+        return 0
     sys.stdout.buffer.write(record.text)
     return 0
 

@@ -34,6 +34,10 @@ class Journal(NamedTuple):
     def records(self):
         return [event for event in self.events if isinstance(event, Record)]
 
+    def best(self):
+        """The shortest text with a yes, and of those that are as short the first; None where there is none."""
+        return min((record for record in self.records() if record.yes), key=lambda record: len(record.text), default=None)
+
     def last_yes(self):
         """The record of the last yes that the reducer was answered with: what it had come to. None before the first."""
         records = self.records()

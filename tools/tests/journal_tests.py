@@ -1,4 +1,5 @@
 """The journal reader: the worked journal, each of its prefixes, torn tails beside bad records, and its command line."""
+import os
 import subprocess
 import tempfile
 import unittest
@@ -9,6 +10,7 @@ from support import TOOL
 from journal_reader.reading import BadEvent, BadHead, Commit, Record, read_journal
 
 COMMAND = TOOL.parent / "journal"
+PROGRAM = Path(os.environ.get("PERSES_PROGRAM", TOOL.parent.parent / "crates/perses_main/out/perses_main"))
 
 # The journal of a reduction of `a=1;b=2;c=3;` whose script says yes where there is a `b`.
 WORKED = b"perses-journal 1\nR y 12\na=1;b=2;c=3;\nC 1\nR n 0\n\nC 2\nR n 5\na=1;\n\nC 3\nR y 8\nb=2;c=3;\nC 4\nR y 5\nb=2;\n\nC 5\nC 2\n"
@@ -84,9 +86,53 @@ class CommandLine(unittest.TestCase):
         self.assertEqual(self.run_on(WORKED[:79], "--last-yes"), (0, b"a=1;b=2;c=3;", b""))
         self.assertEqual(self.run_on(HEAD, "--last-yes")[0], 1)
 
+    def test_writes_the_best_text_to_a_file(self):
+        for data, wanted in ((WORKED, b"b=2;\n"), (WORKED[:WORKED.index(b"C 4")], b"b=2;c=3;"), (ONE + b"R y 1\nb\nR n 0\n\n", b"a")):
+            with self.subTest(data=data), tempfile.TemporaryDirectory() as folder:
+                best = Path(folder, "best")
+                self.assertEqual(self.run_on(data, "--best", str(best)), (0, b"", b""))
+                self.assertEqual(best.read_bytes(), wanted)
+
+    def test_writes_no_file_without_a_best_text(self):
+        with tempfile.TemporaryDirectory() as folder:
+            best = Path(folder, "best")
+            self.assertEqual(self.run_on(HEAD + b"R n 1\na\nC 1\n", "--best", str(best)), (1, b"", b"journal: no such record\n"))
+            self.assertFalse(best.exists())
+            self.assertEqual(self.run_on(WORKED, "--best", folder)[0], 1)
+
     def test_refuses_what_is_no_journal(self):
         self.assertEqual(self.run_on(b"perses-journal 2\n"), (1, b"", b"journal: no journal: its first line isn't there\n"))
         self.assertEqual(self.run_on(HEAD + b"x"), (1, b"", b"journal: no event at byte 17\n"))
+
+
+@unittest.skipUnless(PROGRAM.exists(), "the program isn't built")
+class OfTheProgram(unittest.TestCase):
+    """Journals of the program itself: of a whole run, and of one that was killed after each number of questions."""
+
+    def run_in(self, folder, script):
+        Path(folder, "i").write_bytes(b"a\nb\nc\nd\n")
+        Path(folder, "s").write_text("#!/bin/sh\n" + script)
+        Path(folder, "s").chmod(0o755)
+        words = [str(PROGRAM), "reduce", "--mode", "lines", "--input", "i", "--output", "o", "--script", "s"]
+        subprocess.run(words, cwd=folder, capture_output=True, env={**os.environ, "PERSES_QUIET": "1"})
+        return Path(folder, "o.journal").read_bytes()
+
+    def test_reads_a_whole_run(self):
+        with tempfile.TemporaryDirectory() as folder:
+            journal = read_journal(self.run_in(folder, "grep -q b \"$1\"\n"))
+            self.assertEqual(journal.torn, 0)
+            self.assertEqual(journal.best().text, Path(folder, "o").read_bytes())
+            self.assertEqual(journal.last_yes(), journal.best())
+            self.assertTrue(all(record.yes == (b"b" in record.text) for record in journal.records()))
+
+    def test_has_the_best_text_of_a_killed_run(self):
+        killed = "echo >>asked; [ $(wc -l <asked) -le {} ] || kill -9 $PPID\ngrep -q b \"$1\"\n"
+        for asked in range(1, 5):
+            with self.subTest(asked=asked), tempfile.TemporaryDirectory() as folder:
+                journal = read_journal(self.run_in(folder, killed.format(asked)))
+                self.assertLessEqual(len(journal.records()), asked)
+                self.assertEqual(journal.best().text, min((r.text for r in journal.records() if r.yes), key=len))
+                self.assertFalse(Path(folder, "o").exists())
 
 
 if __name__ == "__main__":
