@@ -1,36 +1,20 @@
 -- The text of a normal form.
-use Rattle.std.specs.Prelude.{ℕ, ◌+◌, true, not, ◌&&◌, ◌==◌, nat_eq, nat_le, List, [], ◌∷◌, ◌++◌, slice_get, filter, if◌then◌else◌, codes}
-use Rattle.std.specs.List.{flat_map, join_by, list_any}
+use Rattle.std.specs.Prelude.{ℕ, ◌+◌, not, nat_eq, List, [], ◌∷◌, ◌++◌, slice_get, filter, codes}
+use Rattle.std.specs.List.{join_by, list_any}
 use Rattle.std.specs.Option.{option_map_or}
-use Rattle.std.specs.Fmt.{radix_digits}
+use Rattle.grammar_literal.specs.Literal.{content}
 use Rattle.grammar_tree.specs.Written.{Source, TokenKind}
 use Rattle.grammar_tree.specs.Kinds.{visible_from}
 use Rattle.normal_form.specs.declared.normal.Sym.{Sym}
 use Rattle.normal_form.specs.declared.normal.Sym.TheVariants.{Kind, Set, Rule}
 use Rattle.normal_form.specs.Form.{RuleForm, NormalForm}
 
--- a character by its number, in upper-case hexadecimal
-abbrev pub code_of : ℕ → List ℕ
-code_of c = codes "\\u{" ++ (radix_digits 16 true c ++ codes "}")
-
--- A character in a literal: those from the space to `~` as themselves, but for `\'` and `\\`; a
--- newline, return and tab as `\n`, `\r` and `\t`; all others by their number.
-abbrev pub escaped : ℕ → List ℕ
-escaped c =
-    if c == 39 then codes "\\'"
-    else if c == 92 then codes "\\\\"
-    else if c == 10 then codes "\\n"
-    else if c == 13 then codes "\\r"
-    else if c == 9 then codes "\\t"
-    else if nat_le 32 c && nat_le c 126 then c ∷ []
-    else code_of c
-
 -- an implicit token prints its literal, in quotes, and every other kind its name
 abbrev pub kind_text : TokenKind → List ℕ
 kind_text kind = from_source kind.source kind.name
   where
     from_source : Source → List ℕ → List ℕ
-    from_source Source.implicit name = codes "'" ++ (flat_map escaped name ++ codes "'")
+    from_source Source.implicit name = codes "'" ++ (content name ++ codes "'")
     from_source (Source.written position) name = name
     from_source Source.declared name = name
 

@@ -1,70 +1,28 @@
 //! The text of a normal form.
 
-ghost use Rattle.std.specs.Prelude.{◌≡◌, ◌∷◌, ◌++◌, ◌<◌, ◌^◌, IfOk, List, OnOk, [], codes, encode_utf8_all, length, map, nat_eq, slice_get, string_bytes};
+ghost use Rattle.std.specs.Prelude.{◌≡◌, ◌++◌, ◌<◌, ◌^◌, IfOk, OnOk, [], codes, encode_utf8_all, length, map, nat_eq, slice_get, string_bytes};
 ghost use Rattle.std.specs.Option.{option_map_or};
-ghost use Rattle.std.specs.List.{flat_map, join_by};
+ghost use Rattle.std.specs.List.{join_by};
+ghost use Rattle.grammar_literal.specs.Literal.{content};
 ghost use Rattle.grammar_tree.specs.GrammarView.{kind_of};
-ghost use Rattle.normal_form_print.specs.Print.{body_text, but_text, code_of, escaped, kind_text, lines_from, numbered_kind_text, printed, set_text};
+ghost use Rattle.normal_form_print.specs.Print.{body_text, but_text, kind_text, lines_from, numbered_kind_text, printed, set_text};
 ghost use Rattle.normal_form_print.specs.inner.Printing.{kind_bytes, symbol_bytes};
 ghost use Rattle.normal_form.specs.View.{alts_form, rule_form};
 
 use faults::Memory;
+use grammar_literal::PrintedLiteral;
 use grammar_names::visible_kinds;
 use grammar_tree::{Checked, Kind, KindSource, Text, counts_fit};
 use normal_form::{Normal, NormalRule, Sym, rules_are_few};
 use normal_form_sets::KindSets;
 use std::alloc::Global;
 
-/// Adds the character's number.
-fn push_code(text: &mut String, alloc: Global, c: char) -> Result<(), Memory>
-    ensures { OnOk result (string_bytes text.new ≡ string_bytes text.old ++ encode_utf8_all (code_of c)) }
-{
-    let number = c as u32;
-    let code = format!(in alloc; "\\u{{{number:X}}}")?;
-    text.push_str(code.as_str())?;
-    Ok(())
-}
-
-/// Adds the escape of a character.
-fn push_escape(text: &mut String, escape: &str) -> Result<(), Memory>
-    ensures { OnOk result (string_bytes text.new ≡ string_bytes text.old ++ escape.now) }
-{
-    text.push_str(escape)?;
-    Ok(())
-}
-
-/// Adds a character that is written as itself.
-fn push_char(text: &mut String, c: char) -> Result<(), Memory>
-    ensures { OnOk result (string_bytes text.new ≡ string_bytes text.old ++ encode_utf8_all (c ∷ [])) }
-{
-    text.push(c)?;
-    Ok(())
-}
-
-/// Adds a character of a literal.
-fn push_escaped(text: &mut String, alloc: Global, c: char) -> Result<(), Memory>
-    ensures { OnOk result (string_bytes text.new ≡ string_bytes text.old ++ encode_utf8_all (escaped c)) }
-{
-    match c {
-        '\'' => push_escape(text, "\\'"),
-        '\\' => push_escape(text, "\\\\"),
-        '\n' => push_escape(text, "\\n"),
-        '\r' => push_escape(text, "\\r"),
-        '\t' => push_escape(text, "\\t"),
-        ' '..='~' => push_char(text, c),
-        _ => push_code(text, alloc, c),
-    }
-}
-
 /// Adds the literal of an implicit token, in quotes.
 fn push_literal(text: &mut String, alloc: Global, literal: &Text) -> Result<(), Memory>
-    ensures { OnOk result (string_bytes text.new ≡ string_bytes text.old ++ encode_utf8_all (codes "'" ++ (flat_map escaped literal.now ++ codes "'"))) }
+    ensures { OnOk result (string_bytes text.new ≡ string_bytes text.old ++ encode_utf8_all (codes "'" ++ (content literal.now ++ codes "'"))) }
 {
-    text.push_str("'")?;
-    for c in literal.as_str().chars() {
-        push_escaped(text, alloc, c)?;
-    }
-    text.push_str("'")?;
+    let printed = format!(in alloc; "{}", PrintedLiteral(literal))?;
+    text.push_str(printed.as_str())?;
     Ok(())
 }
 
