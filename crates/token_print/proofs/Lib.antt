@@ -5,6 +5,7 @@ mod Skipped
 mod Whole
 mod Climbing
 mod Sizes
+mod Twice
 mod Squeezing
 mod Numbers
 mod Stretches
@@ -24,3 +25,4 @@ mod RunAt
 mod Reading
 mod Answering
 mod Writing
+pub mod Lent

@@ -22,7 +22,7 @@ one_newline skips = step skips.newline
     step true = omega arith
     step false = omega arith
 
-one_separator : (skips : Skips) (gap : List ℕ) → length (separator skips gap) ≤ 1
+pub one_separator : (skips : Skips) (gap : List ℕ) → length (separator skips gap) ≤ 1
 one_separator skips gap = step (skips.newline && list_any (nat_eq 10) gap) skips.space
   where
     step : (b c : Bool) → length {A = ℕ} (cond b (10 ∷ []) (cond c (32 ∷ []) [])) ≤ 1
@@ -41,7 +41,7 @@ module _ (skips : Skips) (start : List ℕ) (tokens : List PlacedToken) (runs : 
   word_len i = length (spelling_at start tokens i)
 
   -- a gap and a spelling lead on to the next gap
-  leads : (i : ℕ) → i < length tokens → from i + gap_len i + word_len i ≡ from (suc i)
+  pub leads : (i : ℕ) → i < length tokens → from i + gap_len i + word_len i ≡ from (suc i)
   leads i h =
       let next : i + 1 ≡ suc i = omega arith in
       let gap = gap_text start tokens i in

@@ -1,5 +1,5 @@
 -- What is known of printed texts.
-use Rattle.std.specs.Prelude.{◌≡◌, ◌↔◌, ℕ, ◌≤◌, List, map, slice_get, length}
+use Rattle.std.specs.Prelude.{◌≡◌, ◌↔◌, ℕ, ◌≤◌, ◌+◌, ◌*◌, List, map, slice_get, length}
 use Rattle.std.specs.List.{filter_map, range_with_len}
 use Rattle.std.specs.Str.{chars, IsUtf8}
 use Rattle.grammar_tree.specs.Written.{WrittenGrammar}
@@ -55,6 +55,12 @@ NoLongerThanStart =
     (G : WrittenGrammar) (skips : Skips) (start : List ℕ) (tokens : List PlacedToken) (kept : List ℕ) → IsUtf8 start → HasTokens G (chars start) tokens
     → AreKept tokens kept →
     length (printed skips start tokens kept Style.AsWas) ≤ length start
+
+-- Squeezed, no text has more than twice the bytes of the start, and one more.
+abbrev pub NoLongerThanTwice : Type 0
+NoLongerThanTwice =
+    (G : WrittenGrammar) (skips : Skips) (start : List ℕ) (tokens : List PlacedToken) (kept : List ℕ) → IsUtf8 start → HasTokens G (chars start) tokens
+    → AreKept tokens kept → length (printed skips start tokens kept Style.Squeezed) ≤ 2 * length start + 1
 
 -- Squeezed, no text is longer than that of all tokens.
 abbrev pub NoLongerThanAll : Type 0

@@ -1,6 +1,7 @@
 //! The laws of printed texts, for the proofs of other crates: each is a function that does nothing.
 
-ghost use Rattle.token_print.specs.Laws.{AllKeptIsStart, KeptKinds, NoLongerThanAll, NoLongerThanStart, PrintedWithSkips, PrintedOneWay, StartKeepsTokens};
+ghost use Rattle.token_print.specs.Laws.{AllKeptIsStart, KeptKinds, NoLongerThanAll, NoLongerThanStart, NoLongerThanTwice, PrintedOneWay};
+ghost use Rattle.token_print.specs.Laws.{PrintedWithSkips, StartKeepsTokens};
 ghost use Rattle.token_print.specs.Worked.{WorkedTexts};
 
 /// Kept tokens have one text in a style.
@@ -32,6 +33,12 @@ pub fn kept_kinds()
 /// only where a token is left out, which has at least one.
 pub fn no_longer_than_start()
     ensures { NoLongerThanStart }
+{}
+
+/// Squeezed, no text has more than twice the bytes of the start, and one more: a separator has at most one
+/// byte, each token has one at least, and the final newline is one.
+pub fn no_longer_than_twice()
+    ensures { NoLongerThanTwice }
 {}
 
 /// Squeezed, no text is longer than that of all tokens. This one may be longer than the start.

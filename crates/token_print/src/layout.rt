@@ -1,17 +1,18 @@
 //! What is printed of the kept tokens of a start: its runs, and what is between and after them.
 
-ghost use Rattle.std.specs.Prelude.{◌≡◌, ℕ, ◌<◌, ◌≤◌, ◌^◌, ◌++◌, suc, true, false, cond, List, [], ◌∷◌, None, IfOk, length, map};
+ghost use Rattle.std.specs.Prelude.{◌≡◌, ℕ, ◌<◌, ◌≤◌, ◌^◌, ◌++◌, suc, nat_eq, true, false, cond, List, [], ◌∷◌, None, IfOk, length, map};
 ghost use Rattle.std.specs.List.{All};
 ghost use Rattle.std.specs.List.Sorted.{IsStrictlyIncreasing};
 ghost use Rattle.lexer.specs.Tokens.{token_of};
 ghost use Rattle.token_laws.specs.Laws.{AreInOrder};
-ghost use Rattle.token_laws.specs.Spelling.{gap_end, gap_start, gap_text};
+ghost use Rattle.token_laws.specs.Spelling.{gap_end, gap_start, gap_text, spelling_at};
 ghost use Rattle.token_print.specs.Kept.{AreKept};
-ghost use Rattle.token_print.specs.Printed.{final_newline, printed, printed_after, separator};
+ghost use Rattle.token_print.specs.Printed.{after, final_newline, printed, printed_after, separator};
 ghost use Rattle.token_print.specs.Runs.{run_at, run_from, run_limit, run_to, runs, runs_at, stretches};
 ghost use Rattle.token_print.specs.inner.RunTexts.{run_text, runs_text, text_after, text_from};
 
 use crate::runs::{Run, next_run};
+use crate::spellings::spelling;
 use crate::style::{Skips, Style};
 use faults::Memory;
 use lexer::Token;
@@ -37,13 +38,14 @@ fn final_newline(skips: Skips) -> &'static str
     if skips.newline { "\n" } else { "" }
 }
 
-/// A start with its tokens, and how it is printed.
+/// A start with its tokens, and how it is printed. Tokens have their numbers from 0, and offsets count the
+/// bytes of the start from 0.
 #[derive(Clone, Copy)]
-pub(crate) struct Layout<'a> {
-    pub(crate) start: &'a str,
-    pub(crate) tokens: &'a [Token],
-    pub(crate) skips: Skips,
-    pub(crate) style: Style,
+pub struct Layout<'a> {
+    pub start: &'a str,
+    pub tokens: &'a [Token],
+    pub skips: Skips,
+    pub style: Style,
 }
 
 impl<'a> Layout<'a> {
@@ -70,8 +72,8 @@ impl<'a> Layout<'a> {
         }
     }
 
-    /// The gap with this number.
-    fn gap(&self, index: usize) -> &'a str
+    /// The gap with this number: before the token of this number, or after all tokens.
+    pub fn gap(&self, index: usize) -> &'a str
         requires index { index ≤ length self.now.tokens.now }
         requires order { AreInOrder self.now.start.now (map token_of self.now.tokens.now) }
         ensures { result.now ≡ gap_text self.now.start.now (map token_of self.now.tokens.now) index }
@@ -79,6 +81,15 @@ impl<'a> Layout<'a> {
         let from = self.gap_start(index);
         let to = self.gap_end(index);
         &self.start[from..to]
+    }
+
+    /// The spelling of the token with this number.
+    pub fn spelling(&self, index: u32) -> &'a str
+        requires index { index < length self.now.tokens.now }
+        requires order { AreInOrder self.now.start.now (map token_of self.now.tokens.now) }
+        ensures { result.now ≡ spelling_at self.now.start.now (map token_of self.now.tokens.now) index }
+    {
+        spelling(self.start, self.tokens[index as usize])
     }
 
     /// Whether the start is printed whole, as it has no tokens.
@@ -99,13 +110,40 @@ impl<'a> Layout<'a> {
         }
     }
 
-    /// What is printed between two runs, by the first token of the later one.
-    pub(crate) fn separator(&self, index: u32) -> &'static str
+    /// What is printed between this token and the kept one before it, where its own gap isn't. It takes time
+    /// linear in that gap.
+    pub fn separator(&self, index: u32) -> &'static str
         requires index { index < length self.now.tokens.now }
         requires order { AreInOrder self.now.start.now (map token_of self.now.tokens.now) }
         ensures { result.now ≡ separator self.now.skips (gap_text self.now.start.now (map token_of self.now.tokens.now) index) }
     {
         separator(self.skips, self.gap(index as usize))
+    }
+
+    /// What is printed as it was after the last kept token.
+    fn trailing(&self, last: u32) -> &'a str
+        requires order { AreInOrder self.now.start.now (map token_of self.now.tokens.now) }
+        ensures { result.now ≡ cond (nat_eq (suc last) (length self.now.tokens.now))
+            (gap_text self.now.start.now (map token_of self.now.tokens.now) (length self.now.tokens.now)) (final_newline self.now.skips) }
+    {
+        let count = self.tokens.len();
+        if last as usize + 1 == count {
+            self.gap(count)
+        } else {
+            final_newline(self.skips)
+        }
+    }
+
+    /// What is printed after the last kept token; nothing where none is kept.
+    pub fn after(&self, last: Option<u32>) -> &'a str
+        requires order { AreInOrder self.now.start.now (map token_of self.now.tokens.now) }
+        ensures { result.now ≡ after self.now.skips self.now.start.now (map token_of self.now.tokens.now) self.now.style last }
+    {
+        match (self.style, last) {
+            (_, None) => "",
+            (Style::Squeezed, Some(_)) => final_newline(self.skips),
+            (Style::AsWas, Some(last)) => self.trailing(last),
+        }
     }
 
     /// The run that is the whole start, where it is printed whole.

@@ -8,6 +8,8 @@
 //! [`keeps_printed`] answers the same of a printed text, and reads only what isn't carried over from the
 //! start: a printed text is made of runs that are as they are in the start (`runs`; `specs/Runs.antt`),
 //! and a piece in a run that has all that it has seen comes again (`joins`).
+//!
+//! [`Layout`] has the parts of which a text is printed: what may be printed before and after each token.
 #![tactic(auto)]
 
 mod joins;
@@ -18,7 +20,7 @@ mod layout;
 mod print_kept;
 mod runs;
 mod same;
-mod spelling;
+mod spellings;
 mod style;
 
 pub use faults::Memory;
@@ -26,9 +28,11 @@ pub use joins::keeps_printed;
 pub use keeps::keeps_tokens;
 pub use kept_numbers::are_kept;
 pub use laws::{
-    all_kept_is_start, kept_kinds, no_longer_than_all, no_longer_than_start, printed_one_way,
-    printed_with_skips, start_keeps_tokens, worked_texts,
+    all_kept_is_start, kept_kinds, no_longer_than_all, no_longer_than_start, no_longer_than_twice,
+    printed_one_way, printed_with_skips, start_keeps_tokens, worked_texts,
 };
-pub use print_kept::print;
+pub use layout::Layout;
+pub use print_kept::{print, skips};
 pub use runs::Run;
+pub use spellings::spelling;
 pub use style::{Skips, Style};

@@ -14,7 +14,7 @@ use std::alloc::Global;
 use token_laws::{gaps_are_slices, tokens_are_in_order};
 
 /// Which of the characters that separate tokens the lexer skips.
-fn skips(lexer: &Lexer) -> Result<Skips, Memory>
+pub fn skips(lexer: &Lexer) -> Result<Skips, Memory>
     ensures { IfOk result (AreSkipped lexer.now.grammar) }
 {
     let newline = lexer.skips('\n')?;

@@ -6,7 +6,7 @@ ghost use Rattle.lexer.specs.Tokens.{token_of};
 ghost use Rattle.token_laws.specs.Laws.{IsSlice};
 ghost use Rattle.token_laws.specs.Spelling.{kind_and_spelling, kinds_and_spellings};
 
-use crate::spelling::spelling;
+use crate::spellings::spelling;
 use lexer::Token;
 use token_laws::equal_characters_equal_bytes;
 

@@ -7,8 +7,8 @@ ghost use Rattle.token_laws.specs.Spelling.{spelling};
 
 use lexer::Token;
 
-/// The spelling of a token of the text.
-pub(crate) fn spelling(text: &str, token: Token) -> &str
+/// The spelling of a token of the text, whose offsets count its bytes from 0.
+pub fn spelling(text: &str, token: Token) -> &str
     requires { IsSlice text.now token.start token.end }
     ensures { result.now ≡ spelling text.now (token_of token) }
 {
