@@ -100,8 +100,8 @@ module _ (mode : TreeMode) (input : TreeInput) where
           }
 
       -- the lines and the text are the summary over each map that agrees with the rule
-      pub over_each : (text : List ℕ) (counts : Counts) → IsReductionOf admits_all (verdict_in records) problem text → counts ≡ counts_of admits_all problem records
-          → (V : List ℕ → Option Verdict) → Agree V rule_map → HasVerdicts V (questions_of admits_all problem V)
+      pub over_each : (text : List ℕ) (counts : Counts) → IsReductionOf admits_all (verdict_in records) problem text
+          → counts ≡ counts_of admits_all problem records → (V : List ℕ → Option Verdict) → Agree V rule_map → HasVerdicts V (questions_of admits_all problem V)
           → first_lines counts ++ text ≡ summary_text problem V
       over_each text counts is is_counts V agrees defined =
           ap (λ (c : Counts). first_lines c ++ text) is_counts

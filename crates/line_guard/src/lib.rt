@@ -26,7 +26,7 @@ mod wish;
 pub use faults::Memory;
 pub use index::LineIndex;
 pub use keep_guard::{Guard, KeepTexts};
-pub use laws::{all_keep_protected, lines_hold_their_bytes};
+pub use laws::{all_keep_protected, lines_hold_their_bytes, nothing_is_protected};
 pub use must_stay::MustStay;
 pub use numbers::{Numbers, keeps_numbers};
 pub use protected::{protected_lines, protected_tokens};

@@ -21,7 +21,7 @@ pub use laws::{
     lines_end_minimal, lines_go_by_rounds, refuses_lines_at_no,
 };
 pub use line_round::LineRound;
-pub use lines::{Candidate, Line, Lines};
+pub use lines::{Candidate, Line, Lines, first_line_end};
 pub use plain::{Reduction, Test, plain_reduction};
 pub use reduce_rounds::ReducerStep;
 pub use reducer::{LineReducer, line_reducer};

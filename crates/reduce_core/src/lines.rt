@@ -128,8 +128,9 @@ impl Lines {
     }
 }
 
-/// Where the first line ends: after the first newline, or at the text's end.
-fn first_line_end(text: &[u8]) -> usize
+/// Where the first line of a text ends, in bytes from its start: after the first newline, or at the text's
+/// end. An empty text has no line.
+pub fn first_line_end(text: &[u8]) -> usize
     requires { length text.now ≢ 0 }
     ensures some { 0 < result }
     ensures within { result ≤ length text.now }

@@ -50,7 +50,7 @@ use Rattle.run_problem.specs.Problem.{IsEditBy, Problem, questions_of, recursion
 use Rattle.run_problem.specs.Committed.{IsPrefix, questions_over, thread_history, thread_over}
 use Rattle.run_problem.specs.Laws.{GoesByQuestions, HistoriesGoByQuestions}
 use Rattle.run_problem.specs.Reducer.{reducer_of, round_trials}
-use Rattle.run_problem.specs.inner.Walks.{IsTreeMode}
+use Rattle.run_problem.specs.TreeMode.{IsTreeMode}
 use Rattle.run_problem.specs.Ends.{AreOf, IsRunOf, IsUnfinished, ProblemEnds, ReducesFrom, RunFails}
 
 no_texts : IsDistinct bytes_eq []

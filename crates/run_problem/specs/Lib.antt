@@ -8,4 +8,4 @@ pub mod Read
 pub mod Committed
 pub mod Ends
 pub mod Laws
-pub mod inner
+pub mod TreeMode

@@ -16,7 +16,7 @@ ghost use Rattle.run_gated.specs.RunEnds.{IsRunIn, IsSound};
 ghost use Rattle.run_problem.specs.Problem.{Problem};
 ghost use Rattle.run_problem.specs.Read.{IsFoundIn, IsReadAs, IsReady, numbers_read, start_read};
 ghost use Rattle.run_problem.specs.Ends.{IsRunOf};
-ghost use Rattle.run_problem.specs.inner.Walks.{IsTreeMode};
+ghost use Rattle.run_problem.specs.TreeMode.{IsTreeMode};
 
 use crate::laws::histories_go_by_questions;
 use crate::problem::ReadProblem;
@@ -77,7 +77,7 @@ fn lines_result<
 }
 
 /// The parts of a reduction of trees: what was found, the table of its symbols, and the guard.
-fn tree_parts<F: Relation + Drop>(
+pub fn tree_parts<F: Relation + Drop>(
     alloc: Global,
     found: ParsedInput,
     guard: Guard<F>,
@@ -99,7 +99,7 @@ fn tree_parts<F: Relation + Drop>(
 
 /// What holds of reductions of trees in the mode of a walk. It does nothing: a caller calls it so that
 /// its proof knows.
-fn walk_laws<W: TreeWalk>()
+pub fn walk_laws<W: TreeWalk>()
     ensures { IsTreeMode W.round W.IsEdit }
 {
     walks_begin::<W>();
