@@ -22,4 +22,12 @@ def packed(name, parts, time):
             about.size, about.mtime, about.mode = len(part.data), time, 0o755 if part.is_program else 0o644
             about.uname = about.gname = "root"
             archive.addfile(about, io.BytesIO(part.data))
-    return gzip.compress(plain.getvalue(), compresslevel=9, mtime=0)
+    return compressed(plain.getvalue())
+
+
+def compressed(data):
+    """In the form of gzip. `gzip.compress` begins with other bytes in another version of Python."""
+    made = io.BytesIO()
+    with gzip.GzipFile(filename="", mode="wb", compresslevel=9, fileobj=made, mtime=0) as file:
+        file.write(data)
+    return made.getvalue()

@@ -182,6 +182,21 @@ class ReleaseTests(unittest.TestCase):
         self.assertIn("is no kit", self.release(top).stderr)
         self.assertEqual(list((self.folder / "archives").iterdir()), [])
 
+    def test_earlier_archives_are_no_change(self):
+        top = self.folder / "top"
+        self.repository(top)
+        (top / "archives").mkdir()
+        for folder in (".", "archives", "archives"):
+            self.assertEqual(self.release(top, "--folder", str(top / folder)).returncode, 0)
+        self.assertEqual((top / self.archive.name).read_bytes(), (top / "archives" / self.archive.name).read_bytes())
+
+    def test_folder_is_looked_for_before_the_program_is_built(self):
+        top = self.folder / "top"
+        self.repository(top)
+        done = self.release(top, "--folder", "/none")
+        self.assertEqual((done.returncode, done.stderr), (1, "release: /none is no folder\n"))
+        self.assertFalse((top / "crates").exists())
+
     def test_given_program_is_said_to_be_so(self):
         top = self.folder / "top"
         self.repository(top)
