@@ -7,8 +7,10 @@ trap 'rm -rf -- "$work"' EXIT
 trap 'exit 1' HUP INT TERM
 cat >"$work/archive" && [ "$(sha256sum <"$work/archive")" = "$4" ] || exit 1
 mkdir "$work/files" && cd "$work/files" && tar -xf ../archive || exit 1
-timeout -k 5 "$3" "./$2" "candidate/$1" </dev/null >/dev/null
+# The shell notes that it was started: where it wasn't, the status is of `timeout` itself, and no answer either.
+timeout -k 5 "$3" /bin/sh -c ': >../begun && exec "$0" "$1"' "./$2" "candidate/$1" </dev/null >/dev/null
 status=$?
+[ -e ../begun ] || exit 1
 case $status in
 126 | 127) echo "$(uname -n): the test had status $status: is a command missing there?" >&2 ;;
 *) echo "answer: $status" ;;

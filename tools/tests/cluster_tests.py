@@ -48,6 +48,13 @@ echo "12.0 - 12.0"
 
 PROGRAMS = {"srun": SRUN, "parallel": PARALLEL, "condor_submit": SUBMIT, "condor_wait": "#!/bin/sh\n", "condor_rm": '#!/bin/sh\necho "$@" >>"$NOTES/removed"\n', "sleep": '#!/bin/sh\necho "$1" >>"$NOTES/sleeps"\n'}
 
+# A `timeout` that can't start anything at its first call, as where there are as many processes as there may be.
+FIRST_FAILS = """#!/bin/sh
+[ -e "$NOTES/timed" ] && exec /usr/bin/timeout "$@"
+touch "$NOTES/timed"
+exit 125
+"""
+
 # Says by its status what the candidate says, and looks whether what it needs is there.
 TEST = '#!/bin/sh\necho noise; echo "answer: 0"\n[ -e "$(dirname "$0")/words.txt" ] && [ -d tables ] || exit 99\n. "./$1"\n'
 
@@ -109,6 +116,11 @@ class ClusterTests(unittest.TestCase):
                 self.assertEqual(done.returncode, 3, done.stderr)
                 self.assertIn(f"the test had status {status}", done.stderr)
 
+    def failed_timeout_is_no_answer(self, script):
+        self.write("bin/timeout", FIRST_FAILS, 0o755)
+        done = self.ask(script, "exit 3\n")
+        self.assertEqual((done.returncode, (self.folder / "calls").read_text(), self.left()), (3, "2\n", []), done.stderr)
+
     def hanging_test_is_ended(self, script):
         done = self.ask(script, "exec tail -f /dev/null\n", LIMIT="1")
         self.assertEqual((done.returncode, self.left()), (124, []))
@@ -131,8 +143,12 @@ class ClusterTests(unittest.TestCase):
         self.assertIn(" --mem=100 --partition=short /bin/sh -c", (self.folder / "words").read_text())
 
 
+CHECKS = (
+    ClusterTests.own_status, ClusterTests.failures_are_asked_again, ClusterTests.missing_command_is_no_answer, ClusterTests.failed_timeout_is_no_answer,
+    ClusterTests.hanging_test_is_ended,
+)
 ROWS = [("slurm", "slurm.sh"), ("parallel", "parallel.sh"), ("htcondor", "htcondor.sh")]
-for check in (ClusterTests.own_status, ClusterTests.failures_are_asked_again, ClusterTests.missing_command_is_no_answer, ClusterTests.hanging_test_is_ended):
+for check in CHECKS:
     named_tests(ClusterTests, check, ROWS)
 
 
