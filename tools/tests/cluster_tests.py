@@ -42,7 +42,11 @@ SUBMIT = "#!/bin/sh" + ENGINE + """
 value() { sed -n "s/^$1 = //p" "$description"; }
 description=$2
 eval "set -- $(value arguments | tr -d '"')"
-run "$(value executable)" "$@" <"$(value input)" >"$(value output)" 2>"$(value error)"
+if [ $calls = 1 ] && [ -e "$NOTES/held" ]; then
+    printf '%s\\n' '000 (012.000.000) Job submitted' ... '012 (012.000.000) Job was held.' '	no disk' ... >"$(value log)"
+else
+    run "$(value executable)" "$@" <"$(value input)" >"$(value output)" 2>"$(value error)"
+fi
 echo "12.0 - 12.0"
 """
 
@@ -83,7 +87,7 @@ class ClusterTests(unittest.TestCase):
             "PATH": f"{self.folder}/bin:/usr/bin:/bin", "NOTES": str(self.folder), "TMPDIR": str(self.folder / "tmp"), "TEST": "my test",
             "NEEDS": f"words.txt {self.folder}/tables", "NODES": "red blue", **more,
         }
-        return subprocess.run([str(FOLDER / script), "perses-work/a name.c"], cwd=self.folder, env=environment, stdin=subprocess.DEVNULL, capture_output=True, text=True, timeout=60)
+        return subprocess.run([str(FOLDER / script), "perses-work/a name.c"], cwd=self.folder, env=environment, stdin=subprocess.DEVNULL, capture_output=True, text=True, timeout=600)
 
     def left(self):
         """What is left in the folder for temporary files but locks."""
@@ -134,6 +138,13 @@ class ClusterTests(unittest.TestCase):
     def test_condor_takes_its_jobs_out_of_the_queue(self):
         self.ask("htcondor.sh", "exit 1\n")
         self.assertEqual((self.folder / "removed").read_text(), "12.0\n")
+
+    def test_condor_asks_again_and_says_why_a_job_was_held(self):
+        self.write("held", "")
+        done = self.ask("htcondor.sh", "exit 4\n")
+        self.assertEqual((done.returncode, (self.folder / "calls").read_text(), self.left()), (4, "2\n", []), done.stderr)
+        self.assertIn("Job was held.\n\tno disk\n", done.stderr)
+        self.assertNotIn("submitted", done.stderr)
 
     def test_slurm_takes_steps_of_an_allocation(self):
         self.ask("slurm.sh", "exit 1\n")
