@@ -1,0 +1,5 @@
+pub mod Code
+pub mod Numbers
+pub mod Fields
+pub mod Reached
+pub mod Print
