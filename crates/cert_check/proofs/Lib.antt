@@ -1,0 +1,11 @@
+mod AlongRecords
+mod Finished
+mod Found
+mod Legal
+mod Numbered
+mod OneFound
+mod Reducers
+mod Refusing
+mod Replaying
+mod Setups
+mod Words

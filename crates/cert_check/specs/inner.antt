@@ -1,0 +1,4 @@
+pub mod Asked
+pub mod Inputs
+pub mod Replayed
+pub mod Steps
