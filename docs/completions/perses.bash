@@ -5,7 +5,7 @@ _perses() {
     local command=${COMP_WORDS[1]} options='' by_grammar='--grammar --lexer --start --squeeze' given
     COMPREPLY=()
     if ((COMP_CWORD == 1)); then
-        mapfile -t COMPREPLY < <(compgen -W 'reduce normal selftest' -- "$word")
+        mapfile -t COMPREPLY < <(compgen -W 'reduce normal selftest check' -- "$word")
         return
     fi
     # bash takes `--mode=hdd` as three words.
@@ -27,7 +27,7 @@ _perses() {
         ;;
     --mode)
         case $command in
-        reduce) mapfile -t COMPREPLY < <(compgen -W 'perses hdd lines' -- "$word") ;;
+        reduce | check) mapfile -t COMPREPLY < <(compgen -W 'perses hdd lines' -- "$word") ;;
         *) mapfile -t COMPREPLY < <(compgen -W 'perses hdd' -- "$word") ;;
         esac
         return
@@ -44,6 +44,7 @@ _perses() {
         ;;
     normal) options='--grammar --lexer --start' ;;
     selftest) options='--number --size --mode' ;;
+    check) options="--input --output --journal --mode --keep $by_grammar" ;;
     esac
     # Each option once, but those that may be there several times.
     for given in "${COMP_WORDS[@]:2}"; do

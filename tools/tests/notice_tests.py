@@ -105,13 +105,14 @@ class Notices(unittest.TestCase):
 
     def test_words(self):
         for words, text in (
-            (["shrink"], "no command 'shrink': it is reduce, normal or selftest"),
+            (["shrink"], "no command 'shrink': it is reduce, normal, selftest or check"),
             (["reduce", *LINES, "--scrpt", "s"], "reduce has no option '--scrpt'"),
             (["reduce", *LINES], "reduce lacks --script"),
             (["reduce", *TREES, "--script", "s", "--jobs", "17"], "--jobs wants a number from 1 to 16, without a leading zero: '17'"),
             (["reduce", *TREES, "--script", "s", "--keep"], "--keep lacks its value"),
             (["reduce", *LINES, "--script", "s", "--start", "r"], "--start doesn't go with --mode lines"),
             (["reduce", *LINES, "--script", "s", "--lexer", "l"], "--lexer doesn't go with --mode lines"),
+            (["check", *LINES], "check lacks --journal"),
         ):
             with self.subTest(words=words):
                 ended, put, said = self.run_plain(*words)
@@ -244,6 +245,21 @@ class Notices(unittest.TestCase):
     def test_long_inputs(self):
         self.write("i", "\n" * 262145)
         self.says(10, "perses: i is too long: an input has at most 262144 bytes, a grammar 1048576\n", "reduce", *LINES, "--script", "s")
+
+    def test_files_of_a_run(self):
+        self.run_plain("reduce", *LINES, "--script", "s")
+        lines, trees = ["check", *LINES, "--journal"], ["check", *TREES, "--journal"]
+        self.assertEqual(self.says(0, "", *lines, "o.journal"), "check: yes\n")
+        self.assertEqual(self.says(15, "", *lines, "o.journal", "--keep", "a"), "perses: check: event 4 is not legal\n")
+        self.assertEqual(self.says(14, "", *lines, "i"), "perses: bad journal head\n")
+        self.says(9, "perses: i doesn't hold 'z z'\n", *lines, "o.journal", "--keep", "z z")
+        self.says(3, "perses: n: No such file or directory (os error 2)\n", *lines, "n")
+        self.write("o", "\n" * 1048577)
+        self.says(10, "perses: o is too long: a result has at most 1048576 bytes, a journal 1073741824\n", *trees, "o.journal")
+        os.remove(self.folder / "o")
+        self.says(3, "perses: o: No such file or directory (os error 2)\n", *trees, "o.journal")
+        os.remove(self.folder / "g")
+        self.says(3, "perses: g: No such file or directory (os error 2)\n", *trees, "o.journal")
 
     def test_journals(self):
         self.says(

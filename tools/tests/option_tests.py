@@ -4,7 +4,7 @@ import unittest
 from pathlib import Path
 
 TOP = Path(__file__).resolve().parents[2]
-COMMANDS = ["reduce", "normal", "selftest"]
+COMMANDS = ["reduce", "normal", "selftest", "check"]
 
 
 def read(path):
@@ -36,16 +36,20 @@ def options_of_bash(command):
 
 
 def options_of_zsh(command):
-    part = re.search(rf"\n  {command}\)\n(.*?)\n    ;;", read("docs/completions/_perses"), re.S)
-    return re.findall(r"'\*?--([\w-]+)=?\[", part.group(1))
+    text = read("docs/completions/_perses")
+    part = re.search(rf"\n  {command}\)\n(.*?)\n    ;;", text, re.S).group(1)
+    by_grammar = re.search(r"by_grammar=\((.*?)\n  \)", text, re.S).group(1)
+    return re.findall(r"'\*?--([\w-]+)=?\[", part.replace("$by_grammar", by_grammar))
 
 
 def options_of_usage(command):
-    """Those of the usage: a line each for `reduce`, and in its own line for another command."""
+    """Those of the usage: a line each for `reduce`; in its own line for another command, and in what it says."""
     text = read("crates/notice_words/src/usage.rt")
     if command == "reduce":
         return re.findall(r"^  --([\w-]+)", text, re.M)
-    return re.findall(r"--([\w-]+)", re.search(rf"perses {command} (.*)", text).group(1))
+    own = re.search(rf"perses {command} (.*)", text).group(1)
+    says = re.search(rf"^{command} says (.*?)\. ", text, re.M | re.S)
+    return re.findall(r"--([\w-]+)", own + (says.group(1) if says else ""))
 
 
 def options_of_faults(command):
@@ -61,7 +65,7 @@ class Options(unittest.TestCase):
                 self.assertEqual(sorted(named(command)), sorted(options_of_table(command)))
 
     def test_table_is_found(self):
-        self.assertEqual([len(options_of_table(command)) for command in COMMANDS], [15, 3, 3])
+        self.assertEqual([len(options_of_table(command)) for command in COMMANDS], [15, 3, 3, 9])
 
     def test_usage_names_each_option(self):
         self.are_those_of_the_table(options_of_usage)

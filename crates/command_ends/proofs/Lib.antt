@@ -1,2 +1,3 @@
 mod FileLemmas
+mod KeepLemmas
 pub mod Lent

@@ -1,19 +1,22 @@
 -- The refusals of the program: the status and the line of each, and which of them a step may give. The texts are
 -- also written where the ends of each command are defined, so that those can be read by themselves.
-use Rattle.std.specs.Prelude.{◌≡◌, ◌⊎◌, ℕ, ◌==◌, List, ◌++◌, IsTrue, Option, codes, string_bytes}
+use Rattle.std.specs.Prelude.{◌≡◌, ◌⊎◌, ℕ, ◌+◌, ◌==◌, List, ◌++◌, IsTrue, Option, Some, codes, string_bytes}
 use Rattle.std.specs.List.{list_any}
 use Rattle.std.specs.Fmt.{decimal}
 use Rattle.edge_io.specs.Files.{FileContent, IsLonger}
+use Rattle.keep_guard.specs.Keep.{first_missing}
 use Rattle.reduce_trees_input.specs.FaultText.{input_fault_text}
 use Rattle.reduce_trees_input.specs.declared.fault.InputFault.{InputFault}
 use Rattle.reduce_trees_input.specs.declared.fault.InputFault.TheVariants as input_fault
+use Rattle.reduce_journal.specs.declared.read.JournalFault.{JournalFault}
+use Rattle.reduce_journal.specs.declared.read.JournalFault.TheVariants as journal_fault
 use Rattle.run_gated.specs.declared.fault.RunFault.{RunFault}
 use Rattle.run_gated.specs.declared.fault.RunFault.TheVariants as run
 use Rattle.command_ends.specs.declared.status.NamedFile.{NamedFile}
 use Rattle.command_ends.specs.declared.status.NamedFile.TheVariants as read
 use Rattle.command_ends.specs.declared.status.Refusal.{Refusal}
 use Rattle.command_ends.specs.declared.status.Refusal.TheVariants.{Memory, Usage, CannotRead, CannotWrite, Grammar, Uncut, NoParse}
-use Rattle.command_ends.specs.declared.status.Refusal.TheVariants.{NotInteresting, KeepMissing, TooLong, Script, Journal, BeyondLines}
+use Rattle.command_ends.specs.declared.status.Refusal.TheVariants.{NotInteresting, KeepMissing, TooLong, Script, Journal, BadJournal, NotConfirmed, BeyondLines}
 use Rattle.command_ends.specs.World.{PutsPrefix, CallFailed, FilesKept, IsQuiet, Puts, PutsLine, SeenFiles, SeenOut, line_of_text}
 
 -- how a line names a file that is read
@@ -21,6 +24,8 @@ abbrev pub word_for : NamedFile → List ℕ
 word_for read.Input = codes "input"
 word_for read.Grammar = codes "grammar"
 word_for read.Lexer = codes "lexer grammar"
+word_for read.Result = codes "result"
+word_for read.Journal = codes "journal"
 
 -- the line of a grammar's fault
 abbrev pub fault_line : List ℕ → List ℕ
@@ -33,6 +38,10 @@ keep_text number = codes "keep text " ++ (decimal number ++ codes " is missing")
 -- the text where an option names this line, counted from 1, of an input that has only so many
 abbrev pub beyond_text : ℕ → ℕ → List ℕ
 beyond_text line lines = codes "line " ++ (decimal line ++ (codes " is beyond line " ++ decimal lines))
+
+-- the text for bytes of which nothing is read as an event from this offset on
+abbrev pub bad_record_text : ℕ → List ℕ
+bad_record_text offset = codes "bad journal at byte " ++ decimal offset
 
 -- the text for a call that failed of the gate of this worker
 abbrev pub script_text : ℕ → List ℕ
@@ -56,6 +65,8 @@ ending_of (KeepMissing line) = (9, string_bytes line)
 ending_of (TooLong file) = (10, line_of_text (word_for file ++ codes " is too long"))
 ending_of (Script line) = (11, line.bytes)
 ending_of Journal = (12, line_of_text (codes "journal fault"))
+ending_of (BadJournal line) = (14, string_bytes line)
+ending_of (NotConfirmed line) = (15, string_bytes line)
 ending_of (BeyondLines line) = (16, string_bytes line)
 
 abbrev pub status_of : Refusal → ℕ
@@ -129,8 +140,26 @@ IsKeepRefusal number Memory = Unit {0}
 IsKeepRefusal number (KeepMissing line) = string_bytes line ≡ line_of_text (keep_text number)
 IsKeepRefusal number _ = ⊥
 
+-- why a start isn't accepted: this keep text is the first that doesn't occur in it, or out of memory
+abbrev pub KeepsFail : List (List ℕ) → List ℕ → Refusal → Type 0
+KeepsFail keeps start Memory = Unit {0}
+KeepsFail keeps start (KeepMissing line) = (index : ℕ) × (first_missing keeps start ≡ Some index) × IsKeepRefusal (index + 1) (KeepMissing line)
+KeepsFail keeps start _ = ⊥
+
 -- the refusal where an option names this line of an input that has only so many, or out of memory
 abbrev pub IsBeyondRefusal : ℕ → ℕ → Refusal → Type 0
 IsBeyondRefusal line lines Memory = Unit {0}
 IsBeyondRefusal line lines (BeyondLines text) = string_bytes text ≡ line_of_text (beyond_text line lines)
 IsBeyondRefusal line lines _ = ⊥
+
+-- the line of a refusal of bytes that are no journal, for another cause than memory
+abbrev pub HasJournalLine : JournalFault → List ℕ → Type 0
+HasJournalLine journal_fault.BadHead line = line ≡ line_of_text (codes "bad journal head")
+HasJournalLine (journal_fault.BadRecord offset) line = line ≡ line_of_text (bad_record_text offset)
+HasJournalLine journal_fault.Memory line = ⊥
+
+-- the refusal of bytes that are no journal for this cause, or out of memory
+abbrev pub IsJournalRefusal : JournalFault → Refusal → Type 0
+IsJournalRefusal fault Memory = Unit {0}
+IsJournalRefusal fault (BadJournal line) = HasJournalLine fault (string_bytes line)
+IsJournalRefusal fault _ = ⊥

@@ -57,12 +57,18 @@ line_of_text text = codes "perses: " ++ (text ++ 10 ∷ [])
 abbrev pub PutsMessage : List ℕ → SeenOut → SeenOut → Type 0
 PutsMessage text old new = PutsLine (line_of_text text) old new
 
--- the most bytes of an input, and of each file of a grammar
+-- the most bytes of an input, of each file of a grammar, of the result of a run that is checked, and of its journal
 abbrev pub input_limit : ℕ
 input_limit = 262144
 
 abbrev pub grammar_limit : ℕ
 grammar_limit = 1048576
+
+abbrev pub result_limit : ℕ
+result_limit = 1048576
+
+abbrev pub journal_limit : ℕ
+journal_limit = 1073741824
 
 -- The file was read whole, within the limit, and the fact holds of its bytes. Where its content isn't visible, the fact holds of some bytes.
 pub record WasRead (limit : ℕ) (content : Option FileContent) (P : List ℕ → Type 0) : Type 0 where

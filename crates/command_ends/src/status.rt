@@ -2,12 +2,14 @@
 
 ghost use Rattle.std.specs.Prelude.{◌≡◌};
 ghost use Rattle.grammar_load.specs.Message.{grammar_fault_text};
-ghost use Rattle.command_ends.specs.Status.{IsBeyondRefusal, IsGrammarRefusal, IsInputRefusal, IsKeepRefusal, line_of, script_text, status_of};
+ghost use Rattle.command_ends.specs.Status.{IsBeyondRefusal, IsGrammarRefusal, IsInputRefusal, IsJournalRefusal, IsKeepRefusal};
+ghost use Rattle.command_ends.specs.Status.{line_of, script_text, status_of};
 ghost use Rattle.command_ends.specs.World.{line_of_text};
 
 use arrayvec::ArrayString;
 use faults::Memory;
 use grammar_load::GrammarFault;
+use reduce_journal::JournalFault;
 use reduce_trees_input::InputFault;
 use run_gated::RunFault;
 use std::alloc::Global;
@@ -21,6 +23,10 @@ pub enum NamedFile {
     Grammar,
     /// The file of its lexer rules, where it is in two.
     Lexer,
+    /// The file that is taken for the result of a run.
+    Result,
+    /// The journal of a run.
+    Journal,
 }
 
 /// Why a command ends without its result.
@@ -50,6 +56,10 @@ pub enum Refusal {
     Script(ArrayString<64>),
     /// The journal can't be written.
     Journal,
+    /// The journal of a run isn't one, which this line says.
+    BadJournal(String),
+    /// The files aren't those of a finished run, and this line has the cause.
+    NotConfirmed(String),
     /// A line that an option names is beyond the last of the input, which this line says.
     BeyondLines(String),
 }
@@ -105,6 +115,23 @@ impl Refusal {
         }
     }
 
+    /// The refusal of bytes that are no journal for this cause; `Memory` where memory runs out.
+    pub fn of_journal(alloc: Global, fault: JournalFault) -> Refusal
+        ensures { IsJournalRefusal fault result }
+    {
+        let line = match fault {
+            JournalFault::BadHead => String::from_str(alloc, "perses: bad journal head\n"),
+            JournalFault::BadRecord { offset } => {
+                format!(in alloc; "perses: bad journal at byte {offset}\n")
+            }
+            JournalFault::Memory => return Refusal::Memory,
+        };
+        match line {
+            Ok(line) => Refusal::BadJournal(line),
+            Err(_) => Refusal::Memory,
+        }
+    }
+
     /// The refusal where an option names this line, counted from 1, of an input that has fewer; `Memory`
     /// where memory runs out.
     pub fn of_beyond(alloc: Global, line: u64, lines: u64) -> Refusal
@@ -127,6 +154,8 @@ impl Refusal {
             Refusal::CannotRead(NamedFile::Input) => (3, "perses: cannot read input\n"),
             Refusal::CannotRead(NamedFile::Grammar) => (3, "perses: cannot read grammar\n"),
             Refusal::CannotRead(NamedFile::Lexer) => (3, "perses: cannot read lexer grammar\n"),
+            Refusal::CannotRead(NamedFile::Result) => (3, "perses: cannot read result\n"),
+            Refusal::CannotRead(NamedFile::Journal) => (3, "perses: cannot read journal\n"),
             Refusal::CannotWrite => (4, "perses: cannot write\n"),
             Refusal::Grammar(line) => (5, line.as_str()),
             Refusal::Uncut(line) => (6, line.as_str()),
@@ -136,8 +165,12 @@ impl Refusal {
             Refusal::TooLong(NamedFile::Input) => (10, "perses: input is too long\n"),
             Refusal::TooLong(NamedFile::Grammar) => (10, "perses: grammar is too long\n"),
             Refusal::TooLong(NamedFile::Lexer) => (10, "perses: lexer grammar is too long\n"),
+            Refusal::TooLong(NamedFile::Result) => (10, "perses: result is too long\n"),
+            Refusal::TooLong(NamedFile::Journal) => (10, "perses: journal is too long\n"),
             Refusal::Script(line) => (11, line.as_str()),
             Refusal::Journal => (12, "perses: journal fault\n"),
+            Refusal::BadJournal(line) => (14, line.as_str()),
+            Refusal::NotConfirmed(line) => (15, line.as_str()),
             Refusal::BeyondLines(line) => (16, line.as_str()),
         }
     }

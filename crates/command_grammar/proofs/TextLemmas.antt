@@ -132,6 +132,8 @@ module _ (named : GrammarSource) (files : SeenFiles) where
   shown_not_longer P read_file.Input reached is longer = reached
   shown_not_longer P read_file.Grammar reached is longer = short_first named.path files.shown named.lexer P is longer
   shown_not_longer P read_file.Lexer reached is longer = short_lexer named.path files.shown named.lexer P reached.0 reached.1 is longer
+  shown_not_longer P read_file.Result reached is longer = reached
+  shown_not_longer P read_file.Journal reached is longer = reached
 
   -- where a file of the grammar is too long, the first is there
   pub long_not_missing : (file : NamedFile) → IsGrammarFile named file files → IsLonger grammar_limit (files.shown (path_of named file))
@@ -139,6 +141,8 @@ module _ (named : GrammarSource) (files : SeenFiles) where
   long_not_missing read_file.Input reached longer none = reached
   long_not_missing read_file.Grammar reached longer none = longer_not_missing grammar_limit (files.shown named.path) longer none
   long_not_missing read_file.Lexer reached longer none = read_not_missing reached.1 none
+  long_not_missing read_file.Result reached longer none = reached
+  long_not_missing read_file.Journal reached longer none = reached
 
   -- a grammar that was read isn't faulty, and has no fault
   pub not_faulty : (c : CheckedGrammar) → GrammarRead named files c → GrammarIsShown named files (λ texts. ¬ IsGrammarText named texts) → ⊥

@@ -71,9 +71,13 @@ abbrev pub IsGrammarFile : GrammarSource → NamedFile → SeenFiles → Type 0
 IsGrammarFile named read.Input files = ⊥
 IsGrammarFile named read.Grammar files = Unit {0}
 IsGrammarFile named read.Lexer files = IsSome named.lexer × WasRead grammar_limit (files.shown named.path) (λ text. Unit {0})
+IsGrammarFile named read.Result files = ⊥
+IsGrammarFile named read.Journal files = ⊥
 
 -- the path of such a file; of a lexer that isn't named none is asked for
 abbrev pub path_of : GrammarSource → NamedFile → List ℕ
 path_of named read.Input = []
 path_of named read.Grammar = named.path
 path_of named read.Lexer = unwrap_or named.lexer []
+path_of named read.Result = []
+path_of named read.Journal = []

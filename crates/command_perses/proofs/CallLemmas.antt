@@ -2,7 +2,7 @@
 use Rattle.std.proofs.Common.{◌≡◌, ◌≢◌, ◌⊎◌, ◌∙◌, inl, inr, ℕ, List, [], ◌∷◌, Option, None, Some, refl, sym, ap, subst}
 use Rattle.std.proofs.lemmas.Bool.{false≢true}
 use Rattle.script_gate_trait.specs.declared.gate.Verdict.{Verdict}
-use Rattle.command_words.specs.Commands.{Command, GrammarSource, ReduceOptions, SelftestOptions}
+use Rattle.command_words.specs.Commands.{CheckOptions, Command, GrammarSource, ReduceOptions, SelftestOptions}
 use Rattle.command_words.specs.Lines.{command_read}
 use Rattle.command_words.specs.declared.commands.CommandLine.{CommandLine}
 use Rattle.command_ends.specs.declared.status.Refusal.TheVariants.{Memory, Usage}
@@ -10,6 +10,8 @@ use Rattle.command_ends.specs.declared.status.Refusal.{Refusal}
 use Rattle.command_perses.specs.Call.{RunsCommand}
 use Rattle.command_perses.specs.inner.Call.{WordsFail}
 use Rattle.command_reduce_calls.specs.Journal.{JournalSoFar}
+use Rattle.command_check.specs.Check.{CheckEnds, Checks}
+use Rattle.command_check.proofs.Lent.{checks_memory, never_usage}
 use Rattle.command_normal.specs.Normal.{NormalEnds, PrintsNormal}
 use Rattle.command_reduce.specs.Reduce.{ReduceEnds, Reduces}
 use Rattle.command_selftest.specs.Selftest.{RunsSelftest, SelftestEnds}
@@ -61,6 +63,9 @@ module _ (may_say : List ℕ → Verdict → Type 0) (old : World) (out : SeenOu
       others = refl;
     }
 
+    checks : (options : CheckOptions) → Checks options old.files old.files old.out out 1
+    checks options = checks_memory options old.files old.files old.out out (CheckEnds.memory refl end.line) refl (λ name. refl)
+
     prints : (grammar : GrammarSource) → PrintsNormal grammar old.files old.files old.out out 1
     prints grammar = prints_normal grammar old.files old.files old.out out (NormalEnds.memory refl end.line) (λ name. refl)
 
@@ -70,6 +75,7 @@ module _ (may_say : List ℕ → Verdict → Type 0) (old : World) (out : SeenOu
     ends_out_of_memory : (command : Option Command) → RunsCommand may_say old new 1 command
     ends_out_of_memory None = RunsCommand.out_of_memory (record { status_is = refl; files = refl; untouched = untouched; line = end.line })
     ends_out_of_memory (Some (Command.reduce options)) = RunsCommand.reduce options (reduces options)
+    ends_out_of_memory (Some (Command.check options)) = RunsCommand.check options (checks options) untouched
     ends_out_of_memory (Some (Command.normal grammar)) = RunsCommand.normal grammar (prints grammar) untouched
     ends_out_of_memory (Some (Command.selftest options)) = RunsCommand.selftest options (summarizes options) refl untouched
 
@@ -106,6 +112,10 @@ pub reduce_not_usage : (options : ReduceOptions) (may_say : List ℕ → Verdict
 reduce_not_usage options may_say old new status runs two =
     false≢true (subst (IsOneOf (0 ∷ 1 ∷ 3 ∷ 4 ∷ 5 ∷ 6 ∷ 7 ∷ 8 ∷ 9 ∷ 10 ∷ 11 ∷ 12 ∷ 16 ∷ [])) two
     (reduce_by_status options runs.history old new status runs.ends).known)
+
+pub check_not_usage : (options : CheckOptions) (files files' : SeenFiles) (out out' : SeenOut) (status : ℕ)
+    → Checks options files files' out out' status → status ≢ 2
+check_not_usage options files files' out out' status checks = never_usage options files files' out out' checks.ends
 
 pub normal_not_usage : (grammar : GrammarSource) (files files' : SeenFiles) (out out' : SeenOut) (status : ℕ)
     → PrintsNormal grammar files files' out out' status → status ≢ 2

@@ -24,13 +24,14 @@ use Rattle.command_ends.specs.Status.{IsOneOf}
 use Rattle.command_ends.specs.World.{Puts, SeenFiles, World}
 use Rattle.command_reduce_calls.specs.Journal.{JournalSoFar}
 use Rattle.command_reduce_calls.specs.Stays.{AcceptsStart}
-use Rattle.command_reduce.specs.Reduce.{admits_of}
-use Rattle.command_reduce.specs.Reduce.{IsHistoryOfInput, IsShownProblem, ProblemAccepted, ReadIn, ReduceEnds, ReduceMustEnd, Reduces, ReducesTo}
+use Rattle.command_reduce.specs.Reduce.{admits_of, problem_in}
+use Rattle.command_reduce.specs.Reduce.{IsHistoryOfInput, ProblemAccepted, ReduceEnds, ReduceMustEnd, Reduces, ReducesTo}
 use Rattle.command_reduce.specs.Reduce.ReduceEnds.{done, memory, script, uninteresting, unput, unwritten}
 use Rattle.command_reduce.specs.ReduceByStatus.{ReduceMeans}
 use Rattle.command_reduce.proofs.Lent.{reduce_by_status}
 use Rattle.command_perses.specs.Call.{RunsCommand}
 use Rattle.command_perses.specs.Headline.{AreVisible, HasResult, Headline, IsProblemOf, NoCallFailed, WasWritten, verdicts_of}
+use Rattle.command_problem.specs.Problem.{IsShownProblem, ReadIn}
 
 -- bytes have one history
 abbrev pub BytesHaveOneHistory : Type 0
@@ -45,8 +46,8 @@ holds_once (Some file) one other some here here' = same_Some one other (sym here
 
 module _ (options : ReduceOptions) (files : SeenFiles) where
   -- where there is a problem with a fact, it is the problem of the files, and has the fact
-  known_in : (mode : ModeOptions) (P : Problem → Type 0) → ReadIn mode options files P
-      → (problem : Problem) × ReadIn mode options files (λ one. one ≡ problem) × P problem
+  known_in : (mode : ModeOptions) (P : Problem → Type 0) → ReadIn mode (problem_in options) files P
+      → (problem : Problem) × ReadIn mode (problem_in options) files (λ one. one ≡ problem) × P problem
   known_in ModeOptions.lines P read =
       (Problem.of_lines read.bytes, record { bytes = read.bytes; read = read.read; within = read.within; holds = refl }, read.holds)
   known_in (ModeOptions.by_grammar trees) P read = (
@@ -56,7 +57,7 @@ module _ (options : ReduceOptions) (files : SeenFiles) where
   )
 
   one_in : (mode : ModeOptions) (problem other : Problem) → AreVisible mode options files
-      → ReadIn mode options files (λ one. one ≡ problem) → ReadIn mode options files (λ one. one ≡ other) → other ≡ problem
+      → ReadIn mode (problem_in options) files (λ one. one ≡ problem) → ReadIn mode (problem_in options) files (λ one. one ≡ other) → other ≡ problem
   one_in ModeOptions.lines problem other visible read read' =
       sym read'.holds ∙ ap Problem.of_lines (holds_once (files.shown options.input) read'.bytes read.bytes visible read'.read read.read) ∙ read.holds
   one_in (ModeOptions.by_grammar trees) problem other visible read read' =
@@ -71,7 +72,8 @@ module _ (options : ReduceOptions) (files : SeenFiles) where
   the_problem : (P : Problem → Type 0) → ProblemAccepted options files P → (problem : Problem) × IsProblemOf options files problem × P problem
   the_problem P accepted =
       let Kept : Problem → Type 0 = λ problem. AcceptsStart options (start_text problem) × P problem in
-      let it : (problem : Problem) × ReadIn options.mode options files (λ one. one ≡ problem) × Kept problem = known_in options.mode Kept accepted in
+      let it : (problem : Problem) × ReadIn options.mode (problem_in options) files (λ one. one ≡ problem) × Kept problem =
+      known_in options.mode Kept accepted in
       (it.0, record { read = it.1; accepted = it.2.0; only = λ visible other read. one_in options.mode it.0 other visible it.1 read }, it.2.1)
 
   -- that of a history; without one any will do
@@ -145,7 +147,7 @@ module _ (options : ReduceOptions) (history : History) (old new : World) where
   -- the run succeeds
   done_at : {status : ℕ} → ReduceEnds options history old new status → ReduceMustEnd options (records_of history) old new status
       → (status ≡ 8 → OnlyNo (records_of history))
-      → IsShownProblem options old.files (AcceptsStart options) → NoCallFailed options.jobs old new
+      → IsShownProblem (problem_in options) old.files (AcceptsStart options) → NoCallFailed options.jobs old new
       → (status ≡ 0) ⊎ ((status ≡ 8) × OnlyNo (records_of history)) ⊎ (status ≡ 1)
   done_at (done report writes put) must refused shown quiet = inl refl
   done_at (memory files gates_quiet kept put) must refused shown quiet = inr (inr refl)

@@ -1,4 +1,5 @@
 mod CallLemmas
+mod ConfirmedLemmas
 mod HeadlineLemmas
 mod WorkerLemmas
 pub mod Lent

@@ -5,9 +5,10 @@ use Rattle.edge_io.specs.Sink.{Put}
 use Rattle.script_gate_trait.specs.declared.gate.Verdict.{Verdict}
 use Rattle.script_gate_trait.specs.declared.log.Log.{Log}
 use Rattle.worker_pool.specs.declared.worker.Worker.{Worker}
+use Rattle.command_check.specs.Check.{Checks}
 use Rattle.command_normal.specs.Normal.{PrintsNormal}
 use Rattle.command_reduce.specs.Reduce.{Reduces}
-use Rattle.command_words.specs.Commands.{Command, GrammarSource, ReduceOptions, SelftestOptions}
+use Rattle.command_words.specs.Commands.{CheckOptions, Command, GrammarSource, ReduceOptions, SelftestOptions}
 use Rattle.command_selftest.specs.Selftest.{RunsSelftest}
 use Rattle.command_ends.specs.World.{NotReached, PutsMessage, World, seen, seen_gates}
 
@@ -41,6 +42,8 @@ pub data RunsCommand (may_say : List ℕ → Verdict → Type 0) (old new : Worl
   usage : EndsUsage old new status → RunsCommand may_say old new status None
   out_of_memory : EndsOutOfMemory old new status → RunsCommand may_say old new status None
   reduce : (options : ReduceOptions) → Reduces options may_say old new status → RunsCommand may_say old new status (Some (Command.reduce options))
+  check : (options : CheckOptions) → Checks options old.files new.files old.out new.out status → NotReached [] old new
+      → RunsCommand may_say old new status (Some (Command.check options))
   normal : (grammar : GrammarSource) → PrintsNormal grammar old.files new.files old.out new.out status → NotReached [] old new
       → RunsCommand may_say old new status (Some (Command.normal grammar))
   selftest : (options : SelftestOptions) → RunsSelftest options old.out new.out status → new.files ≡ old.files → NotReached [] old new

@@ -22,7 +22,8 @@ use Rattle.command_ends.specs.Status.{IsOneOf}
 use Rattle.command_ends.specs.World.{AnyGateFailed, CallFailed, NotReached, Puts, SeenFiles, World, logs_of}
 use Rattle.command_reduce_calls.specs.Journal.{JournalBroken, JournalSoFar, JournalWhole}
 use Rattle.command_reduce_calls.specs.Stays.{AcceptsStart}
-use Rattle.command_reduce.specs.Reduce.{GatesWereUsed, IsShownProblem, ProblemRead, admits_of, numbers_stay}
+use Rattle.command_reduce.specs.Reduce.{GatesWereUsed, admits_of, numbers_stay, problem_in}
+use Rattle.command_problem.specs.Problem.{IsShownProblem, ProblemRead}
 
 -- the content is visible of the files that are read
 abbrev pub AreVisible : ModeOptions → ReduceOptions → SeenFiles → Type 0
@@ -32,9 +33,9 @@ AreVisible (ModeOptions.by_grammar trees) options files = GrammarIsVisible trees
 -- The problem is that of the files: the lines of the input; or its tree, by the grammar that its file spells, or the files of its lexer and its parser.
 -- Each keep text occurs in its start, which has the lines that are named. Where the files are visible, they have no other.
 pub record IsProblemOf (options : ReduceOptions) (files : SeenFiles) (problem : Problem) : Type 0 where
-  pub read : ProblemRead options files (λ one. one ≡ problem)
+  pub read : ProblemRead (problem_in options) files (λ one. one ≡ problem)
   pub accepted : AcceptsStart options (start_text problem)
-  pub only : AreVisible options.mode options files → (other : Problem) → ProblemRead options files (λ one. one ≡ other) → other ≡ problem
+  pub only : AreVisible options.mode options files → (other : Problem) → ProblemRead (problem_in options) files (λ one. one ≡ other) → other ≡ problem
 
 -- the recorded verdicts; and the text that the recursive reduction ends with over them
 abbrev pub verdicts_of : History → List ℕ → Option Verdict
@@ -130,5 +131,5 @@ pub record Headline (may_say : List ℕ → Verdict → Type 0) (options : Reduc
   -- ---- the run succeeds
   -- where the input is one of its mode, with each keep text and the lines that are named, and no call failed;
   -- unless its only verdict is no (8), or memory ran out (1)
-  pub succeeds : IsShownProblem options old.files (AcceptsStart options) → NoCallFailed options.jobs old new
+  pub succeeds : IsShownProblem (problem_in options) old.files (AcceptsStart options) → NoCallFailed options.jobs old new
       → (status ≡ 0) ⊎ ((status ≡ 8) × OnlyNo (records_of history)) ⊎ (status ≡ 1)

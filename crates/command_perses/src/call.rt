@@ -2,12 +2,15 @@
 
 ghost use Rattle.std.specs.Prelude.{◌≡◌, ◌⊎◌, None, Some, IfErr, IfOk, length, map, string_bytes};
 ghost use Rattle.command_perses.specs.Call.{RunsCommand, world};
+ghost use Rattle.command_perses.specs.Confirmed.{ResultsAreConfirmed};
 ghost use Rattle.command_perses.specs.inner.Call.{WordsFail};
 ghost use Rattle.command_perses.specs.Headline.{Headline};
 ghost use Rattle.command_words.specs.Commands.{Command, ReduceOptions, command_line_of};
 ghost use Rattle.command_words.specs.Lines.{IsSized, command_read};
 ghost use Rattle.run_gated.specs.Workers.{AreIdle};
 
+use crate::laws::results_are_confirmed;
+use command_check::check;
 use command_ends::{Ended, Refusal, end_refused};
 use command_normal::normal;
 use command_reduce::reduce;
@@ -37,10 +40,12 @@ fn read_line<'a>(alloc: Global, words: &'a [String]) -> Result<CommandLine<'a>, 
 
 /// Does what the words ask for. Of `reduce` read `Headline` first: the result, the verdicts on which it
 /// rests, the journal, and when a run succeeds. What is promised at each status is stated with the command:
-/// `ReduceEnds` for `reduce`, `NormalEnds` for `normal`, `SelftestEnds` for `selftest`. Words that are
-/// no command line have status 2, and no others, but where memory ran out before they were read, which
-/// is status 1. `reduce` opens the journal; no other command touches it. The workers are numbered from 1
-/// in order; `reduce` uses as many as the words say, from the first on.
+/// `ReduceEnds` for `reduce`, `CheckEnds` for `check`, `NormalEnds` for `normal`, `SelftestEnds` for
+/// `selftest`. A run of `reduce` that came to its result is confirmed by what `check` looks at, where no
+/// lines are named that must stay (`ResultsAreConfirmed`). Words that are no command line have status 2,
+/// and no others, but where memory ran out before they were read, which is status 1. `reduce` opens the
+/// journal; no other command touches it. The workers are numbered from 1 in order; `reduce` uses as many as
+/// the words say, from the first on.
 pub fn perses<F: Files, G: Gate + Send, J: Sink + Drop + Send, O: Sink, W: Threads + Wait + Sync>(
     rt: &W,
     alloc: Global,
@@ -63,17 +68,23 @@ pub fn perses<F: Files, G: Gate + Send, J: Sink + Drop + Send, O: Sink, W: Threa
         (world F.content F.faults G.log G.faults J.put_so_far J.faults O.put_so_far O.faults files.old workers.old journal out.old)
         (world F.content F.faults G.log G.faults J.put_so_far J.faults O.put_so_far O.faults files.new workers.new result.journal out.new)
         result.status (command_line_of (map string_bytes words.now)) }
+    ensures confirmed { ResultsAreConfirmed G.may_say }
     ensures usage { result.status ≡ 2 → command_line_of (map string_bytes words.now) ≡ None }
     ensures no_other { command_line_of (map string_bytes words.now) ≡ None → (result.status ≡ 2) ⊎ (result.status ≡ 1) }
 {
     equal_bytes_have_one_history();
     answers_are_bounded();
+    results_are_confirmed::<G>();
     match read_line(alloc, words) {
         Err(refusal) => Ended {
             status: end_refused(out, &refusal),
             journal,
         },
         Ok(CommandLine::Reduce(line)) => reduce(rt, alloc, &line, files, workers, journal, out),
+        Ok(CommandLine::Check(line)) => Ended {
+            status: check(alloc, &line, files, out),
+            journal,
+        },
         Ok(CommandLine::Normal(grammar)) => Ended {
             status: normal(alloc, grammar, files, out),
             journal,

@@ -19,6 +19,7 @@
 #![tactic(auto)]
 
 mod call;
+mod laws;
 mod workers;
 
 pub use call::perses;

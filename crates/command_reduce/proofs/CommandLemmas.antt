@@ -23,9 +23,9 @@ use Rattle.run_gated.specs.Seen.{NoneFailed}
 use Rattle.run_gated.specs.Run.{Run}
 use Rattle.script_gate_trait.specs.declared.gate.GateFault.{GateFault}
 use Rattle.script_gate_trait.specs.declared.gate.GateFault.TheVariants.{Failed as GateFailed, Memory as GateMemory}
-use Rattle.command_reduce.specs.Reduce.{GateUnopened, IsHistoryOfInput, ProblemAccepted, ProblemRead, RecordsAreSound, ReduceEnds, Reduces, ReducesTo}
+use Rattle.command_reduce.specs.Reduce.{GateUnopened, IsHistoryOfInput, ProblemAccepted, RecordsAreSound, ReduceEnds, Reduces, ReducesTo, problem_in}
 use Rattle.command_reduce.specs.Reduce.{admits_of}
-use Rattle.command_reduce.specs.inner.Reduce.{Inside, ProblemFails, ReduceFails, ReduceReports, ReduceSteps, beside}
+use Rattle.command_reduce.specs.inner.Reduce.{Inside, ReduceFails, ReduceReports, ReduceSteps, beside}
 use Rattle.command_reduce_calls.specs.Journal.{JournalSoFar, JournalWhole}
 use Rattle.command_reduce.specs.inner.Read.{AcceptFails, StaysRefused, admits_read, stays_read}
 use Rattle.command_reduce.specs.inner.Run.{IsSoundStarted, JournalAfter, StartLeaves, Unopened}
@@ -38,9 +38,12 @@ use Rattle.command_ends.specs.Status.{EndsRefused, EndsWithAnswer, ending_of, en
 use Rattle.command_words.specs.Commands.{ReduceOptions}
 use Rattle.command_ends.specs.World.{AreQuiet, FilesKept, fault_counts_of, logs_of, IsQuiet, PutsLine, NotReached, SeenFiles, SeenGate, SeenOut}
 use Rattle.command_reduce.proofs.MustEndLemmas.{must_end}
-use Rattle.command_reduce.proofs.ProblemLemmas.{accepted_as, any_problem, problem_map, stays_as}
+use Rattle.command_reduce.proofs.ProblemLemmas.{accepted_as, stays_as}
 use Rattle.command_reduce.proofs.UsedLemmas.{none_sound}
 use Rattle.command_reduce.proofs.LentLemmas.{AreFirst, all_quiet, one_failed, one_unopened, sound_among}
+use Rattle.command_problem.specs.Problem.{ProblemRead}
+use Rattle.command_problem.specs.Read.{ProblemFails}
+use Rattle.command_problem.proofs.Lent.{any_problem, problem_map}
 
 -- a history of no event is of any input
 no_history : (options : ReduceOptions) (files : SeenFiles) (history : History) → history ≡ [] → IsHistoryOfInput options files history
@@ -64,7 +67,7 @@ module _ (options : ReduceOptions) (may_say : List ℕ → Verdict → Type 0) (
   so_far : JournalSoFar options.journal history old.journal new.journal
   so_far = JournalSoFar.untouched (record { no_history = none; same = same_journal })
 
-  problem_at : (refusal : Refusal) → ProblemFails options old.files new.files refusal → ReduceFails options history old new refusal
+  problem_at : (refusal : Refusal) → ProblemFails (problem_in options) old.files new.files refusal → ReduceFails options history old new refusal
   problem_at Memory why = λ out out' put. memory (record { same = same; quiet = why }) (λ alone. gates_quiet) so_far put
   problem_at (CannotRead file) why = λ out out' put. unread file why.0 why.1 same (untouched out out') put
   problem_at (TooLong file) why = λ out out' put. too_long file why.0 why.1 (record { same = same; quiet = why.2 }) (untouched out out') put
@@ -113,11 +116,11 @@ module _ (options : ReduceOptions) (may_say : List ℕ → Verdict → Type 0) (
   }
 
   some : (P : Problem → Type 0) → ProblemAccepted options old.files P → (problem : Problem) × (AcceptsStart options (start_text problem) × P problem)
-  some P read = any_problem options old.files (λ problem. AcceptsStart options (start_text problem) × P problem) read
+  some P read = any_problem (problem_in options) old.files (λ problem. AcceptsStart options (start_text problem) × P problem) read
 
   but : (P Q : Problem → Type 0) → ((problem : Problem) → P problem → Q problem) → ProblemAccepted options old.files P → ProblemAccepted options old.files Q
   but P Q then read =
-      problem_map options old.files (λ problem. AcceptsStart options (start_text problem) × P problem)
+      problem_map (problem_in options) old.files (λ problem. AcceptsStart options (start_text problem) × P problem)
       (λ problem. AcceptsStart options (start_text problem) × Q problem)
       (λ problem is. (is.0, then problem is.1)) read
 
@@ -254,7 +257,7 @@ module _ (options : ReduceOptions) (may_say : List ℕ → Verdict → Type 0) (
 pub steps_end : (options : ReduceOptions) (may_say : List ℕ → Verdict → Type 0) (run : Run) (files files' : SeenFiles) (gates gates' : List SeenGate)
     (read : SeenFiles) (problem : ReadProblem) (stays : Stays) (outcome : Result (Vec ℕ) Refusal)
     → AreFirst options run.before.gates run.after.gates gates gates' → options.jobs ≡ run.workers
-    → ProblemRead options files (IsReadAs (admits_read options problem) problem) → stays ≡ stays_read options problem
+    → ProblemRead (problem_in options) files (IsReadAs (admits_read options problem) problem) → stays ≡ stays_read options problem
     → AcceptsStart options (start_read problem)
     → SameFiles files.shown read.shown → IsQuiet files read
     → IsSoundStarted options may_say run → ((one : Problem) → IsReadAs (stays_admit stays) problem one → IsRunOf (stays_admit stays) one run)

@@ -23,8 +23,8 @@ use Rattle.reduce_journal.specs.History.{History, records_of}
 use Rattle.reduce_journal.specs.Report.{report_text}
 use Rattle.reduce_journal.specs.declared.counts.Counts.{Counts}
 use Rattle.command_reduce_calls.specs.Journal.{JournalSoFar}
-use Rattle.command_reduce.specs.Reduce.{InputHas, IsGrammarReached, IsShownFault, IsShownProblem, ProblemAccepted}
-use Rattle.command_reduce.specs.Reduce.{ProblemRead, ReduceEnds, ReduceMustEnd, ReducesTo, admits_of, grammar_in}
+use Rattle.command_reduce.specs.Reduce.{ProblemAccepted, problem_in}
+use Rattle.command_reduce.specs.Reduce.{ReduceEnds, ReduceMustEnd, ReducesTo, admits_of}
 use Rattle.command_reduce_calls.specs.Stays.{AcceptsStart, NamesBeyond, first_beyond, first_beyond_start}
 use Rattle.command_reduce.specs.Reduce.ReduceEnds.{done, memory, unread, unwritten, unput, faulty, no_token, unparsed}
 use Rattle.command_reduce.specs.Reduce.ReduceEnds.{uninteresting, keep_missing, beyond, too_long, script, journal}
@@ -32,10 +32,11 @@ use Rattle.command_ends.specs.Status.{IsUncut}
 use Rattle.command_words.specs.Commands.{GrammarOptions, GrammarSource, ModeOptions, ReduceOptions}
 use Rattle.command_ends.specs.World.{FilesKept, IsQuiet, IsShownWithin, NotReached, SeenJournal, fault_counts_of, World, grammar_limit, input_limit}
 use Rattle.command_ends.proofs.Lent.{longer_not_missing, read_not_missing, read_not_over}
-use Rattle.command_reduce.proofs.ProblemLemmas.{any_problem, fault_is, fault_not_shown, faulty_not_shown, grammar_not_faulty, grammar_not_missing}
-use Rattle.command_reduce.proofs.ProblemLemmas.{grammar_not_over, input_read, long_grammar_hidden, long_grammar_not_shown, long_grammar_there}
-use Rattle.command_reduce.proofs.ProblemLemmas.{long_input_no_fault, long_input_not_shown, no_fault, no_lexer_missing, no_lexer_over, parse_caused}
-use Rattle.command_reduce.proofs.ProblemLemmas.{reached_grammar, read_and_shown, shown_not_faulty, shown_not_long, uncut_caused}
+use Rattle.command_problem.proofs.Lent.{any_problem, fault_is, fault_not_shown, faulty_not_shown, grammar_not_faulty, grammar_not_missing}
+use Rattle.command_problem.proofs.Lent.{grammar_not_over, input_read, long_grammar_hidden, long_grammar_not_shown, long_grammar_there}
+use Rattle.command_problem.proofs.Lent.{long_input_no_fault, long_input_not_shown, no_fault, no_lexer_missing, no_lexer_over, parse_caused}
+use Rattle.command_problem.proofs.Lent.{reached_grammar, read_and_shown, shown_not_faulty, shown_not_long, uncut_caused}
+use Rattle.command_problem.specs.Problem.{InputHas, IsGrammarReached, IsShownFault, IsShownProblem, ProblemRead, grammar_in}
 
 yes_no : (start : List ℕ) (records : List Record) → FirstIs start Yes records → FirstIsNo records → ⊥
 yes_no start [] first first_no = first
@@ -65,40 +66,41 @@ module _ (faults : InputFaultOnce) (languages : InputsAreInLanguage) (options : 
   abbrev records : List Record
   records = records_of history
 
-  keeps_all : (P : Problem → Type 0) → ProblemAccepted options old.files P → IsShownProblem options old.files (λ start. holds_all options.keeps start ≡ false)
-      → ⊥
+  keeps_all : (P : Problem → Type 0) → ProblemAccepted options old.files P
+      → IsShownProblem (problem_in options) old.files (λ start. holds_all options.keeps start ≡ false) → ⊥
   keeps_all P read shown =
       let it : (problem : Problem) × (AcceptsStart options (start_text problem) × P problem) × (holds_all options.keeps (start_text problem) ≡ false) =
-      read_and_shown options old.files (λ problem. AcceptsStart options (start_text problem) × P problem)
+      read_and_shown (problem_in options) old.files (λ problem. AcceptsStart options (start_text problem) × P problem)
       (λ start. holds_all options.keeps start ≡ false) read shown in
       false≢true (sym it.2 ∙ it.1.0.0)
 
-  within_all : (P : Problem → Type 0) → ProblemAccepted options old.files P → IsShownProblem options old.files (IsBeyond options) → ⊥
+  within_all : (P : Problem → Type 0) → ProblemAccepted options old.files P → IsShownProblem (problem_in options) old.files (IsBeyond options) → ⊥
   within_all P read shown =
       let it : (problem : Problem) × (AcceptsStart options (start_text problem) × P problem) × IsBeyond options (start_text problem) =
-      read_and_shown options old.files (λ problem. AcceptsStart options (start_text problem) × P problem) (IsBeyond options) read shown in
+      read_and_shown (problem_in options) old.files (λ problem. AcceptsStart options (start_text problem) × P problem) (IsBeyond options) read shown in
       it.2.1 it.1.0.1
 
   missing_keeps : (S : List ℕ → Type 0) → ((start : List ℕ) → S start → holds_all options.keeps start ≡ true) → (index : ℕ)
-      → ProblemRead options old.files (λ problem. first_missing options.keeps (start_text problem) ≡ Some index) → IsShownProblem options old.files S → ⊥
+      → ProblemRead (problem_in options) old.files (λ problem. first_missing options.keeps (start_text problem) ≡ Some index)
+      → IsShownProblem (problem_in options) old.files S → ⊥
   missing_keeps S holds index read shown =
       let it : (problem : Problem) × (first_missing options.keeps (start_text problem) ≡ Some index) × S (start_text problem) =
-      read_and_shown options old.files (λ problem. first_missing options.keeps (start_text problem) ≡ Some index) S read shown in
+      read_and_shown (problem_in options) old.files (λ problem. first_missing options.keeps (start_text problem) ≡ Some index) S read shown in
       none_missing options.keeps (start_text it.0) index (holds (start_text it.0) it.2) it.1
 
   -- a start that names a line beyond its last has each keep text, and isn't accepted
-  module _ (last lines : ℕ) (read : ProblemRead options old.files (λ problem. NamesBeyond options last lines (start_text problem))) where
-    beyond_keeps : IsShownProblem options old.files (λ start. holds_all options.keeps start ≡ false) → ⊥
+  module _ (last lines : ℕ) (read : ProblemRead (problem_in options) old.files (λ problem. NamesBeyond options last lines (start_text problem))) where
+    beyond_keeps : IsShownProblem (problem_in options) old.files (λ start. holds_all options.keeps start ≡ false) → ⊥
     beyond_keeps shown =
         let it : (problem : Problem) × NamesBeyond options last lines (start_text problem) × (holds_all options.keeps (start_text problem) ≡ false) =
-        read_and_shown options old.files (λ problem. NamesBeyond options last lines (start_text problem))
+        read_and_shown (problem_in options) old.files (λ problem. NamesBeyond options last lines (start_text problem))
         (λ start. holds_all options.keeps start ≡ false) read shown in
         false≢true (sym it.2 ∙ it.1.0)
 
-    beyond_accepted : IsShownProblem options old.files (AcceptsStart options) → ⊥
+    beyond_accepted : IsShownProblem (problem_in options) old.files (AcceptsStart options) → ⊥
     beyond_accepted shown =
         let it : (problem : Problem) × NamesBeyond options last lines (start_text problem) × AcceptsStart options (start_text problem) =
-        read_and_shown options old.files (λ problem. NamesBeyond options last lines (start_text problem)) (AcceptsStart options) read shown in
+        read_and_shown (problem_in options) old.files (λ problem. NamesBeyond options last lines (start_text problem)) (AcceptsStart options) read shown in
         absurd (cc (sym it.1.2 ∙ ap (first_beyond options.protects) it.1.1 ∙ it.2.1))
 
   yes_first : (text report : List ℕ) → ReducesTo options old.files history text report → FirstIsNo records → ⊥
@@ -107,7 +109,7 @@ module _ (faults : InputFaultOnce) (languages : InputsAreInLanguage) (options : 
       λ problem. (counts : Counts) × ReducesFrom options.jobs (admits_of options problem) problem history text counts × (report ≡ report_text counts)
       × AreOf options.jobs (admits_of options problem) problem history in
       let it : (problem : Problem) × (AcceptsStart options (start_text problem) × P problem) =
-      any_problem options old.files (λ problem. AcceptsStart options (start_text problem) × P problem) reduces in
+      any_problem (problem_in options) old.files (λ problem. AcceptsStart options (start_text problem) × P problem) reduces in
       yes_no (start_text it.0) records it.1.1.1.first first_no
 
   not_no : options.jobs ≡ 1
@@ -116,7 +118,7 @@ module _ (faults : InputFaultOnce) (languages : InputsAreInLanguage) (options : 
   not_no alone read first_no =
       let P : Problem → Type 0 = λ problem. options.jobs ≡ 1 → IsUnfinished (admits_of options problem) problem history in
       let it : (problem : Problem) × (AcceptsStart options (start_text problem) × P problem) =
-      any_problem options old.files (λ problem. AcceptsStart options (start_text problem) × P problem) read in
+      any_problem (problem_in options) old.files (λ problem. AcceptsStart options (start_text problem) × P problem) read in
       (it.1.1 alone).not_no first_no
 
   so_far_quiet : (name : List ℕ) → JournalSoFar name history old.journal new.journal → IsQuiet old.journal new.journal
@@ -131,33 +133,34 @@ module _ (faults : InputFaultOnce) (languages : InputsAreInLanguage) (options : 
         subst (λ (named : GrammarSource). GrammarWasRead named old.files (λ texts. IsFaultIn named texts text)) (same_grammar mode is) read
 
     faulty_no_fault : (text : List ℕ) → GrammarWasRead trees.grammar old.files (λ texts. IsFaultIn trees.grammar texts text) → (Q : InputFault → Type 0)
-        → IsShownFault g.grammar options old.files Q → ⊥
+        → IsShownFault g.grammar (problem_in options) old.files Q → ⊥
     faulty_no_fault text read Q shown =
         no_grammar g.grammar old.files text (fault_at text read)
         (λ c. IsShownWithin input_limit (old.files.shown options.input) (λ bytes. (fault : InputFault) × IsInputFault c bytes fault × Q fault)) shown
 
-    has_at : (fault : InputFault) → InputHas trees.grammar (λ c bytes. IsInputFault c bytes fault) options old.files
-        → InputHas g.grammar (λ c bytes. IsInputFault c bytes fault) options old.files
-    has_at fault read = subst (λ (named : GrammarSource). InputHas named (λ c bytes. IsInputFault c bytes fault) options old.files) (same_grammar mode is) read
+    has_at : (fault : InputFault) → InputHas trees.grammar (λ c bytes. IsInputFault c bytes fault) (problem_in options) old.files
+        → InputHas g.grammar (λ c bytes. IsInputFault c bytes fault) (problem_in options) old.files
+    has_at fault read =
+        subst (λ (named : GrammarSource). InputHas named (λ c bytes. IsInputFault c bytes fault) (problem_in options) old.files) (same_grammar mode is) read
 
   -- where a file of the grammar is too long
   long_must_end : (file : NamedFile) → IsGrammarReached options.mode file old.files → IsLonger grammar_limit (old.files.shown (grammar_in options.mode file))
       → FilesKept old.files new.files → NotReached history old new → ReduceMustEnd options records old new 10
   long_must_end file reached longer files untouched = record {
     grammar_over = λ g is over. refl;
-    grammar_missing = λ g is none. absurd (long_grammar_there options old.files g is file reached longer none);
+    grammar_missing = λ g is none. absurd (long_grammar_there (problem_in options) old.files g is file reached longer none);
     lexer_over = λ g lexer is named over. refl;
     lexer_missing = λ g lexer is named none. refl;
-    faulty = λ g is shown. absurd (long_grammar_hidden options old.files g is file reached longer _ shown);
+    faulty = λ g is shown. absurd (long_grammar_hidden (problem_in options) old.files g is file reached longer _ shown);
     input_over = λ fine over. refl;
-    input_missing = λ fine none. absurd (shown_not_long options old.files file fine reached longer);
+    input_missing = λ fine none. absurd (shown_not_long (problem_in options) old.files file fine reached longer);
     over = λ over. refl;
     missing = λ none. refl;
-    no_token = λ g is shown. absurd (long_grammar_hidden options old.files g is file reached longer _ shown);
-    unparsed = λ g is shown. absurd (long_grammar_hidden options old.files g is file reached longer _ shown);
-    keep_missing = λ shown. absurd (long_grammar_not_shown options old.files file _ reached longer shown);
-    beyond = λ shown. absurd (long_grammar_not_shown options old.files file _ reached longer shown);
-    complete = λ shown files_fine gate_fine journal_fine out_fine. absurd (long_grammar_not_shown options old.files file _ reached longer shown);
+    no_token = λ g is shown. absurd (long_grammar_hidden (problem_in options) old.files g is file reached longer _ shown);
+    unparsed = λ g is shown. absurd (long_grammar_hidden (problem_in options) old.files g is file reached longer _ shown);
+    keep_missing = λ shown. absurd (long_grammar_not_shown (problem_in options) old.files file _ reached longer shown);
+    beyond = λ shown. absurd (long_grammar_not_shown (problem_in options) old.files file _ reached longer shown);
+    complete = λ shown files_fine gate_fine journal_fine out_fine. absurd (long_grammar_not_shown (problem_in options) old.files file _ reached longer shown);
     first_no = λ first_no. absurd (none_no records (ap records_of untouched.no_history) first_no);
     first_no_alone = λ alone first_no. absurd (none_no records (ap records_of untouched.no_history) first_no);
     files_failed = λ failed. absurd (failed files.quiet);
@@ -170,18 +173,18 @@ module _ (faults : InputFaultOnce) (languages : InputsAreInLanguage) (options : 
   -- which status it has to be
   pub must_end : {status : ℕ} → ReduceEnds options history old new status → ReduceMustEnd options records old new status
   must_end (done report writes put) = record {
-    grammar_over = λ g is over. absurd (grammar_not_over options old.files _ writes.reduced.reduces g is over);
-    grammar_missing = λ g is none. absurd (grammar_not_missing options old.files _ writes.reduced.reduces g is none);
-    lexer_over = λ g lexer is named over. absurd (no_lexer_over options old.files _ writes.reduced.reduces g is lexer named over);
-    lexer_missing = λ g lexer is named none. absurd (no_lexer_missing options old.files _ writes.reduced.reduces g is lexer named none);
-    faulty = λ g is shown. absurd (grammar_not_faulty options old.files _ writes.reduced.reduces g is shown);
-    input_over = λ fine over. absurd (read_not_over (input_read options old.files _ writes.reduced.reduces) over);
-    input_missing = λ fine none. absurd (read_not_missing (input_read options old.files _ writes.reduced.reduces) none);
-    over = λ over. absurd (read_not_over (input_read options old.files _ writes.reduced.reduces) over);
-    missing = λ none. absurd (read_not_missing (input_read options old.files _ writes.reduced.reduces) none);
-    no_token = λ g is shown. absurd (no_fault options old.files _ writes.reduced.reduces g is faults languages IsUncut uncut_caused shown);
+    grammar_over = λ g is over. absurd (grammar_not_over (problem_in options) old.files _ writes.reduced.reduces g is over);
+    grammar_missing = λ g is none. absurd (grammar_not_missing (problem_in options) old.files _ writes.reduced.reduces g is none);
+    lexer_over = λ g lexer is named over. absurd (no_lexer_over (problem_in options) old.files _ writes.reduced.reduces g is lexer named over);
+    lexer_missing = λ g lexer is named none. absurd (no_lexer_missing (problem_in options) old.files _ writes.reduced.reduces g is lexer named none);
+    faulty = λ g is shown. absurd (grammar_not_faulty (problem_in options) old.files _ writes.reduced.reduces g is shown);
+    input_over = λ fine over. absurd (read_not_over (input_read (problem_in options) old.files _ writes.reduced.reduces) over);
+    input_missing = λ fine none. absurd (read_not_missing (input_read (problem_in options) old.files _ writes.reduced.reduces) none);
+    over = λ over. absurd (read_not_over (input_read (problem_in options) old.files _ writes.reduced.reduces) over);
+    missing = λ none. absurd (read_not_missing (input_read (problem_in options) old.files _ writes.reduced.reduces) none);
+    no_token = λ g is shown. absurd (no_fault (problem_in options) old.files _ writes.reduced.reduces g is faults languages IsUncut uncut_caused shown);
     unparsed =
-        λ g is shown. absurd (no_fault options old.files _ writes.reduced.reduces g is faults languages
+        λ g is shown. absurd (no_fault (problem_in options) old.files _ writes.reduced.reduces g is faults languages
         (λ fault. fault ≡ input_fault.NoParse) parse_caused shown);
     keep_missing = λ shown. absurd (keeps_all _ writes.reduced.reduces shown);
     beyond = λ shown. absurd (within_all _ writes.reduced.reduces shown);
@@ -195,17 +198,17 @@ module _ (faults : InputFaultOnce) (languages : InputsAreInLanguage) (options : 
     out_failed = λ failed. absurd (failed put.quiet);
   }
   must_end (unput report writes put) = record {
-    grammar_over = λ g is over. absurd (grammar_not_over options old.files _ writes.reduced.reduces g is over);
-    grammar_missing = λ g is none. absurd (grammar_not_missing options old.files _ writes.reduced.reduces g is none);
-    lexer_over = λ g lexer is named over. absurd (no_lexer_over options old.files _ writes.reduced.reduces g is lexer named over);
-    lexer_missing = λ g lexer is named none. absurd (no_lexer_missing options old.files _ writes.reduced.reduces g is lexer named none);
-    faulty = λ g is shown. absurd (grammar_not_faulty options old.files _ writes.reduced.reduces g is shown);
-    input_over = λ fine over. absurd (read_not_over (input_read options old.files _ writes.reduced.reduces) over);
-    input_missing = λ fine none. absurd (read_not_missing (input_read options old.files _ writes.reduced.reduces) none);
-    over = λ over. absurd (read_not_over (input_read options old.files _ writes.reduced.reduces) over);
-    missing = λ none. absurd (read_not_missing (input_read options old.files _ writes.reduced.reduces) none);
-    no_token = λ g is shown. absurd (no_fault options old.files _ writes.reduced.reduces g is faults languages IsUncut uncut_caused shown);
-    unparsed = λ g is shown. absurd (no_fault options old.files _ writes.reduced.reduces g is faults languages
+    grammar_over = λ g is over. absurd (grammar_not_over (problem_in options) old.files _ writes.reduced.reduces g is over);
+    grammar_missing = λ g is none. absurd (grammar_not_missing (problem_in options) old.files _ writes.reduced.reduces g is none);
+    lexer_over = λ g lexer is named over. absurd (no_lexer_over (problem_in options) old.files _ writes.reduced.reduces g is lexer named over);
+    lexer_missing = λ g lexer is named none. absurd (no_lexer_missing (problem_in options) old.files _ writes.reduced.reduces g is lexer named none);
+    faulty = λ g is shown. absurd (grammar_not_faulty (problem_in options) old.files _ writes.reduced.reduces g is shown);
+    input_over = λ fine over. absurd (read_not_over (input_read (problem_in options) old.files _ writes.reduced.reduces) over);
+    input_missing = λ fine none. absurd (read_not_missing (input_read (problem_in options) old.files _ writes.reduced.reduces) none);
+    over = λ over. absurd (read_not_over (input_read (problem_in options) old.files _ writes.reduced.reduces) over);
+    missing = λ none. absurd (read_not_missing (input_read (problem_in options) old.files _ writes.reduced.reduces) none);
+    no_token = λ g is shown. absurd (no_fault (problem_in options) old.files _ writes.reduced.reduces g is faults languages IsUncut uncut_caused shown);
+    unparsed = λ g is shown. absurd (no_fault (problem_in options) old.files _ writes.reduced.reduces g is faults languages
         (λ fault. fault ≡ input_fault.NoParse) parse_caused shown);
     keep_missing = λ shown. absurd (keeps_all _ writes.reduced.reduces shown);
     beyond = λ shown. absurd (within_all _ writes.reduced.reduces shown);
@@ -265,17 +268,19 @@ module _ (faults : InputFaultOnce) (languages : InputsAreInLanguage) (options : 
     out_failed = λ failed is. cc is;
   }
   must_end (unwritten call_failed text report reduces others gates_quiet kept put) = record {
-    grammar_over = λ g is over. absurd (grammar_not_over options old.files _ reduces g is over);
-    grammar_missing = λ g is none. absurd (grammar_not_missing options old.files _ reduces g is none);
-    lexer_over = λ g lexer is named over. absurd (no_lexer_over options old.files _ reduces g is lexer named over);
-    lexer_missing = λ g lexer is named none. absurd (no_lexer_missing options old.files _ reduces g is lexer named none);
-    faulty = λ g is shown. absurd (grammar_not_faulty options old.files _ reduces g is shown);
-    input_over = λ fine over. absurd (read_not_over (input_read options old.files _ reduces) over);
-    input_missing = λ fine none. absurd (read_not_missing (input_read options old.files _ reduces) none);
-    over = λ over. absurd (read_not_over (input_read options old.files _ reduces) over);
-    missing = λ none. absurd (read_not_missing (input_read options old.files _ reduces) none);
-    no_token = λ g is shown. absurd (no_fault options old.files _ reduces g is faults languages IsUncut uncut_caused shown);
-    unparsed = λ g is shown. absurd (no_fault options old.files _ reduces g is faults languages (λ fault. fault ≡ input_fault.NoParse) parse_caused shown);
+    grammar_over = λ g is over. absurd (grammar_not_over (problem_in options) old.files _ reduces g is over);
+    grammar_missing = λ g is none. absurd (grammar_not_missing (problem_in options) old.files _ reduces g is none);
+    lexer_over = λ g lexer is named over. absurd (no_lexer_over (problem_in options) old.files _ reduces g is lexer named over);
+    lexer_missing = λ g lexer is named none. absurd (no_lexer_missing (problem_in options) old.files _ reduces g is lexer named none);
+    faulty = λ g is shown. absurd (grammar_not_faulty (problem_in options) old.files _ reduces g is shown);
+    input_over = λ fine over. absurd (read_not_over (input_read (problem_in options) old.files _ reduces) over);
+    input_missing = λ fine none. absurd (read_not_missing (input_read (problem_in options) old.files _ reduces) none);
+    over = λ over. absurd (read_not_over (input_read (problem_in options) old.files _ reduces) over);
+    missing = λ none. absurd (read_not_missing (input_read (problem_in options) old.files _ reduces) none);
+    no_token = λ g is shown. absurd (no_fault (problem_in options) old.files _ reduces g is faults languages IsUncut uncut_caused shown);
+    unparsed =
+        λ g is shown.
+        absurd (no_fault (problem_in options) old.files _ reduces g is faults languages (λ fault. fault ≡ input_fault.NoParse) parse_caused shown);
     keep_missing = λ shown. absurd (keeps_all _ reduces shown);
     beyond = λ shown. absurd (within_all _ reduces shown);
     complete = λ shown files_fine gate_fine journal_fine out_fine. absurd (files_fine call_failed);
@@ -293,15 +298,15 @@ module _ (faults : InputFaultOnce) (languages : InputsAreInLanguage) (options : 
     lexer_over = λ g lexer is named over. absurd (lexer_not_over g.grammar old.files lexer named _ (fault_at mode is text read) over);
     lexer_missing = λ g lexer is named none. absurd (lexer_not_missing g.grammar old.files lexer named _ (fault_at mode is text read) none);
     faulty = λ g is shown. refl;
-    input_over = λ fine over. absurd (shown_not_faulty options old.files text mode read fine);
-    input_missing = λ fine none. absurd (shown_not_faulty options old.files text mode read fine);
+    input_over = λ fine over. absurd (shown_not_faulty (problem_in options) old.files text mode read fine);
+    input_missing = λ fine none. absurd (shown_not_faulty (problem_in options) old.files text mode read fine);
     over = λ over. refl;
     missing = λ none. refl;
     no_token = λ g is shown. absurd (faulty_no_fault mode is text read IsUncut shown);
     unparsed = λ g is shown. absurd (faulty_no_fault mode is text read (λ fault. fault ≡ input_fault.NoParse) shown);
-    keep_missing = λ shown. absurd (faulty_not_shown options old.files trees text _ mode read shown);
-    beyond = λ shown. absurd (faulty_not_shown options old.files trees text _ mode read shown);
-    complete = λ shown files_fine gate_fine journal_fine out_fine. absurd (faulty_not_shown options old.files trees text _ mode read shown);
+    keep_missing = λ shown. absurd (faulty_not_shown (problem_in options) old.files trees text _ mode read shown);
+    beyond = λ shown. absurd (faulty_not_shown (problem_in options) old.files trees text _ mode read shown);
+    complete = λ shown files_fine gate_fine journal_fine out_fine. absurd (faulty_not_shown (problem_in options) old.files trees text _ mode read shown);
     first_no = λ first_no. absurd (none_no records (ap records_of untouched.no_history) first_no);
     first_no_alone = λ alone first_no. absurd (none_no records (ap records_of untouched.no_history) first_no);
     files_failed = λ failed. absurd (failed files.quiet);
@@ -323,13 +328,13 @@ module _ (faults : InputFaultOnce) (languages : InputsAreInLanguage) (options : 
     no_token = λ g is shown. refl;
     unparsed =
         λ g is shown.
-        absurd (subst IsUncut (fault_is options old.files faults g fault (uncut_caused fault uncut) (has_at mode is fault read)
+        absurd (subst IsUncut (fault_is (problem_in options) old.files faults g fault (uncut_caused fault uncut) (has_at mode is fault read)
         (λ f. f ≡ input_fault.NoParse) parse_caused shown) uncut);
-    keep_missing = λ shown. absurd (fault_not_shown options old.files faults trees fault (uncut_caused fault uncut) read _ mode shown);
-    beyond = λ shown. absurd (fault_not_shown options old.files faults trees fault (uncut_caused fault uncut) read _ mode shown);
+    keep_missing = λ shown. absurd (fault_not_shown (problem_in options) old.files faults trees fault (uncut_caused fault uncut) read _ mode shown);
+    beyond = λ shown. absurd (fault_not_shown (problem_in options) old.files faults trees fault (uncut_caused fault uncut) read _ mode shown);
     complete =
         λ shown files_fine gate_fine journal_fine out_fine.
-        absurd (fault_not_shown options old.files faults trees fault (uncut_caused fault uncut) read _ mode shown);
+        absurd (fault_not_shown (problem_in options) old.files faults trees fault (uncut_caused fault uncut) read _ mode shown);
     first_no = λ first_no. absurd (none_no records (ap records_of untouched.no_history) first_no);
     first_no_alone = λ alone first_no. absurd (none_no records (ap records_of untouched.no_history) first_no);
     files_failed = λ failed. absurd (failed files.quiet);
@@ -349,16 +354,18 @@ module _ (faults : InputFaultOnce) (languages : InputsAreInLanguage) (options : 
     over = λ over. absurd (read_not_over read.2 over);
     missing = λ none. absurd (read_not_missing read.2 none);
     no_token =
-        λ g is shown. absurd (fault_is options old.files faults g input_fault.NoParse (parse_caused input_fault.NoParse refl)
+        λ g is shown. absurd (fault_is (problem_in options) old.files faults g input_fault.NoParse (parse_caused input_fault.NoParse refl)
         (has_at mode is input_fault.NoParse read) IsUncut uncut_caused shown);
     unparsed = λ g is shown. refl;
     keep_missing =
-        λ shown. absurd (fault_not_shown options old.files faults trees input_fault.NoParse (parse_caused input_fault.NoParse refl) read _ mode shown);
+        λ shown.
+        absurd (fault_not_shown (problem_in options) old.files faults trees input_fault.NoParse (parse_caused input_fault.NoParse refl) read _ mode shown);
     beyond =
-        λ shown. absurd (fault_not_shown options old.files faults trees input_fault.NoParse (parse_caused input_fault.NoParse refl) read _ mode shown);
+        λ shown.
+        absurd (fault_not_shown (problem_in options) old.files faults trees input_fault.NoParse (parse_caused input_fault.NoParse refl) read _ mode shown);
     complete =
         λ shown files_fine gate_fine journal_fine out_fine.
-        absurd (fault_not_shown options old.files faults trees input_fault.NoParse (parse_caused input_fault.NoParse refl) read _ mode shown);
+        absurd (fault_not_shown (problem_in options) old.files faults trees input_fault.NoParse (parse_caused input_fault.NoParse refl) read _ mode shown);
     first_no = λ first_no. absurd (none_no records (ap records_of untouched.no_history) first_no);
     first_no_alone = λ alone first_no. absurd (none_no records (ap records_of untouched.no_history) first_no);
     files_failed = λ failed. absurd (failed files.quiet);
@@ -368,17 +375,18 @@ module _ (faults : InputFaultOnce) (languages : InputsAreInLanguage) (options : 
     out_failed = λ failed is. cc is;
   }
   must_end (uninteresting read files gates_quiet kept put) = record {
-    grammar_over = λ g is over. absurd (grammar_not_over options old.files _ read g is over);
-    grammar_missing = λ g is none. absurd (grammar_not_missing options old.files _ read g is none);
-    lexer_over = λ g lexer is named over. absurd (no_lexer_over options old.files _ read g is lexer named over);
-    lexer_missing = λ g lexer is named none. absurd (no_lexer_missing options old.files _ read g is lexer named none);
-    faulty = λ g is shown. absurd (grammar_not_faulty options old.files _ read g is shown);
-    input_over = λ fine over. absurd (read_not_over (input_read options old.files _ read) over);
-    input_missing = λ fine none. absurd (read_not_missing (input_read options old.files _ read) none);
-    over = λ over. absurd (read_not_over (input_read options old.files _ read) over);
-    missing = λ none. absurd (read_not_missing (input_read options old.files _ read) none);
-    no_token = λ g is shown. absurd (no_fault options old.files _ read g is faults languages IsUncut uncut_caused shown);
-    unparsed = λ g is shown. absurd (no_fault options old.files _ read g is faults languages (λ fault. fault ≡ input_fault.NoParse) parse_caused shown);
+    grammar_over = λ g is over. absurd (grammar_not_over (problem_in options) old.files _ read g is over);
+    grammar_missing = λ g is none. absurd (grammar_not_missing (problem_in options) old.files _ read g is none);
+    lexer_over = λ g lexer is named over. absurd (no_lexer_over (problem_in options) old.files _ read g is lexer named over);
+    lexer_missing = λ g lexer is named none. absurd (no_lexer_missing (problem_in options) old.files _ read g is lexer named none);
+    faulty = λ g is shown. absurd (grammar_not_faulty (problem_in options) old.files _ read g is shown);
+    input_over = λ fine over. absurd (read_not_over (input_read (problem_in options) old.files _ read) over);
+    input_missing = λ fine none. absurd (read_not_missing (input_read (problem_in options) old.files _ read) none);
+    over = λ over. absurd (read_not_over (input_read (problem_in options) old.files _ read) over);
+    missing = λ none. absurd (read_not_missing (input_read (problem_in options) old.files _ read) none);
+    no_token = λ g is shown. absurd (no_fault (problem_in options) old.files _ read g is faults languages IsUncut uncut_caused shown);
+    unparsed =
+        λ g is shown. absurd (no_fault (problem_in options) old.files _ read g is faults languages (λ fault. fault ≡ input_fault.NoParse) parse_caused shown);
     keep_missing = λ shown. absurd (keeps_all _ read shown);
     beyond = λ shown. absurd (within_all _ read shown);
     complete = λ shown files_fine gate_fine journal_fine out_fine. refl;
@@ -391,17 +399,18 @@ module _ (faults : InputFaultOnce) (languages : InputsAreInLanguage) (options : 
     out_failed = λ failed is. cc is;
   }
   must_end (keep_missing index read files untouched put) = record {
-    grammar_over = λ g is over. absurd (grammar_not_over options old.files _ read g is over);
-    grammar_missing = λ g is none. absurd (grammar_not_missing options old.files _ read g is none);
-    lexer_over = λ g lexer is named over. absurd (no_lexer_over options old.files _ read g is lexer named over);
-    lexer_missing = λ g lexer is named none. absurd (no_lexer_missing options old.files _ read g is lexer named none);
-    faulty = λ g is shown. absurd (grammar_not_faulty options old.files _ read g is shown);
-    input_over = λ fine over. absurd (read_not_over (input_read options old.files _ read) over);
-    input_missing = λ fine none. absurd (read_not_missing (input_read options old.files _ read) none);
-    over = λ over. absurd (read_not_over (input_read options old.files _ read) over);
-    missing = λ none. absurd (read_not_missing (input_read options old.files _ read) none);
-    no_token = λ g is shown. absurd (no_fault options old.files _ read g is faults languages IsUncut uncut_caused shown);
-    unparsed = λ g is shown. absurd (no_fault options old.files _ read g is faults languages (λ fault. fault ≡ input_fault.NoParse) parse_caused shown);
+    grammar_over = λ g is over. absurd (grammar_not_over (problem_in options) old.files _ read g is over);
+    grammar_missing = λ g is none. absurd (grammar_not_missing (problem_in options) old.files _ read g is none);
+    lexer_over = λ g lexer is named over. absurd (no_lexer_over (problem_in options) old.files _ read g is lexer named over);
+    lexer_missing = λ g lexer is named none. absurd (no_lexer_missing (problem_in options) old.files _ read g is lexer named none);
+    faulty = λ g is shown. absurd (grammar_not_faulty (problem_in options) old.files _ read g is shown);
+    input_over = λ fine over. absurd (read_not_over (input_read (problem_in options) old.files _ read) over);
+    input_missing = λ fine none. absurd (read_not_missing (input_read (problem_in options) old.files _ read) none);
+    over = λ over. absurd (read_not_over (input_read (problem_in options) old.files _ read) over);
+    missing = λ none. absurd (read_not_missing (input_read (problem_in options) old.files _ read) none);
+    no_token = λ g is shown. absurd (no_fault (problem_in options) old.files _ read g is faults languages IsUncut uncut_caused shown);
+    unparsed =
+        λ g is shown. absurd (no_fault (problem_in options) old.files _ read g is faults languages (λ fault. fault ≡ input_fault.NoParse) parse_caused shown);
     keep_missing = λ shown. refl;
     beyond = λ shown. absurd (missing_keeps (IsBeyond options) (λ start it. it.0) index read shown);
     complete = λ shown files_fine gate_fine journal_fine out_fine. absurd (missing_keeps (AcceptsStart options) (λ start it. it.0) index read shown);
@@ -414,17 +423,18 @@ module _ (faults : InputFaultOnce) (languages : InputsAreInLanguage) (options : 
     out_failed = λ failed is. cc is;
   }
   must_end (beyond last lines read files untouched put) = record {
-    grammar_over = λ g is over. absurd (grammar_not_over options old.files _ read g is over);
-    grammar_missing = λ g is none. absurd (grammar_not_missing options old.files _ read g is none);
-    lexer_over = λ g lexer is named over. absurd (no_lexer_over options old.files _ read g is lexer named over);
-    lexer_missing = λ g lexer is named none. absurd (no_lexer_missing options old.files _ read g is lexer named none);
-    faulty = λ g is shown. absurd (grammar_not_faulty options old.files _ read g is shown);
-    input_over = λ fine over. absurd (read_not_over (input_read options old.files _ read) over);
-    input_missing = λ fine none. absurd (read_not_missing (input_read options old.files _ read) none);
-    over = λ over. absurd (read_not_over (input_read options old.files _ read) over);
-    missing = λ none. absurd (read_not_missing (input_read options old.files _ read) none);
-    no_token = λ g is shown. absurd (no_fault options old.files _ read g is faults languages IsUncut uncut_caused shown);
-    unparsed = λ g is shown. absurd (no_fault options old.files _ read g is faults languages (λ fault. fault ≡ input_fault.NoParse) parse_caused shown);
+    grammar_over = λ g is over. absurd (grammar_not_over (problem_in options) old.files _ read g is over);
+    grammar_missing = λ g is none. absurd (grammar_not_missing (problem_in options) old.files _ read g is none);
+    lexer_over = λ g lexer is named over. absurd (no_lexer_over (problem_in options) old.files _ read g is lexer named over);
+    lexer_missing = λ g lexer is named none. absurd (no_lexer_missing (problem_in options) old.files _ read g is lexer named none);
+    faulty = λ g is shown. absurd (grammar_not_faulty (problem_in options) old.files _ read g is shown);
+    input_over = λ fine over. absurd (read_not_over (input_read (problem_in options) old.files _ read) over);
+    input_missing = λ fine none. absurd (read_not_missing (input_read (problem_in options) old.files _ read) none);
+    over = λ over. absurd (read_not_over (input_read (problem_in options) old.files _ read) over);
+    missing = λ none. absurd (read_not_missing (input_read (problem_in options) old.files _ read) none);
+    no_token = λ g is shown. absurd (no_fault (problem_in options) old.files _ read g is faults languages IsUncut uncut_caused shown);
+    unparsed =
+        λ g is shown. absurd (no_fault (problem_in options) old.files _ read g is faults languages (λ fault. fault ≡ input_fault.NoParse) parse_caused shown);
     keep_missing = λ shown. absurd (beyond_keeps last lines read shown);
     beyond = λ shown. refl;
     complete = λ shown files_fine gate_fine journal_fine out_fine. absurd (beyond_accepted last lines read shown);
@@ -438,19 +448,19 @@ module _ (faults : InputFaultOnce) (languages : InputsAreInLanguage) (options : 
   }
   must_end (too_long named.Input reached longer files untouched put) = record {
     grammar_over = λ g is over. refl;
-    grammar_missing = λ g is none. absurd (file_not_missing g.grammar old.files _ (reached_grammar options old.files g is reached).1 none);
+    grammar_missing = λ g is none. absurd (file_not_missing g.grammar old.files _ (reached_grammar (problem_in options) old.files g is reached).1 none);
     lexer_over = λ g lexer is named over. refl;
     lexer_missing = λ g lexer is named none. refl;
-    faulty = λ g is shown. absurd (not_faulty g.grammar old.files _ (reached_grammar options old.files g is reached).1 shown);
+    faulty = λ g is shown. absurd (not_faulty g.grammar old.files _ (reached_grammar (problem_in options) old.files g is reached).1 shown);
     input_over = λ fine over. refl;
     input_missing = λ fine none. absurd (longer_not_missing input_limit _ longer none);
     over = λ over. refl;
     missing = λ none. refl;
-    no_token = λ g is shown. absurd (long_input_no_fault options old.files g is IsUncut reached longer shown);
-    unparsed = λ g is shown. absurd (long_input_no_fault options old.files g is (λ fault. fault ≡ input_fault.NoParse) reached longer shown);
-    keep_missing = λ shown. absurd (long_input_not_shown options old.files _ reached longer shown);
-    beyond = λ shown. absurd (long_input_not_shown options old.files _ reached longer shown);
-    complete = λ shown files_fine gate_fine journal_fine out_fine. absurd (long_input_not_shown options old.files _ reached longer shown);
+    no_token = λ g is shown. absurd (long_input_no_fault (problem_in options) old.files g is IsUncut reached longer shown);
+    unparsed = λ g is shown. absurd (long_input_no_fault (problem_in options) old.files g is (λ fault. fault ≡ input_fault.NoParse) reached longer shown);
+    keep_missing = λ shown. absurd (long_input_not_shown (problem_in options) old.files _ reached longer shown);
+    beyond = λ shown. absurd (long_input_not_shown (problem_in options) old.files _ reached longer shown);
+    complete = λ shown files_fine gate_fine journal_fine out_fine. absurd (long_input_not_shown (problem_in options) old.files _ reached longer shown);
     first_no = λ first_no. absurd (none_no records (ap records_of untouched.no_history) first_no);
     first_no_alone = λ alone first_no. absurd (none_no records (ap records_of untouched.no_history) first_no);
     files_failed = λ failed. absurd (failed files.quiet);
@@ -461,18 +471,21 @@ module _ (faults : InputFaultOnce) (languages : InputsAreInLanguage) (options : 
   }
   must_end (too_long named.Grammar reached longer files untouched put) = long_must_end named.Grammar reached longer files untouched
   must_end (too_long named.Lexer reached longer files untouched put) = long_must_end named.Lexer reached longer files untouched
+  must_end (too_long named.Result reached longer files untouched put) = absurd reached
+  must_end (too_long named.Journal reached longer files untouched put) = absurd reached
   must_end (script worker one_of call_failed read files kept put) = record {
-    grammar_over = λ g is over. absurd (grammar_not_over options old.files _ read g is over);
-    grammar_missing = λ g is none. absurd (grammar_not_missing options old.files _ read g is none);
-    lexer_over = λ g lexer is named over. absurd (no_lexer_over options old.files _ read g is lexer named over);
-    lexer_missing = λ g lexer is named none. absurd (no_lexer_missing options old.files _ read g is lexer named none);
-    faulty = λ g is shown. absurd (grammar_not_faulty options old.files _ read g is shown);
-    input_over = λ fine over. absurd (read_not_over (input_read options old.files _ read) over);
-    input_missing = λ fine none. absurd (read_not_missing (input_read options old.files _ read) none);
-    over = λ over. absurd (read_not_over (input_read options old.files _ read) over);
-    missing = λ none. absurd (read_not_missing (input_read options old.files _ read) none);
-    no_token = λ g is shown. absurd (no_fault options old.files _ read g is faults languages IsUncut uncut_caused shown);
-    unparsed = λ g is shown. absurd (no_fault options old.files _ read g is faults languages (λ fault. fault ≡ input_fault.NoParse) parse_caused shown);
+    grammar_over = λ g is over. absurd (grammar_not_over (problem_in options) old.files _ read g is over);
+    grammar_missing = λ g is none. absurd (grammar_not_missing (problem_in options) old.files _ read g is none);
+    lexer_over = λ g lexer is named over. absurd (no_lexer_over (problem_in options) old.files _ read g is lexer named over);
+    lexer_missing = λ g lexer is named none. absurd (no_lexer_missing (problem_in options) old.files _ read g is lexer named none);
+    faulty = λ g is shown. absurd (grammar_not_faulty (problem_in options) old.files _ read g is shown);
+    input_over = λ fine over. absurd (read_not_over (input_read (problem_in options) old.files _ read) over);
+    input_missing = λ fine none. absurd (read_not_missing (input_read (problem_in options) old.files _ read) none);
+    over = λ over. absurd (read_not_over (input_read (problem_in options) old.files _ read) over);
+    missing = λ none. absurd (read_not_missing (input_read (problem_in options) old.files _ read) none);
+    no_token = λ g is shown. absurd (no_fault (problem_in options) old.files _ read g is faults languages IsUncut uncut_caused shown);
+    unparsed =
+        λ g is shown. absurd (no_fault (problem_in options) old.files _ read g is faults languages (λ fault. fault ≡ input_fault.NoParse) parse_caused shown);
     keep_missing = λ shown. absurd (keeps_all _ read shown);
     beyond = λ shown. absurd (within_all _ read shown);
     complete = λ shown files_fine gate_fine journal_fine out_fine. absurd (gate_fine (worker, one_of, call_failed));
@@ -485,17 +498,18 @@ module _ (faults : InputFaultOnce) (languages : InputsAreInLanguage) (options : 
     out_failed = λ failed is. cc is;
   }
   must_end (journal call_failed read broken gates_quiet files put) = record {
-    grammar_over = λ g is over. absurd (grammar_not_over options old.files _ read g is over);
-    grammar_missing = λ g is none. absurd (grammar_not_missing options old.files _ read g is none);
-    lexer_over = λ g lexer is named over. absurd (no_lexer_over options old.files _ read g is lexer named over);
-    lexer_missing = λ g lexer is named none. absurd (no_lexer_missing options old.files _ read g is lexer named none);
-    faulty = λ g is shown. absurd (grammar_not_faulty options old.files _ read g is shown);
-    input_over = λ fine over. absurd (read_not_over (input_read options old.files _ read) over);
-    input_missing = λ fine none. absurd (read_not_missing (input_read options old.files _ read) none);
-    over = λ over. absurd (read_not_over (input_read options old.files _ read) over);
-    missing = λ none. absurd (read_not_missing (input_read options old.files _ read) none);
-    no_token = λ g is shown. absurd (no_fault options old.files _ read g is faults languages IsUncut uncut_caused shown);
-    unparsed = λ g is shown. absurd (no_fault options old.files _ read g is faults languages (λ fault. fault ≡ input_fault.NoParse) parse_caused shown);
+    grammar_over = λ g is over. absurd (grammar_not_over (problem_in options) old.files _ read g is over);
+    grammar_missing = λ g is none. absurd (grammar_not_missing (problem_in options) old.files _ read g is none);
+    lexer_over = λ g lexer is named over. absurd (no_lexer_over (problem_in options) old.files _ read g is lexer named over);
+    lexer_missing = λ g lexer is named none. absurd (no_lexer_missing (problem_in options) old.files _ read g is lexer named none);
+    faulty = λ g is shown. absurd (grammar_not_faulty (problem_in options) old.files _ read g is shown);
+    input_over = λ fine over. absurd (read_not_over (input_read (problem_in options) old.files _ read) over);
+    input_missing = λ fine none. absurd (read_not_missing (input_read (problem_in options) old.files _ read) none);
+    over = λ over. absurd (read_not_over (input_read (problem_in options) old.files _ read) over);
+    missing = λ none. absurd (read_not_missing (input_read (problem_in options) old.files _ read) none);
+    no_token = λ g is shown. absurd (no_fault (problem_in options) old.files _ read g is faults languages IsUncut uncut_caused shown);
+    unparsed =
+        λ g is shown. absurd (no_fault (problem_in options) old.files _ read g is faults languages (λ fault. fault ≡ input_fault.NoParse) parse_caused shown);
     keep_missing = λ shown. absurd (keeps_all _ read shown);
     beyond = λ shown. absurd (within_all _ read shown);
     complete = λ shown files_fine gate_fine journal_fine out_fine. absurd (journal_fine call_failed);

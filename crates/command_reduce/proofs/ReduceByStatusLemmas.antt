@@ -18,14 +18,15 @@ use Rattle.run_problem.specs.Problem.{start_text}
 use Rattle.run_problem.specs.Ends.{IsRefused}
 use Rattle.command_reduce_calls.specs.Journal.{JournalBroken, JournalSoFar, JournalWhole}
 use Rattle.command_reduce_calls.specs.Stays.{AcceptsStart, NamesBeyond}
-use Rattle.command_reduce.proofs.ProblemLemmas.{any_problem}
-use Rattle.command_reduce.specs.Reduce.{InputHas, IsReached, IsReduced, ProblemRead, ReduceEnds, ReducesTo, ScriptLeaves, admits_of, limit_of, name_of}
+use Rattle.command_reduce.specs.Reduce.{IsReduced, ReduceEnds, ReducesTo, ScriptLeaves, admits_of, problem_in}
 use Rattle.command_reduce.specs.Reduce.ReduceEnds.{done, memory, unread, unwritten, unput, faulty, no_token, unparsed}
 use Rattle.command_reduce.specs.Reduce.ReduceEnds.{uninteresting, keep_missing, beyond, too_long, script, journal}
 use Rattle.command_reduce.specs.ReduceByStatus.{PutsItsLine, ReduceByStatus}
 use Rattle.command_words.specs.Commands.{GrammarOptions, ModeOptions, ReduceOptions}
 use Rattle.command_ends.specs.Status.{IsOneOf, IsUncut, beyond_text, fault_line, keep_text, script_text}
 use Rattle.command_ends.specs.World.{CallFailed, GateFailed, NotReached, Puts, PutsLine, PutsMessage, PutsPrefix, SeenFiles, World}
+use Rattle.command_problem.specs.Problem.{InputHas, IsReached, ProblemRead, limit_of, path_in}
+use Rattle.command_problem.proofs.Lent.{any_problem}
 
 -- some file is read in each mode
 file_of : (mode : ModeOptions) (files : SeenFiles) → (file : NamedFile) × IsReached mode file files
@@ -76,7 +77,8 @@ module _ (options : ReduceOptions) (history : History) (old new : World) where
 
   is_uninteresting : {status : ℕ} → Ends status → status ≡ 8 → OnlyNo (records_of history)
   is_uninteresting (uninteresting read files gates_quiet kept put) is =
-      (any_problem options old.files (λ problem. AcceptsStart options (start_text problem) × IsRefused options.jobs (admits_of options problem) problem history)
+      (any_problem (problem_in options) old.files
+      (λ problem. AcceptsStart options (start_text problem) × IsRefused options.jobs (admits_of options problem) problem history)
       read).1.1.only
   is_uninteresting _ is = absurd (cc is)
 
@@ -97,7 +99,7 @@ module _ (options : ReduceOptions) (history : History) (old new : World) where
   is_so_far _ is = absurd (cc is)
 
   is_too_long : {status : ℕ} → Ends status → status ≡ 10 → (file : NamedFile) × IsReached options.mode file old.files
-      × IsLonger (limit_of file) (old.files.shown (name_of options file))
+      × IsLonger (limit_of file) (old.files.shown (path_in (problem_in options) file))
   is_too_long (too_long file reached longer files untouched put) is = (file, reached, longer)
   is_too_long _ is = absurd (cc is)
 
@@ -107,13 +109,13 @@ module _ (options : ReduceOptions) (history : History) (old new : World) where
   is_script _ is = absurd (cc is)
 
   is_keep_missing : {status : ℕ} → Ends status → status ≡ 9 → (index : ℕ)
-      × ProblemRead options old.files (λ problem. first_missing options.keeps (start_text problem) ≡ Some index)
+      × ProblemRead (problem_in options) old.files (λ problem. first_missing options.keeps (start_text problem) ≡ Some index)
       × PutsMessage (keep_text (index + 1)) old.out new.out
   is_keep_missing (keep_missing index read files untouched put) is = (index, read, put)
   is_keep_missing _ is = absurd (cc is)
 
   is_beyond : {status : ℕ} → Ends status → status ≡ 16 → (last : ℕ) × (lines : ℕ)
-      × ProblemRead options old.files (λ problem. NamesBeyond options last lines (start_text problem))
+      × ProblemRead (problem_in options) old.files (λ problem. NamesBeyond options last lines (start_text problem))
       × PutsMessage (beyond_text last lines) old.out new.out
   is_beyond (beyond last lines read files untouched put) is = (last, lines, read, put)
   is_beyond _ is = absurd (cc is)
@@ -126,13 +128,13 @@ module _ (options : ReduceOptions) (history : History) (old new : World) where
 
   is_no_token : {status : ℕ} → Ends status → status ≡ 6
       → (trees : GrammarOptions) × (fault : InputFault) × (options.mode ≡ ModeOptions.by_grammar trees) × IsUncut fault
-      × InputHas trees.grammar (λ c bytes. IsInputFault c bytes fault) options old.files × PutsMessage (input_fault_text fault) old.out new.out
+      × InputHas trees.grammar (λ c bytes. IsInputFault c bytes fault) (problem_in options) old.files × PutsMessage (input_fault_text fault) old.out new.out
   is_no_token (no_token trees fault mode uncut read files untouched put) is = (trees, fault, mode, uncut, read, put)
   is_no_token _ is = absurd (cc is)
 
   is_unparsed : {status : ℕ} → Ends status → status ≡ 7
       → (trees : GrammarOptions) × (options.mode ≡ ModeOptions.by_grammar trees)
-      × InputHas trees.grammar (λ c bytes. IsInputFault c bytes input_fault.NoParse) options old.files
+      × InputHas trees.grammar (λ c bytes. IsInputFault c bytes input_fault.NoParse) (problem_in options) old.files
   is_unparsed (unparsed trees mode read files untouched put) is = (trees, mode, read)
   is_unparsed _ is = absurd (cc is)
 

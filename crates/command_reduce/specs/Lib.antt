@@ -1,3 +1,4 @@
+pub use Rattle.command_problem.specs as CommandProblem
 pub use Rattle.run_problem.specs as RunProblem
 pub use Rattle.reduce_trees_input.specs as ReduceTreesInput
 pub use Rattle.command_reduce_calls.specs as CommandReduceCalls

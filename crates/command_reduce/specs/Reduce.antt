@@ -1,5 +1,5 @@
 -- The command `reduce`: how it ends, by its status, and what its history and its records are.
-use Rattle.std.specs.Prelude.{◌≡◌, ◌≢◌, ◌<◌, ◌≤◌, ◌⊎◌, ℕ, suc, ◌+◌, drop, length, map, sum, Bool, List, [], ◌∷◌}
+use Rattle.std.specs.Prelude.{◌≡◌, ◌≢◌, ◌<◌, ◌≤◌, ◌⊎◌, ℕ, suc, ◌+◌, drop, length, map, sum, List, [], ◌∷◌}
 use Rattle.std.specs.Prelude.{◌++◌, true, false, Option, Some, None, All, codes, option_map}
 use Rattle.std.specs.List.{IsDistinct}
 use Rattle.std.specs.Str.{bytes_eq}
@@ -18,54 +18,35 @@ use Rattle.reduce_core.specs.Reduction.{Admits}
 use Rattle.line_guard.specs.MustStay.{Stays, stays_admit}
 use Rattle.line_guard.specs.Protected.{protected_lines, protected_tokens}
 use Rattle.run_gated.specs.Records.{FirstIsNo}
-use Rattle.grammar_tree.specs.Written.{CheckedGrammar}
-use Rattle.reduce_trees_mode.specs.Candidates.{InLanguage}
 use Rattle.reduce_trees_mode.specs.Input.{TreeInput}
-use Rattle.reduce_trees_input.specs.Parsed.{IsInputOf}
 use Rattle.reduce_trees_input.specs.Faults.{IsInputFault}
 use Rattle.reduce_trees_input.specs.FaultText.{input_fault_text}
 use Rattle.reduce_trees_input.specs.declared.fault.InputFault.{InputFault}
 use Rattle.reduce_trees_input.specs.declared.fault.InputFault.TheVariants as input_fault
 use Rattle.command_ends.specs.declared.status.NamedFile.{NamedFile}
-use Rattle.command_ends.specs.declared.status.NamedFile.TheVariants as named
-use Rattle.command_grammar.specs.Grammar.{GrammarRead, IsFaultIn, IsGrammarText}
-use Rattle.command_grammar.specs.Texts.{AreSpelled, GrammarIsShown, GrammarWasRead, IsGrammarFile, path_of}
+use Rattle.command_grammar.specs.Grammar.{IsFaultIn, IsGrammarText}
+use Rattle.command_grammar.specs.Texts.{GrammarIsShown, GrammarWasRead}
 use Rattle.run_problem.specs.Problem.{Problem, start_text}
 use Rattle.run_problem.specs.Ends.{AreOf, IsRefused, IsUnfinished, ReducesFrom}
+use Rattle.command_problem.specs.Problem.{InputHas, IsReached, IsShownFault, IsShownGrammar, IsShownProblem, ProblemOptions, ProblemRead, limit_of, path_in}
 use Rattle.command_ends.specs.Status.{IsOneOf, IsUncut, beyond_text, fault_line, keep_text, script_text, word_for}
-use Rattle.command_words.specs.Commands.{GrammarOptions, GrammarSource, ModeOptions, ReduceOptions}
+use Rattle.command_words.specs.Commands.{GrammarOptions, ModeOptions, ReduceOptions}
 use Rattle.run_worker.specs.RunHistory.{with_all_asked}
 use Rattle.command_reduce_calls.specs.Openings.{opened_from, opened_log}
-use Rattle.command_grammar.specs.Grammar.{start_name}
-use Rattle.command_ends.specs.World.{AnyGateFailed, AreQuiet, CallFailed, GateFailed, logs_of, FilesKept, IsOver, IsQuiet, IsShownWithin, NotReached, Puts}
-use Rattle.command_ends.specs.World.{PutsLine, PutsMessage, PutsPrefix, SeenFiles, SeenJournal, WasRead, World, grammar_limit, input_limit}
+use Rattle.command_ends.specs.World.{AnyGateFailed, AreQuiet, CallFailed, GateFailed, logs_of, FilesKept, IsOver, IsQuiet, NotReached, Puts}
+use Rattle.command_ends.specs.World.{PutsLine, PutsMessage, PutsPrefix, SeenFiles, SeenJournal, World, grammar_limit, input_limit}
 
 -- what is admitted of a tree: what has each keep text, and keeps the tokens that must stay
 abbrev pub tree_admits : ReduceOptions → TreeInput → Admits
 tree_admits options input = stays_admit (tokens_stay options input.start input.tokens)
 
--- The input is made of this text by this grammar, `tree_admits` is admitted of it, and the squeezed text of the whole is tried or not; no other is such.
-pub record IsTreeProblem (options : ReduceOptions) (grammar : CheckedGrammar) (squeeze : Bool) (text : List ℕ) (input : TreeInput) : Type 0 where
-  pub of_text : IsInputOf grammar text input
-  pub admits : input.admits ≡ tree_admits options input
-  pub squeezes : input.squeezes ≡ squeeze
-  pub only : (other : TreeInput) → IsInputOf grammar text other → other.admits ≡ tree_admits options other → other.squeezes ≡ squeeze → input ≡ other
+-- what its command line says of the problem
+abbrev pub problem_in : ReduceOptions → ProblemOptions
+problem_in options = record { mode = options.mode; input = options.input; admitted = tree_admits options }
 
--- The files were read whole, each within its limit, and the fact holds of what they have to be reduced: the lines of the input; or, where the grammar's texts
--- spell a grammar that has the input in its language, its tree.
-abbrev pub ReadIn : ModeOptions → ReduceOptions → SeenFiles → (Problem → Type 0) → Type 0
-ReadIn ModeOptions.lines options files P = WasRead input_limit (files.shown options.input) (λ start. P (Problem.of_lines start))
-ReadIn (ModeOptions.by_grammar trees) options files P =
-    (c : CheckedGrammar) × GrammarRead trees.grammar files c
-    × WasRead input_limit (files.shown options.input)
-    (λ text. (input : TreeInput) × IsTreeProblem options c trees.squeeze text input × P (Problem.of_tree trees.mode input))
-
-abbrev pub ProblemRead : ReduceOptions → SeenFiles → (Problem → Type 0) → Type 0
-ProblemRead options files P = ReadIn options.mode options files P
-
--- the same of a problem in whose start each keep text occurs, and each line that is named is there
+-- a problem was read in whose start each keep text occurs, and each line that is named is there, and the fact holds of it
 abbrev pub ProblemAccepted : ReduceOptions → SeenFiles → (Problem → Type 0) → Type 0
-ProblemAccepted options files P = ProblemRead options files (λ problem. AcceptsStart options (start_text problem) × P problem)
+ProblemAccepted options files P = ProblemRead (problem_in options) files (λ problem. AcceptsStart options (start_text problem) × P problem)
 
 -- the numbers, from 0, of the lines or tokens of a problem that must stay
 abbrev pub numbers_stay : ReduceOptions → Problem → List ℕ
@@ -134,42 +115,6 @@ pub record WritesReduced (options : ReduceOptions) (history : History) (report :
   pub gates_quiet : AreQuiet old.gates new.gates
   pub journal : JournalWhole options.journal history old.journal new.journal
 
--- the input is read, in a mode with a grammar once that was read
-abbrev pub IsInputReached : ModeOptions → SeenFiles → Type 0
-IsInputReached ModeOptions.lines files = Unit {0}
-IsInputReached (ModeOptions.by_grammar trees) files = (c : CheckedGrammar) × GrammarRead trees.grammar files c
-
--- a file of the grammar is read, where the mode has one
-abbrev pub IsGrammarReached : ModeOptions → NamedFile → SeenFiles → Type 0
-IsGrammarReached ModeOptions.lines file files = ⊥
-IsGrammarReached (ModeOptions.by_grammar trees) file files = IsGrammarFile trees.grammar file files
-
--- the file is read
-abbrev pub IsReached : ModeOptions → NamedFile → SeenFiles → Type 0
-IsReached mode named.Input files = IsInputReached mode files
-IsReached mode named.Grammar files = IsGrammarReached mode named.Grammar files
-IsReached mode named.Lexer files = IsGrammarReached mode named.Lexer files
-
--- the limit of such a file, and its path; of a mode without a grammar no path is asked for
-abbrev pub limit_of : NamedFile → ℕ
-limit_of named.Input = input_limit
-limit_of named.Grammar = grammar_limit
-limit_of named.Lexer = grammar_limit
-
-abbrev pub grammar_in : ModeOptions → NamedFile → List ℕ
-grammar_in ModeOptions.lines file = []
-grammar_in (ModeOptions.by_grammar trees) file = path_of trees.grammar file
-
-abbrev pub name_of : ReduceOptions → NamedFile → List ℕ
-name_of options named.Input = options.input
-name_of options named.Grammar = grammar_in options.mode named.Grammar
-name_of options named.Lexer = grammar_in options.mode named.Lexer
-
--- the grammar's files spell a grammar, the input was read within its limit, and the fact holds of the two
-abbrev pub InputHas : GrammarSource → (CheckedGrammar → List ℕ → Type 0) → ReduceOptions → SeenFiles → Type 0
-InputHas grammar P options files =
-    (c : CheckedGrammar) × GrammarRead grammar files c × WasRead input_limit (files.shown options.input) (λ bytes. P c bytes)
-
 -- The gate of this worker wasn't opened; those of the workers before it were, and the other gates and the journal are as before.
 pub record GateUnopened (options : ReduceOptions) (history : History) (worker : ℕ) (logs logs' : List (Option Log)) (old new : SeenJournal) : Type 0 where
   pub opened : ℕ
@@ -230,7 +175,7 @@ pub data ReduceEnds (options : ReduceOptions) (history : History) (old new : Wor
   no_token : (trees : GrammarOptions) (fault : InputFault)
       → (mode : options.mode ≡ ModeOptions.by_grammar trees)
       → (uncut : IsUncut fault)
-      → (read : InputHas trees.grammar (λ c bytes. IsInputFault c bytes fault) options old.files)
+      → (read : InputHas trees.grammar (λ c bytes. IsInputFault c bytes fault) (problem_in options) old.files)
       → (files : FilesKept old.files new.files)
       → (untouched : NotReached history old new)
       → (line : PutsMessage (input_fault_text fault) old.out new.out)
@@ -238,7 +183,7 @@ pub data ReduceEnds (options : ReduceOptions) (history : History) (old new : Wor
   -- the grammar was read, its start rule doesn't derive the input's tokens, and neither a gate nor the journal was reached
   unparsed : (trees : GrammarOptions)
       → (mode : options.mode ≡ ModeOptions.by_grammar trees)
-      → (read : InputHas trees.grammar (λ c bytes. IsInputFault c bytes input_fault.NoParse) options old.files)
+      → (read : InputHas trees.grammar (λ c bytes. IsInputFault c bytes input_fault.NoParse) (problem_in options) old.files)
       → (files : FilesKept old.files new.files)
       → (untouched : NotReached history old new)
       → (line : PutsMessage (codes "input does not parse") old.out new.out)
@@ -252,7 +197,7 @@ pub data ReduceEnds (options : ReduceOptions) (history : History) (old new : Wor
       → ReduceEnds options history old new 8
   -- the input was read, a keep text doesn't occur in it, the line names the first such by its number from 1, and neither a gate nor the journal was reached
   keep_missing : (index : ℕ)
-      → (read : ProblemRead options old.files (λ problem. first_missing options.keeps (start_text problem) ≡ Some index))
+      → (read : ProblemRead (problem_in options) old.files (λ problem. first_missing options.keeps (start_text problem) ≡ Some index))
       → (files : FilesKept old.files new.files)
       → (untouched : NotReached history old new)
       → (line : PutsMessage (keep_text (index + 1)) old.out new.out)
@@ -260,7 +205,7 @@ pub data ReduceEnds (options : ReduceOptions) (history : History) (old new : Wor
   -- a file that is read is longer than its limit, the line names it, and neither a gate nor the journal was reached
   too_long : (file : NamedFile)
       → (reached : IsReached options.mode file old.files)
-      → (longer : IsLonger (limit_of file) (old.files.shown (name_of options file)))
+      → (longer : IsLonger (limit_of file) (old.files.shown (path_in (problem_in options) file)))
       → (files : FilesKept old.files new.files)
       → (untouched : NotReached history old new)
       → (line : PutsMessage (word_for file ++ codes " is too long") old.out new.out)
@@ -284,33 +229,11 @@ pub data ReduceEnds (options : ReduceOptions) (history : History) (old new : Wor
   -- the input was read, each keep text occurs in it, the line on `out` names the first last line of `--protect`, and then of `--only`, that is beyond its
   -- lines, and neither a gate nor the journal was reached
   beyond : (last lines : ℕ)
-      → (read : ProblemRead options old.files (λ problem. NamesBeyond options last lines (start_text problem)))
+      → (read : ProblemRead (problem_in options) old.files (λ problem. NamesBeyond options last lines (start_text problem)))
       → (files : FilesKept old.files new.files)
       → (untouched : NotReached history old new)
       → (line : PutsMessage (beyond_text last lines) old.out new.out)
       → ReduceEnds options history old new 16
-
--- what is visible of the files has this fact of what is reduced: the input is within its limit; and by a grammar that is too, and spells a grammar that has
--- the input in its language
-abbrev pub ShownIn : ModeOptions → ReduceOptions → SeenFiles → (List ℕ → Type 0) → Type 0
-ShownIn ModeOptions.lines options files P = IsShownWithin input_limit (files.shown options.input) P
-ShownIn (ModeOptions.by_grammar trees) options files P =
-    GrammarIsShown trees.grammar files (λ texts. (c : CheckedGrammar) × AreSpelled texts (start_name trees.grammar) c
-    × IsShownWithin input_limit (files.shown options.input) (λ text. InLanguage c text × P text))
-
-abbrev pub IsShownProblem : ReduceOptions → SeenFiles → (List ℕ → Type 0) → Type 0
-IsShownProblem options files P = ShownIn options.mode options files P
-
--- what is visible of the files is a grammar within its limit, and an input within its limit with such a fault
-abbrev pub IsShownFault : GrammarSource → ReduceOptions → SeenFiles → (InputFault → Type 0) → Type 0
-IsShownFault grammar options files P =
-    GrammarIsShown grammar files (λ texts. (c : CheckedGrammar) × AreSpelled texts (start_name grammar) c
-    × IsShownWithin input_limit (files.shown options.input) (λ text. (fault : InputFault) × IsInputFault c text fault × P fault))
-
--- where the mode has a grammar, it is visible, within its limit and well-formed
-abbrev pub IsShownGrammar : ModeOptions → SeenFiles → Type 0
-IsShownGrammar ModeOptions.lines files = Unit {0}
-IsShownGrammar (ModeOptions.by_grammar trees) files = GrammarIsShown trees.grammar files (IsGrammarText trees.grammar)
 
 -- Which status it has to be. This follows from how `reduce` ends.
 pub record ReduceMustEnd (options : ReduceOptions) (records : List Record) (old new : World) (status : ℕ) : Type 0 where
@@ -337,18 +260,19 @@ pub record ReduceMustEnd (options : ReduceOptions) (records : List Record) (old 
   -- whatever the grammar is, an input that isn't there can't be read, unless the grammar was refused before
   pub missing : old.files.shown options.input ≡ Some None → IsOneOf (3 ∷ 5 ∷ 10 ∷ 1 ∷ []) status
   -- an input within its limit whose bytes aren't cut into tokens is refused, where the grammar is well-formed
-  pub no_token : (trees : GrammarOptions) → options.mode ≡ ModeOptions.by_grammar trees → IsShownFault trees.grammar options old.files (λ fault. IsUncut fault)
-      → IsOneOf (6 ∷ 3 ∷ 1 ∷ []) status
+  pub no_token : (trees : GrammarOptions) → options.mode ≡ ModeOptions.by_grammar trees
+      → IsShownFault trees.grammar (problem_in options) old.files (λ fault. IsUncut fault) → IsOneOf (6 ∷ 3 ∷ 1 ∷ []) status
   -- one whose tokens the start rule doesn't derive is refused, where the grammar is well-formed
   pub unparsed : (trees : GrammarOptions) → options.mode ≡ ModeOptions.by_grammar trees
-      → IsShownFault trees.grammar options old.files (λ fault. fault ≡ input_fault.NoParse) → IsOneOf (7 ∷ 3 ∷ 1 ∷ []) status
+      → IsShownFault trees.grammar (problem_in options) old.files (λ fault. fault ≡ input_fault.NoParse) → IsOneOf (7 ∷ 3 ∷ 1 ∷ []) status
   -- an input in which a keep text doesn't occur is refused, where it is a problem of its mode
-  pub keep_missing : IsShownProblem options old.files (λ start. holds_all options.keeps start ≡ false) → IsOneOf (9 ∷ 3 ∷ 1 ∷ []) status
+  pub keep_missing : IsShownProblem (problem_in options) old.files (λ start. holds_all options.keeps start ≡ false) → IsOneOf (9 ∷ 3 ∷ 1 ∷ []) status
   -- so is one, in which each keep text occurs, that has no line of a number that is named
-  pub beyond : IsShownProblem options old.files (λ start. (holds_all options.keeps start ≡ true) × (first_beyond_start options.protects start ≢ None))
+  pub beyond : IsShownProblem (problem_in options) old.files
+      (λ start. (holds_all options.keeps start ≡ true) × (first_beyond_start options.protects start ≢ None))
       → IsOneOf (16 ∷ 3 ∷ 1 ∷ []) status
   -- a problem in which each keep text occurs, and that has the lines that are named, is reduced, or isn't interesting, where no call failed
-  pub complete : IsShownProblem options old.files (AcceptsStart options) → ¬ CallFailed old.files new.files
+  pub complete : IsShownProblem (problem_in options) old.files (AcceptsStart options) → ¬ CallFailed old.files new.files
       → ¬ AnyGateFailed options.jobs old.gates new.gates → ¬ CallFailed old.journal new.journal → ¬ CallFailed old.out new.out
       → IsOneOf (0 ∷ 8 ∷ 1 ∷ []) status
   -- a first no ends the run, unless it can't be written; or another worker's gate fails

@@ -14,10 +14,11 @@ use Rattle.command_ends.specs.declared.status.NamedFile.{NamedFile}
 use Rattle.command_grammar.specs.Grammar.{IsFaultIn}
 use Rattle.command_grammar.specs.Texts.{GrammarWasRead}
 use Rattle.run_problem.specs.Problem.{start_text}
-use Rattle.command_reduce.specs.Reduce.{InputHas, IsReached, IsReduced, ProblemRead, ReduceEnds, ReducesTo, ScriptLeaves, limit_of, name_of}
+use Rattle.command_reduce.specs.Reduce.{IsReduced, ReduceEnds, ReducesTo, ScriptLeaves, problem_in}
 use Rattle.command_ends.specs.Status.{IsOneOf, IsUncut, PutsRefusal, beyond_text, fault_line, keep_text, script_text}
 use Rattle.command_words.specs.Commands.{GrammarOptions, ModeOptions, ReduceOptions}
 use Rattle.command_ends.specs.World.{CallFailed, GateFailed, NotReached, Puts, PutsLine, PutsMessage, PutsPrefix, SeenFiles, SeenOut, World}
+use Rattle.command_problem.specs.Problem.{InputHas, IsReached, ProblemRead, limit_of, path_in}
 
 -- the line was put of a refusal that has this status, and names a file that is read if it names one
 abbrev pub PutsItsLine : ModeOptions → SeenFiles → SeenOut → SeenOut → ℕ → Type 0
@@ -38,21 +39,22 @@ pub record ReduceMeans (options : ReduceOptions) (history : History) (old new : 
       × GrammarWasRead trees.grammar old.files (λ texts. IsFaultIn trees.grammar texts text) × PutsLine (fault_line text) old.out new.out
   pub no_token : status ≡ 6
       → (trees : GrammarOptions) × (fault : InputFault) × (options.mode ≡ ModeOptions.by_grammar trees) × IsUncut fault
-      × InputHas trees.grammar (λ c bytes. IsInputFault c bytes fault) options old.files × PutsMessage (input_fault_text fault) old.out new.out
+      × InputHas trees.grammar (λ c bytes. IsInputFault c bytes fault) (problem_in options) old.files × PutsMessage (input_fault_text fault) old.out new.out
   pub unparsed : status ≡ 7
       → (trees : GrammarOptions) × (options.mode ≡ ModeOptions.by_grammar trees)
-      × InputHas trees.grammar (λ c bytes. IsInputFault c bytes input_fault.NoParse) options old.files
+      × InputHas trees.grammar (λ c bytes. IsInputFault c bytes input_fault.NoParse) (problem_in options) old.files
   pub not_interesting : status ≡ 8 → OnlyNo (records_of history)
   pub keep_missing : status ≡ 9
-      → (index : ℕ) × ProblemRead options old.files (λ problem. first_missing options.keeps (start_text problem) ≡ Some index)
+      → (index : ℕ) × ProblemRead (problem_in options) old.files (λ problem. first_missing options.keeps (start_text problem) ≡ Some index)
       × PutsMessage (keep_text (index + 1)) old.out new.out
-  pub too_long : status ≡ 10 → (file : NamedFile) × IsReached options.mode file old.files × IsLonger (limit_of file) (old.files.shown (name_of options file))
+  pub too_long : status ≡ 10 → (file : NamedFile) × IsReached options.mode file old.files
+      × IsLonger (limit_of file) (old.files.shown (path_in (problem_in options) file))
   pub script : status ≡ 11
       → (worker : ℕ) × (worker ≤ options.jobs) × GateFailed worker old.gates new.gates × ScriptLeaves options history worker old new
       × PutsMessage (script_text worker) old.out new.out
   pub journal : status ≡ 12 → CallFailed old.journal new.journal × JournalBroken options.jobs options.journal history old.journal new.journal
   pub beyond : status ≡ 16
-      → (last : ℕ) × (lines : ℕ) × ProblemRead options old.files (λ problem. NamesBeyond options last lines (start_text problem))
+      → (last : ℕ) × (lines : ℕ) × ProblemRead (problem_in options) old.files (λ problem. NamesBeyond options last lines (start_text problem))
       × PutsMessage (beyond_text last lines) old.out new.out
   pub whole : IsOneOf (0 ∷ 4 ∷ 8 ∷ []) status → JournalWhole options.journal history old.journal new.journal
   pub so_far : status ≡ 1 → JournalSoFar options.journal history old.journal new.journal

@@ -8,7 +8,8 @@ ghost use Rattle.run_gated.specs.Workers.{AreIdle};
 ghost use Rattle.run_problem.specs.Problem.{Problem};
 ghost use Rattle.run_problem.specs.Read.{IsReadAs, IsReady, numbers_read, start_read};
 ghost use Rattle.run_problem.specs.Ends.{IsRunOf};
-ghost use Rattle.command_reduce.specs.Reduce.{ProblemRead, Reduces};
+ghost use Rattle.command_problem.specs.Problem.{ProblemRead};
+ghost use Rattle.command_reduce.specs.Reduce.{Reduces, problem_in};
 ghost use Rattle.command_reduce.specs.inner.Reduce.{ReduceSteps};
 ghost use Rattle.command_reduce.specs.inner.Read.{AcceptFails, admits_read, stays_read};
 ghost use Rattle.command_reduce_calls.specs.Stays.{AcceptsStart, StaysFail};
@@ -117,7 +118,7 @@ fn accept<'a, F: Files>(
     line: &ReduceLine<'a>,
     files: &mut F,
 ) -> Result<(ReadProblem, Guard<MustStay<'a>>), Refusal>
-    ensures problem { IfOk result (λ accepted. ProblemRead (reduce_read line.now) (seen F.content F.faults files.old)
+    ensures problem { IfOk result (λ accepted. ProblemRead (problem_in (reduce_read line.now)) (seen F.content F.faults files.old)
         (IsReadAs (admits_read (reduce_read line.now) accepted.0) accepted.0)) }
     ensures ready { IfOk result (λ accepted. IsReady accepted.0) }
     ensures guard { IfOk result (λ accepted. accepted.1 ≡ stays_read (reduce_read line.now) accepted.0) }

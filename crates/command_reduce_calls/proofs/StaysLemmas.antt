@@ -1,14 +1,14 @@
 -- Why a start wasn't accepted, and the lines that are named.
-use Rattle.std.proofs.Common.{◌≡◌, ℕ, ◌+◌, true, List, ◌++◌, Option, Some, None, length, map, find, refl, sym, ap, ◌∙◌, append_assoc}
+use Rattle.std.proofs.Common.{◌≡◌, ℕ, true, List, ◌++◌, Option, Some, None, length, map, find, refl, sym, ap, ◌∙◌, append_assoc}
 use Rattle.std.proofs.lemmas.List.{map-append}
 use Rattle.std.proofs.lemmas.Simd.{map-map}
 use Rattle.std.specs.Option.{option_to_list}
 use Rattle.std.specs.Prelude.{nat_lt, option_map}
-use Rattle.keep_guard.specs.Keep.{first_missing, holds_all}
+use Rattle.keep_guard.specs.Keep.{holds_all}
 use Rattle.reduce_core.specs.Lines.{lines_of}
 use Rattle.command_ends.specs.declared.status.Refusal.{Refusal}
 use Rattle.command_ends.specs.declared.status.Refusal.TheVariants.{Memory, KeepMissing, BeyondLines}
-use Rattle.command_ends.specs.Status.{IsBeyondRefusal, IsKeepRefusal}
+use Rattle.command_ends.specs.Status.{IsBeyondRefusal, KeepsFail}
 use Rattle.command_words.specs.Commands.{ReduceOptions}
 use Rattle.command_words.specs.Lines.{protects_read, span_read}
 use Rattle.command_words.specs.Options.{LineSpan}
@@ -18,12 +18,11 @@ use Rattle.line_guard.specs.declared.wish.Wish.{Wish}
 use Rattle.line_guard.specs.declared.wish.Wish.TheVariants as wish
 use Rattle.command_reduce_calls.specs.Stays.{StaysFail, first_beyond, first_beyond_start, lasts_of, wishes_of}
 
--- the refusal that names the first keep text that is missing
-pub keep_fails : (options : ReduceOptions) (start : List ℕ) (index : ℕ) (refusal : Refusal) → first_missing options.keeps start ≡ Some index
-    → IsKeepRefusal (index + 1) refusal → StaysFail options start refusal
-keep_fails options start index Memory missing is = tt
-keep_fails options start index (KeepMissing line) missing is = (index, missing, is)
-keep_fails options start index _ missing is = absurd is
+-- why the keep texts aren't held
+pub keeps_fail : (options : ReduceOptions) (start : List ℕ) (refusal : Refusal) → KeepsFail options.keeps start refusal → StaysFail options start refusal
+keeps_fail options start Memory why = tt
+keeps_fail options start (KeepMissing line) why = why
+keeps_fail options start _ why = absurd why
 
 -- the refusal that names the first line that is beyond the last
 pub beyond_fails : (options : ReduceOptions) (start : List ℕ) (last : ℕ) (refusal : Refusal) → holds_all options.keeps start ≡ true

@@ -2,7 +2,7 @@
 use Rattle.std.specs.Prelude.{◌≡◌, ℕ, ◌+◌, ◌++◌, nat_lt, true, List, Option, Some, None, length, map, find}
 use Rattle.std.specs.Option.{option_to_list}
 use Rattle.grammar_tree.specs.Lexes.{PlacedToken}
-use Rattle.keep_guard.specs.Keep.{first_missing, holds_all}
+use Rattle.keep_guard.specs.Keep.{holds_all}
 use Rattle.reduce_core.specs.Lines.{lines_of}
 use Rattle.line_guard.specs.MustStay.{Stays}
 use Rattle.line_guard.specs.Protected.{protected_lines, protected_tokens}
@@ -12,7 +12,7 @@ use Rattle.command_words.specs.Options.{LineSpan}
 use Rattle.command_words.specs.Commands.{ProtectOptions, ReduceOptions}
 use Rattle.command_ends.specs.declared.status.Refusal.{Refusal}
 use Rattle.command_ends.specs.declared.status.Refusal.TheVariants.{Memory, KeepMissing, BeyondLines}
-use Rattle.command_ends.specs.Status.{IsBeyondRefusal, IsKeepRefusal}
+use Rattle.command_ends.specs.Status.{IsBeyondRefusal, KeepsFail}
 
 -- what is wished for: the lines of `--protect`, those with a text of `--protect-text`, and all but those of `--only`
 abbrev pub wishes_of : ProtectOptions → List Wish
@@ -53,7 +53,7 @@ NamesBeyond options last lines start =
 -- beyond its lines; or out of memory.
 abbrev pub StaysFail : ReduceOptions → List ℕ → Refusal → Type 0
 StaysFail options start Memory = Unit {0}
-StaysFail options start (KeepMissing line) = (index : ℕ) × (first_missing options.keeps start ≡ Some index) × IsKeepRefusal (index + 1) (KeepMissing line)
+StaysFail options start (KeepMissing line) = KeepsFail options.keeps start (KeepMissing line)
 StaysFail options start (BeyondLines line) =
     (last : ℕ) × (lines : ℕ) × NamesBeyond options last lines start × IsBeyondRefusal last lines (BeyondLines line)
 StaysFail options start _ = ⊥

@@ -8,42 +8,14 @@ ghost use Rattle.line_guard.specs.Lines.{line_ends};
 ghost use Rattle.command_reduce_calls.specs.Stays.{StaysFail, first_beyond, first_beyond_start, lines_stay, tokens_stay, wishes_of};
 ghost use Rattle.command_words.specs.Lines.{protects_read, reduce_read};
 
-use command_ends::Refusal;
+use command_ends::{Refusal, held_texts};
 use command_words::{LineSpan, ProtectLine, ReduceLine};
 use faults::Memory;
-use keep_guard::{Guard, KeepTexts};
+use keep_guard::Guard;
 use lexer::Tokens;
 use line_guard::{LineIndex, MustStay, Wish, protected_lines, protected_tokens};
 use script_gate_trait::Bytes;
 use std::alloc::Global;
-
-/// The keep texts of the command line, in their order.
-fn keep_texts<'a>(alloc: Global, texts: &[&'a str]) -> Result<KeepTexts<'a>, Memory>
-    ensures { IfOk result (λ keeps. keeps ≡ map (λ text. text.now) texts.now) }
-{
-    let mut keeps = KeepTexts::new(alloc);
-    for text in texts {
-        keeps.push(text.as_bytes())?;
-    }
-    Ok(keeps)
-}
-
-/// The keep texts of the command line, each of which occurs in the start.
-fn held_texts<'a>(
-    alloc: Global,
-    line: &ReduceLine<'a>,
-    start: &[u8],
-) -> Result<KeepTexts<'a>, Refusal>
-    ensures keeps { IfOk result (λ keeps. keeps ≡ (reduce_read line.now).keeps) }
-    ensures kept { OnOk result (holds_all (reduce_read line.now).keeps start.now ≡ true) }
-    ensures refused { IfErr result (λ refusal. StaysFail (reduce_read line.now) start.now refusal) }
-{
-    let keeps = keep_texts(alloc, &line.keeps)?;
-    match keeps.first_missing(start) {
-        None => Ok(keeps),
-        Some(index) => Err(Refusal::of_keep(alloc, index as u64 + 1)),
-    }
-}
 
 /// The first of the last lines of `--protect`, and then of `--only`, that is beyond this line.
 fn first_beyond(protects: &ProtectLine<'_>, lines: u64) -> Option<u64>
@@ -119,7 +91,7 @@ pub fn guard_of_lines<'a>(
     ensures within { OnOk result (first_beyond_start (reduce_read line.now).protects start.now ≡ None) }
     ensures refused { IfErr result (λ refusal. StaysFail (reduce_read line.now) start.now refusal) }
 {
-    let keeps = held_texts(alloc, line, start)?;
+    let keeps = held_texts(alloc, &line.keeps, start)?;
     let index = index_of(alloc, line, start)?;
     let wishes = wishes_of(alloc, &line.protects)?;
     let numbers = protected_lines(alloc, start, &index, &wishes)?;
@@ -141,7 +113,7 @@ pub fn guard_of_tokens<'a>(
     ensures within { OnOk result (first_beyond_start (reduce_read line.now).protects start.now ≡ None) }
     ensures refused { IfErr result (λ refusal. StaysFail (reduce_read line.now) start.now refusal) }
 {
-    let keeps = held_texts(alloc, line, start)?;
+    let keeps = held_texts(alloc, &line.keeps, start)?;
     let index = index_of(alloc, line, start)?;
     let wishes = wishes_of(alloc, &line.protects)?;
     let numbers = protected_tokens(alloc, start, &index, tokens, &wishes)?;

@@ -7,17 +7,17 @@ use Rattle.std.specs.List.{list_all}
 use Rattle.std.specs.Str.Parse.{digits_value}
 use Rattle.clap.specs.declared.parser.matches.ArgMatches.{ArgMatches}
 use Rattle.command_words.specs.Options.{OptionRow, Use, Values, fits_table, is_number_in, options_in, span_of, takes_value, uses_from, values_for, where_fits}
-use Rattle.command_words.specs.Tables.{any_lines, normal_table, reduce_table, selftest_table, tree_modes}
-use Rattle.command_words.specs.Commands.{Command, GrammarSource, ModeOptions, ProtectOptions, ReduceOptions, SelftestOptions, command_line_of, command_of}
-use Rattle.command_words.specs.Commands.{is_given}
+use Rattle.command_words.specs.Tables.{any_lines, check_table, normal_table, reduce_table, selftest_table, tree_modes}
+use Rattle.command_words.specs.Commands.{CheckOptions, Command, GrammarSource, ModeOptions, ProtectOptions, ReduceOptions, SelftestOptions}
+use Rattle.command_words.specs.Commands.{check_in, check_line, check_of, command_line_of, command_of, is_given}
 use Rattle.command_words.specs.Commands.{mode_options, named_grammar, normal_line, number_of, reduce_line, reduce_of, reduction_in, selftest_line}
 use Rattle.command_words.specs.Commands.{selftest_of, text_of, tree_mode_named, tree_mode_of, value_of, value_or}
-use Rattle.command_words.specs.inner.Found.{HasFound, fitting_jobs, fitting_keeps, fitting_mode, fitting_number, fitting_protects}
-use Rattle.command_words.specs.inner.Found.{line_of_parts, line_with, names_files, protects_of_parts, values_fit}
+use Rattle.command_words.specs.inner.Found.{HasFound, HasModeOptions, check_of_parts, check_with, fitting_jobs, fitting_keeps, fitting_mode, fitting_number}
+use Rattle.command_words.specs.inner.Found.{fitting_protects, line_of_parts, line_with, names_files, protects_of_parts, values_fit}
 use Rattle.command_words.specs.inner.Read.{IsAnswered, IsOnce, IsTable}
 use Rattle.reduce_step.specs.declared.mode.TreeMode.{TreeMode}
-use Rattle.command_words.proofs.Fits.{fits_once, flags_once, normal_fits, reduce_fits, selftest_fits}
-use Rattle.command_words.proofs.FoundValues.{no_values, number_read, one_value}
+use Rattle.command_words.proofs.Fits.{check_fits, fits_once, flags_once, normal_fits, reduce_fits, selftest_fits}
+use Rattle.command_words.proofs.FoundValues.{named_by, no_values, number_read, one_value}
 
 -- ---- words that aren't answered
 
@@ -51,6 +51,27 @@ normal_is_table = ((refl, (refl, (refl, tt))), refl)
 pub selftest_is_table : IsTable selftest_table
 selftest_is_table = ((refl, (refl, (refl, tt))), refl)
 
+pub check_is_table : IsTable check_table
+check_is_table = ((refl, (refl, (refl, (refl, (refl, (refl, (refl, (refl, (refl, tt))))))))), refl)
+
+pub reduce_chooses : HasModeOptions reduce_table
+reduce_chooses = record {
+  grammar = named_by reduce_table (codes "grammar") refl;
+  lexer = named_by reduce_table (codes "lexer") refl;
+  start = named_by reduce_table (codes "start") refl;
+  mode = refl;
+  squeeze = refl;
+}
+
+pub check_chooses : HasModeOptions check_table
+check_chooses = record {
+  grammar = named_by check_table (codes "grammar") refl;
+  lexer = named_by check_table (codes "lexer") refl;
+  start = named_by check_table (codes "start") refl;
+  mode = refl;
+  squeeze = refl;
+}
+
 -- ---- a line of `reduce`
 
 abbrev nothing : Option ReduceOptions
@@ -80,23 +101,24 @@ by_parts uses true true true true true true false only (Some mode) = refl
 by_parts uses true true true true true true true false (Some mode) = refl
 by_parts uses true true true true true true true true (Some mode) = refl
 
-where_true : (uses : List Use) (b : Bool) → (if b then reduce_of uses else None) ≡ option_and_then reduce_of (if b then Some uses else None)
-where_true uses true = refl
-where_true uses false = refl
+where_true : {A : Type 0} (f : List Use → Option A) (uses : List Use) (b : Bool)
+    → (if b then f uses else None) ≡ option_and_then f (if b then Some uses else None)
+where_true f uses true = refl
+where_true f uses false = refl
 
 pub reduce_found : (uses : List Use) → IsOnce reduce_table uses
     → line_with uses (fitting_keeps uses) (fitting_protects uses) ≡ option_and_then reduce_of (where_fits reduce_table (Some uses))
 reduce_found uses once =
-    by_parts uses (names_files uses) (values_fit (Values.one_of (codes "lines" ∷ tree_modes)) (codes "mode") uses)
+    by_parts uses (names_files (codes "script") uses) (values_fit (Values.one_of (codes "lines" ∷ tree_modes)) (codes "mode") uses)
     (values_fit (Values.number 1 16) (codes "jobs") uses) (nat_le (length (values_for (codes "keep") uses)) 8)
     (nat_le (length (values_for (codes "protect") uses)) 8) (values_fit any_lines (codes "protect") uses)
     (nat_le (length (values_for (codes "protect-text") uses)) 8) (values_fit any_lines (codes "only") uses) (mode_options uses)
     ∙ sym (ap (λ (b : Bool). if b then reduce_of uses else None) (reduce_fits uses once))
-    ∙ where_true uses (fits_table reduce_table uses)
+    ∙ where_true reduce_of uses (fits_table reduce_table uses)
 
 -- without keep texts there is no line
 pub no_line : (uses : List Use) (protects : Option ProtectOptions) → None ≡ line_with uses None protects
-no_line uses protects = go (names_files uses) (fitting_mode uses) (fitting_jobs uses)
+no_line uses protects = go (names_files (codes "script") uses) (fitting_mode uses) (fitting_jobs uses)
   where
     go : (files : Bool) (mode : Option ModeOptions) (jobs : Option ℕ) → None ≡ (if files then line_of_parts uses mode jobs None protects else None)
     go false mode jobs = refl
@@ -106,7 +128,7 @@ no_line uses protects = go (names_files uses) (fitting_mode uses) (fitting_jobs 
 
 -- nor is there one where what must stay isn't such
 pub nothing_stays : (uses : List Use) (keeps : Option (List (List ℕ))) → None ≡ line_with uses keeps None
-nothing_stays uses keeps = go (names_files uses) (fitting_mode uses) (fitting_jobs uses) keeps
+nothing_stays uses keeps = go (names_files (codes "script") uses) (fitting_mode uses) (fitting_jobs uses) keeps
   where
     go : (files : Bool) (mode : Option ModeOptions) (jobs : Option ℕ) (keeps : Option (List (List ℕ)))
         → None ≡ (if files then line_of_parts uses mode jobs keeps None else None)
@@ -116,7 +138,7 @@ nothing_stays uses keeps = go (names_files uses) (fitting_mode uses) (fitting_jo
     go true (Some mode) (Some jobs) None = refl
     go true (Some mode) (Some jobs) (Some keeps) = refl
 
-pub line_without_files : (uses : List Use) (keeps : Option (List (List ℕ))) (protects : Option ProtectOptions) → names_files uses ≡ false
+pub line_without_files : (uses : List Use) (keeps : Option (List (List ℕ))) (protects : Option ProtectOptions) → names_files (codes "script") uses ≡ false
     → None ≡ line_with uses keeps protects
 line_without_files uses keeps protects none =
     sym (ap (λ (b : Bool). if b then line_of_parts uses (fitting_mode uses) (fitting_jobs uses) keeps protects else None) none)
@@ -124,8 +146,8 @@ line_without_files uses keeps protects none =
 pub line_without_mode : (uses : List Use) (keeps : Option (List (List ℕ))) (protects : Option ProtectOptions) → None ≡ fitting_mode uses
     → None ≡ line_with uses keeps protects
 line_without_mode uses keeps protects none =
-    go (names_files uses)
-    ∙ ap (λ (mode : Option ModeOptions). if names_files uses then line_of_parts uses mode (fitting_jobs uses) keeps protects else None) none
+    go (names_files (codes "script") uses)
+    ∙ ap (λ (mode : Option ModeOptions). if names_files (codes "script") uses then line_of_parts uses mode (fitting_jobs uses) keeps protects else None) none
   where
     go : (files : Bool) → None ≡ (if files then line_of_parts uses None (fitting_jobs uses) keeps protects else None)
     go true = refl
@@ -134,8 +156,8 @@ line_without_mode uses keeps protects none =
 pub line_without_jobs : (uses : List Use) (keeps : Option (List (List ℕ))) (protects : Option ProtectOptions) → None ≡ fitting_jobs uses
     → None ≡ line_with uses keeps protects
 line_without_jobs uses keeps protects none =
-    go (names_files uses) (fitting_mode uses)
-    ∙ ap (λ (jobs : Option ℕ). if names_files uses then line_of_parts uses (fitting_mode uses) jobs keeps protects else None) none
+    go (names_files (codes "script") uses) (fitting_mode uses)
+    ∙ ap (λ (jobs : Option ℕ). if names_files (codes "script") uses then line_of_parts uses (fitting_mode uses) jobs keeps protects else None) none
   where
     go : (files : Bool) (mode : Option ModeOptions) → None ≡ (if files then line_of_parts uses mode None keeps protects else None)
     go false mode = refl
@@ -166,7 +188,8 @@ line_is uses mode jobs keeps protects input output script journal work input_is 
 
 pub this_line : (uses : List Use) (mode : ModeOptions) (jobs : ℕ) (keeps : List (List ℕ)) (protects : ProtectOptions) (input output script : List ℕ)
     (journal : Option (List ℕ)) (work : List ℕ)
-    → (names_files uses ≡ true) × (input ≡ text_of (codes "input") uses) × (output ≡ text_of (codes "output") uses) × (script ≡ text_of (codes "script") uses)
+    → (names_files (codes "script") uses ≡ true) × (input ≡ text_of (codes "input") uses) × (output ≡ text_of (codes "output") uses)
+    × (script ≡ text_of (codes "script") uses)
     → journal ≡ value_of (codes "journal") uses → work ≡ value_or (codes "perses-work") (codes "work") uses → Some mode ≡ fitting_mode uses
     → Some jobs ≡ fitting_jobs uses
     → Some (record {
@@ -185,6 +208,67 @@ this_line uses mode jobs keeps protects input output script journal work files j
     line_is uses mode jobs keeps protects input output script journal work files.1 files.2 files.3 journal_is work_is
     ∙ ap₂ (λ (m : Option ModeOptions) (j : Option ℕ). line_of_parts uses m j (Some keeps) (Some protects)) mode_is jobs_are
     ∙ sym (ap (λ (b : Bool). if b then line_of_parts uses (fitting_mode uses) (fitting_jobs uses) (Some keeps) (Some protects) else None) files.0)
+
+-- ---- a line of `check`
+
+abbrev no_check : Option CheckOptions
+no_check = None
+
+-- part by part, or all at once
+check_by_parts : (uses : List Use) (files mode_fits keeps_fit : Bool) (mode : Option ModeOptions)
+    → (if files then check_of_parts uses (if mode_fits then mode else None) (if keeps_fit then Some (values_for (codes "keep") uses) else None) else no_check)
+    ≡ (if files && (mode_fits && keeps_fit) then option_map (check_in uses) mode else no_check)
+check_by_parts uses false mode_fits keeps_fit mode = refl
+check_by_parts uses true false keeps_fit mode = refl
+check_by_parts uses true true false None = refl
+check_by_parts uses true true true None = refl
+check_by_parts uses true true false (Some mode) = refl
+check_by_parts uses true true true (Some mode) = refl
+
+pub check_found : (uses : List Use) → IsOnce check_table uses
+    → check_with uses (fitting_keeps uses) ≡ option_and_then check_of (where_fits check_table (Some uses))
+check_found uses once =
+    check_by_parts uses (names_files (codes "journal") uses) (values_fit (Values.one_of (codes "lines" ∷ tree_modes)) (codes "mode") uses)
+    (nat_le (length (values_for (codes "keep") uses)) 8) (mode_options uses)
+    ∙ sym (ap (λ (b : Bool). if b then check_of uses else None) (check_fits uses once))
+    ∙ where_true check_of uses (fits_table check_table uses)
+
+pub check_without_keeps : (uses : List Use) → None ≡ check_with uses None
+check_without_keeps uses = go (names_files (codes "journal") uses) (fitting_mode uses)
+  where
+    go : (files : Bool) (mode : Option ModeOptions) → None ≡ (if files then check_of_parts uses mode None else no_check)
+    go false mode = refl
+    go true None = refl
+    go true (Some mode) = refl
+
+pub check_without_files : (uses : List Use) (keeps : Option (List (List ℕ))) → names_files (codes "journal") uses ≡ false → None ≡ check_with uses keeps
+check_without_files uses keeps none = sym (ap (λ (b : Bool). if b then check_of_parts uses (fitting_mode uses) keeps else None) none)
+
+pub check_without_mode : (uses : List Use) (keeps : Option (List (List ℕ))) → None ≡ fitting_mode uses → None ≡ check_with uses keeps
+check_without_mode uses keeps none =
+    go (names_files (codes "journal") uses)
+    ∙ ap (λ (mode : Option ModeOptions). if names_files (codes "journal") uses then check_of_parts uses mode keeps else None) none
+  where
+    go : (files : Bool) → None ≡ (if files then check_of_parts uses None keeps else no_check)
+    go true = refl
+    go false = refl
+
+-- what is said of the files, by their options
+check_is : (uses : List Use) (mode : ModeOptions) (keeps : List (List ℕ)) (input output journal : List ℕ) → input ≡ text_of (codes "input") uses
+    → output ≡ text_of (codes "output") uses
+    → journal ≡ text_of (codes "journal") uses
+    → Some (record { mode = mode; input = input; output = output; journal = journal; keeps = keeps }) ≡ check_of_parts uses (Some mode) (Some keeps)
+check_is uses mode keeps input output journal input_is output_is journal_is = rw (input_is, output_is, journal_is) refl
+
+pub this_check : (uses : List Use) (mode : ModeOptions) (keeps : List (List ℕ)) (input output journal : List ℕ)
+    → (names_files (codes "journal") uses ≡ true) × (input ≡ text_of (codes "input") uses) × (output ≡ text_of (codes "output") uses)
+    × (journal ≡ text_of (codes "journal") uses)
+    → Some mode ≡ fitting_mode uses
+    → Some (record { mode = mode; input = input; output = output; journal = journal; keeps = keeps }) ≡ check_with uses (Some keeps)
+this_check uses mode keeps input output journal files mode_is =
+    check_is uses mode keeps input output journal files.1 files.2 files.3
+    ∙ ap (λ (m : Option ModeOptions). check_of_parts uses m (Some keeps)) mode_is
+    ∙ sym (ap (λ (b : Bool). if b then check_of_parts uses (fitting_mode uses) (Some keeps) else None) files.0)
 
 -- ---- a line of `normal`
 
@@ -326,16 +410,31 @@ this_selftest uses number size mode once number_is size_is mode_is =
 abbrev after_reduce : List ℕ → List (List ℕ) → Option Command
 after_reduce name words =
     if bytes_eq name (codes "normal") then option_map Command.normal (normal_line words) else
-    (if bytes_eq name (codes "selftest") then option_map Command.selftest (selftest_line words) else None)
+    (if bytes_eq name (codes "selftest") then option_map Command.selftest (selftest_line words) else
+    (if bytes_eq name (codes "check") then option_map Command.check (check_line words) else None))
 
 abbrev after_normal : List ℕ → List (List ℕ) → Option Command
-after_normal name words = if bytes_eq name (codes "selftest") then option_map Command.selftest (selftest_line words) else None
+after_normal name words =
+    if bytes_eq name (codes "selftest") then option_map Command.selftest (selftest_line words) else
+    (if bytes_eq name (codes "check") then option_map Command.check (check_line words) else None)
+
+abbrev after_selftest : List ℕ → List (List ℕ) → Option Command
+after_selftest name words = if bytes_eq name (codes "check") then option_map Command.check (check_line words) else None
 
 other_than_reduce : (name : List ℕ) (words : List (List ℕ)) → bytes_eq name (codes "reduce") ≡ false → after_reduce name words ≡ command_of name words
 other_than_reduce name words no_reduce = sym (ap (λ (b : Bool). if b then option_map Command.reduce (reduce_line words) else after_reduce name words) no_reduce)
 
 other_than_normal : (name : List ℕ) (words : List (List ℕ)) → bytes_eq name (codes "normal") ≡ false → after_normal name words ≡ after_reduce name words
 other_than_normal name words no_normal = sym (ap (λ (b : Bool). if b then option_map Command.normal (normal_line words) else after_normal name words) no_normal)
+
+-- the name is none of these three
+abbrev pub IsOther : List ℕ → Type 0
+IsOther name = (bytes_eq name (codes "reduce") ≡ false) × (bytes_eq name (codes "normal") ≡ false) × (bytes_eq name (codes "selftest") ≡ false)
+
+other_than_these : (name : List ℕ) (words : List (List ℕ)) → IsOther name → after_selftest name words ≡ command_of name words
+other_than_these name words other =
+    sym (ap (λ (b : Bool). if b then option_map Command.selftest (selftest_line words) else after_selftest name words) other.2)
+    ∙ other_than_normal name words other.1 ∙ other_than_reduce name words other.0
 
 pub reduce_asked : (name : List ℕ) (words : List (List ℕ)) (line : Option ReduceOptions) → bytes_eq name (codes "reduce") ≡ true → line ≡ reduce_line words
     → option_map Command.reduce line ≡ command_of name words
@@ -353,14 +452,19 @@ pub selftest_asked : (name : List ℕ) (words : List (List ℕ)) (line : Option 
     → bytes_eq name (codes "normal") ≡ false
     → bytes_eq name (codes "selftest") ≡ true → line ≡ selftest_line words → option_map Command.selftest line ≡ command_of name words
 selftest_asked name words line no_reduce no_normal is line_is =
-    ap (option_map Command.selftest) line_is ∙ sym (ap (λ (b : Bool). if b then option_map Command.selftest (selftest_line words) else None) is)
+    ap (option_map Command.selftest) line_is
+    ∙ sym (ap (λ (b : Bool). if b then option_map Command.selftest (selftest_line words) else after_selftest name words) is)
     ∙ other_than_normal name words no_normal ∙ other_than_reduce name words no_reduce
 
-pub nothing_asked : (name : List ℕ) (words : List (List ℕ)) → bytes_eq name (codes "reduce") ≡ false → bytes_eq name (codes "normal") ≡ false
-    → bytes_eq name (codes "selftest") ≡ false → None ≡ command_of name words
-nothing_asked name words no_reduce no_normal no_selftest =
-    sym (ap (λ (b : Bool). if b then option_map Command.selftest (selftest_line words) else None) no_selftest) ∙ other_than_normal name words no_normal
-    ∙ other_than_reduce name words no_reduce
+pub check_asked : (name : List ℕ) (words : List (List ℕ)) (line : Option CheckOptions) → IsOther name → bytes_eq name (codes "check") ≡ true
+    → line ≡ check_line words → option_map Command.check line ≡ command_of name words
+check_asked name words line other is line_is =
+    ap (option_map Command.check) line_is ∙ sym (ap (λ (b : Bool). if b then option_map Command.check (check_line words) else None) is)
+    ∙ other_than_these name words other
+
+pub nothing_asked : (name : List ℕ) (words : List (List ℕ)) → IsOther name → bytes_eq name (codes "check") ≡ false → None ≡ command_of name words
+nothing_asked name words other no_check =
+    sym (ap (λ (b : Bool). if b then option_map Command.check (check_line words) else None) no_check) ∙ other_than_these name words other
 
 -- ---- the words
 

@@ -6,13 +6,14 @@ use Rattle.clap.specs.Words.{first_value, found_of, matched_of, raw_values}
 use Rattle.clap.specs.declared.parser.matches.ArgMatches.{ArgMatches}
 use Rattle.clap.specs.declared.parser.matches.MatchedArg.{MatchedArg}
 use Rattle.command_words.specs.Options.{OptionRow, Use, Values, takes_value, values_for}
-use Rattle.command_words.specs.Tables.{optional, reduce_table, tree_modes}
+use Rattle.command_words.specs.Tables.{optional, tree_modes}
 use Rattle.command_words.specs.Commands.{GrammarSource, ModeOptions, is_given, lines_options, named_grammar, says_grammar}
 use Rattle.command_words.specs.Commands.{text_of, tree_mode_named, trees_options, value_of, value_or}
-use Rattle.command_words.specs.inner.Found.{HasFound, fitting_mode, names_files}
+use Rattle.command_words.specs.inner.Found.{HasFound, HasModeOptions, fitting_mode, names_files}
 use Rattle.command_words.specs.inner.Read.{flag_text, NamesValue, where_some}
 use Rattle.reduce_step.specs.declared.mode.TreeMode.{TreeMode}
-use Rattle.command_words.proofs.FoundValues.{given_none, given_some, mode_default, mode_of_lines, mode_of_trees, mode_unknown}
+use Rattle.command_words.proofs.FoundValues.{given_none, given_some, mode_default, mode_of_lines, mode_of_trees, mode_unknown, named_by}
+use Rattle.command_words.proofs.FoundValues.{value_in}
 
 -- ---- the first value
 
@@ -72,23 +73,24 @@ third_false false b c is = refl
 all_true : (a b c : Bool) → a ≡ true → b ≡ true → c ≡ true → (a && (b && c)) ≡ true
 all_true a b c a_is b_is c_is = rw (a_is, b_is, c_is) refl
 
-pub no_input : (uses : List Use) → value_of (codes "input") uses ≡ None → names_files uses ≡ false
-no_input uses none = first_false _ (is_given (codes "output") uses) (is_given (codes "script") uses) (given_none (codes "input") uses none)
+pub no_input : (third : List ℕ) (uses : List Use) → value_of (codes "input") uses ≡ None → names_files third uses ≡ false
+no_input third uses none = first_false _ (is_given (codes "output") uses) (is_given third uses) (given_none (codes "input") uses none)
 
-pub no_output : (uses : List Use) → value_of (codes "output") uses ≡ None → names_files uses ≡ false
-no_output uses none = second_false (is_given (codes "input") uses) _ (is_given (codes "script") uses) (given_none (codes "output") uses none)
+pub no_output : (third : List ℕ) (uses : List Use) → value_of (codes "output") uses ≡ None → names_files third uses ≡ false
+no_output third uses none = second_false (is_given (codes "input") uses) _ (is_given third uses) (given_none (codes "output") uses none)
 
-pub no_script : (uses : List Use) → value_of (codes "script") uses ≡ None → names_files uses ≡ false
-no_script uses none = third_false (is_given (codes "input") uses) (is_given (codes "output") uses) _ (given_none (codes "script") uses none)
+pub no_third : (third : List ℕ) (uses : List Use) → value_of third uses ≡ None → names_files third uses ≡ false
+no_third third uses none = third_false (is_given (codes "input") uses) (is_given (codes "output") uses) _ (given_none third uses none)
 
-pub these_files : (uses : List Use) (input output script : List ℕ) → value_of (codes "input") uses ≡ Some input → value_of (codes "output") uses ≡ Some output
-    → value_of (codes "script") uses ≡ Some script
-    → (names_files uses ≡ true) × (input ≡ text_of (codes "input") uses) × (output ≡ text_of (codes "output") uses) × (script ≡ text_of (codes "script") uses)
-these_files uses input output script input_is output_is script_is =
+pub these_files : (third : List ℕ) (uses : List Use) (input output file : List ℕ) → value_of (codes "input") uses ≡ Some input
+    → value_of (codes "output") uses ≡ Some output
+    → value_of third uses ≡ Some file
+    → (names_files third uses ≡ true) × (input ≡ text_of (codes "input") uses) × (output ≡ text_of (codes "output") uses) × (file ≡ text_of third uses)
+these_files third uses input output file input_is output_is file_is =
     let i = given_some (codes "input") input uses input_is in
     let o = given_some (codes "output") output uses output_is in
-    let s = given_some (codes "script") script uses script_is in
-    (all_true _ _ _ i.0 o.0 s.0, sym i.1, sym o.1, sym s.1)
+    let f = given_some third file uses file_is in
+    (all_true _ _ _ i.0 o.0 f.0, sym i.1, sym o.1, sym f.1)
 
 -- ---- a grammar
 
@@ -122,8 +124,12 @@ abbrev mode_text : List Use → List ℕ
 mode_text = value_or (codes "perses") (codes "mode")
 
 -- the mode is given once at most
-pub mode_once : (uses : List Use) (m : ArgMatches) → HasFound reduce_table uses m → length (values_for (codes "mode") uses) ≤ 1
-mode_once uses m has = has.once (optional (codes "mode") (Values.one_of (codes "lines" ∷ tree_modes))) refl refl
+pub mode_once : (table : List OptionRow) (uses : List Use) (m : ArgMatches) → HasModeOptions table → HasFound table uses m
+    → length (values_for (codes "mode") uses) ≤ 1
+mode_once table uses m chooses has = has.once (optional (codes "mode") (Values.one_of (codes "lines" ∷ tree_modes))) chooses.mode refl
+
+pub mode_named : (table : List OptionRow) → HasModeOptions table → NamesValue table (codes "mode")
+mode_named table chooses = named_by table (codes "mode") (ap value_in chooses.mode)
 
 pub lines_mode : (uses : List Use) → length (values_for (codes "mode") uses) ≤ 1 → bytes_eq (mode_text uses) (codes "lines") ≡ true
     → lines_options uses ≡ fitting_mode uses

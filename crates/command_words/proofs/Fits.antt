@@ -4,7 +4,7 @@ use Rattle.std.proofs.Common.{ap, subst, cond, is_some, slice_get, codes, arith,
 use Rattle.std.specs.List.{list_all}
 use Rattle.std.proofs.lemmas.Bool.{and_parts}
 use Rattle.command_words.specs.Options.{OptionRow, Use, Values, fits_row, fits_table, has_value, takes_value, values_for}
-use Rattle.command_words.specs.Tables.{any_lines, normal_table, optional, reduce_table, required, selftest_table, tree_modes}
+use Rattle.command_words.specs.Tables.{any_lines, check_table, normal_table, optional, reduce_table, required, selftest_table, tree_modes}
 use Rattle.command_words.specs.Commands.{is_given}
 use Rattle.command_words.specs.inner.Found.{names_files, values_fit}
 use Rattle.command_words.specs.inner.Read.{IsOnce, is_several, takes_of}
@@ -82,7 +82,7 @@ reduce_conjuncts a b c e g j m n o a' b' c' d l e' f g' h i j' k m' n' o' a_is b
 -- the options of `reduce` fit: the files are named, the mode and the number of workers are such, there are not too many keep texts, and what must stay is such
 pub reduce_fits : (uses : List Use) → IsOnce reduce_table uses
     → fits_table reduce_table uses
-    ≡ (names_files uses
+    ≡ (names_files (codes "script") uses
     && (values_fit (Values.one_of (codes "lines" ∷ tree_modes)) (codes "mode") uses &&
     (values_fit (Values.number 1 16) (codes "jobs") uses && (nat_le (length (values_for (codes "keep") uses)) 8
     && ((nat_le (length (values_for (codes "protect") uses)) 8 && values_fit any_lines (codes "protect") uses)
@@ -130,6 +130,36 @@ selftest_fits uses once =
     (required_values_fit (Values.number 0 4294967295) (g (codes "number")) (once (required (codes "number") (Values.number 0 4294967295)) refl refl))
     (required_values_fit (Values.number 1 1500) (g (codes "size")) (once (required (codes "size") (Values.number 1 1500)) refl refl))
     (optional_values_fit (Values.one_of tree_modes) (g (codes "mode")) (once (optional (codes "mode") (Values.one_of tree_modes)) refl refl))
+
+check_conjuncts : (a b c d e f g h i a' b' c' f' h' : Bool) → a ≡ a' → b ≡ b' → c ≡ c' → d ≡ true → e ≡ true → f ≡ f' → g ≡ true → h ≡ h' → i ≡ true
+    → (a && (b && (c && (d && (e && (f && (g && (h && (i && true))))))))) ≡ ((a' && (b' && c')) && (f' && h'))
+check_conjuncts a b c d e f g h i a' b' c' f' h' a_is b_is c_is d_is e_is f_is g_is h_is i_is =
+    rw (a_is, b_is, c_is, d_is, e_is, f_is, g_is, h_is, i_is) (regroup a' b' c' f' h')
+  where
+    regroup : (a b c f h : Bool) → (a && (b && (c && (true && (true && (f && (true && (h && (true && true))))))))) ≡ ((a && (b && c)) && (f && h))
+    regroup false b c f h = refl
+    regroup true false c f h = refl
+    regroup true true false f h = refl
+    regroup true true true f h = ap (λ (x : Bool). f && x) (and_true h)
+
+-- the options of `check` fit: the files are named, the mode is such, and there are not too many keep texts
+pub check_fits : (uses : List Use) → IsOnce check_table uses
+    → fits_table check_table uses
+    ≡ (names_files (codes "journal") uses
+    && (values_fit (Values.one_of (codes "lines" ∷ tree_modes)) (codes "mode") uses && nat_le (length (values_for (codes "keep") uses)) 8))
+check_fits uses once =
+    let g : List ℕ → List (List ℕ) = λ name. values_for name uses in
+    check_conjuncts _ _ _ _ _ _ _ _ _ _ _ _ _ _
+    (required_fits (g (codes "input")) (once (required (codes "input") Values.any_text) refl refl))
+    (required_fits (g (codes "output")) (once (required (codes "output") Values.any_text) refl refl))
+    (required_fits (g (codes "journal")) (once (required (codes "journal") Values.any_text) refl refl))
+    (optional_fits (g (codes "grammar")) (once (optional (codes "grammar") Values.any_text) refl refl))
+    (optional_fits (g (codes "lexer")) (once (optional (codes "lexer") Values.any_text) refl refl))
+    (optional_values_fit (Values.one_of (codes "lines" ∷ tree_modes)) (g (codes "mode"))
+    (once (optional (codes "mode") (Values.one_of (codes "lines" ∷ tree_modes))) refl refl))
+    (optional_fits (g (codes "start")) (once (optional (codes "start") Values.any_text) refl refl))
+    (keeps_fit (g (codes "keep")))
+    (flag_fits (g (codes "squeeze")) (once (optional (codes "squeeze") Values.no_value) refl refl))
 
 -- ---- where all options fit, none is there twice that may be there once
 

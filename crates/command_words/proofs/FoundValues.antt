@@ -14,7 +14,7 @@ use Rattle.reduce_step.specs.declared.mode.TreeMode.TheVariants.{Perses}
 use Rattle.command_words.proofs.Texts.{both_answers, text_equal, text_same}
 
 -- the option that this row is has a value, where a table has it
-abbrev value_in : Option OptionRow → Bool
+abbrev pub value_in : Option OptionRow → Bool
 value_in None = true
 value_in (Some row) = has_value row.values
 

@@ -4,7 +4,7 @@ use Rattle.std.specs.Prelude.{is_some, map, option_and_then, option_map, slice_g
 use Rattle.std.specs.Str.{bytes_eq}
 use Rattle.std.specs.Str.Parse.{digits_value}
 use Rattle.command_words.specs.Options.{LineSpan, Use, options_in, span_of, values_for}
-use Rattle.command_words.specs.Tables.{normal_table, reduce_table, selftest_table}
+use Rattle.command_words.specs.Tables.{check_table, normal_table, reduce_table, selftest_table}
 use Rattle.reduce_step.specs.declared.mode.TreeMode.{TreeMode}
 use Rattle.reduce_step.specs.declared.mode.TreeMode.TheVariants.{Hdd, Perses}
 
@@ -50,11 +50,22 @@ pub record SelftestOptions : Type 0 where
   pub size : ℕ
   pub mode : TreeMode
 
--- what a command line asks for: a file is reduced, the normal form of a grammar is printed, or a generated program is reduced in memory
+-- what a command line of `check` gives: the mode; the paths of the input, of the file that is taken for
+-- the result, and of the run's journal; and the keep texts
+pub record CheckOptions : Type 0 where
+  pub mode : ModeOptions
+  pub input : List ℕ
+  pub output : List ℕ
+  pub journal : List ℕ
+  pub keeps : List (List ℕ)
+
+-- what a command line asks for: a file is reduced, the normal form of a grammar is printed, a generated
+-- program is reduced in memory, or a finished run is checked from its files
 pub data Command : Type 0 where
   reduce : ReduceOptions → Command
   normal : GrammarSource → Command
   selftest : SelftestOptions → Command
+  check : CheckOptions → Command
 
 -- the first value that is given for an option
 abbrev pub value_of : List ℕ → List Use → Option (List ℕ)
@@ -136,7 +147,20 @@ reduce_of uses = option_map (reduction_in uses) (mode_options uses)
 abbrev pub selftest_of : List Use → SelftestOptions
 selftest_of uses = record { number = number_of (codes "number") uses; size = number_of (codes "size") uses; mode = tree_mode_of uses }
 
--- what the words after `reduce`, after `normal` and after `selftest` ask for
+-- a check of a run in this mode
+abbrev pub check_in : List Use → ModeOptions → CheckOptions
+check_in uses mode = record {
+  mode = mode;
+  input = text_of (codes "input") uses;
+  output = text_of (codes "output") uses;
+  journal = text_of (codes "journal") uses;
+  keeps = values_for (codes "keep") uses;
+}
+
+abbrev pub check_of : List Use → Option CheckOptions
+check_of uses = option_map (check_in uses) (mode_options uses)
+
+-- what the words after `reduce`, after `normal`, after `selftest` and after `check` ask for
 abbrev pub reduce_line : List (List ℕ) → Option ReduceOptions
 reduce_line words = option_and_then reduce_of (options_in reduce_table words)
 
@@ -146,12 +170,16 @@ normal_line words = option_and_then named_grammar (options_in normal_table words
 abbrev pub selftest_line : List (List ℕ) → Option SelftestOptions
 selftest_line words = option_map selftest_of (options_in selftest_table words)
 
+abbrev pub check_line : List (List ℕ) → Option CheckOptions
+check_line words = option_and_then check_of (options_in check_table words)
+
 -- the words after the name of a command
 abbrev pub command_of : List ℕ → List (List ℕ) → Option Command
 command_of name words =
     if bytes_eq name (codes "reduce") then option_map Command.reduce (reduce_line words)
     else (if bytes_eq name (codes "normal") then option_map Command.normal (normal_line words)
-    else (if bytes_eq name (codes "selftest") then option_map Command.selftest (selftest_line words) else None))
+    else (if bytes_eq name (codes "selftest") then option_map Command.selftest (selftest_line words)
+    else (if bytes_eq name (codes "check") then option_map Command.check (check_line words) else None)))
 
 -- What the words ask for, where they are a command line: the program's name, which isn't looked at, the name of a command, and its options.
 abbrev pub command_line_of : List (List ℕ) → Option Command

@@ -1,7 +1,8 @@
 -- What is asked for by the command line that was read.
 use Rattle.std.specs.Prelude.{ℕ, ◌≤◌, ◌++◌, List, codes, map, option_map, unwrap_or}
 use Rattle.command_words.specs.Options.{LineSpan}
-use Rattle.command_words.specs.Commands.{Command, GrammarSource, ModeOptions, ProtectOptions, ReduceOptions, SelftestOptions}
+use Rattle.command_words.specs.Commands.{CheckOptions, Command, GrammarSource, ModeOptions, ProtectOptions, ReduceOptions, SelftestOptions}
+use Rattle.command_words.specs.declared.commands.CheckLine.{CheckLine}
 use Rattle.command_words.specs.declared.commands.CommandLine.{CommandLine}
 use Rattle.command_words.specs.declared.commands.CommandLine.TheVariants as read
 use Rattle.command_words.specs.declared.commands.ModeLine.{ModeLine}
@@ -50,13 +51,24 @@ reduce_read line = record {
 abbrev pub selftest_read : SelftestLine → SelftestOptions
 selftest_read line = record { number = line.number; size = line.size; mode = line.mode }
 
+abbrev pub check_read : CheckLine → CheckOptions
+check_read line = record {
+  mode = mode_of line.mode;
+  input = line.input.now;
+  output = line.output.now;
+  journal = line.journal.now;
+  keeps = map (λ keep. keep.now) line.keeps.items;
+}
+
 abbrev pub command_read : CommandLine → Command
 command_read (read.Reduce line) = Command.reduce (reduce_read line)
 command_read (read.Normal line) = Command.normal (grammar_read line)
 command_read (read.Selftest line) = Command.selftest (selftest_read line)
+command_read (read.Check line) = Command.check (check_read line)
 
 -- there are 1 to 16 workers, and the size of a program is from 1 to 1500
 abbrev pub IsSized : CommandLine → Type 0
 IsSized (read.Reduce line) = (1 ≤ line.jobs) × (line.jobs ≤ 16)
 IsSized (read.Normal line) = Unit {0}
 IsSized (read.Selftest line) = (1 ≤ line.size) × (line.size ≤ 1500)
+IsSized (read.Check line) = Unit {0}

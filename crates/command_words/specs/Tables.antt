@@ -42,6 +42,20 @@ reduce_table =
     ∷ (optional (codes "only") any_lines
     ∷ []))))))))))))))
 
+-- the files of a run are named, and the mode and the keep texts are said as for `reduce`
+abbrev pub check_table : List OptionRow
+check_table =
+    required (codes "input") Values.any_text
+    ∷ (required (codes "output") Values.any_text
+    ∷ (required (codes "journal") Values.any_text
+    ∷ (optional (codes "grammar") Values.any_text
+    ∷ (optional (codes "lexer") Values.any_text
+    ∷ (optional (codes "mode") (Values.one_of (codes "lines" ∷ tree_modes))
+    ∷ (optional (codes "start") Values.any_text
+    ∷ (repeated 8 (codes "keep") Values.any_text
+    ∷ (optional (codes "squeeze") Values.no_value
+    ∷ []))))))))
+
 abbrev pub normal_table : List OptionRow
 normal_table =
     required (codes "grammar") Values.any_text

@@ -1,7 +1,7 @@
 -- Worked command lines: what each gives, and words that are none.
 use Rattle.std.specs.Prelude.{◌≡◌, ℕ, ◌==◌, Bool, true, false, List, [], ◌∷◌, ◌++◌, Option, Some, None, if◌then◌else◌, codes, is_none}
 use Rattle.std.specs.List.{list_all}
-use Rattle.command_words.specs.Commands.{Command, ModeOptions, ReduceOptions, command_line_of}
+use Rattle.command_words.specs.Commands.{CheckOptions, Command, ModeOptions, ReduceOptions, command_line_of}
 use Rattle.reduce_step.specs.declared.mode.TreeMode.TheVariants.{Hdd, Perses}
 
 -- a byte before the first word
@@ -61,6 +61,14 @@ with_all = record {
   };
 }
 
+-- a check of the run that reduced the file `i` to the file `o` with the journal `j`
+abbrev pub check_of_run : ModeOptions → List (List ℕ) → CheckOptions
+check_of_run mode keeps = record { mode = mode; input = codes "i"; output = codes "o"; journal = codes "j"; keeps = keeps }
+
+-- the words of a check of that run, and others after them
+abbrev pub after_check : List ℕ → List ℕ
+after_check more = codes "perses check --input i --output o" ++ more
+
 -- the words of mode `lines`, and others after them
 abbrev pub after_lines : List ℕ → List ℕ
 after_lines more = codes "perses reduce --mode lines --input i --output o --script s" ++ more
@@ -96,6 +104,11 @@ refused_lines =
     ∷ after_lines (codes " --protect-text -a")
     ∷ after_lines (codes " --")
     ∷ after_lines (codes " --keep 1 --keep 2 --keep 3 --keep 4 --keep 5 --keep 6 --keep 7 --keep 8 --keep 9")
+    ∷ after_check (codes " --grammar g")
+    ∷ after_check (codes " --grammar g --journal j --script s")
+    ∷ after_check (codes " --grammar g --journal j --journal j")
+    ∷ after_check (codes " --mode lines --grammar g --journal j")
+    ∷ after_check (codes " --journal j")
     ∷ []
 
 pub record WorkedLines : Type 0 where
@@ -114,3 +127,6 @@ pub record WorkedLines : Type 0 where
       (codes "p reduce --squeeze --keep a=b --mode=hdd --start r --journal j --work w --jobs=16 --keep=c --lexer l --protect 1-4294967295"
       ++ codes " --protect-text=2-1 --only 3-20 --protect=7-7 --grammar g --input i --output o --script s")
       ≡ Some (Command.reduce with_all)
+  pub check : asked (after_check (codes " --mode lines --journal j")) ≡ Some (Command.check (check_of_run ModeOptions.lines []))
+  pub check_all : asked (after_check (codes " --squeeze --keep a --mode=hdd --start r --journal=j --keep=b --lexer l --grammar g"))
+      ≡ Some (Command.check (check_of_run with_all.mode (codes "a" ∷ codes "b" ∷ [])))

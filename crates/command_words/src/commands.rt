@@ -85,6 +85,21 @@ pub struct SelftestLine {
     pub mode: TreeMode,
 }
 
+/// What a command line of `check` gives.
+#[derive(Debug, Drop)]
+pub struct CheckLine<'a> {
+    /// Which states were tried.
+    pub mode: ModeLine<'a>,
+    /// The file that was reduced.
+    pub input: &'a str,
+    /// The file that is taken for the result.
+    pub output: &'a str,
+    /// The run's journal.
+    pub journal: &'a str,
+    /// The texts that each candidate must hold, in their order.
+    pub keeps: Vec<&'a str>,
+}
+
 /// What a command line asks for.
 #[derive(Debug, Drop)]
 pub enum CommandLine<'a> {
@@ -94,4 +109,6 @@ pub enum CommandLine<'a> {
     Normal(NamedGrammar<'a>),
     /// `selftest`: a generated program is reduced in memory.
     Selftest(SelftestLine),
+    /// `check`: a finished run is checked from its files.
+    Check(CheckLine<'a>),
 }

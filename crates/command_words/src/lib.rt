@@ -6,9 +6,11 @@
 //! `specs/Worked.antt`. The options are read by `clap`, as one command without subcommands.
 #![tactic(auto)]
 
+mod check;
 mod commands;
 mod grammar;
 mod laws;
+mod mode;
 mod normal;
 mod options;
 mod protects;
@@ -18,7 +20,7 @@ mod values;
 mod words;
 
 pub use commands::{
-    CommandLine, GrammarLine, LineSpan, ModeLine, NamedGrammar, ProtectLine, ReduceLine,
+    CheckLine, CommandLine, GrammarLine, LineSpan, ModeLine, NamedGrammar, ProtectLine, ReduceLine,
     SelftestLine,
 };
 pub use faults::Memory;

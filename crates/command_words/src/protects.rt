@@ -1,7 +1,7 @@
 //! Which lines must stay, as options say it.
 
 ghost use Rattle.std.specs.Prelude.{◌≡◌, List, IfOk, map, option_map};
-ghost use Rattle.command_words.specs.Options.{Use};
+ghost use Rattle.command_words.specs.Options.{OptionRow, Use};
 ghost use Rattle.command_words.specs.Tables.{reduce_table};
 ghost use Rattle.command_words.specs.inner.Found.{HasFound, fitting_only, fitting_protects, fitting_spans, fitting_texts};
 ghost use Rattle.command_words.specs.inner.Read.{NamesValue};
@@ -22,7 +22,7 @@ pub(crate) fn texts_of<'a>(
     matches: &ArgMatches<'a>,
     name: &str,
 ) -> Result<Option<Vec<&'a str>>, Memory>
-    ensures { (uses : List Use) → HasFound reduce_table uses matches.now → NamesValue reduce_table name.now
+    ensures { (table : List OptionRow) (uses : List Use) → HasFound table uses matches.now → NamesValue table name.now
         → IfOk result (λ texts. option_map (λ texts. map (λ text. text.now) texts.items) texts ≡ fitting_texts name.now uses) }
 {
     match matches.get_strs(name) {

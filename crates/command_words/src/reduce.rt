@@ -1,20 +1,19 @@
 //! Command lines of `reduce`.
 
 ghost use Rattle.std.specs.Prelude.{◌≡◌, List, IfOk, MatchOption, codes, false, map, option_and_then, option_map, string_bytes, true, IfSome, ◌≤◌};
-ghost use Rattle.command_words.specs.Options.{Use, Values, takes_value, where_fits};
-ghost use Rattle.command_words.specs.Tables.{reduce_table, tree_modes};
-ghost use Rattle.command_words.specs.inner.Found.{HasFound, fitting_jobs, fitting_mode, line_with, names_files};
-ghost use Rattle.command_words.specs.Commands.{lines_options, names_grammar, reduce_line, reduce_of, says_grammar, text_of, tree_mode_named, trees_options};
-ghost use Rattle.command_words.specs.Lines.{journal_of, mode_of, protects_read, reduce_read};
+ghost use Rattle.command_words.specs.Options.{Use, where_fits};
+ghost use Rattle.command_words.specs.Tables.{reduce_table};
+ghost use Rattle.command_words.specs.inner.Found.{HasFound, fitting_jobs, line_with, names_files};
+ghost use Rattle.command_words.specs.Commands.{reduce_line, reduce_of, text_of};
+ghost use Rattle.command_words.specs.Lines.{journal_of, protects_read, reduce_read};
 
-use crate::commands::{GrammarLine, ModeLine, ProtectLine, ReduceLine};
-use crate::grammar::grammar_of;
+use crate::commands::{ProtectLine, ReduceLine};
+use crate::mode::mode_of;
 use crate::options::{ClapOption, Takes, read_options};
 use crate::protects::{protects_of, texts_of};
 use crate::values::read_number;
 use clap::ArgMatches;
 use faults::Memory;
-use reduce_step::TreeMode;
 use std::alloc::Global;
 
 /// The options of `reduce`.
@@ -154,9 +153,9 @@ struct Files<'a> {
 /// The files that must be named, where they are.
 fn files_of<'a>(matches: &ArgMatches<'a>) -> Option<Files<'a>>
     ensures { (uses : List Use) → HasFound reduce_table uses matches.now → MatchOption result
-        (names_files uses ≡ false)
-        (λ files. (names_files uses ≡ true) × (files.input.now ≡ text_of (codes "input") uses) × (files.output.now ≡ text_of (codes "output") uses)
-        × (files.script.now ≡ text_of (codes "script") uses)) }
+        (names_files (codes "script") uses ≡ false)
+        (λ files. (names_files (codes "script") uses ≡ true) × (files.input.now ≡ text_of (codes "input") uses)
+        × (files.output.now ≡ text_of (codes "output") uses) × (files.script.now ≡ text_of (codes "script") uses)) }
 {
     let input = matches.get_str("input")?;
     let output = matches.get_str("output")?;
@@ -166,71 +165,6 @@ fn files_of<'a>(matches: &ArgMatches<'a>) -> Option<Files<'a>>
         output,
         script,
     })
-}
-
-/// The mode, with what belongs to it.
-fn mode_of<'a>(matches: &ArgMatches<'a>) -> Option<ModeLine<'a>>
-    ensures { (uses : List Use) → HasFound reduce_table uses matches.now → option_map mode_of result ≡ fitting_mode uses }
-{
-    let mode = matches.get_str("mode").unwrap_or("perses");
-    if mode == "lines" {
-        lines_of(matches)
-    } else {
-        let mode = tree_mode_of(mode)?;
-        trees_of(matches, mode)
-    }
-}
-
-/// Mode `lines`, where nothing is said of a grammar.
-fn lines_of<'a>(matches: &ArgMatches<'a>) -> Option<ModeLine<'a>>
-    ensures { (uses : List Use) → HasFound reduce_table uses matches.now → option_map mode_of result ≡ lines_options uses }
-{
-    if says_grammar(matches) {
-        None
-    } else {
-        Some(ModeLine::Lines)
-    }
-}
-
-/// Whether a file of a grammar is named.
-fn names_grammar(matches: &ArgMatches<'_>) -> bool
-    ensures { (uses : List Use) → HasFound reduce_table uses matches.now → result ≡ names_grammar uses }
-{
-    matches.contains_id("grammar") || matches.contains_id("lexer")
-}
-
-/// Whether something is said of a grammar.
-fn says_grammar(matches: &ArgMatches<'_>) -> bool
-    ensures { (uses : List Use) → HasFound reduce_table uses matches.now → result ≡ says_grammar uses }
-{
-    names_grammar(matches) || matches.contains_id("start") || matches.get_flag("squeeze")
-}
-
-/// A reduction by a grammar, where there is one.
-fn trees_of<'a>(matches: &ArgMatches<'a>, mode: TreeMode) -> Option<ModeLine<'a>>
-    ensures { (uses : List Use) → HasFound reduce_table uses matches.now → option_map mode_of result ≡ trees_options mode uses }
-{
-    let grammar = grammar_of(matches)?;
-    Some(ModeLine::ByGrammar(GrammarLine {
-        grammar,
-        mode,
-        squeeze: matches.get_flag("squeeze"),
-    }))
-}
-
-/// The mode of this name.
-pub(crate) fn tree_mode_of(name: &str) -> Option<TreeMode>
-    ensures { MatchOption result
-        (takes_value (Values.one_of tree_modes) name.now ≡ false)
-        (λ mode. (takes_value (Values.one_of tree_modes) name.now ≡ true) × (mode ≡ tree_mode_named name.now)) }
-{
-    if name == "perses" {
-        Some(TreeMode::Perses)
-    } else if name == "hdd" {
-        Some(TreeMode::Hdd)
-    } else {
-        None
-    }
 }
 
 /// How many workers there are.

@@ -9,8 +9,8 @@ ghost use Rattle.command_words.specs.inner.Read.{NamesValue};
 ghost use Rattle.command_words.specs.Lines.{selftest_read};
 
 use crate::commands::SelftestLine;
+use crate::mode::tree_mode_of;
 use crate::options::{ClapOption, Takes, read_options};
-use crate::reduce::tree_mode_of;
 use crate::values::read_number;
 use clap::ArgMatches;
 use faults::Memory;

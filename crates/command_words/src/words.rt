@@ -4,6 +4,7 @@ ghost use Rattle.std.specs.Prelude.{◌≡◌, IfOk, IfSome, map, option_map, st
 ghost use Rattle.command_words.specs.Commands.{command_line_of, command_of};
 ghost use Rattle.command_words.specs.Lines.{IsSized, command_read};
 
+use crate::check::read_check;
 use crate::commands::CommandLine;
 use crate::normal::read_normal;
 use crate::reduce::read_reduce;
@@ -46,6 +47,11 @@ fn read_command<'a>(
         match read_selftest(alloc, words)? {
             None => Ok(None),
             Some(line) => Ok(Some(CommandLine::Selftest(line))),
+        }
+    } else if name == "check" {
+        match read_check(alloc, words)? {
+            None => Ok(None),
+            Some(line) => Ok(Some(CommandLine::Check(line))),
         }
     } else {
         Ok(None)

@@ -1,12 +1,12 @@
 //! What is said at the end, by status.
 
-use crate::files::{add_failure, add_too_long};
+use crate::files::{add_failure, add_run_too_long, add_too_long};
 use crate::grammar::GrammarFiles;
 use crate::input::{add_no_parse, add_no_tokens};
 use crate::quote::Quoted;
 use crate::script::{LastAsk, add_fault, add_no};
 use crate::text_file::TextFile;
-use command_words::{CommandLine, ModeLine, NamedGrammar, ReduceLine};
+use command_words::{CheckLine, CommandLine, ModeLine, NamedGrammar, ReduceLine};
 use memchr::memmem;
 use notice_counts::{Snapshot, TimeText, milliseconds_in};
 use std::alloc::{AllocError, Global};
@@ -45,20 +45,28 @@ pub struct Ending<'a> {
     pub lexer: Option<&'a [u8]>,
     /// The bytes of the input, where they were read.
     pub input: Option<&'a [u8]>,
+    /// The bytes of the result that is checked, where they were read.
+    pub result: Option<&'a [u8]>,
     /// The last ask of a worker whose script failed, or else that was asked.
     pub ask: Option<LastAsk<'a>>,
     /// The columns of the terminal.
     pub width: usize,
 }
 
+/// The grammar of a mode.
+fn grammar_in<'a>(mode: ModeLine<'a>) -> Option<NamedGrammar<'a>> {
+    match mode {
+        ModeLine::ByGrammar(by) => Some(by.grammar),
+        ModeLine::Lines => None,
+    }
+}
+
 /// The grammar that a command line names.
 fn grammar_of<'a>(line: &CommandLine<'a>) -> Option<NamedGrammar<'a>> {
     match line {
         CommandLine::Normal(grammar) => Some(*grammar),
-        CommandLine::Reduce(line) => match line.mode {
-            ModeLine::ByGrammar(by) => Some(by.grammar),
-            ModeLine::Lines => None,
-        },
+        CommandLine::Reduce(line) => grammar_in(line.mode),
+        CommandLine::Check(line) => grammar_in(line.mode),
         CommandLine::Selftest(_) => None,
     }
 }
@@ -75,11 +83,21 @@ fn unread_grammar<'a>(ending: &Ending<'a>) -> Option<&'a str> {
     }
 }
 
+/// The file of a run that couldn't be read: the input is read first, then the result, then the journal.
+fn unread_of_run<'a>(ending: &Ending<'a>, line: &CheckLine<'a>) -> &'a str {
+    match (ending.input, ending.result) {
+        (None, _) => line.input,
+        (Some(_), None) => line.output,
+        (Some(_), Some(_)) => line.journal,
+    }
+}
+
 /// The file that couldn't be read: the grammar is read first, and its lexer next.
 fn unread<'a>(ending: &Ending<'a>) -> &'a str {
     match (unread_grammar(ending), ending.line) {
         (Some(path), _) => path,
         (None, CommandLine::Reduce(line)) => line.input,
+        (None, CommandLine::Check(line)) => unread_of_run(ending, line),
         _ => "the grammar",
     }
 }
@@ -92,16 +110,34 @@ fn add_unwritten(text: &mut String, ending: &Ending<'_>) -> Result<(), AllocErro
     }
 }
 
-/// The first keep text that isn't in the input.
-fn add_keep(text: &mut String, line: &ReduceLine<'_>, input: &[u8]) -> Result<(), AllocError> {
-    for keep in &line.keeps {
+/// The first keep text that isn't in the input of this name.
+fn add_keep(text: &mut String, name: &str, keeps: &[&str], input: &[u8]) -> Result<(), AllocError> {
+    for keep in keeps {
         if memmem::find(input, keep.as_bytes()).is_none() {
-            let name = line.input;
             let keep = Quoted(*keep);
             return write!(text, "perses: {name} doesn't hold {keep}\n");
         }
     }
     Ok(())
+}
+
+/// What the status says of the keep texts.
+fn add_missing(text: &mut String, ending: &Ending<'_>) -> Result<(), AllocError> {
+    match (ending.line, ending.input) {
+        (CommandLine::Reduce(line), Some(input)) => {
+            add_keep(text, line.input, &line.keeps, input)
+        }
+        (CommandLine::Check(line), Some(input)) => add_keep(text, line.input, &line.keeps, input),
+        _ => Ok(()),
+    }
+}
+
+/// The file that is too long. Once the input was read, it is of a run that is checked.
+fn add_long(text: &mut String, ending: &Ending<'_>) -> Result<(), AllocError> {
+    match (ending.line, ending.input) {
+        (CommandLine::Check(_), Some(_)) => add_run_too_long(text, unread(ending)),
+        _ => add_too_long(text, unread(ending)),
+    }
 }
 
 /// A file of this path as it was read.
@@ -126,10 +162,12 @@ fn grammar_files<'a>(ending: &Ending<'a>) -> Option<GrammarFiles<'a>> {
 
 /// The input as it was read.
 fn input_file<'a>(ending: &Ending<'a>) -> Option<TextFile<'a>> {
-    let CommandLine::Reduce(line) = ending.line else {
-        return None;
+    let path = match ending.line {
+        CommandLine::Reduce(line) => line.input,
+        CommandLine::Check(line) => line.input,
+        _ => return None,
     };
-    text_file(line.input, ending.input, ending.width)
+    text_file(path, ending.input, ending.width)
 }
 
 /// What the status says of the grammar, or of an input by it.
@@ -163,11 +201,8 @@ fn add_cause(text: &mut String, alloc: Global, ending: &Ending<'_>) -> Result<()
         4 => add_unwritten(text, ending),
         5 | 6 | 7 => add_language(text, alloc, ending),
         8 | 11 => add_script(text, ending),
-        9 => match (ending.line, ending.input) {
-            (CommandLine::Reduce(line), Some(input)) => add_keep(text, line, input),
-            _ => Ok(()),
-        },
-        10 => add_too_long(text, unread(ending)),
+        9 => add_missing(text, ending),
+        10 => add_long(text, ending),
         12 => add_failure(text, ending.journal, ending.reasons.journal),
         _ => Ok(()),
     }

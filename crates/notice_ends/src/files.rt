@@ -22,3 +22,11 @@ pub(crate) fn add_too_long(text: &mut String, name: &str) -> Result<(), AllocErr
         "perses: {name} is too long: an input has at most 262144 bytes, a grammar 1048576\n"
     )
 }
+
+/// The file of this name, of a run that is checked, has more bytes than are taken.
+pub(crate) fn add_run_too_long(text: &mut String, name: &str) -> Result<(), AllocError> {
+    write!(
+        text,
+        "perses: {name} is too long: a result has at most 1048576 bytes, a journal 1073741824\n"
+    )
+}

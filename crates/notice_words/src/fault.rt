@@ -68,7 +68,10 @@ impl fmt::Display for WordFault<'_> {
         match self {
             WordFault::Help => f.write_str("a command and its options are wanted"),
             WordFault::NoCommand { word } => {
-                write!(f, "no command '{word}': it is reduce, normal or selftest")
+                write!(
+                    f,
+                    "no command '{word}': it is reduce, normal, selftest or check"
+                )
             }
             WordFault::NoOption { command, word } => write!(f, "{command} has no option '{word}'"),
             WordFault::NoValue { option } => write!(f, "--{option} lacks its value"),

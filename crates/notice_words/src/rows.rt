@@ -28,7 +28,7 @@ pub(crate) struct Row {
     pub(crate) takes: Takes,
     /// How often it may be there.
     pub(crate) most: usize,
-    /// Whether it must be there. `--grammar` of `reduce` must be unless the mode is `lines`.
+    /// Whether it must be there. `--grammar` of `reduce` and `check` must be unless the mode is `lines`.
     pub(crate) required: bool,
 }
 
@@ -54,12 +54,17 @@ static NORMAL: [&str; 3] = ["grammar", "lexer", "start"];
 
 static SELFTEST: [&str; 3] = ["number", "size", "mode"];
 
+static CHECK: [&str; 9] = [
+    "input", "output", "journal", "grammar", "lexer", "mode", "start", "keep", "squeeze",
+];
+
 /// The names of the command's options.
 pub(crate) fn options_of(command: &str) -> Option<&'static [&'static str]> {
     match command {
         "reduce" => Some(REDUCE.as_slice()),
         "normal" => Some(NORMAL.as_slice()),
         "selftest" => Some(SELFTEST.as_slice()),
+        "check" => Some(CHECK.as_slice()),
         _ => None,
     }
 }
@@ -71,8 +76,8 @@ fn takes_of(command: &str, option: &str) -> Takes {
         "jobs" => Takes::Number(1, 16),
         "number" => Takes::Number(0, 4_294_967_295),
         "size" => Takes::Number(1, 1500),
-        "mode" if command == "reduce" => Takes::Mode,
-        "mode" => Takes::TreeMode,
+        "mode" if command == "selftest" => Takes::TreeMode,
+        "mode" => Takes::Mode,
         _ => Takes::Text,
     }
 }
@@ -89,6 +94,7 @@ fn is_required(command: &str, option: &str) -> bool {
     match option {
         "input" | "output" | "script" | "number" | "size" => true,
         "grammar" => command == "normal",
+        "journal" => command == "check",
         _ => false,
     }
 }

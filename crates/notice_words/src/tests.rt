@@ -6,12 +6,13 @@ use std::alloc::AllocError;
 #[test]
 fn names_the_word_or_the_option(rt: HostRuntime) -> Result<(), AllocError> {
     let files = "perses reduce --input i --output o --script s";
+    let run = "perses check --input i --output o --journal j";
     let rows = [
         ("perses", "a command and its options are wanted"),
         ("perses reduce -h", "a command and its options are wanted"),
         (
             "perses shrink",
-            "no command 'shrink': it is reduce, normal or selftest",
+            "no command 'shrink': it is reduce, normal, selftest or check",
         ),
         ("perses normal g", "normal has no option 'g'"),
         (
@@ -72,11 +73,32 @@ fn names_the_word_or_the_option(rt: HostRuntime) -> Result<(), AllocError> {
             "{files} --mode lines --protect 7-12 --protect=1-1 --protect-text 2-1 --only 3-3",
             "nothing",
         ),
+        ("{run}", "check lacks --grammar"),
+        ("{run} --grammar g --journal j", "--journal is there twice"),
+        (
+            "perses check --grammar g --input i --output o",
+            "check lacks --journal",
+        ),
+        (
+            "{run} --grammar g --script s",
+            "check has no option '--script'",
+        ),
+        (
+            "{run} --mode lines --grammar g",
+            "--grammar doesn't go with --mode lines",
+        ),
+        ("{run} --mode tree", "no mode 'tree'"),
+        ("{run} --mode lines --keep a --keep=b", "nothing"),
+        (
+            "{run} --grammar g --lexer l --start r --mode hdd --squeeze",
+            "nothing",
+        ),
         ("{files} --grammar g --jobs 16", "nothing"),
         ("{files} --grammar g --lexer l", "nothing"),
     ];
     for (line, wanted) in rows {
         let line = line.replace(rt.alloc(), "{files}", files)?;
+        let line = line.as_str().replace(rt.alloc(), "{run}", run)?;
         let mut words = Vec::new(rt.alloc());
         for word in line.split(' ') {
             words.push(String::from_str(rt.alloc(), word)?)?;

@@ -1,14 +1,13 @@
 /// How the program is used, in lines of at most 80 characters.
 pub const USAGE: &str = "\
-usage: perses reduce --input F --output F --script F --grammar F [option ..]
-       perses reduce --mode lines --input F --output F --script F [option ..]
+usage: perses reduce --input F --output F --script F (--grammar F|--mode lines)
+       perses check --input F --output F --journal F (--grammar F|--mode lines)
        perses normal --grammar F [--lexer F] [--start R]
        perses selftest --number N --size K [--mode M]
-Of an input that makes something fail, reduce writes what matters: the script
-gets the name of a file as its argument, and ends with 0 if that still fails.
+Of an input that makes something fail, reduce writes the part that matters.
   --input F    the file to be reduced
   --output F   where the result is written
-  --script F   the script
+  --script F   gets the name of a file, and ends with 0 if that still fails
   --grammar F  the grammar of the input, in the notation of ANTLR 4
   --lexer F    the file of its lexer rules, where it is in two
   --mode M     perses (the default), hdd (deletes alone) or lines (no grammar)
@@ -22,7 +21,8 @@ gets the name of a file as its argument, and ends with 0 if that still fails.
   --only A-B   all lines but A to B must stay
   --squeeze    tries the input without comments and long gaps first
 normal prints the normal form of a grammar. selftest reduces a generated case.
-On standard error PERSES_QUIET=1 in the environment silences all, and
-PERSES_PROGRESS=1 asks for a line every ten seconds where it is no terminal.
+check says whether the files of a run agree; it takes --lexer, --start, --keep
+and --squeeze too. In the environment PERSES_QUIET=1 silences standard error;
+PERSES_PROGRESS=1 gives a line every ten seconds where it is no terminal.
 All options: man ./docs/perses.1. What each status means: docs/GUIDE.md.
 ";

@@ -101,7 +101,7 @@ fn check_counts<'a>(
 /// Whether what is said of a grammar goes with the mode.
 fn check_grammar<'a>(command: &'a str, words: &'a [String]) -> Result<(), WordFault<'a>> {
     let option = "grammar";
-    if command != "reduce" {
+    if command != "reduce" && command != "check" {
         return Ok(());
     }
     if !chooses_lines(words) {

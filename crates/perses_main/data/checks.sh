@@ -242,8 +242,43 @@ for jobs in 1 2 4 16; do
     test -d "many/$jobs"
     sed 4q put > "four.$jobs"
     cmp "four.$jobs" four.1
+    ends 0 'check: yes' check --mode lines --input letters --output several --journal several.journal
 done
 test ! -e many/17
+
+# A finished run is checked from its files. No script is started, and no file or folder changes.
+rm -rf perses-work many
+"$program" reduce --mode lines --input lines --output o --script has-a > put
+rm -r perses-work
+cp o result
+cp o.journal run
+byrun='check --mode lines --input lines'
+ends 0 'check: yes' $byrun --output result --journal run
+ends 0 'check: yes' check --mode=lines --journal=run --output=result --input=lines
+ends 15 'perses: check: other result' $byrun --output lines --journal run
+head -c 30 run > torn
+ends 15 'perses: check: torn journal' $byrun --output result --journal torn
+printf 'b\n' > other
+ends 15 'perses: check: event 2 is not legal' check --mode lines --input other --output result --journal run
+ends 14 'perses: bad journal head' $byrun --output result --journal lines
+ends 3 'perses: cannot read result' $byrun --output missing --journal run
+ends 3 'perses: cannot read journal' $byrun --output result --journal missing
+ends 10 'perses: result is too long' $byrun --output /dev/zero --journal run
+puts_nothing $byrun --output result --journal run
+cmp result o
+cmp run o.journal
+test ! -e perses-work
+# So is one by a grammar, a copy of an example (tools/test compares them), and one of which a verdict was turned.
+byscheme='check --grammar ../SExpression.g4 --input ../queue.scm --output ../reduced.scm --journal'
+ends 0 'check: yes' $byscheme ../reduced.scm.journal
+sed 's/^R n 0$/R y 0/' ../reduced.scm.journal > turned
+ends 15 'perses: check: event 23 is not legal' $byscheme turned
+# So is one that the program makes by a grammar.
+printf 'b=2;a=1;' > two
+"$program" reduce --grammar grammar --input two --output o --script has-a > put
+test "$(cat o)" = 'a=1;'
+ends 0 'check: yes' check --grammar grammar --input two --output o --journal o.journal
+
 # Help is no command, and no words are no command line.
 for word in --help -h --version -V; do
     ends 2 'perses: bad command line' "$word"
@@ -272,6 +307,7 @@ says() {
 }
 says 'perses: normal has no option '\''--gramar'\' normal --gramar g
 says 'perses: missing: No such file or directory (os error 2)' normal --grammar missing
+says 'perses: missing: No such file or directory (os error 2)' $byrun --output result --journal missing
 printf "grammar G;\na : b ;\n" > faulty
 says 'perses: faulty:2:5: no rule b' normal --grammar faulty
 printf "lexer grammar L;\nA : 'a' {x} ;\n" > lexer

@@ -3,10 +3,11 @@
 //! `perses reduce` asks the script for one candidate after another, or for up to 16 at once (`--jobs N`),
 //! and writes what is left: by a grammar (`--grammar F`), of the input's tree, with `--mode hdd` by
 //! deletions alone; or of the input's lines (`--mode lines`). It keeps a journal beside the output, and
-//! prints a report at the end. `perses normal --grammar F` prints the normal form of a grammar, and
-//! `perses selftest` reduces a generated program in memory. All words are in `docs/FORMATS.md`. The work
-//! is done by the top call, [`command_perses::perses`], whose contract is the program's; here it gets the
-//! machine's threads, files, processes, a file for the journal, and standard output.
+//! prints a report at the end. `perses check` says whether files are those of a finished run.
+//! `perses normal --grammar F` prints the normal form of a grammar, and `perses selftest` reduces a
+//! generated program in memory. All words are in `docs/FORMATS.md`. The work is done by the top call,
+//! [`command_perses::perses`], whose contract is the program's; here it gets the machine's threads, files,
+//! processes, a file for the journal, and standard output.
 #![tactic(auto)]
 
 mod args;

@@ -168,6 +168,7 @@ impl Notices {
             grammar,
             lexer,
             input,
+            result,
         } = names_in(line);
         let ending = Ending {
             line,
@@ -183,6 +184,7 @@ impl Notices {
             grammar: files.first_read(grammar),
             lexer: files.first_read(lexer),
             input: files.first_read(input),
+            result: files.first_read(result),
             ask: last_ask(workers),
             width: self.width,
         };
@@ -229,6 +231,7 @@ struct Names<'a> {
     grammar: &'a str,
     lexer: &'a str,
     input: &'a str,
+    result: &'a str,
 }
 
 /// This input, without a grammar.
@@ -237,6 +240,7 @@ fn input_alone<'a>(input: &'a str) -> Names<'a> {
         grammar: "",
         lexer: "",
         input,
+        result: "",
     }
 }
 
@@ -246,6 +250,15 @@ fn names_of<'a>(grammar: NamedGrammar<'a>, input: &'a str) -> Names<'a> {
         grammar: grammar.path,
         lexer: grammar.lexer.unwrap_or(""),
         input,
+        result: "",
+    }
+}
+
+/// The files of this mode, and this input.
+fn names_by<'a>(mode: ModeLine<'a>, input: &'a str) -> Names<'a> {
+    match mode {
+        ModeLine::ByGrammar(by) => names_of(by.grammar, input),
+        ModeLine::Lines => input_alone(input),
     }
 }
 
@@ -253,10 +266,12 @@ fn names_of<'a>(grammar: NamedGrammar<'a>, input: &'a str) -> Names<'a> {
 fn names_in<'a>(line: &CommandLine<'a>) -> Names<'a> {
     match line {
         CommandLine::Normal(grammar) => names_of(*grammar, ""),
-        CommandLine::Reduce(line) => match line.mode {
-            ModeLine::ByGrammar(by) => names_of(by.grammar, line.input),
-            ModeLine::Lines => input_alone(line.input),
-        },
+        CommandLine::Reduce(line) => names_by(line.mode, line.input),
+        CommandLine::Check(line) => {
+            let mut names = names_by(line.mode, line.input);
+            names.result = line.output;
+            names
+        }
         CommandLine::Selftest(_) => input_alone(""),
     }
 }

@@ -1,37 +1,13 @@
 -- Beside `../Reduce.antt`: what private functions and proofs need.
-use Rattle.std.specs.Prelude.{◌≡◌, ℕ, drop, List, MatchResult, Result, string_bytes}
+use Rattle.std.specs.Prelude.{◌≡◌, ℕ, drop, List, MatchResult, Result}
 use Rattle.std.specs.Global.{Vec}
 use Rattle.script_gate_trait.specs.declared.gate.Verdict.{Verdict}
-use Rattle.edge_io.specs.Files.{IsLonger}
 use Rattle.reduce_journal.specs.History.{History, records_of}
-use Rattle.reduce_trees_input.specs.Faults.{IsInputFault}
-use Rattle.reduce_trees_input.specs.FaultText.{input_fault_text}
-use Rattle.reduce_trees_input.specs.declared.fault.InputFault.{InputFault}
-use Rattle.reduce_trees_input.specs.declared.fault.InputFault.TheVariants as input_fault
-use Rattle.command_grammar.specs.Grammar.{GrammarFails}
 use Rattle.command_ends.specs.declared.status.Refusal.{Refusal}
-use Rattle.command_ends.specs.declared.status.Refusal.TheVariants.{Memory, CannotRead, Grammar, NoParse, TooLong, Uncut}
-use Rattle.command_ends.specs.Status.{IsUncut, line_of, status_of}
-use Rattle.command_words.specs.Commands.{GrammarOptions, ModeOptions, ReduceOptions}
-use Rattle.command_ends.specs.World.{CallFailed, logs_of, IsQuiet, PutsLine, SeenFiles, SeenGate, SeenJournal, SeenOut, World, line_of_text}
-use Rattle.command_reduce.specs.Reduce.{IsReached, limit_of, name_of, InputHas, ReduceEnds, WritesReduced, RecordsAreSound, IsHistoryOfInput}
-
--- why there is no problem: a file wasn't read, the grammar is faulty, or the input isn't in its language
-abbrev pub ProblemFails : ReduceOptions → SeenFiles → SeenFiles → Refusal → Type 0
-ProblemFails options files files' Memory = IsQuiet files files'
-ProblemFails options files files' (CannotRead file) = IsReached options.mode file files × CallFailed files files'
-ProblemFails options files files' (TooLong file) =
-    IsReached options.mode file files × IsLonger (limit_of file) (files.shown (name_of options file)) × IsQuiet files files'
-ProblemFails options files files' (Grammar line) =
-    (trees : GrammarOptions) × (options.mode ≡ ModeOptions.by_grammar trees) × GrammarFails trees.grammar files files' (Grammar line)
-ProblemFails options files files' (Uncut line) =
-    (trees : GrammarOptions) × (fault : InputFault) × (options.mode ≡ ModeOptions.by_grammar trees) × IsUncut fault
-    × InputHas trees.grammar (λ c bytes. IsInputFault c bytes fault) options files
-    × (string_bytes line ≡ line_of_text (input_fault_text fault)) × IsQuiet files files'
-ProblemFails options files files' NoParse =
-    (trees : GrammarOptions) × (options.mode ≡ ModeOptions.by_grammar trees)
-    × InputHas trees.grammar (λ c bytes. IsInputFault c bytes input_fault.NoParse) options files × IsQuiet files files'
-ProblemFails options files files' _ = ⊥
+use Rattle.command_ends.specs.Status.{line_of, status_of}
+use Rattle.command_words.specs.Commands.{ReduceOptions}
+use Rattle.command_ends.specs.World.{logs_of, PutsLine, SeenFiles, SeenGate, SeenJournal, SeenOut, World}
+use Rattle.command_reduce.specs.Reduce.{ReduceEnds, WritesReduced, RecordsAreSound, IsHistoryOfInput}
 
 -- What `reduce` reaches, without `out`.
 pub record Inside : Type 0 where

@@ -1,28 +1,37 @@
 -- What the options that were found give, before a command is made of them.
-use Rattle.std.specs.Prelude.{ℕ, ◌∷◌, ◌&&◌, Bool, List, Option, Some, None, if◌then◌else◌, codes, length, map, nat_le, option_map}
+use Rattle.std.specs.Prelude.{◌≡◌, ℕ, ◌∷◌, ◌&&◌, Bool, List, Option, Some, None, if◌then◌else◌, codes, length, map, nat_le, option_map}
 use Rattle.std.specs.List.{list_all}
 use Rattle.std.specs.Str.Parse.{digits_value}
 use Rattle.clap.specs.Words.{found_of}
 use Rattle.clap.specs.declared.parser.matches.ArgMatches.{ArgMatches}
-use Rattle.command_words.specs.Options.{LineSpan, OptionRow, Use, Values, span_of, takes_value, values_for}
-use Rattle.command_words.specs.Tables.{any_lines, tree_modes}
-use Rattle.command_words.specs.Commands.{ModeOptions, ProtectOptions, ReduceOptions, is_given, mode_options, number_of, reduction_in, value_of, value_or}
-use Rattle.command_words.specs.inner.Read.{HasUses, IsOnce}
+use Rattle.command_words.specs.Options.{LineSpan, OptionRow, Use, Values, row_of, span_of, takes_value, values_for}
+use Rattle.command_words.specs.Tables.{any_lines, optional, tree_modes}
+use Rattle.command_words.specs.Commands.{CheckOptions, ModeOptions, ProtectOptions, ReduceOptions, check_in, is_given, mode_options, number_of}
+use Rattle.command_words.specs.Commands.{reduction_in, value_of, value_or}
+use Rattle.command_words.specs.inner.Read.{HasUses, IsOnce, NamesValue}
 
 -- the matches have these uses of options of the table
 pub record HasFound (table : List OptionRow) (uses : List Use) (matches : ArgMatches) : Type 0 where
   pub once : IsOnce table uses
   pub has : HasUses table uses (found_of matches)
 
+-- the table has the options that say which states are tried
+pub record HasModeOptions (table : List OptionRow) : Type 0 where
+  pub grammar : NamesValue table (codes "grammar")
+  pub lexer : NamesValue table (codes "lexer")
+  pub start : NamesValue table (codes "start")
+  pub mode : row_of table (codes "mode") ≡ Some (optional (codes "mode") (Values.one_of (codes "lines" ∷ tree_modes)))
+  pub squeeze : row_of table (codes "squeeze") ≡ Some (optional (codes "squeeze") Values.no_value)
+
 -- each value that is given for the option is one that it takes
 abbrev pub values_fit : Values → List ℕ → List Use → Bool
 values_fit values name uses = list_all (takes_value values) (values_for name uses)
 
--- the input, the output and the script are named
-abbrev pub names_files : List Use → Bool
-names_files uses = is_given (codes "input") uses && (is_given (codes "output") uses && is_given (codes "script") uses)
+-- the input, the output and the file of this option are named
+abbrev pub names_files : List ℕ → List Use → Bool
+names_files third uses = is_given (codes "input") uses && (is_given (codes "output") uses && is_given third uses)
 
--- the mode of `reduce`, where it is one
+-- the mode, where it is one
 abbrev pub fitting_mode : List Use → Option ModeOptions
 fitting_mode uses = if values_fit (Values.one_of (codes "lines" ∷ tree_modes)) (codes "mode") uses then mode_options uses else None
 
@@ -71,7 +80,17 @@ line_of_parts uses (Some mode) (Some jobs) (Some keeps) (Some protects) =
 
 -- the line of these keep texts and these lines that must stay, where its files are named and its mode and its number of workers are such
 abbrev pub line_with : List Use → Option (List (List ℕ)) → Option ProtectOptions → Option ReduceOptions
-line_with uses keeps protects = if names_files uses then line_of_parts uses (fitting_mode uses) (fitting_jobs uses) keeps protects else None
+line_with uses keeps protects = if names_files (codes "script") uses then line_of_parts uses (fitting_mode uses) (fitting_jobs uses) keeps protects else None
+
+-- the check of these parts, where each is there
+abbrev pub check_of_parts : List Use → Option ModeOptions → Option (List (List ℕ)) → Option CheckOptions
+check_of_parts uses None keeps = None
+check_of_parts uses (Some mode) None = None
+check_of_parts uses (Some mode) (Some keeps) = Some (record (check_in uses mode) { keeps = keeps })
+
+-- the check with these keep texts, where the files of the run are named and its mode is such
+abbrev pub check_with : List Use → Option (List (List ℕ)) → Option CheckOptions
+check_with uses keeps = if names_files (codes "journal") uses then check_of_parts uses (fitting_mode uses) keeps else None
 
 -- the number that is given for the option, where there is one in these bounds
 abbrev pub fitting_number : ℕ → ℕ → List ℕ → List Use → Option ℕ

@@ -1,8 +1,8 @@
 //! What words ask for, as one text.
 
 use command_words::{
-    CommandLine, ModeLine, NamedGrammar, ProtectLine, ReduceLine, SelftestLine, journal_name,
-    read_words,
+    CheckLine, CommandLine, ModeLine, NamedGrammar, ProtectLine, ReduceLine, SelftestLine,
+    journal_name, read_words,
 };
 use reduce_step::TreeMode;
 use std::alloc::Global;
@@ -88,6 +88,19 @@ fn selftest_text(alloc: Global, line: SelftestLine) -> Result<String, Fail> {
     Ok(format!(in alloc; "selftest {} {} {mode}", line.number, line.size)?)
 }
 
+fn check_text(alloc: Global, line: &CheckLine<'_>) -> Result<String, Fail> {
+    let mode = mode_text(alloc, line.mode)?;
+    let mut text = format!(in alloc;
+        "check {mode}: {} to {}, {}",
+        line.input, line.output, line.journal
+    )?;
+    for keep in &line.keeps {
+        text.push_str(", keep ")?;
+        text.push_str(keep)?;
+    }
+    Ok(text)
+}
+
 /// What a line asks for, as one text; `usage` where it is no command line.
 fn asked(alloc: Global, line: &str) -> Result<String, Fail> {
     let words = words_of(alloc, line)?;
@@ -96,6 +109,7 @@ fn asked(alloc: Global, line: &str) -> Result<String, Fail> {
         Some(CommandLine::Reduce(line)) => reduce_text(alloc, &line),
         Some(CommandLine::Normal(grammar)) => normal_text(alloc, grammar),
         Some(CommandLine::Selftest(line)) => selftest_text(alloc, line),
+        Some(CommandLine::Check(line)) => check_text(alloc, &line),
     }
 }
 
@@ -110,7 +124,7 @@ const LINES: &str = "lines: i to o asking s, o.journal, perses-work, 1";
 const TREES: &str = "perses by g from -: i to o asking s, o.journal, perses-work, 1";
 
 /// Command lines, each with what it asks for.
-const ACCEPTED: [(&str, &str); 22] = [
+const ACCEPTED: [(&str, &str); 26] = [
     (
         "perses reduce --mode lines --input i --output o --script s",
         LINES,
@@ -178,6 +192,22 @@ const ACCEPTED: [(&str, &str); 22] = [
     (" normal --grammar g", "normal g from -"),
     ("--help normal --grammar g", "normal g from -"),
     ("p normal --grammar input", "normal input from -"),
+    (
+        "p check --mode lines --input i --output o --journal j",
+        "check lines: i to o, j",
+    ),
+    (
+        "p check --journal=d/o.journal --output=o=p --grammar g --input=d/i",
+        "check perses by g from -: d/i to o=p, d/o.journal",
+    ),
+    (
+        "p check --keep a --grammar g --lexer l --start r --squeeze --mode hdd --keep=b --input i --output o --journal j",
+        "check hdd by g with l from r squeezed: i to o, j, keep a, keep b",
+    ),
+    (
+        "p check --mode=lines --input i --output o --journal j --keep 1 --keep 2 --keep 3 --keep 4 --keep 5 --keep 6 --keep 7 --keep 8",
+        "check lines: i to o, j, keep 1, keep 2, keep 3, keep 4, keep 5, keep 6, keep 7, keep 8",
+    ),
 ];
 
 /// The first of these lines that asks for something else.
@@ -236,8 +266,31 @@ const REFUSED_AFTER_LINES: [&str; 36] = [
     "a",
 ];
 
+/// What is no command line where it comes after the words of a check in mode `lines`.
+const REFUSED_AFTER_CHECK: [&str; 19] = [
+    "--grammar g",
+    "--lexer l",
+    "--start r",
+    "--squeeze",
+    "--mode lines",
+    "--journal j",
+    "--input i",
+    "--output o",
+    "--script s",
+    "--jobs 1",
+    "--work w",
+    "--protect 1-1",
+    "--protect-text a",
+    "--only 1-1",
+    "--keep=",
+    "--keep -a",
+    "--keep 1 --keep 2 --keep 3 --keep 4 --keep 5 --keep 6 --keep 7 --keep 8 --keep 9",
+    "--number 1",
+    "a",
+];
+
 /// Lines that are no command line.
-const REFUSED: [&str; 40] = [
+const REFUSED: [&str; 47] = [
     "",
     "perses",
     "perses shrink",
@@ -278,6 +331,13 @@ const REFUSED: [&str; 40] = [
     "perses selftest --number -1 --size 1",
     "perses selftest --mode lines --number 0 --size 1",
     "perses selftest --jobs 1 --number 0 --size 300",
+    "perses check",
+    "perses check --grammar g --output o --journal j",
+    "perses check --grammar g --input i --journal j",
+    "perses check --grammar g --input i --output o",
+    "perses check --input i --output o --journal j",
+    "perses check --lexer l --input i --output o --journal j",
+    "perses check --grammar g --mode tree --input i --output o --journal j",
 ];
 
 /// The first of these lines, after this beginning, that is a command line.
@@ -301,6 +361,11 @@ fn refuses_other_words(rt: HostRuntime) -> Result<(), Fail> {
     let lines = "perses reduce --mode lines --input i --output o --script s ";
     assert_eq!(rt;
         first_accepted(rt.alloc(), lines, &REFUSED_AFTER_LINES)?,
+        None
+    );
+    let check = "perses check --mode lines --input i --output o --journal j ";
+    assert_eq!(rt;
+        first_accepted(rt.alloc(), check, &REFUSED_AFTER_CHECK)?,
         None
     );
     Ok(())

@@ -1,10 +1,11 @@
 use Rattle.std.proofs.Common.{refl, subst}
-use Rattle.command_words.specs.Lines.{grammar_read, reduce_read, selftest_read}
+use Rattle.command_words.specs.Lines.{check_read, grammar_read, reduce_read, selftest_read}
 use Rattle.command_ends.specs.World.{World, seen}
 use Rattle.command_perses.specs.Call.{RunsCommand, world}
-use Rattle.command_perses.specs.Call.RunsCommand.{reduce, normal, selftest}
+use Rattle.command_perses.specs.Call.RunsCommand.{reduce, check, normal, selftest}
 use Rattle.command_perses.proofs.HeadlineLemmas.{headline_of}
-use Rattle.command_perses.proofs.CallLemmas.{line_is, normal_not_usage, reduce_not_usage, refused_status, refused_usage, runs_refused, selftest_not_usage}
+use Rattle.command_perses.proofs.CallLemmas.{check_not_usage, line_is, normal_not_usage, reduce_not_usage, refused_status, refused_usage}
+use Rattle.command_perses.proofs.CallLemmas.{runs_refused, selftest_not_usage}
 use Rattle.command_perses.proofs.call.perses.Goals as goal
 
 pub returns-in-Err-clause-runs : goal.returns-in-Err-clause-runs
@@ -43,6 +44,25 @@ returns-in-Ok-Reduce-clause-headline g c =
 
 pub returns-in-Ok-Reduce-clause-usage : goal.returns-in-Ok-Reduce-clause-usage
 returns-in-Ok-Reduce-clause-usage g c two = absurd (reduce_not_usage _ _ _ _ _ c.reduce.ensures.reduces two)
+
+pub returns-in-Ok-Check-clause-runs : goal.returns-in-Ok-Check-clause-runs
+returns-in-Ok-Check-clause-runs g c =
+    let at = c.in-Ok-Check in
+    let old : World =
+    world g.F.Files.content g.F.Files.faults g.G.Gate.log g.G.Gate.faults g.J.Sink.put_so_far g.J.Sink.faults
+    g.O.Sink.put_so_far g.O.Sink.faults c.args.files.now c.args.workers.now c.args.journal c.args.out.now in
+    let new : World =
+    world g.F.Files.content g.F.Files.faults g.G.Gate.log g.G.Gate.faults g.J.Sink.put_so_far g.J.Sink.faults
+    g.O.Sink.put_so_far g.O.Sink.faults c.check.new.files c.args.workers.now c.args.journal c.check.new.out in
+    subst (RunsCommand g.G.Gate.may_say old new c.check.result) (line_is _ _ _ at.field-0-is at.ensures.line)
+    (check (check_read at.line) c.check.ensures (record { no_history = refl; gates = refl; journal = refl }))
+
+pub returns-in-Ok-Check-clause-headline : goal.returns-in-Ok-Check-clause-headline
+returns-in-Ok-Check-clause-headline g c =
+    headline_of c.equal_bytes_have_one_history.ensures.histories c.answers_are_bounded.ensures _ _ _ _ (returns-in-Ok-Check-clause-runs g c)
+
+pub returns-in-Ok-Check-clause-usage : goal.returns-in-Ok-Check-clause-usage
+returns-in-Ok-Check-clause-usage g c two = absurd (check_not_usage _ _ _ _ _ _ c.check.ensures two)
 
 pub returns-in-Ok-Normal-clause-runs : goal.returns-in-Ok-Normal-clause-runs
 returns-in-Ok-Normal-clause-runs g c =

@@ -9,7 +9,7 @@ pub returns-in_default-clause-line : goal.returns-in_default-clause-line
 returns-in_default-clause-line c = λ uses has.
     no_line uses (fitting_protects uses)
     ∙ ap (λ keeps. line_with uses keeps (fitting_protects uses))
-    (rw c.in_default.is at (c.in_ok-keeps.ensures uses has (named_by reduce_table (codes "keep") refl)))
+    (rw c.in_default.is at (c.in_ok-keeps.ensures reduce_table uses has (named_by reduce_table (codes "keep") refl)))
     ∙ reduce_found uses has.once
 
 pub returns-in-None-clause-line : goal.returns-in-None-clause-line
@@ -21,6 +21,6 @@ returns-in-None-clause-line c = λ uses has.
 pub returns-clause-line : goal.returns-clause-line
 returns-clause-line c = λ uses has.
     c.line_with.ensures.line uses has
-    ∙ ap₂ (line_with uses) (rw c.in-Some.is at (c.in_ok-keeps.ensures uses has (named_by reduce_table (codes "keep") refl)))
+    ∙ ap₂ (line_with uses) (rw c.in-Some.is at (c.in_ok-keeps.ensures reduce_table uses has (named_by reduce_table (codes "keep") refl)))
     (rw c.in-Some-2.is at (c.in_ok-protects_of.ensures uses has))
     ∙ reduce_found uses has.once

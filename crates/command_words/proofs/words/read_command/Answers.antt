@@ -1,6 +1,6 @@
 use Rattle.std.proofs.Common.{Some, None, map, string_bytes, sym}
-use Rattle.command_words.specs.Lines.{grammar_read, reduce_read, selftest_read}
-use Rattle.command_words.proofs.Assembled.{normal_asked, nothing_asked, reduce_asked, selftest_asked}
+use Rattle.command_words.specs.Lines.{check_read, grammar_read, reduce_read, selftest_read}
+use Rattle.command_words.proofs.Assembled.{check_asked, normal_asked, nothing_asked, reduce_asked, selftest_asked}
 use Rattle.command_words.proofs.words.read_command.Goals as goal
 
 pub returns-in-None-clause-line : goal.returns-in-None-clause-line
@@ -33,6 +33,17 @@ returns-in-Some-3-clause-line c =
     (sym c.if-eq-3.ensures)
     (rw c.in-Some-3.is at c.in_ok-read_selftest.ensures.line)
 
-pub returns-else-eq-3-clause-line : goal.returns-else-eq-3-clause-line
-returns-else-eq-3-clause-line c =
-    nothing_asked c.args.name.now (map string_bytes c.args.words.now) (sym c.if-eq.ensures) (sym c.if-eq-2.ensures) (sym c.if-eq-3.ensures)
+pub returns-in-None-4-clause-line : goal.returns-in-None-4-clause-line
+returns-in-None-4-clause-line c =
+    check_asked c.args.name.now (map string_bytes c.args.words.now) None (sym c.if-eq.ensures, sym c.if-eq-2.ensures, sym c.if-eq-3.ensures)
+    (sym c.if-eq-4.ensures) (rw c.in-None-4.is at c.in_ok-read_check.ensures)
+
+pub returns-in-Some-4-clause-line : goal.returns-in-Some-4-clause-line
+returns-in-Some-4-clause-line c =
+    check_asked c.args.name.now (map string_bytes c.args.words.now) (Some (check_read c.in-Some-4.line))
+    (sym c.if-eq.ensures, sym c.if-eq-2.ensures, sym c.if-eq-3.ensures) (sym c.if-eq-4.ensures) (rw c.in-Some-4.is at c.in_ok-read_check.ensures)
+
+pub returns-else-eq-4-clause-line : goal.returns-else-eq-4-clause-line
+returns-else-eq-4-clause-line c =
+    nothing_asked c.args.name.now (map string_bytes c.args.words.now) (sym c.if-eq.ensures, sym c.if-eq-2.ensures, sym c.if-eq-3.ensures)
+    (sym c.if-eq-4.ensures)

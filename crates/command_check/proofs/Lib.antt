@@ -1,0 +1,5 @@
+mod EndLemmas
+mod FileLemmas
+mod ProblemLemmas
+mod RunLemmas
+pub mod Lent

@@ -1,0 +1,3 @@
+mod ShownLemmas
+mod ReadLemmas
+pub mod Lent
