@@ -4,7 +4,7 @@ from pathlib import Path
 from typing import Callable, NamedTuple
 
 import mini
-from histories import HEAD, BadEvent, BadHead, answers, has_lines_of, read_journal, wrong_records
+from histories import BadEvent, BadHead, answers, has_lines_of, is_head_front, read_journal, wrong_records
 
 INPUT, GRAMMAR, OUTPUT, SCRIPT, JOURNAL = "input", "grammar", "output", "script", "output.journal"
 
@@ -90,7 +90,7 @@ def judged_journal(data, reduction, jobs, whole):
     """Looks at a journal, or at what a run that was stopped left of one. `whole` is that of a run of one worker to its end."""
     if jobs == 1 and not whole.startswith(data):
         return Judged("its bytes aren't the beginning of the whole journal", [], 0)
-    if len(data) < len(HEAD) and HEAD.startswith(data):
+    if is_head_front(data):
         return Judged(None, [], len(data))
     try:
         journal = read_journal(data)

@@ -55,7 +55,7 @@ def main():
     except OSError as error:
         return refused(error.strerror)
     except BadHead:
-        return refused("no journal: its first line isn't there")
+        return refused("no journal: its head isn't there")
     except BadEvent as bad:
         return refused(f"no event at byte {bad.offset}")
 

@@ -1,8 +1,11 @@
-"""Reads a journal by its format, version 1, as docs/FORMATS.md has it."""
+"""Reads a journal by its format, versions 1 and 2, as docs/FORMATS.md has it."""
+import hashlib
 import re
 from typing import NamedTuple
 
+# The whole heads: of version 1, and of version 2, with the digest of the start.
 HEAD = b"perses-journal 1\n"
+HEAD_WITH_START = re.compile(rb"perses-journal 2\nS ([0-9a-f]{64})\n")
 LONGEST_TEXT = 1048576
 
 # Whole first lines of events, and what such a line can begin with before its newline has come.
@@ -26,8 +29,13 @@ class Commit(NamedTuple):
 
 
 class Journal(NamedTuple):
-    """The whole events in their order, and the bytes of a torn tail."""
+    """The version, the SHA-256 of the start in hexadecimal digits, the whole events in their order, and the bytes of a torn tail.
 
+    In version 1 the start is the text of record 1, and there is none without a record.
+    """
+
+    version: int
+    start: str | None
     events: list
     torn: int
 
@@ -49,7 +57,7 @@ class Journal(NamedTuple):
 
 
 class BadHead(Exception):
-    """The bytes don't begin with the first line."""
+    """The bytes don't begin with a whole head."""
 
 
 class BadEvent(Exception):
@@ -62,19 +70,42 @@ class BadEvent(Exception):
 
 def read_journal(data):
     """The journal of these bytes. BadHead and BadEvent say why there is none."""
-    if not data.startswith(HEAD):
-        raise BadHead()
+    version, start, at = head_of(data)
     events = []
     records = 0
-    at = len(HEAD)
+    torn = 0
     while at < len(data):
         event, end = event_at(data, at, records)
         if event is None:
-            return Journal(events, len(data) - at)
+            torn = len(data) - at
+            break
         events.append(event)
         records += isinstance(event, Record)
         at = end
-    return Journal(events, 0)
+    return Journal(version, start if version > 1 else first_text_digest(events), events, torn)
+
+
+def head_of(data):
+    """The version, the digest that the head has, and where the head ends."""
+    with_start = HEAD_WITH_START.match(data)
+    if with_start:
+        return 2, with_start[1].decode(), with_start.end()
+    if data.startswith(HEAD):
+        return 1, None, len(HEAD)
+    raise BadHead()
+
+
+def is_head_front(data):
+    """Whether these bytes are the beginning of a head, and not all of it."""
+    before_digits = b"perses-journal 2\nS "
+    if data.startswith(before_digits):
+        return re.fullmatch(rb"[0-9a-f]{0,64}", data[len(before_digits):]) is not None
+    return before_digits.startswith(data) or HEAD.startswith(data) and data != HEAD
+
+
+def first_text_digest(events):
+    """The digest of the first record's text; None where there is no record, since the first event is one."""
+    return hashlib.sha256(events[0].text).hexdigest() if events else None
 
 
 def event_at(data, at, records):

@@ -1,4 +1,5 @@
 """The journal reader: the worked journal, each of its prefixes, torn tails beside bad records, and its command line."""
+import hashlib
 import os
 import subprocess
 import tempfile
@@ -7,7 +8,7 @@ from pathlib import Path
 
 from support import TOOL
 
-from journal_reader.reading import BadEvent, BadHead, Commit, Record, read_journal
+from journal_reader.reading import BadEvent, BadHead, Commit, Record, is_head_front, read_journal
 
 COMMAND = TOOL.parent / "journal"
 PROGRAM = Path(os.environ.get("PERSES_PROGRAM", TOOL.parent.parent / "crates/perses_main/out/perses_main"))
@@ -16,6 +17,13 @@ PROGRAM = Path(os.environ.get("PERSES_PROGRAM", TOOL.parent.parent / "crates/per
 WORKED = b"perses-journal 1\nR y 12\na=1;b=2;c=3;\nC 1\nR n 0\n\nC 2\nR n 5\na=1;\n\nC 3\nR y 8\nb=2;c=3;\nC 4\nR y 5\nb=2;\n\nC 5\nC 2\n"
 HEAD = b"perses-journal 1\n"
 ONE = HEAD + b"R y 1\na\n"
+
+# The same in version 2, with the checksum of the start; and the journal of an empty start.
+START = b"a=1;b=2;c=3;"
+HEAD_2 = b"perses-journal 2\nS " + hashlib.sha256(START).hexdigest().encode() + b"\n"
+WORKED_2 = HEAD_2 + WORKED[len(HEAD):]
+ONE_2 = HEAD_2 + b"R y 1\na\n"
+EMPTY_START = b"perses-journal 2\nS e3b0c44298fc1c149afbf4c8996fb92427ae41e4649b934ca495991b7852b855\nR y 0\n\nC 1\n"
 
 EVENTS = [
     Record(True, b"a=1;b=2;c=3;"), Commit(1), Record(False, b""), Commit(2), Record(False, b"a=1;\n"), Commit(3),
@@ -27,24 +35,51 @@ TAILS = [
     (ONE, b"C", True), (ONE, b"C ", True), (ONE, b"C 1", True), (ONE, b"C 2", False), (ONE, b"C 0", False), (ONE, b"C 01", False), (ONE, b"C 1 ", False),
     (HEAD, b"C", False), (HEAD, b"R", True), (HEAD, b"R y ", True), (HEAD, b"R y 1048576", True), (HEAD, b"R y 1048577", False), (HEAD, b"R y 00", False),
     (HEAD, b"R x", False), (HEAD, b"R y 0", True), (HEAD, b"R y 0\n", True), (HEAD, b"R y 0\nx", False), (HEAD, b"R y 2\nab", True), (HEAD, b"R y 2\nabc", False),
+    (HEAD_2, b"R", True), (HEAD_2, b"R y 1048576", True), (HEAD_2, b"R y 1048577", False), (HEAD_2, b"R y 1\na", True), (HEAD_2, b"R y 00", False),
+    (HEAD_2, b"C", False), (ONE_2, b"C 1", True), (ONE_2, b"C 2", False), (HEAD_2, b"S", False), (HEAD_2, b"k", False),
     (HEAD, b"\n", False), (HEAD, b"r", False), (HEAD, b"R y 1\n\xff", True), (HEAD, b"R  ", False), (HEAD, b"R y -1", False), (HEAD, b"R y 9999999999", False),
+]
+
+# What is no head, and whether more bytes could make it one.
+NO_HEADS = [
+    (b"", True), (b"perses-journal ", True), (b"perses-journal 1", True), (b"perses-journal 1\r\n", False), (b"perses-journal 3\n", False),
+    (b"perses-journal 2", True), (b"perses-journal 2\n", True), (b"perses-journal 2\nS ", True), (HEAD_2[:-1], True), (HEAD_2[:-2], True), (HEAD_2[:-2] + b"\n", False),
+    (HEAD_2[:19] + HEAD_2[19:].upper(), False), (HEAD_2[:-2] + b"g\n", False), (HEAD_2[:-1] + b"0\n", False), (b"perses-journal 2\nR y 0\n\n", False), (b"x", False),
 ]
 
 
 class Reading(unittest.TestCase):
     def test_reads_the_worked_journal(self):
-        self.assertEqual(len(WORKED), 107)
-        self.assertEqual(read_journal(WORKED), (EVENTS, 0))
+        digest = hashlib.sha256(START).hexdigest()
+        self.assertEqual((len(WORKED), len(WORKED_2), len(HEAD_2)), (107, 174, 84))
+        self.assertEqual(read_journal(WORKED), (1, digest, EVENTS, 0))
+        self.assertEqual(read_journal(WORKED_2), (2, digest, EVENTS, 0))
+
+    def test_reads_the_start(self):
+        self.assertEqual(len(EMPTY_START), 95)
+        self.assertEqual(read_journal(EMPTY_START), (2, hashlib.sha256(b"").hexdigest(), [Record(True, b""), Commit(1)], 0))
+        self.assertEqual(read_journal(HEAD), (1, None, [], 0))
+        self.assertEqual(read_journal(HEAD + b"R y 2\na"), (1, None, [], 7))
+        self.assertEqual(read_journal(HEAD_2), (2, hashlib.sha256(START).hexdigest(), [], 0))
 
     def test_reads_each_prefix_as_its_first_events(self):
-        for length in range(len(WORKED) + 1):
-            with self.subTest(length=length):
-                if length < len(HEAD):
-                    self.assertRaises(BadHead, read_journal, WORKED[:length])
-                    continue
-                journal = read_journal(WORKED[:length])
-                self.assertEqual(journal.events, EVENTS[:len(journal.events)])
-                self.assertLess(journal.torn, 20)
+        for whole, head in ((WORKED, HEAD), (WORKED_2, HEAD_2)):
+            for length in range(len(whole) + 1):
+                with self.subTest(length=length):
+                    if length < len(head):
+                        self.assertRaises(BadHead, read_journal, whole[:length])
+                        self.assertTrue(is_head_front(whole[:length]))
+                        continue
+                    journal = read_journal(whole[:length])
+                    self.assertEqual(journal.events, EVENTS[:len(journal.events)])
+                    self.assertLess(journal.torn, 20)
+
+    def test_tells_what_is_no_head(self):
+        for data, is_front in NO_HEADS:
+            with self.subTest(data=data):
+                self.assertRaises(BadHead, read_journal, data)
+                self.assertEqual(is_head_front(data), is_front)
+        self.assertFalse(is_head_front(HEAD) or is_head_front(HEAD_2))
 
     def test_tells_torn_tails_from_bad_records(self):
         for front, tail, is_torn in TAILS:
@@ -87,7 +122,7 @@ class CommandLine(unittest.TestCase):
         self.assertEqual(self.run_on(HEAD, "--last-yes")[0], 1)
 
     def test_writes_the_best_text_to_a_file(self):
-        for data, wanted in ((WORKED, b"b=2;\n"), (WORKED[:WORKED.index(b"C 4")], b"b=2;c=3;"), (ONE + b"R y 1\nb\nR n 0\n\n", b"a")):
+        for data, wanted in ((WORKED, b"b=2;\n"), (WORKED_2, b"b=2;\n"), (WORKED[:WORKED.index(b"C 4")], b"b=2;c=3;"), (ONE + b"R y 1\nb\nR n 0\n\n", b"a")):
             with self.subTest(data=data), tempfile.TemporaryDirectory() as folder:
                 best = Path(folder, "best")
                 self.assertEqual(self.run_on(data, "--best", str(best)), (0, b"", b""))
@@ -101,7 +136,7 @@ class CommandLine(unittest.TestCase):
             self.assertEqual(self.run_on(WORKED, "--best", folder)[0], 1)
 
     def test_refuses_what_is_no_journal(self):
-        self.assertEqual(self.run_on(b"perses-journal 2\n"), (1, b"", b"journal: no journal: its first line isn't there\n"))
+        self.assertEqual(self.run_on(b"perses-journal 2\n"), (1, b"", b"journal: no journal: its head isn't there\n"))
         self.assertEqual(self.run_on(HEAD + b"x"), (1, b"", b"journal: no event at byte 17\n"))
 
 
@@ -120,7 +155,7 @@ class OfTheProgram(unittest.TestCase):
     def test_reads_a_whole_run(self):
         with tempfile.TemporaryDirectory() as folder:
             journal = read_journal(self.run_in(folder, "grep -q b \"$1\"\n"))
-            self.assertEqual(journal.torn, 0)
+            self.assertEqual((journal.torn, journal.start), (0, hashlib.sha256(b"a\nb\nc\nd\n").hexdigest()))
             self.assertEqual(journal.best().text, Path(folder, "o").read_bytes())
             self.assertEqual(journal.last_yes(), journal.best())
             self.assertTrue(all(record.yes == (b"b" in record.text) for record in journal.records()))
