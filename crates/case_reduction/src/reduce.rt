@@ -16,6 +16,7 @@ use faults::Memory;
 use grammar_load::{GrammarFault, checked_grammar};
 use grammar_tree::Checked;
 use keep_guard::{Guard, KeepTexts};
+use reduce_journal::digest_of;
 use reduce_trees_input::{InputFault, parsed_input};
 use run_gated::{Ran, RunFault};
 use run_problem::{ReadProblem, TreeMode, problems_reduce_alike, run_problem};
@@ -99,7 +100,9 @@ pub fn case_summary<W: Threads + Wait + Sync>(
     let problem = case_problem(alloc, number, size, mode)?;
     let guard = Guard::new(KeepTexts::new(alloc));
     let mut workers = [Worker::new(RuleGate::<RULE>::new(alloc, false), 1)];
-    let Ran { outcome, .. } = run_problem(rt, alloc, problem, guard, &mut workers, NullSink::new());
+    let digest = digest_of(problem.start());
+    let journal = NullSink::new();
+    let Ran { outcome, .. } = run_problem(rt, alloc, problem, guard, &mut workers, journal, digest);
     match outcome {
         Ok(reduced) => summary(alloc, &reduced),
         Err(fault) => Err(memory_of(fault)),

@@ -11,6 +11,7 @@ use Rattle.verdict_table.specs.TableState.{Extends, texts_of, verdict_in}
 use Rattle.reduce_step.specs.Plan.{MayAsk, Plan, follow}
 use Rattle.reduce_rounds.specs.Laws.{IsTheReduction}
 use Rattle.reduce_rounds.specs.Verdicts.{HasVerdicts}
+use Rattle.reduce_journal.specs.declared.head.Head.{Head}
 use Rattle.reduce_journal.specs.History.{History, IsHistory, records_of}
 use Rattle.ordered_commit_moves.specs.Replay.{IsLegal, replay}
 use Rattle.run_gated.specs.Records.{FirstIs}
@@ -18,12 +19,12 @@ use Rattle.run_problem.specs.Committed.{IsPrefix, committed_texts, questions_ove
 use Rattle.run_problem.specs.Problem.{IsCandidateOf, IsProblem, IsReductionOf, Problem, recursion_of, reduced_text, start_text}
 use Rattle.run_problem.specs.Reducer.{reducer_of}
 use Rattle.cert_check.specs.declared.finding.Finding.{Finding}
-use Rattle.cert_check.specs.Findings.{IsConfirmed, IsFound}
+use Rattle.cert_check.specs.Findings.{IsConfirmed, IsFound, IsOfStart}
 
 -- One thing is found: the files are confirmed, or one cause is the first.
 abbrev pub OneIsFound : Type 0
-OneIsFound = (guard : Admits) (problem : Problem) (output : List ℕ) (history : History) (torn : ℕ) (one other : Finding)
-    → IsFound guard problem output history torn one → IsFound guard problem output history torn other → one ≡ other
+OneIsFound = (guard : Admits) (problem : Problem) (output : List ℕ) (head : Head) (history : History) (torn : ℕ) (one other : Finding)
+    → IsFound guard problem output head history torn one → IsFound guard problem output head history torn other → one ≡ other
 
 -- This is the history of a run to its end, by however many workers, and its output. The history can be read back, and its commits answer what the reduction
 -- asks. It records candidates, each once, and first the start, with a yes. It has a verdict for each text that the reduction asks, whose text is the output.
@@ -37,11 +38,11 @@ pub record IsRunTo (guard : Admits) (problem : Problem) (history : History) (out
   pub defined : HasVerdicts (verdict_in (records_of history)) (questions_over guard problem history)
   pub is_text : output ≡ reduced_text guard problem (verdict_in (records_of history))
 
--- The files of such a run are confirmed.
+-- The files of such a run are confirmed, where the head is of its start.
 abbrev pub FinishedRunsAreConfirmed : Type 0
 FinishedRunsAreConfirmed =
-    (guard : Admits) (problem : Problem) (history : History) (output : List ℕ) → IsRunTo guard problem history output
-    → IsConfirmed guard problem output history 0
+    (guard : Admits) (problem : Problem) (head : Head) (history : History) (output : List ℕ) → IsOfStart head (start_text problem)
+    → IsRunTo guard problem history output → IsConfirmed guard problem output head history 0
 
 -- The guard of a tree is this one, as that of lines always is.
 abbrev pub IsGuardedBy : Admits → Problem → Type 0
@@ -56,8 +57,9 @@ IsStartAdmitted guard (Problem.of_tree mode input) = AdmitsStart input
 -- Files that are confirmed hold a reduction over the verdicts of the records, and so a minimal one.
 abbrev pub ConfirmedAreReductions : Type 0
 ConfirmedAreReductions =
-    (guard : Admits) (problem : Problem) (output : List ℕ) (history : History) (torn : ℕ) → IsProblem problem → IsGuardedBy guard problem
-    → IsStartAdmitted guard problem → IsConfirmed guard problem output history torn → IsReductionOf guard (verdict_in (records_of history)) problem output
+    (guard : Admits) (problem : Problem) (output : List ℕ) (head : Head) (history : History) (torn : ℕ) → IsProblem problem → IsGuardedBy guard problem
+    → IsStartAdmitted guard problem → IsConfirmed guard problem output head history torn
+    → IsReductionOf guard (verdict_in (records_of history)) problem output
 
 -- To go on from where a history leads comes to the same as to begin anew, over each map of verdicts that has its records.
 abbrev pub LegalHistoriesFollow : Type 0

@@ -2,10 +2,11 @@
 use Rattle.std.specs.Prelude.{ℕ, List, ◌++◌, codes}
 use Rattle.std.specs.Fmt.{decimal}
 use Rattle.cert_check.specs.declared.finding.Why.{Why}
-use Rattle.cert_check.specs.declared.finding.Why.TheVariants.{Torn, NotLegal, NotCandidate, Unfinished, StartIsNo, OtherResult}
+use Rattle.cert_check.specs.declared.finding.Why.TheVariants.{Torn, OtherStart, NotLegal, NotCandidate, Unfinished, StartIsNo, OtherResult}
 
 abbrev pub why_text : Why → List ℕ
 why_text (Torn bytes) = codes "torn journal"
+why_text OtherStart = codes "other start"
 why_text (NotLegal event) = codes "event " ++ (decimal event ++ codes " is not legal")
 why_text (NotCandidate number) = codes "record " ++ (decimal number ++ codes " is not a candidate")
 why_text Unfinished = codes "unfinished"

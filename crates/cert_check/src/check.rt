@@ -1,6 +1,6 @@
 //! The check of a run.
 
-ghost use Rattle.std.specs.Prelude.{◌≡◌, ◌≢◌, ◌↔◌, ◌≤◌, ℕ, List, true, IfOk, MatchOption, OnOk, length};
+ghost use Rattle.std.specs.Prelude.{◌≡◌, ◌≢◌, ◌↔◌, ◌⊎◌, ◌≤◌, ℕ, List, true, IfOk, MatchOption, OnOk, length};
 ghost use Rattle.keep_guard.specs.Keep.{holds_all, keeps_admit};
 ghost use Rattle.reduce_core.specs.Candidates.{IsLineCandidate};
 ghost use Rattle.reduce_step.specs.Limits.{text_limit};
@@ -9,16 +9,17 @@ ghost use Rattle.reduce_journal.specs.History.{records_of};
 ghost use Rattle.reduce_trees.specs.Ends.{AdmitsStart};
 ghost use Rattle.reduce_trees_mode.specs.Candidates.{InLanguage, IsCandidate};
 ghost use Rattle.reduce_trees_input.specs.Parsed.{IsInputOf, IsParsed, MakesInputOf};
-ghost use Rattle.run_problem.specs.Problem.{IsReductionOf, Problem};
+ghost use Rattle.run_problem.specs.Problem.{IsReductionOf, Problem, start_text};
 ghost use Rattle.verdict_table.specs.TableState.{verdict_in};
-ghost use Rattle.cert_check.specs.Findings.{IsFound};
+ghost use Rattle.cert_check.specs.Findings.{IsFound, IsOfStart, head_in};
 ghost use Rattle.cert_check.specs.Laws.{IsRunTo};
 ghost use Rattle.cert_check.specs.Setup.{CanBeChecked, IsSetupOf, admits_in};
 ghost use Rattle.cert_check.specs.inner.Inputs.{IsFindingOfSetup, IsFindingOfStart};
 ghost use Rattle.cert_check.specs.inner.Steps.{IsFindingOfPlan};
 ghost use Rattle.reduce_step.specs.declared.mode.TreeMode.TheVariants.{Hdd as IsHdd, Perses as IsPerses};
 ghost use Rattle.cert_check.specs.declared.finding.Finding.TheVariants.{Yes as IsYes, No as IsNo};
-ghost use Rattle.cert_check.specs.declared.finding.Why.TheVariants.{Torn as IsTorn};
+ghost use Rattle.cert_check.specs.declared.finding.Why.TheVariants.{OtherStart as IsOther, Torn as IsTorn};
+ghost use Rattle.reduce_journal.specs.declared.head.Head.TheVariants.{Version1};
 
 use crate::candidates::first_other;
 use crate::finding::{Finding, Why};
@@ -34,7 +35,7 @@ use faults::Memory;
 use grammar_tree::Checked;
 use keep_guard::{Guard, KeepTexts, Relation};
 use reduce_core::line_reducer;
-use reduce_journal::Journal;
+use reduce_journal::{Journal, digest_of};
 use reduce_rounds::{ReducerStep, Rounds};
 use reduce_step::{Step, TreeMode};
 use reduce_trees::{HasInput, TreeParts, TreeReducer, TreeRound, hdd_reducer, perses_reducer};
@@ -62,6 +63,33 @@ fn torn_end(journal: &Journal) -> Option<Finding>
         }));
     }
     None
+}
+
+/// That the head of the journal has the digest of another start than this, where it has.
+fn other_start(journal: &Journal, start: &[u8]) -> Option<Finding>
+    ensures { MatchOption result (IsOfStart (head_in journal.now) start.now)
+        (λ finding. (finding ≡ IsNo IsOther) × (¬ IsOfStart (head_in journal.now) start.now)) }
+{
+    if journal.version != 2 {
+        return None;
+    }
+    let digest = journal.start?;
+    if digest == digest_of(start) {
+        return None;
+    }
+    Some(Finding::No(Why::OtherStart))
+}
+
+/// Why the journal isn't that of a run over this start, as far as its head and its end say.
+fn other_journal(journal: &Journal, start: &[u8]) -> Option<Finding>
+    ensures { MatchOption result ((journal.now.torn ≡ 0) × IsOfStart (head_in journal.now) start.now)
+        (λ finding. ((finding ≡ IsNo (IsTorn journal.now.torn)) × (journal.now.torn ≢ 0))
+        ⊎ ((finding ≡ IsNo IsOther) × (journal.now.torn ≡ 0) × (¬ IsOfStart (head_in journal.now) start.now))) }
+{
+    if let Some(torn) = torn_end(journal) {
+        return Some(torn);
+    }
+    other_start(journal, start)
 }
 
 /// What is found of a new reducer's run, where its events are whole: its events, which texts may be
@@ -119,7 +147,8 @@ fn guarded_finding<C: Candidates>(
     requires short { length start.now ≤ text_limit }
     requires kept { holds_all guard.now start.now ≡ true }
     requires same { (asked : List ℕ) → C.IsCandidate candidates.now asked ↔ IsLineCandidate (keeps_admit guard.now) start.now asked }
-    ensures { IfOk result (IsFound (keeps_admit guard.now) (Problem.of_lines start.now) files.entry.output.now files.entry.journal.now.events.items 0) }
+    ensures { let journal = files.entry.journal.now in
+        IfOk result (IsFound (keeps_admit guard.now) (Problem.of_lines start.now) files.entry.output.now Version1 journal.events.items 0) }
 {
     reducers_ask_candidates();
     reducers_are_reductions();
@@ -137,10 +166,10 @@ fn lines_finding(
     requires short { length start.now ≤ text_limit }
     requires kept { holds_all keeps.now start.now ≡ true }
     ensures { let journal = files.entry.journal.now in
-        IfOk result (IsFound (keeps_admit keeps.now) (Problem.of_lines start.now) files.entry.output.now journal.events.items journal.torn) }
+        IfOk result (IsFound (keeps_admit keeps.now) (Problem.of_lines start.now) files.entry.output.now (head_in journal) journal.events.items journal.torn) }
 {
-    if let Some(torn) = torn_end(files.journal) {
-        return Ok(torn);
+    if let Some(other) = other_journal(files.journal, start) {
+        return Ok(other);
     }
     let held = keep_texts(alloc, keeps)?;
     let guard = Guard::new(held);
@@ -190,7 +219,7 @@ fn perses_finding<'a, C: Candidates>(
     requires same { let input = ⟦<TreeParts<KeepTexts<'a>> as HasInput>⟧.input parts.now in
         (asked : List ℕ) → C.IsCandidate candidates.now asked ↔ IsCandidate input asked }
     ensures { let input = ⟦<TreeParts<KeepTexts<'a>> as HasInput>⟧.input parts.now in
-        IfOk result (IsFound input.admits (Problem.of_tree IsPerses input) files.entry.output.now files.entry.journal.now.events.items 0) }
+        IfOk result (IsFound input.admits (Problem.of_tree IsPerses input) files.entry.output.now Version1 files.entry.journal.now.events.items 0) }
 {
     parts.is_input();
     reducers_are_reductions();
@@ -212,7 +241,7 @@ fn hdd_finding<'a, C: Candidates>(
     requires same { let input = ⟦<TreeParts<KeepTexts<'a>> as HasInput>⟧.input parts.now in
         (asked : List ℕ) → C.IsCandidate candidates.now asked ↔ IsCandidate input asked }
     ensures { let input = ⟦<TreeParts<KeepTexts<'a>> as HasInput>⟧.input parts.now in
-        IfOk result (IsFound input.admits (Problem.of_tree IsHdd input) files.entry.output.now files.entry.journal.now.events.items 0) }
+        IfOk result (IsFound input.admits (Problem.of_tree IsHdd input) files.entry.output.now Version1 files.entry.journal.now.events.items 0) }
 {
     parts.is_input();
     reducers_are_reductions();
@@ -235,7 +264,7 @@ fn tree_finding<'a, C: Candidates>(
     requires same { let input = ⟦<TreeParts<KeepTexts<'a>> as HasInput>⟧.input parts.now in
         (asked : List ℕ) → C.IsCandidate candidates.now asked ↔ IsCandidate input asked }
     ensures { let input = ⟦<TreeParts<KeepTexts<'a>> as HasInput>⟧.input parts.now in
-        IfOk result (IsFound input.admits (Problem.of_tree mode input) files.entry.output.now files.entry.journal.now.events.items 0) }
+        IfOk result (IsFound input.admits (Problem.of_tree mode input) files.entry.output.now Version1 files.entry.journal.now.events.items 0) }
 {
     match mode {
         TreeMode::Perses => perses_finding(alloc, parts, candidates, files),
@@ -259,7 +288,7 @@ fn parts_finding<'a>(
     requires input { IsInputOf checked.now start.now (⟦<TreeParts<KeepTexts<'a>> as HasInput>⟧.input parts.now) }
     requires admits { (⟦<TreeParts<KeepTexts<'a>> as HasInput>⟧.input parts.now).admits ≡ keeps_admit keeps.now }
     ensures { let input = ⟦<TreeParts<KeepTexts<'a>> as HasInput>⟧.input parts.now in
-        IfOk result (IsFound (keeps_admit keeps.now) (Problem.of_tree mode input) files.entry.output.now files.entry.journal.now.events.items 0) }
+        IfOk result (IsFound (keeps_admit keeps.now) (Problem.of_tree mode input) files.entry.output.now Version1 files.entry.journal.now.events.items 0) }
 {
     tokens_are_unique();
     texts_are_candidates();
@@ -284,7 +313,8 @@ fn parsed_finding(
     requires language { InLanguage checked.now start.now }
     requires parsed { IsParsed checked.now start.now found }
     requires input { MakesInputOf checked.now start.now found }
-    ensures { IfOk result (IsFindingOfStart checked.now start.now keeps.now mode squeezes files.entry.output.now files.entry.journal.now.events.items 0) }
+    ensures { IfOk result
+        (IsFindingOfStart checked.now start.now keeps.now mode squeezes files.entry.output.now Version1 files.entry.journal.now.events.items 0) }
 {
     checked.is_checked();
     let guard = Guard::new(keep_texts(alloc, keeps)?);
@@ -308,12 +338,12 @@ fn found_finding(
     requires language { InLanguage checked.now start.now }
     requires parsed { IsParsed checked.now start.now found }
     requires input { MakesInputOf checked.now start.now found }
-    ensures { let journal = files.entry.journal.now in
-        IfOk result (IsFindingOfStart checked.now start.now keeps.now mode squeezes files.entry.output.now journal.events.items journal.torn) }
+    ensures { let journal = files.entry.journal.now in IfOk result
+        (IsFindingOfStart checked.now start.now keeps.now mode squeezes files.entry.output.now (head_in journal) journal.events.items journal.torn) }
 {
     checked.is_checked();
-    match torn_end(files.journal) {
-        Some(torn) => Ok(torn),
+    match other_journal(files.journal, start.as_bytes()) {
+        Some(other) => Ok(other),
         None => parsed_finding(alloc, checked, start, found, keeps, mode, squeezes, files),
     }
 }
@@ -331,8 +361,8 @@ fn trees_finding(
     requires short { length start.now ≤ text_limit }
     requires kept { holds_all keeps.now start.now ≡ true }
     requires language { InLanguage checked.now start.now }
-    ensures { let journal = files.entry.journal.now in
-        IfOk result (IsFindingOfStart checked.now start.now keeps.now mode squeezes files.entry.output.now journal.events.items journal.torn) }
+    ensures { let journal = files.entry.journal.now in IfOk result
+        (IsFindingOfStart checked.now start.now keeps.now mode squeezes files.entry.output.now (head_in journal) journal.events.items journal.torn) }
 {
     match found_in_start(alloc, checked, start) {
         Ok(found) => found_finding(alloc, checked, start, found, keeps, mode, squeezes, files),
@@ -343,7 +373,8 @@ fn trees_finding(
 /// What is found of a run that can be checked.
 fn finding(alloc: Global, setup: &Setup, files: Files<'_>) -> Result<Finding, Memory>
     requires { CanBeChecked setup.now }
-    ensures { let journal = files.entry.journal.now in IfOk result (IsFindingOfSetup setup.now files.entry.output.now journal.events.items journal.torn) }
+    ensures { let journal = files.entry.journal.now in
+        IfOk result (IsFindingOfSetup setup.now files.entry.output.now (head_in journal) journal.events.items journal.torn) }
 {
     match setup {
         Setup::Lines { start, keeps } => lines_finding(alloc, start.as_slice(), keeps, files),
@@ -368,10 +399,10 @@ fn finding(alloc: Global, setup: &Setup, files: Files<'_>) -> Result<Finding, Me
 /// Checks a finished run from its files: its output, and its journal as it was read. No script is run,
 /// and which script gave the verdicts isn't checked.
 ///
-/// A torn journal is answered first; only the parse of a start by a grammar comes before. Then the
-/// reduction is made once, over the records. It asks all that the run's reduction asked, equal texts
-/// again, and an answer costs what the reducer says. So the journal's length doesn't bound the time: a few
-/// records may answer many more questions.
+/// A torn journal is answered first, and then one whose head has the digest of another start; only the
+/// parse of a start by a grammar comes before. Then the reduction is made once, over the records. It asks
+/// all that the run's reduction asked, equal texts again, and an answer costs what the reducer says. So
+/// the journal's length doesn't bound the time: a few records may answer many more questions.
 ///
 /// Each event and each answer takes a look into a [`Table`] of the records. Its hash has a fixed seed,
 /// so that a journal can be made whose texts collide; a look then compares with all of these.
@@ -393,10 +424,11 @@ pub fn check_run(
     requires { CanBeChecked setup.now }
     ensures problem { OnOk result ((problem : Problem) × IsSetupOf setup.now problem) }
     ensures finding { IfOk result (λ finding. (problem : Problem) → IsSetupOf setup.now problem
-        → IsFound (admits_in setup.now) problem output.now journal.now.events.items journal.now.torn finding) }
+        → IsFound (admits_in setup.now) problem output.now (head_in journal.now) journal.now.events.items journal.now.torn finding) }
     ensures reduction { IfOk result (λ finding. (problem : Problem) → IsSetupOf setup.now problem → finding ≡ IsYes
         → IsReductionOf (admits_in setup.now) (verdict_in (records_of journal.now.events.items)) problem output.now) }
     ensures finished { IfOk result (λ finding. (problem : Problem) → IsSetupOf setup.now problem → journal.now.torn ≡ 0
+        → IsOfStart (head_in journal.now) (start_text problem)
         → IsRunTo (admits_in setup.now) problem journal.now.events.items output.now → finding ≡ IsYes) }
 {
     inputs_are_one();

@@ -16,6 +16,8 @@ pub enum Finding {
 pub enum Why {
     /// The journal ends within an event, of which it has so many bytes.
     Torn { bytes: u64 },
+    /// The head of the journal has the digest of another start.
+    OtherStart,
     /// The reducer can't have the history up to this event, counted from 1, but that before it: a text
     /// is recorded again, or a commit names no earlier record of the text that is asked then.
     NotLegal { event: u64 },
@@ -38,6 +40,7 @@ impl fmt::Display for Why {
     fn fmt<W: fmt::Write>(&self, f: &mut fmt::Formatter<W>) -> fmt::Result {
         match self {
             Why::Torn { .. } => f.write_str("torn journal"),
+            Why::OtherStart => f.write_str("other start"),
             Why::NotLegal { event } => write!(f, "event {event} is not legal"),
             Why::NotCandidate { number } => write!(f, "record {number} is not a candidate"),
             Why::Unfinished => f.write_str("unfinished"),

@@ -5,6 +5,7 @@ use Rattle.edge_io.specs.Files.{IsLonger, SameFiles}
 use Rattle.keep_guard.specs.Keep.{first_missing, holds_all}
 use Rattle.keep_guard.proofs.Lent.{holds_all_or_misses}
 use Rattle.reduce_journal.specs.History.{History}
+use Rattle.reduce_journal.specs.declared.head.Head.{Head}
 use Rattle.reduce_journal.specs.Journal.{IsJournalOf}
 use Rattle.reduce_trees_input.specs.Laws.{InputFaultOnce, InputsAreInLanguage}
 use Rattle.run_problem.specs.Problem.{Problem, start_text}
@@ -73,10 +74,10 @@ module _ (options : CheckOptions) (files files' : SeenFiles) (out out' : SeenOut
 
   bad_hidden : (P : List ℕ → Type 0) → JournalIsBad P options files → IsShownRun options files → ⊥
   bad_hidden P read shown =
-      let it : (history : History) × (torn : ℕ) × IsJournalOf read.1.bytes history torn =
-      shown_holds journal_limit (λ bytes. (history : History) × (torn : ℕ) × IsJournalOf bytes history torn) (files.shown options.journal)
-      shown.journal read.1.bytes read.1.read in
-      read.1.holds.1 it.0 it.1 it.2
+      let it : (head : Head) × (history : History) × (torn : ℕ) × IsJournalOf read.1.bytes head history torn =
+      shown_holds journal_limit (λ bytes. (head : Head) × (history : History) × (torn : ℕ) × IsJournalOf bytes head history torn)
+      (files.shown options.journal) shown.journal read.1.bytes read.1.read in
+      read.1.holds.1 it.0 it.1 it.2 it.3
 
   module _ (faults : InputFaultOnce) (languages : InputsAreInLanguage) (journals : JournalsAreOne) (once : OneIsFound) where
     long_ends : (file : NamedFile) → IsFileReached options file files → IsLonger (limit_of file) (files.shown (path_of_file options file))

@@ -13,6 +13,7 @@ use Rattle.reduce_trees_input.specs.Laws.{InputsAreInLanguage, InputsAreOne}
 use Rattle.reduce_trees_input.specs.Parsed.{IsInputOf, tree_input}
 use Rattle.reduce_journal.specs.History.{History, records_of}
 use Rattle.reduce_journal.specs.Journal.{GivesJournal, IsBadAt, IsJournalOf, LacksHead}
+use Rattle.reduce_journal.specs.declared.head.Head.{Head}
 use Rattle.reduce_journal.specs.declared.read.JournalFault.{JournalFault}
 use Rattle.reduce_journal.specs.declared.read.JournalFault.TheVariants as journal_fault
 use Rattle.cert_check.specs.Findings.{IsFound}
@@ -119,19 +120,19 @@ module _ (options : CheckOptions) (files files' : SeenFiles) where
   module _ (is : IsJournalReached options files) (quiet : IsQuiet files files') (bytes : List ℕ) (here : Holds bytes (files.shown options.journal))
       (within : length bytes ≤ journal_limit) where
     pub journal_bad : (fault : JournalFault) (refusal : Refusal) → IsJournalRefusal fault refusal
-        → ((events : History) (torn : ℕ) → IsJournalOf bytes events torn → GivesJournal events torn (Err fault))
+        → ((head : Head) (events : History) (torn : ℕ) → IsJournalOf bytes head events torn → GivesJournal head events torn (Err fault))
         → (fault ≡ journal_fault.BadHead → LacksHead bytes) → ((offset : ℕ) → fault ≡ journal_fault.BadRecord offset → IsBadAt bytes offset)
         → CheckFails options files files' refusal
-    journal_bad fault Memory answers each head event = λ out out' put. memory quiet put
-    journal_bad journal_fault.BadHead (BadJournal line) answers each head event = λ out out' put.
-        no_head (is, record { bytes = bytes; read = here; within = within; holds = (head refl, λ history torn of. each history torn of) }) quiet
+    journal_bad fault Memory answers each lacks event = λ out out' put. memory quiet put
+    journal_bad journal_fault.BadHead (BadJournal line) answers each lacks event = λ out out' put.
+        no_head (is, record { bytes = bytes; read = here; within = within; holds = (lacks refl, λ head history torn of. each head history torn of) }) quiet
         (subst (λ l. PutsLine l out out') answers put)
-    journal_bad (journal_fault.BadRecord offset) (BadJournal line) answers each head event = λ out out' put.
+    journal_bad (journal_fault.BadRecord offset) (BadJournal line) answers each lacks event = λ out out' put.
         bad_event offset
-        (is, record { bytes = bytes; read = here; within = within; holds = (event offset refl, λ history torn of. each history torn of) }) quiet
+        (is, record { bytes = bytes; read = here; within = within; holds = (event offset refl, λ head history torn of. each head history torn of) }) quiet
         (subst (λ l. PutsLine l out out') answers put)
-    journal_bad journal_fault.Memory (BadJournal line) answers each head event = absurd answers
-    journal_bad fault _ answers each head event = absurd answers
+    journal_bad journal_fault.Memory (BadJournal line) answers each lacks event = absurd answers
+    journal_bad fault _ answers each lacks event = absurd answers
 
 module _ (options : CheckOptions) (files : SeenFiles) where
   -- the lines of an input
@@ -206,45 +207,47 @@ module _ (options : CheckOptions) (files : SeenFiles) where
     }
 
 -- what is found of a setup's run is found of the command line's
-pub found_of : (options : CheckOptions) (files : SeenFiles) (it : Setup) (text : List ℕ) (history : History) (torn : ℕ) (finding : Finding)
-    → IsSetupRead options files it → RunRead options files text history torn
-    → ((problem : Problem) → IsSetupOf it problem → IsFound (admits_in it) problem text history torn finding) → FoundIn options files finding
-found_of options files it text history torn finding setup_read run found =
+pub found_of : (options : CheckOptions) (files : SeenFiles) (it : Setup) (text : List ℕ) (head : Head) (history : History) (torn : ℕ) (finding : Finding)
+    → IsSetupRead options files it → RunRead options files text head history torn
+    → ((problem : Problem) → IsSetupOf it problem → IsFound (admits_in it) problem text head history torn finding) → FoundIn options files finding
+found_of options files it text head history torn finding setup_read run found =
     problem_map (checked_problem options) files (λ problem. (holds_all options.keeps (start_text problem) ≡ true) × IsSetupOf it problem)
     (λ problem. (holds_all options.keeps (start_text problem) ≡ true)
-    × ((text : List ℕ) × (history : History) × (torn : ℕ) × RunRead options files text history torn
-    × IsFound (keeps_admit options.keeps) problem text history torn finding))
+    × ((text : List ℕ) × (head : Head) × (history : History) × (torn : ℕ) × RunRead options files text head history torn
+    × IsFound (keeps_admit options.keeps) problem text head history torn finding))
     (λ problem is. (
       is.0,
       (
         text,
+        head,
         history,
         torn,
         run,
-        subst (λ (keeps : List (List ℕ)). IsFound (keeps_admit keeps) problem text history torn finding)
+        subst (λ (keeps : List (List ℕ)). IsFound (keeps_admit keeps) problem text head history torn finding)
             setup_read.keeps (found problem is.1),
       ),
     )) setup_read.problem
 
 -- so is that it is confirmed, with what that implies
-pub confirmed_of : (options : CheckOptions) (files : SeenFiles) (it : Setup) (text : List ℕ) (history : History) (torn : ℕ)
-    → IsSetupRead options files it → RunRead options files text history torn
-    → ((problem : Problem) → IsSetupOf it problem → IsFound (admits_in it) problem text history torn Yes)
+pub confirmed_of : (options : CheckOptions) (files : SeenFiles) (it : Setup) (text : List ℕ) (head : Head) (history : History) (torn : ℕ)
+    → IsSetupRead options files it → RunRead options files text head history torn
+    → ((problem : Problem) → IsSetupOf it problem → IsFound (admits_in it) problem text head history torn Yes)
     → ((problem : Problem) → IsSetupOf it problem → IsReductionOf (admits_in it) (verdict_in (records_of history)) problem text) → ConfirmedIn options files
-confirmed_of options files it text history torn setup_read run found reduction =
+confirmed_of options files it text head history torn setup_read run found reduction =
     problem_map (checked_problem options) files (λ problem. (holds_all options.keeps (start_text problem) ≡ true) × IsSetupOf it problem)
     (λ problem. (holds_all options.keeps (start_text problem) ≡ true)
-    × ((text : List ℕ) × (history : History) × (torn : ℕ) × RunRead options files text history torn
-    × IsFound (keeps_admit options.keeps) problem text history torn Yes
+    × ((text : List ℕ) × (head : Head) × (history : History) × (torn : ℕ) × RunRead options files text head history torn
+    × IsFound (keeps_admit options.keeps) problem text head history torn Yes
     × IsReductionOf (keeps_admit options.keeps) (verdict_in (records_of history)) problem text))
     (λ problem is. (
       is.0,
       (
         text,
+        head,
         history,
         torn,
         run,
-        subst (λ (keeps : List (List ℕ)). IsFound (keeps_admit keeps) problem text history torn Yes) setup_read.keeps (found problem is.1),
+        subst (λ (keeps : List (List ℕ)). IsFound (keeps_admit keeps) problem text head history torn Yes) setup_read.keeps (found problem is.1),
         subst (λ (keeps : List (List ℕ)). IsReductionOf (keeps_admit keeps) (verdict_in (records_of history)) problem text) setup_read.keeps
             (reduction problem is.1),
       ),

@@ -2,6 +2,7 @@
 use Rattle.std.specs.Prelude.{◌≡◌, ◌≢◌, ◌+◌, ℕ, List, [], ◌∷◌, ◌++◌, Some, None, false, true, codes}
 use Rattle.edge_io.specs.Files.{IsLonger, SameFiles}
 use Rattle.keep_guard.specs.Keep.{first_missing, holds_all, keeps_admit}
+use Rattle.reduce_journal.specs.declared.head.Head.{Head}
 use Rattle.reduce_journal.specs.History.{History, records_of}
 use Rattle.reduce_journal.specs.Journal.{IsBadAt, IsJournalOf, LacksHead}
 use Rattle.reduce_trees_input.specs.Faults.{IsInputFault}
@@ -33,22 +34,22 @@ checked_problem options = record { mode = options.mode; input = options.input; a
 abbrev pub ProblemHeld : CheckOptions → SeenFiles → (Problem → Type 0) → Type 0
 ProblemHeld options files P = ProblemRead (checked_problem options) files (λ problem. (holds_all options.keeps (start_text problem) ≡ true) × P problem)
 
--- The result was read whole, within its limit, and has this text; so was the journal, which has this history and so many torn bytes.
-pub record RunRead (options : CheckOptions) (files : SeenFiles) (text : List ℕ) (history : History) (torn : ℕ) : Type 0 where
+-- The result was read whole, within its limit, and has this text; so was the journal, which has this head, this history and so many torn bytes.
+pub record RunRead (options : CheckOptions) (files : SeenFiles) (text : List ℕ) (head : Head) (history : History) (torn : ℕ) : Type 0 where
   pub result : WasRead result_limit (files.shown options.output) (λ bytes. bytes ≡ text)
-  pub journal : WasRead journal_limit (files.shown options.journal) (λ bytes. IsJournalOf bytes history torn)
+  pub journal : WasRead journal_limit (files.shown options.journal) (λ bytes. IsJournalOf bytes head history torn)
 
 -- The problem, its result and its journal were read, and this is found of them.
 abbrev pub FoundIn : CheckOptions → SeenFiles → Finding → Type 0
 FoundIn options files finding = ProblemHeld options files (λ problem.
-    (text : List ℕ) × (history : History) × (torn : ℕ) × RunRead options files text history torn
-    × IsFound (keeps_admit options.keeps) problem text history torn finding)
+    (text : List ℕ) × (head : Head) × (history : History) × (torn : ℕ) × RunRead options files text head history torn
+    × IsFound (keeps_admit options.keeps) problem text head history torn finding)
 
 -- They were read, and are those of a finished run. So the result is what the problem is reduced to over the recorded verdicts, and minimal.
 abbrev pub ConfirmedIn : CheckOptions → SeenFiles → Type 0
 ConfirmedIn options files = ProblemHeld options files (λ problem.
-    (text : List ℕ) × (history : History) × (torn : ℕ) × RunRead options files text history torn
-    × IsConfirmed (keeps_admit options.keeps) problem text history torn
+    (text : List ℕ) × (head : Head) × (history : History) × (torn : ℕ) × RunRead options files text head history torn
+    × IsConfirmed (keeps_admit options.keeps) problem text head history torn
     × IsReductionOf (keeps_admit options.keeps) (verdict_in (records_of history)) problem text)
 
 -- the result is read, once the problem was; and the journal, once the result was
@@ -72,7 +73,7 @@ path_of_file options file = path_in (checked_problem options) file
 
 -- bytes are the journal of no history
 abbrev pub HaveNoHistory : List ℕ → Type 0
-HaveNoHistory bytes = (history : History) (torn : ℕ) → ¬ IsJournalOf bytes history torn
+HaveNoHistory bytes = (head : Head) (history : History) (torn : ℕ) → ¬ IsJournalOf bytes head history torn
 
 -- the journal was read within its limit, it is that of no history, and the fact holds of its bytes
 abbrev pub JournalIsBad : (List ℕ → Type 0) → CheckOptions → SeenFiles → Type 0
@@ -135,7 +136,7 @@ pub data CheckEnds (options : CheckOptions) (files files' : SeenFiles) (out out'
       → (quiet : IsQuiet files files')
       → (line : PutsMessage (word_for file ++ codes " is too long") out out')
       → CheckEnds options files files' out out' 10
-  -- the problem and the result were read, and the journal, which doesn't begin with the first line of one
+  -- the problem and the result were read, and the journal, which begins with no whole head
   no_head : (read : JournalIsBad LacksHead options files)
       → (quiet : IsQuiet files files')
       → (line : PutsMessage (codes "bad journal head") out out')
@@ -161,7 +162,8 @@ IsShownHeld options files = IsShownProblem (checked_problem options) files (λ s
 pub record IsShownRun (options : CheckOptions) (files : SeenFiles) : Type 0 where
   pub problem : IsShownHeld options files
   pub result : IsShownWithin result_limit (files.shown options.output) (λ bytes. Unit {0})
-  pub journal : IsShownWithin journal_limit (files.shown options.journal) (λ bytes. (history : History) × (torn : ℕ) × IsJournalOf bytes history torn)
+  pub journal : IsShownWithin journal_limit (files.shown options.journal)
+      (λ bytes. (head : Head) × (history : History) × (torn : ℕ) × IsJournalOf bytes head history torn)
 
 -- Which status the grammar, the input and the keep texts ask for. A failed read (3) and out of memory (1) are excepted.
 pub record ProblemMustEnd (options : CheckOptions) (files : SeenFiles) (status : ℕ) : Type 0 where

@@ -3,6 +3,7 @@
 ghost use Rattle.std.specs.Prelude.{◌≡◌, true, IfErr, IfOk, OnOk, map};
 ghost use Rattle.edge_io.specs.Files.{SameFiles};
 ghost use Rattle.keep_guard.specs.Keep.{holds_all};
+ghost use Rattle.cert_check.specs.Findings.{head_in};
 ghost use Rattle.command_check.specs.Check.{IsResultReached, RunRead};
 ghost use Rattle.command_check.specs.inner.Check.{CheckFails, IsSetupRead};
 ghost use Rattle.command_words.specs.Lines.{check_read};
@@ -127,8 +128,8 @@ pub(crate) fn read_run<F: Files>(
     line: &CheckLine<'_>,
     files: &mut F,
 ) -> Result<Run, Refusal>
-    ensures run { IfOk result (λ run. RunRead (check_read line.now) (seen F.content F.faults files.old) run.output.items run.journal.events.items
-        run.journal.torn) }
+    ensures run { IfOk result (λ run. RunRead (check_read line.now) (seen F.content F.faults files.old) run.output.items
+        (head_in run.journal) run.journal.events.items run.journal.torn) }
     ensures quiet { OnOk result (IsQuiet (seen F.content F.faults files.old) (seen F.content F.faults files.new)) }
     ensures same { SameFiles (F.content files.old) (F.content files.new) }
     ensures refused { IsResultReached (check_read line.now) (seen F.content F.faults files.old) → IfErr result (λ refusal. CheckFails (check_read line.now)

@@ -1,6 +1,7 @@
 -- Where memory ran out before the words were read, that is how the command ends that they ask for.
 use Rattle.std.proofs.Common.{◌≡◌, ◌≢◌, ◌⊎◌, ◌∙◌, inl, inr, ℕ, List, [], ◌∷◌, Option, None, Some, refl, sym, ap, subst}
 use Rattle.std.proofs.lemmas.Bool.{false≢true}
+use Rattle.sha2.specs.Sha256.{sha256}
 use Rattle.script_gate_trait.specs.declared.gate.Verdict.{Verdict}
 use Rattle.command_words.specs.Commands.{CheckOptions, Command, GrammarSource, ReduceOptions, SelftestOptions}
 use Rattle.command_words.specs.Lines.{command_read}
@@ -17,7 +18,7 @@ use Rattle.command_reduce.specs.Reduce.{ReduceEnds, Reduces}
 use Rattle.command_selftest.specs.Selftest.{RunsSelftest, SelftestEnds}
 use Rattle.command_ends.specs.Status.{EndsRefused, IsOneOf}
 use Rattle.command_ends.specs.World.{NotReached, SeenFiles, SeenOut, World, logs_of}
-use Rattle.command_reduce.proofs.Lent.{none_sound, reduce_by_status}
+use Rattle.command_reduce.proofs.Lent.{digest_is, none_sound, reduce_by_status}
 use Rattle.command_normal.proofs.Lent.{prints_normal, normal_by_status}
 use Rattle.command_selftest.proofs.Lent.{selftest_ends}
 
@@ -32,6 +33,7 @@ module _ (may_say : List ℕ → Verdict → Type 0) (old : World) (out : SeenOu
     reduces : (options : ReduceOptions) → Reduces options may_say old new 1
     reduces options = record {
       history = [];
+      start = record { bytes = sha256 [] };
       ends =
           ReduceEnds.memory (record { same = λ name. refl; quiet = refl }) (λ alone. refl)
           (JournalSoFar.untouched (record { no_history = refl; same = refl })) end.line;
@@ -59,7 +61,7 @@ module _ (may_say : List ℕ → Verdict → Type 0) (old : World) (out : SeenOu
         out_failed = λ failed is. cc is;
       };
       sound = none_sound options may_say [] (logs_of old.gates) (logs_of old.gates) old.journal old.journal refl refl refl;
-      of_input = tt;
+      of_input = inl (untouched, digest_is []);
       others = refl;
     }
 
@@ -111,7 +113,7 @@ pub reduce_not_usage : (options : ReduceOptions) (may_say : List ℕ → Verdict
     → status ≢ 2
 reduce_not_usage options may_say old new status runs two =
     false≢true (subst (IsOneOf (0 ∷ 1 ∷ 3 ∷ 4 ∷ 5 ∷ 6 ∷ 7 ∷ 8 ∷ 9 ∷ 10 ∷ 11 ∷ 12 ∷ 16 ∷ [])) two
-    (reduce_by_status options runs.history old new status runs.ends).known)
+    (reduce_by_status options runs.start runs.history old new status runs.ends).known)
 
 pub check_not_usage : (options : CheckOptions) (files files' : SeenFiles) (out out' : SeenOut) (status : ℕ)
     → Checks options files files' out out' status → status ≢ 2

@@ -8,7 +8,8 @@ use Rattle.script_gate_trait.specs.declared.gate.Verdict.TheVariants.{Yes}
 use Rattle.grammar_tree.specs.Written.{CheckedGrammar}
 use Rattle.keep_guard.specs.Keep.{holds_all}
 use Rattle.reduce_journal.specs.History.{History, IsHistory, records_of}
-use Rattle.reduce_journal.specs.Journal.{journal_text}
+use Rattle.reduce_journal.specs.Journal.{IsDigest, IsDigestOf, journal_text}
+use Rattle.reduce_journal.specs.declared.digest.Digest.{Digest}
 use Rattle.reduce_journal.specs.Report.{report_text}
 use Rattle.reduce_journal.specs.declared.counts.Counts.{Counts}
 use Rattle.reduce_trees_input.specs.Parsed.{IsInputOf}
@@ -21,11 +22,11 @@ use Rattle.run_problem.proofs.Lent.{none_of}
 use Rattle.command_words.specs.Commands.{Command, ModeOptions, ReduceOptions}
 use Rattle.command_grammar.proofs.Lent.{one_grammar}
 use Rattle.command_ends.specs.Status.{IsOneOf}
-use Rattle.command_ends.specs.World.{Puts, SeenFiles, World}
+use Rattle.command_ends.specs.World.{NotReached, Puts, SeenFiles, World}
 use Rattle.command_reduce_calls.specs.Journal.{JournalSoFar}
 use Rattle.command_reduce_calls.specs.Stays.{AcceptsStart}
 use Rattle.command_reduce.specs.Reduce.{admits_of, problem_in}
-use Rattle.command_reduce.specs.Reduce.{IsHistoryOfInput, ProblemAccepted, ReduceEnds, ReduceMustEnd, Reduces, ReducesTo}
+use Rattle.command_reduce.specs.Reduce.{IsHistoryOfInput, IsHistoryWith, ProblemAccepted, ReduceEnds, ReduceMustEnd, Reduces, ReducesTo}
 use Rattle.command_reduce.specs.Reduce.ReduceEnds.{done, memory, script, uninteresting, unput, unwritten}
 use Rattle.command_reduce.specs.ReduceByStatus.{ReduceMeans}
 use Rattle.command_reduce.proofs.Lent.{reduce_by_status}
@@ -35,7 +36,9 @@ use Rattle.command_problem.specs.Problem.{IsShownProblem, ReadIn}
 
 -- bytes have one history
 abbrev pub BytesHaveOneHistory : Type 0
-BytesHaveOneHistory = (one other : History) → IsHistory one → IsHistory other → journal_text one ≡ journal_text other → one ≡ other
+BytesHaveOneHistory =
+    (start start_other : Digest) (one other : History) → IsDigest start → IsDigest start_other → IsHistory one → IsHistory other
+    → journal_text start one ≡ journal_text start_other other → (start ≡ start_other) × (one ≡ other)
 
 -- ---- the problem
 
@@ -76,23 +79,26 @@ module _ (options : ReduceOptions) (files : SeenFiles) where
       known_in options.mode Kept accepted in
       (it.0, record { read = it.1; accepted = it.2.0; only = λ visible other read. one_in options.mode it.0 other visible it.1 read }, it.2.1)
 
-  -- that of a history; without one any will do
-  problem_of : (history : History) → IsHistoryOfInput options files history
-      → (problem : Problem) × (history ≢ [] → IsProblemOf options files problem) × AreOf options.jobs (admits_of options problem) problem history
-  problem_of [] are =
-      (Problem.of_lines [], λ some. absurd (some refl), none_of options.jobs (admits_of options (Problem.of_lines [])) (Problem.of_lines []) [] refl)
-  problem_of (event ∷ history) are =
-      let it : (problem : Problem) × IsProblemOf options files problem × AreOf options.jobs (admits_of options problem) problem (event ∷ history) =
-      the_problem (λ problem. AreOf options.jobs (admits_of options problem) problem (event ∷ history)) are in
-      (it.0, λ some. it.1, it.2)
-
 -- ---- the result
 
 -- what is written has come to its result
 has_written : (old new : SeenFiles) (status : ℕ) → WasWritten old new status → HasResult status
 has_written old new status was = ⊎_elim (λ is. subst HasResult (sym is) refl) (λ at_four. subst HasResult (sym at_four.0) refl) was
 
-module _ (options : ReduceOptions) (history : History) (old new : World) where
+module _ (options : ReduceOptions) (start : Digest) (history : History) (old new : World) where
+  -- that of a history; any will do where neither a gate nor the journal was reached
+  problem_of : IsHistoryOfInput options start history old new
+      → (problem : Problem) × (¬ NotReached history old new → IsProblemOf options old.files problem) × IsHistoryWith options start history problem
+  problem_of (inl none) = (
+    Problem.of_lines [],
+    λ reached. absurd (reached none.0),
+    (none.1, none_of options.jobs (admits_of options (Problem.of_lines [])) (Problem.of_lines []) history none.0.no_history),
+  )
+  problem_of (inr are) =
+      let it : (problem : Problem) × IsProblemOf options old.files problem × IsHistoryWith options start history problem =
+      the_problem options old.files (IsHistoryWith options start history) are in
+      (it.0, λ reached. it.1, it.2)
+
   -- The problem reduces to a text, which was written, and its report was put.
   record ResultOf (problem : Problem) (status : ℕ) : Type 0 where
     text : List ℕ
@@ -105,31 +111,32 @@ module _ (options : ReduceOptions) (history : History) (old new : World) where
   record HasCome (status : ℕ) : Type 0 where
     problem : Problem
     of_files : IsProblemOf options old.files problem
-    are : AreOf options.jobs (admits_of options problem) problem history
+    are : IsHistoryWith options start history problem
     result : ResultOf problem status
 
-  come : {status : ℕ} (text report : List ℕ) → ReducesTo options old.files history text report
+  come : {status : ℕ} (text report : List ℕ) → ReducesTo options old.files start history text report
       → (WasWritten old.files new.files status → Holds text (new.files.shown options.output)) → (status ≡ 0 → Puts report old.out new.out) → HasCome status
   come text report reduces written put =
       let P : Problem → Type 0 =
-      λ problem. (counts : Counts) × ReducesFrom options.jobs (admits_of options problem) problem history text counts × (report ≡ report_text counts)
+      λ problem. IsDigestOf (start_text problem) start × (counts : Counts) × ReducesFrom options.jobs (admits_of options problem) problem history text counts
+      × (report ≡ report_text counts)
       × AreOf options.jobs (admits_of options problem) problem history in
       let it : (problem : Problem) × IsProblemOf options old.files problem × P problem = the_problem options old.files P reduces in
       record {
         problem = it.0;
         of_files = it.1;
-        are = it.2.3;
+        are = (it.2.0, it.2.4);
         result = record {
           text = text;
-          counts = it.2.0;
-          reduces = it.2.1;
+          counts = it.2.1;
+          reduces = it.2.2;
           written = written;
-          report = λ is. subst (λ (r : List ℕ). Puts r old.out new.out) it.2.2 (put is);
+          report = λ is. subst (λ (r : List ℕ). Puts r old.out new.out) it.2.3 (put is);
         };
       }
 
   -- by how it ended
-  result_in : {status : ℕ} → ReduceEnds options history old new status → HasCome status ⊎ (HasResult status → ⊥)
+  result_in : {status : ℕ} → ReduceEnds options start history old new status → HasCome status ⊎ (HasResult status → ⊥)
   result_in (done report writes put) = inl (come writes.reduced.text report writes.reduced.reduces (λ was. writes.reduced.written) (λ is. put))
   result_in (unwritten failed text report reduces others gates_quiet kept put) =
       inl (come text report reduces (λ was. ⊎_elim (λ is. absurd (cc is)) (λ at_four. absurd (at_four.1 failed)) was) (λ is. absurd (cc is)))
@@ -137,15 +144,15 @@ module _ (options : ReduceOptions) (history : History) (old new : World) where
       inl (come writes.reduced.text report writes.reduced.reduces (λ was. writes.reduced.written) (λ is. absurd (cc is)))
   result_in _ = inr (λ has. false≢true has)
 
-  so_far : {status : ℕ} → ReduceEnds options history old new status → IsOneOf (1 ∷ 11 ∷ []) status
-      → JournalSoFar options.journal history old.journal new.journal
+  so_far : {status : ℕ} → ReduceEnds options start history old new status → IsOneOf (1 ∷ 11 ∷ []) status
+      → JournalSoFar options.journal start history old.journal new.journal
   so_far (memory files gates_quiet kept put) is = kept
   so_far (script worker one_of failed read files kept put) is =
       ⊎_elim (λ whole. JournalSoFar.whole whole) (λ unopened. JournalSoFar.untouched unopened.untouched) kept
   so_far _ is = absurd (false≢true is)
 
   -- the run succeeds
-  done_at : {status : ℕ} → ReduceEnds options history old new status → ReduceMustEnd options (records_of history) old new status
+  done_at : {status : ℕ} → ReduceEnds options start history old new status → ReduceMustEnd options (records_of history) old new status
       → (status ≡ 8 → OnlyNo (records_of history))
       → IsShownProblem (problem_in options) old.files (AcceptsStart options) → NoCallFailed options.jobs old new
       → (status ≡ 0) ⊎ ((status ≡ 8) × OnlyNo (records_of history)) ⊎ (status ≡ 1)
@@ -161,21 +168,27 @@ module _ (one_history : BytesHaveOneHistory) (bounded : AnswersAreBounded) (may_
   abbrev history : History
   history = runs.history
 
-  means : ReduceMeans options history old new status
-  means = reduce_by_status options history old new status runs.ends
+  abbrev start : Digest
+  start = runs.start
 
-  headline_at : (problem : Problem) → (history ≢ [] → IsProblemOf options old.files problem) → AreOf options.jobs (admits_of options problem) problem history
-      → (HasResult status → ResultOf options history old new problem status) → Headline may_say options old new status
-  headline_at problem of_files are result = record {
+  means : ReduceMeans options start history old new status
+  means = reduce_by_status options start history old new status runs.ends
+
+  headline_at : (problem : Problem) → (¬ NotReached history old new → IsProblemOf options old.files problem) → IsDigestOf (start_text problem) start
+      → AreOf options.jobs (admits_of options problem) problem history → (HasResult status → ResultOf options start history old new problem status)
+      → Headline may_say options old new status
+  headline_at problem of_files of_start are result = record {
     history = history;
     problem = problem;
     of_files = of_files;
+    start = start;
+    of_start = of_start;
     journal = means.whole;
-    journal_so_far = so_far options history old new runs.ends;
+    journal_so_far = so_far options start history old new runs.ends;
     journal_broken = λ is. (means.journal is).1;
     not_reached = means.early;
     readable = are.readable;
-    only = λ other of_other same. one_history other history of_other are.readable same;
+    only = λ digest other is_digest of_other same. one_history digest start other history is_digest of_start.0 of_other are.readable same;
     said = runs.sound.said;
     distinct = runs.sound.distinct;
     asked = runs.sound.used;
@@ -208,16 +221,18 @@ module _ (one_history : BytesHaveOneHistory) (bounded : AnswersAreBounded) (may_
     report = λ is.
         let it = result (subst HasResult (sym is) refl) in
         subst (λ (counts : Counts). Puts (report_text counts) old.out new.out) it.reduces.is_counts (it.report is);
-    succeeds = done_at options history old new runs.ends runs.must_end means.not_interesting;
+    succeeds = done_at options start history old new runs.ends runs.must_end means.not_interesting;
   }
 
   of_any : (HasResult status → ⊥) → Headline may_say options old new status
   of_any none =
-      let any = problem_of options old.files history runs.of_input in
-      headline_at any.0 any.1 any.2 (λ has. absurd (none has))
+      let any = problem_of options start history old new runs.of_input in
+      headline_at any.0 any.1 any.2.0 any.2.1 (λ has. absurd (none has))
 
   headline : Headline may_say options old new status
-  headline = ⊎_elim (λ it. headline_at it.problem (λ some. it.of_files) it.are (λ has. it.result)) of_any (result_in options history old new runs.ends)
+  headline =
+      ⊎_elim (λ it. headline_at it.problem (λ reached. it.of_files) it.are.0 it.are.1 (λ has. it.result)) of_any
+      (result_in options start history old new runs.ends)
 
 module _ (one_history : BytesHaveOneHistory) (bounded : AnswersAreBounded) (may_say : List ℕ → Verdict → Type 0) (old new : World) (status : ℕ) where
   -- of a command line of `reduce`

@@ -8,7 +8,8 @@ use Rattle.script_gate_trait.specs.declared.gate.Verdict.TheVariants.{Yes}
 use Rattle.keep_guard.specs.Keep.{holds_all}
 use Rattle.verdict_table.specs.TableState.{texts_of, verdict_in}
 use Rattle.reduce_journal.specs.History.{History, IsHistory, records_of}
-use Rattle.reduce_journal.specs.Journal.{journal_text}
+use Rattle.reduce_journal.specs.Journal.{IsDigest, IsDigestOf, journal_text}
+use Rattle.reduce_journal.specs.declared.digest.Digest.{Digest}
 use Rattle.reduce_journal.specs.Report.{report_text}
 use Rattle.reduce_rounds.specs.Verdicts.{HasVerdicts}
 use Rattle.run_gated.specs.Records.{BeginsAt, FirstIs, FirstIsNo, OnlyNo}
@@ -68,9 +69,12 @@ pub record NoCallFailed (jobs : ℕ) (old new : World) : Type 0 where
 pub record Headline (may_say : List ℕ → Verdict → Type 0) (options : ReduceOptions) (old new : World) (status : ℕ) : Type 0 where
   -- the texts that have a verdict, with it, and which of these the reduction used, in their order
   pub history : History
-  -- what was reduced: where there is a history, the files' own problem as they were, by the grammar as it is written in its file, or its two
+  -- what was reduced: where a gate or the journal was reached, the files' own problem as they were, by the grammar as it is written in its file, or its two
   pub problem : Problem
-  pub of_files : history ≢ [] → IsProblemOf options old.files problem
+  pub of_files : ¬ NotReached history old new → IsProblemOf options old.files problem
+  -- the digest of its start
+  pub start : Digest
+  pub of_start : IsDigestOf (start_text problem) start
   -- ---- the result
   -- the output file holds what the recursive reduction gives over the verdicts
   pub written : WasWritten old.files new.files status → Holds (result_text options problem history) (new.files.shown options.output)
@@ -107,17 +111,18 @@ pub record Headline (may_say : List ℕ → Verdict → Type 0) (options : Reduc
   pub ends_at_no : FirstIsNo (records_of history) → OnlyNo (records_of history)
   -- ---- the journal
   -- at 0, 4 and 8 it was opened under its name, and then got the bytes of the history, all of them and nothing else
-  pub journal : IsOneOf (0 ∷ 4 ∷ 8 ∷ []) status → JournalWhole options.journal history old.journal new.journal
+  pub journal : IsOneOf (0 ∷ 4 ∷ 8 ∷ []) status → JournalWhole options.journal start history old.journal new.journal
   -- at 1 and 11 too; or it is as handed in or was only opened, and there is no history
-  pub journal_so_far : IsOneOf (1 ∷ 11 ∷ []) status → JournalSoFar options.journal history old.journal new.journal
-  -- at 12 it wasn't opened, or broke off in its first line, and there is no history; or in an event: by one worker in the last record, or in a commit after
+  pub journal_so_far : IsOneOf (1 ∷ 11 ∷ []) status → JournalSoFar options.journal start history old.journal new.journal
+  -- at 12 it wasn't opened, or broke off in its head, and there is no history; or in an event: by one worker in the last record, or in a commit after
   -- all of the history
-  pub journal_broken : status ≡ 12 → JournalBroken options.jobs options.journal history old.journal new.journal
+  pub journal_broken : status ≡ 12 → JournalBroken options.jobs options.journal start history old.journal new.journal
   -- at the others it and the gates are as handed in, and there is no history
   pub not_reached : ¬ IsOneOf (0 ∷ 1 ∷ 4 ∷ 8 ∷ 11 ∷ 12 ∷ []) status → NotReached history old new
-  -- the history can be read back of its bytes, and no other history has them
+  -- the start's digest and the history can be read back of the journal's bytes, and no others have them
   pub readable : IsHistory history
-  pub only : (other : History) → IsHistory other → journal_text other ≡ journal_text history → other ≡ history
+  pub only : (digest : Digest) (other : History) → IsDigest digest → IsHistory other → journal_text digest other ≡ journal_text start history
+      → (digest ≡ start) × (other ≡ history)
   -- the texts of the earlier records that the commits name are what the reduction asks, in its order, from the first on; so there are no more
   pub legal : IsPrefix (committed_texts history) (questions_over (admits_of options problem) problem history)
   pub bounded : answer_count history ≤ length (questions_over (admits_of options problem) problem history)

@@ -1,5 +1,5 @@
 -- How the steps of `reduce` end it.
-use Rattle.std.proofs.Common.{◌≡◌, inl, inr, ℕ, List, [], ◌∷◌, drop, refl, sym, ap, ◌∙◌, subst, ⊎_elim, Result, Ok, Err, MatchResult}
+use Rattle.std.proofs.Common.{◌≡◌, inl, inr, ℕ, List, [], drop, refl, sym, ap, ◌∙◌, subst, ⊎_elim, Result, Ok, Err, MatchResult}
 use Rattle.std.specs.Global.{Vec}
 use Rattle.faults.specs.Count.{Rose}
 use Rattle.reduce_core.specs.Reduction.{Admits}
@@ -14,6 +14,8 @@ use Rattle.run_problem.specs.Problem.{Problem, start_text}
 use Rattle.run_problem.specs.Ends.{AreOf, IsRefused, IsRunOf, IsUnfinished, ProblemEnds, ReducesFrom, RunFails}
 use Rattle.run_problem.specs.Read.{IsReadAs, start_read}
 use Rattle.run_problem.specs.declared.problem.ReadProblem.{ReadProblem}
+use Rattle.reduce_journal.specs.Journal.{IsDigestOf}
+use Rattle.reduce_journal.specs.declared.digest.Digest.{Digest}
 use Rattle.reduce_journal.specs.History.{History, records_of}
 use Rattle.reduce_journal.specs.Report.{report_text}
 use Rattle.reduce_journal.specs.declared.counts.Counts.{Counts}
@@ -23,7 +25,7 @@ use Rattle.run_gated.specs.Seen.{NoneFailed}
 use Rattle.run_gated.specs.Run.{Run}
 use Rattle.script_gate_trait.specs.declared.gate.GateFault.{GateFault}
 use Rattle.script_gate_trait.specs.declared.gate.GateFault.TheVariants.{Failed as GateFailed, Memory as GateMemory}
-use Rattle.command_reduce.specs.Reduce.{GateUnopened, IsHistoryOfInput, ProblemAccepted, RecordsAreSound, ReduceEnds, Reduces, ReducesTo, problem_in}
+use Rattle.command_reduce.specs.Reduce.{GateUnopened, IsHistoryWith, ProblemAccepted, RecordsAreSound, ReduceEnds, Reduces, ReducesTo, problem_in}
 use Rattle.command_reduce.specs.Reduce.{admits_of}
 use Rattle.command_reduce.specs.inner.Reduce.{Inside, ReduceFails, ReduceReports, ReduceSteps, beside}
 use Rattle.command_reduce_calls.specs.Journal.{JournalSoFar, JournalWhole}
@@ -38,25 +40,17 @@ use Rattle.command_ends.specs.Status.{EndsRefused, EndsWithAnswer, ending_of, en
 use Rattle.command_words.specs.Commands.{ReduceOptions}
 use Rattle.command_ends.specs.World.{AreQuiet, FilesKept, fault_counts_of, logs_of, IsQuiet, PutsLine, NotReached, SeenFiles, SeenGate, SeenOut}
 use Rattle.command_reduce.proofs.MustEndLemmas.{must_end}
-use Rattle.command_reduce.proofs.ProblemLemmas.{accepted_as, stays_as}
+use Rattle.command_reduce.proofs.ProblemLemmas.{accepted_as, start_as, stays_as}
 use Rattle.command_reduce.proofs.UsedLemmas.{none_sound}
 use Rattle.command_reduce.proofs.LentLemmas.{AreFirst, all_quiet, one_failed, one_unopened, sound_among}
 use Rattle.command_problem.specs.Problem.{ProblemRead}
 use Rattle.command_problem.specs.Read.{ProblemFails}
 use Rattle.command_problem.proofs.Lent.{any_problem, problem_map}
 
--- a history of no event is of any input
-no_history : (options : ReduceOptions) (files : SeenFiles) (history : History) → history ≡ [] → IsHistoryOfInput options files history
-no_history options files history none = subst (IsHistoryOfInput options files) (sym none) tt
-
--- that of a problem that was accepted
-history_of : (options : ReduceOptions) (files : SeenFiles) (history : History)
-    → ProblemAccepted options files (λ problem. AreOf options.jobs (admits_of options problem) problem history) → IsHistoryOfInput options files history
-history_of options files [] are = tt
-history_of options files (event ∷ history) are = are
-
 -- neither a gate nor the journal was reached
-module _ (options : ReduceOptions) (may_say : List ℕ → Verdict → Type 0) (history : History) (old new : Inside) (none : history ≡ [])
+module _ (options : ReduceOptions) (may_say : List ℕ → Verdict → Type 0) (start : Digest) (history : History) (old new : Inside)
+    (empty : IsDigestOf [] start)
+    (none : history ≡ [])
     (same_gates : new.gates ≡ old.gates) (same_journal : new.journal ≡ old.journal) (same : SameFiles old.files.shown new.files.shown) where
   untouched : (out out' : SeenOut) → NotReached history (beside old out) (beside new out')
   untouched out out' = record { no_history = none; gates = same_gates; journal = same_journal }
@@ -64,10 +58,10 @@ module _ (options : ReduceOptions) (may_say : List ℕ → Verdict → Type 0) (
   gates_quiet : AreQuiet old.gates new.gates
   gates_quiet = ap fault_counts_of same_gates
 
-  so_far : JournalSoFar options.journal history old.journal new.journal
+  so_far : JournalSoFar options.journal start history old.journal new.journal
   so_far = JournalSoFar.untouched (record { no_history = none; same = same_journal })
 
-  problem_at : (refusal : Refusal) → ProblemFails (problem_in options) old.files new.files refusal → ReduceFails options history old new refusal
+  problem_at : (refusal : Refusal) → ProblemFails (problem_in options) old.files new.files refusal → ReduceFails options start history old new refusal
   problem_at Memory why = λ out out' put. memory (record { same = same; quiet = why }) (λ alone. gates_quiet) so_far put
   problem_at (CannotRead file) why = λ out out' put. unread file why.0 why.1 same (untouched out out') put
   problem_at (TooLong file) why = λ out out' put. too_long file why.0 why.1 (record { same = same; quiet = why.2 }) (untouched out out') put
@@ -82,7 +76,7 @@ module _ (options : ReduceOptions) (may_say : List ℕ → Verdict → Type 0) (
     kept : FilesKept old.files new.files
     kept = record { same = same; quiet = quiet }
 
-    stays_at : (refusal : Refusal) → StaysRefused options old.files refusal → ReduceFails options history old new refusal
+    stays_at : (refusal : Refusal) → StaysRefused options old.files refusal → ReduceFails options start history old new refusal
     stays_at Memory why = λ out out' put. memory kept (λ alone. gates_quiet) so_far put
     stays_at (KeepMissing line) why = λ out out' put. keep_missing why.0 why.1 kept (untouched out out') (subst (λ l. PutsLine l out out') why.2 put)
     stays_at (BeyondLines line) why =
@@ -92,23 +86,25 @@ module _ (options : ReduceOptions) (may_say : List ℕ → Verdict → Type 0) (
   -- there is no problem, or it wasn't accepted
   pub stops_accept : (refusal : Refusal) → AcceptFails options old.files new.files refusal → ReduceSteps options may_say history old new (Err refusal)
   stops_accept refusal why = record {
+    start = start;
     sound =
         none_sound options may_say (records_of history) (logs_of old.gates) (logs_of new.gates) old.journal new.journal (ap records_of none)
         (ap logs_of same_gates) same_journal;
-    of_input = no_history options old.files history none;
+    of_input = λ out out'. inl (untouched out out', empty);
     others = ap (drop options.jobs) same_gates;
     ends = ⊎_elim (λ problem. problem_at refusal problem) (λ stays. stays_at stays.0 refusal stays.1) why;
   }
 
 -- a problem was accepted, and its run ended, which used these gates
-module _ (options : ReduceOptions) (may_say : List ℕ → Verdict → Type 0) (history : History) (old new : Inside) (part part' : List SeenGate)
+module _ (options : ReduceOptions) (may_say : List ℕ → Verdict → Type 0) (start : Digest) (history : History) (old new : Inside) (part part' : List SeenGate)
     (first : AreFirst options part part' old.gates new.gates)
     (sound : RecordsAreSound options may_say (records_of history) (logs_of part) (logs_of part') old.journal new.journal)
-    (are : ProblemAccepted options old.files (λ problem. AreOf options.jobs (admits_of options problem) problem history)) where
+    (are : ProblemAccepted options old.files (IsHistoryWith options start history)) where
   -- the run, by what it answered
   abbrev run_to : Result Reduced RunFault → Run
   run_to outcome = record {
     workers = options.jobs;
+    start = start;
     before = record { gates = part; journal = old.journal };
     after = record { gates = part'; journal = new.journal };
     history = history;
@@ -125,74 +121,79 @@ module _ (options : ReduceOptions) (may_say : List ℕ → Verdict → Type 0) (
       (λ problem is. (is.0, then problem is.1)) read
 
   abbrev Fails : RunFault → Problem → Type 0
-  Fails fault problem = RunFails (admits_of options problem) problem (run_to (Err fault)) fault
+  Fails fault problem = IsDigestOf (start_text problem) start × RunFails (admits_of options problem) problem (run_to (Err fault)) fault
 
   -- it ends with this status and this line, whatever becomes of the line
   abbrev EndsBy : ℕ × List ℕ → Type 0
-  EndsBy ending = (out out' : SeenOut) → PutsLine ending.1 out out' → ReduceEnds options history (beside old out) (beside new out') ending.0
+  EndsBy ending = (out out' : SeenOut) → PutsLine ending.1 out out' → ReduceEnds options start history (beside old out) (beside new out') ending.0
 
   -- the history is one of the problem, which reduces to this
   abbrev Comes : Reduced → Problem → Type 0
   Comes reduced problem =
-      AreOf options.jobs (admits_of options problem) problem history
-      × ReducesFrom options.jobs (admits_of options problem) problem history reduced.text.items reduced.counts
+      IsHistoryWith options start history problem × ReducesFrom options.jobs (admits_of options problem) problem history reduced.text.items reduced.counts
 
   abbrev Waits : Problem → Type 0
-  Waits problem = options.jobs ≡ 1 → IsUnfinished (admits_of options problem) problem history
+  Waits problem = IsDigestOf (start_text problem) start × (options.jobs ≡ 1 → IsUnfinished (admits_of options problem) problem history)
 
   -- without a reduction
   fault_at : (fault : RunFault) → FilesKept old.files new.files → ProblemAccepted options old.files (Fails fault)
-      → JournalAfter {A = Reduced} options.jobs options.journal history old.journal new.journal (Err fault) → EndsBy (ending_of_run fault)
-  fault_at run_fault.Memory kept why ends = λ out out' put. memory kept (λ alone. all_quiet first ((some (Fails run_fault.Memory) why).1.1.1 alone)) ends put
+      → JournalAfter {A = Reduced} options.jobs options.journal start history old.journal new.journal (Err fault) → EndsBy (ending_of_run fault)
+  fault_at run_fault.Memory kept why ends = λ out out' put. memory kept (λ alone. all_quiet first ((some (Fails run_fault.Memory) why).1.1.1.1 alone)) ends put
   fault_at run_fault.NotInteresting kept why ends = λ out out' put.
       uninteresting
-      (but (Fails run_fault.NotInteresting) (λ problem. IsRefused options.jobs (admits_of options problem) problem history) (λ problem is. is.0) why) kept
-      (all_quiet first (some (Fails run_fault.NotInteresting) why).1.1.1.gates) ends put
+      (but (Fails run_fault.NotInteresting) (λ problem. IsDigestOf (start_text problem) start × IsRefused options.jobs (admits_of options problem) problem
+      history)
+      (λ problem is. (is.0, is.1.0)) why) kept
+      (all_quiet first (some (Fails run_fault.NotInteresting) why).1.1.1.1.gates) ends put
   fault_at (run_fault.Script worker) kept why ends = λ out out' put.
-      let failed = one_failed first worker (some (Fails (run_fault.Script worker)) why).1.1.0 in
-      script worker failed.0 failed.1 (but (Fails (run_fault.Script worker)) Waits (λ problem is. is.2) why) kept (inl ends) put
+      let failed = one_failed first worker (some (Fails (run_fault.Script worker)) why).1.1.1.0 in
+      script worker failed.0 failed.1 (but (Fails (run_fault.Script worker)) Waits (λ problem is. (is.0, is.1.2)) why) kept (inl ends) put
   fault_at run_fault.Journal kept why ends =
-      λ out out' put. journal (some (Fails run_fault.Journal) why).1.1.0 are ends
-      (λ alone. all_quiet first ((some (Fails run_fault.Journal) why).1.1.1 alone)) kept put
+      λ out out' put. journal (some (Fails run_fault.Journal) why).1.1.1.0 are ends
+      (λ alone. all_quiet first ((some (Fails run_fault.Journal) why).1.1.1.1 alone)) kept put
 
   -- without an opened gate
   unopened_at : (worker : ℕ) (fault : GateFault) → FilesKept old.files new.files → ProblemAccepted options old.files (Fails (fault_of worker fault))
       → GateUnopened options history worker (logs_of part) (logs_of part') old.journal new.journal → EndsBy (ending_of_run (fault_of worker fault))
   unopened_at worker GateFailed kept why un = λ out out' put.
-      let failed = one_failed first worker (some (Fails (run_fault.Script worker)) why).1.1.0 in
-      script worker failed.0 failed.1 (but (Fails (run_fault.Script worker)) Waits (λ problem is. is.2) why) kept
+      let failed = one_failed first worker (some (Fails (run_fault.Script worker)) why).1.1.1.0 in
+      script worker failed.0 failed.1 (but (Fails (run_fault.Script worker)) Waits (λ problem is. (is.0, is.1.2)) why) kept
       (inr (one_unopened first history worker old.journal new.journal failed.0 un)) put
   unopened_at worker GateMemory kept why un =
-      λ out out' put. memory kept (λ alone. all_quiet first ((some (Fails run_fault.Memory) why).1.1.1 alone)) (JournalSoFar.untouched un.untouched) put
+      λ out out' put. memory kept (λ alone. all_quiet first ((some (Fails run_fault.Memory) why).1.1.1.1 alone)) (JournalSoFar.untouched un.untouched) put
 
   all_sound : RecordsAreSound options may_say (records_of history) (logs_of old.gates) (logs_of new.gates) old.journal new.journal
   all_sound = sound_among first may_say (records_of history) old.journal new.journal sound
 
   stops_run : (fault : RunFault) (refusal : Refusal) → ending_of refusal ≡ ending_of_run fault → FilesKept old.files new.files
-      → ProblemAccepted options old.files (Fails fault) → JournalAfter {A = Reduced} options.jobs options.journal history old.journal new.journal (Err fault)
+      → ProblemAccepted options old.files (Fails fault) → JournalAfter {A = Reduced} options.jobs options.journal start history old.journal new.journal
+      (Err fault)
       → ReduceSteps options may_say history old new (Err refusal)
   stops_run fault refusal same kept why ends =
       record {
+        start = start;
         sound = all_sound;
-        of_input = history_of options old.files history are;
+        of_input = λ out out'. inr are;
         others = first.others;
         ends = subst EndsBy (sym same) (fault_at fault kept why ends);
       }
 
   -- with one, whose result was written or wasn't
   module _ (read : SeenFiles) (reduced : Reduced) (same : SameFiles old.files.shown read.shown) (quiet : IsQuiet old.files read)
-      (gates_quiet : AreQuiet old.gates new.gates) (whole : JournalWhole options.journal history old.journal new.journal)
+      (gates_quiet : AreQuiet old.gates new.gates) (whole : JournalWhole options.journal start history old.journal new.journal)
       (reduces : ProblemAccepted options old.files (Comes reduced)) where
-    reduces_to : (report : List ℕ) → report ≡ report_text reduced.counts → ReducesTo options old.files history reduced.text.items report
+    reduces_to : (report : List ℕ) → report ≡ report_text reduced.counts → ReducesTo options old.files start history reduced.text.items report
     reduces_to report is =
         but (Comes reduced)
         (λ problem.
-        (counts : Counts) × ReducesFrom options.jobs (admits_of options problem) problem history reduced.text.items counts × (report ≡ report_text counts)
+        IsDigestOf (start_text problem) start × (counts : Counts)
+        × ReducesFrom options.jobs (admits_of options problem) problem history reduced.text.items counts × (report ≡ report_text counts)
         × AreOf options.jobs (admits_of options problem) problem history)
-        (λ problem from. (reduced.counts, from.1, is, from.0)) reduces
+        (λ problem from. (from.0.0, reduced.counts, from.1, is, from.0.1)) reduces
 
     write_at : (outcome : Result (Vec ℕ) Refusal) → WriteEnds options.output read new.files (Ok reduced) outcome
-        → MatchResult outcome (λ report. ReduceReports options history old new report.items) (λ refusal. ReduceFails options history old new refusal)
+        → MatchResult outcome (λ report. ReduceReports options start history old new report.items)
+        (λ refusal. ReduceFails options start history old new refusal)
     write_at (Ok report) ends = λ out out'. record {
       reduced = record { text = reduced.text.items; reduces = reduces_to report.items ends.0; written = ends.1 };
       others = λ name other. ends.2 name other ∙ same name;
@@ -211,17 +212,17 @@ module _ (options : ReduceOptions) (may_say : List ℕ → Verdict → Type 0) (
     pub stops_write : (outcome : Result (Vec ℕ) Refusal) → WriteEnds options.output read new.files (Ok reduced) outcome
         → ReduceSteps options may_say history old new outcome
     stops_write outcome ends =
-        record { sound = all_sound; of_input = history_of options old.files history are; others = first.others; ends = write_at outcome ends }
+        record { start = start; sound = all_sound; of_input = λ out out'. inr are; others = first.others; ends = write_at outcome ends }
 
   -- whatever the run came to
   pub stops_ran : (read : SeenFiles) → SameFiles old.files.shown read.shown → IsQuiet old.files read → (ran : Result Reduced RunFault)
       → ProblemAccepted options old.files
-      (λ problem. AreOf options.jobs (admits_of options problem) problem history × ProblemEnds (admits_of options problem) problem (run_to ran) ran)
-      → JournalAfter options.jobs options.journal history old.journal new.journal ran → (outcome : Result (Vec ℕ) Refusal)
+      (λ problem. IsHistoryWith options start history problem × ProblemEnds (admits_of options problem) problem (run_to ran) ran)
+      → JournalAfter options.jobs options.journal start history old.journal new.journal ran → (outcome : Result (Vec ℕ) Refusal)
       → WriteEnds options.output read new.files ran outcome → ReduceSteps options may_say history old new outcome
   stops_ran read same quiet (Ok reduced) ends whole outcome writes =
       let P : Problem → Type 0 =
-      λ problem. AreOf options.jobs (admits_of options problem) problem history
+      λ problem. IsHistoryWith options start history problem
       × (ReducesFrom options.jobs (admits_of options problem) problem history reduced.text.items reduced.counts
       × NoneFailed (run_to (Ok reduced)).before (run_to (Ok reduced)).after) in
       stops_write read reduced same quiet (all_quiet first (some P ends).1.1.1.1.gates) whole
@@ -229,24 +230,27 @@ module _ (options : ReduceOptions) (may_say : List ℕ → Verdict → Type 0) (
   stops_ran read same quiet (Err fault) ends after outcome writes =
       subst (λ (o : Result (Vec ℕ) Refusal). ReduceSteps options may_say history old new o) (sym writes.0.1)
       (stops_run fault writes.0.0 writes.0.2 (subst (FilesKept old.files) (sym writes.1) (record { same = same; quiet = quiet }))
-      (but (λ problem. AreOf options.jobs (admits_of options problem) problem history × Fails fault problem) (Fails fault) (λ problem is. is.1) ends) after)
+      (but (λ problem. IsHistoryWith options start history problem × RunFails (admits_of options problem) problem (run_to (Err fault)) fault) (Fails fault)
+      (λ problem is. (is.0.0, is.1)) ends) after)
 
   -- a gate wasn't opened
   pub stops_unopened : (read : SeenFiles) → SameFiles old.files.shown read.shown → IsQuiet old.files read → (ran : Result Reduced RunFault)
-      → ProblemAccepted options old.files (λ problem. ProblemEnds (admits_of options problem) problem (run_to ran) ran)
+      → ProblemAccepted options old.files (λ problem. IsDigestOf (start_text problem) start × ProblemEnds (admits_of options problem) problem (run_to ran) ran)
       → Unopened options history (logs_of part) (logs_of part') old.journal new.journal ran → (outcome : Result (Vec ℕ) Refusal)
       → WriteEnds options.output read new.files ran outcome → ReduceSteps options may_say history old new outcome
   stops_unopened read same quiet ran ends un outcome writes =
       let answer : Result Reduced RunFault = Err (fault_of un.worker un.fault) in
       let why : ProblemAccepted options old.files (Fails (fault_of un.worker un.fault)) =
       subst
-      (λ (r : Result Reduced RunFault). ProblemAccepted options old.files (λ problem. ProblemEnds (admits_of options problem) problem (run_to ran) r))
+      (λ (r : Result Reduced RunFault). ProblemAccepted options old.files
+      (λ problem. IsDigestOf (start_text problem) start × ProblemEnds (admits_of options problem) problem (run_to ran) r))
       un.answer ends in
       let wrote : WriteEnds options.output read new.files answer outcome =
       subst (λ (r : Result Reduced RunFault). WriteEnds options.output read new.files r outcome) un.answer writes in
       subst (λ (o : Result (Vec ℕ) Refusal). ReduceSteps options may_say history old new o) (sym wrote.0.1) (record {
+        start = start;
         sound = all_sound;
-        of_input = history_of options old.files history are;
+        of_input = λ out out'. inr are;
         others = first.others;
         ends =
             subst EndsBy (sym wrote.0.2) (unopened_at un.worker un.fault
@@ -260,11 +264,12 @@ pub steps_end : (options : ReduceOptions) (may_say : List ℕ → Verdict → Ty
     → ProblemRead (problem_in options) files (IsReadAs (admits_read options problem) problem) → stays ≡ stays_read options problem
     → AcceptsStart options (start_read problem)
     → SameFiles files.shown read.shown → IsQuiet files read
-    → IsSoundStarted options may_say run → ((one : Problem) → IsReadAs (stays_admit stays) problem one → IsRunOf (stays_admit stays) one run)
+    → IsDigestOf (start_read problem) run.start → IsSoundStarted options may_say run
+    → ((one : Problem) → IsReadAs (stays_admit stays) problem one → IsRunOf (stays_admit stays) one run)
     → WriteEnds options.output read files' run.outcome outcome
     → ReduceSteps options may_say run.history (record { files = files; gates = gates; journal = run.before.journal })
     (record { files = files'; gates = gates'; journal = run.after.journal }) outcome
-steps_end options may_say run files files' gates gates' read problem stays outcome first jobs was these all same quiet sound runs writes =
+steps_end options may_say run files files' gates gates' read problem stays outcome first jobs was these all same quiet digest sound runs writes =
     let old : Inside = record { files = files; gates = gates; journal = run.before.journal } in
     let new : Inside = record { files = files'; gates = gates'; journal = run.after.journal } in
     let lent : Run = record run { workers = options.jobs } in
@@ -274,19 +279,27 @@ steps_end options may_say run files files' gates gates' read problem stays outco
     (subst (λ (k : Stays). (one : Problem) → IsReadAs (stays_admit k) problem one → IsRunOf (stays_admit k) one run) these runs) in
     let all_run : (one : Problem) → IsReadAs guard problem one → IsRunOf (admits_of options one) one lent =
     λ one is. subst (λ (k : Stays). IsRunOf (stays_admit k) one lent) (sym (stays_as options guard problem one is)) (these_run one is) in
-    let Of : Problem → Type 0 = λ one. AreOf options.jobs (admits_of options one) one run.history in
-    let Ends : Problem → Type 0 = λ one. ProblemEnds (admits_of options one) one lent run.outcome in
-    let left : StartLeaves options.jobs options run.history (logs_of run.before.gates)
+    let Of : Problem → Type 0 = IsHistoryWith options run.start run.history in
+    let Ends : Problem → Type 0 = λ one. IsDigestOf (start_text one) run.start × ProblemEnds (admits_of options one) one lent run.outcome in
+    let digest_at : (one : Problem) → IsReadAs guard problem one → IsDigestOf (start_text one) run.start =
+    λ one is. subst (λ (text : List ℕ). IsDigestOf text run.start) (sym (start_as guard problem one is)) digest in
+    let left : StartLeaves options.jobs options run.start run.history (logs_of run.before.gates)
     (logs_of run.after.gates) run.before.journal run.after.journal run.outcome =
-    subst (λ (n : ℕ). StartLeaves n options run.history (logs_of run.before.gates) (logs_of run.after.gates) run.before.journal run.after.journal run.outcome)
+    subst (λ (n : ℕ). StartLeaves n options run.start run.history (logs_of run.before.gates) (logs_of run.after.gates) run.before.journal run.after.journal
+    run.outcome)
     (sym jobs) sound.journal in
-    let accepted : ProblemAccepted options files Of = accepted_as options files guard problem Of all (λ one is. (all_run one is).history) was in
-    let ended : ProblemAccepted options files Ends = accepted_as options files guard problem Ends all (λ one is. (all_run one is).ends) was in
-    let both : ProblemAccepted options files (λ one. Of one × Ends one) =
-    accepted_as options files guard problem (λ one. Of one × Ends one) all (λ one is. ((all_run one is).history, (all_run one is).ends)) was in
-    ⊎_elim (λ after. stops_ran options may_say run.history old new run.before.gates run.after.gates first sound.records accepted read same quiet run.outcome
+    let accepted : ProblemAccepted options files Of =
+    accepted_as options files guard problem Of all (λ one is. (digest_at one is, (all_run one is).history)) was in
+    let ended : ProblemAccepted options files Ends =
+    accepted_as options files guard problem Ends all (λ one is. (digest_at one is, (all_run one is).ends)) was in
+    let both : ProblemAccepted options files (λ one. Of one × ProblemEnds (admits_of options one) one lent run.outcome) =
+    accepted_as options files guard problem (λ one. Of one × ProblemEnds (admits_of options one) one lent run.outcome) all
+    (λ one is. ((digest_at one is, (all_run one is).history), (all_run one is).ends)) was in
+    ⊎_elim (λ after. stops_ran options may_say run.start run.history old new run.before.gates run.after.gates first sound.records accepted read same quiet
+    run.outcome
     both after outcome writes)
-    (λ un. stops_unopened options may_say run.history old new run.before.gates run.after.gates first sound.records accepted read same quiet run.outcome ended un
+    (λ un. stops_unopened options may_say run.start run.history old new run.before.gates run.after.gates first sound.records accepted read same quiet
+    run.outcome ended un
     outcome writes) left
 
 -- the end of the command
@@ -297,21 +310,25 @@ pub reduce_ends : InputFaultOnce → InputsAreInLanguage
     → MatchResult outcome (λ report. EndsWithAnswer report.items out out' status) (λ refusal. EndsRefused out out' status refusal)
     → Reduces options may_say (beside old out) (beside new out') status
 reduce_ends faults languages options may_say history old new out out' outcome status steps end =
-    let ends : ReduceEnds options history (beside old out) (beside new out') status = at outcome steps.ends end in
+    let ends : ReduceEnds options steps.start history (beside old out) (beside new out') status = at outcome steps.ends end in
     record {
       history = history;
+      start = steps.start;
       ends = ends;
-      must_end = must_end faults languages options history (beside old out) (beside new out') ends;
+      must_end = must_end faults languages options steps.start history (beside old out) (beside new out') ends;
       sound = steps.sound;
-      of_input = steps.of_input;
+      of_input = steps.of_input out out';
       others = steps.others;
     }
   where
     at : (outcome : Result (Vec ℕ) Refusal)
-        → MatchResult outcome (λ report. ReduceReports options history old new report.items) (λ refusal. ReduceFails options history old new refusal)
+        → MatchResult outcome (λ report. ReduceReports options steps.start history old new report.items)
+        (λ refusal. ReduceFails options steps.start history old new refusal)
         → MatchResult outcome (λ report. EndsWithAnswer report.items out out' status) (λ refusal. EndsRefused out out' status refusal)
-        → ReduceEnds options history (beside old out) (beside new out') status
+        → ReduceEnds options steps.start history (beside old out) (beside new out') status
     at (Ok report) reports end =
-        ⊎_elim (λ all. subst (ReduceEnds options history (beside old out) (beside new out')) (sym all.0) (done report.items (reports out out') all.1))
-        (λ part. subst (ReduceEnds options history (beside old out) (beside new out')) (sym part.0) (unput report.items (reports out out') part.1)) end
-    at (Err refusal) fails end = subst (ReduceEnds options history (beside old out) (beside new out')) (sym end.status_is) (fails out out' end.line)
+        ⊎_elim (λ all. subst (ReduceEnds options steps.start history (beside old out) (beside new out')) (sym all.0)
+        (done report.items (reports out out') all.1))
+        (λ part. subst (ReduceEnds options steps.start history (beside old out) (beside new out')) (sym part.0)
+        (unput report.items (reports out out') part.1)) end
+    at (Err refusal) fails end = subst (ReduceEnds options steps.start history (beside old out) (beside new out')) (sym end.status_is) (fails out out' end.line)

@@ -1,3 +1,4 @@
+mod DigestLemmas
 mod ProblemLemmas
 mod ReadLemmas
 mod StartLemmas

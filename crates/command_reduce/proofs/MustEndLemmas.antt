@@ -19,6 +19,8 @@ use Rattle.command_grammar.proofs.Lent.{grammar_not_missing as file_not_missing,
 use Rattle.command_grammar.proofs.Lent.{lexer_not_missing, lexer_not_over, no_grammar, not_faulty}
 use Rattle.run_problem.specs.Problem.{Problem, start_text}
 use Rattle.run_problem.specs.Ends.{AreOf, IsUnfinished, ReducesFrom}
+use Rattle.reduce_journal.specs.Journal.{IsDigestOf}
+use Rattle.reduce_journal.specs.declared.digest.Digest.{Digest}
 use Rattle.reduce_journal.specs.History.{History, records_of}
 use Rattle.reduce_journal.specs.Report.{report_text}
 use Rattle.reduce_journal.specs.declared.counts.Counts.{Counts}
@@ -62,7 +64,7 @@ same_grammar : {mode : ModeOptions} {one other : GrammarOptions} → mode ≡ Mo
     → one.grammar ≡ other.grammar
 same_grammar {one = one} is is' = ap (named_in one.grammar) (sym is ∙ is')
 
-module _ (faults : InputFaultOnce) (languages : InputsAreInLanguage) (options : ReduceOptions) (history : History) (old new : World) where
+module _ (faults : InputFaultOnce) (languages : InputsAreInLanguage) (options : ReduceOptions) (start : Digest) (history : History) (old new : World) where
   abbrev records : List Record
   records = records_of history
 
@@ -103,25 +105,28 @@ module _ (faults : InputFaultOnce) (languages : InputsAreInLanguage) (options : 
         read_and_shown (problem_in options) old.files (λ problem. NamesBeyond options last lines (start_text problem)) (AcceptsStart options) read shown in
         absurd (cc (sym it.1.2 ∙ ap (first_beyond options.protects) it.1.1 ∙ it.2.1))
 
-  yes_first : (text report : List ℕ) → ReducesTo options old.files history text report → FirstIsNo records → ⊥
+  yes_first : (text report : List ℕ) → ReducesTo options old.files start history text report → FirstIsNo records → ⊥
   yes_first text report reduces first_no =
       let P : Problem → Type 0 =
-      λ problem. (counts : Counts) × ReducesFrom options.jobs (admits_of options problem) problem history text counts × (report ≡ report_text counts)
+      λ problem. IsDigestOf (start_text problem) start × (counts : Counts) × ReducesFrom options.jobs (admits_of options problem) problem history text counts
+      × (report ≡ report_text counts)
       × AreOf options.jobs (admits_of options problem) problem history in
       let it : (problem : Problem) × (AcceptsStart options (start_text problem) × P problem) =
       any_problem (problem_in options) old.files (λ problem. AcceptsStart options (start_text problem) × P problem) reduces in
-      yes_no (start_text it.0) records it.1.1.1.first first_no
+      yes_no (start_text it.0) records it.1.1.2.first first_no
 
   not_no : options.jobs ≡ 1
-      → ProblemAccepted options old.files (λ problem. options.jobs ≡ 1 → IsUnfinished (admits_of options problem) problem history) → FirstIsNo records
+      → ProblemAccepted options old.files
+      (λ problem. IsDigestOf (start_text problem) start × (options.jobs ≡ 1 → IsUnfinished (admits_of options problem) problem history)) → FirstIsNo records
       → ⊥
   not_no alone read first_no =
-      let P : Problem → Type 0 = λ problem. options.jobs ≡ 1 → IsUnfinished (admits_of options problem) problem history in
+      let P : Problem → Type 0 = λ problem. IsDigestOf (start_text problem) start
+      × (options.jobs ≡ 1 → IsUnfinished (admits_of options problem) problem history) in
       let it : (problem : Problem) × (AcceptsStart options (start_text problem) × P problem) =
       any_problem (problem_in options) old.files (λ problem. AcceptsStart options (start_text problem) × P problem) read in
-      (it.1.1 alone).not_no first_no
+      (it.1.1.1 alone).not_no first_no
 
-  so_far_quiet : (name : List ℕ) → JournalSoFar name history old.journal new.journal → IsQuiet old.journal new.journal
+  so_far_quiet : (name : List ℕ) → JournalSoFar name start history old.journal new.journal → IsQuiet old.journal new.journal
   so_far_quiet name (JournalSoFar.whole it) = it.quiet
   so_far_quiet name (JournalSoFar.untouched it) = ap (λ (j : SeenJournal). j.faults) it.same
   so_far_quiet name (JournalSoFar.empty it) = it.quiet
@@ -171,7 +176,7 @@ module _ (faults : InputFaultOnce) (languages : InputsAreInLanguage) (options : 
   }
 
   -- which status it has to be
-  pub must_end : {status : ℕ} → ReduceEnds options history old new status → ReduceMustEnd options records old new status
+  pub must_end : {status : ℕ} → ReduceEnds options start history old new status → ReduceMustEnd options records old new status
   must_end (done report writes put) = record {
     grammar_over = λ g is over. absurd (grammar_not_over (problem_in options) old.files _ writes.reduced.reduces g is over);
     grammar_missing = λ g is none. absurd (grammar_not_missing (problem_in options) old.files _ writes.reduced.reduces g is none);

@@ -42,15 +42,20 @@ module _ (name : List ℕ) (run : Run) (earlier : SeenJournal) (opened : run.bef
   pub run_since : (guard : Admits) (problem : Problem) → IsRunOf guard problem run → IsRunOf guard problem whole_run
   run_since guard problem ran = record { history = ran.history; ends = ends_since guard problem run.outcome ran.ends }
 
-  whole_since : IsWrittenWhole run → JournalWhole name run.history earlier run.after.journal
-  whole_since has = record { written = subst (λ (put : Option Put). HasWritten run.history put run.after.journal.shown) opened has.0; quiet = has.1 ∙ quiet }
+  whole_since : IsWrittenWhole run → JournalWhole name run.start run.history earlier run.after.journal
+  whole_since has = record {
+    written = subst (λ (put : Option Put). HasWritten run.start run.history put run.after.journal.shown) opened has.0;
+    quiet = has.1
+        ∙ quiet;
+  }
 
-  journal_since : (outcome : Result Reduced RunFault) → JournalHas run outcome → JournalAfter run.workers name run.history earlier run.after.journal outcome
+  journal_since : (outcome : Result Reduced RunFault) → JournalHas run outcome
+      → JournalAfter run.workers name run.start run.history earlier run.after.journal outcome
   journal_since (Ok reduced) has = whole_since has
   journal_since (Err NotInteresting) has = whole_since has
   journal_since (Err (Script worker)) has = whole_since has
   journal_since (Err Journal) has =
-      JournalBroken.broke_off (subst (λ (put : Option Put). HasPartBy run.workers run.history put run.after.journal.shown) opened has.0)
+      JournalBroken.broke_off (subst (λ (put : Option Put). HasPartBy run.workers run.start run.history put run.after.journal.shown) opened has.0)
   journal_since (Err Memory) has =
       ⊎_elim (λ written. JournalSoFar.whole (whole_since (written, has.1)))
       (λ nothing. JournalSoFar.empty (record { no_history = nothing.0; opened = nothing.1 ∙ opened; quiet = has.1 ∙ quiet })) has.0
@@ -66,7 +71,7 @@ module _ (run : Run) (fault : RunFault) (none : run.history ≡ []) (out : run.o
     (kept : run.after.journal.shown ≡ run.before.journal.shown)
     (why : OpeningFails run.before.journal.faults run.after.journal.faults fault) where
   journal_unopened : (name : List ℕ) (fault : RunFault) → OpeningFails run.before.journal.faults run.after.journal.faults fault
-      → JournalAfter {A = Reduced} run.workers name run.history run.before.journal run.after.journal (Err fault)
+      → JournalAfter {A = Reduced} run.workers name run.start run.history run.before.journal run.after.journal (Err fault)
   journal_unopened name Journal why = JournalBroken.unopened none kept
   journal_unopened name Memory why = JournalSoFar.untouched (record { no_history = none; same = λ i. record { shown = kept i; faults = why i } })
   journal_unopened name _ why = absurd why
@@ -74,7 +79,7 @@ module _ (run : Run) (fault : RunFault) (none : run.history ≡ []) (out : run.o
   pub unopened_sound : (name : List ℕ) (may_say : List ℕ → Verdict → Type 0) → IsSoundOpened name may_say run
   unopened_sound name may_say = record {
     answers = none_answers may_say run none same;
-    journal = subst (JournalAfter run.workers name run.history run.before.journal run.after.journal) (sym out) (journal_unopened name fault why);
+    journal = subst (JournalAfter run.workers name run.start run.history run.before.journal run.after.journal) (sym out) (journal_unopened name fault why);
   }
 
   quiet_gates : AreQuiet run.before.gates run.after.gates

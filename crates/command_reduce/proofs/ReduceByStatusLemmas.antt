@@ -3,6 +3,8 @@ use Rattle.std.proofs.Common.{◌≡◌, ◌≢◌, ◌≤◌, ◌⊎◌, inl, i
 use Rattle.std.proofs.lemmas.Bool.{false≢true}
 use Rattle.keep_guard.specs.Keep.{first_missing}
 use Rattle.edge_io.specs.Files.{IsLonger, SameFiles, SameOthers}
+use Rattle.reduce_journal.specs.Journal.{IsDigestOf}
+use Rattle.reduce_journal.specs.declared.digest.Digest.{Digest}
 use Rattle.reduce_journal.specs.History.{History, records_of}
 use Rattle.reduce_trees_input.specs.Faults.{IsInputFault}
 use Rattle.reduce_trees_input.specs.FaultText.{input_fault_text}
@@ -33,9 +35,9 @@ file_of : (mode : ModeOptions) (files : SeenFiles) → (file : NamedFile) × IsR
 file_of ModeOptions.lines files = (named.Input, tt)
 file_of (ModeOptions.by_grammar trees) files = (named.Grammar, tt)
 
-module _ (options : ReduceOptions) (history : History) (old new : World) where
+module _ (options : ReduceOptions) (start : Digest) (history : History) (old new : World) where
   abbrev Ends : ℕ → Type 0
-  Ends status = ReduceEnds options history old new status
+  Ends status = ReduceEnds options start history old new status
 
   -- only a mode with a grammar has faults of it, and texts that aren't in its language
   is_of_lines : {status : ℕ} → Ends status → options.mode ≡ ModeOptions.lines → IsOneOf (0 ∷ 1 ∷ 3 ∷ 4 ∷ 8 ∷ 9 ∷ 10 ∷ 11 ∷ 12 ∷ 16 ∷ []) status
@@ -54,7 +56,8 @@ module _ (options : ReduceOptions) (history : History) (old new : World) where
   is_of_lines (unput report writes put) is = refl
   is_of_lines (journal failed read broken gates_quiet files put) is = refl
 
-  is_done : {status : ℕ} → Ends status → status ≡ 0 → (report : List ℕ) × IsReduced options old.files new.files history report × Puts report old.out new.out
+  is_done : {status : ℕ} → Ends status → status ≡ 0 → (report : List ℕ) × IsReduced options old.files new.files start history report
+      × Puts report old.out new.out
   is_done (done report writes put) is = (report, writes.reduced, put)
   is_done _ is = absurd (cc is)
 
@@ -64,37 +67,36 @@ module _ (options : ReduceOptions) (history : History) (old new : World) where
 
   is_unwritten : {status : ℕ} → Ends status → status ≡ 4
       → (CallFailed old.files new.files × PutsItsLine options.mode old.files old.out new.out status)
-      ⊎ ((report : List ℕ) × IsReduced options old.files new.files history report × PutsPrefix report old.out new.out)
+      ⊎ ((report : List ℕ) × IsReduced options old.files new.files start history report × PutsPrefix report old.out new.out)
   is_unwritten (unwritten failed text report reduces others gates_quiet kept put) is =
       inl (failed, ((file_of options.mode old.files).0, (file_of options.mode old.files).1, (CannotWrite, tt, refl, put)))
   is_unwritten (unput report writes put) is = inr (report, writes.reduced, put)
   is_unwritten _ is = absurd (cc is)
 
-  is_tried : {status : ℕ} → Ends status → status ≡ 4 → (text : List ℕ) × (report : List ℕ) × ReducesTo options old.files history text report
+  is_tried : {status : ℕ} → Ends status → status ≡ 4 → (text : List ℕ) × (report : List ℕ) × ReducesTo options old.files start history text report
   is_tried (unwritten failed text report reduces others gates_quiet kept put) is = (text, report, reduces)
   is_tried (unput report writes put) is = (writes.reduced.text, report, writes.reduced.reduces)
   is_tried _ is = absurd (cc is)
 
   is_uninteresting : {status : ℕ} → Ends status → status ≡ 8 → OnlyNo (records_of history)
   is_uninteresting (uninteresting read files gates_quiet kept put) is =
-      (any_problem (problem_in options) old.files
-      (λ problem. AcceptsStart options (start_text problem) × IsRefused options.jobs (admits_of options problem) problem history)
-      read).1.1.only
+      (any_problem (problem_in options) old.files (λ problem. AcceptsStart options (start_text problem)
+      × (IsDigestOf (start_text problem) start × IsRefused options.jobs (admits_of options problem) problem history)) read).1.1.1.only
   is_uninteresting _ is = absurd (cc is)
 
   is_journal : {status : ℕ} → Ends status → status ≡ 12 → CallFailed old.journal new.journal
-      × JournalBroken options.jobs options.journal history old.journal new.journal
+      × JournalBroken options.jobs options.journal start history old.journal new.journal
   is_journal (journal failed read broken gates_quiet files put) is = (failed, broken)
   is_journal _ is = absurd (cc is)
 
-  is_whole : {status : ℕ} → Ends status → IsOneOf (0 ∷ 4 ∷ 8 ∷ []) status → JournalWhole options.journal history old.journal new.journal
+  is_whole : {status : ℕ} → Ends status → IsOneOf (0 ∷ 4 ∷ 8 ∷ []) status → JournalWhole options.journal start history old.journal new.journal
   is_whole (done report writes put) is = writes.journal
   is_whole (unput report writes put) is = writes.journal
   is_whole (unwritten failed text report reduces others gates_quiet kept put) is = kept
   is_whole (uninteresting read files gates_quiet kept put) is = kept
   is_whole _ is = absurd (false≢true is)
 
-  is_so_far : {status : ℕ} → Ends status → status ≡ 1 → JournalSoFar options.journal history old.journal new.journal
+  is_so_far : {status : ℕ} → Ends status → status ≡ 1 → JournalSoFar options.journal start history old.journal new.journal
   is_so_far (memory files gates_quiet kept put) is = kept
   is_so_far _ is = absurd (cc is)
 
@@ -104,7 +106,7 @@ module _ (options : ReduceOptions) (history : History) (old new : World) where
   is_too_long _ is = absurd (cc is)
 
   is_script : {status : ℕ} → Ends status → status ≡ 11 → (worker : ℕ) × (worker ≤ options.jobs) × GateFailed worker old.gates new.gates
-      × ScriptLeaves options history worker old new × PutsMessage (script_text worker) old.out new.out
+      × ScriptLeaves options start history worker old new × PutsMessage (script_text worker) old.out new.out
   is_script (script worker one_of failed read files kept put) is = (worker, one_of, failed, kept, put)
   is_script _ is = absurd (cc is)
 
@@ -209,26 +211,26 @@ module _ (options : ReduceOptions) (history : History) (old new : World) where
   puts_line _ is = absurd (false≢true is)
 
 pub reduce_by_status : ReduceByStatus
-reduce_by_status options history old new status ends = record {
-  known = is_known options history old new ends;
-  of_lines = is_of_lines options history old new ends;
-  done = is_done options history old new ends;
-  unread = is_unread options history old new ends;
-  write = is_unwritten options history old new ends;
-  tried = is_tried options history old new ends;
-  fault = is_fault options history old new ends;
-  no_token = is_no_token options history old new ends;
-  unparsed = is_unparsed options history old new ends;
-  not_interesting = is_uninteresting options history old new ends;
-  keep_missing = is_keep_missing options history old new ends;
-  too_long = is_too_long options history old new ends;
-  script = is_script options history old new ends;
-  journal = is_journal options history old new ends;
-  beyond = is_beyond options history old new ends;
-  whole = is_whole options history old new ends;
-  so_far = is_so_far options history old new ends;
-  early = is_early options history old new ends;
-  others = same_others options history old new ends;
-  unwritten = same_files options history old new ends;
-  line = puts_line options history old new ends;
+reduce_by_status options start history old new status ends = record {
+  known = is_known options start history old new ends;
+  of_lines = is_of_lines options start history old new ends;
+  done = is_done options start history old new ends;
+  unread = is_unread options start history old new ends;
+  write = is_unwritten options start history old new ends;
+  tried = is_tried options start history old new ends;
+  fault = is_fault options start history old new ends;
+  no_token = is_no_token options start history old new ends;
+  unparsed = is_unparsed options start history old new ends;
+  not_interesting = is_uninteresting options start history old new ends;
+  keep_missing = is_keep_missing options start history old new ends;
+  too_long = is_too_long options start history old new ends;
+  script = is_script options start history old new ends;
+  journal = is_journal options start history old new ends;
+  beyond = is_beyond options start history old new ends;
+  whole = is_whole options start history old new ends;
+  so_far = is_so_far options start history old new ends;
+  early = is_early options start history old new ends;
+  others = same_others options start history old new ends;
+  unwritten = same_files options start history old new ends;
+  line = puts_line options start history old new ends;
 }

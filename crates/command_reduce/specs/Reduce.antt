@@ -8,6 +8,8 @@ use Rattle.script_gate_trait.specs.declared.log.Log.{Log}
 use Rattle.edge_io.specs.Files.{Holds, IsLonger, SameFiles, SameOthers}
 use Rattle.verdict_table.specs.declared.record.Record.{Record}
 use Rattle.reduce_journal.specs.History.{History, records_of}
+use Rattle.reduce_journal.specs.Journal.{IsDigestOf}
+use Rattle.reduce_journal.specs.declared.digest.Digest.{Digest}
 use Rattle.reduce_journal.specs.Report.{report_text}
 use Rattle.reduce_journal.specs.declared.counts.Counts.{Counts}
 use Rattle.command_reduce_calls.specs.Journal.{JournalBroken, JournalSoFar, JournalUntouched, JournalWhole}
@@ -61,23 +63,27 @@ stays_of options problem = record { texts = options.keeps; numbers = numbers_sta
 abbrev pub admits_of : ReduceOptions → Problem → Admits
 admits_of options problem = stays_admit (stays_of options problem)
 
--- the problem, whose history this is, reduces to the text, and this is its report
-abbrev pub ReducesTo : ReduceOptions → SeenFiles → History → List ℕ → List ℕ → Type 0
-ReducesTo options files history text report = ProblemAccepted options files (λ problem.
-    (counts : Counts) × ReducesFrom options.jobs (admits_of options problem) problem history text counts × (report ≡ report_text counts)
+-- the problem, of whose start this is the digest and whose history this is, reduces to the text, and this is its report
+abbrev pub ReducesTo : ReduceOptions → SeenFiles → Digest → History → List ℕ → List ℕ → Type 0
+ReducesTo options files start history text report = ProblemAccepted options files (λ problem.
+    IsDigestOf (start_text problem) start
+    × (counts : Counts) × ReducesFrom options.jobs (admits_of options problem) problem history text counts × (report ≡ report_text counts)
     × AreOf options.jobs (admits_of options problem) problem history)
 
 -- the output file holds what the input reduces to, of which this is the report
-pub record IsReduced (options : ReduceOptions) (files files' : SeenFiles) (history : History) (report : List ℕ) : Type 0 where
+pub record IsReduced (options : ReduceOptions) (files files' : SeenFiles) (start : Digest) (history : History) (report : List ℕ) : Type 0 where
   pub text : List ℕ
-  pub reduces : ReducesTo options files history text report
+  pub reduces : ReducesTo options files start history text report
   pub written : Holds text (files'.shown options.output)
 
--- where there is an event, the history is one of the input that was read, which was accepted
-abbrev pub IsHistoryOfInput : ReduceOptions → SeenFiles → History → Type 0
-IsHistoryOfInput options files [] = Unit {0}
-IsHistoryOfInput options files (event ∷ history) =
-    ProblemAccepted options files (λ problem. AreOf options.jobs (admits_of options problem) problem (event ∷ history))
+-- this is the digest of the problem's start, and the history is one of it
+abbrev pub IsHistoryWith : ReduceOptions → Digest → History → Problem → Type 0
+IsHistoryWith options start history problem = IsDigestOf (start_text problem) start × AreOf options.jobs (admits_of options problem) problem history
+
+-- neither a gate nor the journal was reached, and this is the digest of no bytes; or the input was read, it was accepted, and the history is one of it
+abbrev pub IsHistoryOfInput : ReduceOptions → Digest → History → World → World → Type 0
+IsHistoryOfInput options start history old new =
+    (NotReached history old new × IsDigestOf [] start) ⊎ ProblemAccepted options old.files (IsHistoryWith options start history)
 
 -- the logs of gates after those of the workers from this number on were opened, and then asked these texts, a list for each; the others are as before
 abbrev pub used_from : ReduceOptions → ℕ → List (List (List ℕ)) → List (Option Log) → List (Option Log)
@@ -108,12 +114,12 @@ GatesWereUsed options texts old new before after =
     ((texts ≡ []) × (new ≡ old) × (after ≡ before)) ⊎ GatesWereOpened options texts old new before after ⊎ GatesWereAsked options texts old new
 
 -- the output file has what the input reduces to, and no other file was changed; the journal has the whole history; and no call failed
-pub record WritesReduced (options : ReduceOptions) (history : History) (report : List ℕ) (old new : World) : Type 0 where
-  pub reduced : IsReduced options old.files new.files history report
+pub record WritesReduced (options : ReduceOptions) (start : Digest) (history : History) (report : List ℕ) (old new : World) : Type 0 where
+  pub reduced : IsReduced options old.files new.files start history report
   pub others : SameOthers old.files.shown new.files.shown options.output
   pub files_quiet : IsQuiet old.files new.files
   pub gates_quiet : AreQuiet old.gates new.gates
-  pub journal : JournalWhole options.journal history old.journal new.journal
+  pub journal : JournalWhole options.journal start history old.journal new.journal
 
 -- The gate of this worker wasn't opened; those of the workers before it were, and the other gates and the journal are as before.
 pub record GateUnopened (options : ReduceOptions) (history : History) (worker : ℕ) (logs logs' : List (Option Log)) (old new : SeenJournal) : Type 0 where
@@ -123,24 +129,24 @@ pub record GateUnopened (options : ReduceOptions) (history : History) (worker : 
   pub untouched : JournalUntouched history old new
 
 -- where a call of the gate of this worker failed: the journal has the whole history; or the gate wasn't opened, and nothing was recorded
-abbrev pub ScriptLeaves : ReduceOptions → History → ℕ → World → World → Type 0
-ScriptLeaves options history worker old new =
-    JournalWhole options.journal history old.journal new.journal
+abbrev pub ScriptLeaves : ReduceOptions → Digest → History → ℕ → World → World → Type 0
+ScriptLeaves options start history worker old new =
+    JournalWhole options.journal start history old.journal new.journal
     ⊎ GateUnopened options history worker (logs_of old.gates) (logs_of new.gates) old.journal new.journal
 
--- How `reduce` ends, by its status.
-pub data ReduceEnds (options : ReduceOptions) (history : History) (old new : World) : ℕ → Type 0 where
+-- How `reduce` ends, by its status; this is the digest of the input, where a gate or the journal was reached.
+pub data ReduceEnds (options : ReduceOptions) (start : Digest) (history : History) (old new : World) : ℕ → Type 0 where
   -- the result was written, and its report was put on `out`
   done : (report : List ℕ)
-      → (writes : WritesReduced options history report old new)
+      → (writes : WritesReduced options start history report old new)
       → (put : Puts report old.out new.out)
-      → ReduceEnds options history old new 0
+      → ReduceEnds options start history old new 0
   -- out of memory, for which there is no evidence; no file was changed, and the gate of a worker alone didn't fail
   memory : (files : FilesKept old.files new.files)
       → (gates_quiet : options.jobs ≡ 1 → AreQuiet old.gates new.gates)
-      → (journal : JournalSoFar options.journal history old.journal new.journal)
+      → (journal : JournalSoFar options.journal start history old.journal new.journal)
       → (line : PutsMessage (codes "out of memory") old.out new.out)
-      → ReduceEnds options history old new 1
+      → ReduceEnds options start history old new 1
   -- a call of the files failed, the line names one of the files that are read, and neither a gate nor the journal was reached
   unread : (file : NamedFile)
       → (reached : IsReached options.mode file old.files)
@@ -148,21 +154,21 @@ pub data ReduceEnds (options : ReduceOptions) (history : History) (old new : Wor
       → (same : SameFiles old.files.shown new.files.shown)
       → (untouched : NotReached history old new)
       → (line : PutsMessage (codes "cannot read " ++ word_for file) old.out new.out)
-      → ReduceEnds options history old new 3
+      → ReduceEnds options start history old new 3
   -- the input reduces to some text, but a call of the files failed, and the output file may hold anything
   unwritten : (failed : CallFailed old.files new.files)
       → (text report : List ℕ)
-      → (reduces : ReducesTo options old.files history text report)
+      → (reduces : ReducesTo options old.files start history text report)
       → (others : SameOthers old.files.shown new.files.shown options.output)
       → (gates_quiet : AreQuiet old.gates new.gates)
-      → (journal : JournalWhole options.journal history old.journal new.journal)
+      → (journal : JournalWhole options.journal start history old.journal new.journal)
       → (line : PutsMessage (codes "cannot write") old.out new.out)
-      → ReduceEnds options history old new 4
+      → ReduceEnds options start history old new 4
   -- the result was written, but the put of its report failed: some prefix of it was put, and nothing more
   unput : (report : List ℕ)
-      → (writes : WritesReduced options history report old new)
+      → (writes : WritesReduced options start history report old new)
       → (put : PutsPrefix report old.out new.out)
-      → ReduceEnds options history old new 4
+      → ReduceEnds options start history old new 4
   -- the grammar's files have no well-formed grammar, the line says why, and neither a gate nor the journal was reached
   faulty : (trees : GrammarOptions) (text : List ℕ)
       → (mode : options.mode ≡ ModeOptions.by_grammar trees)
@@ -170,7 +176,7 @@ pub data ReduceEnds (options : ReduceOptions) (history : History) (old new : Wor
       → (files : FilesKept old.files new.files)
       → (untouched : NotReached history old new)
       → (line : PutsLine (fault_line text) old.out new.out)
-      → ReduceEnds options history old new 5
+      → ReduceEnds options start history old new 5
   -- the grammar was read; the input isn't UTF-8, or isn't cut into tokens, and the line says from where on; and neither a gate nor the journal was reached
   no_token : (trees : GrammarOptions) (fault : InputFault)
       → (mode : options.mode ≡ ModeOptions.by_grammar trees)
@@ -179,7 +185,7 @@ pub data ReduceEnds (options : ReduceOptions) (history : History) (old new : Wor
       → (files : FilesKept old.files new.files)
       → (untouched : NotReached history old new)
       → (line : PutsMessage (input_fault_text fault) old.out new.out)
-      → ReduceEnds options history old new 6
+      → ReduceEnds options start history old new 6
   -- the grammar was read, its start rule doesn't derive the input's tokens, and neither a gate nor the journal was reached
   unparsed : (trees : GrammarOptions)
       → (mode : options.mode ≡ ModeOptions.by_grammar trees)
@@ -187,21 +193,22 @@ pub data ReduceEnds (options : ReduceOptions) (history : History) (old new : Wor
       → (files : FilesKept old.files new.files)
       → (untouched : NotReached history old new)
       → (line : PutsMessage (codes "input does not parse") old.out new.out)
-      → ReduceEnds options history old new 7
+      → ReduceEnds options start history old new 7
   -- the input was read, and a gate said no to it
-  uninteresting : (read : ProblemAccepted options old.files (λ problem. IsRefused options.jobs (admits_of options problem) problem history))
+  uninteresting : (read : ProblemAccepted options old.files (λ problem.
+      IsDigestOf (start_text problem) start × IsRefused options.jobs (admits_of options problem) problem history))
       → (files : FilesKept old.files new.files)
       → (gates_quiet : AreQuiet old.gates new.gates)
-      → (journal : JournalWhole options.journal history old.journal new.journal)
+      → (journal : JournalWhole options.journal start history old.journal new.journal)
       → (line : PutsMessage (codes "start is not interesting") old.out new.out)
-      → ReduceEnds options history old new 8
+      → ReduceEnds options start history old new 8
   -- the input was read, a keep text doesn't occur in it, the line names the first such by its number from 1, and neither a gate nor the journal was reached
   keep_missing : (index : ℕ)
       → (read : ProblemRead (problem_in options) old.files (λ problem. first_missing options.keeps (start_text problem) ≡ Some index))
       → (files : FilesKept old.files new.files)
       → (untouched : NotReached history old new)
       → (line : PutsMessage (keep_text (index + 1)) old.out new.out)
-      → ReduceEnds options history old new 9
+      → ReduceEnds options start history old new 9
   -- a file that is read is longer than its limit, the line names it, and neither a gate nor the journal was reached
   too_long : (file : NamedFile)
       → (reached : IsReached options.mode file old.files)
@@ -209,23 +216,24 @@ pub data ReduceEnds (options : ReduceOptions) (history : History) (old new : Wor
       → (files : FilesKept old.files new.files)
       → (untouched : NotReached history old new)
       → (line : PutsMessage (word_for file ++ codes " is too long") old.out new.out)
-      → ReduceEnds options history old new 10
+      → ReduceEnds options start history old new 10
   -- the input was read, a call failed of the gate of the worker that the line names, and the journal has the whole history, unless that gate wasn't opened;
   -- with one worker the gate hadn't said no to the input, its reduction wasn't finished, and the history is all that one thread does over its records
   script : (worker : ℕ) (one_of : worker ≤ options.jobs) (failed : GateFailed worker old.gates new.gates)
-      → (read : ProblemAccepted options old.files (λ problem. options.jobs ≡ 1 → IsUnfinished (admits_of options problem) problem history))
+      → (read : ProblemAccepted options old.files (λ problem.
+      IsDigestOf (start_text problem) start × (options.jobs ≡ 1 → IsUnfinished (admits_of options problem) problem history)))
       → (files : FilesKept old.files new.files)
-      → (journal : ScriptLeaves options history worker old new)
+      → (journal : ScriptLeaves options start history worker old new)
       → (line : PutsMessage (script_text worker) old.out new.out)
-      → ReduceEnds options history old new 11
+      → ReduceEnds options start history old new 11
   -- the input was read, and a call of the journal failed: it wasn't opened, or it broke off
   journal : (failed : CallFailed old.journal new.journal)
-      → (read : ProblemAccepted options old.files (λ problem. AreOf options.jobs (admits_of options problem) problem history))
-      → (broken : JournalBroken options.jobs options.journal history old.journal new.journal)
+      → (read : ProblemAccepted options old.files (IsHistoryWith options start history))
+      → (broken : JournalBroken options.jobs options.journal start history old.journal new.journal)
       → (gates_quiet : options.jobs ≡ 1 → AreQuiet old.gates new.gates)
       → (files : FilesKept old.files new.files)
       → (line : PutsMessage (codes "journal fault") old.out new.out)
-      → ReduceEnds options history old new 12
+      → ReduceEnds options start history old new 12
   -- the input was read, each keep text occurs in it, the line on `out` names the first last line of `--protect`, and then of `--only`, that is beyond its
   -- lines, and neither a gate nor the journal was reached
   beyond : (last lines : ℕ)
@@ -233,7 +241,7 @@ pub data ReduceEnds (options : ReduceOptions) (history : History) (old new : Wor
       → (files : FilesKept old.files new.files)
       → (untouched : NotReached history old new)
       → (line : PutsMessage (beyond_text last lines) old.out new.out)
-      → ReduceEnds options history old new 16
+      → ReduceEnds options start history old new 16
 
 -- Which status it has to be. This follows from how `reduce` ends.
 pub record ReduceMustEnd (options : ReduceOptions) (records : List Record) (old new : World) (status : ℕ) : Type 0 where
@@ -301,8 +309,9 @@ pub record RecordsAreSound (options : ReduceOptions) (may_say : List ℕ → Ver
 -- the workers are as before.
 pub record Reduces (options : ReduceOptions) (may_say : List ℕ → Verdict → Type 0) (old new : World) (status : ℕ) : Type 0 where
   pub history : History
-  pub ends : ReduceEnds options history old new status
+  pub start : Digest
+  pub ends : ReduceEnds options start history old new status
   pub must_end : ReduceMustEnd options (records_of history) old new status
   pub sound : RecordsAreSound options may_say (records_of history) (logs_of old.gates) (logs_of new.gates) old.journal new.journal
-  pub of_input : IsHistoryOfInput options old.files history
+  pub of_input : IsHistoryOfInput options start history old new
   pub others : drop options.jobs new.gates ≡ drop options.jobs old.gates

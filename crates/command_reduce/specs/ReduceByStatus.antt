@@ -3,6 +3,7 @@ use Rattle.std.specs.Prelude.{◌≡◌, ◌≢◌, ◌≤◌, ◌⊎◌, ℕ, �
 use Rattle.keep_guard.specs.Keep.{first_missing}
 use Rattle.edge_io.specs.Files.{IsLonger, SameFiles, SameOthers}
 use Rattle.reduce_journal.specs.History.{History, records_of}
+use Rattle.reduce_journal.specs.declared.digest.Digest.{Digest}
 use Rattle.run_gated.specs.Records.{OnlyNo}
 use Rattle.command_reduce_calls.specs.Journal.{JournalBroken, JournalSoFar, JournalWhole}
 use Rattle.command_reduce_calls.specs.Stays.{NamesBeyond}
@@ -25,15 +26,15 @@ abbrev pub PutsItsLine : ModeOptions → SeenFiles → SeenOut → SeenOut → �
 PutsItsLine mode files out out' status = (file : NamedFile) × IsReached mode file files × PutsRefusal file out out' status
 
 -- What `reduce` has done, by the number of its status.
-pub record ReduceMeans (options : ReduceOptions) (history : History) (old new : World) (status : ℕ) : Type 0 where
+pub record ReduceMeans (options : ReduceOptions) (start : Digest) (history : History) (old new : World) (status : ℕ) : Type 0 where
   pub known : IsOneOf (0 ∷ 1 ∷ 3 ∷ 4 ∷ 5 ∷ 6 ∷ 7 ∷ 8 ∷ 9 ∷ 10 ∷ 11 ∷ 12 ∷ 16 ∷ []) status
   pub of_lines : options.mode ≡ ModeOptions.lines → IsOneOf (0 ∷ 1 ∷ 3 ∷ 4 ∷ 8 ∷ 9 ∷ 10 ∷ 11 ∷ 12 ∷ 16 ∷ []) status
-  pub done : status ≡ 0 → (report : List ℕ) × IsReduced options old.files new.files history report × Puts report old.out new.out
+  pub done : status ≡ 0 → (report : List ℕ) × IsReduced options old.files new.files start history report × Puts report old.out new.out
   pub unread : status ≡ 3 → CallFailed old.files new.files
   pub write : status ≡ 4
       → (CallFailed old.files new.files × PutsItsLine options.mode old.files old.out new.out status)
-      ⊎ ((report : List ℕ) × IsReduced options old.files new.files history report × PutsPrefix report old.out new.out)
-  pub tried : status ≡ 4 → (text : List ℕ) × (report : List ℕ) × ReducesTo options old.files history text report
+      ⊎ ((report : List ℕ) × IsReduced options old.files new.files start history report × PutsPrefix report old.out new.out)
+  pub tried : status ≡ 4 → (text : List ℕ) × (report : List ℕ) × ReducesTo options old.files start history text report
   pub fault : status ≡ 5
       → (trees : GrammarOptions) × (text : List ℕ) × (options.mode ≡ ModeOptions.by_grammar trees)
       × GrammarWasRead trees.grammar old.files (λ texts. IsFaultIn trees.grammar texts text) × PutsLine (fault_line text) old.out new.out
@@ -50,14 +51,14 @@ pub record ReduceMeans (options : ReduceOptions) (history : History) (old new : 
   pub too_long : status ≡ 10 → (file : NamedFile) × IsReached options.mode file old.files
       × IsLonger (limit_of file) (old.files.shown (path_in (problem_in options) file))
   pub script : status ≡ 11
-      → (worker : ℕ) × (worker ≤ options.jobs) × GateFailed worker old.gates new.gates × ScriptLeaves options history worker old new
+      → (worker : ℕ) × (worker ≤ options.jobs) × GateFailed worker old.gates new.gates × ScriptLeaves options start history worker old new
       × PutsMessage (script_text worker) old.out new.out
-  pub journal : status ≡ 12 → CallFailed old.journal new.journal × JournalBroken options.jobs options.journal history old.journal new.journal
+  pub journal : status ≡ 12 → CallFailed old.journal new.journal × JournalBroken options.jobs options.journal start history old.journal new.journal
   pub beyond : status ≡ 16
       → (last : ℕ) × (lines : ℕ) × ProblemRead (problem_in options) old.files (λ problem. NamesBeyond options last lines (start_text problem))
       × PutsMessage (beyond_text last lines) old.out new.out
-  pub whole : IsOneOf (0 ∷ 4 ∷ 8 ∷ []) status → JournalWhole options.journal history old.journal new.journal
-  pub so_far : status ≡ 1 → JournalSoFar options.journal history old.journal new.journal
+  pub whole : IsOneOf (0 ∷ 4 ∷ 8 ∷ []) status → JournalWhole options.journal start history old.journal new.journal
+  pub so_far : status ≡ 1 → JournalSoFar options.journal start history old.journal new.journal
   pub early : ¬ IsOneOf (0 ∷ 1 ∷ 4 ∷ 8 ∷ 11 ∷ 12 ∷ []) status → NotReached history old new
   pub others : SameOthers old.files.shown new.files.shown options.output
   pub unwritten : status ≢ 0 → status ≢ 4 → SameFiles old.files.shown new.files.shown
@@ -65,5 +66,5 @@ pub record ReduceMeans (options : ReduceOptions) (history : History) (old new : 
 
 abbrev pub ReduceByStatus : Type 0
 ReduceByStatus =
-    (options : ReduceOptions) (history : History) (old new : World) (status : ℕ) → ReduceEnds options history old new status
-    → ReduceMeans options history old new status
+    (options : ReduceOptions) (start : Digest) (history : History) (old new : World) (status : ℕ) → ReduceEnds options start history old new status
+    → ReduceMeans options start history old new status

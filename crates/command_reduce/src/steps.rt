@@ -26,7 +26,7 @@ use command_words::ReduceLine;
 use edge_io::{Files, Sink};
 use keep_guard::Guard;
 use line_guard::{MustStay, all_keep_protected};
-use reduce_journal::Event;
+use reduce_journal::{Digest, Event, digest_of};
 use reduce_trees_input::{input_fault_once, inputs_are_in_language};
 use run_gated::Ran;
 use run_problem::{ReadProblem, run_problem};
@@ -46,6 +46,7 @@ fn run_opened<G: Gate + Send, J: Sink + Drop + Send, W: Threads + Wait + Sync>(
     guard: Guard<MustStay<'_>>,
     workers: &mut [Worker<G>],
     journal: J,
+    digest: Digest,
 ) -> Ran<J>
     requires ready { IsReady problem }
     requires kept { stays_admit guard (numbers_read problem) (start_read problem) ≡ true }
@@ -53,13 +54,13 @@ fn run_opened<G: Gate + Send, J: Sink + Drop + Send, W: Threads + Wait + Sync>(
     ensures idle { AreIdle workers.new }
     ensures as_many { length workers.new ≡ length workers.old }
     ensures sound { IsSoundOpened ((reduce_read line.now).journal) G.may_say
-        (run_of G.log G.faults J.put_so_far J.faults workers.old workers.new journal result) }
+        (run_of G.log G.faults J.put_so_far J.faults workers.old workers.new journal digest result) }
     ensures problem { (one : Problem) → IsReadAs (stays_admit guard.entry) problem one
-        → IsRunOf (stays_admit guard.entry) one (run_of G.log G.faults J.put_so_far J.faults workers.old workers.new journal result) }
+        → IsRunOf (stays_admit guard.entry) one (run_of G.log G.faults J.put_so_far J.faults workers.old workers.new journal digest result) }
 {
     let mut journal = journal;
     match open_journal(alloc, &mut journal, line) {
-        Ok(()) => run_problem(rt, alloc, problem, guard, workers, journal),
+        Ok(()) => run_problem(rt, alloc, problem, guard, workers, journal, digest),
         Err(fault) => Ran::refused(alloc, journal, fault),
     }
 }
@@ -74,6 +75,7 @@ fn reduce_start<G: Gate + Send, J: Sink + Drop + Send, W: Threads + Wait + Sync>
     guard: Guard<MustStay<'_>>,
     workers: &mut [Worker<G>],
     journal: J,
+    digest: Digest,
 ) -> Ran<J>
     requires ready { IsReady problem }
     requires kept { stays_admit guard (numbers_read problem) (start_read problem) ≡ true }
@@ -81,12 +83,13 @@ fn reduce_start<G: Gate + Send, J: Sink + Drop + Send, W: Threads + Wait + Sync>
     requires jobs { length workers.old ≡ line.now.jobs }
     ensures idle { AreIdle workers.new }
     ensures as_many { length workers.new ≡ length workers.old }
-    ensures sound { IsSoundStarted (reduce_read line.now) G.may_say (run_of G.log G.faults J.put_so_far J.faults workers.old workers.new journal result) }
+    ensures sound { IsSoundStarted (reduce_read line.now) G.may_say
+        (run_of G.log G.faults J.put_so_far J.faults workers.old workers.new journal digest result) }
     ensures problem { (one : Problem) → IsReadAs (stays_admit guard.entry) problem one → IsRunOf (stays_admit guard.entry) one
-        (run_of G.log G.faults J.put_so_far J.faults workers.old workers.new journal result) }
+        (run_of G.log G.faults J.put_so_far J.faults workers.old workers.new journal digest result) }
 {
     match open_gates(workers, line) {
-        Ok(()) => run_opened(rt, alloc, line, problem, guard, workers, journal),
+        Ok(()) => run_opened(rt, alloc, line, problem, guard, workers, journal, digest),
         Err(fault) => without_gate(alloc, journal, fault),
     }
 }
@@ -174,6 +177,7 @@ fn reduce_steps<F: Files, G: Gate + Send, J: Sink + Drop + Send, W: Threads + Wa
             outcome: Err(refusal),
         },
         Ok((problem, guard)) => {
+            let digest = digest_of(problem.start());
             let Ran {
                 journal,
                 events,
@@ -186,6 +190,7 @@ fn reduce_steps<F: Files, G: Gate + Send, J: Sink + Drop + Send, W: Threads + Wa
                 guard,
                 &mut workers[..line.jobs as usize],
                 journal,
+                digest,
             );
             let outcome = write_result(alloc, line, files, outcome);
             Steps {
@@ -199,10 +204,10 @@ fn reduce_steps<F: Files, G: Gate + Send, J: Sink + Drop + Send, W: Threads + Wa
 
 /// Reduces a file as the command line says, in this order: the grammar is read, where there is one;
 /// the input is read, and cut into tokens and parsed by the grammar; the keep texts are looked for in
-/// it, and the lines that are named; the gates of as many workers as the command line says are opened, and the journal; the gates are
-/// asked, one of them for each text, and each verdict is written into the journal before it is used; the
-/// result is written; and its report is put on `out`. A start whose verdict is no ends the run. The other
-/// workers do nothing.
+/// it, and the lines that are named; the gates of as many workers as the command line says are opened, and
+/// the journal; the gates are asked, one of them for each text, and each verdict is written into the
+/// journal before it is used; the result is written; and its report is put on `out`. A start whose verdict
+/// is no ends the run. The other workers do nothing.
 pub fn reduce<F: Files, G: Gate + Send, J: Sink + Drop + Send, O: Sink, W: Threads + Wait + Sync>(
     rt: &W,
     alloc: Global,

@@ -1,6 +1,7 @@
 -- What may have become of the journal.
 use Rattle.std.specs.Prelude.{◌≡◌, ℕ, List, [], Option, option_map}
 use Rattle.edge_io.specs.Sink.{Put, empty_put}
+use Rattle.reduce_journal.specs.declared.digest.Digest.{Digest}
 use Rattle.reduce_journal.specs.History.{History}
 use Rattle.run_gated.specs.Workers.{HasPartBy}
 use Rattle.run_worker.specs.RunEnds.{HasWritten}
@@ -11,8 +12,8 @@ abbrev pub opened_as : List ℕ → Option Put → Option Put
 opened_as name put = option_map (λ _. empty_put name) put
 
 -- It was opened under this name, and then the history was put, all of it and nothing else; and no call of it failed.
-pub record JournalWhole (name : List ℕ) (history : History) (old new : SeenJournal) : Type 0 where
-  pub written : HasWritten history (opened_as name old.shown) new.shown
+pub record JournalWhole (name : List ℕ) (start : Digest) (history : History) (old new : SeenJournal) : Type 0 where
+  pub written : HasWritten start history (opened_as name old.shown) new.shown
   pub quiet : IsQuiet old new
 
 -- It is as handed in, and nothing was recorded.
@@ -27,13 +28,13 @@ pub record JournalEmpty (name : List ℕ) (history : History) (old new : SeenJou
   pub quiet : IsQuiet old new
 
 -- where memory ran out: it has the whole history, it is as handed in, or it was opened and has nothing
-pub data JournalSoFar (name : List ℕ) (history : History) (old new : SeenJournal) : Type 0 where
-  whole : JournalWhole name history old new → JournalSoFar name history old new
-  untouched : JournalUntouched history old new → JournalSoFar name history old new
-  empty : JournalEmpty name history old new → JournalSoFar name history old new
+pub data JournalSoFar (name : List ℕ) (start : Digest) (history : History) (old new : SeenJournal) : Type 0 where
+  whole : JournalWhole name start history old new → JournalSoFar name start history old new
+  untouched : JournalUntouched history old new → JournalSoFar name start history old new
+  empty : JournalEmpty name history old new → JournalSoFar name start history old new
 
--- It wasn't opened, and shows what it did; or it was, and broke off: in its first line, or in an event. With one worker that is the last record of the history,
+-- It wasn't opened, and shows what it did; or it was, and broke off: in its head, or in an event. With one worker that is the last record of the history,
 -- or a commit after all of it.
-pub data JournalBroken (workers : ℕ) (name : List ℕ) (history : History) (old new : SeenJournal) : Type 0 where
-  unopened : history ≡ [] → new.shown ≡ old.shown → JournalBroken workers name history old new
-  broke_off : HasPartBy workers history (opened_as name old.shown) new.shown → JournalBroken workers name history old new
+pub data JournalBroken (workers : ℕ) (name : List ℕ) (start : Digest) (history : History) (old new : SeenJournal) : Type 0 where
+  unopened : history ≡ [] → new.shown ≡ old.shown → JournalBroken workers name start history old new
+  broke_off : HasPartBy workers start history (opened_as name old.shown) new.shown → JournalBroken workers name start history old new

@@ -15,7 +15,7 @@ use crate::fault::{BoardFault, PoolFault};
 use crate::outcome::{Outcome, Refused};
 use crate::seat::{Seat, is_held, new_seats, seat_of};
 use edge_io::Sink;
-use reduce_journal::{Event, write_head};
+use reduce_journal::{Digest, Event, write_head};
 use reduce_step::Step;
 use script_gate_trait::Gate;
 use std::alloc::Global;
@@ -23,7 +23,8 @@ use std::marker::{Model, PhantomData};
 
 /// What the workers of one run share: the front, which is the reducer that is committed to; the records
 /// and open claims; the history, and the journal that it is written to; and the fault that is kept, if
-/// any. Contracts see these, and a seat for each worker. `G` is the type of the workers' gates.
+/// any. Contracts see these, a seat for each worker, and the digest of the start. `G` is the type of the
+/// workers' gates.
 #[derive(Drop)]
 pub struct Board<S: Step + Drop, G: Gate, J: Sink + Drop> {
     pub(crate) front: S,
@@ -32,6 +33,7 @@ pub struct Board<S: Step + Drop, G: Gate, J: Sink + Drop> {
     pub(crate) journal: J,
     pub(crate) fault: Option<PoolFault>,
     pub(crate) seats: Vec<Seat>,
+    start: Digest,
     gate: PhantomData<G>,
 }
 
@@ -50,6 +52,7 @@ impl<S: Step + Drop, G: Gate, J: Sink + Drop> Model for Board<S, G, J> {
       journal = board.journal;
       fault = board.fault;
       seats = board.seats.items;
+      start = board.start;
     } };
 
     ghost invariant = { λ board. record {
@@ -60,6 +63,7 @@ impl<S: Step + Drop, G: Gate, J: Sink + Drop> Model for Board<S, G, J> {
         journal = board.journal;
         fault = board.fault;
         seats = board.seats.items;
+        start = board.start;
       });
       event_capacity : length board.events.items + length (claims_held board.seats.items) ≤ vec_capacity board.events;
     } };
@@ -70,45 +74,48 @@ fn begin<J: Sink>(
     alloc: Global,
     journal: &mut J,
     workers: u32,
+    start: &Digest,
 ) -> Result<(Vec<Seat>, Vec<Seat>), BoardFault>
     ensures own { IfOk result (λ begun. begun.0.items ≡ new_seats workers) }
     ensures lent { IfOk result (λ begun. begun.1.items ≡ new_seats workers) }
-    ensures head { OnOk result (HasHead J.put_so_far journal.old journal.new) }
-    ensures refused { IfErr result (λ fault. IsRefusedWith J.put_so_far fault journal.old journal.new) }
+    ensures head { OnOk result (HasHead J.put_so_far start.now journal.old journal.new) }
+    ensures refused { IfErr result (λ fault. IsRefusedWith J.put_so_far start.now fault journal.old journal.new) }
     ensures failed { IfErr result (λ fault. fault ≡ BoardFault.Journal → Rose (J.faults journal.old) (J.faults journal.new)) }
     ensures quiet { OnOk result (J.faults journal.new ≡ J.faults journal.old) }
 {
     let own = new_seats(alloc, workers)?;
     let lent = new_seats(alloc, workers)?;
-    write_head(journal)?;
+    write_head(journal, start)?;
     Ok((own, lent))
 }
 
 impl<S: Step + Drop, G: Gate, J: Sink + Drop> Board<S, G, J> {
-    /// A board of so many workers over a new reducer and an empty journal, which gets its head; and a
-    /// seat for each worker, in order. Where there is no board, the front and the journal are handed back.
+    /// A board of so many workers over a new reducer of the start that has this digest, and an empty
+    /// journal, which gets its head; and a seat for each worker, in order. Where there is no board, the front
+    /// and the journal are handed back.
     pub fn new(
         alloc: Global,
         front: S,
         journal: J,
         workers: u32,
+        start: Digest,
     ) -> Result<(Board<S, G, J>, Vec<Seat>), Refused<S, J>>
         requires workers { (1 ≤ workers) × (workers ≤ 16) }
         requires first { S.first front ≡ S.plan front }
         requires empty { IfSome (J.put_so_far journal) (λ put. put.bytes ≡ []) }
-        ensures board { IfOk result (λ made. made.0 ≡ new_board workers front made.0.journal) }
+        ensures board { IfOk result (λ made. made.0 ≡ new_board workers start front made.0.journal) }
         ensures seats { IfOk result (λ made. made.1.items ≡ new_seats workers) }
         ensures free { IfOk result (λ made. AreFreeSeats made.0.seats made.1.items) }
-        ensures head { IfOk result (λ made. HasHead J.put_so_far journal made.0.journal) }
+        ensures head { IfOk result (λ made. HasHead J.put_so_far start journal made.0.journal) }
         ensures name { IfOk result (λ made. HasSameName J.put_so_far journal made.0.journal) }
         ensures quiet { IfOk result (λ made. J.faults made.0.journal ≡ J.faults journal) }
         ensures front { IfErr result (λ refused. refused.front ≡ front) }
-        ensures refused { IfErr result (λ refused. IsRefusedWith J.put_so_far refused.fault journal refused.journal) }
+        ensures refused { IfErr result (λ refused. IsRefusedWith J.put_so_far start refused.fault journal refused.journal) }
         ensures kept_name { IfErr result (λ refused. HasSameName J.put_so_far journal refused.journal) }
         ensures failed { IfErr result (λ refused. refused.fault ≡ BoardFault.Journal → Rose (J.faults journal) (J.faults refused.journal)) }
     {
         let mut journal = journal;
-        match begin(alloc, &mut journal, workers) {
+        match begin(alloc, &mut journal, workers, &start) {
             Err(fault) => Err(Refused {
                 front,
                 journal,
@@ -122,6 +129,7 @@ impl<S: Step + Drop, G: Gate, J: Sink + Drop> Board<S, G, J> {
                     journal,
                     fault: None,
                     seats: own,
+                    start,
                     gate: PhantomData,
                 };
                 Ok((board, lent))
@@ -175,6 +183,7 @@ impl<S: Step + Drop, G: Gate, J: Sink + Drop> Board<S, G, J> {
             journal,
             fault,
             seats: _,
+            start: _,
             gate: _,
         } = self;
         Outcome {

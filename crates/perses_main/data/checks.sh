@@ -41,10 +41,14 @@ report() {
     printf 'units: %s\nbytes: %s\nrounds: %s\nused: %s\nrecords: %s\n' "$@"
 }
 
-# journal_is OUTPUT EVENTS: the journal beside this output has its first line and these events, which are
-# written as printf takes them.
+# journal_text INPUT EVENTS: the journal of a run over this input, with these events, which are written as
+# printf takes them.
+journal_text() {
+    printf "perses-journal 2\nS %s\n$2" "$(sha256sum < "$1" | cut -c 1-64)"
+}
+# journal_is INPUT OUTPUT EVENTS: the journal beside this output is that.
 journal_is() {
-    printf "perses-journal 1\n$2" | cmp - "$1.journal"
+    journal_text "$1" "$3" | cmp - "$2.journal"
 }
 
 # reduces STATUS TEXT BYTES INPUT OUTPUT SCRIPT: so ends the command `reduce` of these files. Then `o`,
@@ -62,23 +66,25 @@ reduces() {
 }
 # From the second case on, the work folder is there already, and so is the journal.
 reduces 0 "$(report '0 -> 0' '0 -> 0' 1 1 1)" '' empty o always
+journal_is empty o 'R y 0\n\nC 1\n'
+test "$(wc -c < o.journal)" -eq 95
 reduces 0 "$(report '2 -> 0' '4 -> 0' 2 2 2)" '' lines o removing
 reduces 0 "$(report '2 -> 0' '4 -> 0' 2 2 2)" '' lines o noisy
 reduces 0 "$(report '2 -> 1' '7 -> 2' 2 5 4)" 00ff bytes o ends-in-00-ff
-journal_is o 'R y 7\ndrop\n\000\377\nC 1\nR n 0\n\nC 2\nR n 5\ndrop\n\nC 3\nR y 2\n\000\377\nC 4\nC 2\n'
+journal_is bytes o 'R y 7\ndrop\n\000\377\nC 1\nR n 0\n\nC 2\nR n 5\ndrop\n\nC 3\nR y 2\n\000\377\nC 4\nC 2\n'
 rm o.journal
 reduces 3 'perses: cannot read input' 6f6c64 missing o always
 test ! -e o.journal
 # In a folder that isn't there it is the journal that can't be made, before anything is asked.
 reduces 12 'perses: journal fault' 6f6c64 lines missing/o always
 reduces 4 'perses: cannot write' 6f6c64 lines folder always
-journal_is folder 'R y 4\na\nb\n\nC 1\nR y 0\n\nC 2\n'
+journal_is lines folder 'R y 4\na\nb\n\nC 1\nR y 0\n\nC 2\n'
 reduces 8 'perses: start is not interesting' 6f6c64 lines o killed
-journal_is o 'R n 4\na\nb\n\nC 1\n'
+journal_is lines o 'R n 4\na\nb\n\nC 1\n'
 reduces 11 'perses: script fault at worker 1' 6f6c64 lines o no-run-bit
-journal_is o ''
+journal_is lines o ''
 reduces 11 'perses: script fault at worker 1' 6f6c64 lines o missing
-journal_is o ''
+journal_is lines o ''
 
 # A program that is killed leaves the journal of what it was answered, and no result.
 # (the shell itself says on standard error that it was killed)
@@ -88,7 +94,7 @@ status=0
 } 2> /dev/null
 test "$status" = 137
 test ! -s put
-journal_is unwritten 'R y 4\na\nb\n\nC 1\n'
+journal_is lines unwritten 'R y 4\na\nb\n\nC 1\n'
 test ! -e unwritten
 
 # Each candidate is a program for the shell, which says yes where its last command succeeds.
@@ -144,7 +150,7 @@ puts_nothing normal --grammar g
 # A result is written before its report is put.
 puts_nothing reduce --mode lines --input lines --output o --script has-a
 test "$(cat o)" = a
-journal_is o 'R y 4\na\nb\n\nC 1\nR n 0\n\nC 2\nR y 2\na\n\nC 3\nC 2\n'
+journal_is lines o 'R y 4\na\nb\n\nC 1\nR n 0\n\nC 2\nR y 2\na\n\nC 3\nC 2\n'
 # A full device as the result, and as the journal.
 ln -s /dev/full full
 ends 4 'perses: cannot write' reduce --mode lines --input lines --output full --script has-a
@@ -233,7 +239,7 @@ test "$(cat reordered)" = a
 test -e deep/down/1/lines
 test ! -e perses-work
 test ! -e reordered.journal
-printf 'perses-journal 1\nR y 4\na\nb\n\nC 1\nR n 0\n\nC 2\nR y 2\na\n\nC 3\nC 2\n' | cmp - log
+journal_text lines 'R y 4\na\nb\n\nC 1\nR n 0\n\nC 2\nR y 2\na\n\nC 3\nC 2\n' | cmp - log
 # Several scripts at once come to what one after another come to, each in a folder of its worker.
 printf 'a\nb\nc\nd\n' > letters
 for jobs in 1 2 4 16; do
@@ -326,10 +332,10 @@ says 'perses: warning: the script no-run-bit isn'\''t executable: chmod +x no-ru
 # Where standard error is closed, nothing is said in another file.
 "$program" $byline has-a --output o > put 2>&-
 test "$(cat o)" = a
-journal_is o 'R y 4\na\nb\n\nC 1\nR n 0\n\nC 2\nR y 2\na\n\nC 3\nC 2\n'
+journal_is lines o 'R y 4\na\nb\n\nC 1\nR n 0\n\nC 2\nR y 2\na\n\nC 3\nC 2\n'
 # Where standard output is closed, no other file gets the report: that is a put that fails.
 status=0
 "$program" $byline has-a --output o >&- 2> said || status=$?
 test $status = 4
 test "$(cat o)" = a
-journal_is o 'R y 4\na\nb\n\nC 1\nR n 0\n\nC 2\nR y 2\na\n\nC 3\nC 2\n'
+journal_is lines o 'R y 4\na\nb\n\nC 1\nR n 0\n\nC 2\nR y 2\na\n\nC 3\nC 2\n'

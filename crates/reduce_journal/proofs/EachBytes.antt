@@ -1,16 +1,14 @@
--- Each list of bytes lacks the first line, is a journal, or is bad at some offset.
-use Rattle.std.proofs.Common.{◌≡◌, ◌⊎◌, inl, inr, ℕ, zero, suc, ◌+◌, ◌^◌, ◌<◌, List, [], ◌∷◌, ◌++◌, Ok, Err, eqb, length}
-use Rattle.std.proofs.Common.{take, drop, refl, sym, ap, ◌∙◌, subst, arith, append_assoc, length-append}
-use Rattle.std.specs.Cmp.Lexicographic.{pointwise}
-use Rattle.std.proofs.lemmas.Bool.{both_ways, cases_Bool}
-use Rattle.std.proofs.lemmas.Bool.Decides.{Decides-eqb}
-use Rattle.std.proofs.lemmas.Slice.Eq.{starts_is}
+-- Each list of bytes lacks a whole head, is a journal, or is bad at some offset.
+use Rattle.std.proofs.Common.{◌≡◌, ◌⊎◌, inl, inr, ℕ, zero, suc, ◌+◌, ◌^◌, ◌<◌, List, [], ◌∷◌, ◌++◌, Ok, Err, length}
+use Rattle.std.proofs.Common.{refl, sym, ap, ◌∙◌, subst, arith, append_assoc, length-append}
 use Rattle.reduce_journal.specs.declared.event.Event.{Event}
 use Rattle.reduce_journal.specs.declared.numbers.Mismatch.TheVariants.{Torn, Bad}
 use Rattle.reduce_journal.specs.History.{History, records_with, AllMayFollow}
-use Rattle.reduce_journal.specs.Journal.{head, event_text, journal_text, LacksHead, BeginsWithEvent, IsTorn, IsJournalOf, IsBadAt}
+use Rattle.reduce_journal.specs.Journal.{head_text, text_under, event_text, IsHead, LacksHead, BeginsWithEvent, IsTorn, IsJournalOf, IsBadAt}
 use Rattle.reduce_journal.specs.inner.Reading.{Parse, event_at}
+use Rattle.reduce_journal.specs.declared.head.Head.{Head}
 use Rattle.reduce_journal.proofs.Events.{event_decides}
+use Rattle.reduce_journal.proofs.Heads.{each_head}
 use Rattle.reduce_journal.proofs.Journals.{count_after, count_from_none, few_records, some_text, texts}
 
 -- these bytes after so many records: events, and a tail that is torn or bad
@@ -57,27 +55,30 @@ parts (suc fuel) k bytes less fits =
     (λ e later shorter. let few = few_records k e in parts fuel (records_with k e) later (omega (arith, less, shorter)) (omega (arith, fits, shorter, few)))
     (event_at k bytes) refl
 
-after_head : (bytes rest : List ℕ) → bytes ≡ head ++ rest → Parts 0 rest → ((events : History) × (torn : ℕ) × IsJournalOf bytes events torn)
-    ⊎ ((offset : ℕ) × IsBadAt bytes offset)
-after_head bytes rest begins p =
-    let whole : bytes ≡ journal_text p.events ++ p.tail = begins ∙ (ap (λ t. head ++ t) p.whole ∙ sym (append_assoc head (texts p.events) p.tail)) in
+after_head : (bytes rest : List ℕ) (first : Head) → IsHead first → bytes ≡ head_text first ++ rest → Parts 0 rest
+    → ((first : Head) × (events : History) × (torn : ℕ) × IsJournalOf bytes first events torn) ⊎ ((offset : ℕ) × IsBadAt bytes offset)
+after_head bytes rest first is_head begins p =
+    let whole : bytes ≡ text_under first p.events ++ p.tail =
+    begins ∙ (ap (λ t. head_text first ++ t) p.whole ∙ sym (append_assoc (head_text first) (texts p.events) p.tail)) in
     elim p.ends [
       | inl torn ↦ inl (
+        first,
         p.events,
         length p.tail,
         record {
           tail = p.tail;
-          before = record { history = p.follow; whole = whole };
+          before = record { is_head = is_head; history = p.follow; whole = whole };
           is_torn = subst (λ n. IsTorn n p.tail) (count_from_none p.events) torn;
           torn_bytes = refl;
         },
       )
       | inr bad ↦ inr (
-        length (journal_text p.events),
+        length (text_under first p.events),
         record {
+          first = first;
           events = p.events;
           tail = p.tail;
-          before = record { history = p.follow; whole = whole };
+          before = record { is_head = is_head; history = p.follow; whole = whole };
           at_offset = refl;
           no_event = subst (λ n. ¬ BeginsWithEvent n p.tail) (count_from_none p.events) bad.0;
           not_torn = subst (λ n. ¬ IsTorn n p.tail) (count_from_none p.events) bad.1;
@@ -86,14 +87,11 @@ after_head bytes rest begins p =
     ]
 
 pub each_bytes : (bytes : List ℕ) → length bytes < 2 ^ 64 → LacksHead bytes
-    ⊎ (((events : History) × (torn : ℕ) × IsJournalOf bytes events torn) ⊎ ((offset : ℕ) × IsBadAt bytes offset))
-each_bytes bytes fits =
-    let test = pointwise eqb head (take 17 bytes) in
-    let is = starts_is Decides-eqb bytes head test refl in
-    elim (cases_Bool test) [
-      | inl there ↦
-          let begins = is.0 there in
-          inr (after_head bytes (drop 17 bytes) begins (parts (suc (length (drop 17 bytes))) 0 (drop 17 bytes) (omega arith)
-          (omega (arith, fits, ap length begins, length-append head (drop 17 bytes)))))
-      | inr missing ↦ inl (λ rest e. both_ways test missing (is.1 rest e))
-    ]
+    ⊎ (((first : Head) × (events : History) × (torn : ℕ) × IsJournalOf bytes first events torn) ⊎ ((offset : ℕ) × IsBadAt bytes offset))
+each_bytes bytes fits = elim (each_head bytes) [
+  | inl found ↦
+      let rest : List ℕ = found.1 in
+      inr (after_head bytes rest found.0 found.2 found.3
+      (parts (suc (length rest)) 0 rest (omega arith) (omega (arith, fits, ap length found.3, length-append (head_text found.0) rest))))
+  | inr lacks ↦ inl lacks
+]

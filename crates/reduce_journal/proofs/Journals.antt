@@ -1,22 +1,27 @@
 -- Journals: each list of bytes has one history, and a journal that is cut off has the first events.
-use Rattle.std.proofs.Common.{◌≡◌, ◌≢◌, ◌⊎◌, inl, inr, ℕ, suc, ◌+◌, ◌-◌, ◌^◌, ◌<◌, ◌≤◌, List, [], ◌∷◌, ◌++◌, Result, Ok, Err}
-use Rattle.std.proofs.Common.{length, refl, sym, ap, ◌∙◌, subst, arith, append_assoc, append-nil, length-append}
-use Rattle.std.proofs.lemmas.List.{append_cancel_left}
+use Rattle.std.proofs.Common.{◌≡◌, ◌≢◌, ◌⊎◌, inl, inr, ℕ, suc, ◌+◌, ◌-◌, ◌^◌, ◌<◌, ◌≤◌, List, [], ◌∷◌, ◌++◌, Ok, Err, length}
+use Rattle.std.proofs.Common.{refl, sym, ap, ◌∙◌, subst, arith, append_assoc, append-nil, length-append}
 use Rattle.std.specs.List.{flat_map}
+use Rattle.std.specs.Prelude.{IsErrOf}
 use Rattle.script_gate_trait.specs.declared.gate.Verdict.TheVariants.{Yes, No}
+use Rattle.reduce_journal.specs.declared.digest.Digest.{Digest}
 use Rattle.reduce_journal.specs.declared.event.Event.{Event}
 use Rattle.reduce_journal.specs.declared.event.Event.TheVariants.{Recorded, Committed}
 use Rattle.reduce_journal.specs.declared.numbers.Mismatch.TheVariants.{Torn, Bad}
+use Rattle.reduce_journal.specs.declared.head.Head.{Head}
+use Rattle.reduce_journal.specs.declared.head.Head.TheVariants.{Version2}
 use Rattle.reduce_journal.specs.declared.read.Journal.{Journal}
 use Rattle.reduce_journal.specs.declared.read.JournalFault.{JournalFault}
 use Rattle.reduce_journal.specs.declared.read.JournalFault.TheVariants.{BadHead, BadRecord, Memory}
 use Rattle.reduce_journal.specs.History.{History, records_of, records_with, MayFollow, AllMayFollow, IsHistory}
-use Rattle.reduce_journal.specs.Journal.{head, event_text, journal_text, LacksHead, BeginsWithEvent, IsTorn, HasEvents, IsJournalOf, IsBadAt, GivesJournal}
+use Rattle.reduce_journal.specs.Journal.{head, head_text, text_under, event_text, journal_text, IsDigest, IsHead}
+use Rattle.reduce_journal.specs.Journal.{BeginsWithEvent, IsTorn, HasEvents, IsJournalOf, IsBadAt, IsReadAs, GivesJournal}
 use Rattle.reduce_journal.specs.inner.Reading.{event_at}
 use Rattle.reduce_journal.proofs.Lists.{cut_apart, same_found, some_after}
 use Rattle.reduce_journal.proofs.Events.{event_decides}
+use Rattle.reduce_journal.proofs.Heads.{one_head}
 
--- the bytes of events, without the first line
+-- the bytes of events, without a head
 abbrev pub texts : History → List ℕ
 texts events = flat_map event_text events
 
@@ -68,76 +73,98 @@ one_history k (a ∷ one) (b ∷ other) s t p q e no_s no_t =
     no_s (subst (λ n. ¬ BeginsWithEvent (count_after n other) t) same no_t) in
     (ap (λ c. c ∷ one) is.0 ∙ ap (λ r. b ∷ r) rest.0, rest.1)
 
--- the bytes after the first line
-after_head : (bytes : List ℕ) (events : History) (tail : List ℕ) → HasEvents bytes events tail → bytes ≡ head ++ (texts events ++ tail)
-after_head bytes events tail has = has.whole ∙ append_assoc head (texts events) tail
+-- the bytes after the head
+after_head : (bytes : List ℕ) (first : Head) (events : History) (tail : List ℕ) → HasEvents bytes first events tail
+    → bytes ≡ head_text first ++ (texts events ++ tail)
+after_head bytes first events tail has = has.whole ∙ append_assoc (head_text first) (texts events) tail
 
-same_events : (bytes : List ℕ) (one other : History) (s t : List ℕ) → HasEvents bytes one s → HasEvents bytes other t
-    → ¬ BeginsWithEvent (length (records_of one)) s → ¬ BeginsWithEvent (length (records_of other)) t → (one ≡ other) × (s ≡ t)
-same_events bytes one other s t p q no_s no_t =
-    one_history 0 one other s t p.history q.history
-    (append_cancel_left head (texts one ++ s) (texts other ++ t) (sym (after_head bytes one s p) ∙ after_head bytes other t q))
+-- two readings of the same bytes have one head
+same_head : (bytes : List ℕ) (first second : Head) (one other : History) (s t : List ℕ) → HasEvents bytes first one s → HasEvents bytes second other t
+    → (first ≡ second) × (texts one ++ s ≡ texts other ++ t)
+same_head bytes first second one other s t p q =
+    one_head first second (texts one ++ s) (texts other ++ t) p.is_head q.is_head (sym (after_head bytes first one s p) ∙ after_head bytes second other t q)
+
+same_events : (bytes : List ℕ) (first second : Head) (one other : History) (s t : List ℕ) → HasEvents bytes first one s → HasEvents bytes second other t
+    → ¬ BeginsWithEvent (length (records_of one)) s → ¬ BeginsWithEvent (length (records_of other)) t
+    → (first ≡ second) × (one ≡ other) × (s ≡ t)
+same_events bytes first second one other s t p q no_s no_t =
+    let heads = same_head bytes first second one other s t p q in
+    let is = one_history 0 one other s t p.history q.history heads.1
     (subst (λ n. ¬ BeginsWithEvent n s) (sym (count_from_none one)) no_s)
-    (subst (λ n. ¬ BeginsWithEvent n t) (sym (count_from_none other)) no_t)
+    (subst (λ n. ¬ BeginsWithEvent n t) (sym (count_from_none other)) no_t) in
+    (heads.0, is.0, is.1)
 
-journal_ends : (bytes : List ℕ) (events : History) (torn : ℕ) (j : IsJournalOf bytes events torn) → ¬ BeginsWithEvent (length (records_of events)) j.tail
-journal_ends bytes events torn j = torn_no_event (length (records_of events)) (length (records_of events)) j.tail j.is_torn
+journal_ends : (bytes : List ℕ) (first : Head) (events : History) (torn : ℕ) (j : IsJournalOf bytes first events torn)
+    → ¬ BeginsWithEvent (length (records_of events)) j.tail
+journal_ends bytes first events torn j =
+    torn_no_event (length (records_of events)) (length (records_of events)) j.tail j.is_torn
 
-pub one_journal : (bytes : List ℕ) (one other : History) (torn torn_other : ℕ) → IsJournalOf bytes one torn → IsJournalOf bytes other torn_other → (one ≡ other)
-    × (torn ≡ torn_other)
-one_journal bytes one other torn torn_other p q =
-    let is = same_events bytes one other p.tail q.tail p.before q.before (journal_ends bytes one torn p) (journal_ends bytes other torn_other q) in
-    (is.0, sym p.torn_bytes ∙ (ap length is.1 ∙ q.torn_bytes))
+pub one_journal : (bytes : List ℕ) (first second : Head) (one other : History) (torn torn_other : ℕ) → IsJournalOf bytes first one torn
+    → IsJournalOf bytes second other torn_other → (first ≡ second) × (one ≡ other) × (torn ≡ torn_other)
+one_journal bytes first second one other torn torn_other p q =
+    let is =
+    same_events bytes first second one other p.tail q.tail p.before q.before (journal_ends bytes first one torn p)
+    (journal_ends bytes second other torn_other q) in
+    (is.0, is.1, sym p.torn_bytes ∙ (ap length is.2 ∙ q.torn_bytes))
 
-pub not_both : (bytes : List ℕ) (events : History) (torn offset : ℕ) → IsJournalOf bytes events torn → IsBadAt bytes offset → ⊥
-not_both bytes events torn offset p q =
-    let is = same_events bytes events q.events p.tail q.tail p.before q.before (journal_ends bytes events torn p) q.no_event in
-    q.not_torn (subst (IsTorn (length (records_of q.events))) is.1 (subst (λ h. IsTorn (length (records_of h)) p.tail) is.0 p.is_torn))
+pub not_both : (bytes : List ℕ) (first : Head) (events : History) (torn offset : ℕ) → IsJournalOf bytes first events torn → IsBadAt bytes offset → ⊥
+not_both bytes first events torn offset p q =
+    let is = same_events bytes first q.first events q.events p.tail q.tail p.before q.before (journal_ends bytes first events torn p) q.no_event in
+    q.not_torn (subst (λ t. IsTorn (length (records_of q.events)) t) is.2
+    (subst (λ h. IsTorn (length (records_of h)) p.tail) is.1 p.is_torn))
 
 pub one_bad : (bytes : List ℕ) (offset other : ℕ) → IsBadAt bytes offset → IsBadAt bytes other → offset ≡ other
 one_bad bytes offset other p q =
-    let is = same_events bytes p.events q.events p.tail q.tail p.before q.before p.no_event q.no_event in
-    p.at_offset ∙ (ap (λ h. length (journal_text h)) is.0 ∙ sym q.at_offset)
+    let is = same_events bytes p.first q.first p.events q.events p.tail q.tail p.before q.before p.no_event q.no_event in
+    p.at_offset ∙ (ap (λ h. length (text_under p.first h)) is.1 ∙ (ap (λ f. length (text_under f q.events)) is.0 ∙ sym q.at_offset))
 
-has_head : (bytes : List ℕ) (events : History) (tail : List ℕ) → HasEvents bytes events tail → LacksHead bytes → ⊥
-has_head bytes events tail has lacks = lacks (texts events ++ tail) (after_head bytes events tail has)
+-- what was read is what any reading of these bytes gives
+read_same : (first second : Head) (one other : History) (torn torn_other : ℕ) (journal : Journal) → first ≡ second → one ≡ other → torn ≡ torn_other
+    → IsReadAs first one torn journal → IsReadAs second other torn_other journal
+read_same first second one other torn torn_other journal heads events tails is =
+    subst (λ f. IsReadAs f other torn_other journal) heads
+    (subst (λ h. IsReadAs first h torn_other journal) events (subst (λ n. IsReadAs first one n journal) tails is))
 
--- what is read of bytes that are a journal, or that are bad at some offset
-pub gives_journal : (bytes : List ℕ) (result : Result Journal JournalFault) (events : History) (torn : ℕ)
-    → ((journal : Journal) → result ≡ Ok journal → IsJournalOf bytes journal.events.items journal.torn)
-    → (result ≡ Err BadHead → LacksHead bytes)
-    → ((offset : ℕ) → result ≡ Err (BadRecord offset) → IsBadAt bytes offset)
-    → IsJournalOf bytes events torn → GivesJournal events torn result
-gives_journal bytes (Ok journal) events torn ok lacks bad is = one_journal bytes journal.events.items events journal.torn torn (ok journal refl) is
-gives_journal bytes (Err Memory) events torn ok lacks bad is = tt
-gives_journal bytes (Err BadHead) events torn ok lacks bad is = has_head bytes events is.tail is.before (lacks refl)
-gives_journal bytes (Err (BadRecord offset)) events torn ok lacks bad is = not_both bytes events torn offset is (bad offset refl)
+pub read_again : (bytes : List ℕ) (first second : Head) (one other : History) (torn torn_other : ℕ) (journal : Journal) → IsJournalOf bytes first one torn
+    → IsReadAs first one torn journal → IsJournalOf bytes second other torn_other → IsReadAs second other torn_other journal
+read_again bytes first second one other torn torn_other journal found read is =
+    let same = one_journal bytes first second one other torn torn_other found is in
+    read_same first second one other torn torn_other journal same.0 same.1 same.2 read
 
-pub gives_bad : (bytes : List ℕ) (result : Result Journal JournalFault) (offset : ℕ)
-    → ((journal : Journal) → result ≡ Ok journal → IsJournalOf bytes journal.events.items journal.torn)
-    → (result ≡ Err BadHead → LacksHead bytes)
-    → ((offset : ℕ) → result ≡ Err (BadRecord offset) → IsBadAt bytes offset)
-    → IsBadAt bytes offset → (result ≡ Err (BadRecord offset)) ⊎ (result ≡ Err Memory)
-gives_bad bytes (Ok journal) offset ok lacks bad is = absurd (not_both bytes journal.events.items journal.torn offset (ok journal refl) is)
-gives_bad bytes (Err Memory) offset ok lacks bad is = inr refl
-gives_bad bytes (Err BadHead) offset ok lacks bad is = absurd (has_head bytes is.events is.tail is.before (lacks refl))
-gives_bad bytes (Err (BadRecord other)) offset ok lacks bad is = inl (ap (λ o. Err (BadRecord o)) (one_bad bytes other offset (bad other refl) is))
+-- why nothing was read, of bytes that are a journal, or that are bad at some offset
+module _ {A : Type 0} (bytes : List ℕ) where
+  pub fails_as_journal : (fault : JournalFault) → ¬ IsErrOf {T = A} (Err fault) BadHead
+      → ((offset : ℕ) → IsErrOf {T = A} (Err fault) (BadRecord offset) → IsBadAt bytes offset) → (first : Head) (events : History) (torn : ℕ)
+      → IsJournalOf bytes first events torn → GivesJournal first events torn (Err fault)
+  fails_as_journal Memory headed bad first events torn is = tt
+  fails_as_journal BadHead headed bad first events torn is = headed refl
+  fails_as_journal (BadRecord offset) headed bad first events torn is = not_both bytes first events torn offset is (bad offset refl)
+
+  pub fails_as_bad : (fault : JournalFault) → ¬ IsErrOf {T = A} (Err fault) BadHead
+      → ((offset : ℕ) → IsErrOf {T = A} (Err fault) (BadRecord offset) → IsBadAt bytes offset) → (offset : ℕ) → IsBadAt bytes offset
+      → IsErrOf {T = Journal} (Err fault) (BadRecord offset) ⊎ IsErrOf {T = Journal} (Err fault) Memory
+  fails_as_bad Memory headed bad offset is = inr refl
+  fails_as_bad BadHead headed bad offset is = absurd (headed refl)
+  fails_as_bad (BadRecord other) headed bad offset is = inl (ap (λ (o : ℕ). Err (BadRecord o)) (one_bad bytes other offset (bad other refl) is))
 
 -- nothing is torn off where the bytes end
 nothing_torn : (k : ℕ) → IsTorn k []
 nothing_torn k = (Recorded [] Yes, event_text (Recorded [] Yes), record { text = omega arith; names = tt }, (λ n. cc n), refl)
 
-pub written_whole : (events : History) → IsHistory events → IsJournalOf (journal_text events) events 0
-written_whole events is = record {
+pub written_whole : (start : Digest) (events : History) → IsDigest start → IsHistory events → IsJournalOf (journal_text start events) (Version2 start) events 0
+written_whole start events digest is = record {
   tail = [];
-  before = record { history = is; whole = sym (append-nil (journal_text events)) };
+  before = record { is_head = digest; history = is; whole = sym (append-nil (journal_text start events)) };
   is_torn = nothing_torn (length (records_of events));
   torn_bytes = refl;
 }
 
-pub equal_histories : (one other : History) → IsHistory one → IsHistory other → journal_text one ≡ journal_text other → one ≡ other
-equal_histories one other p q e =
-    (one_journal (journal_text other) one other 0 0 (subst (λ b. IsJournalOf b one 0) e (written_whole one p)) (written_whole other q)).0
+pub equal_histories : (start second : Digest) (one other : History) → IsDigest start → IsDigest second → IsHistory one → IsHistory other
+    → journal_text start one ≡ journal_text second other → (start ≡ second) × (one ≡ other)
+equal_histories start second one other d c p q e =
+    let same = one_journal (journal_text second other) (Version2 start) (Version2 second) one other 0 0
+    (subst (λ b. IsJournalOf b (Version2 start) one 0) e (written_whole start one d p)) (written_whole second other c q) in
+    (cc (same.0), same.1)
 
 -- the first bytes of some events: the first of these events, and a torn tail
 cut_events : (k : ℕ) (events : History) (front back : List ℕ) → AllMayFollow k events → texts events ≡ front ++ back
@@ -159,9 +186,9 @@ cut_events k (a ∷ events) front back all e = elim (cut_apart (event_text a) (t
       )
 ]
 
-pub cut_journal : (events : History) (front back : List ℕ) → IsHistory events → journal_text events ≡ front ++ back → length head ≤ length front
-    → (read later : History) × (torn : ℕ) × (events ≡ read ++ later) × IsJournalOf front read torn
-cut_journal events front back is e long = elim (cut_apart head (texts events) front back e) [
+pub cut_journal : (start : Digest) (events : History) (front back : List ℕ) → IsDigest start → IsHistory events → journal_text start events ≡ front ++ back
+    → length (head start) ≤ length front → (read later : History) × (torn : ℕ) × (events ≡ read ++ later) × IsJournalOf front (Version2 start) read torn
+cut_journal start events front back digest is e long = elim (cut_apart (head start) (texts events) front back e) [
   | inl r ↦ absurd (too_short r.0 r.1 (ap length r.2 ∙ length-append front r.0))
   | inr r ↦
       let cut = cut_events 0 events r.0 back is r.2 in (
@@ -171,19 +198,26 @@ cut_journal events front back is e long = elim (cut_apart head (texts events) fr
         cut.3,
         record {
           tail = cut.2;
-          before = record { history = cut.4; whole = r.1 ∙ (ap (λ t. head ++ t) cut.5 ∙ sym (append_assoc head (texts cut.0) cut.2)) };
+          before =
+              record {
+                is_head = digest;
+                history = cut.4;
+                whole = r.1
+                    ∙ (ap (λ t. head start ++ t) cut.5 ∙ sym (append_assoc (head start) (texts cut.0) cut.2));
+              };
           is_torn = subst (λ n. IsTorn n cut.2) (count_from_none cut.0) cut.6;
           torn_bytes = refl;
         },
       )
 ]
   where
-    too_short : (m : List ℕ) → m ≢ [] → length head ≡ length front + length m → ⊥
+    too_short : (m : List ℕ) → m ≢ [] → length (head start) ≡ length front + length m → ⊥
     too_short [] some same = some refl
     too_short (x ∷ m) some same = omega (arith, same, long)
 
 -- one event more
-pub one_event_more : (k : ℕ) (events : History) (e : Event) → AllMayFollow k events → MayFollow (count_after k events) e → AllMayFollow k (events ++ e ∷ [])
+pub one_event_more : (k : ℕ) (events : History) (e : Event) → AllMayFollow k events → MayFollow (count_after k events) e
+    → AllMayFollow k (events ++ e ∷ [])
 one_event_more k [] e all may = (may, tt)
 one_event_more k (a ∷ events) e all may = (all.0, one_event_more (records_with k a) events e all.1 may)
 
@@ -205,26 +239,41 @@ some_text (Recorded text Yes) = omega arith
 some_text (Recorded text No) = omega arith
 some_text (Committed number) = omega arith
 
+-- the reader stands after the head
+pub has_none : (bytes : List ℕ) (first : Head) (events : History) (rest : List ℕ) → events ≡ [] → IsHead first → bytes ≡ head_text first ++ rest
+    → HasEvents bytes first events rest
+has_none bytes first events rest none is begins =
+    subst (λ (h : History). HasEvents bytes first h rest) (sym none) (record {
+      is_head = is;
+      history = tt;
+      whole = begins ∙ ap (λ (t : List ℕ). t ++ rest) (sym (append-nil (head_text first)));
+    })
+
 -- the reader has come one event further
-pub has_more : (bytes : List ℕ) (events : History) (tail : List ℕ) (records : ℕ) (e : Event) (later : List ℕ) → HasEvents bytes events tail
-    → records ≡ length (records_of events) → records < 2 ^ 64 → event_at records tail ≡ Ok (e, later) → HasEvents bytes (events ++ e ∷ []) later
-    × (length later < length tail)
-has_more bytes events tail records e later has count fits found =
+pub has_more : (bytes : List ℕ) (first : Head) (events : History) (tail : List ℕ) (records : ℕ) (e : Event) (later : List ℕ) → HasEvents bytes first events tail
+    → records ≡ length (records_of events) → records < 2 ^ 64 → event_at records tail ≡ Ok (e, later)
+    → HasEvents bytes first (events ++ e ∷ []) later × (tail ≡ event_text e ++ later) × (length later < length tail)
+has_more bytes first events tail records e later has count fits found =
     let s = (event_decides records fits).sound tail (e, later) found in
-    let may : MayFollow (count_after 0 events) e = subst (λ n. MayFollow n e) (count ∙ sym (count_from_none events)) s.0 in (
+    let may : MayFollow (count_after 0 events) e =
+    subst (λ n. MayFollow n e) (count ∙ sym (count_from_none events)) s.0 in (
       record {
+        is_head = has.is_head;
         history = one_event_more 0 events e has.history may;
         whole =
-            has.whole ∙ (ap (λ t. journal_text events ++ t) s.1 ∙ (sym (append_assoc (journal_text events) (event_text e) later)
-            ∙ ap (λ t. t ++ later) (append_assoc head (texts events) (event_text e) ∙ ap (λ t. head ++ t) (sym (texts_more events e)))));
+            has.whole ∙ (ap (λ t. text_under first events ++ t) s.1 ∙ (sym (append_assoc (text_under first events) (event_text e) later)
+            ∙ ap (λ t. t ++ later) (append_assoc (head_text first) (texts events) (event_text e)
+            ∙ ap (λ t. head_text first ++ t) (sym (texts_more events e)))));
       },
+      s.1,
       omega (arith, ap length s.1, length-append (event_text e) later, some_text e),
     )
 
 -- the reader has come to the end
-pub is_journal : (bytes : List ℕ) (events : History) (tail : List ℕ) (records torn : ℕ) → HasEvents bytes events tail
-    → records ≡ length (records_of events) → records < 2 ^ 64 → event_at records tail ≡ Err Torn → torn ≡ length tail → IsJournalOf bytes events torn
-is_journal bytes events tail records torn has count fits found is = record {
+pub is_journal : (bytes : List ℕ) (first : Head) (events : History) (tail : List ℕ) (records torn : ℕ) → HasEvents bytes first events tail
+    → records ≡ length (records_of events) → records < 2 ^ 64 → event_at records tail ≡ Err Torn → torn ≡ length tail
+    → IsJournalOf bytes first events torn
+is_journal bytes first events tail records torn has count fits found is = record {
   tail = tail;
   before = has;
   is_torn = subst (λ n. IsTorn n tail) count ((event_decides records fits).torn tail found);
@@ -232,15 +281,17 @@ is_journal bytes events tail records torn has count fits found is = record {
 }
 
 -- the reader has come to what is no event
-pub is_bad : (bytes : List ℕ) (events : History) (tail : List ℕ) (records offset : ℕ) → HasEvents bytes events tail
-    → records ≡ length (records_of events) → records < 2 ^ 64 → event_at records tail ≡ Err Bad → offset + length tail ≡ length bytes → IsBadAt bytes offset
-is_bad bytes events tail records offset has count fits found is =
+pub is_bad : (bytes : List ℕ) (first : Head) (events : History) (tail : List ℕ) (records offset : ℕ) → HasEvents bytes first events tail
+    → records ≡ length (records_of events) → records < 2 ^ 64 → event_at records tail ≡ Err Bad → offset + length tail ≡ length bytes
+    → IsBadAt bytes offset
+is_bad bytes first events tail records offset has count fits found is =
     let d = event_decides records fits in
     record {
+      first = first;
       events = events;
       tail = tail;
       before = has;
-      at_offset = omega (arith, is, ap length has.whole, length-append (journal_text events) tail);
+      at_offset = omega (arith, is, ap length has.whole, length-append (text_under first events) tail);
       no_event = subst (λ n. ¬ BeginsWithEvent n tail) count
           (λ b. let there = d.back b.0 b.1 b.2 in let no = sym found ∙ (ap (event_at records) b.3 ∙ there) in cc no);
       not_torn = subst (λ n. ¬ IsTorn n tail) count (λ b. let no = sym found ∙ d.cut tail b in cc no);

@@ -2,6 +2,7 @@ mod Lists
 mod Decides
 mod DecimalNumbers
 mod Events
+mod Heads
 mod Journals
 mod Pieces
 mod EachBytes

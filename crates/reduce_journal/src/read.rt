@@ -1,14 +1,15 @@
 //! Reading a journal back.
 
-ghost use Rattle.std.specs.Prelude.{◌≡◌, ◌↔◌, ◌⊎◌, ◌<◌, ◌^◌, ℕ, ◌+◌, List, ◌++◌, IfOk, IsErrOf};
-ghost use Rattle.reduce_journal.specs.History.{History, records_with};
-ghost use Rattle.reduce_journal.specs.Journal.{GivesJournal, IsBadAt, IsJournalOf, LacksHead, head};
+ghost use Rattle.std.specs.Prelude.{◌≡◌, ◌↔◌, ◌⊎◌, ◌<◌, ◌^◌, ℕ, ◌+◌, ◌++◌, IfOk, IsErrOf};
+ghost use Rattle.reduce_journal.specs.History.{History, IsHistory, records_of, records_with};
+ghost use Rattle.reduce_journal.specs.Journal.{GivesJournal, IsBadAt, IsHead, IsJournalOf, IsReadOf, IsStart, IsStartOf, LacksHead, head_text};
 ghost use Rattle.reduce_journal.specs.inner.Reading.{lent_event};
 
+use crate::digest::{Digest, digest_of};
 use crate::event::Event;
+use crate::head::{Head, head_at};
 use crate::numbers::Mismatch;
 use crate::parts::{LentEvent, event_at};
-use crate::write::HEAD;
 use faults::Memory;
 use std::alloc::{AllocFailed, Global};
 use thiserror::Error;
@@ -16,6 +17,11 @@ use thiserror::Error;
 /// What was read of a journal.
 #[derive(Drop)]
 pub struct Journal {
+    /// The version of the format, 1 or 2.
+    pub version: u32,
+    /// The digest of the start: that of the head, in version 1 that of the first record's text. None in
+    /// version 1 without events.
+    pub start: Option<Digest>,
     /// The events that are whole, in their order.
     pub events: Vec<Event>,
     /// The bytes of a torn tail: of an event that was not written to its end.
@@ -25,11 +31,11 @@ pub struct Journal {
 /// Why bytes are no journal.
 #[derive(Clone, Copy, Debug, PartialEq, Eq, Error)]
 pub enum JournalFault {
-    /// They don't begin with the journal's first line.
-    #[error("no journal")]
+    /// They begin with no whole head of a version.
+    #[error("bad journal head")]
     BadHead,
     /// At this offset, in bytes from 0, is neither an event, nor the end, nor a torn tail.
-    #[error("no event at byte {offset}")]
+    #[error("bad journal at byte {offset}")]
     BadRecord { offset: u64 },
     /// Memory ran out.
     #[error("out of memory")]
@@ -56,32 +62,68 @@ impl<T: Drop> From<AllocFailed<T>> for JournalFault {
     }
 }
 
-/// Reads a journal. Its texts may be any bytes, and need not be distinct. The time is linear in the
-/// bytes, and each text is copied once.
+/// Reads a journal of version 1 or 2. Its texts may be any bytes, and need not be distinct. The time is
+/// linear in the bytes, and each text is copied once.
 pub fn read_journal(alloc: Global, bytes: &[u8]) -> Result<Journal, JournalFault>
-    ensures journal { IfOk result (λ journal. IsJournalOf bytes.now journal.events.items journal.torn) }
-    ensures each_journal { (events : History) (torn : ℕ) → IsJournalOf bytes.now events torn → GivesJournal events torn result }
+    ensures journal { IfOk result (λ journal. IsReadOf bytes.now journal) }
+    ensures each_journal { (first : Head) (events : History) (torn : ℕ) → IsJournalOf bytes.now first events torn
+        → GivesJournal first events torn result }
     ensures bad_head { IsErrOf result JournalFault.BadHead ↔ LacksHead bytes.now }
     ensures bad_record { (offset : ℕ) → IsErrOf result (JournalFault.BadRecord offset) → IsBadAt bytes.now offset }
     ensures each_bad_record { (offset : ℕ) → IsBadAt bytes.now offset
         → IsErrOf result (JournalFault.BadRecord offset) ⊎ IsErrOf result JournalFault.Memory }
 {
-    if !bytes.starts_with(HEAD) {
+    let Some((head, rest)) = head_at(bytes) else {
         return Err(JournalFault::BadHead);
-    }
-    read_events(alloc, bytes)
+    };
+    let (events, torn) = read_events(alloc, bytes, head, rest)?;
+    Ok(Journal {
+        version: head.version(),
+        start: start_of(&head, &events),
+        events,
+        torn,
+    })
 }
 
-/// Reads the events after the first line.
-fn read_events(alloc: Global, bytes: &[u8]) -> Result<Journal, JournalFault>
-    requires { (rest : List ℕ) × (bytes.now ≡ head ++ rest) }
-    ensures journal { IfOk result (λ journal. IsJournalOf bytes.now journal.events.items journal.torn) }
+/// The digest of the start: that of the head, or that of the first record's text.
+fn start_of(head: &Head, events: &[Event]) -> Option<Digest>
+    requires { IsHistory events.now }
+    ensures { IsStart head.now events.now result }
+{
+    match head {
+        Head::Version2(start) => Some(*start),
+        Head::Version1 => first_digest(events),
+    }
+}
+
+/// The digest of the first record's text, if there is a record.
+fn first_digest(events: &[Event]) -> Option<Digest>
+    requires { IsHistory events.now }
+    ensures { IsStartOf (records_of events.now) result }
+{
+    match events.first()? {
+        Event::Recorded { text, .. } => Some(digest_of(text.as_slice())),
+        // The first event of a history is a record.
+        Event::Committed { .. } => None,
+    }
+}
+
+/// Reads the events after a head, and the bytes of a torn tail.
+fn read_events(
+    alloc: Global,
+    bytes: &[u8],
+    head: Head,
+    after_head: &[u8],
+) -> Result<(Vec<Event>, u64), JournalFault>
+    requires is_head { IsHead head }
+    requires begins { bytes.now ≡ head_text head ++ after_head.now }
+    ensures journal { IfOk result (λ read. IsJournalOf bytes.now head read.0.items read.1) }
     ensures head { ¬ IsErrOf result JournalFault.BadHead }
     ensures bad_record { (offset : ℕ) → IsErrOf result (JournalFault.BadRecord offset) → IsBadAt bytes.now offset }
 {
     let mut events = Vec::new(alloc);
     let mut records = 0;
-    let mut rest = &bytes[HEAD.len()..];
+    let mut rest = after_head;
     loop {
         match event_at(records, rest) {
             Ok((event, later)) => {
@@ -89,12 +131,7 @@ fn read_events(alloc: Global, bytes: &[u8]) -> Result<Journal, JournalFault>
                 events.push(event.to_event(alloc)?)?;
                 rest = later;
             }
-            Err(Mismatch::Torn) => {
-                return Ok(Journal {
-                    events,
-                    torn: rest.len() as u64,
-                });
-            }
+            Err(Mismatch::Torn) => return Ok((events, rest.len() as u64)),
             Err(Mismatch::Bad) => {
                 return Err(JournalFault::BadRecord {
                     offset: (bytes.len() - rest.len()) as u64,

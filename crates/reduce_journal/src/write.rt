@@ -7,23 +7,22 @@ ghost use Rattle.reduce_step.specs.Limits.{text_limit};
 ghost use Rattle.reduce_journal.specs.History.{HasShortText};
 ghost use Rattle.reduce_journal.specs.Journal.{event_text, head, line, record_prefix};
 
+use crate::digest::Digest;
 use crate::event::Event;
+use crate::head::head_of;
 use arrayvec::ArrayString;
 use edge_io::{Sink, SinkFault};
 use script_gate_trait::Verdict;
 
-/// The first line of a journal.
-pub(crate) const HEAD: &[u8] = b"perses-journal 1\n";
-
-/// Puts the journal's first line, in one put. It takes no memory.
-pub fn write_head<J: Sink>(journal: &mut J) -> Result<(), SinkFault>
-    ensures ok { OnOk result (J.put_so_far journal.new ≡ option_map (with_piece head) (J.put_so_far journal.old)) }
-    ensures err { OnErr result (GrewByPrefix head (J.put_so_far journal.old) (J.put_so_far journal.new)) }
+/// Puts the head of a journal over a start with this digest, in one put. It takes no memory.
+pub fn write_head<J: Sink>(journal: &mut J, start: &Digest) -> Result<(), SinkFault>
+    ensures ok { OnOk result (J.put_so_far journal.new ≡ option_map (with_piece (head start.now)) (J.put_so_far journal.old)) }
+    ensures err { OnErr result (GrewByPrefix (head start.now) (J.put_so_far journal.old) (J.put_so_far journal.new)) }
     ensures failed { OnErr result (Rose (J.faults journal.old) (J.faults journal.new)) }
     ensures quiet { OnOk result (J.faults journal.new ≡ J.faults journal.old) }
     ensures count { J.faults journal.old ≤ J.faults journal.new }
 {
-    journal.put(HEAD)
+    journal.put(head_of(start).as_slice())
 }
 
 /// Puts an event: a commit in one put, a record in three, which are its line, its text and a

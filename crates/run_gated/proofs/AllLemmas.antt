@@ -7,6 +7,7 @@ use Rattle.script_gate_trait.specs.declared.gate.Verdict.{Verdict}
 use Rattle.script_gate_trait.specs.declared.log.Log.{Log}
 use Rattle.reduce_step.specs.Plan.{Plan}
 use Rattle.reduce_journal.specs.History.{History}
+use Rattle.reduce_journal.specs.declared.digest.Digest.{Digest}
 use Rattle.reduce_journal.specs.Journal.{journal_text}
 use Rattle.ordered_commit.specs.declared.fault.PoolFault.{PoolFault}
 use Rattle.ordered_commit.specs.declared.fault.PoolFault.TheVariants.{Script, Journal, Memory}
@@ -97,36 +98,36 @@ refused_ran workers may_say first last refused fault history gates is none =
     (nothing_ran workers may_say first last refused gates))
 
 -- the journal, which was empty, has the whole history
-written : (history : History) (old new : Option Put) → HasSameName old new → IfSome old (λ put. put.bytes ≡ [])
-    → IfSome new (λ put. put.bytes ≡ journal_text history) → HasWritten history old new
-written history None None same empty bytes = refl
-written history None (Some put) same empty bytes = absurd (cc same)
-written history (Some put) None same empty bytes = absurd (cc same)
-written history (Some old) (Some new) same empty bytes =
+written : (start : Digest) (history : History) (old new : Option Put) → HasSameName old new → IfSome old (λ put. put.bytes ≡ [])
+    → IfSome new (λ put. put.bytes ≡ journal_text start history) → HasWritten start history old new
+written start history None None same empty bytes = refl
+written start history None (Some put) same empty bytes = absurd (cc same)
+written start history (Some put) None same empty bytes = absurd (cc same)
+written start history (Some old) (Some new) same empty bytes =
     let names : Some new.name ≡ Some old.name = same in
     let name : new.name ≡ old.name = cc names in
     let put_of : List ℕ → List ℕ → Put = λ bytes name. record { bytes = bytes; name = name } in
-    ap (λ (b : List ℕ). Some (put_of b new.name)) (bytes ∙ ap (λ (b : List ℕ). b ++ journal_text history) (sym empty))
-    ∙ ap (λ (n : List ℕ). Some (put_of (old.bytes ++ journal_text history) n)) name
+    ap (λ (b : List ℕ). Some (put_of b new.name)) (bytes ∙ ap (λ (b : List ℕ). b ++ journal_text start history) (sym empty))
+    ∙ ap (λ (n : List ℕ). Some (put_of (old.bytes ++ journal_text start history) n)) name
 
-one_ends : (fault : Option PoolFault) (history : History) (old new : Option Put) → HasSameName old new → IfSome old (λ put. put.bytes ≡ [])
-    → IfSome new (λ put. AreJournalBytes fault history put.bytes) → JournalEnds fault history old new
-one_ends None history old new same empty bytes = written history old new same empty bytes
-one_ends (Some (Script worker)) history old new same empty bytes = written history old new same empty bytes
-one_ends (Some Journal) history old new same empty bytes = (same, inr bytes)
-one_ends (Some Memory) history old new same empty bytes = inl (written history old new same empty bytes)
+one_ends : (start : Digest) (fault : Option PoolFault) (history : History) (old new : Option Put) → HasSameName old new → IfSome old (λ put. put.bytes ≡ [])
+    → IfSome new (λ put. AreJournalBytes start fault history put.bytes) → JournalEnds start fault history old new
+one_ends start None history old new same empty bytes = written start history old new same empty bytes
+one_ends start (Some (Script worker)) history old new same empty bytes = written start history old new same empty bytes
+one_ends start (Some Journal) history old new same empty bytes = (same, inr bytes)
+one_ends start (Some Memory) history old new same empty bytes = inl (written start history old new same empty bytes)
 
-broke_by : (workers : ℕ) (history : History) (new : Option Put) → workers ≢ 1 → IfSome new (λ put. BrokeOff history put.bytes)
-    → IfSome new (λ put. BrokeBy workers history put.bytes)
-broke_by workers history None several broke = tt
-broke_by workers history (Some put) several broke = (λ one. absurd (several one), λ _. broke)
+broke_by : (workers : ℕ) (start : Digest) (history : History) (new : Option Put) → workers ≢ 1 → IfSome new (λ put. BrokeOff start history put.bytes)
+    → IfSome new (λ put. BrokeBy workers start history put.bytes)
+broke_by workers start history None several broke = tt
+broke_by workers start history (Some put) several broke = (λ one. absurd (several one), λ _. broke)
 
-several_left : (workers : ℕ) (fault : Option PoolFault) (history : History) (old new : Option Put) → workers ≢ 1 → HasSameName old new
-    → IfSome old (λ put. put.bytes ≡ []) → IfSome new (λ put. IsJournal fault history put.bytes) → JournalLeft workers fault history old new
-several_left workers None history old new several same empty bytes = written history old new same empty bytes
-several_left workers (Some (Script worker)) history old new several same empty bytes = written history old new same empty bytes
-several_left workers (Some Journal) history old new several same empty bytes = (same, inr (broke_by workers history new several bytes))
-several_left workers (Some Memory) history old new several same empty bytes = inl (written history old new same empty bytes)
+several_left : (workers : ℕ) (start : Digest) (fault : Option PoolFault) (history : History) (old new : Option Put) → workers ≢ 1 → HasSameName old new
+    → IfSome old (λ put. put.bytes ≡ []) → IfSome new (λ put. IsJournal start fault history put.bytes) → JournalLeft workers start fault history old new
+several_left workers start None history old new several same empty bytes = written start history old new same empty bytes
+several_left workers start (Some (Script worker)) history old new several same empty bytes = written start history old new same empty bytes
+several_left workers start (Some Journal) history old new several same empty bytes = (same, inr (broke_by workers start history new several bytes))
+several_left workers start (Some Memory) history old new several same empty bytes = inl (written start history old new same empty bytes)
 
 -- why several ended
 several_caused : (fault : Option PoolFault) (old new : Reached) → (fault ≡ None → AreQuiet old.gates new.gates)
@@ -189,15 +190,15 @@ module _ {S J G : Type 0} (plan first : S → Plan) (may_say : List ℕ → Verd
 
   all_left : (old new : List (Worker G)) → 1 ≤ length old → OfAll old → ByEach old new → OfOne old new → (put : Option Put)
       → HasSameName put (put_so_far made.journal) → IfSome put (λ p. p.bytes ≡ [])
-      → JournalLeft (length old) outcome.fault outcome.events.items put (put_so_far outcome.journal)
+      → JournalLeft (length old) made.start outcome.fault outcome.events.items put (put_so_far outcome.journal)
   all_left [] new some is done one put named empty = absurd (omega (arith, some))
   all_left (x ∷ []) new some is done one put named empty =
       let alone =
       one refl x in
-      one_left outcome.fault outcome.events.items put (put_so_far outcome.journal)
-      (one_ends outcome.fault outcome.events.items put (put_so_far outcome.journal) (is.same_name ∙ named) empty alone.journal)
+      one_left made.start outcome.fault outcome.events.items put (put_so_far outcome.journal)
+      (one_ends made.start outcome.fault outcome.events.items put (put_so_far outcome.journal) (is.same_name ∙ named) empty alone.journal)
   all_left (x ∷ x' ∷ old) new some is done one put named empty =
-      several_left (length (x ∷ x' ∷ old)) outcome.fault outcome.events.items put (put_so_far outcome.journal) (λ e. omega (arith, e))
+      several_left (length (x ∷ x' ∷ old)) made.start outcome.fault outcome.events.items put (put_so_far outcome.journal) (λ e. omega (arith, e))
       (is.same_name ∙ named) empty is.journal
 
   -- the workers are as they were, but for their gates
@@ -232,6 +233,8 @@ module _ {S J G : Type 0} (plan first : S → Plan) (may_say : List ℕ → Verd
         (reached log faults put_so_far journal_faults new outcome.journal)) quiet
         (all_caused shown old new idle.some is done one)
 
-    pub left : (put : Option Put) → HasSameName put (put_so_far made.journal) → IfSome put (λ p. p.bytes ≡ [])
-        → JournalLeft (length old) outcome.fault outcome.events.items put (put_so_far outcome.journal)
-    left put named empty = all_left old new idle.some is done one put named empty
+    pub left : (start : Digest) → made.start ≡ start → (put : Option Put) → HasSameName put (put_so_far made.journal) → IfSome put (λ p. p.bytes ≡ [])
+        → JournalLeft (length old) start outcome.fault outcome.events.items put (put_so_far outcome.journal)
+    left start digest put named empty =
+        subst (λ (d : Digest). JournalLeft (length old) d outcome.fault outcome.events.items put (put_so_far outcome.journal)) digest
+        (all_left old new idle.some is done one put named empty)

@@ -17,6 +17,7 @@ use Rattle.reduce_rounds.specs.ByTrials.{recursion_of, reduction_of}
 use Rattle.reduce_rounds.specs.RoundsPlan.{plan_first}
 use Rattle.reduce_rounds.specs.Laws.{AsksCandidates, EndsMinimal, IsTextOf, IsTheReduction, RefusesAtNo, result_of}
 use Rattle.reduce_rounds.specs.Verdicts.{HasVerdicts, says_yes}
+use Rattle.reduce_journal.specs.declared.digest.Digest.{Digest}
 use Rattle.reduce_journal.specs.History.{History, records_of}
 use Rattle.ordered_commit_moves.specs.Replay.{replay}
 use Rattle.ordered_commit.specs.declared.fault.PoolFault.{PoolFault}
@@ -220,7 +221,8 @@ run_from workers may_say first first' last fault history old new same ran = subs
 -- what the journal has, by the fault, by what is answered
 pub journal_has : (run : Run) (fault : Option PoolFault) (result : StepResult) (units bytes record_count : ℕ) (answer : Result Reduced RunFault)
     → AnswersFor fault result units bytes record_count answer
-    → JournalLeft run.workers fault run.history run.before.journal.shown run.after.journal.shown → IsCausedBy fault run.before run.after → JournalHas run answer
+    → JournalLeft run.workers run.start fault run.history run.before.journal.shown run.after.journal.shown → IsCausedBy fault run.before run.after
+    → JournalHas run answer
 journal_has run None result units bytes record_count (Ok reduced) is ends caused = (ends, caused.journal)
 journal_has run None result units bytes record_count (Err run_fault.NotInteresting) is ends caused = (ends, caused.journal)
 journal_has run None result units bytes record_count (Err run_fault.Memory) is ends caused = (inl ends, caused.journal)
@@ -278,21 +280,23 @@ one_ran may_say first last fault history gate gate' journal journal' of sequenti
           λ _. record { sequential = sequential; waits = waits_at fault first last history ends; quiet = quiet_but fault gate gate' journal journal' caused };
     }
 
-broke_by : (history : History) (bytes : List ℕ) → BrokeAtEnd history bytes → BrokeBy 1 history bytes
-broke_by history bytes broke = (λ _. broke, λ other. absurd (other refl))
+broke_by : (start : Digest) (history : History) (bytes : List ℕ) → BrokeAtEnd start history bytes → BrokeBy 1 start history bytes
+broke_by start history bytes broke = (λ _. broke, λ other. absurd (other refl))
 
-part_by : (history : History) (old new : Option Put) → HasPart history old new → HasPartBy 1 history old new
-part_by history old new part = (part.0, ⊎_elim inl (λ broke. inr (put_broke history new broke)) part.1)
+part_by : (start : Digest) (history : History) (old new : Option Put) → HasPart start history old new → HasPartBy 1 start history old new
+part_by start history old new part = (part.0, ⊎_elim inl (λ broke. inr (put_broke history new broke)) part.1)
   where
-    put_broke : (history : History) (new : Option Put) → IfSome new (λ put. BrokeAtEnd history put.bytes) → IfSome new (λ put. BrokeBy 1 history put.bytes)
+    put_broke : (history : History) (new : Option Put) → IfSome new (λ put. BrokeAtEnd start history put.bytes)
+        → IfSome new (λ put. BrokeBy 1 start history put.bytes)
     put_broke history None broke = tt
-    put_broke history (Some put) broke = broke_by history put.bytes broke
+    put_broke history (Some put) broke = broke_by start history put.bytes broke
 
-pub one_left : (fault : Option PoolFault) (history : History) (old new : Option Put) → JournalEnds fault history old new → JournalLeft 1 fault history old new
-one_left None history old new ends = ends
-one_left (Some (pool.Script worker)) history old new ends = ends
-one_left (Some pool.Journal) history old new ends = part_by history old new ends
-one_left (Some pool.Memory) history old new ends = ends
+pub one_left : (start : Digest) (fault : Option PoolFault) (history : History) (old new : Option Put) → JournalEnds start fault history old new
+    → JournalLeft 1 start fault history old new
+one_left start None history old new ends = ends
+one_left start (Some (pool.Script worker)) history old new ends = ends
+one_left start (Some pool.Journal) history old new ends = part_by start history old new ends
+one_left start (Some pool.Memory) history old new ends = ends
 
 -- the same answer by other names of the numbers
 pub answers_at : (fault : Option PoolFault) (result : StepResult) (units units' bytes bytes' record_count record_count' : ℕ) (answer : Result Reduced RunFault)

@@ -88,7 +88,7 @@ RunEndsIn mode Kept run (Err fault) = RunFailsIn mode run fault
 
 -- all of the history was put into the journal, and no call of it failed
 abbrev pub IsWrittenWhole : Run → Type 0
-IsWrittenWhole run = HasWritten run.history run.before.journal.shown run.after.journal.shown × IsQuiet run.before.journal run.after.journal
+IsWrittenWhole run = HasWritten run.start run.history run.before.journal.shown run.after.journal.shown × IsQuiet run.before.journal run.after.journal
 
 -- What the journal has, by what the run answered: all of the history; where memory ran out
 -- that, or nothing, if there is no history; where a call of it failed a part.
@@ -97,9 +97,10 @@ JournalHas run (Ok reduced) = IsWrittenWhole run
 JournalHas run (Err NotInteresting) = IsWrittenWhole run
 JournalHas run (Err (Script worker)) = IsWrittenWhole run
 JournalHas run (Err Journal) =
-    HasPartBy run.workers run.history run.before.journal.shown run.after.journal.shown × CallFailed run.before.journal run.after.journal
+    HasPartBy run.workers run.start run.history run.before.journal.shown run.after.journal.shown × CallFailed run.before.journal run.after.journal
 JournalHas run (Err Memory) =
-    (HasWritten run.history run.before.journal.shown run.after.journal.shown ⊎ HasNothing run.history run.before.journal.shown run.after.journal.shown)
+    (HasWritten run.start run.history run.before.journal.shown run.after.journal.shown
+    ⊎ HasNothing run.history run.before.journal.shown run.after.journal.shown)
     × IsQuiet run.before.journal run.after.journal
 
 -- What a run comes to, whatever it reduces: its records are sound, and the journal has what was written.

@@ -4,6 +4,7 @@ use Rattle.faults.specs.Count.{Rose}
 use Rattle.edge_io.specs.Sink.{GrewByPrefix, Put}
 use Rattle.reduce_journal.specs.History.{History}
 use Rattle.reduce_journal.specs.Journal.{head}
+use Rattle.reduce_journal.specs.declared.digest.Digest.{Digest}
 use Rattle.ordered_commit.specs.Kept.{BrokeOff}
 use Rattle.std.specs.List.{range_with_len}
 use Rattle.worker_pool.specs.declared.worker.Worker.{Worker}
@@ -29,10 +30,10 @@ RoseAt worker counts counts' = (index : ℕ) × (worker ≡ suc index) × RoseAt
 
 -- It broke off: its bytes are those of the events before the one whose put failed, and a part of that one's. With one worker that is the last record,
 -- or a commit after all of it.
-abbrev pub BrokeBy : ℕ → History → List ℕ → Type 0
-BrokeBy workers history bytes = (workers ≡ 1 → BrokeAtEnd history bytes) × (workers ≢ 1 → BrokeOff history bytes)
+abbrev pub BrokeBy : ℕ → Digest → History → List ℕ → Type 0
+BrokeBy workers start history bytes = (workers ≡ 1 → BrokeAtEnd start history bytes) × (workers ≢ 1 → BrokeOff start history bytes)
 
--- it broke off, in its first line or in an event
-abbrev pub HasPartBy : ℕ → History → Option Put → Option Put → Type 0
-HasPartBy workers history old new =
-    HasSameName old new × (((history ≡ []) × GrewByPrefix head old new) ⊎ IfSome new (λ put. BrokeBy workers history put.bytes))
+-- it broke off, in its head or in an event
+abbrev pub HasPartBy : ℕ → Digest → History → Option Put → Option Put → Type 0
+HasPartBy workers start history old new =
+    HasSameName old new × (((history ≡ []) × GrewByPrefix (head start) old new) ⊎ IfSome new (λ put. BrokeBy workers start history put.bytes))

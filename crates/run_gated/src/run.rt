@@ -14,7 +14,7 @@ use crate::ran::{Ran, Reduced};
 use crate::workers::run_all;
 use edge_io::Sink;
 use ordered_commit::{Outcome, PoolFault};
-use reduce_journal::{Counts, Event};
+use reduce_journal::{Counts, Digest, Event};
 use reduce_rounds::{
     ReducerStep, Round, Rounds, asks_candidates, ends_minimal, follows_reduction, refuses_at_no,
 };
@@ -82,30 +82,38 @@ fn result_of<R: Round + Drop>(
 /// reducer has come to. No text is recorded twice, and the gates are asked as often as there are records.
 /// A start whose verdict is no ends the run.
 ///
-/// What is said of a mode holds for each input at which the reducer's first plan, and its result so far,
-/// are those of the mode. Beside the answers of the reducer and of the gates an answer costs a search of
-/// the records and a copy of the text; each text that is asked ahead costs as much.
+/// The journal gets the digest of the start. What is said of a mode holds for each input at which the
+/// reducer's first plan, and its result so far, are those of the mode. Beside the answers of the reducer
+/// and of the gates an answer costs a search of the records and a copy of the text; each text that is asked
+/// ahead costs as much.
 pub fn run_to_text<
     R: Round + Drop + Send,
     G: Gate + Send,
     J: Sink + Drop + Send,
     W: Threads + Wait + Sync,
->(rt: &W, alloc: Global, reducer: Rounds<R>, workers: &mut [Worker<G>], journal: J) -> Ran<J>
+>(
+    rt: &W,
+    alloc: Global,
+    reducer: Rounds<R>,
+    workers: &mut [Worker<G>],
+    journal: J,
+    start: Digest,
+) -> Ran<J>
     requires new { ⟦<Rounds<R> as Step>⟧.first reducer ≡ ⟦<Rounds<R> as Step>⟧.plan reducer }
     requires empty { IfSome (J.put_so_far journal) (λ put. put.bytes ≡ []) }
     requires idle { AreIdle workers.old }
     ensures idle { AreIdle workers.new }
     ensures as_many { length workers.new ≡ length workers.old }
-    ensures sound { IsSound G.may_say (run_of G.log G.faults J.put_so_far J.faults workers.old workers.new journal result) }
+    ensures sound { IsSound G.may_say (run_of G.log G.faults J.put_so_far J.faults workers.old workers.new journal start result) }
     ensures in_mode { (input : R.Input) → ⟦<Rounds<R> as Step>⟧.first reducer ≡ plan_first (R.mode input)
         → IsRunIn (R.mode input) (R.Kept input) (⟦<Rounds<R> as ReducerStep>⟧.so_far reducer)
-        (run_of G.log G.faults J.put_so_far J.faults workers.old workers.new journal result) }
+        (run_of G.log G.faults J.put_so_far J.faults workers.old workers.new journal start result) }
 {
     follows_reduction::<R>();
     refuses_at_no::<R>();
     ends_minimal::<R>();
     asks_candidates::<R>();
-    let start = StartSize {
+    let size = StartSize {
         units: reducer.units(),
         bytes: reducer.result().len() as u64,
     };
@@ -114,8 +122,8 @@ pub fn run_to_text<
         journal,
         events,
         fault,
-    } = run_all(rt, alloc, reducer, workers, journal);
-    let outcome = result_of(alloc, &front, start, record_count(&events), fault);
+    } = run_all(rt, alloc, reducer, workers, journal, start);
+    let outcome = result_of(alloc, &front, size, record_count(&events), fault);
     Ran {
         journal,
         events,

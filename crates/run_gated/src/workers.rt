@@ -8,6 +8,7 @@ ghost use Rattle.run_gated.specs.inner.Workers.{IsCausedBy, IsRunBy, JournalLeft
 
 use edge_io::Sink;
 use ordered_commit::{Board, Outcome, Refused};
+use reduce_journal::Digest;
 use reduce_step::Step;
 use script_gate_trait::Gate;
 use std::alloc::Global;
@@ -41,7 +42,14 @@ pub(crate) fn run_all<
     G: Gate + Send,
     J: Sink + Drop + Send,
     W: Threads + Wait + Sync,
->(rt: &W, alloc: Global, front: S, workers: &mut [Worker<G>], journal: J) -> Outcome<S, J>
+>(
+    rt: &W,
+    alloc: Global,
+    front: S,
+    workers: &mut [Worker<G>],
+    journal: J,
+    start: Digest,
+) -> Outcome<S, J>
     requires new { S.first front ≡ S.plan front }
     requires empty { IfSome (J.put_so_far journal) (λ put. put.bytes ≡ []) }
     requires idle { AreIdle workers.old }
@@ -52,9 +60,9 @@ pub(crate) fn run_all<
         (seen_gates G.log G.faults workers.old) (seen_gates G.log G.faults workers.new) }
     ensures caused { IsCausedBy result.fault (reached G.log G.faults J.put_so_far J.faults workers.old journal)
         (reached G.log G.faults J.put_so_far J.faults workers.new result.journal) }
-    ensures journal { JournalLeft (length workers.old) result.fault result.events.items (J.put_so_far journal) (J.put_so_far result.journal) }
+    ensures journal { JournalLeft (length workers.old) start result.fault result.events.items (J.put_so_far journal) (J.put_so_far result.journal) }
 {
-    match Board::<S, G, J>::new(alloc, front, journal, workers.len() as u32) {
+    match Board::<S, G, J>::new(alloc, front, journal, workers.len() as u32, start) {
         Err(refused) => without_board(alloc, refused),
         Ok((board, seats)) => run_workers(rt, board, seats, workers),
     }

@@ -26,6 +26,7 @@ use faults::Memory;
 use keep_guard::{Guard, Relation};
 use reduce_core::{line_reducer, lines_are_recursions, lines_end_minimal};
 use reduce_hdd::TreeLevels;
+use reduce_journal::Digest;
 use reduce_perses::TreeVisits;
 use reduce_rounds::{ReducerStep, Rounds};
 use reduce_step::{Step, TreeMode};
@@ -57,6 +58,7 @@ fn lines_result<
     guard: &Guard<F>,
     workers: &mut [Worker<G>],
     journal: J,
+    digest: Digest,
 ) -> Ran<J>
     requires few { length start.now ≤ text_limit }
     requires kept { F.admits guard.now (numbers_of (numbered_lines start.now)) start.now ≡ true }
@@ -64,14 +66,15 @@ fn lines_result<
     requires empty { IfSome (J.put_so_far journal) (λ put. put.bytes ≡ []) }
     ensures idle { AreIdle workers.new }
     ensures as_many { length workers.new ≡ length workers.old }
-    ensures sound { IsSound G.may_say (run_of G.log G.faults J.put_so_far J.faults workers.old workers.new journal result) }
-    ensures problem { IsRunOf (F.admits guard.now) (Problem.of_lines start.now) (run_of G.log G.faults J.put_so_far J.faults workers.old workers.new journal result) }
+    ensures sound { IsSound G.may_say (run_of G.log G.faults J.put_so_far J.faults workers.old workers.new journal digest result) }
+    ensures problem { IsRunOf (F.admits guard.now) (Problem.of_lines start.now)
+        (run_of G.log G.faults J.put_so_far J.faults workers.old workers.new journal digest result) }
 {
     lines_are_recursions();
     lines_end_minimal();
     histories_go_by_questions();
     match line_reducer(alloc, start, guard) {
-        Ok(reducer) => run_to_text(rt, alloc, reducer, workers, journal),
+        Ok(reducer) => run_to_text(rt, alloc, reducer, workers, journal, digest),
         Err(_) => Ran::refused(alloc, journal, RunFault::Memory),
     }
 }
@@ -123,18 +126,19 @@ fn walk_result<
     reducer: TreeReducer<'p, F, W>,
     workers: &mut [Worker<G>],
     journal: J,
+    digest: Digest,
 ) -> Ran<J>
     requires new { ⟦<Rounds<TreeRound<'p, F, W>> as Step>⟧.first reducer ≡ ⟦<Rounds<TreeRound<'p, F, W>> as Step>⟧.plan reducer }
     requires idle { AreIdle workers.old }
     requires empty { IfSome (J.put_so_far journal) (λ put. put.bytes ≡ []) }
     ensures idle { AreIdle workers.new }
     ensures as_many { length workers.new ≡ length workers.old }
-    ensures sound { IsSound G.may_say (run_of G.log G.faults J.put_so_far J.faults workers.old workers.new journal result) }
+    ensures sound { IsSound G.may_say (run_of G.log G.faults J.put_so_far J.faults workers.old workers.new journal digest result) }
     ensures in_mode { (input : TreeInput) → ⟦<Rounds<TreeRound<'p, F, W>> as Step>⟧.first reducer.entry ≡ plan_first (walk_mode W.round input)
         → IsRunIn (walk_mode W.round input) (IsKept input) (⟦<Rounds<TreeRound<'p, F, W>> as ReducerStep>⟧.so_far reducer.entry)
-        (run_of G.log G.faults J.put_so_far J.faults workers.old workers.new journal result) }
+        (run_of G.log G.faults J.put_so_far J.faults workers.old workers.new journal digest result) }
 {
-    run_to_text(rt, alloc, reducer, workers, journal)
+    run_to_text(rt, alloc, reducer, workers, journal, digest)
 }
 
 /// The text that the tree of an input reduces to, in this mode.
@@ -150,15 +154,16 @@ fn tree_result<
     parts: &TreeParts<F>,
     workers: &mut [Worker<G>],
     journal: J,
+    digest: Digest,
 ) -> Ran<J>
     requires kept { let input = ⟦<TreeParts<F> as HasInput>⟧.input parts.now in input.admits (all_kept input.tokens) input.start ≡ true }
     requires idle { AreIdle workers.old }
     requires empty { IfSome (J.put_so_far journal) (λ put. put.bytes ≡ []) }
     ensures idle { AreIdle workers.new }
     ensures as_many { length workers.new ≡ length workers.old }
-    ensures sound { IsSound G.may_say (run_of G.log G.faults J.put_so_far J.faults workers.old workers.new journal result) }
+    ensures sound { IsSound G.may_say (run_of G.log G.faults J.put_so_far J.faults workers.old workers.new journal digest result) }
     ensures problem { let input = ⟦<TreeParts<F> as HasInput>⟧.input parts.now in IsRunOf input.admits (Problem.of_tree mode input)
-        (run_of G.log G.faults J.put_so_far J.faults workers.old workers.new journal result) }
+        (run_of G.log G.faults J.put_so_far J.faults workers.old workers.new journal digest result) }
 {
     parts.is_input();
     whole_is_start();
@@ -168,7 +173,7 @@ fn tree_result<
             walk_laws::<TreeVisits>();
             perses_is_its_recursion();
             match perses_reducer(alloc, parts) {
-                Ok(reducer) => walk_result(rt, alloc, reducer, workers, journal),
+                Ok(reducer) => walk_result(rt, alloc, reducer, workers, journal, digest),
                 Err(_) => Ran::refused(alloc, journal, RunFault::Memory),
             }
         }
@@ -176,17 +181,17 @@ fn tree_result<
             walk_laws::<TreeLevels>();
             hdd_is_its_recursion();
             match hdd_reducer(alloc, parts) {
-                Ok(reducer) => walk_result(rt, alloc, reducer, workers, journal),
+                Ok(reducer) => walk_result(rt, alloc, reducer, workers, journal, digest),
                 Err(_) => Ran::refused(alloc, journal, RunFault::Memory),
             }
         }
     }
 }
 
-/// Reduces what was read, which the guard admits: the gates of the workers are asked, the history is
-/// written into the journal, and the text that it reduces to is given, with what the report says. No text
-/// is recorded twice, and the gates are asked as often as there are records. A start whose verdict is no
-/// ends the run.
+/// Reduces what was read, which the guard admits. The gates of the workers are asked, and the history is
+/// written into the journal, whose head gets this digest of the start. The text that it reduces to is
+/// given, with what the report says. No text is recorded twice, and the gates are asked as often as there
+/// are records. A start whose verdict is no ends the run.
 ///
 /// Beside what a gate takes, an answer costs what the reducer of the mode says.
 pub fn run_problem<
@@ -201,6 +206,7 @@ pub fn run_problem<
     guard: Guard<F>,
     workers: &mut [Worker<G>],
     journal: J,
+    digest: Digest,
 ) -> Ran<J>
     requires ready { IsReady problem }
     requires kept { F.admits guard (numbers_read problem) (start_read problem) ≡ true }
@@ -208,19 +214,21 @@ pub fn run_problem<
     requires empty { IfSome (J.put_so_far journal) (λ put. put.bytes ≡ []) }
     ensures idle { AreIdle workers.new }
     ensures as_many { length workers.new ≡ length workers.old }
-    ensures sound { IsSound G.may_say (run_of G.log G.faults J.put_so_far J.faults workers.old workers.new journal result) }
+    ensures sound { IsSound G.may_say (run_of G.log G.faults J.put_so_far J.faults workers.old workers.new journal digest result) }
     ensures problem { (one : Problem) → IsReadAs (F.admits guard) problem one
-        → IsRunOf (F.admits guard) one (run_of G.log G.faults J.put_so_far J.faults workers.old workers.new journal result) }
+        → IsRunOf (F.admits guard) one (run_of G.log G.faults J.put_so_far J.faults workers.old workers.new journal digest result) }
 {
     match problem {
-        ReadProblem::Lines(start) => lines_result(rt, alloc, &start, &guard, workers, journal),
+        ReadProblem::Lines(start) => lines_result(
+            rt, alloc, &start, &guard, workers, journal, digest,
+        ),
         ReadProblem::Tree {
             found,
             mode,
             squeeze,
         } => {
             match tree_parts(alloc, found, guard, squeeze) {
-                Ok(parts) => tree_result(rt, alloc, mode, &parts, workers, journal),
+                Ok(parts) => tree_result(rt, alloc, mode, &parts, workers, journal, digest),
                 Err(_) => Ran::refused(alloc, journal, RunFault::Memory),
             }
         }

@@ -18,6 +18,7 @@ use Rattle.reduce_step.specs.Plan.{Plan, asked}
 use Rattle.verdict_table.specs.TableState.{texts_of, verdict_in}
 use Rattle.verdict_table.proofs.Lent.{not_among}
 use Rattle.reduce_journal.specs.declared.event.Event.TheVariants.{Recorded}
+use Rattle.reduce_journal.specs.declared.digest.Digest.{Digest}
 use Rattle.reduce_journal.specs.History.{History, records_of}
 use Rattle.ordered_commit_moves.specs.Replay.{record_at, replay}
 use Rattle.ordered_commit_moves.proofs.Lent.{numbered, records_more, replay_record}
@@ -75,6 +76,9 @@ module _ {S J : Type 0} (plan : S → Plan) (permit : ClaimedText) (answer : Ans
   records : records_of new.history ≡ records_of old.history ++ r ∷ []
   records = ap records_of history ∙ records_more old.history permit.text answer.verdict
 
+  start_same : new.start ≡ old.start
+  start_same = ap (λ (state : BoardState S J). state.start) recorded.else_same
+
   front : new.front ≡ old.front
   front = ap (λ (state : BoardState S J). state.front) recorded.else_same
 
@@ -104,15 +108,16 @@ module _ {S J : Type 0} (plan : S → Plan) (permit : ClaimedText) (answer : Ans
     counts : IsCaused None start.gate_faults gate_faults start.journal_faults (faults old.journal)
     counts = subst (λ (f : Option PoolFault). IsCaused f start.gate_faults gate_faults start.journal_faults (faults old.journal)) asking.unstopped way.caused
 
-    all_before : Has None old.history (put old.journal)
-    all_before = all_written old.fault old.history (put old.journal) asking.unstopped way.written
+    all_before : Has old.start None old.history (put old.journal)
+    all_before = all_written old.start old.fault old.history (put old.journal) asking.unstopped way.written
 
-    recorded_by : (fault : Option PoolFault) → new.fault ≡ fault → Has fault new.history (put new.journal)
+    recorded_by : (fault : Option PoolFault) → new.fault ≡ fault → Has old.start fault new.history (put new.journal)
         → IsUnansweredAt fault (replay start.first new.history) (records_of new.history)
         → IsCaused fault start.gate_faults gate_faults' start.journal_faults (faults new.journal)
         → IsUnderWay start (moment first plan put faults new log' gate_faults') seat'
     recorded_by fault is has waits caused = record {
       same_first = ap first front ∙ way.same_first;
+      same_start = start_same ∙ way.same_start;
       only_seat = only;
       is_first = workers ∙ way.is_first;
       recorded = ap (λ (state : BoardState S J). state.table.records) recorded.else_same
@@ -132,7 +137,8 @@ module _ {S J : Type 0} (plan : S → Plan) (permit : ClaimedText) (answer : Ans
           ∙ ap (λ (ts : List (List ℕ)). option_map (with_all_asked ts) start.log) (sym (texts_more (records_of old.history) r))
           ∙ ap (λ (rs : List Record). option_map (with_all_asked (texts_of rs)) start.log) (sym records);
       caused = subst (λ (f : Option PoolFault). IsCaused f start.gate_faults gate_faults' start.journal_faults (faults new.journal)) (sym is) caused;
-      written = subst (λ (f : Option PoolFault). Has f new.history (put new.journal)) (sym is) has;
+      written = subst (λ (d : Digest). Has d new.fault new.history (put new.journal)) (sym start_same)
+          (subst (λ (f : Option PoolFault). Has old.start f new.history (put new.journal)) (sym is) has);
       same_name = name ∙ way.same_name;
     }
 
@@ -142,11 +148,11 @@ module _ {S J : Type 0} (plan : S → Plan) (permit : ClaimedText) (answer : Ans
     record_way same (Ok number) ends failed quiet =
         let written : IsWrittenUnlessBroken put None (event_of answer) old.journal new.journal =
         subst (λ (f : Option PoolFault). IsWrittenUnlessBroken put f (event_of answer) old.journal new.journal) asking.unstopped ends.2 in
-        let has : Has None new.history (put new.journal) =
-        subst (λ (h : History). Has None h (put new.journal)) (sym history_more)
-        (has_more old.history (event_of answer) (put old.journal) (put new.journal) written all_before) in
+        let has : Has old.start None new.history (put new.journal) =
+        subst (λ (h : History). Has old.start None h (put new.journal)) (sym history_more)
+        (has_more old.start old.history (event_of answer) (put old.journal) (put new.journal) written all_before) in
         recorded_by None (ends.1 ∙ asking.unstopped) has tt (same ∙ counts.0, quiet ∙ counts.1)
     record_way same (Err fault) ends failed quiet =
-        let has : Has (Some Journal) new.history (put new.journal) =
-        record_broke old.history new.history answer.text answer.verdict (put old.journal) (put new.journal) history_more ends.2 all_before in
+        let has : Has old.start (Some Journal) new.history (put new.journal) =
+        record_broke old.start old.history new.history answer.text answer.verdict (put old.journal) (put new.journal) history_more ends.2 all_before in
         recorded_by (Some Journal) ends.1 has tt (same ∙ counts.0, subst (λ (n : ℕ). Rose n (faults new.journal)) counts.1 failed)

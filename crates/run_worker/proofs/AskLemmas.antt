@@ -109,6 +109,7 @@ module _ {S J : Type 0} (first plan : S → Plan) (put : J → Option Put) (faul
       let workers : seat'.worker ≡ seat.worker = ap (λ (s : Seat). s.worker) claimed.of_worker in
       subst (λ (state : BoardState S J). IsUnderWay start (moment first plan put faults state log gate_faults) seat') (sym claimed.else_same) (record {
         same_first = way.same_first;
+        same_start = way.same_start;
         only_seat = replaced old.seats seat seat' way.only_seat workers;
         is_first = workers ∙ way.is_first;
         recorded = way.recorded;

@@ -11,6 +11,7 @@ use Rattle.reduce_step.specs.Plan.{Plan, asked}
 use Rattle.verdict_table.specs.TableState.{texts_of}
 use Rattle.reduce_journal.specs.declared.event.Event.TheVariants.{Committed}
 use Rattle.reduce_journal.specs.History.{History, records_of}
+use Rattle.reduce_journal.specs.declared.digest.Digest.{Digest}
 use Rattle.ordered_commit_moves.specs.Moves.{CoreState}
 use Rattle.ordered_commit_moves.specs.Replay.{answered, record_at, replay}
 use Rattle.ordered_commit_moves.proofs.Lent.{records_same, replay_commit}
@@ -39,19 +40,20 @@ module _ {S J : Type 0} (first plan : S → Plan) (put : J → Option Put) (faul
     pub table : new.table ≡ old.table
     pub seats : new.seats ≡ old.seats
     pub same_first : first new.front ≡ first old.front
+    pub same_start : new.start ≡ old.start
     pub name : HasSameName put old.journal new.journal
 
   module _ (way : IsUnderWay start (Now old) seat) (keeps : CommitKeeps) where
     -- all was written before
-    all_before : old.fault ≡ None → Has None old.history (put old.journal)
-    all_before none = all_written old.fault old.history (put old.journal) none way.written
+    all_before : old.fault ≡ None → Has old.start None old.history (put old.journal)
+    all_before none = all_written old.start old.fault old.history (put old.journal) none way.written
 
     -- and after a commit that was put
     more_written : (number : ℕ) → old.fault ≡ None → new.history ≡ old.history ++ Committed number ∷ []
-        → IsWritten put (Committed number) old.journal new.journal → Has None new.history (put new.journal)
+        → IsWritten put (Committed number) old.journal new.journal → Has old.start None new.history (put new.journal)
     more_written number none history written =
-        subst (λ (h : History). Has None h (put new.journal)) (sym history)
-        (has_more old.history (Committed number) (put old.journal) (put new.journal) written (all_before none))
+        subst (λ (h : History). Has old.start None h (put new.journal)) (sym history)
+        (has_more old.start old.history (Committed number) (put old.journal) (put new.journal) written (all_before none))
 
     -- a commit that was made
     module _ (number : ℕ) (could : CanCommit plan old number) (history : new.history ≡ old.history ++ Committed number ∷ []) where
@@ -69,11 +71,12 @@ module _ {S J : Type 0} (first plan : S → Plan) (put : J → Option Put) (faul
 
       committed : (fault : Option PoolFault) → new.fault ≡ fault
           → (new.fault ≡ None → plan new.front ≡ answered (record_at number (records_of old.history)) (plan old.front))
-          → Has fault new.history (put new.journal) → IsUnansweredAt fault (replay start.first new.history) (records_of new.history)
+          → Has old.start fault new.history (put new.journal) → IsUnansweredAt fault (replay start.first new.history) (records_of new.history)
           → IsCaused fault start.gate_faults gate_faults start.journal_faults (faults new.journal) → IsUnderWay start (Now new) seat
       committed fault is answers has waits caused =
           record {
             same_first = keeps.same_first ∙ way.same_first;
+            same_start = keeps.same_start ∙ way.same_start;
             only_seat = keeps.seats ∙ way.only_seat;
             is_first = way.is_first;
             recorded = ap (λ t. t.records) keeps.table ∙ way.recorded ∙ sym records;
@@ -86,7 +89,8 @@ module _ {S J : Type 0} (first plan : S → Plan) (put : J → Option Put) (faul
             waits = subst (λ (f : Option PoolFault). IsUnansweredAt f (replay start.first new.history) (records_of new.history)) (sym is) waits;
             asked = way.asked ∙ ap (λ (rs : List Record). option_map (with_all_asked (texts_of rs)) start.log) (sym records);
             caused = subst (λ (f : Option PoolFault). IsCaused f start.gate_faults gate_faults start.journal_faults (faults new.journal)) (sym is) caused;
-            written = subst (λ (f : Option PoolFault). Has f new.history (put new.journal)) (sym is) has;
+            written = subst (λ (d : Digest). Has d new.fault new.history (put new.journal)) (sym keeps.same_start)
+                (subst (λ (f : Option PoolFault). Has old.start f new.history (put new.journal)) (sym is) has);
             same_name = keeps.name ∙ way.same_name;
           }
 
@@ -96,13 +100,14 @@ module _ {S J : Type 0} (first plan : S → Plan) (put : J → Option Put) (faul
 
     -- nothing but the journal and the fault changed
     module _ (none : old.fault ≡ None) (history : new.history ≡ old.history) where
-      stopped : (fault : PoolFault) → new.fault ≡ Some fault → Has (Some fault) new.history (put new.journal)
+      stopped : (fault : PoolFault) → new.fault ≡ Some fault → Has old.start (Some fault) new.history (put new.journal)
           → IsUnansweredAt (Some fault) (replay start.first new.history) (records_of new.history)
           → IsCaused (Some fault) start.gate_faults gate_faults start.journal_faults (faults new.journal)
           → IsUnderWay start (Now new) seat
       stopped fault is has waits caused =
           record {
             same_first = keeps.same_first ∙ way.same_first;
+            same_start = keeps.same_start ∙ way.same_start;
             only_seat = keeps.seats ∙ way.only_seat;
             is_first = way.is_first;
             recorded = ap (λ t. t.records) keeps.table ∙ way.recorded ∙ ap records_of (sym history);
@@ -113,7 +118,8 @@ module _ {S J : Type 0} (first plan : S → Plan) (put : J → Option Put) (faul
             waits = subst (λ (f : Option PoolFault). IsUnansweredAt f (replay start.first new.history) (records_of new.history)) (sym is) waits;
             asked = way.asked ∙ ap (λ (h : History). option_map (with_all_asked (texts_of (records_of h))) start.log) (sym history);
             caused = subst (λ (f : Option PoolFault). IsCaused f start.gate_faults gate_faults start.journal_faults (faults new.journal)) (sym is) caused;
-            written = subst (λ (f : Option PoolFault). Has f new.history (put new.journal)) (sym is) has;
+            written = subst (λ (d : Digest). Has d new.fault new.history (put new.journal)) (sym keeps.same_start)
+                (subst (λ (f : Option PoolFault). Has old.start f new.history (put new.journal)) (sym is) has);
             same_name = keeps.name ∙ way.same_name;
           }
 
@@ -130,15 +136,15 @@ module _ {S J : Type 0} (first plan : S → Plan) (put : J → Option Put) (faul
     commit_way (Err board.Journal) ends failed quiet =
         let counts = quiet_before ends.could.0 in
         let history : new.history ≡ old.history = ap (λ (state : BoardState S J). state.history) ends.else_same in
-        let has : Has (Some Journal) new.history (put new.journal) =
-        commit_broke old.history new.history ends.number ends.could.1.0 (put old.journal) (put new.journal) ends.could.1.1 history ends.part
+        let has : Has old.start (Some Journal) new.history (put new.journal) =
+        commit_broke old.start old.history new.history ends.number ends.could.1.0 (put old.journal) (put new.journal) ends.could.1.1 history ends.part
         (all_before ends.could.0) in
         stopped ends.could.0 history Journal (ap (λ (state : BoardState S J). state.fault) ends.else_same) has tt
         (counts.0, subst (λ (n : ℕ). Rose n (faults new.journal)) counts.1 (failed refl))
     commit_way (Err board.Memory) (inl ends) failed quiet =
         let counts = quiet_before ends.could.0 in
-        let has : Has None new.history (put new.journal) =
-        subst (λ (state : BoardState S J). Has None state.history (put state.journal)) (sym ends.else_same) (all_before ends.could.0) in
+        let has : Has old.start None new.history (put new.journal) =
+        subst (λ (state : BoardState S J). Has old.start None state.history (put state.journal)) (sym ends.else_same) (all_before ends.could.0) in
         stopped ends.could.0 (ap (λ (state : BoardState S J). state.history) ends.else_same) Memory
         (ap (λ (state : BoardState S J). state.fault) ends.else_same) has tt (counts.0, quiet (λ is. cc is) ∙ counts.1)
     commit_way (Err board.Memory) (inr ends) failed quiet =

@@ -9,6 +9,7 @@ use Rattle.verdict_table.specs.TableState.{verdict_in}
 use Rattle.reduce_journal.specs.declared.event.Event.TheVariants.{Recorded, Committed}
 use Rattle.reduce_journal.specs.History.{History, records_of}
 use Rattle.reduce_journal.specs.Journal.{event_text, journal_text}
+use Rattle.reduce_journal.specs.declared.digest.Digest.{Digest}
 use Rattle.ordered_commit_moves.specs.Replay.{record_at}
 use Rattle.ordered_commit.specs.declared.fault.PoolFault.{PoolFault}
 use Rattle.ordered_commit.specs.declared.fault.PoolFault.TheVariants.{Script, Journal, Memory}
@@ -28,8 +29,8 @@ IsCaused (Some Journal) gate gate' journal journal' = (gate' ≡ gate) × Rose j
 IsCaused (Some Memory) gate gate' journal journal' = (gate' ≡ gate) × (journal' ≡ journal)
 
 -- the journal's bytes are those of the history, after what was put before, where that is visible
-abbrev pub HasWritten : History → Option Put → Option Put → Type 0
-HasWritten history old new = new ≡ option_map (with_piece (journal_text history)) old
+abbrev pub HasWritten : Digest → History → Option Put → Option Put → Type 0
+HasWritten start history old new = new ≡ option_map (with_piece (journal_text start history)) old
 
 -- nothing was written, and there is no history
 abbrev pub HasNothing : History → Option Put → Option Put → Type 0
@@ -40,21 +41,21 @@ abbrev pub HasSameName : Option Put → Option Put → Type 0
 HasSameName old new = option_map (λ put. put.name) new ≡ option_map (λ put. put.name) old
 
 -- A put of the last record failed: the events before it are written, and a part of it.
-pub record BrokeInRecord (history : History) (bytes : List ℕ) : Type 0 where
+pub record BrokeInRecord (start : Digest) (history : History) (bytes : List ℕ) : Type 0 where
   pub before : History
   pub text : List ℕ
   pub verdict : Verdict
   pub last : history ≡ before ++ Recorded text verdict ∷ []
   pub part : ℕ
-  pub written : bytes ≡ journal_text before ++ take part (event_text (Recorded text verdict))
+  pub written : bytes ≡ journal_text start before ++ take part (event_text (Recorded text verdict))
 
 -- The put of a commit failed, which isn't made then: the whole history is written, and a part of that commit.
-pub record BrokeInCommit (history : History) (bytes : List ℕ) : Type 0 where
+pub record BrokeInCommit (start : Digest) (history : History) (bytes : List ℕ) : Type 0 where
   pub number : ℕ
   pub of_record : IsSome (record_at number (records_of history))
   pub part : ℕ
-  pub written : bytes ≡ journal_text history ++ take part (event_text (Committed number))
+  pub written : bytes ≡ journal_text start history ++ take part (event_text (Committed number))
 
 -- it broke off in the last record, or in a commit after all of the history
-abbrev pub BrokeAtEnd : History → List ℕ → Type 0
-BrokeAtEnd history bytes = BrokeInRecord history bytes ⊎ BrokeInCommit history bytes
+abbrev pub BrokeAtEnd : Digest → History → List ℕ → Type 0
+BrokeAtEnd start history bytes = BrokeInRecord start history bytes ⊎ BrokeInCommit start history bytes

@@ -6,7 +6,7 @@
 //! reducer runs:
 //!
 //! ```
-//! let (board, seats) = Board::new(alloc, reducer, journal, 1)?;
+//! let (board, seats) = Board::new(alloc, reducer, journal, 1, digest_of(start))?;
 //! let outcome = run_alone(rt, &texts, board, seats, &mut gate);
 //! match outcome.fault {
 //!     None => println!(rt; "{}", outcome.events.len())?,

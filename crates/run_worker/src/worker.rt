@@ -35,10 +35,10 @@ pub fn run_alone<S: Step + Drop, G: Gate, J: Sink + Drop, W: Wait>(
     seats: Vec<Seat>,
     gate: &mut G,
 ) -> Outcome<S, J>
-    requires new { board ≡ new_board 1 board.front board.journal }
+    requires new { board ≡ new_board 1 board.start board.front board.journal }
     requires seats { seats.items ≡ new_seats 1 }
     requires first { S.first board.front ≡ S.plan board.front }
-    requires head { IfSome (J.put_so_far board.journal) (λ put. put.bytes ≡ journal_text []) }
+    requires head { IfSome (J.put_so_far board.journal) (λ put. put.bytes ≡ journal_text board.start []) }
 
     // The history and its records, whatever ended the run.
     ensures history { IsHistoryOf G.may_say (S.first board.front) result.events.items }
@@ -52,10 +52,10 @@ pub fn run_alone<S: Step + Drop, G: Gate, J: Sink + Drop, W: Wait>(
     ensures ended { ReducerEnds result.fault (S.first board.front) (S.plan result.front) (records_of result.events.items) }
     ensures replayed { result.fault ≡ None → S.plan result.front ≡ replay (S.first board.front) result.events.items }
     ensures caused { IsCaused result.fault (G.faults gate.old) (G.faults gate.new) (J.faults board.journal) (J.faults result.journal) }
-    ensures journal { IfSome (J.put_so_far result.journal) (λ put. AreJournalBytes result.fault result.events.items put.bytes) }
-    ensures kept { IfSome (J.put_so_far result.journal) (λ put. IsJournal result.fault result.events.items put.bytes) }
+    ensures journal { IfSome (J.put_so_far result.journal) (λ put. AreJournalBytes board.start result.fault result.events.items put.bytes) }
+    ensures kept { IfSome (J.put_so_far result.journal) (λ put. IsJournal board.start result.fault result.events.items put.bytes) }
     ensures due { result.fault ≡ Some Journal
-        → IfSome (J.put_so_far result.journal) (λ put. BrokeWhereDue (S.first board.front) result.events.items put.bytes) }
+        → IfSome (J.put_so_far result.journal) (λ put. BrokeWhereDue (S.first board.front) board.start result.events.items put.bytes) }
     ensures name { HasSameName J.put_so_far board.journal result.journal }
 {
     let mut board = board;

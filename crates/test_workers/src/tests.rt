@@ -10,7 +10,7 @@ use edge_io::MemSink;
 use keep_guard::{Guard, KeepTexts};
 use ordered_commit::{Board, PoolFault};
 use reduce_core::line_reducer;
-use reduce_journal::{Event, read_journal};
+use reduce_journal::{Event, digest_of, read_journal};
 use reduce_rounds::ReducerStep;
 use reduce_step::TEXT_LIMIT;
 use script_gate_trait::{Gate, GateFault, ListGate, RuleGate, Said, Verdict};
@@ -60,7 +60,8 @@ fn run_of<G: Gate + Send, W: Threads + Wait + Sync>(
     let guard = Guard::new(KeepTexts::new(alloc));
     let reducer = line_reducer(alloc, START, &guard)?;
     let journal = MemSink::new(alloc, 10000, Vec::from_slice(alloc, fail)?)?;
-    let Ok((board, seats)) = Board::new(alloc, reducer, journal, count as u32) else {
+    let start = digest_of(START);
+    let Ok((board, seats)) = Board::new(alloc, reducer, journal, count as u32, start) else {
         return Err("a board")?;
     };
     let outcome = run_workers(rt, board, seats, workers);

@@ -13,6 +13,7 @@ use Rattle.verdict_table.specs.declared.table.Claim.{Claim}
 use Rattle.verdict_table.specs.TableState.{verdict_in}
 use Rattle.reduce_journal.specs.History.{History, records_of}
 use Rattle.reduce_journal.specs.Journal.{journal_text}
+use Rattle.reduce_journal.specs.declared.digest.Digest.{Digest}
 use Rattle.ordered_commit_moves.specs.Replay.{replay}
 use Rattle.ordered_commit.specs.declared.fault.PoolFault.{PoolFault}
 use Rattle.ordered_commit.specs.declared.fault.PoolFault.TheVariants.{Journal, Memory, Script}
@@ -30,8 +31,8 @@ use Rattle.worker_pool.proofs.DoneLemmas.{gone_on}
 -- ---- a new board
 
 module _ {S J : Type 0} (plan first : S → Plan) (may_say : List ℕ → Verdict → Type 0) (put : J → Option Put) (faults : J → ℕ) (n : ℕ) (state : BoardState S J)
-    (front : S) (journal : J)
-    (kept : IsKept plan first may_say put faults state) (is : state ≡ new_board n front journal) where
+    (start : Digest) (front : S) (journal : J)
+    (kept : IsKept plan first may_say put faults state) (is : state ≡ new_board n start front journal) where
   unstopped : state.fault ≡ None
   unstopped = ap (λ (s : BoardState S J). s.fault) is
 
@@ -43,10 +44,10 @@ module _ {S J : Type 0} (plan first : S → Plan) (may_say : List ℕ → Verdic
   new_first = sym (kept.replayed unstopped ∙ ap (replay (first state.front)) no_history)
 
   -- its journal has the head
-  pub new_head : IfSome (put state.journal) (λ p. p.bytes ≡ journal_text [])
+  pub new_head : IfSome (put state.journal) (λ p. p.bytes ≡ journal_text state.start [])
   new_head =
-      subst (λ (f : Option PoolFault). IfSome (put state.journal) (λ p. IsJournal f [] p.bytes)) unstopped
-      (subst (λ (h : History). IfSome (put state.journal) (λ p. IsJournal state.fault h p.bytes)) no_history kept.journal)
+      subst (λ (f : Option PoolFault). IfSome (put state.journal) (λ p. IsJournal state.start f [] p.bytes)) unstopped
+      (subst (λ (h : History). IfSome (put state.journal) (λ p. IsJournal state.start state.fault h p.bytes)) no_history kept.journal)
 
 -- ---- how the records begin
 

@@ -79,12 +79,13 @@ same_length seat seats = length-map seats (λ (s : Seat). if nat_eq s.worker sea
 module _ {S J : Type 0} (first plan : S → Plan) (put : J → Option Put) (faults : J → ℕ) (run : RunMembers) (old new : BoardState S J)
     (of_run : IsOfRun first put faults run old) where
   -- nothing that it says changes
-  still : first new.front ≡ first old.front → HasSameName put old.journal new.journal → length new.seats ≡ length old.seats
+  still : new.start ≡ old.start → first new.front ≡ first old.front → HasSameName put old.journal new.journal → length new.seats ≡ length old.seats
       → faults new.journal ≡ faults old.journal
       → (new.fault ≡ Some Journal → old.fault ≡ Some Journal) → (old.fault ≡ Some Journal → new.fault ≡ Some Journal) → AtStart run.first new.table
       → (new.fault ≡ None → Unfailed new.seats) → IsOfRun first put faults run new
-  still front name seats count only also start unfailed = record {
+  still digest front name seats count only also start unfailed = record {
     same_first = front ∙ of_run.same_first;
+    same_digest = digest ∙ of_run.same_digest;
     same_name = name ∙ of_run.same_name;
     all_seats = seats ∙ of_run.all_seats;
     start = start;
@@ -94,11 +95,12 @@ module _ {S J : Type 0} (first plan : S → Plan) (put : J → Option Put) (faul
   }
 
   -- the journal broke
-  broke : first new.front ≡ first old.front → HasSameName put old.journal new.journal → length new.seats ≡ length old.seats
+  broke : new.start ≡ old.start → first new.front ≡ first old.front → HasSameName put old.journal new.journal → length new.seats ≡ length old.seats
       → old.fault ≢ Some Journal → new.fault ≡ Some Journal → Rose (faults old.journal) (faults new.journal) → AtStart run.first new.table
       → IsOfRun first put faults run new
-  broke front name seats before is rose start = record {
+  broke digest front name seats before is rose start = record {
     same_first = front ∙ of_run.same_first;
+    same_digest = digest ∙ of_run.same_digest;
     same_name = name ∙ of_run.same_name;
     all_seats = seats ∙ of_run.all_seats;
     start = start;
@@ -116,23 +118,25 @@ module _ {S J : Type 0} (first plan : S → Plan) (put : J → Option Put) (faul
     not_before : old.fault ≢ Some Journal
     not_before is = absurd (cc (sym none ∙ is))
 
-  pub run_commit : (result : Result Bool BoardFault) → CommitEnds plan put result old new → new.seats ≡ old.seats → first new.front ≡ first old.front
+  pub run_commit : (result : Result Bool BoardFault) → CommitEnds plan put result old new → new.seats ≡ old.seats → new.start ≡ old.start
+      → first new.front ≡ first old.front
       → HasSameName put old.journal new.journal → new.table ≡ old.table
       → (result ≡ Err board.Journal → Rose (faults old.journal) (faults new.journal)) → (result ≢ Err board.Journal → faults new.journal ≡ faults old.journal)
       → IsOfRun first put faults run new
-  run_commit (Ok true) ends seats front name table failed quiet =
-      still front name (ap length seats) (quiet (λ is. cc is)) (λ is. absurd (cc (sym ends.fault ∙ is))) (λ is. absurd (not_before ends.could.0 is))
+  run_commit (Ok true) ends seats digest front name table failed quiet =
+      still digest front name (ap length seats) (quiet (λ is. cc is)) (λ is. absurd (cc (sym ends.fault ∙ is))) (λ is. absurd (not_before ends.could.0 is))
       (same_start table) (λ _. subst Unfailed (sym seats) (of_run.unfailed ends.could.0))
-  run_commit (Ok false) ends seats front name table failed quiet = subst (IsOfRun first put faults run) (sym ends.1) of_run
-  run_commit (Err board.Journal) ends seats front name table failed quiet =
-      broke front name (ap length seats) (not_before ends.could.0) (ap (λ (state : BoardState S J). state.fault) ends.else_same) (failed refl)
+  run_commit (Ok false) ends seats digest front name table failed quiet = subst (IsOfRun first put faults run) (sym ends.1) of_run
+  run_commit (Err board.Journal) ends seats digest front name table failed quiet =
+      broke digest front name (ap length seats) (not_before ends.could.0) (ap (λ (state : BoardState S J). state.fault) ends.else_same) (failed refl)
       (same_start table)
-  run_commit (Err board.Memory) (inl ends) seats front name table failed quiet =
+  run_commit (Err board.Memory) (inl ends) seats digest front name table failed quiet =
       let is : new.fault ≡ Some Memory = ap (λ (state : BoardState S J). state.fault) ends.else_same in
-      still front name (ap length seats) (quiet (λ is. cc is)) (λ j. absurd (cc (sym is ∙ j))) (λ j. absurd (not_before ends.could.0 j)) (same_start table)
+      still digest front name (ap length seats) (quiet (λ is. cc is)) (λ j. absurd (cc (sym is ∙ j))) (λ j. absurd (not_before ends.could.0 j))
+      (same_start table)
       (λ none. absurd (cc (sym is ∙ none)))
-  run_commit (Err board.Memory) (inr ends) seats front name table failed quiet =
-      still front name (ap length seats) (quiet (λ is. cc is)) (λ j. absurd (cc (sym ends.fault ∙ j))) (λ j. absurd (not_before ends.could.0 j))
+  run_commit (Err board.Memory) (inr ends) seats digest front name table failed quiet =
+      still digest front name (ap length seats) (quiet (λ is. cc is)) (λ j. absurd (cc (sym ends.fault ∙ j))) (λ j. absurd (not_before ends.could.0 j))
       (same_start table) (λ none. absurd (cc (sym ends.fault ∙ none)))
 
   pub run_take : (may_say : List ℕ → Verdict → Type 0) → IsKept plan first may_say put faults old → IsSettled plan old → (seat seat' : Seat)
@@ -142,6 +146,7 @@ module _ {S J : Type 0} (first plan : S → Plan) (put : J → Option Put) (faul
   run_take may_say kept settled seat seat' agrees (Ok NotYet) ends = subst (IsOfRun first put faults run) (sym ends.2) of_run
   run_take may_say kept settled seat seat' agrees (Ok (Work permit)) ends = subst (IsOfRun first put faults run) (sym ends.else_same) (record {
     same_first = of_run.same_first;
+    same_digest = of_run.same_digest;
     same_name = of_run.same_name;
     all_seats = same_length seat' old.seats ∙ of_run.all_seats;
     start =
@@ -155,6 +160,7 @@ module _ {S J : Type 0} (first plan : S → Plan) (put : J → Option Put) (faul
   })
   run_take may_say kept settled seat seat' agrees (Err memory) ends = subst (IsOfRun first put faults run) (sym ends.3) (record {
     same_first = of_run.same_first;
+    same_digest = of_run.same_digest;
     same_name = of_run.same_name;
     all_seats = of_run.all_seats;
     start = of_run.start;
@@ -174,21 +180,24 @@ module _ {S J : Type 0} (first plan : S → Plan) (put : J → Option Put) (faul
       → HasSameName put old.journal new.journal
       → OnErr result (Rose (faults old.journal) (faults new.journal)) → OnOk result (faults new.journal ≡ faults old.journal) → IsOfRun first put faults run new
   run_record answer seat seat' agrees (Ok number) opened recorded ends name failed quiet =
+      let digest = ap (λ (state : BoardState S J). state.start) recorded.else_same in
       let front = ap (λ (state : BoardState S J). first state.front) recorded.else_same in
       let seats = ap (λ (state : BoardState S J). length state.seats) recorded.else_same ∙ same_length seat' old.seats in
-      still front name seats quiet (λ is. sym ends.1 ∙ is) (λ is. ends.1 ∙ is) (more_start answer seat seat' opened recorded)
+      still digest front name seats quiet (λ is. sym ends.1 ∙ is) (λ is. ends.1 ∙ is) (more_start answer seat seat' opened recorded)
       (λ none. let before = of_run.unfailed (sym ends.1 ∙ none) in
       subst Unfailed (sym (ap (λ (state : BoardState S J). state.seats) recorded.else_same))
       (with_unfailed seat' old.seats (ap (λ (s : Seat). s.failed) recorded.of_worker ∙ own_unfailed seat old.seats agrees before) before))
   run_record answer seat seat' agrees (Err fault) opened recorded ends name failed quiet =
+      let digest = ap (λ (state : BoardState S J). state.start) recorded.else_same in
       let front = ap (λ (state : BoardState S J). first state.front) recorded.else_same in
       let seats = ap (λ (state : BoardState S J). length state.seats) recorded.else_same ∙ same_length seat' old.seats in
-      broke front name seats ends.0 ends.1 failed (more_start answer seat seat' opened recorded)
+      broke digest front name seats ends.0 ends.1 failed (more_start answer seat seat' opened recorded)
 
   pub run_give_up : (seat' : Seat) (worker : ℕ) (fault : GateFault)
       → new ≡ record old { seats = with_seat seat' old.seats; fault = Some (kept_fault old.fault (ask_fault worker fault)) } → IsOfRun first put faults run new
   run_give_up seat' worker fault is = subst (IsOfRun first put faults run) (sym is) (record {
     same_first = of_run.same_first;
+    same_digest = of_run.same_digest;
     same_name = of_run.same_name;
     all_seats = same_length seat' old.seats ∙ of_run.all_seats;
     start = of_run.start;

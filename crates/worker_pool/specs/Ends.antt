@@ -62,8 +62,8 @@ pub record IsOutcome {S J : Type 0} (plan first : S → Plan) (may_say : List �
   pub replayed : outcome.fault ≡ None → plan outcome.front ≡ replay run.first outcome.events.items
   -- the journal has the history, or broke off, in a commit only where that was due, under
   -- the name that it had; its count rose exactly where a fault of it is kept
-  pub journal : IfSome (put_so_far outcome.journal) (λ put. IsJournal outcome.fault outcome.events.items put.bytes)
-  pub due : outcome.fault ≡ Some Journal → IfSome (put_so_far outcome.journal) (λ put. BrokeWhereDue run.first outcome.events.items put.bytes)
+  pub journal : IfSome (put_so_far outcome.journal) (λ put. IsJournal run.start outcome.fault outcome.events.items put.bytes)
+  pub due : outcome.fault ≡ Some Journal → IfSome (put_so_far outcome.journal) (λ put. BrokeWhereDue run.first run.start outcome.events.items put.bytes)
   pub same_name : option_map (λ put. put.name) (put_so_far outcome.journal) ≡ run.name
   pub rose : outcome.fault ≡ Some Journal → Rose run.faults (faults outcome.journal)
   pub quiet : outcome.fault ≢ Some Journal → faults outcome.journal ≡ run.faults
@@ -77,4 +77,4 @@ pub record IsOfOne {S J G : Type 0} (plan : S → Plan) (log : G → Option Log)
   pub asked : log new.gate ≡ option_map (with_all_asked (texts_of (records_of outcome.events.items))) (log old.gate)
   pub ended : ReducerEnds outcome.fault run.first (plan outcome.front) (records_of outcome.events.items)
   pub caused : IsCaused outcome.fault (gate_faults old.gate) (gate_faults new.gate) run.faults (faults outcome.journal)
-  pub journal : IfSome (put_so_far outcome.journal) (λ put. AreJournalBytes outcome.fault outcome.events.items put.bytes)
+  pub journal : IfSome (put_so_far outcome.journal) (λ put. AreJournalBytes run.start outcome.fault outcome.events.items put.bytes)

@@ -8,7 +8,7 @@
 //! left to do. An only worker works in the calling thread, as in `run_worker`. So a reducer runs:
 //!
 //! ```
-//! let (board, seats) = Board::new(alloc, reducer, journal, 2)?;
+//! let (board, seats) = Board::new(alloc, reducer, journal, 2, digest_of(start))?;
 //! let mut workers = vec![in alloc; Worker::new(gate, 1), Worker::new(other_gate, 2)]?;
 //! let outcome = run_workers(rt, board, seats, &mut workers);
 //! ```

@@ -172,7 +172,7 @@ pub(crate) fn run_several<
     workers: &mut [Worker<G>],
 ) -> Outcome<S, J>
     requires some { (1 ≤ length workers.old) × (length workers.old ≤ 16) }
-    requires board { board ≡ new_board (length workers.old) board.front board.journal }
+    requires board { board ≡ new_board (length workers.old) board.start board.front board.journal }
     requires seats { seats.items ≡ new_seats (length workers.old) }
     ensures outcome { IsOutcome S.plan S.first G.may_say J.put_so_far J.faults (members S.first J.put_so_far J.faults (length workers.old) board) result }
     ensures workers { AreDone G.log G.faults result.fault result.events.items workers.old workers.new }

@@ -23,7 +23,7 @@ fn without_texts<S: Step + Drop, G: Gate, J: Sink + Drop>(
     seats: Vec<Seat>,
     workers: &[Worker<G>],
 ) -> Outcome<S, J>
-    requires board { board ≡ new_board (length workers.now) board.front board.journal }
+    requires board { board ≡ new_board (length workers.now) board.start board.front board.journal }
     requires seats { seats.items ≡ new_seats (length workers.now) }
     requires unseated { All (λ w. w.seat ≡ None) workers.now }
     ensures outcome { IsOutcome S.plan S.first G.may_say J.put_so_far J.faults (members S.first J.put_so_far J.faults (length workers.now) board) result }
@@ -46,7 +46,7 @@ fn run_one<S: Step + Drop, G: Gate, J: Sink + Drop, W: Wait>(
     workers: &mut [Worker<G>],
 ) -> Outcome<S, J>
     requires only { length workers.old ≡ 1 }
-    requires board { board ≡ new_board 1 board.front board.journal }
+    requires board { board ≡ new_board 1 board.start board.front board.journal }
     requires seats { seats.items ≡ new_seats 1 }
     requires unseated { All (λ w. w.seat ≡ None) workers.old }
     ensures outcome { IsOutcome S.plan S.first G.may_say J.put_so_far J.faults (members S.first J.put_so_far J.faults 1 board) result }
@@ -72,7 +72,7 @@ pub fn run_workers<
     W: Threads + Wait + Sync,
 >(rt: &W, board: Board<S, G, J>, seats: Vec<Seat>, workers: &mut [Worker<G>]) -> Outcome<S, J>
     requires some { (1 ≤ length workers.old) × (length workers.old ≤ 16) }
-    requires board { board ≡ new_board (length workers.old) board.front board.journal }
+    requires board { board ≡ new_board (length workers.old) board.start board.front board.journal }
     requires seats { seats.items ≡ new_seats (length workers.old) }
     requires unseated { All (λ w. w.seat ≡ None) workers.old }
     ensures outcome { IsOutcome S.plan S.first G.may_say J.put_so_far J.faults (members S.first J.put_so_far J.faults (length workers.old) board) result }

@@ -10,10 +10,10 @@ use Rattle.cert_check.specs.Findings.{IsFoundWith}
 abbrev pub EndsSo : Plan → History → (StepResult → Type 0) → Type 0
 EndsSo first history Is = (end : StepResult) × (follow (verdict_in (records_of history)) first ≡ End end) × Is end
 
--- what is found of the run of a new reducer, where these are the texts that may be asked
+-- what is found of the run of a new reducer whose journal is of its start, where these are the texts that may be asked
 abbrev pub IsFindingOfPlan : Plan → (List ℕ → Type 0) → List ℕ → History → ℕ → Finding → Type 0
 IsFindingOfPlan first Is output history torn =
-    IsFoundWith first Is (HasEnded (follow (verdict_in (records_of history)) first)) (EndsSo first history (λ end. end.refused ≡ true))
+    IsFoundWith first Is (Unit {0}) (HasEnded (follow (verdict_in (records_of history)) first)) (EndsSo first history (λ end. end.refused ≡ true))
     (EndsSo first history (λ end. output ≡ end.text)) history torn
 
 -- what is found where the events are whole and any text may be asked

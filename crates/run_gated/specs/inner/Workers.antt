@@ -6,6 +6,7 @@ use Rattle.script_gate_trait.specs.declared.gate.Verdict.TheVariants.{No}
 use Rattle.reduce_step.specs.Plan.{HasEnded, Plan, after, asked, follow}
 use Rattle.verdict_table.specs.TableState.{texts_of, verdict_in}
 use Rattle.reduce_journal.specs.History.{History, records_of}
+use Rattle.reduce_journal.specs.declared.digest.Digest.{Digest}
 use Rattle.ordered_commit_moves.specs.Replay.{replay}
 use Rattle.ordered_commit.specs.declared.fault.PoolFault.{PoolFault}
 use Rattle.ordered_commit.specs.declared.fault.PoolFault.TheVariants.{Script, Journal, Memory}
@@ -24,11 +25,11 @@ IsCausedBy (Some Journal) old new = CallFailed old.journal new.journal
 IsCausedBy (Some Memory) old new = IsQuiet old.journal new.journal
 
 -- what the journal has, by the fault
-abbrev pub JournalLeft : ℕ → Option PoolFault → History → Option Put → Option Put → Type 0
-JournalLeft workers None history old new = HasWritten history old new
-JournalLeft workers (Some (Script worker)) history old new = HasWritten history old new
-JournalLeft workers (Some Journal) history old new = HasPartBy workers history old new
-JournalLeft workers (Some Memory) history old new = HasWritten history old new ⊎ HasNothing history old new
+abbrev pub JournalLeft : ℕ → Digest → Option PoolFault → History → Option Put → Option Put → Type 0
+JournalLeft workers start None history old new = HasWritten start history old new
+JournalLeft workers start (Some (Script worker)) history old new = HasWritten start history old new
+JournalLeft workers start (Some Journal) history old new = HasPartBy workers start history old new
+JournalLeft workers start (Some Memory) history old new = HasWritten start history old new ⊎ HasNothing history old new
 
 -- where the gate failed, the reducer asks a text that has no record
 abbrev pub WaitsAt : Option PoolFault → Plan → History → Type 0

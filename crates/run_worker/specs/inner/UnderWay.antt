@@ -10,6 +10,7 @@ use Rattle.verdict_table.specs.declared.record.Record.{Record}
 use Rattle.reduce_step.specs.Plan.{Plan, asked, follow, height}
 use Rattle.verdict_table.specs.TableState.{Extends, TableState, texts_of, verdict_in}
 use Rattle.reduce_journal.specs.History.{History, records_of}
+use Rattle.reduce_journal.specs.declared.digest.Digest.{Digest}
 use Rattle.ordered_commit_moves.specs.Replay.{replay}
 use Rattle.ordered_commit.specs.declared.fault.PoolFault.{PoolFault}
 use Rattle.ordered_commit.specs.declared.fault.PoolFault.TheVariants.{Script, Journal, Memory}
@@ -23,6 +24,7 @@ use Rattle.run_worker.specs.UnderWay.{AreJournalBytes}
 -- what is visible of the board and of the gate at one moment
 pub record Moment : Type 0 where
   pub first : Plan
+  pub start : Digest
   pub plan : Plan
   pub history : History
   pub table : TableState
@@ -37,6 +39,7 @@ pub record Moment : Type 0 where
 abbrev pub moment : {S J : Type 0} → (S → Plan) → (S → Plan) → (J → Option Put) → (J → ℕ) → BoardState S J → Option Log → ℕ → Moment
 moment first plan put_so_far faults state log gate_faults = record {
   first = first state.front;
+  start = state.start;
   plan = plan state.front;
   history = state.history;
   table = state.table;
@@ -71,6 +74,7 @@ IsUnansweredAt (Some Memory) plan records = Unit {0}
 -- What holds between two calls of a run that began at the first of these moments, of the only worker, whose seat this is.
 pub record IsUnderWay (start now : Moment) (seat : Seat) : Type 0 where
   pub same_first : now.first ≡ start.first
+  pub same_start : now.start ≡ start.start
   pub only_seat : now.seats ≡ seat ∷ []
   pub is_first : seat.worker ≡ 1
   pub recorded : now.table.records ≡ records_of now.history
@@ -81,7 +85,7 @@ pub record IsUnderWay (start now : Moment) (seat : Seat) : Type 0 where
   pub waits : IsUnansweredAt now.fault (replay start.first now.history) (records_of now.history)
   pub asked : now.log ≡ option_map (with_all_asked (texts_of (records_of now.history))) start.log
   pub caused : IsCaused now.fault start.gate_faults now.gate_faults start.journal_faults now.journal_faults
-  pub written : IfSome now.put (λ put. AreJournalBytes now.fault now.history put.bytes)
+  pub written : IfSome now.put (λ put. AreJournalBytes now.start now.fault now.history put.bytes)
   pub same_name : option_map (λ put. put.name) now.put ≡ option_map (λ put. put.name) start.put
 
 -- It is the only worker, has no claim, and while no fault is kept no claim is open.

@@ -6,15 +6,28 @@ ghost use Rattle.reduce_journal.specs.History.{HasShortText};
 use edge_io::MemSink;
 use faults::Memory;
 use reduce_journal::{
-    Counts, Event, Journal, JournalFault, read_journal, report, write_event, write_head,
+    Counts, Digest, Event, Journal, JournalFault, digest_of, read_journal, report, write_event,
+    write_head,
 };
 use reduce_step::TEXT_LIMIT;
 use script_gate_trait::{Bytes, Verdict};
 use std::alloc::Global;
 use std::test::Fail;
 
-/// The journal of a run over `a=1;b=2;c=3;`, whose script says yes where there is a `b`.
-pub(crate) const JOURNAL: &[u8] =
+/// What is reduced in the worked run.
+pub(crate) const START: &[u8] = b"a=1;b=2;c=3;";
+
+/// The head of its journal, in which the SHA-256 of that is.
+pub(crate) const HEAD: &[u8] =
+    b"perses-journal 2\nS fe55d574c397b7713a66bb55be32810164343b436e7529075844e43fce81c64e\n";
+
+/// The journal of the run, whose script says yes where there is a `b`.
+pub(crate) const JOURNAL: &[u8] = b"perses-journal 2\n\
+    S fe55d574c397b7713a66bb55be32810164343b436e7529075844e43fce81c64e\n\
+    R y 12\na=1;b=2;c=3;\nC 1\nR n 0\n\nC 2\nR n 5\na=1;\n\nC 3\nR y 8\nb=2;c=3;\nC 4\nR y 5\nb=2;\n\nC 5\nC 2\n";
+
+/// The same in version 1.
+pub(crate) const JOURNAL_1: &[u8] =
     b"perses-journal 1\nR y 12\na=1;b=2;c=3;\nC 1\nR n 0\n\nC 2\nR n 5\na=1;\n\nC 3\nR y 8\nb=2;c=3;\nC 4\nR y 5\nb=2;\n\nC 5\nC 2\n";
 
 /// An event whose text is static.
@@ -39,8 +52,8 @@ const HISTORY: [Row; 11] = [
     Row::Committed(2),
 ];
 
-/// Where the first line ends, and then each event.
-const ENDS: [usize; 12] = [17, 37, 41, 48, 52, 64, 68, 83, 87, 99, 103, 107];
+/// Where the first event begins, counted from the end of the head, and where each ends.
+const ENDS: [usize; 12] = [0, 20, 24, 31, 35, 47, 51, 66, 70, 82, 86, 90];
 
 fn event_of(alloc: Global, row: Row) -> Result<Event, Memory> {
     match row {
@@ -85,9 +98,9 @@ fn is_short(event: &Event) -> bool
     }
 }
 
-/// Puts the first line and the rows; how many of these came through.
+/// Puts the head and the rows; how many of these came through.
 fn written(sink: &mut MemSink, alloc: Global, rows: &[Row]) -> Result<usize, Fail> {
-    if write_head(sink).is_err() {
+    if write_head(sink, &digest_of(START)).is_err() {
         return Ok(0);
     }
     for (number, row) in rows.iter().enumerate() {
@@ -108,7 +121,7 @@ fn puts_up_to(
     put: usize,
     faults: u64,
 ) -> Result<bool, Fail> {
-    let mut sink = MemSink::new(alloc, 107, Vec::from_slice(alloc, fail)?)?;
+    let mut sink = MemSink::new(alloc, JOURNAL.len() as u64, Vec::from_slice(alloc, fail)?)?;
     let came = written(&mut sink, alloc, &HISTORY)?;
     Ok(came == whole && Some(sink.bytes()) == JOURNAL.get(..put) && sink.faults() == faults)
 }
@@ -119,7 +132,7 @@ fn writes_the_worked_journal(rt: HostRuntime) -> Result<(), Fail> {
     Ok(())
 }
 
-/// How many events are whole in the journal's first `cut` bytes, and where the last of them ends.
+/// How many events are whole in so many bytes after the head, and where the last of them ends.
 fn whole_events(cut: usize) -> (usize, usize) {
     let mut whole = (0, 0);
     for (number, end) in ENDS.iter().enumerate() {
@@ -130,21 +143,28 @@ fn whole_events(cut: usize) -> (usize, usize) {
     whole
 }
 
-/// Whether the journal's first `cut` bytes, with its first line, are read as what is whole of it and as so
+/// Whether these bytes, of a whole head and so many after it, are read as what is whole of those and as so
 /// many torn bytes.
-fn is_read_up_to(alloc: Global, cut: usize) -> Result<bool, Fail> {
-    let (whole, end) = whole_events(cut);
-    let (Some(begun), Some(rows)) = (JOURNAL.get(..cut), HISTORY.get(..whole)) else {
+fn is_read_up_to(alloc: Global, begun: &[u8], after_head: usize) -> Result<bool, Fail> {
+    let (events, end) = whole_events(after_head);
+    let Some(rows) = HISTORY.get(..events) else {
         return Ok(false);
     };
     let journal = read_journal(alloc, begun)?;
-    Ok(are_events(&journal.events, rows) && journal.torn == cut.abs_diff(end) as u64)
+    Ok(are_events(&journal.events, rows) && journal.torn == after_head.abs_diff(end) as u64)
 }
 
-/// The first cut after the first line up to which the journal is read otherwise.
-fn first_other_cut(alloc: Global) -> Result<Option<usize>, Fail> {
-    for cut in 17..108 {
-        if !is_read_up_to(alloc, cut)? {
+/// The first cut up to which the journal with a head of so many bytes is read otherwise: what has no whole
+/// head is none.
+fn first_other_cut(alloc: Global, whole: &[u8], head: usize) -> Result<Option<usize>, Fail> {
+    for cut in 0..whole.len() + 1 {
+        let begun = &whole[..cut];
+        let is_right = if cut < head {
+            read_journal(alloc, begun).err() == Some(JournalFault::BadHead)
+        } else {
+            is_read_up_to(alloc, begun, cut - head)?
+        };
+        if !is_right {
             return Ok(Some(cut));
         }
     }
@@ -153,22 +173,66 @@ fn first_other_cut(alloc: Global) -> Result<Option<usize>, Fail> {
 
 #[test]
 fn reads_the_worked_journal_up_to_each_cut(rt: HostRuntime) -> Result<(), Fail> {
-    assert_eq!(rt; first_other_cut(rt.alloc())?, None);
-    for cut in 0..17 {
+    assert_eq!(rt; first_other_cut(rt.alloc(), JOURNAL, 84)?, None);
+    assert_eq!(rt; first_other_cut(rt.alloc(), JOURNAL_1, 17)?, None);
+    Ok(())
+}
+
+/// The version and the start of a journal.
+fn headed(alloc: Global, bytes: &[u8]) -> Result<(u32, Option<Digest>), Fail> {
+    let journal = read_journal(alloc, bytes)?;
+    Ok((journal.version, journal.start))
+}
+
+/// The journal of a run over an empty start, of 95 bytes.
+const EMPTY_START: &[u8] = b"perses-journal 2\n\
+    S e3b0c44298fc1c149afbf4c8996fb92427ae41e4649b934ca495991b7852b855\nR y 0\n\nC 1\n";
+
+#[test]
+fn knows_the_start(rt: HostRuntime) -> Result<(), Fail> {
+    let start = digest_of(START);
+    assert_eq!(rt; headed(rt.alloc(), JOURNAL)?, (2, Some(start)));
+    assert_eq!(rt; headed(rt.alloc(), HEAD)?, (2, Some(start)));
+    assert_eq!(rt; headed(rt.alloc(), JOURNAL_1)?, (1, Some(start)));
+    assert_eq!(rt; headed(rt.alloc(), BEGIN)?, (1, None));
+    assert_eq!(rt;
+        headed(rt.alloc(), b"perses-journal 1\nR y 2\na")?,
+        (1, None)
+    );
+    assert_eq!(rt; headed(rt.alloc(), EMPTY_START)?, (2, Some(digest_of(b""))));
+    Ok(())
+}
+
+/// What is no head of a journal.
+const NO_HEADS: [&[u8]; 9] = [
+    b"",
+    b"perses-journal 1",
+    b"perses-journal 1\r\n",
+    b"perses-journal 3\n",
+    b"perses-journal 2\nR y 0\n\n",
+    b"perses-journal 2\nS fe55d574c397b7713a66bb55be32810164343b436e7529075844e43fce81c64e",
+    b"perses-journal 2\nS Fe55d574c397b7713a66bb55be32810164343b436e7529075844e43fce81c64e\n",
+    b"perses-journal 2\nS fe55d574c397b7713a66bb55be32810164343b436e7529075844e43fce81c64\n",
+    b"perses-journal 2\nS fe55d574c397b7713a66bb55be32810164343b436e7529075844e43fce81c64g\n",
+];
+
+#[test]
+fn refuses_what_is_no_head(rt: HostRuntime) -> Result<(), Fail> {
+    for bytes in NO_HEADS {
         assert_eq!(rt;
-            read_journal(rt.alloc(), &JOURNAL[..cut]).err(),
+            read_journal(rt.alloc(), bytes).err(),
             Some(JournalFault::BadHead)
         );
     }
     Ok(())
 }
 
-/// A journal's first line, and the same with a record.
+/// The head of version 1, and the same with a record.
 const BEGIN: &[u8] = b"perses-journal 1\n";
 
 const ONE_RECORD: &[u8] = b"perses-journal 1\nR y 0\n\n";
 
-/// What is torn right after the first line.
+/// What is torn right after the head, of either version.
 const TORN: [&[u8]; 16] = [
     b"",
     b"R",
@@ -189,7 +253,7 @@ const TORN: [&[u8]; 16] = [
 ];
 
 /// What is bad there.
-const BAD: [&[u8]; 17] = [
+const BAD: [&[u8]; 18] = [
     b"C",
     b"C 1\n",
     b"R x",
@@ -206,10 +270,11 @@ const BAD: [&[u8]; 17] = [
     b"R y 10485760",
     b"R y 1\r\n",
     b"r y 0\n\n",
+    b"S",
     b"\n",
 ];
 
-/// What is torn after the first line and a record.
+/// What is torn after the head and a record.
 const TORN_AFTER: [&[u8]; 4] = [b"", b"C", b"C ", b"C 1"];
 
 /// What is bad there.
@@ -286,19 +351,25 @@ fn first_not_bad(alloc: Global, begin: &[u8], tails: &[&[u8]]) -> Result<Option<
     Ok(None)
 }
 
-/// For each table, the number of the first tail that is read otherwise.
-fn others(alloc: Global) -> Result<[Option<usize>; 4], Fail> {
+/// For each table, the number of the first tail that is read otherwise after this head, and after this
+/// one with a record.
+fn others(alloc: Global, head: &[u8], record: &[u8]) -> Result<[Option<usize>; 4], Fail> {
     Ok([
-        first_not_torn(alloc, BEGIN, 0, &TORN)?,
-        first_not_bad(alloc, BEGIN, &BAD)?,
-        first_not_torn(alloc, ONE_RECORD, 1, &TORN_AFTER)?,
-        first_not_bad(alloc, ONE_RECORD, &BAD_AFTER)?,
+        first_not_torn(alloc, head, 0, &TORN)?,
+        first_not_bad(alloc, head, &BAD)?,
+        first_not_torn(alloc, record, 1, &TORN_AFTER)?,
+        first_not_bad(alloc, record, &BAD_AFTER)?,
     ])
 }
 
+/// The head of version 2 with a record.
+const ONE_RECORD_2: &[u8] = b"perses-journal 2\n\
+    S fe55d574c397b7713a66bb55be32810164343b436e7529075844e43fce81c64e\nR y 0\n\n";
+
 #[test]
 fn parts_torn_tails_from_bad_records(rt: HostRuntime) -> Result<(), Fail> {
-    assert_eq!(rt; others(rt.alloc())?, [None; 4]);
+    assert_eq!(rt; others(rt.alloc(), BEGIN, ONE_RECORD)?, [None; 4]);
+    assert_eq!(rt; others(rt.alloc(), HEAD, ONE_RECORD_2)?, [None; 4]);
     Ok(())
 }
 
@@ -322,7 +393,7 @@ fn keeps_any_bytes_and_texts_that_come_twice(rt: HostRuntime) -> Result<(), Fail
 
 /// Where the first put fails, the second one, and so on: how many events came through before, and how
 /// many bytes are put.
-const FAILING: [(usize, usize); 6] = [(0, 0), (0, 17), (0, 24), (0, 36), (1, 37), (2, 41)];
+const FAILING: [(usize, usize); 6] = [(0, 0), (0, 84), (0, 91), (0, 103), (1, 104), (2, 108)];
 
 #[test]
 fn puts_a_record_in_three_pieces_and_a_commit_in_one(rt: HostRuntime) -> Result<(), Fail> {

@@ -1,14 +1,14 @@
 //! Runs of one worker over the reduction of `a=1;b=2;c=3;`, statement by statement. Where nothing ends it
 //! before its time, and yes is the answer if there is a `b`, its journal is the worked one.
 
-use super::journals::JOURNAL;
+use super::journals::{JOURNAL, START};
 use super::outcomes::has_come_to;
 use crate::small_step::SmallStep;
 use edge_io::MemSink;
 use faults::Memory;
 use gate_permits::Texts;
 use ordered_commit::{Board, BoardFault, Outcome, PoolFault, Refused};
-use reduce_journal::read_journal;
+use reduce_journal::{digest_of, read_journal};
 use reduce_step::Step;
 use run_worker::run_alone;
 use script_gate_trait::{Gate, ListGate, RuleGate, Said};
@@ -33,7 +33,9 @@ fn run_over<G: Gate, W: Wait>(
     let Ok(texts) = Texts::new(alloc) else {
         return Err(Memory);
     };
-    match Board::<SmallStep, G, MemSink>::new(alloc, SmallStep::new(alloc), journal, 1) {
+    let front = SmallStep::new(alloc);
+    let start = digest_of(START);
+    match Board::<SmallStep, G, MemSink>::new(alloc, front, journal, 1, start) {
         Err(refused) => Ok(Err(refused)),
         Ok((board, seats)) => Ok(Ok(run_alone(rt, &texts, board, seats, gate))),
     }
@@ -89,7 +91,9 @@ fn writes_each_verdict_before_it_is_used(rt: HostRuntime) -> Result<(), Fail> {
 const UP_TO_A_FAILURE: Wanted = Wanted {
     fault: Some(PoolFault::Script { worker: 1 }),
     events: 4,
-    journal: b"perses-journal 1\nR y 12\na=1;b=2;c=3;\nC 1\nR n 0\n\nC 2\n",
+    journal: b"perses-journal 2\n\
+        S fe55d574c397b7713a66bb55be32810164343b436e7529075844e43fce81c64e\n\
+        R y 12\na=1;b=2;c=3;\nC 1\nR n 0\n\nC 2\n",
     asks: true,
 };
 
@@ -126,7 +130,7 @@ fn left_by(came: &Came) -> (&MemSink, Option<PoolFault>) {
     }
 }
 
-/// How many puts the journal takes: its first line, three for each of five records, one for each of six commits.
+/// How many puts the journal takes: its head, three for each of five records, one for each of six commits.
 const PUTS: u64 = 22;
 
 /// Whether a run whose put of this number fails comes to this fault, or to none, and to these bytes.
@@ -143,7 +147,7 @@ fn breaks_off_with<W: Wait>(
 }
 
 /// Whether a run whose put of this number fails leaves a beginning of the journal, which can be read if it
-/// has the first line.
+/// has the head.
 fn leaves_a_beginning<W: Wait>(rt: &W, alloc: Global, put: u64) -> Result<bool, Memory> {
     let came = broken_at(rt, alloc, put)?;
     let (journal, fault) = left_by(&came);
@@ -156,7 +160,8 @@ fn leaves_a_beginning<W: Wait>(rt: &W, alloc: Global, put: u64) -> Result<bool, 
 }
 
 /// What the journal has where its fifth put fails.
-const FOUR_PUTS: &[u8] = b"perses-journal 1\nR y 12\na=1;b=2;c=3;\n";
+const FOUR_PUTS: &[u8] = b"perses-journal 2\n\
+    S fe55d574c397b7713a66bb55be32810164343b436e7529075844e43fce81c64e\nR y 12\na=1;b=2;c=3;\n";
 
 #[test]
 fn stops_where_the_journal_breaks_off(rt: HostRuntime) -> Result<(), Fail> {
@@ -187,7 +192,7 @@ fn handed_back<W: Wait>(
 }
 
 #[test]
-fn hands_all_back_where_the_first_line_does_not_fit(rt: HostRuntime) -> Result<(), Fail> {
+fn hands_all_back_where_the_head_does_not_fit(rt: HostRuntime) -> Result<(), Fail> {
     let mut gate = RuleGate::<98>::new(rt.alloc(), true);
     let back = handed_back(&rt, rt.alloc(), &mut gate)?;
     assert_eq!(rt; back, Some((BoardFault::Journal, 0, true)));

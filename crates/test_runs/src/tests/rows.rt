@@ -1,12 +1,14 @@
 //! What workers do by hand, row after row.
 
 use super::hands::{Got, Hand, are_free, commits, record_for, seats_of, take_for};
+use super::journals::START;
 use super::outcomes::has_come_to;
 use crate::small_step::SmallStep;
 use edge_io::MemSink;
 use faults::Memory;
 use gate_permits::Texts;
 use ordered_commit::{Board, Outcome, PoolFault, Seat};
+use reduce_journal::digest_of;
 use script_gate_trait::{Gate, RuleGate};
 use std::alloc::Global;
 use std::sync::Wait;
@@ -134,7 +136,7 @@ fn new_board<G: Gate>(
     fail: Vec<u64>,
 ) -> Result<(Board<SmallStep, G, MemSink>, Vec<Seat>), Other> {
     let journal = MemSink::new(alloc, 1000, fail)?;
-    match Board::new(alloc, SmallStep::new(alloc), journal, 2) {
+    match Board::new(alloc, SmallStep::new(alloc), journal, 2, digest_of(START)) {
         Ok(made) => Ok(made),
         Err(_) => Err(Other::NoBoard),
     }

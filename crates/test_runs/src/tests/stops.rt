@@ -1,12 +1,14 @@
 //! Boards that stop.
 
 use super::hands::Got;
+use super::journals::START;
 use super::outcomes::has_come_to;
 use super::rows::{Row, comes_to_with_b, outcome_by};
 use crate::small_step::SmallStep;
 use edge_io::MemSink;
 use faults::Memory;
 use ordered_commit::{Board, BoardFault, PoolFault};
+use reduce_journal::digest_of;
 use script_gate_trait::{ListGate, RuleGate, Said};
 use std::alloc::Global;
 use std::sync::Wait;
@@ -31,7 +33,10 @@ fn comes_to_the_fault<W: Wait>(rt: &W, alloc: Global) -> Result<bool, Fail> {
     let first = ListGate::new(alloc, Vec::from_slice(alloc, &[Said::Yes])?, Said::Fail);
     let second = ListGate::new(alloc, Vec::new(alloc), Said::No);
     let outcome = outcome_by(rt, alloc, Vec::new(alloc), first, second, &FAILS)?;
-    let journal = b"perses-journal 1\nR y 12\na=1;b=2;c=3;\nC 1\nR n 0\n\n".as_slice();
+    let journal = b"perses-journal 2\n\
+        S fe55d574c397b7713a66bb55be32810164343b436e7529075844e43fce81c64e\n\
+        R y 12\na=1;b=2;c=3;\nC 1\nR n 0\n\n"
+        .as_slice();
     let fault = PoolFault::Script { worker: 1 };
     Ok(has_come_to(&outcome, Some(fault), 3, journal))
 }
@@ -52,7 +57,10 @@ const UNWRITTEN: [Row; 4] = [
 
 #[test]
 fn makes_a_record_that_cannot_be_written(rt: HostRuntime) -> Result<(), Fail> {
-    let journal = b"perses-journal 1\nR y 12\n".as_slice();
+    let journal = b"perses-journal 2\n\
+        S fe55d574c397b7713a66bb55be32810164343b436e7529075844e43fce81c64e\n\
+        R y 12\n"
+        .as_slice();
     let wanted = (Some(PoolFault::Journal), 1, journal);
     assert!(rt; comes_to_with_b(&rt, rt.alloc(), &[3], &UNWRITTEN, wanted)?);
     Ok(())
@@ -67,6 +75,7 @@ fn refused_at(alloc: Global, size: u64) -> Result<Option<(BoardFault, usize)>, M
         SmallStep::new(alloc),
         journal,
         2,
+        digest_of(START),
     );
     match made {
         Ok(_) => Ok(None),

@@ -5,8 +5,9 @@ use super::rows::{Row, comes_to_with_b};
 use std::test::Fail;
 
 /// The journal that the run below leaves.
-const JOURNAL: &[u8] =
-    b"perses-journal 1\nR y 12\na=1;b=2;c=3;\nC 1\nR n 5\na=1;\n\nR y 8\nb=2;c=3;\nR n 0\n\nC 4\nC 2\nC 3\nR y 5\nb=2;\n\nC 5\nC 4\n";
+const JOURNAL: &[u8] = b"perses-journal 2\n\
+    S fe55d574c397b7713a66bb55be32810164343b436e7529075844e43fce81c64e\n\
+    R y 12\na=1;b=2;c=3;\nC 1\nR n 5\na=1;\n\nR y 8\nb=2;c=3;\nR n 0\n\nC 4\nC 2\nC 3\nR y 5\nb=2;\n\nC 5\nC 4\n";
 
 /// The whole run.
 const ROWS: [Row; 17] = [

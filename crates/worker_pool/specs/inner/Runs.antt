@@ -13,7 +13,13 @@ use Rattle.worker_pool.specs.Runs.{RunMembers}
 
 -- members that no run picks
 abbrev pub no_run : RunMembers
-no_run = record { first = End (record { text = []; units = 0; used = 0; rounds = 0; refused = false }); name = None; workers = 0; faults = 0 }
+no_run = record {
+  first = End (record { text = []; units = 0; used = 0; rounds = 0; refused = false });
+  start = record { bytes = [] };
+  name = None;
+  workers = 0;
+  faults = 0;
+}
 
 -- before the first record at most one text is claimed; after a first record that ends the reducer nothing more is recorded or claimed
 abbrev pub StartsAlone : Plan → List Record → List Claim → Type 0
@@ -27,6 +33,7 @@ AtStart first table = HasEnded (after first No) → StartsAlone first table.reco
 -- The board is one of this run.
 pub record IsOfRun {S J : Type 0} (first : S → Plan) (put_so_far : J → Option Put) (faults : J → ℕ) (run : RunMembers) (state : BoardState S J) : Type 0 where
   pub same_first : first state.front ≡ run.first
+  pub same_digest : state.start ≡ run.start
   pub same_name : option_map (λ put. put.name) (put_so_far state.journal) ≡ run.name
   pub all_seats : length state.seats ≡ run.workers
   pub start : AtStart run.first state.table

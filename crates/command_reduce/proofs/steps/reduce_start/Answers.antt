@@ -13,7 +13,7 @@ use Rattle.command_reduce.proofs.steps.reduce_start.Goals as goal
 pub returns-in-Ok-clause-sound : goal.returns-in-Ok-clause-sound
 returns-in-Ok-clause-sound g c =
     let run : Run =
-    run_of g.G.Gate.log g.G.Gate.faults g.J.Sink.put_so_far g.J.Sink.faults c.open_gates.new.workers c.run_opened.new.workers c.args.journal
+    run_of g.G.Gate.log g.G.Gate.faults g.J.Sink.put_so_far g.J.Sink.faults c.open_gates.new.workers c.run_opened.new.workers c.args.journal c.args.digest
     c.run_opened.result in
     let logs = logs_of (seen_gates g.G.Gate.log g.G.Gate.faults c.args.workers.now) in
     record {
@@ -21,7 +21,7 @@ returns-in-Ok-clause-sound g c =
           (length-map c.open_gates.new.workers (λ w. seen g.G.Gate.log g.G.Gate.faults w.gate) ∙ c.open_gates.ensures.as_many ∙ c.requires.jobs)
           (c.in-Ok.ensures.opened ∙ ap (λ n. opened_from (reduce_read c.args.line.now) 1 n logs) c.requires.jobs) c.run_opened.ensures.sound.answers;
       journal =
-          inl (subst (λ (n : ℕ). JournalAfter n (reduce_read c.args.line.now).journal run.history run.before.journal run.after.journal run.outcome)
+          inl (subst (λ (n : ℕ). JournalAfter n (reduce_read c.args.line.now).journal run.start run.history run.before.journal run.after.journal run.outcome)
           c.open_gates.ensures.as_many
           c.run_opened.ensures.sound.journal);
     }
@@ -29,6 +29,7 @@ returns-in-Ok-clause-sound g c =
 pub returns-in-Ok-clause-problem : goal.returns-in-Ok-clause-problem
 returns-in-Ok-clause-problem g c one is =
     let run : Run = run_of g.G.Gate.log g.G.Gate.faults g.J.Sink.put_so_far g.J.Sink.faults c.open_gates.new.workers c.run_opened.new.workers c.args.journal
+    c.args.digest
     c.run_opened.result in
     started_of (stays_admit c.args.guard) one run (length c.args.workers.now)
     (seen_gates g.G.Gate.log g.G.Gate.faults c.args.workers.now) c.open_gates.ensures.as_many c.in-Ok.ensures.quiet
@@ -37,7 +38,8 @@ returns-in-Ok-clause-problem g c one is =
 pub returns-in-Err-clause-sound : goal.returns-in-Err-clause-sound
 returns-in-Err-clause-sound g c =
     let run : Run =
-    run_of g.G.Gate.log g.G.Gate.faults g.J.Sink.put_so_far g.J.Sink.faults c.args.workers.now c.open_gates.new.workers c.args.journal c.without_gate.result in
+    run_of g.G.Gate.log g.G.Gate.faults g.J.Sink.put_so_far g.J.Sink.faults c.args.workers.now c.open_gates.new.workers c.args.journal c.args.digest
+    c.without_gate.result in
     let same = ap (seen g.J.Sink.put_so_far g.J.Sink.faults) c.without_gate.ensures.journal in
     record {
       records = refused_sound (reduce_read c.args.line.now) g.G.Gate.may_say run c.in-Err.fault c.without_gate.ensures.events
@@ -58,6 +60,7 @@ returns-in-Err-clause-sound g c =
 pub returns-in-Err-clause-problem : goal.returns-in-Err-clause-problem
 returns-in-Err-clause-problem g c one is =
     let run : Run = run_of g.G.Gate.log g.G.Gate.faults g.J.Sink.put_so_far g.J.Sink.faults c.args.workers.now c.open_gates.new.workers c.args.journal
+    c.args.digest
     c.without_gate.result in
     unopened_of (stays_admit c.args.guard) one run c.without_gate.ensures.events
     (ap g.J.Sink.faults c.without_gate.ensures.journal) c.in-Err.fault.worker c.in-Err.fault.fault c.without_gate.ensures.outcome

@@ -11,6 +11,7 @@ pub returns-in-Ok-clause-sound : goal.returns-in-Ok-clause-sound
 returns-in-Ok-clause-sound g c =
     let run : Run =
     run_of g.G.Gate.log g.G.Gate.faults g.J.Sink.put_so_far g.J.Sink.faults c.args.workers.now c.run_problem.new.workers c.open_journal.new.journal
+    c.args.digest
     c.run_problem.result in
     sound_since (reduce_read c.args.line.now).journal run
     (seen g.J.Sink.put_so_far g.J.Sink.faults c.args.journal) c.in-Ok.ensures.opened c.in-Ok.ensures.quiet g.G.Gate.may_say c.run_problem.ensures.sound
@@ -18,7 +19,7 @@ returns-in-Ok-clause-sound g c =
 pub returns-in-Ok-clause-problem : goal.returns-in-Ok-clause-problem
 returns-in-Ok-clause-problem g c one is =
     let run : Run = run_of g.G.Gate.log g.G.Gate.faults g.J.Sink.put_so_far g.J.Sink.faults c.args.workers.now c.run_problem.new.workers
-    c.open_journal.new.journal c.run_problem.result in
+    c.open_journal.new.journal c.args.digest c.run_problem.result in
     run_since (reduce_read c.args.line.now).journal run
     (seen g.J.Sink.put_so_far g.J.Sink.faults c.args.journal) c.in-Ok.ensures.opened c.in-Ok.ensures.quiet (stays_admit c.args.guard) one
     (c.run_problem.ensures.problem one is)
@@ -26,7 +27,8 @@ returns-in-Ok-clause-problem g c one is =
 pub returns-in-Err-clause-sound : goal.returns-in-Err-clause-sound
 returns-in-Err-clause-sound g c =
     let run : Run =
-    run_of g.G.Gate.log g.G.Gate.faults g.J.Sink.put_so_far g.J.Sink.faults c.args.workers.now c.args.workers.now c.args.journal c.refused.result in
+    run_of g.G.Gate.log g.G.Gate.faults g.J.Sink.put_so_far g.J.Sink.faults c.args.workers.now c.args.workers.now c.args.journal c.args.digest
+    c.refused.result in
     unopened_sound run c.in-Err.fault c.refused.ensures.events c.refused.ensures.outcome refl
     (ap g.J.Sink.put_so_far c.refused.ensures.journal ∙ c.in-Err.ensures.kept)
     (subst (λ (n : ℕ). OpeningFails (g.J.Sink.faults c.args.journal) n c.in-Err.fault)
@@ -35,7 +37,7 @@ returns-in-Err-clause-sound g c =
 
 pub returns-in-Err-clause-problem : goal.returns-in-Err-clause-problem
 returns-in-Err-clause-problem g c one is =
-    let run : Run = run_of g.G.Gate.log g.G.Gate.faults g.J.Sink.put_so_far g.J.Sink.faults c.args.workers.now c.args.workers.now c.args.journal
+    let run : Run = run_of g.G.Gate.log g.G.Gate.faults g.J.Sink.put_so_far g.J.Sink.faults c.args.workers.now c.args.workers.now c.args.journal c.args.digest
     c.refused.result in
     unopened_run run c.in-Err.fault c.refused.ensures.events c.refused.ensures.outcome refl
     (ap g.J.Sink.put_so_far c.refused.ensures.journal ∙ c.in-Err.ensures.kept)

@@ -5,7 +5,7 @@ use Rattle.reduce_journal.proofs.read.read_events.Given as goal
 
 abbrev pub invariant-loop-event : goal.invariant-loop-event
 invariant-loop-event l = record {
-  events : HasEvents l.bytes l.events.items l.rest;
+  events : HasEvents l.bytes l.fn.head l.events.items l.rest;
   records : l.records ≡ length (records_of l.events.items);
   few : l.records + length l.rest ≤ length l.bytes;
 }

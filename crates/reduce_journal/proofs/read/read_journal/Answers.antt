@@ -1,30 +1,31 @@
-use Rattle.std.proofs.Common.{drop}
-use Rattle.std.proofs.lemmas.Bool.Decides.{Decides-eqb}
-use Rattle.std.proofs.lemmas.Slice.Eq.{starts_is}
-use Rattle.std.proofs.lemmas.Result.{IfOk-at_ok}
-use Rattle.reduce_journal.specs.Journal.{IsJournalOf, head}
-use Rattle.reduce_journal.proofs.Journals.{gives_bad, gives_journal}
+use Rattle.std.proofs.Common.{subst, refl}
+use Rattle.std.proofs.lemmas.Result.{err_from_is_err_and}
+use Rattle.reduce_journal.specs.History.{History}
+use Rattle.reduce_journal.specs.Journal.{IsStart}
+use Rattle.reduce_journal.proofs.Journals.{fails_as_bad, fails_as_journal, not_both, read_again}
 use Rattle.reduce_journal.proofs.read.read_journal.Goals as goal
 
-pub read_events-requires : goal.read_events-requires
-read_events-requires c =
-    (drop 17 c.args.bytes.now, (starts_is Decides-eqb c.args.bytes.now head c.starts_with.result c.starts_with.ensures.value).0 c.if-not-starts_with.false)
+pub returns-in_err-events-clause-each_journal : goal.returns-in_err-events-clause-each_journal
+returns-in_err-events-clause-each_journal c = λ first events torn is.
+    let p = err_from_is_err_and c.from_residual.result c.from_residual.ensures.1 in
+    rw (p.1, p.2) (fails_as_journal c.args.bytes.now c.in_err-events.field-0.0 c.in_err-events.ensures.head c.in_err-events.ensures.bad_record first events torn
+    is)
+
+pub returns-in_err-events-clause-each_bad_record : goal.returns-in_err-events-clause-each_bad_record
+returns-in_err-events-clause-each_bad_record c = λ offset is.
+    let p = err_from_is_err_and c.from_residual.result c.from_residual.ensures.1 in
+    rw (p.1, p.2) (fails_as_bad c.args.bytes.now c.in_err-events.field-0.0 c.in_err-events.ensures.head c.in_err-events.ensures.bad_record offset is)
 
 pub returns-clause-each_journal : goal.returns-clause-each_journal
-returns-clause-each_journal c = λ events torn is.
-    gives_journal c.args.bytes.now c.read_events.result events torn
-    (λ journal e. IfOk-at_ok (λ journal. IsJournalOf c.args.bytes.now journal.events.items journal.torn) e c.read_events.ensures.journal)
-    (λ e. absurd (c.read_events.ensures.head e)) c.read_events.ensures.bad_record is
-
-pub returns-clause-bad_head : goal.returns-clause-bad_head
-returns-clause-bad_head c = (
-  λ e. absurd (c.read_events.ensures.head e),
-  λ lacks. absurd (lacks (drop 17 c.args.bytes.now)
-      ((starts_is Decides-eqb c.args.bytes.now head c.starts_with.result c.starts_with.ensures.value).0 c.if-not-starts_with.false)),
-)
+returns-clause-each_journal c = λ first events torn is.
+    read_again c.args.bytes.now c.in-Some.head first c.in_ok-events.events.items events c.in_ok-events.torn torn _ c.in_ok-events.ensures.journal
+    (record {
+      version = c.version.ensures;
+      start = subst (λ (h : History). IsStart c.in-Some.head h c.start_of.result) c.deref.ensures.value c.start_of.ensures;
+      events = refl;
+      torn = refl;
+    }) is
 
 pub returns-clause-each_bad_record : goal.returns-clause-each_bad_record
-returns-clause-each_bad_record c = λ offset is.
-    gives_bad c.args.bytes.now c.read_events.result offset
-    (λ journal e. IfOk-at_ok (λ journal. IsJournalOf c.args.bytes.now journal.events.items journal.torn) e c.read_events.ensures.journal)
-    (λ e. absurd (c.read_events.ensures.head e)) c.read_events.ensures.bad_record is
+returns-clause-each_bad_record c = λ offset bad.
+    absurd (not_both c.args.bytes.now c.in-Some.head c.in_ok-events.events.items c.in_ok-events.torn offset c.in_ok-events.ensures.journal bad)

@@ -8,6 +8,7 @@ pub returns-clause-sound : goal.returns-clause-sound
 returns-clause-sound g c =
     let run : Run =
     run_of g.G.Gate.log g.G.Gate.faults g.J.Sink.put_so_far g.J.Sink.faults c.args.workers.now c.run_all-front.new.workers c.args.journal
+    c.args.start
     (record { journal = c.run_all-front.result.journal; events = c.run_all-front.result.events; outcome = c.result_of-outcome.result }) in
     record {
       answers = record {
@@ -24,6 +25,7 @@ pub returns-clause-in_mode : goal.returns-clause-in_mode
 returns-clause-in_mode g c input same =
     let run : Run =
     run_of g.G.Gate.log g.G.Gate.faults g.J.Sink.put_so_far g.J.Sink.faults c.args.workers.now c.run_all-front.new.workers c.args.journal
+    c.args.start
     (record { journal = c.run_all-front.result.journal; events = c.run_all-front.result.events; outcome = c.result_of-outcome.result }) in
     let ran =
     run_from run.workers g.G.Gate.may_say _ _ _ c.run_all-front.result.fault run.history run.before.gates run.after.gates same c.run_all-front.ensures.ran in

@@ -32,4 +32,4 @@ returns-in-Ok-clause-journal g c =
     left g.S.Step.plan g.S.Step.first g.G.Gate.may_say g.J.Sink.put_so_far g.J.Sink.faults g.G.Gate.log g.G.Gate.faults c.in-Ok.board c.run_workers.result
     c.args.front (ap (λ b. b.front) c.in-Ok.ensures.board)
     c.args.workers.now c.run_workers.new.workers c.requires.idle c.run_workers.ensures.outcome c.run_workers.ensures.workers c.run_workers.ensures.one
-    (g.J.Sink.put_so_far c.args.journal) c.in-Ok.ensures.name c.requires.empty
+    c.args.start (ap (λ b. b.start) c.in-Ok.ensures.board) (g.J.Sink.put_so_far c.args.journal) c.in-Ok.ensures.name c.requires.empty

@@ -9,13 +9,14 @@ use Rattle.run_problem.proofs.run.lines_result.Goals as goal
 pub returns-in-Err-clause-sound : goal.returns-in-Err-clause-sound
 returns-in-Err-clause-sound g c =
     let run : Run =
-    run_of g.G.Gate.log g.G.Gate.faults g.J.Sink.put_so_far g.J.Sink.faults c.args.workers.now c.args.workers.now c.args.journal c.refused.result in
+    run_of g.G.Gate.log g.G.Gate.faults g.J.Sink.put_so_far g.J.Sink.faults c.args.workers.now c.args.workers.now c.args.journal c.args.digest
+    c.refused.result in
     refused_sound run c.refused.ensures.events c.refused.ensures.outcome
     (ap (reached g.G.Gate.log g.G.Gate.faults g.J.Sink.put_so_far g.J.Sink.faults c.args.workers.now) c.refused.ensures.journal) g.G.Gate.may_say
 
 pub returns-in-Err-clause-problem : goal.returns-in-Err-clause-problem
 returns-in-Err-clause-problem g c =
-    let run : Run = run_of g.G.Gate.log g.G.Gate.faults g.J.Sink.put_so_far g.J.Sink.faults c.args.workers.now c.args.workers.now c.args.journal
+    let run : Run = run_of g.G.Gate.log g.G.Gate.faults g.J.Sink.put_so_far g.J.Sink.faults c.args.workers.now c.args.workers.now c.args.journal c.args.digest
     c.refused.result in
     refused_of run c.refused.ensures.events c.refused.ensures.outcome
     (ap (reached g.G.Gate.log g.G.Gate.faults g.J.Sink.put_so_far g.J.Sink.faults c.args.workers.now) c.refused.ensures.journal)
@@ -26,7 +27,8 @@ returns-in-Ok-clause-problem g c =
     let admits = g.F.Relation.admits c.args.guard.now in
     let input = lines_of admits c.args.start.now in
     let run : Run =
-    run_of g.G.Gate.log g.G.Gate.faults g.J.Sink.put_so_far g.J.Sink.faults c.args.workers.now c.run_to_text.new.workers c.args.journal c.run_to_text.result in
+    run_of g.G.Gate.log g.G.Gate.faults g.J.Sink.put_so_far g.J.Sink.faults c.args.workers.now c.run_to_text.new.workers c.args.journal c.args.digest
+    c.run_to_text.result in
     let ran = c.run_to_text.ensures.in_mode input c.in-Ok.ensures.first in
     let of = ran.history (line_lawful input).keeps (admits_start admits c.args.start.now c.requires.kept) in
     record {

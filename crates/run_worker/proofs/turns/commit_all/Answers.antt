@@ -7,7 +7,13 @@ loop-preserved g c = record {
   way = λ start seat log gate_faults before.
       commit_way g.S.Step.first g.S.Step.plan g.J.Sink.put_so_far g.J.Sink.faults log gate_faults start seat c.loop.board c.commit.new.self
       (c.loop.invariant.way start seat log gate_faults before)
-      (record { table = c.commit.ensures.table; seats = c.commit.ensures.seats; same_first = c.commit.ensures.first; name = c.commit.ensures.name })
+      (record {
+        table = c.commit.ensures.table;
+        seats = c.commit.ensures.seats;
+        same_first = c.commit.ensures.first;
+        same_start = c.commit.ensures.start;
+        name = c.commit.ensures.name;
+      })
       c.commit.result c.commit.ensures.ends c.commit.ensures.failed c.commit.ensures.quiet;
   free =
       λ seat free. free_by_commit g.S.Step.plan g.J.Sink.put_so_far c.loop.board c.commit.new.self c.commit.result c.commit.ensures.ends c.commit.ensures.table
@@ -21,7 +27,13 @@ pub returns-in_default-clause-way : goal.returns-in_default-clause-way
 returns-in_default-clause-way g c = λ start seat log gate_faults before.
     commit_way g.S.Step.first g.S.Step.plan g.J.Sink.put_so_far g.J.Sink.faults log gate_faults start seat c.loop.board c.commit.new.self
     (c.loop.invariant.way start seat log gate_faults before)
-    (record { table = c.commit.ensures.table; seats = c.commit.ensures.seats; same_first = c.commit.ensures.first; name = c.commit.ensures.name })
+    (record {
+      table = c.commit.ensures.table;
+      seats = c.commit.ensures.seats;
+      same_first = c.commit.ensures.first;
+      same_start = c.commit.ensures.start;
+      name = c.commit.ensures.name;
+    })
     c.commit.result c.commit.ensures.ends c.commit.ensures.failed c.commit.ensures.quiet
 
 pub returns-in_default-clause-settled : goal.returns-in_default-clause-settled
@@ -32,5 +44,11 @@ pub returns-in_default-2-clause-way : goal.returns-in_default-2-clause-way
 returns-in_default-2-clause-way g c = λ start seat log gate_faults before.
     commit_way g.S.Step.first g.S.Step.plan g.J.Sink.put_so_far g.J.Sink.faults log gate_faults start seat c.loop.board
     c.commit.new.self (c.loop.invariant.way start seat log gate_faults before)
-    (record { table = c.commit.ensures.table; seats = c.commit.ensures.seats; same_first = c.commit.ensures.first; name = c.commit.ensures.name })
+    (record {
+      table = c.commit.ensures.table;
+      seats = c.commit.ensures.seats;
+      same_first = c.commit.ensures.first;
+      same_start = c.commit.ensures.start;
+      name = c.commit.ensures.name;
+    })
     c.commit.result c.commit.ensures.ends c.commit.ensures.failed c.commit.ensures.quiet

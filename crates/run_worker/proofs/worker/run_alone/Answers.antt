@@ -24,7 +24,7 @@ loop-init g c =
     let log = g.G.Gate.log c.args.gate.now in
     let count = g.G.Gate.faults c.args.gate.now in
     let seat_is : c.index.result.now ≡ new_seat 1 = c.index.ensures ∙ ap (λ (seats : List Seat). get_or seats 0 c.index.result.now) c.requires.seats in
-    let way = new_under_way first plan put faults c.args.board.front c.args.board.journal log count c.requires.first c.requires.head in
+    let way = new_under_way first plan put faults c.args.board.start c.args.board.front c.args.board.journal log count c.requires.first c.requires.head in
     record {
       way = subst (λ seat. IsUnderWay (moment first plan put faults c.args.board log count) (moment first plan put faults c.args.board log count) seat)
           (sym seat_is)
@@ -32,9 +32,9 @@ loop-init g c =
           (sym c.requires.new) way);
       free = subst (λ seat. IsFree seat c.args.board) (sym seat_is)
           (subst (λ state. IsFree (new_seat 1) state) (sym c.requires.new)
-          (new_free first plan put faults c.args.board.front c.args.board.journal));
+          (new_free first plan put faults c.args.board.start c.args.board.front c.args.board.journal));
       settled = subst (λ state. IsSettled plan state) (sym c.requires.new)
-          (new_settled first plan put faults c.args.board.front c.args.board.journal);
+          (new_settled first plan put faults c.args.board.start c.args.board.front c.args.board.journal);
       seats = c.requires.seats;
     }
 
@@ -105,10 +105,12 @@ returns-clause-due g c = λ broken.
     let way = c.turn.ensures.way _ c.loop.invariant.way in
     let put = g.J.Sink.put_so_far in
     let first = g.S.Step.first c.args.board.front in
-    subst (λ journal. IfSome (put journal) (λ p. BrokeWhereDue first c.end.result.events.items p.bytes)) (sym c.end.ensures.journal)
-    (subst (λ history. IfSome (put c.turn.new.board.journal) (λ p. BrokeWhereDue first history p.bytes)) (sym c.end.ensures.events)
-    (subst (λ start. IfSome (put c.turn.new.board.journal) (λ p. BrokeWhereDue start c.turn.new.board.history p.bytes)) way.same_first
-    (c.end.ensures.kept.due (sym c.end.ensures.fault ∙ broken))))
+    let start = c.args.board.start in
+    subst (λ journal. IfSome (put journal) (λ p. BrokeWhereDue first start c.end.result.events.items p.bytes)) (sym c.end.ensures.journal)
+    (subst (λ history. IfSome (put c.turn.new.board.journal) (λ p. BrokeWhereDue first start history p.bytes)) (sym c.end.ensures.events)
+    (subst (λ d. IfSome (put c.turn.new.board.journal) (λ p. BrokeWhereDue first d c.turn.new.board.history p.bytes)) way.same_start
+    (subst (λ plan. IfSome (put c.turn.new.board.journal) (λ p. BrokeWhereDue plan c.turn.new.board.start c.turn.new.board.history p.bytes)) way.same_first
+    (c.end.ensures.kept.due (sym c.end.ensures.fault ∙ broken)))))
 
 pub returns-clause-name : goal.returns-clause-name
 returns-clause-name g c =
@@ -118,18 +120,24 @@ returns-clause-name g c =
 pub returns-clause-journal : goal.returns-clause-journal
 returns-clause-journal g c =
     let way = c.turn.ensures.way _ c.loop.invariant.way in
-    subst (λ journal. IfSome (g.J.Sink.put_so_far journal) (λ put. AreJournalBytes c.end.result.fault c.end.result.events.items put.bytes))
+    subst (λ journal. IfSome (g.J.Sink.put_so_far journal) (λ put. AreJournalBytes c.args.board.start c.end.result.fault c.end.result.events.items put.bytes))
     (sym c.end.ensures.journal)
-    (subst (λ fault. IfSome (g.J.Sink.put_so_far c.turn.new.board.journal) (λ put. AreJournalBytes fault c.end.result.events.items put.bytes))
+    (subst (λ fault. IfSome (g.J.Sink.put_so_far c.turn.new.board.journal)
+    (λ put. AreJournalBytes c.args.board.start fault c.end.result.events.items put.bytes))
     (sym c.end.ensures.fault)
-    (subst (λ history. IfSome (g.J.Sink.put_so_far c.turn.new.board.journal) (λ put. AreJournalBytes c.turn.new.board.fault history put.bytes))
-    (sym c.end.ensures.events) way.written))
+    (subst (λ history. IfSome (g.J.Sink.put_so_far c.turn.new.board.journal)
+    (λ put. AreJournalBytes c.args.board.start c.turn.new.board.fault history put.bytes)) (sym c.end.ensures.events)
+    (subst (λ start. IfSome (g.J.Sink.put_so_far c.turn.new.board.journal)
+    (λ put. AreJournalBytes start c.turn.new.board.fault c.turn.new.board.history put.bytes)) way.same_start way.written)))
 
 pub returns-clause-kept : goal.returns-clause-kept
 returns-clause-kept g c =
-    subst (λ journal. IfSome (g.J.Sink.put_so_far journal) (λ put. IsJournal c.end.result.fault c.end.result.events.items put.bytes))
+    let way = c.turn.ensures.way _ c.loop.invariant.way in
+    subst (λ journal. IfSome (g.J.Sink.put_so_far journal) (λ put. IsJournal c.args.board.start c.end.result.fault c.end.result.events.items put.bytes))
     (sym c.end.ensures.journal)
-    (subst (λ fault. IfSome (g.J.Sink.put_so_far c.turn.new.board.journal) (λ put. IsJournal fault c.end.result.events.items put.bytes))
+    (subst (λ fault. IfSome (g.J.Sink.put_so_far c.turn.new.board.journal) (λ put. IsJournal c.args.board.start fault c.end.result.events.items put.bytes))
     (sym c.end.ensures.fault)
-    (subst (λ history. IfSome (g.J.Sink.put_so_far c.turn.new.board.journal) (λ put. IsJournal c.turn.new.board.fault history put.bytes))
-    (sym c.end.ensures.events) c.end.ensures.kept.journal))
+    (subst (λ history. IfSome (g.J.Sink.put_so_far c.turn.new.board.journal)
+    (λ put. IsJournal c.args.board.start c.turn.new.board.fault history put.bytes)) (sym c.end.ensures.events)
+    (subst (λ start. IfSome (g.J.Sink.put_so_far c.turn.new.board.journal)
+    (λ put. IsJournal start c.turn.new.board.fault c.turn.new.board.history put.bytes)) way.same_start c.end.ensures.kept.journal)))

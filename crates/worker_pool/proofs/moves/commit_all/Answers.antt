@@ -8,7 +8,8 @@ loop-committed-preserved g c = record {
   run =
       λ run of. run_commit g.S.Step.first g.S.Step.plan g.J.Sink.put_so_far g.J.Sink.faults run c.loop-committed.board c.commit.new.self
       (c.loop-committed.invariant.run run of)
-      c.commit.result c.commit.ensures.ends c.commit.ensures.seats c.commit.ensures.first c.commit.ensures.name c.commit.ensures.table c.commit.ensures.failed
+      c.commit.result c.commit.ensures.ends c.commit.ensures.seats c.commit.ensures.start c.commit.ensures.first c.commit.ensures.name c.commit.ensures.table
+      c.commit.ensures.failed
       c.commit.ensures.quiet;
   seats = c.commit.ensures.seats ∙ c.loop-committed.invariant.seats;
 }
@@ -17,7 +18,8 @@ pub returns-in_default-clause-run : goal.returns-in_default-clause-run
 returns-in_default-clause-run g c = λ run of.
     run_commit g.S.Step.first g.S.Step.plan g.J.Sink.put_so_far g.J.Sink.faults run c.loop-committed.board c.commit.new.self
     (c.loop-committed.invariant.run run of)
-    c.commit.result c.commit.ensures.ends c.commit.ensures.seats c.commit.ensures.first c.commit.ensures.name c.commit.ensures.table c.commit.ensures.failed
+    c.commit.result c.commit.ensures.ends c.commit.ensures.seats c.commit.ensures.start c.commit.ensures.first c.commit.ensures.name c.commit.ensures.table
+    c.commit.ensures.failed
     c.commit.ensures.quiet
 
 pub returns-in_default-clause-settled : goal.returns-in_default-clause-settled
@@ -28,5 +30,5 @@ pub returns-in_default-2-clause-run : goal.returns-in_default-2-clause-run
 returns-in_default-2-clause-run g c = λ run of.
     run_commit g.S.Step.first g.S.Step.plan g.J.Sink.put_so_far g.J.Sink.faults run c.loop-committed.board
     c.commit.new.self (c.loop-committed.invariant.run run of)
-    c.commit.result c.commit.ensures.ends c.commit.ensures.seats c.commit.ensures.first c.commit.ensures.name c.commit.ensures.table
+    c.commit.result c.commit.ensures.ends c.commit.ensures.seats c.commit.ensures.start c.commit.ensures.first c.commit.ensures.name c.commit.ensures.table
     c.commit.ensures.failed c.commit.ensures.quiet

@@ -25,6 +25,7 @@ use Rattle.worker_pool.proofs.pool.run_several.Goals as goal
 pub run_named-board-requires-clause-of_run : goal.run_named-board-requires-clause-of_run
 run_named-board-requires-clause-of_run g c κs within = record {
   same_first = refl;
+  same_digest = refl;
   same_name = refl;
   all_seats = ap (λ state. length state.seats) c.requires.board ∙ new_length (length c.args.workers.now);
   start = subst (AtStart (g.S.Step.first c.args.board.front)) (sym (ap (λ state. state.table) c.requires.board)) (λ _. omega arith);
@@ -46,6 +47,7 @@ returns-clause-outcome g c =
     let run = c.run_named-board.ensures.run in
     let n = length c.args.workers.now in
     let first = g.S.Step.first c.args.board.front in
+    let start = c.args.board.start in
     let plan = g.S.Step.plan in
     let put = g.J.Sink.put_so_far in
     let faults = g.J.Sink.faults in
@@ -76,14 +78,16 @@ returns-clause-outcome g c =
       replayed = λ none.
           ap plan end.front ∙ end.kept.replayed (sym end.fault ∙ none) ∙ ap (λ (p : Plan). replay p state.history) run.same_first
           ∙ ap (replay first) (sym end.events);
-      journal = subst (λ journal. IfSome (put journal) (λ p. IsJournal out.fault out.events.items p.bytes)) (sym end.journal)
-          (subst (λ fault. IfSome (put state.journal) (λ p. IsJournal fault out.events.items p.bytes)) (sym end.fault)
-          (subst (λ history. IfSome (put state.journal) (λ p. IsJournal state.fault history p.bytes)) (sym end.events) end.kept.journal));
+      journal = subst (λ journal. IfSome (put journal) (λ p. IsJournal start out.fault out.events.items p.bytes)) (sym end.journal)
+          (subst (λ fault. IfSome (put state.journal) (λ p. IsJournal start fault out.events.items p.bytes)) (sym end.fault)
+          (subst (λ history. IfSome (put state.journal) (λ p. IsJournal start state.fault history p.bytes)) (sym end.events)
+          (subst (λ d. IfSome (put state.journal) (λ p. IsJournal d state.fault state.history p.bytes)) run.same_digest end.kept.journal)));
       due = λ broken.
-          subst (λ journal. IfSome (put journal) (λ p. BrokeWhereDue first out.events.items p.bytes)) (sym end.journal)
-          (subst (λ history. IfSome (put state.journal) (λ p. BrokeWhereDue first history p.bytes)) (sym end.events)
-          (subst (λ (start : Plan). IfSome (put state.journal) (λ p. BrokeWhereDue start state.history p.bytes)) run.same_first
-          (end.kept.due (sym end.fault ∙ broken))));
+          subst (λ journal. IfSome (put journal) (λ p. BrokeWhereDue first start out.events.items p.bytes)) (sym end.journal)
+          (subst (λ history. IfSome (put state.journal) (λ p. BrokeWhereDue first start history p.bytes)) (sym end.events)
+          (subst (λ d. IfSome (put state.journal) (λ p. BrokeWhereDue first d state.history p.bytes)) run.same_digest
+          (subst (λ (begun : Plan). IfSome (put state.journal) (λ p. BrokeWhereDue begun state.start state.history p.bytes)) run.same_first
+          (end.kept.due (sym end.fault ∙ broken)))));
       same_name = ap (λ journal. option_map (λ p. p.name) (put journal)) end.journal ∙ run.same_name;
       rose = λ is. subst (λ journal. Rose (faults c.args.board.journal) (faults journal)) (sym end.journal) (run.rose (sym end.fault ∙ is));
       quiet = λ no. ap faults end.journal ∙ run.quiet (λ is. no (end.fault ∙ is));

@@ -7,12 +7,14 @@ use Rattle.worker_pool.proofs.start.run_one.Goals as goal
 
 pub run_alone-requires-clause-first : goal.run_alone-requires-clause-first
 run_alone-requires-clause-first g c =
-    new_first g.S.Step.plan g.S.Step.first g.G.Gate.may_say g.J.Sink.put_so_far g.J.Sink.faults 1 c.args.board c.args.board.front c.args.board.journal
+    new_first g.S.Step.plan g.S.Step.first g.G.Gate.may_say g.J.Sink.put_so_far g.J.Sink.faults 1 c.args.board c.args.board.start c.args.board.front
+    c.args.board.journal
     c.agrees.ensures.kept c.requires.board
 
 pub run_alone-requires-clause-head : goal.run_alone-requires-clause-head
 run_alone-requires-clause-head g c =
-    new_head g.S.Step.plan g.S.Step.first g.G.Gate.may_say g.J.Sink.put_so_far g.J.Sink.faults 1 c.args.board c.args.board.front c.args.board.journal
+    new_head g.S.Step.plan g.S.Step.first g.G.Gate.may_say g.J.Sink.put_so_far g.J.Sink.faults 1 c.args.board c.args.board.start c.args.board.front
+    c.args.board.journal
     c.agrees.ensures.kept c.requires.board
 
 pub returns-clause-outcome : goal.returns-clause-outcome

@@ -28,10 +28,12 @@ returns-clause-outcome g c =
     let end = c.end-outcome.ensures in
     let out = c.end-outcome.result in
     let none =
-    end.events ∙ no_history g.S.Step.plan g.S.Step.first g.G.Gate.may_say put faults n c.args.board c.args.board.front c.args.board.journal end.kept
+    end.events ∙ no_history g.S.Step.plan g.S.Step.first g.G.Gate.may_say put faults n c.args.board c.args.board.start c.args.board.front
+    c.args.board.journal end.kept
     c.requires.board in
     let head =
-    new_head g.S.Step.plan g.S.Step.first g.G.Gate.may_say put faults n c.args.board c.args.board.front c.args.board.journal end.kept c.requires.board in
+    new_head g.S.Step.plan g.S.Step.first g.G.Gate.may_say put faults n c.args.board c.args.board.start c.args.board.front c.args.board.journal end.kept
+    c.requires.board in
     record {
       history = none_history g.G.Gate.may_say first out.events.items none;
       begins = begins_none (ahead (2 * n) first) out.events.items none;
@@ -42,8 +44,8 @@ returns-clause-outcome g c =
       );
       ended = λ is. absurd (cc is);
       replayed = λ is. absurd (cc is);
-      journal = subst (λ journal. IfSome (put journal) (λ p. IsJournal (Some Memory) out.events.items p.bytes)) (sym end.journal)
-          (subst (λ (h : History). IfSome (put c.args.board.journal) (λ p. IsJournal (Some Memory) h p.bytes)) (sym none) head);
+      journal = subst (λ journal. IfSome (put journal) (λ p. IsJournal c.args.board.start (Some Memory) out.events.items p.bytes)) (sym end.journal)
+          (subst (λ (h : History). IfSome (put c.args.board.journal) (λ p. IsJournal c.args.board.start (Some Memory) h p.bytes)) (sym none) head);
       due = λ is. absurd (cc is);
       same_name = ap (λ journal. option_map (λ p. p.name) (put journal)) end.journal;
       rose = λ is. absurd (cc is);
@@ -55,7 +57,8 @@ returns-clause-workers g c =
     let n = length c.args.workers.now in
     let end = c.end-outcome.ensures in
     let none =
-    end.events ∙ no_history g.S.Step.plan g.S.Step.first g.G.Gate.may_say g.J.Sink.put_so_far g.J.Sink.faults n c.args.board c.args.board.front
+    end.events ∙ no_history g.S.Step.plan g.S.Step.first g.G.Gate.may_say g.J.Sink.put_so_far g.J.Sink.faults n c.args.board c.args.board.start
+    c.args.board.front
     c.args.board.journal end.kept c.requires.board in
     none_done g.G.Gate.log g.G.Gate.faults c.args.workers.now c.end-outcome.result.events.items none c.requires.unseated
 
@@ -68,10 +71,12 @@ returns-clause-one g c = λ d.
     let end = c.end-outcome.ensures in
     let items = c.end-outcome.result.events.items in
     let none =
-    end.events ∙ no_history g.S.Step.plan g.S.Step.first g.G.Gate.may_say put g.J.Sink.faults n c.args.board c.args.board.front c.args.board.journal end.kept
+    end.events ∙ no_history g.S.Step.plan g.S.Step.first g.G.Gate.may_say put g.J.Sink.faults n c.args.board c.args.board.start c.args.board.front
+    c.args.board.journal end.kept
     c.requires.board in
     let head =
-    new_head g.S.Step.plan g.S.Step.first g.G.Gate.may_say put g.J.Sink.faults n c.args.board c.args.board.front c.args.board.journal end.kept
+    new_head g.S.Step.plan g.S.Step.first g.G.Gate.may_say put g.J.Sink.faults n c.args.board c.args.board.start c.args.board.front c.args.board.journal
+    end.kept
     c.requires.board in
     record {
       sequential = none_sequential board.Memory first (Some Memory) items refl none;
@@ -80,6 +85,6 @@ returns-clause-one g c = λ d.
       asked = subst (λ (h : History). log ≡ option_map (with_all_asked (texts_of (records_of h))) log) (sym none) (none_asked log);
       ended = tt;
       caused = (refl, ap g.J.Sink.faults end.journal);
-      journal = subst (λ journal. IfSome (put journal) (λ p. IsJournal (Some Memory) items p.bytes)) (sym end.journal)
-          (subst (λ (h : History). IfSome (put c.args.board.journal) (λ p. IsJournal (Some Memory) h p.bytes)) (sym none) head);
+      journal = subst (λ journal. IfSome (put journal) (λ p. IsJournal c.args.board.start (Some Memory) items p.bytes)) (sym end.journal)
+          (subst (λ (h : History). IfSome (put c.args.board.journal) (λ p. IsJournal c.args.board.start (Some Memory) h p.bytes)) (sym none) head);
     }
