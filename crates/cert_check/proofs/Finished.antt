@@ -62,9 +62,10 @@ not_refused whole guard problem is rs first =
     ∙ ap is_yes (first_verdict (start_text problem) verdict.Yes rs first))
 
 pub finished_runs_are_confirmed : HistoriesGoByQuestions → WholeIsStart → FinishedRunsAreConfirmed
-finished_runs_are_confirmed law whole guard problem history output run = (
+finished_runs_are_confirmed law whole guard problem head history output of_start run = (
   record {
     whole = refl;
+    of_start = of_start;
     legal = (law guard problem run.is_problem history).legal run.distinct run.readable run.legal;
     candidates = run.candidates;
   },

@@ -11,7 +11,7 @@ use Rattle.ordered_commit_moves.specs.Replay.{IsLegal, record_at}
 use Rattle.cert_check.specs.Findings.{IsFirstIllegal, IsFirstOther, IsSoundRun}
 use Rattle.cert_check.specs.declared.finding.Finding.{Finding}
 use Rattle.cert_check.specs.declared.finding.Finding.TheVariants.{Yes, No}
-use Rattle.cert_check.specs.declared.finding.Why.TheVariants.{Torn, NotLegal, NotCandidate, Unfinished, StartIsNo, OtherResult}
+use Rattle.cert_check.specs.declared.finding.Why.TheVariants.{Torn, OtherStart, NotLegal, NotCandidate, Unfinished, StartIsNo, OtherResult}
 use Rattle.cert_check.specs.Laws.{LegalHistoriesFollow}
 use Rattle.cert_check.specs.inner.Asked.{MarkedMayBeAsked}
 use Rattle.cert_check.specs.inner.Replayed.{IsReplayed}
@@ -26,8 +26,8 @@ one_end one other e = cc e
 
 module _ (first plan : Plan) (history : History) (output : List ℕ) (legal : IsLegal first history)
     (is : plan ≡ follow (verdict_in (records_of history)) first) where
-  any : IsSoundRun first (λ text. Unit {0}) history 0
-  any = record { whole = refl; legal = legal; candidates = λ k d lt. tt }
+  any : IsSoundRun first (λ text. Unit {0}) (Unit {0}) history 0
+  any = record { whole = refl; of_start = tt; legal = legal; candidates = λ k d lt. tt }
 
   pub unfinished : ¬ HasEnded plan → IsFindingOfEnd first output history (No Unfinished)
   unfinished not = (any, λ ended. not (ap asked is ∙ ended))
@@ -59,12 +59,13 @@ module _ (first : Plan) (Is : List ℕ → Type 0) (output : List ℕ) (history 
   at_end : (finding : Finding) → IsLegal first history → All (λ (r : Record). Is r.text) (records_of history) → IsFindingOfEnd first output history finding
       → IsFindingOfPlan first Is output history 0 finding
   at_end (No (Torn bytes)) legal all f = absurd (f.1 (sym f.0))
-  at_end (No (NotLegal event)) legal all f = absurd ((f.1).illegal (legal_take first history event legal))
-  at_end (No (NotCandidate number)) legal all f = absurd ((f.2).other tt)
-  at_end (No Unfinished) legal all f = (record { whole = refl; legal = legal; candidates = all }, f.1)
-  at_end (No StartIsNo) legal all f = (record { whole = refl; legal = legal; candidates = all }, f.1, f.2)
-  at_end (No OtherResult) legal all f = (record { whole = refl; legal = legal; candidates = all }, f.1, f.2, f.3)
-  at_end Yes legal all f = (record { whole = refl; legal = legal; candidates = all }, f.1, f.2, f.3)
+  at_end (No OtherStart) legal all f = absurd (f.1 tt)
+  at_end (No (NotLegal event)) legal all f = absurd ((f.2).illegal (legal_take first history event legal))
+  at_end (No (NotCandidate number)) legal all f = absurd ((f.3).other tt)
+  at_end (No Unfinished) legal all f = (record { whole = refl; of_start = tt; legal = legal; candidates = all }, f.1)
+  at_end (No StartIsNo) legal all f = (record { whole = refl; of_start = tt; legal = legal; candidates = all }, f.1, f.2)
+  at_end (No OtherResult) legal all f = (record { whole = refl; of_start = tt; legal = legal; candidates = all }, f.1, f.2, f.3)
+  at_end Yes legal all f = (record { whole = refl; of_start = tt; legal = legal; candidates = all }, f.1, f.2, f.3)
 
   pub found : LegalHistoriesFollow → (plan ended : Plan) (table : TableState) (marks : List Bool) (finding : Finding)
       → IsReplayed first history plan table marks → ended ≡ follow (verdict_in table.records) plan → All (λ (r : Record). Is r.text) table.records
@@ -90,7 +91,7 @@ module _ (first : Plan) (Is : List ℕ → Type 0) (output : List ℕ) (history 
       → records ≡ table.records → (number : ℕ) → IsFirstOther Is records number
       → IsFindingOfPlan first Is output history 0 (No (NotCandidate number))
   found_other plan table marks it records records_are number other =
-      (refl, it.legal, subst (λ (rs : List Record). IsFirstOther Is rs number) (records_are ∙ it.records) other)
+      (refl, tt, it.legal, subst (λ (rs : List Record). IsFirstOther Is rs number) (records_are ∙ it.records) other)
 
 -- the texts of all records, as they are lent
 pub all_candidates : (Is : List ℕ → Type 0) (table : TableState) (records : List Record) → records ≡ table.records

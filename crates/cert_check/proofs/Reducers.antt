@@ -123,7 +123,8 @@ not_true b not = by (cases_Bool b)
 
 line_reduces : lines.LinesEndMinimal → (guard : Admits) (V : List ℕ → Option Verdict) (start text : List ℕ)
     → guard (numbers_of (numbered_lines start)) start ≡ true → HasVerdicts V (questions_of guard (Problem.of_lines start) V)
-    → refuses guard (Problem.of_lines start) V ≡ false → text ≡ (recursion_of guard (Problem.of_lines start)).text (reduction_of guard (Problem.of_lines start) V).state
+    → refuses guard (Problem.of_lines start) V ≡ false
+    → text ≡ (recursion_of guard (Problem.of_lines start)).text (reduction_of guard (Problem.of_lines start) V).state
     → IsReductionOf guard V (Problem.of_lines start) text
 line_reduces minimal guard V start text kept defined interesting is_text =
     let over : Reduction (List Line) = reduction_of guard (Problem.of_lines start) V in
@@ -141,12 +142,12 @@ line_reduces minimal guard V start text kept defined interesting is_text =
 
 pub confirmed_are_reductions : lines.LinesEndMinimal → IsTreeMode (round_trials Perses) (IsEditBy Perses) → IsTreeMode (round_trials Hdd) (IsEditBy Hdd)
     → WalksAreRecursions Perses (round_trials Perses) → WalksAreRecursions Hdd (round_trials Hdd) → ConfirmedAreReductions
-confirmed_are_reductions minimal visits levels by_visits by_levels guard (Problem.of_lines start) output history torn is guarded kept it =
+confirmed_are_reductions minimal visits levels by_visits by_levels guard (Problem.of_lines start) output head history torn is guarded kept it =
     line_reduces minimal guard (verdict_in (records_of history)) start output kept it.1
     (not_true (refuses guard (Problem.of_lines start) (verdict_in (records_of history))) it.2) it.3
-confirmed_are_reductions minimal visits levels by_visits by_levels guard (Problem.of_tree Perses input) output history torn is guarded kept it =
+confirmed_are_reductions minimal visits levels by_visits by_levels guard (Problem.of_tree Perses input) output head history torn is guarded kept it =
     tree_reduces Perses visits input is kept by_visits guard guarded (verdict_in (records_of history)) output it.1
     (not_true (refuses guard (Problem.of_tree Perses input) (verdict_in (records_of history))) it.2) it.3
-confirmed_are_reductions minimal visits levels by_visits by_levels guard (Problem.of_tree Hdd input) output history torn is guarded kept it =
+confirmed_are_reductions minimal visits levels by_visits by_levels guard (Problem.of_tree Hdd input) output head history torn is guarded kept it =
     tree_reduces Hdd levels input is kept by_levels guard guarded (verdict_in (records_of history)) output it.1
     (not_true (refuses guard (Problem.of_tree Hdd input) (verdict_in (records_of history))) it.2) it.3

@@ -1,5 +1,5 @@
 -- From what is found of a reducer's run to what is found of a problem, and from a yes to its reduction.
-use Rattle.std.proofs.Common.{◌≡◌, ◌≢◌, ◌≤◌, ℕ, Bool, true, false, List, Option, Some, None, Result, Ok, Err, length, refl, sym, ap, ◌∙◌, subst}
+use Rattle.std.proofs.Common.{◌≡◌, ◌≢◌, ◌⊎◌, inl, inr, ◌≤◌, ℕ, Bool, true, false, List, Option, Some, None, Result, Ok, Err, length, refl, sym, ap, ◌∙◌, subst}
 use Rattle.std.specs.Prelude.{◌↔◌, IfOk, MatchOption, string_bytes}
 use Rattle.std.specs.Str.{chars}
 use Rattle.grammar_tree.specs.Written.{CheckedGrammar}
@@ -10,6 +10,8 @@ use Rattle.reduce_core.specs.Candidates.{IsLineCandidate}
 use Rattle.reduce_core.specs.Reduction.{Admits}
 use Rattle.reduce_step.specs.Limits.{text_limit}
 use Rattle.reduce_step.specs.Plan.{Plan}
+use Rattle.reduce_journal.specs.declared.head.Head.{Head}
+use Rattle.reduce_journal.specs.declared.head.Head.TheVariants.{Version1}
 use Rattle.reduce_journal.specs.History.{History, records_of}
 use Rattle.reduce_trees_mode.specs.Input.{TreeInput}
 use Rattle.reduce_trees_input.specs.Laws.{InputsAreOne}
@@ -17,7 +19,7 @@ use Rattle.reduce_trees.specs.Ends.{AdmitsStart}
 use Rattle.reduce_trees_input.specs.Parsed.{IsInputOf, IsParsed, MakesInputOf, tree_input}
 use Rattle.reduce_trees_input.specs.declared.parsed.ParsedInput.{ParsedInput}
 use Rattle.syntax_tree.specs.Trees.{leaves}
-use Rattle.run_problem.specs.Problem.{IsCandidateOf, IsProblem, IsReductionOf, Problem}
+use Rattle.run_problem.specs.Problem.{IsCandidateOf, IsProblem, IsReductionOf, Problem, start_text}
 use Rattle.run_problem.specs.Read.{IsFoundIn}
 use Rattle.run_problem.specs.Reducer.{reducer_of}
 use Rattle.lexer.specs.Tokens.{HasTokens}
@@ -25,10 +27,10 @@ use Rattle.token_laws.specs.Laws.{TokensAreUnique}
 use Rattle.verdict_table.specs.TableState.{verdict_in}
 use Rattle.cert_check.specs.declared.finding.Finding.{Finding}
 use Rattle.cert_check.specs.declared.finding.Finding.TheVariants.{Yes, No}
-use Rattle.cert_check.specs.declared.finding.Why.TheVariants.{Torn}
+use Rattle.cert_check.specs.declared.finding.Why.TheVariants.{Torn, OtherStart}
 use Rattle.cert_check.specs.declared.setup.Setup.{Setup}
 use Rattle.cert_check.specs.declared.setup.Setup.TheVariants as setup
-use Rattle.cert_check.specs.Findings.{IsConfirmed, IsFound}
+use Rattle.cert_check.specs.Findings.{IsConfirmed, IsFinishedRun, IsFound, IsItsResult, IsOfStart, RefusesStart}
 use Rattle.cert_check.specs.Laws.{ConfirmedAreReductions, FinishedRunsAreConfirmed, IsGuardedBy, IsRunTo, IsStartAdmitted}
 use Rattle.cert_check.specs.Laws.{OneIsFound, ReducersAreReductions}
 use Rattle.cert_check.specs.Setup.{CanBeChecked, HasOptions, IsSetupOf, admits_in}
@@ -36,35 +38,53 @@ use Rattle.cert_check_texts.specs.Laws.{IsInputFrom}
 use Rattle.cert_check_texts.specs.Texts.{IsTreeStart, TreeStart}
 use Rattle.cert_check.specs.inner.Inputs.{IsFindingOfSetup}
 use Rattle.cert_check.specs.inner.Steps.{IsFindingOfPlan}
-use Rattle.cert_check.proofs.Words.{in_words}
+use Rattle.cert_check.proofs.Words.{alike, in_words}
 
 -- what is found of a reducer's run is found of its problem
 pub found_of : ReducersAreReductions → (guard : Admits) (problem : Problem) → IsProblem problem → (Is : List ℕ → Type 0)
     → ((text : List ℕ) → Is text ↔ IsCandidateOf guard problem text) → (output : List ℕ) (history : History) (torn : ℕ) (first : Plan)
     → first ≡ reducer_of guard problem → {E : Type 0} (r : Result Finding E) → IfOk r (IsFindingOfPlan first Is output history torn)
-    → IfOk r (IsFound guard problem output history torn)
+    → IfOk r (IsFound guard problem output Version1 history torn)
 found_of reducers guard problem is Is same output history torn first first_is (Ok finding) found =
     in_words guard problem is reducers Is same output history torn finding
     (subst (λ (p : Plan). IsFindingOfPlan p Is output history torn finding) first_is found)
 found_of reducers guard problem is Is same output history torn first first_is (Err e) found = tt
 
--- a journal that is torn is found first
-pub torn_found : (guard : Admits) (problem : Problem) (output : List ℕ) (history : History) (torn : ℕ) (finding : Finding)
-    → (finding ≡ No (Torn torn)) × (torn ≢ 0) → IsFound guard problem output history torn finding
-torn_found guard problem output history torn finding it =
-    subst (IsFound guard problem output history torn) (sym it.0) (refl, it.1)
+-- a journal that is torn, or of another start, is found first
+pub other_found : (guard : Admits) (problem : Problem) (output : List ℕ) (head : Head) (history : History) (torn : ℕ) (start : List ℕ)
+    → start_text problem ≡ start → (finding : Finding)
+    → ((finding ≡ No (Torn torn)) × (torn ≢ 0)) ⊎ ((finding ≡ No OtherStart) × (torn ≡ 0) × (¬ IsOfStart head start))
+    → IsFound guard problem output head history torn finding
+other_found guard problem output head history torn start same finding (inl it) =
+    subst (IsFound guard problem output head history torn) (sym it.0) (refl, it.1)
+other_found guard problem output head history torn start same finding (inr it) =
+    subst (IsFound guard problem output head history torn) (sym it.0) (it.1, λ of. it.2 (subst (IsOfStart head) same of))
 
--- what is found where nothing is torn
-pub whole_found : (guard : Admits) (problem : Problem) (output : List ℕ) (history : History) (torn : ℕ) → torn ≡ 0 → {E : Type 0} (r : Result Finding E)
-    → IfOk r (IsFound guard problem output history 0) → IfOk r (IsFound guard problem output history torn)
-whole_found guard problem output history torn whole r found =
-    subst (λ (t : ℕ). IfOk r (IsFound guard problem output history t)) (sym whole) found
+-- what is found where nothing is torn, and the journal is of this start
+pub of_whole : (guard : Admits) (problem : Problem) (output : List ℕ) (head : Head) (history : History) (torn : ℕ) (start : List ℕ)
+    → start_text problem ≡ start → (torn ≡ 0) × IsOfStart head start → (finding : Finding) → IsFound guard problem output Version1 history 0 finding
+    → IsFound guard problem output head history torn finding
+of_whole guard problem output head history torn start same whole finding found =
+    let of : IsOfStart head (start_text problem) = subst (IsOfStart head) (sym same) whole.1 in
+    let Is : List ℕ → Type 0 = IsCandidateOf guard problem in
+    let F : Type 0 = IsFinishedRun guard problem history in
+    let R : Type 0 = RefusesStart guard problem history in
+    let T : Type 0 = IsItsResult guard problem history output in
+    subst (λ (t : ℕ). IsFound guard problem output head history t finding) (sym whole.0)
+    (alike (reducer_of guard problem) Is Is (λ text. (λ it. it, λ it. it)) (Unit {0}) (IsOfStart head (start_text problem)) (λ it. of, λ it. tt)
+    F F (λ it. it, λ it. it) R R (λ done. (λ it. it, λ it. it)) T T (λ done. (λ it. it, λ it. it)) history 0 finding found)
 
--- a journal isn't torn, or it is
-pub not_torn : (torn : ℕ) (o : Option Finding) → ((finding : Finding) → o ≡ Some finding → ⊥)
-    → MatchOption o (torn ≡ 0) (λ finding. (finding ≡ No (Torn torn)) × (torn ≢ 0)) → torn ≡ 0
-not_torn torn None not it = it
-not_torn torn (Some finding) not it = absurd (not finding refl)
+-- it is of this start and nothing is torn, or that is found
+pub not_other : {A : Type 0} (Other : Finding → Type 0) (o : Option Finding) → ((finding : Finding) → o ≡ Some finding → ⊥) → MatchOption o A Other → A
+not_other Other None not it = it
+not_other Other (Some finding) not it = absurd (not finding refl)
+
+-- of a journal that isn't torn it is said by its head
+pub by_head : (torn : ℕ) (Of : Type 0) (o : Option Finding) → torn ≡ 0 → MatchOption o Of (λ finding. (finding ≡ No OtherStart) × (¬ Of))
+    → MatchOption o ((torn ≡ 0) × Of)
+    (λ finding. ((finding ≡ No (Torn torn)) × (torn ≢ 0)) ⊎ ((finding ≡ No OtherStart) × (torn ≡ 0) × (¬ Of)))
+by_head torn Of None whole it = (whole, it)
+by_head torn Of (Some finding) whole it = inr (it.0, whole, it.1)
 
 -- ---- of lines
 
@@ -156,23 +176,26 @@ one_problem law (setup.Tree grammar start mode squeeze keeps) problem other (inp
     (options.squeezes ∙ sym options'.squeezes)) ∙ sym also
 
 -- what is found of its problem is found of each that it is
-pub found_everywhere : InputsAreOne → (it : Setup) (output : List ℕ) (history : History) (torn : ℕ) (finding : Finding)
-    → IsFindingOfSetup it output history torn finding → (problem : Problem) → IsSetupOf it problem → IsFound (admits_in it) problem output history torn finding
-found_everywhere law it output history torn finding (own, is, found) problem also =
-    subst (λ (p : Problem). IsFound (admits_in it) p output history torn finding) (one_problem law it own problem is also) found
+pub found_everywhere : InputsAreOne → (it : Setup) (output : List ℕ) (head : Head) (history : History) (torn : ℕ) (finding : Finding)
+    → IsFindingOfSetup it output head history torn finding → (problem : Problem) → IsSetupOf it problem
+    → IsFound (admits_in it) problem output head history torn finding
+found_everywhere law it output head history torn finding (own, is, found) problem also =
+    subst (λ (p : Problem). IsFound (admits_in it) p output head history torn finding) (one_problem law it own problem is also) found
 
 -- a yes is a reduction
 pub reduction_of_yes : ConfirmedAreReductions → (it : Setup) (problem : Problem) → CanBeChecked it → IsSetupOf it problem
-    → (output : List ℕ) (history : History) (torn : ℕ) (finding : Finding) → IsFound (admits_in it) problem output history torn finding
+    → (output : List ℕ) (head : Head) (history : History) (torn : ℕ) (finding : Finding) → IsFound (admits_in it) problem output head history torn finding
     → finding ≡ Yes → IsReductionOf (admits_in it) (verdict_in (records_of history)) problem output
-reduction_of_yes law it problem can is output history torn finding found answer =
+reduction_of_yes law it problem can is output head history torn finding found answer =
     let holds = setup_holds it problem can is in
-    law (admits_in it) problem output history torn holds.0 holds.1 holds.2 (subst (IsFound (admits_in it) problem output history torn) answer found)
+    law (admits_in it) problem output head history torn holds.0 holds.1 holds.2
+    (subst (IsFound (admits_in it) problem output head history torn) answer found)
 
 -- the files of a run that came to its end are answered yes
 pub yes_of_run : OneIsFound → FinishedRunsAreConfirmed
-    → (guard : Admits) (problem : Problem) (output : List ℕ) (history : History) (torn : ℕ) (finding : Finding)
-    → IsFound guard problem output history torn finding → torn ≡ 0 → IsRunTo guard problem history output → finding ≡ Yes
-yes_of_run one law guard problem output history torn finding found whole run =
-    one guard problem output history torn finding Yes found
-    (subst (λ (t : ℕ). IsConfirmed guard problem output history t) (sym whole) (law guard problem history output run))
+    → (guard : Admits) (problem : Problem) (output : List ℕ) (head : Head) (history : History) (torn : ℕ) (finding : Finding)
+    → IsFound guard problem output head history torn finding → torn ≡ 0 → IsOfStart head (start_text problem) → IsRunTo guard problem history output
+    → finding ≡ Yes
+yes_of_run one law guard problem output head history torn finding found whole of_start run =
+    one guard problem output head history torn finding Yes found
+    (subst (λ (t : ℕ). IsConfirmed guard problem output head history t) (sym whole) (law guard problem head history output of_start run))

@@ -1,5 +1,5 @@
 -- What is found in the files of a run, its output and its journal. They are those of a finished run, or there is a first cause why not.
-use Rattle.std.specs.Prelude.{◌≡◌, ◌≢◌, ◌<◌, ◌≤◌, ℕ, List, All, Option, Some, None, true, length, take, ◌==◌, if◌then◌else◌}
+use Rattle.std.specs.Prelude.{◌≡◌, ◌≢◌, ◌<◌, ◌≤◌, ℕ, List, [], All, Option, Some, None, true, length, take, ◌==◌, if◌then◌else◌}
 use Rattle.verdict_table.specs.declared.record.Record.{Record}
 use Rattle.verdict_table.specs.TableState.{verdict_in}
 use Rattle.reduce_step.specs.Plan.{Plan}
@@ -18,13 +18,14 @@ use Rattle.cert_check.specs.declared.finding.Finding.{Finding}
 use Rattle.cert_check.specs.declared.finding.Finding.TheVariants.{Yes, No}
 use Rattle.cert_check.specs.declared.finding.Why.TheVariants.{Torn, OtherStart, NotLegal, NotCandidate, Unfinished, StartIsNo, OtherResult}
 
--- the head of a journal that was read: with the digest of the start in version 2
-abbrev pub head_with : Option Digest → Head
-head_with None = Version1
-head_with (Some digest) = Version2 digest
+-- this digest; without one, bytes that are the digest of no start
+abbrev pub digest_in : Option Digest → Digest
+digest_in None = record { bytes = [] }
+digest_in (Some digest) = digest
 
+-- the head of a journal: with its digest of the start in version 2
 abbrev pub head_in : Journal → Head
-head_in journal = if journal.version == 2 then head_with journal.start else Version1
+head_in journal = if journal.version == 2 then Version2 (digest_in journal.start) else Version1
 
 -- in version 2 the head has the digest of this start
 abbrev pub IsOfStart : Head → List ℕ → Type 0
@@ -52,8 +53,8 @@ pub record IsSoundRun (first : Plan) (Is : List ℕ → Type 0) (OfStart : Type 
   pub legal : IsLegal first history
   pub candidates : All (λ r. Is r.text) (records_of history)
 
--- What is found where this is the new reducer and such texts may be asked, and where these say that the journal is of the start, that the run is finished, that
--- its start is refused, and that the output is its result. It is the cause why not, where no cause of a line above it holds; or a yes.
+-- What is found where this is the new reducer and such texts may be asked. `OfStart` is said of the journal, `IsFinished` of the run, `Refuses` of its start,
+-- and `IsResult` of the output. It is the cause why not, where no cause of a line above it holds; or a yes.
 module _ (first : Plan) (Is : List ℕ → Type 0) (OfStart IsFinished Refuses IsResult : Type 0) (history : History) (torn : ℕ) where
   abbrev pub IsFoundWith : Finding → Type 0
   IsFoundWith (No (Torn bytes)) = (torn ≡ bytes) × (bytes ≢ 0)

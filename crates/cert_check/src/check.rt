@@ -73,8 +73,7 @@ fn other_start(journal: &Journal, start: &[u8]) -> Option<Finding>
     if journal.version != 2 {
         return None;
     }
-    let digest = journal.start?;
-    if digest == digest_of(start) {
+    if journal.start == Some(digest_of(start)) {
         return None;
     }
     Some(Finding::No(Why::OtherStart))

@@ -25,7 +25,7 @@ returns-in-Some g c =
     let Is : List ℕ → Type 0 = λ t. g.C.Candidates.IsCandidate c.args.candidates.now t in
     let illegal = rw (c.in-Some.is, c.deref.ensures.value) at c.in_ok-illegal.ensures.taken in
     subst (λ (p : Plan). IsFindingOfPlan p Is c.args.files.output.now c.args.files.journal.now.events.items 0 (No (NotLegal c.in-Some.event)))
-    c.new-replayed.ensures.first (refl, illegal)
+    c.new-replayed.ensures.first (refl, tt, illegal)
 
 pub returns-in-Some-other : goal.returns-in-Some-other
 returns-in-Some-other g c =

@@ -1,9 +1,9 @@
-use Rattle.std.proofs.Common.{ℕ, subst, sym}
-use Rattle.std.specs.Prelude.{IfOk}
+use Rattle.std.proofs.Common.{sym, ◌∙◌}
+use Rattle.std.proofs.lemmas.Result.{IfOk-weaker}
 use Rattle.keep_guard.specs.Keep.{keeps_admit}
 use Rattle.run_problem.specs.Problem.{Problem}
-use Rattle.cert_check.specs.inner.Inputs.{IsFindingOfStart}
-use Rattle.cert_check.proofs.Setups.{some_input, torn_found}
+use Rattle.cert_check.specs.Findings.{head_in}
+use Rattle.cert_check.proofs.Setups.{of_whole, other_found, some_input}
 use Rattle.cert_check.proofs.check.found_finding.Goals as goal
 
 pub returns-in-Some : goal.returns-in-Some
@@ -13,12 +13,18 @@ returns-in-Some c =
       made.0,
       made.1,
       made.2,
-      torn_found (keeps_admit c.args.keeps.now) (Problem.of_tree c.args.mode made.0) c.args.files.output.now
-          c.args.files.journal.now.events.items c.args.files.journal.now.torn c.in-Some.torn (rw c.in-Some.is at c.torn_end.ensures),
+      other_found (keeps_admit c.args.keeps.now) (Problem.of_tree c.args.mode made.0) c.args.files.output.now (head_in c.args.files.journal.now)
+          c.args.files.journal.now.events.items c.args.files.journal.now.torn c.as_bytes.result.now ((made.1).same_text ∙ sym c.as_bytes.ensures.value)
+          c.in-Some.other (rw c.in-Some.is at c.other_journal.ensures),
     )
 
 pub returns-in-None : goal.returns-in-None
 returns-in-None c =
-    subst (λ (torn : ℕ). IfOk c.parsed_finding.result
-    (IsFindingOfStart c.args.checked.now c.args.start.now c.args.keeps.now c.args.mode c.args.squeezes c.args.files.output.now
-    c.args.files.journal.now.events.items torn)) (sym (rw c.in-None.is at c.torn_end.ensures)) c.parsed_finding.ensures
+    IfOk-weaker c.parsed_finding.result _ _ (λ finding it. (
+      it.0,
+      it.1,
+      it.2,
+      of_whole (keeps_admit c.args.keeps.now) (Problem.of_tree c.args.mode it.0) c.args.files.output.now (head_in c.args.files.journal.now)
+          c.args.files.journal.now.events.items c.args.files.journal.now.torn c.as_bytes.result.now ((it.1).same_text ∙ sym c.as_bytes.ensures.value)
+          (rw c.in-None.is at c.other_journal.ensures) finding it.3,
+    )) c.parsed_finding.ensures

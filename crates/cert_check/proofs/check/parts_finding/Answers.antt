@@ -5,6 +5,7 @@ use Rattle.reduce_core.specs.Reduction.{Admits}
 use Rattle.reduce_trees_mode.specs.Input.{TreeInput}
 use Rattle.reduce_trees_mode.specs.InputOf.{input_of}
 use Rattle.run_problem.specs.Problem.{Problem}
+use Rattle.reduce_journal.specs.declared.head.Head.TheVariants.{Version1}
 use Rattle.cert_check.specs.Findings.{IsFound}
 use Rattle.cert_check.proofs.Setups.{input_admits, input_from}
 use Rattle.cert_check.proofs.check.parts_finding.Goals as goal
@@ -26,5 +27,5 @@ returns c =
     let input : TreeInput =
     input_of parts.start.grammar parts.formed parts.tree parts.start.bytes parts.tokens.items.items (keeps_admit parts.guard) parts.squeezes in
     subst (λ (guard : Admits). IfOk c.tree_finding.result
-    (IsFound guard (Problem.of_tree c.args.mode input) c.args.files.output.now c.args.files.journal.now.events.items 0)) c.requires.admits
+    (IsFound guard (Problem.of_tree c.args.mode input) c.args.files.output.now Version1 c.args.files.journal.now.events.items 0)) c.requires.admits
     c.tree_finding.ensures

@@ -5,6 +5,7 @@ use Rattle.reduce_step.specs.declared.mode.TreeMode.{TreeMode}
 use Rattle.reduce_trees_mode.specs.Input.{TreeInput}
 use Rattle.reduce_trees_mode.specs.InputOf.{input_of}
 use Rattle.run_problem.specs.Problem.{Problem}
+use Rattle.reduce_journal.specs.declared.head.Head.TheVariants.{Version1}
 use Rattle.cert_check.specs.Findings.{IsFound}
 use Rattle.cert_check.proofs.check.tree_finding.Goals as goal
 
@@ -14,7 +15,7 @@ returns-in-Perses g c =
     let input : TreeInput = input_of parts.start.grammar parts.formed parts.tree parts.start.bytes parts.tokens.items.items
     (keeps_admit parts.guard) parts.squeezes in
     subst (λ (mode : TreeMode). IfOk c.perses_finding.result
-    (IsFound input.admits (Problem.of_tree mode input) c.args.files.output.now c.args.files.journal.now.events.items 0)) (sym c.in-Perses.is)
+    (IsFound input.admits (Problem.of_tree mode input) c.args.files.output.now Version1 c.args.files.journal.now.events.items 0)) (sym c.in-Perses.is)
     c.perses_finding.ensures
 
 pub returns-in-Hdd : goal.returns-in-Hdd
@@ -23,5 +24,5 @@ returns-in-Hdd g c =
     let input : TreeInput = input_of parts.start.grammar parts.formed parts.tree parts.start.bytes parts.tokens.items.items
     (keeps_admit parts.guard) parts.squeezes in
     subst (λ (mode : TreeMode). IfOk c.hdd_finding.result
-    (IsFound input.admits (Problem.of_tree mode input) c.args.files.output.now c.args.files.journal.now.events.items 0)) (sym c.in-Hdd.is)
+    (IsFound input.admits (Problem.of_tree mode input) c.args.files.output.now Version1 c.args.files.journal.now.events.items 0)) (sym c.in-Hdd.is)
     c.hdd_finding.ensures
