@@ -1,6 +1,7 @@
 -- Why files weren't read, and what was found of them.
 use Rattle.std.proofs.Common.{arith, ◌≡◌, ◌≤◌, ℕ, List, length, Option, Some, Err, true, string_bytes, ◌∙◌, ap, refl, sym, subst}
 use Rattle.std.specs.Global.{Vec}
+use Rattle.std.specs.Prelude.{◌==◌, if◌then◌else◌}
 use Rattle.std.proofs.Math.Path.{fun_ext}
 use Rattle.edge_io.specs.Files.{FileContent, Holds, IsLonger, SameFiles}
 use Rattle.grammar_tree.specs.Faults.{IsWellFormed}
@@ -12,11 +13,14 @@ use Rattle.reduce_trees_mode.specs.Candidates.{InLanguage}
 use Rattle.reduce_trees_input.specs.Laws.{InputsAreInLanguage, InputsAreOne}
 use Rattle.reduce_trees_input.specs.Parsed.{IsInputOf, tree_input}
 use Rattle.reduce_journal.specs.History.{History, records_of}
-use Rattle.reduce_journal.specs.Journal.{GivesJournal, IsBadAt, IsJournalOf, LacksHead}
+use Rattle.reduce_journal.specs.Journal.{GivesJournal, IsBadAt, IsJournalOf, IsReadAs, IsReadOf, LacksHead}
+use Rattle.reduce_journal.specs.declared.digest.Digest.{Digest}
 use Rattle.reduce_journal.specs.declared.head.Head.{Head}
+use Rattle.reduce_journal.specs.declared.head.Head.TheVariants.{Version1, Version2}
+use Rattle.reduce_journal.specs.declared.read.Journal.{Journal}
 use Rattle.reduce_journal.specs.declared.read.JournalFault.{JournalFault}
 use Rattle.reduce_journal.specs.declared.read.JournalFault.TheVariants as journal_fault
-use Rattle.cert_check.specs.Findings.{IsFound}
+use Rattle.cert_check.specs.Findings.{IsFound, digest_in, head_in}
 use Rattle.cert_check.specs.Setup.{IsSetupOf, admits_in}
 use Rattle.cert_check.specs.declared.setup.Setup.{Setup}
 use Rattle.cert_check.specs.declared.setup.Setup.TheVariants as setup
@@ -205,6 +209,31 @@ module _ (options : CheckOptions) (files : SeenFiles) where
             ),
           )) tree_is;
     }
+
+-- the head in a journal is the one that it was read of
+head_read : (first : Head) (history : History) (torn : ℕ) (journal : Journal) → IsReadAs first history torn journal → head_in journal ≡ first
+head_read Version1 history torn journal it =
+    ap (λ (version : ℕ). if version == 2 then Version2 (digest_in journal.start) else Version1) it.version
+head_read (Version2 digest) history torn journal it =
+    ap (λ (version : ℕ). if version == 2 then Version2 (digest_in journal.start) else Version1) it.version
+    ∙ ap (λ (start : Option Digest). Version2 (digest_in start)) it.start
+
+-- the result and the journal, as they were read
+pub run_read : (options : CheckOptions) (files : SeenFiles) (output bytes : List ℕ) → Holds output (files.shown options.output) → length output ≤ result_limit
+    → Holds bytes (files.shown options.journal) → length bytes ≤ journal_limit → (journal : Journal) → IsReadOf bytes journal
+    → RunRead options files output (head_in journal) journal.events.items journal.torn
+run_read options files output bytes here within there below journal (first, events, torn, of, is) = record {
+  result = record { bytes = output; read = here; within = within; holds = refl };
+  journal = record {
+    bytes = bytes;
+    read = there;
+    within = below;
+    holds =
+        subst (λ (first' : Head). IsJournalOf bytes first' journal.events.items journal.torn) (sym (head_read first events torn journal is))
+        (subst (λ (history : History). IsJournalOf bytes first history journal.torn) (sym is.events)
+        (subst (λ (tail : ℕ). IsJournalOf bytes first events tail) (sym is.torn) of));
+  };
+}
 
 -- what is found of a setup's run is found of the command line's
 pub found_of : (options : CheckOptions) (files : SeenFiles) (it : Setup) (text : List ℕ) (head : Head) (history : History) (torn : ℕ) (finding : Finding)

@@ -4,6 +4,7 @@ use Rattle.std.proofs.lemmas.Option.{same_Some}
 use Rattle.edge_io.specs.Files.{FileContent, Holds, IsLonger}
 use Rattle.grammar_tree.specs.Written.{CheckedGrammar}
 use Rattle.keep_guard.specs.Keep.{holds_all, keeps_admit}
+use Rattle.reduce_journal.specs.declared.head.Head.{Head}
 use Rattle.reduce_journal.specs.History.{History}
 use Rattle.reduce_journal.specs.Journal.{IsJournalOf}
 use Rattle.reduce_trees_mode.specs.Candidates.{InLanguage}
@@ -25,10 +26,10 @@ use Rattle.command_words.specs.Commands.{CheckOptions, ModeOptions}
 use Rattle.command_check.specs.Check.{ConfirmedIn, FoundIn, HaveNoHistory, IsJournalReached, IsShownHeld, IsShownRun, JournalIsBad}
 use Rattle.command_check.specs.Check.{RunMustEnd, RunRead, checked_problem}
 
--- bytes are a journal of one history and one length of a torn tail
+-- bytes are a journal of one head, one history and one length of a torn tail
 abbrev pub JournalsAreOne : Type 0
-JournalsAreOne = (bytes : List ℕ) (one other : History) (torn torn_other : ℕ) → IsJournalOf bytes one torn → IsJournalOf bytes other torn_other
-    → (one ≡ other) × (torn ≡ torn_other)
+JournalsAreOne = (bytes : List ℕ) (first first_other : Head) (one other : History) (torn torn_other : ℕ) → IsJournalOf bytes first one torn
+    → IsJournalOf bytes first_other other torn_other → (first ≡ first_other) × (one ≡ other) × (torn ≡ torn_other)
 
 -- ---- what is visible
 
@@ -88,32 +89,33 @@ module _ (options : CheckOptions) (files : SeenFiles) where
 
   -- ---- of visible files one thing is found
 
-  -- the files of a problem have this text, history and torn tail, of which this is found
+  -- the files of a problem have this text, head, history and torn tail, of which this is found
   abbrev Has : Finding → Problem → Type 0
   Has finding problem =
       (holds_all options.keeps (start_text problem) ≡ true)
-      × ((text : List ℕ) × (history : History) × (torn : ℕ) × RunRead options files text history torn
-      × IsFound (keeps_admit options.keeps) problem text history torn finding)
+      × ((text : List ℕ) × (head : Head) × (history : History) × (torn : ℕ) × RunRead options files text head history torn
+      × IsFound (keeps_admit options.keeps) problem text head history torn finding)
 
   module _ (journals : JournalsAreOne) (once : OneIsFound) (shown : IsShownRun options files) where
     -- so it is of one problem
     once_of : (problem : Problem) (one other : Finding) → Has one problem → Has other problem → one ≡ other
     once_of problem one other has has' =
-        let run = has.1.3 in
-        let run' = has'.1.3 in
+        let run = has.1.4 in
+        let run' = has'.1.4 in
         let output = files.shown options.output in
         let journal = files.shown options.journal in
         let same_bytes = holds_once output run'.result.bytes run.result.bytes (is_some result_limit _ output shown.result) run'.result.read run.result.read in
         let same_text : has'.1.0 ≡ has.1.0 = sym run'.result.holds ∙ same_bytes ∙ run.result.holds in
         let same_journal = holds_once journal run'.journal.bytes run.journal.bytes (is_some journal_limit _ journal shown.journal) run'.journal.read
         run.journal.read in
-        let same_history = journals run.journal.bytes has'.1.1 has.1.1 has'.1.2 has.1.2
-        (subst (λ (bytes : List ℕ). IsJournalOf bytes has'.1.1 has'.1.2) same_journal run'.journal.holds) run.journal.holds in
+        let same = journals run.journal.bytes has'.1.1 has.1.1 has'.1.2 has.1.2 has'.1.3 has.1.3
+        (subst (λ (bytes : List ℕ). IsJournalOf bytes has'.1.1 has'.1.2 has'.1.3) same_journal run'.journal.holds) run.journal.holds in
         let guard = keeps_admit options.keeps in
-        once guard problem has.1.0 has.1.1 has.1.2 one other has.1.4
-        (subst (λ (text : List ℕ). IsFound guard problem text has.1.1 has.1.2 other) same_text
-        (subst (λ (history : History). IsFound guard problem has'.1.0 history has.1.2 other) same_history.0
-        (subst (λ (torn : ℕ). IsFound guard problem has'.1.0 has'.1.1 torn other) same_history.1 has'.1.4)))
+        once guard problem has.1.0 has.1.1 has.1.2 has.1.3 one other has.1.5
+        (subst (λ (text : List ℕ). IsFound guard problem text has.1.1 has.1.2 has.1.3 other) same_text
+        (subst (λ (head : Head). IsFound guard problem has'.1.0 head has.1.2 has.1.3 other) same.0
+        (subst (λ (history : History). IsFound guard problem has'.1.0 has'.1.1 history has.1.3 other) same.1
+        (subst (λ (torn : ℕ). IsFound guard problem has'.1.0 has'.1.1 has'.1.2 torn other) same.2 has'.1.5))))
 
     found_once : (one other : Finding) → FoundIn options files one → FoundIn options files other → one ≡ other
     found_once one other found found' =
@@ -128,7 +130,7 @@ module _ (options : CheckOptions) (files : SeenFiles) where
   yes_found : ConfirmedIn options files → FoundIn options files Yes
   yes_found found =
       problem_map (checked_problem options) files _ (Has Yes)
-      (λ problem it. (it.0, (it.1.0, it.1.1, it.1.2, it.1.3, it.1.4))) found
+      (λ problem it. (it.0, (it.1.0, it.1.1, it.1.2, it.1.3, it.1.4, it.1.5))) found
 
   -- ---- which status it has to be
 
@@ -196,10 +198,10 @@ module _ (options : CheckOptions) (files : SeenFiles) where
   bad_must_end P read =
       let hidden : IsShownRun options files → ⊥ =
       λ shown.
-      let it : (history : History) × (torn : ℕ) × IsJournalOf read.1.bytes history torn =
-      shown_holds journal_limit (λ bytes. (history : History) × (torn : ℕ) × IsJournalOf bytes history torn) (files.shown options.journal)
-      shown.journal read.1.bytes read.1.read in
-      read.1.holds.1 it.0 it.1 it.2 in
+      let it : (head : Head) × (history : History) × (torn : ℕ) × IsJournalOf read.1.bytes head history torn =
+      shown_holds journal_limit (λ bytes. (head : Head) × (history : History) × (torn : ℕ) × IsJournalOf bytes head history torn)
+      (files.shown options.journal) shown.journal read.1.bytes read.1.read in
+      read.1.holds.1 it.0 it.1 it.2 it.3 in
       record {
         result_over = λ shown over. absurd (read_not_over read.0.1 over);
         result_missing = λ shown none. absurd (read_not_missing read.0.1 none);
@@ -216,7 +218,7 @@ module _ (options : CheckOptions) (files : SeenFiles) where
       → (IsShownRun options files → (why : Why) → FoundIn options files (No why) → IsOneOf (15 ∷ 3 ∷ 1 ∷ []) status) → RunMustEnd options files status
   found_must_end status finding found at_yes at_no =
       let it : (problem : Problem) × Has finding problem = any_problem (checked_problem options) files (Has finding) found in
-      let run = it.1.1.3 in
+      let run = it.1.1.4 in
       record {
         result_over = λ shown over. absurd (read_not_over run.result over);
         result_missing = λ shown none. absurd (read_not_missing run.result none);
@@ -225,7 +227,7 @@ module _ (options : CheckOptions) (files : SeenFiles) where
         bad_journal =
             λ shown result bad.
             absurd (shown_holds journal_limit HaveNoHistory (files.shown options.journal) bad run.journal.bytes run.journal.read it.1.1.1 it.1.1.2
-            run.journal.holds);
+            it.1.1.3 run.journal.holds);
         confirmed = at_yes;
         not_confirmed = at_no;
       }

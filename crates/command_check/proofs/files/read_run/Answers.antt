@@ -8,7 +8,7 @@ use Rattle.command_words.specs.Lines.{check_read}
 use Rattle.command_ends.specs.declared.status.NamedFile.TheVariants as named
 use Rattle.command_ends.specs.Status.{ReadFails}
 use Rattle.command_ends.specs.World.{SeenFiles, journal_limit, seen}
-use Rattle.command_check.proofs.FileLemmas.{journal_bad, journal_fails, result_fails, same_seen}
+use Rattle.command_check.proofs.FileLemmas.{journal_bad, journal_fails, result_fails, run_read, same_seen}
 use Rattle.command_check.proofs.files.read_run.Goals as goal
 
 pub returns-in_err-output-clause-refused : goal.returns-in_err-output-clause-refused
@@ -30,6 +30,18 @@ returns-in_err-bytes-clause-refused g c reached =
     (subst (λ (before : SeenFiles). ReadFails journal_limit named.Journal (before.shown options.journal) before files' refusal)
     (same_seen files between c.read_file.ensures.same c.in_ok-output.ensures.quiet) c.in_err-bytes.ensures.refused))
 
+pub returns-in-Ok-clause-run : goal.returns-in-Ok-clause-run
+returns-in-Ok-clause-run g c =
+    let options = check_read c.args.line.now in
+    let files = seen g.F.Files.content g.F.Files.faults c.args.files.now in
+    let between = seen g.F.Files.content g.F.Files.faults c.read_file.new.files in
+    let is = c.deref.ensures.value in
+    run_read options files c.in_ok-output.output.items c.deref.result.now c.in_ok-output.ensures.bytes c.in_ok-output.ensures.limit
+    (subst (λ (bytes : List ℕ). Holds bytes (files.shown options.journal)) (sym is)
+    (subst (λ (before : SeenFiles). Holds c.in_ok-bytes.bytes.items (before.shown options.journal))
+    (same_seen files between c.read_file.ensures.same c.in_ok-output.ensures.quiet) c.in_ok-bytes.ensures.bytes))
+    (subst (λ (bytes : List ℕ). length bytes ≤ journal_limit) (sym is) c.in_ok-bytes.ensures.limit) c.in-Ok.journal c.in-Ok.ensures.journal
+
 pub returns-in-Err-clause-refused : goal.returns-in-Err-clause-refused
 returns-in-Err-clause-refused g c reached =
     let options = check_read c.args.line.now in
@@ -45,7 +57,7 @@ returns-in-Err-clause-refused g c reached =
     (same_seen files between c.read_file.ensures.same c.in_ok-output.ensures.quiet) c.in_ok-bytes.ensures.bytes))
     (subst (λ (bytes : List ℕ). length bytes ≤ journal_limit) (sym is) c.in_ok-bytes.ensures.limit)
     c.in-Err.fault c.of_journal.result c.of_journal.ensures
-    (λ events torn of. subst (λ (answer : Result Journal JournalFault). GivesJournal events torn answer) c.in-Err.is
-    (c.read_journal.ensures.each_journal events torn of))
+    (λ head events torn of. subst (λ (answer : Result Journal JournalFault). GivesJournal head events torn answer) c.in-Err.is
+    (c.read_journal.ensures.each_journal head events torn of))
     (λ same. c.read_journal.ensures.bad_head.0 (c.in-Err.is ∙ ap (λ (fault : JournalFault). Err fault) same))
     (λ offset same. c.read_journal.ensures.bad_record offset (c.in-Err.is ∙ ap (λ (fault : JournalFault). Err fault) same))

@@ -1,9 +1,10 @@
 use Rattle.std.proofs.Common.{ℕ, List, ◌∙◌, subst}
 use Rattle.std.proofs.lemmas.Result.{err_from_is_err_and}
+use Rattle.reduce_journal.specs.declared.head.Head.{Head}
 use Rattle.reduce_journal.specs.History.{History, records_of}
 use Rattle.verdict_table.specs.TableState.{verdict_in}
 use Rattle.run_problem.specs.Problem.{IsReductionOf}
-use Rattle.cert_check.specs.Findings.{IsFound}
+use Rattle.cert_check.specs.Findings.{IsFound, head_in}
 use Rattle.cert_check.specs.Setup.{admits_in}
 use Rattle.cert_check.specs.declared.finding.Finding.{Finding}
 use Rattle.cert_check.specs.declared.finding.Finding.TheVariants.{No}
@@ -45,12 +46,13 @@ returns-in-Yes-clause-found g c =
     let same = same_seen files between c.read_setup.ensures.same c.in_ok-setup.ensures.quiet in
     let it = c.in_ok-setup.setup in
     let output : List ℕ = (c.in_ok-run.run').output.items in
+    let head : Head = head_in (c.in_ok-run.run').journal in
     let events : History = (c.in_ok-run.run').journal.events.items in
     let torn : ℕ = (c.in_ok-run.run').journal.torn in
-    confirmed_of options files it output events torn c.in_ok-setup.ensures.setup
-    (subst (λ (before : SeenFiles). RunRead options before output events torn) same c.in_ok-run.ensures.run)
-    (λ problem is. subst (λ (finding : Finding). IsFound (admits_in it) problem output events torn finding) c.in-Yes.is
-    (subst (λ (text : List ℕ). IsFound (admits_in it) problem text events torn c.in_ok-check_run.field-0) c.deref.ensures.value
+    confirmed_of options files it output head events torn c.in_ok-setup.ensures.setup
+    (subst (λ (before : SeenFiles). RunRead options before output head events torn) same c.in_ok-run.ensures.run)
+    (λ problem is. subst (λ (finding : Finding). IsFound (admits_in it) problem output head events torn finding) c.in-Yes.is
+    (subst (λ (text : List ℕ). IsFound (admits_in it) problem text head events torn c.in_ok-check_run.field-0) c.deref.ensures.value
     (c.in_ok-check_run.ensures.finding problem is)))
     (λ problem is. subst (λ (text : List ℕ). IsReductionOf (admits_in it) (verdict_in (records_of events)) problem text) c.deref.ensures.value
     (c.in_ok-check_run.ensures.reduction problem is c.in-Yes.is))
@@ -64,12 +66,13 @@ returns-clause-refused g c =
     let same = same_seen files between c.read_setup.ensures.same c.in_ok-setup.ensures.quiet in
     let it = c.in_ok-setup.setup in
     let output : List ℕ = (c.in_ok-run.run').output.items in
+    let head : Head = head_in (c.in_ok-run.run').journal in
     let events : History = (c.in_ok-run.run').journal.events.items in
     let torn : ℕ = (c.in_ok-run.run').journal.torn in
     cause_fails options files files' c.in-No.why c.refusal_of.result
-    (found_of options files it output events torn (No c.in-No.why) c.in_ok-setup.ensures.setup
-    (subst (λ (before : SeenFiles). RunRead options before output events torn) same c.in_ok-run.ensures.run)
-    (λ problem is. subst (λ (finding : Finding). IsFound (admits_in it) problem output events torn finding) c.in-No.is
-    (subst (λ (text : List ℕ). IsFound (admits_in it) problem text events torn c.in_ok-check_run.field-0) c.deref.ensures.value
+    (found_of options files it output head events torn (No c.in-No.why) c.in_ok-setup.ensures.setup
+    (subst (λ (before : SeenFiles). RunRead options before output head events torn) same c.in_ok-run.ensures.run)
+    (λ problem is. subst (λ (finding : Finding). IsFound (admits_in it) problem output head events torn finding) c.in-No.is
+    (subst (λ (text : List ℕ). IsFound (admits_in it) problem text head events torn c.in_ok-check_run.field-0) c.deref.ensures.value
     (c.in_ok-check_run.ensures.finding problem is))))
     (c.in_ok-run.ensures.quiet ∙ c.in_ok-setup.ensures.quiet) c.refusal_of.ensures
