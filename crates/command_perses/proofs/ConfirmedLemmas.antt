@@ -4,6 +4,7 @@ use Rattle.script_gate_trait.specs.declared.gate.Verdict.{Verdict}
 use Rattle.script_gate_trait.specs.declared.gate.Verdict.TheVariants.{Yes}
 use Rattle.keep_guard.specs.Keep.{keeps_admit}
 use Rattle.reduce_core.specs.Reduction.{Admits}
+use Rattle.reduce_journal.specs.declared.head.Head.TheVariants.{Version2}
 use Rattle.reduce_journal.specs.History.{History, records_of}
 use Rattle.reduce_rounds.specs.Verdicts.{HasVerdicts}
 use Rattle.line_guard.specs.Laws.{NothingIsProtected}
@@ -15,7 +16,7 @@ use Rattle.run_problem.specs.Committed.{IsPrefix, committed_texts, questions_ove
 use Rattle.run_problem.specs.Problem.{IsCandidateOf, IsProblem, Problem, reduced_text, start_text}
 use Rattle.cert_check.specs.Laws.{FinishedRunsAreConfirmed}
 use Rattle.command_words.specs.Commands.{ModeOptions, ReduceOptions}
-use Rattle.command_ends.specs.World.{SeenFiles}
+use Rattle.command_ends.specs.World.{NotReached, SeenFiles}
 use Rattle.command_problem.specs.Problem.{ReadIn}
 use Rattle.command_reduce_calls.specs.Stays.{wishes_of}
 use Rattle.command_reduce.specs.Reduce.{admits_of, numbers_stay, problem_in}
@@ -51,8 +52,9 @@ results_are_confirmed law finished may_say options old new status none run has =
     let problem = run.problem in
     let history = run.history in
     let same = keeps_alone law options none problem in
-    let files_problem : IsProblemOf options old.files problem = run.of_files (some_event (start_text problem) history (run.start_yes has)) in
-    finished (keeps_admit options.keeps) problem history (result_text options problem history) (record {
+    let reached : ¬ NotReached history old new = λ it. some_event (start_text problem) history (run.start_yes has) it.no_history in
+    let files_problem : IsProblemOf options old.files problem = run.of_files reached in
+    finished (keeps_admit options.keeps) problem (Version2 run.start) history (result_text options problem history) run.of_start (record {
       is_problem = is_problem_in options old.files problem options.mode files_problem.read;
       readable = run.readable;
       legal = subst (λ (guard : Admits). IsPrefix (committed_texts history) (questions_over guard problem history)) same run.legal;
