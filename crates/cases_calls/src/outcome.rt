@@ -38,8 +38,8 @@ fn add_bytes(shown: &mut String, alloc: Global, bytes: &[u8]) -> Result<()> {
     Ok(())
 }
 
-/// The events that the journal has, and the length of a torn tail, which is all of a journal without its
-/// first line.
+/// The events that the journal has, and the length of a torn tail, which is all of a journal without a
+/// whole head.
 fn events_of(alloc: Global, journal: &MemSink) -> Result<(Vec<Event>, u64)> {
     match read_journal(alloc, journal.bytes()) {
         Ok(read) => Ok((read.events, read.torn)),
