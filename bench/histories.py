@@ -5,7 +5,7 @@ from pathlib import Path
 
 sys.path.insert(0, str(Path(__file__).resolve().parent.parent / "tools"))
 
-from journal_reader.reading import BadEvent, BadHead, Record, is_head_front, read_journal  # noqa: E402
+from journal_reader.reading import HEAD, BadEvent, BadHead, Record, is_head_front, read_journal  # noqa: E402
 
 
 def answers(journal):

@@ -1,4 +1,5 @@
 """A plain check of a finished run from its files, written from the documents and definitions, with which the program's is compared."""
+from hashlib import sha256
 from typing import NamedTuple
 
 from histories import BadEvent, BadHead, Record, read_journal
@@ -67,14 +68,16 @@ def next_of(layout, text, word, offset, last, squeezed):
 def finding(problem, result, journal):
     """What is found of a run's result and journal: `yes`, or the first cause why not; or why the journal can't be read."""
     try:
-        events, torn = read_journal(journal)
+        run = read_journal(journal)
     except BadHead:
         return "bad journal head"
     except BadEvent as bad:
         return f"bad journal at byte {bad.offset}"
-    if torn:
+    if run.torn:
         return "torn journal"
-    return wrong_event(problem, events) or wrong_record(problem, events) or end(problem, events, result)
+    if run.version == 2 and run.start != sha256(problem.start).hexdigest():
+        return "other start"
+    return wrong_event(problem, run.events) or wrong_record(problem, run.events) or end(problem, run.events, result)
 
 
 def wrong_event(problem, events):

@@ -30,6 +30,8 @@ ACROSS = Language(
 )
 
 HEAD = b"perses-journal 1\n"
+OWN = b"perses-journal 2\nS fe55d574c397b7713a66bb55be32810164343b436e7529075844e43fce81c64e\n"
+OTHER = b"perses-journal 2\nS e3b0c44298fc1c149afbf4c8996fb92427ae41e4649b934ca495991b7852b855\n"
 START = HEAD + b"R y 12\na=1;b=2;c=3;\nC 1\n"
 EMPTY = b"R n 0\n\nC 2\n"
 REST = b"R y 8\nb=2;c=3;\nC 4\nR y 5\nb=2;\n\nC 5\nC 2\n"
@@ -67,6 +69,10 @@ named_tests(Findings, Findings.found, [
     ("a commit without a question", "event 2 is not legal", BY_TREES, b"", HEAD + b"R y 0\n\nC 1\n"),
     ("a verdict that was turned", "event 10 is not legal", BY_TREES, b"b=2;\n", WHOLE.replace(b"R y 8", b"R n 8")),
     ("the last commits are missing", "yes", BY_TREES, b"b=2;\n", WHOLE.removesuffix(b"C 5\nC 2\n")),
+    ("a digest of this start", "yes", BY_TREES, b"b=2;\n", WHOLE.replace(HEAD, OWN)),
+    ("a digest of another start", "other start", BY_TREES, b"b=2;\n", WHOLE.replace(HEAD, OTHER)),
+    ("another start before an event that is wrong", "other start", BY_TREES, b"", WHOLE.replace(HEAD, OTHER) + b"C 1\n"),
+    ("a torn one before another start", "torn journal", BY_TREES, b"", WHOLE.replace(HEAD, OTHER)[:-1]),
     ("a torn journal", "torn journal", BY_TREES, b"b=2;\n", WHOLE[:-1]),
     ("a torn one before an event that is wrong", "torn journal", BY_TREES, b"", START + b"C 1\nC"),
     ("another first line", "bad journal head", BY_TREES, b"b=2;\n", WHOLE[1:]),
