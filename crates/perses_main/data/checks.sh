@@ -194,7 +194,7 @@ reduces_long() {
 reduces_long long --output long.o
 cmp long.o long
 {
-    printf 'perses-journal 1\nR y 262144\n'
+    journal_text long 'R y 262144\n'
     cat long
     printf '\nC 1\nR n 0\n\nC 2\n'
 } > long.journal
@@ -262,10 +262,16 @@ byrun='check --mode lines --input lines'
 ends 0 'check: yes' $byrun --output result --journal run
 ends 0 'check: yes' check --mode=lines --journal=run --output=result --input=lines
 ends 15 'perses: check: other result' $byrun --output lines --journal run
-head -c 30 run > torn
+head -c 97 run > torn
 ends 15 'perses: check: torn journal' $byrun --output result --journal torn
 printf 'b\n' > other
-ends 15 'perses: check: event 2 is not legal' check --mode lines --input other --output result --journal run
+ends 15 'perses: check: other start' check --mode lines --input other --output result --journal run
+{
+    echo perses-journal 1
+    tail -n +3 run
+} > first
+ends 0 'check: yes' $byrun --output result --journal first
+ends 15 'perses: check: event 2 is not legal' check --mode lines --input other --output result --journal first
 ends 14 'perses: bad journal head' $byrun --output result --journal lines
 ends 3 'perses: cannot read result' $byrun --output missing --journal run
 ends 3 'perses: cannot read journal' $byrun --output result --journal missing
