@@ -18,31 +18,37 @@ is_bad() {
     [ -e "$locks/$1.bad" ] && [ -n "$(find "$locks/$1.bad" -mmin -1 2>/dev/null)" ]
 }
 
-# Has the machine of a free place run the words; 75 where none is free. Machines that failed come last. Of standard input parallel
-# makes one block, which is that of the words.
+# Whether each of them did.
+all_are_bad() {
+    for node in $nodes; do
+        is_bad "$node" || return 1
+    done
+}
+
+# Has the machine of a free place run the words; 75 where none is free. A machine that failed is left out for a minute, as long as
+# another didn't. Of standard input parallel makes one block, which is that of the words.
 on_a_place() {
-    for bad in no yes; do
-        place=0
-        for node in $nodes; do
-            place=$((place + 1))
-            if is_bad "$node"; then [ $bad = yes ] || continue; else [ $bad = no ] || continue; fi
-            (
-                flock -n 9 || exit 75
-                answer=$(parallel --will-cite --pipe --recend '' --block 1g --sshlogin "1/${SSH:-ssh} $node" --timeout $((limit + 60)) -q "$@")
-                case $answer in
-                "answer: "*[0-9]) rm -f -- "$locks/$node.bad" ;;
-                *) touch -- "$locks/$node.bad" && echo "$0: $node gave no answer" >&2 ;;
-                esac
-                printf '%s\n' "$answer"
-            ) 9>"$locks/$place"
-            [ $? = 75 ] || return 0
-        done
+    if all_are_bad; then chosen=all; else chosen=good; fi
+    place=0
+    for node in $nodes; do
+        place=$((place + 1))
+        if [ $chosen = good ] && is_bad "$node"; then continue; fi
+        (
+            flock -n 9 || exit 75
+            answer=$(parallel --will-cite --pipe --recend '' --block 1g --sshlogin "1/${SSH:-ssh} $node" --timeout $((limit + 60)) -q "$@")
+            case $answer in
+            "answer: "*[0-9]) rm -f -- "$locks/$node.bad" ;;
+            *) touch -- "$locks/$node.bad" && echo "$0: $node gave no answer" >&2 ;;
+            esac
+            printf '%s\n' "$answer"
+        ) 9>"$locks/$place"
+        [ $? = 75 ] || return 0
     done
     return 75
 }
 
 on_a_node() {
-    until on_a_place "$@"; do sleep 0.2; done
+    until on_a_place "$@"; do sleep 1; done
 }
 
 ask "$1"

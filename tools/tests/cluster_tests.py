@@ -1,7 +1,9 @@
 """The scripts of examples/cluster, with small programs in the place of Slurm, HTCondor and GNU parallel."""
+import fcntl
 import shutil
 import subprocess
 import tempfile
+import time
 import unittest
 from pathlib import Path
 
@@ -82,12 +84,19 @@ class ClusterTests(unittest.TestCase):
         path.chmod(mode)
 
     def ask(self, script, candidate, **more):
+        done = self.asking(script, candidate, **more)
+        output, errors = done.communicate(timeout=600)
+        return subprocess.CompletedProcess(done.args, done.returncode, output, errors)
+
+    def asking(self, script, candidate, **more):
+        """Begins to ask about a candidate."""
         self.write("perses-work/a name.c", candidate)
         environment = {
             "PATH": f"{self.folder}/bin:/usr/bin:/bin", "NOTES": str(self.folder), "TMPDIR": str(self.folder / "tmp"), "TEST": "my test",
             "NEEDS": f"words.txt {self.folder}/tables", "NODES": "red blue", **more,
         }
-        return subprocess.run([str(FOLDER / script), "perses-work/a name.c"], cwd=self.folder, env=environment, stdin=subprocess.DEVNULL, capture_output=True, text=True, timeout=600)
+        words = [str(FOLDER / script), "perses-work/a name.c"]
+        return subprocess.Popen(words, cwd=self.folder, env=environment, stdin=subprocess.DEVNULL, stdout=subprocess.PIPE, stderr=subprocess.PIPE, text=True)
 
     def left(self):
         """What is left in the folder for temporary files but locks."""
@@ -132,8 +141,29 @@ class ClusterTests(unittest.TestCase):
     def test_parallel_turns_away_from_a_machine_that_failed(self):
         self.write("failures", "1")
         self.ask("parallel.sh", "exit 1\n")
-        nodes = [line.split("--sshlogin ")[1].split()[1] for line in (self.folder / "words").read_text().splitlines() if "--sshlogin" in line]
-        self.assertEqual(nodes, ["red", "blue"])
+        self.assertEqual(self.machines(), ["red", "blue"])
+
+    def test_parallel_waits_for_a_machine_that_did_not_fail(self):
+        (self.folder / "blue.bad").touch()
+        with open(self.folder / "1", "w") as place:
+            fcntl.flock(place, fcntl.LOCK_EX)
+            asking = self.asking("parallel.sh", "exit 4\n", LOCKS=str(self.folder))
+            until = time.monotonic() + 60
+            while not (self.folder / "sleeps").exists():
+                self.assertLess(time.monotonic(), until)
+                time.sleep(0.01)
+            self.assertFalse((self.folder / "words").exists())
+        errors = asking.communicate(timeout=600)[1]
+        self.assertEqual((asking.returncode, self.machines()), (4, ["red"]), errors)
+
+    def test_parallel_asks_machines_again_where_all_failed(self):
+        self.write("failures", "3")
+        self.assertEqual(self.ask("parallel.sh", "exit 4\n").returncode, 4)
+        self.assertEqual(self.machines(), ["red", "blue", "red", "red"])
+
+    def machines(self):
+        """The machines that were asked, in their order."""
+        return [line.split("--sshlogin ")[1].split()[1] for line in (self.folder / "words").read_text().splitlines() if "--sshlogin" in line]
 
     def test_condor_takes_its_jobs_out_of_the_queue(self):
         self.ask("htcondor.sh", "exit 1\n")
