@@ -26,7 +26,8 @@ all_are_bad() {
 }
 
 # Has the machine of a free place run the words; 75 where none is free. A machine that failed is left out for a minute, as long as
-# another didn't. Of standard input parallel makes one block, which is that of the words.
+# another didn't. Of standard input parallel makes one block, which is that of the words. They are a session of their own there:
+# where the run is stopped, parallel kills what it began, and the node couldn't take out what it was sent.
 on_a_place() {
     if all_are_bad; then chosen=all; else chosen=good; fi
     place=0
@@ -35,7 +36,7 @@ on_a_place() {
         if [ $chosen = good ] && is_bad "$node"; then continue; fi
         (
             flock -n 9 || exit 75
-            answer=$(parallel --will-cite --pipe --recend '' --block 1g --sshlogin "1/${SSH:-ssh} $node" --timeout $((limit + 60)) -q "$@")
+            answer=$(parallel --will-cite --pipe --recend '' --block 1g --sshlogin "1/${SSH:-ssh} $node" --timeout $((limit + 60)) -q setsid --wait "$@")
             case $answer in
             "answer: "*[0-9]) rm -f -- "$locks/$node.bad" ;;
             *) touch -- "$locks/$node.bad" && echo "$0: $node gave no answer" >&2 ;;

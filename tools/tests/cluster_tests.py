@@ -1,5 +1,6 @@
 """The scripts of examples/cluster, with small programs in the place of Slurm, HTCondor and GNU parallel."""
 import fcntl
+import hashlib
 import shutil
 import subprocess
 import tempfile
@@ -138,6 +139,27 @@ class ClusterTests(unittest.TestCase):
         done = self.ask(script, "exec tail -f /dev/null\n", LIMIT="1")
         self.assertEqual((done.returncode, self.left()), (124, []))
 
+    def test_node_takes_all_out_where_nobody_waits_for_the_answer(self):
+        self.write("files/test", '#!/bin/sh\ntouch "$NOTES/begun"\nuntil [ -e "$NOTES/closed" ]; do /bin/sleep 0.1; done\n', 0o755)
+        self.write("files/candidate", "")
+        archive = subprocess.run(["tar", "-c", "-C", str(self.folder / "files"), "."], check=True, capture_output=True).stdout
+        words = ["sh", str(FOLDER / "node.sh"), "a", "test", "60", hashlib.sha256(archive).hexdigest() + "  -"]
+        environment = {"PATH": "/usr/bin:/bin", "NOTES": str(self.folder), "TMPDIR": str(self.folder / "tmp")}
+        node = subprocess.Popen(words, env=environment, stdin=subprocess.PIPE, stdout=subprocess.PIPE, stderr=subprocess.DEVNULL)
+        node.stdin.write(archive)
+        node.stdin.close()
+        self.until(lambda: (self.folder / "begun").exists())
+        node.stdout.close()
+        (self.folder / "closed").touch()
+        node.wait(60)
+        self.assertEqual(self.left(), [])
+
+    def until(self, holds):
+        most = time.monotonic() + 60
+        while not holds():
+            self.assertLess(time.monotonic(), most)
+            time.sleep(0.01)
+
     def test_parallel_turns_away_from_a_machine_that_failed(self):
         self.write("failures", "1")
         self.ask("parallel.sh", "exit 1\n")
@@ -148,10 +170,7 @@ class ClusterTests(unittest.TestCase):
         with open(self.folder / "1", "w") as place:
             fcntl.flock(place, fcntl.LOCK_EX)
             asking = self.asking("parallel.sh", "exit 4\n", LOCKS=str(self.folder))
-            until = time.monotonic() + 60
-            while not (self.folder / "sleeps").exists():
-                self.assertLess(time.monotonic(), until)
-                time.sleep(0.01)
+            self.until(lambda: (self.folder / "sleeps").exists())
             self.assertFalse((self.folder / "words").exists())
         errors = asking.communicate(timeout=600)[1]
         self.assertEqual((asking.returncode, self.machines()), (4, ["red"]), errors)
