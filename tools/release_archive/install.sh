@@ -3,6 +3,7 @@
 # PREFIX/share/perses/uninstall.sh takes out again what this put there, and nothing else. What an earlier install.sh put there
 # is taken out first.
 set -eu
+umask 022 # all users can read what is installed
 if [ $# -ne 1 ] || [ -z "$1" ]; then
     echo 'usage: install.sh PREFIX' >&2
     exit 2

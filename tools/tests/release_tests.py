@@ -141,6 +141,14 @@ class ReleaseTests(unittest.TestCase):
         self.assertEqual((done.returncode, done.stdout, done.stderr), (0, "", ""))
         self.assertEqual(sorted(prefix.rglob("*")), before)
 
+    def test_all_users_can_read_what_is_installed(self):
+        prefix = self.folder / "prefix"
+        old = os.umask(0o077)
+        self.addCleanup(os.umask, old)
+        self.assertEqual(self.install(self.unpacked(), prefix).returncode, 0)
+        modes = {(path.is_dir(), path.stat().st_mode & 0o777) for path in (prefix, *prefix.rglob("*"))}
+        self.assertEqual(modes, {(True, 0o755), (False, 0o755), (False, 0o644)})
+
     def test_keeps_what_is_not_its_own(self):
         prefix, files = self.folder / "prefix", self.unpacked()
         self.install(files, prefix)
