@@ -1,4 +1,5 @@
 mod RecordLemmas
 mod TableLemmas
 mod TextIndexLemmas
+mod KeptLemmas
 pub mod Lent

@@ -1,20 +1,24 @@
 -- The table: what its loops find, and what keeps it sound.
-use Rattle.std.proofs.Common.{◌≡◌, ◌<◌, ◌+◌, ℕ, zero, suc, List, [], ◌∷◌, ◌++◌, Option, Some, None, All, arith, refl, sym, ◌∙◌, ap, get_or, length, drop}
+use Rattle.std.proofs.Common.{◌≡◌, ◌<◌, ◌≤◌, ◌+◌, ◌-◌, ℕ, zero, suc, List, [], ◌∷◌, ◌++◌, Option, Some, None, All, arith, refl, sym, ◌∙◌, ap}
+use Rattle.std.proofs.Common.{get_or, length, drop}
 use Rattle.std.proofs.Common.{nat_eq, ◌==◌, eqb-true, Bool, true, false, cond, IsSome, unwrap_or, append_assoc, length-append, add-one, option_map}
-use Rattle.std.proofs.lemmas.List.Elements.{All-head, All-nil, All-push, All-tail, All-weaker}
-use Rattle.std.proofs.lemmas.List.Sorted.{All-permutation, IsPermutation-append_right, IsPermutation-map, IsPermutation-remove, length_permutation}
-use Rattle.std.proofs.lemmas.Bool.{ne_eqb}
+use Rattle.std.proofs.lemmas.List.Elements.{All-cons, All-head, All-nil, All-push, All-tail, All-weaker}
+use Rattle.std.proofs.lemmas.List.Sorted.{All-permutation, IsPermutation-append_right, IsPermutation-map, IsPermutation-middle, IsPermutation-remove}
+use Rattle.std.proofs.lemmas.List.Sorted.{IsPermutation-trans, length_permutation}
+use Rattle.std.proofs.lemmas.Bool.{eqb-false, ne_eqb}
 use Rattle.std.proofs.lemmas.List.{map-append}
 use Rattle.std.proofs.lemmas.List.Folds.{list_any-append}
 use Rattle.std.proofs.lemmas.Cmp.{nat_eq_equiv, nat_list_eq_equiv}
 use Rattle.std.proofs.lemmas.Map.Keys.{IsDistinct-IsPermutation, IsDistinct-head, IsDistinct-push, IsDistinct-tail}
 use Rattle.std.proofs.lemmas.Iterator.Adapters.{position_from-zero}
 use Rattle.std.proofs.lemmas.List.Quantifiers.{position-Some}
+use Rattle.std.proofs.lemmas.Slice.Eq.{bytes_eq-Decides}
+use Rattle.std.specs.Prelude.{slice_get}
 use Rattle.std.specs.List.{AllByRecursion, IsDistinct, find, list_any, position, position_from, remove}
 use Rattle.std.specs.List.Sorted.{IsPermutation}
 use Rattle.std.specs.Str.{bytes_eq}
 use Rattle.script_gate_trait.specs.declared.gate.Verdict.{Verdict}
-use Rattle.verdict_table.specs.TableState.{IsSound, TableState, all_numbers, all_texts, claim_count, claim_in, claimed_texts, found_in, numbers_of}
+use Rattle.verdict_table.specs.TableState.{IsSound, IsThere, TableState, all_numbers, all_texts, claim_count, claim_in, claimed_texts, found_in, numbers_of}
 use Rattle.verdict_table.specs.TableState.{other_claims, record_from, text_claimed, texts_of, verdict_found, verdict_in}
 use Rattle.verdict_table.specs.declared.found.Found.{Found}
 use Rattle.verdict_table.specs.declared.found.Found.TheVariants.{Absent, Claimed, Filled}
@@ -298,3 +302,86 @@ sound_filled table c claims verdict sound moved =
           (table.filled ++ numbers_of (c ∷ claims)) numbers sound.below);
       filled = simp length-append (omega (arith, sound.filled));
     }
+
+-- ---- the last claim withdrawn
+
+-- numbers below the next one that aren't the last are below the last
+below_last : (last : ℕ) (numbers : List ℕ) → AllByRecursion (λ y. nat_eq last y ≡ false) numbers → All (λ n. n < last + 1) numbers → All (λ n. n < last) numbers
+below_last last [] apart below = All-nil _
+below_last last (n ∷ numbers) apart below =
+    let less : n < last + 1 = All-head (λ m. m < last + 1) n numbers below in
+    let other : last ≡ n → ⊥ = eqb-false last n apart.0 in
+    All-cons (λ m. m < last) n numbers (omega (arith, less, other)) (below_last last numbers apart.1 (All-tail (λ m. m < last + 1) n numbers below))
+
+pub sound_withdrawn : (table : TableState) (c : Claim) (claims : List Claim) → IsSound table → IsPermutation table.claims (c ∷ claims)
+    → c.number + 1 ≡ claim_count table → IsSound (record { claims = claims; records = table.records; filled = table.filled })
+sound_withdrawn table c claims sound moved last =
+    let texts : List (List ℕ) = texts_of table.records ++ claimed_texts claims in
+    let numbers : List ℕ = table.filled ++ numbers_of claims in
+    let texts_first : IsPermutation (all_texts table) (c.text ∷ texts) =
+    IsPermutation-trans (all_texts table) (texts_of table.records ++ claimed_texts (c ∷ claims)) (c.text ∷ texts)
+    (IsPermutation-append_right (texts_of table.records) (claimed_texts table.claims) (claimed_texts (c ∷ claims))
+    (IsPermutation-map (λ (d : Claim). d.text) table.claims (c ∷ claims) moved))
+    (IsPermutation-middle (texts_of table.records) c.text (claimed_texts claims)) in
+    let number_first : IsPermutation (all_numbers table) (c.number ∷ numbers) =
+    IsPermutation-trans (all_numbers table) (table.filled ++ numbers_of (c ∷ claims)) (c.number ∷ numbers)
+    (IsPermutation-append_right table.filled (numbers_of table.claims) (numbers_of (c ∷ claims))
+    (IsPermutation-map (λ (d : Claim). d.number) table.claims (c ∷ claims) moved))
+    (IsPermutation-middle table.filled c.number (numbers_of claims)) in
+    let distinct : IsDistinct nat_eq (c.number ∷ numbers) =
+    IsDistinct-IsPermutation nat_eq nat_eq_equiv.symm (all_numbers table) (c.number ∷ numbers) number_first sound.numbered in
+    let below : All (λ n. n < claim_count table) (c.number ∷ numbers) =
+    All-permutation (λ n. n < claim_count table) (all_numbers table) (c.number ∷ numbers) number_first sound.below in
+    let fewer : length (c ∷ claims) ≡ length table.claims = length_permutation table.claims (c ∷ claims) moved in
+    let count : length claims + length table.records ≡ c.number = omega (arith, fewer, last) in
+    let under : All (λ n. n < c.number + 1) numbers = rw last (All-tail (λ n. n < claim_count table) c.number numbers below) in
+    record {
+      once =
+          IsDistinct-tail bytes_eq c.text texts
+          (IsDistinct-IsPermutation bytes_eq nat_list_eq_equiv.symm (all_texts table) (c.text ∷ texts) texts_first sound.once);
+      numbered = IsDistinct-tail nat_eq c.number numbers distinct;
+      below = rw count (below_last c.number numbers (IsDistinct-head nat_eq c.number numbers distinct) under);
+      filled = sound.filled;
+    }
+
+-- ---- a record that is found
+
+there_at : (b : Bool) (r : Record) (rs : List Record) (c n : ℕ) (text : List ℕ) (rest : Option Found) (other : Found) (claim number : ℕ) (v : Verdict)
+    → (b ≡ true → text ≡ r.text) → unwrap_or (cond b (Some (Filled c n r.verdict)) rest) other ≡ Filled claim number v
+    → (unwrap_or rest other ≡ Filled claim number v
+    → (n + 1 ≤ number) × (number < n + 1 + length rs) × (slice_get rs (number - (n + 1)) ≡ Some (record { text = text; verdict = v })))
+    → (n ≤ number) × (number < n + suc (length rs)) × (slice_get (r ∷ rs) (number - n) ≡ Some (record { text = text; verdict = v }))
+there_at true r rs c n text rest other claim number v same is later =
+    let first : n ≡ number = cc is in
+    let verdict : r.verdict ≡ v = cc is in
+    let none : number - n ≡ 0 = omega (arith, first) in (
+      omega (arith, first),
+      omega (arith, first),
+      ap (slice_get (r ∷ rs)) none ∙ (λ i. Some (record { text = sym (same refl) i; verdict = verdict i })),
+    )
+there_at false r rs c n text rest other claim number v same is later =
+    let found = later is in
+    let next : number - n ≡ suc (number - (n + 1)) = omega (arith, found.0) in
+    (omega (arith, found.0), omega (arith, found.1), ap (slice_get (r ∷ rs)) next ∙ found.2)
+
+found_there : (n : ℕ) (text : List ℕ) (rs : List Record) (filled : List ℕ) (other : Found) (claim number : ℕ) (v : Verdict) → length filled ≡ length rs
+    → verdict_found other ≡ None → unwrap_or (record_from n text rs filled) other ≡ Filled claim number v
+    → (n ≤ number) × (number < n + length rs) × (slice_get rs (number - n) ≡ Some (record { text = text; verdict = v }))
+found_there n text [] filled other claim number v same none is =
+    let no : ◌≡◌ {A = Option Verdict} None (Some v) = sym none ∙ ap verdict_found is in
+    absurd (cc no)
+found_there n text (r ∷ rs) [] other claim number v same none is = absurd (omega (arith, same))
+found_there n text (r ∷ rs) (c ∷ cs) other claim number v same none is =
+    there_at (bytes_eq text r.text) r rs c n text (record_from (n + 1) text rs cs) other claim number v (bytes_eq-Decides text r.text).0 is
+    (found_there (n + 1) text rs cs other claim number v (omega (arith, same)) none)
+
+pub there_in : (table : TableState) (text : List ℕ) → IsSound table → IsThere table text (found_in table text)
+there_in table text sound = by (found_in table text) refl
+  where
+    by : (found : Found) → found_in table text ≡ found → IsThere table text found
+    by Absent is = tt
+    by (Claimed claim) is = tt
+    by (Filled claim number v) is =
+        let there = found_there 1 text table.records table.filled (unwrap_or (claim_in text table.claims) Absent) claim number v sound.filled
+        (claim_without (find (λ c. bytes_eq text c.text) table.claims)) is in
+        (there.0, omega (arith, there.1), there.2)

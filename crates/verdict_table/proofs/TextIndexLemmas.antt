@@ -159,6 +159,11 @@ none_recorded n text (r ∷ rs) [] differs = refl
 none_recorded n text (r ∷ rs) (c ∷ cs) differs =
     rw (differs 0 (omega arith)) (none_recorded (n + 1) text rs cs (λ i within. differs (suc i) (omega (arith, within))))
 
+-- where there is no record, none has the text
+pub no_records : (text : List ℕ) (rs : List Record) (filled : List ℕ) → length rs ≡ 0 → record_from 1 text rs filled ≡ None
+no_records text [] filled none = refl
+no_records text (r ∷ rs) filled none = absurd (omega (arith, none))
+
 -- nothing is left, so no record has the text
 pub none_left : (text : List ℕ) (rs : List Record) (filled : List ℕ) → IsLeft text (texts_of rs) None → record_from 1 text rs filled ≡ None
 none_left text rs filled left = none_recorded 1 text rs filled (λ i within. left.others i (omega arith) (simp length-map (omega (arith, within))))

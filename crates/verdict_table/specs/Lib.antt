@@ -1,2 +1,3 @@
 pub mod TableState
+pub mod Kept
 pub mod inner

@@ -1,5 +1,5 @@
 -- The table of verdicts.
-use Rattle.std.specs.Prelude.{◌≡◌, ◌<◌, ℕ, ◌+◌, ◌==◌, List, [], ◌∷◌, ◌++◌, All, length, map, find, filter, not}
+use Rattle.std.specs.Prelude.{◌≡◌, ◌<◌, ◌≤◌, ℕ, ◌+◌, ◌-◌, ◌==◌, List, [], ◌∷◌, ◌++◌, All, length, map, find, filter, not, slice_get}
 use Rattle.std.specs.Prelude.{Option, Some, None, option_map, unwrap_or, nat_eq, if◌then◌else◌}
 use Rattle.std.specs.List.{IsDistinct}
 use Rattle.std.specs.Str.{bytes_eq}
@@ -74,6 +74,13 @@ claim_in text claims = option_map (λ c. Claimed c.number) (find (λ c. bytes_eq
 abbrev pub found_in : TableState → List ℕ → Found
 found_in table text =
     unwrap_or (record_from 1 text table.records table.filled) (unwrap_or (claim_in text table.claims) Absent)
+
+-- a record that was found has its number, this text, and its verdict
+abbrev pub IsThere : TableState → List ℕ → Found → Type 0
+IsThere table text (Filled claim number verdict) =
+    (0 < number) × (number ≤ length table.records) × (slice_get table.records (number - 1) ≡ Some (record { text = text; verdict = verdict }))
+IsThere table text (Claimed claim) = Unit {0}
+IsThere table text Absent = Unit {0}
 
 -- the verdict that was found
 abbrev pub verdict_found : Found → Option Verdict

@@ -8,9 +8,9 @@ use std::marker::Model;
 /// A text and its verdict.
 #[derive(Drop)]
 pub struct Record {
-    /// The bytes that were asked about.
+    /// The text, in bytes.
     pub text: Bytes,
-    /// What the gate said of them.
+    /// The verdict on it.
     pub verdict: Verdict,
 }
 

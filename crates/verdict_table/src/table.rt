@@ -1,8 +1,9 @@
-ghost use Rattle.std.specs.Prelude.{◌≡◌, ◌+◌, [], ◌∷◌, ◌++◌, ◌==◌, Some, length, nat_eq, position, Contains, IfOk, OnErr, IfSome, IsSome};
+ghost use Rattle.std.specs.Prelude.{◌≡◌, ◌<◌, ◌≤◌, ◌+◌, ◌-◌, [], ◌∷◌, ◌++◌, ◌==◌, Some, length, nat_eq, position, slice_get, Contains, IfOk, OnErr};
+ghost use Rattle.std.specs.Prelude.{IfSome, IsSome};
 ghost use Rattle.std.specs.List.{IsDistinct};
 ghost use Rattle.std.specs.List.Sorted.{IsPermutation};
 ghost use Rattle.std.specs.Str.{bytes_eq};
-ghost use Rattle.verdict_table.specs.TableState.{HasOnce, all_numbers, claim_count, claim_in, found_in, numbers_of, other_claims};
+ghost use Rattle.verdict_table.specs.TableState.{HasOnce, IsThere, all_numbers, claim_count, claim_in, found_in, numbers_of, other_claims};
 ghost use Rattle.verdict_table.specs.inner.TextIndex.{IsIndexOf};
 ghost use Rattle.verdict_table.specs.TableState.{record_from, text_claimed, texts_of, verdict_found, verdict_in};
 
@@ -66,7 +67,8 @@ impl Model for Table {
     } };
 }
 
-// The record with this text. Texts of equal numbers are told apart by their bytes.
+// The record with this text. Texts of equal numbers are told apart by their bytes; without a record, no
+// number is computed.
 #[tactic(auto, using(crate::proofs::TextIndexLemmas::left_within))]
 fn record_of(records: &[Record], filled: &[u64], index: &TextIndex, text: &[u8]) -> Option<Found>
     requires filled { length filled.now ≡ length records.now }
@@ -74,6 +76,9 @@ fn record_of(records: &[Record], filled: &[u64], index: &TextIndex, text: &[u8])
     requires once { IsDistinct bytes_eq (texts_of records.now) }
     ensures { result ≡ record_from 1 text.now records.now filled.now }
 {
+    if records.is_empty() {
+        return None;
+    }
     let mut next = index.newest(text);
     while let Some(at) = next {
         let record = &records[at];
@@ -141,6 +146,7 @@ impl Table {
     pub fn find(&self, text: &[u8]) -> Found
         ensures found { result ≡ found_in self.now text.now }
         ensures verdict { verdict_found result ≡ verdict_in self.now.records text.now }
+        ensures there { IsThere self.now text.now result }
         ensures once { HasOnce self.now }
     {
         match record_of(&self.records, &self.filled, &self.index, text) {
@@ -170,6 +176,16 @@ impl Table {
         Ok(number)
     }
 
+    /// Ends the open claim that was made last without a verdict, as if it hadn't been made. It takes no
+    /// memory.
+    pub fn withdraw(&mut self, claim: u64)
+        requires is_open { IsSome (text_claimed claim self.old.claims) }
+        requires last { claim + 1 ≡ claim_count self.old }
+        ensures { self.new ≡ record self.old { claims = other_claims claim self.old.claims } }
+    {
+        take_claim(&mut self.claims, claim);
+    }
+
     /// Records the verdict on an open claim's text, and answers the record's number, counted from 1.
     /// It takes no memory.
     pub fn fill(&mut self, claim: u64, verdict: Verdict) -> u64
@@ -185,6 +201,15 @@ impl Table {
         self.records.push(Record { text, verdict }).unwrap();
         self.filled.push(number).unwrap();
         self.records.len() as u64
+    }
+
+    /// The record with this number, counted from 1. It takes no memory.
+    pub fn record(&self, number: u64) -> &Record
+        requires first { 0 < number }
+        requires within { number ≤ length self.now.records }
+        ensures { slice_get self.now.records (number - 1) ≡ Some result.now }
+    {
+        &self.records[number as usize - 1]
     }
 
     /// The records in their order. Open claims are dropped.

@@ -1,11 +1,16 @@
-use Rattle.std.proofs.Common.{◌≡◌, ◌+◌, ◌<◌, ◌∙◌, Some, ap, arith, false, get_or, length, sym, true}
+use Rattle.std.proofs.Common.{◌≡◌, ◌+◌, ◌<◌, ◌∙◌, Some, ap, arith, eqb-true, false, get_or, length, sym, true}
 use Rattle.std.specs.Str.{bytes_eq}
 use Rattle.verdict_table.specs.TableState.{texts_of}
 use Rattle.verdict_table.specs.declared.found.Found.TheVariants.{Filled}
 use Rattle.verdict_table.specs.declared.record.Record.{Record}
 use Rattle.verdict_table.specs.inner.TextIndex.{text_at}
-use Rattle.verdict_table.proofs.TextIndexLemmas.{left_before, left_first, left_next, left_within, none_left, record_text, recorded_at, smaller_count}
+use Rattle.verdict_table.proofs.TextIndexLemmas.{left_before, left_first, left_next, left_within, no_records, none_left}
+use Rattle.verdict_table.proofs.TextIndexLemmas.{record_text, recorded_at, smaller_count}
 use Rattle.verdict_table.proofs.table.record_of.Goals as goal
+
+pub returns-then-is_empty : goal.returns-then-is_empty
+returns-then-is_empty c =
+    sym (no_records c.args.text.now c.args.records.now c.args.filled.now (eqb-true _ 0 (sym c.is_empty.ensures ∙ c.if-is_empty.true)))
 
 pub loop-next-init : goal.loop-next-init
 loop-next-init c = left_first c.args.text.now (texts_of c.args.records.now) c.newest-next.result
